@@ -1,0 +1,4 @@
+pub mod Outcome
+pub mod Table
+pub mod Tree
+pub mod Module
