@@ -1,5 +1,5 @@
 -- The initialiser expressions of a function: what the initialisers of its locals reach and does not stand. Reaching is a judgement; the marks are computed by rounds, each of which marks what the marked ones read, until a round marks nothing new.
--- `reached-law` says that the marks are the judgement, for operands that run forward as well: intake asks for the kinds reached (3) before it asks for lower operands (4).
+-- `Reached` proves that the marks are the judgement, for operands that run forward as well: intake asks for the kinds reached (3) before it asks for lower operands (4).
 -- Document 01, "Expressions": "Initialisers of locals reach only those kinds; the non-standing ones reached are initialiser expressions."
 use mathlib.Core.Bool.{Bool, true, false, _&&_, not}
 use mathlib.Core.List.{List, [], _∷_, _++_}

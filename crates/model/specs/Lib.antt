@@ -4,5 +4,6 @@ pub mod Tree
 pub mod Module
 pub mod Operands
 pub mod Initial
+pub mod Reached
 pub mod Scope
 pub mod Walk
