@@ -1,0 +1,4 @@
+pub mod Tests
+pub mod FuelProof
+pub mod Reads
+pub mod SoundProof

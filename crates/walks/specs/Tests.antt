@@ -1,0 +1,35 @@
+-- Tests that pass: conjunctions and disjunctions of Booleans that equal true.
+use mathlib.Core.Path.{_≡_, refl, sym, _∙_}
+use mathlib.Core.Logic.{_⊎_, inl, inr}
+use mathlib.Core.Bool.{Bool, true, false, _&&_, _||_, not, false≢true}
+
+abbrev pub Yes : Bool → Type 0
+Yes b = b ≡ true
+
+pub and-l : (a b : Bool) → Yes (a && b) → Yes a
+and-l true b h = refl
+and-l false b h = absurd (false≢true h)
+
+pub and-r : (a b : Bool) → Yes (a && b) → Yes b
+and-r true b h = h
+and-r false b h = absurd (false≢true h)
+
+pub or-l : (a b : Bool) → Yes a → Yes (a || b)
+or-l true b h = refl
+or-l false b h = absurd (false≢true h)
+
+pub or-r : (a b : Bool) → Yes b → Yes (a || b)
+or-r true b h = refl
+or-r false b h = h
+
+pub or-later : (a b c : Bool) → (Yes b → Yes c) → Yes (a || b) → Yes (a || c)
+or-later true b c h t = refl
+or-later false b c h t = h t
+
+pub or-cases : (a b : Bool) → Yes (a || b) → Yes a ⊎ Yes b
+or-cases true b h = inl refl
+or-cases false b h = inr h
+
+pub by : (P : Type 0) (b : Bool) → (b ≡ true → P) → (b ≡ false → P) → P
+by P true f g = f refl
+by P false f g = g refl
