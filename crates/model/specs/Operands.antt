@@ -7,7 +7,7 @@ use Prim.Native.Nat.{ℕ, zero, suc}
 use lib.Dec.{eqb, leb}
 use lib.ListN.{getD}
 use Rattle.model.specs.Outcome.{Cell, Cells, class, word}
-use Rattle.model.specs.Table.{FUNCTION, EXPR, OPT-EXPR, RESULT, OPT-RESULT}
+use Rattle.model.specs.Table.{FUNCTION, EXPR, OPT-EXPR, RESULT, OPT-RESULT, EXPR-KIND}
 use Rattle.model.specs.Tree.{optOf}
 
 -- ---- operands
@@ -42,7 +42,7 @@ NO-KIND = 27
 
 unfoldable pub kind : Cells → ℕ
 kind [] = NO-KIND
-kind (c ∷ cs) = word c
+kind (c ∷ cs) = elim (eqb (class c) EXPR-KIND) [ true ↦ word c | false ↦ NO-KIND ]
 
 -- "standing: 0 to 3 and 9 to 11"
 unfoldable pub standingKind : ℕ → Bool

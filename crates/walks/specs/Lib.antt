@@ -2,3 +2,5 @@ pub mod Tests
 pub mod FuelProof
 pub mod Reads
 pub mod SoundProof
+pub mod Agreement
+pub mod AgreementProof
