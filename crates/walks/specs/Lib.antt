@@ -4,3 +4,4 @@ pub mod Reads
 pub mod SoundProof
 pub mod Agreement
 pub mod AgreementProof
+pub mod ScopeProof

@@ -33,3 +33,15 @@ or-cases false b h = inr h
 pub by : (P : Type 0) (b : Bool) → (b ≡ true → P) → (b ≡ false → P) → P
 by P true f g = f refl
 by P false f g = g refl
+
+-- a test of one side is a test of the other
+pub and-map : {a b a′ b′ : Bool} → (Yes a → Yes a′) → (Yes b → Yes b′) → Yes (a && b) → Yes (a′ && b′)
+and-map {a = true} {a′ = true} f g h = g h
+and-map {a = true} {a′ = false} f g h = absurd (false≢true (f refl))
+and-map {a = false} f g h = absurd (false≢true h)
+
+pub or-map : {a b a′ b′ : Bool} → (Yes a → Yes a′) → (Yes b → Yes b′) → Yes (a || b) → Yes (a′ || b′)
+or-map {a = true} {a′ = true} f g h = refl
+or-map {a = true} {a′ = false} f g h = absurd (false≢true (f refl))
+or-map {a = false} {a′ = true} f g h = refl
+or-map {a = false} {a′ = false} f g h = g h
