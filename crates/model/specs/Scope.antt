@@ -331,7 +331,7 @@ unfoldable pub seen : Function → XBlock
 seen F = expand (F .body) (marked (initials F))
 
 unfoldable pub scopedAs : XBlock → XBlock → List Cells → Bool
-scopedAs all b xs = shapeB all inBody && (kindsB all xs && (distinct (evalsB all) && okB b xs []))
+scopedAs all b xs = shapeB b inBody && (kindsB all xs && (distinct (evalsB all) && okB b xs []))
 
 -- the test of one function
 unfoldable pub scoped : Function → Bool

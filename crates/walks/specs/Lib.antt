@@ -5,3 +5,4 @@ pub mod SoundProof
 pub mod Agreement
 pub mod AgreementProof
 pub mod ScopeProof
+pub mod ExpandProof

@@ -14,6 +14,10 @@ pub and-r : (a b : Bool) → Yes (a && b) → Yes b
 and-r true b h = h
 and-r false b h = absurd (false≢true h)
 
+pub and-both : {a b : Bool} → Yes a → Yes b → Yes (a && b)
+and-both {a = true} p q = q
+and-both {a = false} p q = absurd (false≢true p)
+
 pub or-l : (a b : Bool) → Yes a → Yes (a || b)
 or-l true b h = refl
 or-l false b h = absurd (false≢true h)
