@@ -16,26 +16,8 @@ use Rattle.model.specs.Initial.{Mem, here, there}
 use Rattle.model.specs.Scope.{XStmt, XForm, XBlock, XCase, XCases, evalsOpt, seen}
 use Rattle.model.specs.Walk.{Event, read, eval, calls, End, Trace, halt, _▸_, finished, Rest, K, ends, only, ▸read, ▸readOpt, ▸evalOpt, ▸emit, choose, pick, roundEnd, rounds, fallTo, walkS, walkF, walkB, walkK, walkC, walk}
 use Rattle.walks.specs.Tests.{by}
+use Rattle.walks.specs.Members.{mem-left, mem-right, Each}
 use Rattle.walks.specs.Agreement.{Maps, optWord, carriers, through, carried, textOf, plain, Alike, start, upto, text, field, AlikeR, over, next, carryOpt, carryCells, carryS, carryF, carryB, carryK, carryC, mentionsE, mentionsS, mentionsF, mentionsB, mentionsK, mentionsC, mentioned, Agrees, carryE, carryT, endOf, Carries}
-
--- ---- membership
-pub mem-left : {x : ℕ} {xs : List ℕ} (ys : List ℕ) → Mem x xs → Mem x (xs ++ ys)
-mem-left ys here = here
-mem-left ys (there m) = there (mem-left ys m)
-
-pub mem-right : {x : ℕ} (xs : List ℕ) {ys : List ℕ} → Mem x ys → Mem x (xs ++ ys)
-mem-right [] m = m
-mem-right (x ∷ xs) m = there (mem-right xs m)
-
--- P of every member
-abbrev pub Each : (ℕ → Type 0) → List ℕ → Type 0
-Each P xs = (e : ℕ) → Mem e xs → P e
-
-pub each-left : {P : ℕ → Type 0} (xs ys : List ℕ) → Each P (xs ++ ys) → Each P xs
-each-left xs ys h e m = h e (mem-left ys m)
-
-pub each-right : {P : ℕ → Type 0} (xs ys : List ℕ) → Each P (xs ++ ys) → Each P ys
-each-right xs ys h e m = h e (mem-right xs m)
 
 -- ---- cells carried
 module _ (μ : Maps) (f : ℕ → ℕ) where

@@ -13,8 +13,8 @@ use Rattle.model.specs.Tree.{Stmt, stmt, Form, emit, block, branch, switch, loo
 use Rattle.model.specs.Operands.{resultOf, functionOf, resultKind, emittedKind, kindAt}
 use Rattle.model.specs.Initial.{Mem, here, there}
 use Rattle.model.specs.Scope.{inRange, live, expandS, expandF, expand, expandK, expandC, emitted, isOf, callResult, effectResult, kindsS, kindsF, kindsB, kindsK, kindsC, evalsOpt, evalsS, evalsF, evalsB, evalsK, evalsC, has, distinct}
-use Rattle.walks.specs.Tests.{Yes, and-l, and-r, and-both, or-l, or-r, and-map, or-cases}
-use Rattle.walks.specs.AgreementProof.{Each}
+use Rattle.walks.specs.Tests.{Yes, and-l, and-r, and-both, or-l, or-r, and-map, or-cases, not-map}
+use Rattle.walks.specs.Members.{Each, each-none, each-append, each-cons}
 
 -- ---- a part of a list, in the same order
 pub data Part : List ℕ → List ℕ → Type 0 where
@@ -37,35 +37,11 @@ part-has none-left e h = h
 part-has (keep {x = x} p) e h = ⊎-elim (or-l (eqb e x) _) (λ q. or-r (eqb e x) _ (part-has p e q)) (or-cases (eqb e x) _ h)
 part-has (skip {y = y} p) e h = or-r (eqb e y) _ (part-has p e h)
 
-not-map : (a b : Bool) → (Yes a → Yes b) → Yes (not b) → Yes (not a)
-not-map true true f h = h
-not-map true false f h = absurd (false≢true (f refl))
-not-map false b f h = refl
-
 pub part-distinct : {xs ys : List ℕ} → Part xs ys → Yes (distinct ys) → Yes (distinct xs)
 unfolding distinct
 part-distinct none-left h = h
 part-distinct (keep {x = x} {xs = xs} {ys = ys} p) h = and-map (not-map (has xs x) (has ys x) (part-has p x)) (part-distinct p) h
 part-distinct (skip {y = y} {ys = ys} p) h = part-distinct p (and-r (not (has ys y)) _ h)
-
--- ---- membership
-mem-cases : {x : ℕ} (xs ys : List ℕ) → Mem x (xs ++ ys) → Mem x xs ⊎ Mem x ys
-mem-cases [] ys m = inr m
-mem-cases (x ∷ xs) ys here = inl here
-mem-cases (x ∷ xs) ys (there m) = ⊎-elim (λ p. inl (there p)) inr (mem-cases xs ys m)
-
-no-mem : {x : ℕ} → Mem x [] → ⊥
-no-mem = elim [ ]
-
-pub each-none : (P : ℕ → Type 0) → Each P []
-each-none P e m = absurd (no-mem m)
-
-pub each-append : {P : ℕ → Type 0} (xs ys : List ℕ) → Each P xs → Each P ys → Each P (xs ++ ys)
-each-append xs ys f g e m = ⊎-elim (f e) (g e) (mem-cases xs ys m)
-
-pub each-cons : {P : ℕ → Type 0} {x : ℕ} {xs : List ℕ} → P x → Each P xs → Each P (x ∷ xs)
-each-cons p f e here = p
-each-cons p f e (there m) = f e m
 
 -- ---- what is live
 module _ (drop : ℕ → Bool) where

@@ -1,4 +1,5 @@
 pub mod Tests
+pub mod Members
 pub mod FuelProof
 pub mod Reads
 pub mod SoundProof
@@ -6,3 +7,5 @@ pub mod Agreement
 pub mod AgreementProof
 pub mod ScopeProof
 pub mod ExpandProof
+pub mod MentionProof
+pub mod KeptProof

@@ -13,7 +13,8 @@ use Rattle.model.specs.Initial.{Mem, here, there}
 use Rattle.model.specs.Scope.{XStmt, XForm, XBlock, XCase, XCases, evalsOpt, addE, addOpt, addF, addS, topB, holdsS, holdsF, holdsB, holdsK, holdsC, contB, vis, allVis, optVis, okE, okS, okF, okB, okK, okC}
 use Rattle.walks.specs.Tests.{Yes, and-map, or-map}
 use Rattle.walks.specs.Agreement.{Maps, carryOpt, carryCells, carryS, carryF, carryB, carryK, carryC, mentionsE, mentionsS, mentionsF, mentionsB, mentionsK, mentionsC}
-use Rattle.walks.specs.AgreementProof.{mem-left, mem-right, Each, each-left, each-right, ops-carry, result-carry}
+use Rattle.walks.specs.Members.{mem-left, mem-right, Each}
+use Rattle.walks.specs.AgreementProof.{ops-carry, result-carry}
 
 module _ (μ : Maps) (f : ℕ → ℕ) where
   -- ---- the scopes are carried

@@ -18,6 +18,10 @@ pub and-both : {a b : Bool} → Yes a → Yes b → Yes (a && b)
 and-both {a = true} p q = q
 and-both {a = false} p q = absurd (false≢true p)
 
+pub and-later : (a b c : Bool) → (Yes b → Yes c) → Yes (a && b) → Yes (a && c)
+and-later true b c f h = f h
+and-later false b c f h = h
+
 pub or-l : (a b : Bool) → Yes a → Yes (a || b)
 or-l true b h = refl
 or-l false b h = absurd (false≢true h)
@@ -49,3 +53,8 @@ or-map {a = true} {a′ = true} f g h = refl
 or-map {a = true} {a′ = false} f g h = absurd (false≢true (f refl))
 or-map {a = false} {a′ = true} f g h = refl
 or-map {a = false} {a′ = false} f g h = g h
+
+pub not-map : (a b : Bool) → (Yes a → Yes b) → Yes (not b) → Yes (not a)
+not-map true true f h = h
+not-map true false f h = absurd (false≢true (f refl))
+not-map false b f h = refl
