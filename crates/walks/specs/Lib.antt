@@ -12,3 +12,4 @@ pub mod MentionProof
 pub mod KeptProof
 pub mod FunctionProof
 pub mod Theorems
+pub mod AgreementExamples

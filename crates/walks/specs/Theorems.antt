@@ -1,20 +1,20 @@
 -- The theorems on walks, each with its statement in full; the proofs stand in the files that end in `Proof`. They are about definitions alone and name no linker: what they say of two functions that agree holds however the second came about.
 use mathlib.Core.Path.{_≡_, refl}
 use mathlib.Core.Bool.{Bool, true, false, false≢true}
-use mathlib.Core.List.{List, [], _∷_}
+use mathlib.Core.List.{List, [], _∷_, map}
 use mathlib.Core.Option.{Option, none, some}
 use Prim.Native.Nat.{ℕ}
-use lib.ListN.{getElem?}
+use lib.ListN.{getD, getElem?}
 use Rattle.model.specs.Outcome.{Cells}
 use Rattle.model.specs.Tree.{Function, Entry, loop}
 use Rattle.model.specs.Module.{Module}
-use Rattle.model.specs.Operands.{standing}
+use Rattle.model.specs.Operands.{functionOf, ops, kindAt, standing}
 use Rattle.model.specs.Initial.{Mem, initial, initialised}
 use Rattle.model.specs.Scope.{XBlock, Place, shapeB, seen, scopedAs, scoped, allScoped, entriesScoped, inScope}
 use Rattle.model.specs.Walk.{Rest, K, only, roundEnd, walkF, walkB, walk}
 use Rattle.walks.specs.Tests.{and-l, and-r}
 use Rattle.walks.specs.Reads.{Sound}
-use Rattle.walks.specs.Agreement.{Maps, mentioned, Agrees, Agreement, Carries}
+use Rattle.walks.specs.Agreement.{Maps, carryOpt, mentioned, Agrees, Agreement, Carries}
 use Rattle.walks.specs.FuelProof as FuelProof
 use Rattle.walks.specs.PlaceProof.{Like, placedB}
 use Rattle.walks.specs.AgreementProof as AgreementProof
@@ -55,6 +55,19 @@ unread = function-unread
 -- For every list the target's walk is the source's with its events carried through the maps, and both end alike.
 pub carries : (M M′ : Module) (μ : Maps) (F F′ : Function) (f : ℕ → ℕ) → Agrees M M′ μ F F′ f → (cs : List ℕ) → Carries μ F F′ f cs
 carries M M′ μ F F′ f a cs = AgreementProof.carries μ f M M′ F F′ a cs
+
+-- The record of what is mentioned has the same kind, its operands are the source's carried, and a CallResult is that of the function carried.
+pub agrees-kind : (M M′ : Module) (μ : Maps) (F F′ : Function) (f : ℕ → ℕ) → Agrees M M′ μ F F′ f → (e : ℕ) → Mem e (mentioned F) → kindAt (F′ .exprs) (f e) ≡ kindAt (F .exprs) e
+unfolding kindAt
+agrees-kind M M′ μ F F′ f a e m = AgreementProof.alike-kind μ f M M′ (a .records e m)
+
+pub agrees-operands : (M M′ : Module) (μ : Maps) (F F′ : Function) (f : ℕ → ℕ) → Agrees M M′ μ F F′ f → (e : ℕ) → Mem e (mentioned F) → ops (F′ .exprs) (f e) ≡ map f (ops (F .exprs) e)
+unfolding ops
+agrees-operands M M′ μ F F′ f a e m = AgreementProof.alike-ops μ f M M′ (a .records e m)
+
+pub agrees-callee : (M M′ : Module) (μ : Maps) (F F′ : Function) (f : ℕ → ℕ) → Agrees M M′ μ F F′ f → (e : ℕ) → Mem e (mentioned F)
+    → functionOf (getD (F′ .exprs) (f e) []) ≡ carryOpt (μ .function) (functionOf (getD (F .exprs) e []))
+agrees-callee M M′ μ F F′ f a e m = AgreementProof.alike-function μ f M M′ (a .records e m)
 
 -- So of every function and every entry point of two modules that agree.
 pub carries-functions : (M M′ : Module) (μ : Maps) → Agreement M M′ μ → (i : ℕ) (F : Function) → getElem? (M .functions) i ≡ some F
