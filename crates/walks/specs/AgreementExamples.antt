@@ -1,24 +1,22 @@
 -- Agreement is met, and shuts out what it is to shut out.
--- Met: P10 of document 01 with its derived function, in two modules of one function. Shut out: every map that sends all expressions to one record, whatever the target; a target whose record differs in its kind alone.
+-- Met: P10 and P11 of document 01 with their derived functions, P10 in two modules of one function. Shut out: every map that sends all expressions to one record, whatever the target; a target whose record differs in its kind alone.
 use mathlib.Core.Path.{_≡_, refl, ap, sym, _∙_, subst}
-use mathlib.Core.Logic.{_⊎_, inl, inr, ⊎-elim}
-use mathlib.Core.Bool.{Bool, true, false, _&&_, not, false≢true}
-use mathlib.Core.List.{List, [], _∷_, _++_, map}
-use mathlib.Core.Option.{Option, none, some}
+use mathlib.Core.Logic.{inl, ⊎-elim}
+use mathlib.Core.Bool.{true, false≢true}
+use mathlib.Core.List.{[], _∷_}
+use mathlib.Core.Option.{some}
 use Prim.Native.Nat.{ℕ, zero, suc}
 use native.Mathlib.Omega.{arith}
-use lib.Dec.{eqb}
-use lib.ListN.{length, getD, getElem?}
-use Rattle.model.specs.Outcome.{Cells}
-use Rattle.model.specs.Table.{EXPR, NAME}
-use Rattle.model.specs.Tree.{optOf, Block, end, _then_, Range, Function, Entry, emit}
+use lib.ListN.{getD, getElem?}
+use Rattle.model.specs.Table.{EXPR}
+use Rattle.model.specs.Tree.{end, _then_, Range, Function}
 use Rattle.model.specs.Module.{Module}
-use Rattle.model.specs.Operands.{optional, operand, opsOf, resultOf, kind, standingKind, ops, kindAt, standing}
-use Rattle.model.specs.Initial.{Mem, here, there, initsOf, roots, marked, mark, unmarked, readBy, close, reachedMarks, moving, initials, initial}
-use Rattle.model.specs.Scope.{upFrom, inRange, live, expandS, evalsOpt, seen}
-use Rattle.model.specs.Samples.{record-of, literal, negate, add, evals, function}
+use Rattle.model.specs.Operands.{optional, operand, opsOf, kind, standingKind, resultKind, emittedKind, ops, kindAt, standing}
+use Rattle.model.specs.Initial.{here, there, initsOf, roots, marked, mark, unmarked, readBy, close, reachedMarks, moving, initials, initial, constantAt, initialised}
+use Rattle.model.specs.Scope.{upFrom, inRange, live, expandS, shapeS, emitted, kindsS, evalsS, has, distinct, addE, addF, addS, vis, allVis, okE, okS, allOf, seen, scopedAs, scoped}
+use Rattle.model.specs.Samples.{record-of, literal, negate, splat, add, evals, local, function}
 use Rattle.walks.specs.Members.{no-mem, Each, each-none, each-cons}
-use Rattle.walks.specs.Agreement.{Maps, optWord, carriers, through, carried, textOf, AlikeR, carryOpt, carryCells, carryS, mentionsE, mentionsS, mentioned, MayShare, Agrees, Agreement}
+use Rattle.walks.specs.Agreement.{Maps, carriers, through, carried, AlikeR, carryCells, carryS, mentionsE, mentionsS, mentioned, Agrees, Agreement}
 use Rattle.walks.specs.AgreementProof.{nameless, alike-carried}
 use Rattle.walks.specs.Theorems.{agrees-kind}
 
@@ -67,6 +65,25 @@ p10-modules = record { functions = at; entries = λ i E q. absurd (let z : _≡_
         → (F′ : Function) × (getElem? (target ∷ []) i ≡ some F′) × Agrees (holds source) (holds target) maps F F′ becomes
     at zero F q = (target, refl, let p : source ≡ F = cc in subst (λ x. Agrees (holds source) (holds target) maps x target becomes) p p10)
     at (suc i) F q = absurd (let z : _≡_ {A = ℕ} 0 1 = cc in omega arith)
+
+-- what the theorems ask of the source beside agreement
+p10-passes : (scoped source ≡ true) × (initialised source ≡ true)
+unfolding scoped scopedAs allOf seen initialised constantAt expandS live inRange upFrom shapeS kindsS emitted emittedKind resultKind standingKind standing kindAt kind evalsS distinct has okS okE allVis vis addS addF addE marked initials moving reachedMarks close mark readBy unmarked roots ops opsOf operand
+p10-passes = (refl, refl)
+
+-- ---- P11: "literal, Splat(0) as a local's init, Emit 1..2: Emit 2..2"; both evaluate nothing
+abbrev splatted : Range → Function
+splatted r = function (local 2 ∷ []) (literal 7 ∷ splat 0 ∷ []) (evals (r .from) (r .to) then end)
+
+abbrev before : Function
+before = splatted (record { from = 1; to = 2 })
+
+abbrev after : Function
+after = splatted (record { from = 2; to = 2 })
+
+p11 : Agrees (holds before) (holds after) maps before after (λ e. e)
+unfolding mentioned mentionsS mentionsE seen expandS live inRange upFrom marked initials moving reachedMarks close mark readBy unmarked roots initsOf optional ops opsOf operand kind standingKind carryS
+p11 = record { body = refl; records = each-none _; apart = λ e d m n q. absurd (no-mem m) }
 
 -- ---- shut out: all expressions to one record
 -- two negations of a literal, both evaluated: equal records, and yet two

@@ -2,22 +2,22 @@
 use Prim.Native.Nat.{ℕ, zero, suc}
 use mathlib.Core.Path.{_≡_, refl, ap, sym, _∙_}
 use mathlib.Core.Bool.{Bool, true, false, _&&_, _||_, not, false≢true}
-use mathlib.Core.List.{List, [], _∷_, _++_, map}
+use mathlib.Core.List.{List, [], _∷_, map}
 use mathlib.Core.Option.{Option, none, some}
-use lib.ListN.{length, getD}
+use lib.ListN.{length}
 use lib.Dec.{eqb}
 use borrow.Author.Tests.{eqb-true}
-use Rattle.model.specs.Outcome.{Cell, Cells, class, word}
+use Rattle.model.specs.Outcome.{Cells, class, word}
 use Rattle.model.specs.Table.{SPAN, UPTO, NAME, FUNCTION, EXPR, OPT-EXPR, RESULT, OPT-RESULT, EXPR-KIND}
 use Rattle.model.specs.Tree.{stmt, emit, block, branch, switch, loop, break, continue, return, kill, call, effect, end, _then_, case, nomore, _also_, Function, optOf}
 use Rattle.model.specs.Module.{Module}
-use Rattle.model.specs.Operands.{optional, operand, opsOf, resultOf, functionOf, NO-KIND, kind, ops, kindAt}
-use Rattle.model.specs.Initial.{Mem, here, there}
+use Rattle.model.specs.Operands.{optional, operand, opsOf, resultOf, functionOf, NO-KIND, kind, ops}
+use Rattle.model.specs.Initial.{here, there}
 use Rattle.model.specs.Scope.{XStmt, XForm, XBlock, XCase, XCases, evalsOpt, seen}
-use Rattle.model.specs.Walk.{Event, read, eval, calls, End, Trace, halt, _▸_, finished, Rest, K, ends, only, ▸read, ▸readOpt, ▸evalOpt, ▸emit, choose, pick, roundEnd, rounds, fallTo, walkS, walkF, walkB, walkK, walkC, walk}
+use Rattle.model.specs.Walk.{read, eval, calls, End, Trace, halt, _▸_, finished, Rest, K, ends, only, ▸read, ▸readOpt, ▸evalOpt, ▸emit, choose, pick, roundEnd, rounds, fallTo, walkS, walkF, walkB, walkK, walkC, walk}
 use Rattle.walks.specs.Tests.{and-l, and-r, by}
 use Rattle.walks.specs.Members.{mem-left, mem-right, Each}
-use Rattle.walks.specs.Agreement.{Maps, optWord, carriers, through, carried, textOf, plain, Alike, start, upto, text, field, AlikeR, over, next, carryOpt, carryCells, carryS, carryF, carryB, carryK, carryC, mentionsE, mentionsS, mentionsF, mentionsB, mentionsK, mentionsC, mentioned, Agrees, carryE, carryT, endOf, Carries}
+use Rattle.walks.specs.Agreement.{Maps, optWord, carriers, through, carried, plain, Alike, start, upto, text, field, AlikeR, over, next, carryOpt, carryCells, carryS, carryF, carryB, carryK, carryC, mentionsE, mentionsS, mentionsF, mentionsB, mentionsK, mentionsC, mentioned, Agrees, carryE, carryT, endOf, Carries}
 
 -- no name among the cells
 unfoldable pub nameless : Cells → Bool

@@ -1,6 +1,6 @@
 -- The fuel of a Loop is never met: a Loop is its body, its continuing block, the end of the round, and the Loop again (`loop-unrolls`).
 -- Why: what follows is asked only at lists of numbers no longer than the walk's own, and at a shorter one after a round. So two walks whose continuations agree on such lists agree (`Resp`), and the fuel that is left after a round is again more than there are numbers.
-use Prim.Native.Nat.{ℕ, zero, suc, _<_, _≤_}
+use Prim.Native.Nat.{ℕ, zero, suc, _<_}
 use mathlib.Core.Path.{_≡_, refl, ap}
 use mathlib.Core.List.{List, [], _∷_}
 use mathlib.Core.Option.{Option, none, some}
@@ -10,7 +10,7 @@ use Rattle.model.specs.Outcome.{Cells}
 use Rattle.model.specs.Tree.{stmt, emit, block, branch, switch, loop, break, continue, return, kill, call, effect, end, _then_, case, nomore, _also_}
 use Rattle.model.specs.Operands.{opsOf, resultOf}
 use Rattle.model.specs.Scope.{XStmt, XForm, XBlock, XCase, XCases}
-use Rattle.model.specs.Walk.{read, calls, Trace, _▸_, Rest, K, ends, only, ▸read, ▸evalOpt, ▸emit, choose, pick, roundEnd, rounds, fallTo, walkS, walkF, walkB, walkK, walkC}
+use Rattle.model.specs.Walk.{read, calls, _▸_, Rest, K, only, ▸read, ▸evalOpt, ▸emit, choose, pick, roundEnd, rounds, fallTo, walkS, walkF, walkB, walkK, walkC}
 
 -- k and j agree on lists shorter than N
 abbrev Upto : ℕ → Rest → Rest → Type 0

@@ -1,26 +1,26 @@
 -- From bodies to functions: the tests of `scoped` taken apart, what intake's refusal 3 adds, and the parts of agreement put to use.
-use mathlib.Core.Path.{_≡_, refl, ap, sym, _∙_, subst}
-use mathlib.Core.Logic.{_⊎_, inl, inr, ⊎-elim}
-use mathlib.Core.Bool.{Bool, true, false, _&&_, _||_, false≢true}
-use mathlib.Core.List.{List, [], _∷_, map}
-use mathlib.Core.Option.{Option, none, some}
-use Prim.Native.Nat.{ℕ, zero, suc, _<_, _≤_}
+use mathlib.Core.Path.{_≡_, ap, sym, _∙_, subst}
+use mathlib.Core.Logic.{⊎-elim}
+use mathlib.Core.Bool.{Bool, true, false, _&&_, false≢true}
+use mathlib.Core.List.{List, [], _∷_}
+use mathlib.Core.Option.{some}
+use Prim.Native.Nat.{ℕ, zero, suc, _<_}
 use native.Mathlib.Omega.{arith}
 use lib.Dec.{ltb, leb}
-use lib.ListN.{length, getD, getElem?, List·getD-eq-default}
-use borrow.Author.Tests.{ltb-true, ltb-false, leb-true, leb-false}
+use lib.ListN.{length, getElem?, List·getD-eq-default}
+use borrow.Author.Tests.{ltb-true, ltb-false, leb-true}
 use Rattle.model.specs.Outcome.{Cells}
 use Rattle.model.specs.Tree.{Function, Entry}
 use Rattle.model.specs.Module.{Module}
 use Rattle.model.specs.Operands.{kind, standingKind, resultKind, emittedKind, constantKind, ops, kindAt, standing}
-use Rattle.model.specs.Initial.{Mem, here, there, marked, initials, initial, initialised}
+use Rattle.model.specs.Initial.{Mem, marked, initials, initial, initialised}
 use Rattle.model.specs.Reached.{initial-is, initialised-is}
 use Rattle.model.specs.Scope.{XBlock, inBody, shapeB, kindsB, distinct, evalsB, okB, allOf, seen, scopedAs, scoped, allScoped, entriesScoped}
-use Rattle.model.specs.Walk.{ends, only, finished, walkB, walk}
+use Rattle.model.specs.Walk.{walk}
 use Rattle.walks.specs.Tests.{Yes, and-l, and-r, and-both, or-cases, by}
 use Rattle.walks.specs.Members.{Each, each-none}
 use Rattle.walks.specs.Reads.{Sound}
-use Rattle.walks.specs.Agreement.{Maps, carryB, mentioned, MayShare, Agrees}
+use Rattle.walks.specs.Agreement.{Maps, mentioned, MayShare, Agrees}
 use Rattle.walks.specs.SoundProof.{body-sound}
 use Rattle.walks.specs.AgreementProof.{alike-ops, alike-kind, alike-function}
 use Rattle.walks.specs.ScopeProof.{Kept, okB-carry}

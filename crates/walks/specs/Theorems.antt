@@ -1,8 +1,8 @@
 -- The theorems on walks, each with its statement in full; the proofs stand in the files that end in `Proof`. They are about definitions alone and name no linker: what they say of two functions that agree holds however the second came about.
 use mathlib.Core.Path.{_≡_, refl}
-use mathlib.Core.Bool.{Bool, true, false, false≢true}
-use mathlib.Core.List.{List, [], _∷_, map}
-use mathlib.Core.Option.{Option, none, some}
+use mathlib.Core.Bool.{true, false, false≢true}
+use mathlib.Core.List.{List, [], map}
+use mathlib.Core.Option.{Option, some}
 use Prim.Native.Nat.{ℕ}
 use lib.ListN.{getD, getElem?}
 use Rattle.model.specs.Outcome.{Cells}
@@ -10,13 +10,13 @@ use Rattle.model.specs.Tree.{Function, Entry, loop}
 use Rattle.model.specs.Module.{Module}
 use Rattle.model.specs.Operands.{functionOf, ops, kindAt, standing}
 use Rattle.model.specs.Initial.{Mem, initial, initialised}
-use Rattle.model.specs.Scope.{XBlock, Place, shapeB, seen, scopedAs, scoped, allScoped, entriesScoped, inScope}
+use Rattle.model.specs.Scope.{XBlock, Place, shapeB, seen, scopedAs, scoped, allScoped, inScope}
 use Rattle.model.specs.Walk.{Rest, K, only, roundEnd, walkF, walkB, walk}
 use Rattle.walks.specs.Tests.{and-l, and-r}
 use Rattle.walks.specs.Reads.{Sound}
 use Rattle.walks.specs.Agreement.{Maps, carryOpt, mentioned, Agrees, Agreement, Carries}
 use Rattle.walks.specs.FuelProof as FuelProof
-use Rattle.walks.specs.PlaceProof.{Like, placedB}
+use Rattle.walks.specs.PlaceProof.{placedB}
 use Rattle.walks.specs.AgreementProof as AgreementProof
 use Rattle.walks.specs.FunctionProof.{function-sound, function-unread, agreed-sound, agreed-scope, scoped-at, entry-at}
 
