@@ -1,14 +1,15 @@
 -- Agreement is met, and shuts out what it is to shut out.
--- Met: P10 and P11 of document 01 with their derived functions, P10 in two modules of one function. Shut out: every map that sends all expressions to one record, whatever the target; a target whose record differs in its kind alone.
+-- Met: P10 and P11 of document 01 with their derived functions, P10 in two modules of one function. Shut out: every map that sends all expressions to one record, whatever the target; a target whose record differs in its kind alone; names that are equal by number and not by text.
 use mathlib.Core.Path.{_≡_, refl, ap, sym, _∙_, subst}
 use mathlib.Core.Logic.{inl, ⊎-elim}
 use mathlib.Core.Bool.{true, false≢true}
-use mathlib.Core.List.{[], _∷_}
+use mathlib.Core.List.{List, [], _∷_}
 use mathlib.Core.Option.{some}
 use Prim.Native.Nat.{ℕ, zero, suc}
 use native.Mathlib.Omega.{arith}
 use lib.ListN.{getD, getElem?}
-use Rattle.model.specs.Table.{EXPR}
+use Rattle.model.specs.Outcome.{Cell, Cells, word}
+use Rattle.model.specs.Table.{SPAN, UPTO, NAME, TYPE, INIT, EXPR, PAD, TEXT}
 use Rattle.model.specs.Tree.{end, _then_, Range, Function}
 use Rattle.model.specs.Module.{Module}
 use Rattle.model.specs.Operands.{optional, operand, opsOf, kind, standingKind, resultKind, emittedKind, ops, kindAt, standing}
@@ -16,7 +17,7 @@ use Rattle.model.specs.Initial.{here, there, initsOf, roots, marked, mark, unma
 use Rattle.model.specs.Scope.{upFrom, inRange, live, expandS, shapeS, emitted, kindsS, evalsS, has, distinct, addE, addF, addS, vis, allVis, okE, okS, allOf, seen, scopedAs, scoped}
 use Rattle.model.specs.Samples.{record-of, literal, negate, splat, add, evals, local, function}
 use Rattle.walks.specs.Members.{no-mem, Each, each-none, each-cons}
-use Rattle.walks.specs.Agreement.{Maps, carriers, through, carried, AlikeR, carryCells, carryS, mentionsE, mentionsS, mentioned, Agrees, Agreement}
+use Rattle.walks.specs.Agreement.{Maps, carriers, through, carried, textOf, plain, Alike, start, upto, text, field, AlikeR, over, next, carryCells, carryS, mentionsE, mentionsS, mentioned, Agrees, Agreement}
 use Rattle.walks.specs.AgreementProof.{nameless, alike-carried}
 use Rattle.walks.specs.Theorems.{agrees-kind}
 
@@ -105,3 +106,23 @@ measures = function [] (literal 7 ∷ record-of 26 ((EXPR, 0) ∷ []) ∷ []) (e
 other-kind : (M M′ : Module) (μ : Maps) → Agrees M M′ μ loads measures (λ e. e) → ⊥
 unfolding mentioned mentionsS mentionsE seen expandS live inRange upFrom marked initials moving reachedMarks close mark readBy unmarked roots ops opsOf operand kindAt kind
 other-kind M M′ μ a = let q : _≡_ {A = ℕ} 26 12 = agrees-kind M M′ μ loads measures (λ e. e) a 1 here in omega arith
+
+-- ---- names are compared by text: "a" is the first name of one module and the second of the other
+abbrev named : List Cells → Module
+named ns = record { names = ns; types = []; constants = []; overrides = []; globals = []; exprs = []; functions = []; entries = []; special = record { rays = []; pairs = [] } }
+
+abbrev a : Cells
+a = (TEXT, 1) ∷ (PAD, 97) ∷ []
+
+abbrev b : Cells
+b = (TEXT, 1) ∷ (PAD, 98) ∷ []
+
+-- a constant's record: its name, its span, its type and its init
+by-text : AlikeR (named (a ∷ b ∷ [])) (named (b ∷ a ∷ [])) maps (λ e. e) ((NAME, 1) ∷ (SPAN, 3) ∷ (UPTO, 4) ∷ (TYPE, 0) ∷ (INIT, 0) ∷ []) ((NAME, 2) ∷ (SPAN, 5) ∷ (UPTO, 6) ∷ (TYPE, 0) ∷ (INIT, 0) ∷ [])
+unfolding textOf plain carried carriers through
+by-text = next (text refl) (next start (next upto (next (field refl refl) (next (field refl refl) over))))
+
+not-by-number : Alike (named (a ∷ b ∷ [])) (named (b ∷ a ∷ [])) maps (λ e. e) NAME 1 1 → ⊥
+unfolding textOf plain
+not-by-number (text h) = let p : _≡_ {A = Cell} (PAD, 97) (PAD, 98) = cc in let z : _≡_ {A = ℕ} 97 98 = ap word p in omega arith
+not-by-number (field h q) = false≢true h
