@@ -7,6 +7,6 @@ pub mod Initial
 pub mod Reached
 pub mod Scope
 pub mod Walk
-pub mod Samples
+pub mod SampleBodies
 pub mod ScopeExamples
 pub mod WalkExamples

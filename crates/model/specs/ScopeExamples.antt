@@ -10,7 +10,7 @@ use Rattle.model.specs.Tree.{optOf, Form, block, branch, switch, loop, b
 use Rattle.model.specs.Operands.{optional, operand, opsOf, resultOf, functionOf, kind, standingKind, resultKind, emittedKind, ops, kindAt, standing}
 use Rattle.model.specs.Initial.{initsOf, roots, marked, mark, unmarked, readBy, close, reachedMarks, moving, initials}
 use Rattle.model.specs.Scope.{upFrom, inRange, live, expandS, shapeS, emitted, isOf, callResult, effectResult, kindsS, evalsOpt, evalsS, has, distinct, addE, addOpt, addF, addS, topB, holdsS, contB, vis, allVis, optVis, okE, okS, allOf, seen, scopedAs, scoped}
-use Rattle.model.specs.Samples.{literal, negate, called, swapped, loaded, does, evals, store, atomic, uniformLoad, local, function}
+use Rattle.model.specs.SampleBodies.{literal, negate, called, swapped, loaded, does, evals, store, atomic, uniformLoad, local, function}
 
 abbrev Body : Type 0
 Body = Block Range

@@ -10,7 +10,7 @@ use Rattle.model.specs.Operands.{optional, operand, opsOf, resultOf, kin
 use Rattle.model.specs.Initial.{initsOf, roots, marked, mark, unmarked, readBy, close, reachedMarks, moving, initials}
 use Rattle.model.specs.Scope.{upFrom, inRange, live, expandS, seen}
 use Rattle.model.specs.Walk.{read, eval, calls, exhausted, missing, finished, returned, killed, Trace, halt, _▸_, ends, only, ▸read, ▸readOpt, ▸evalOpt, ▸emit, choose, pick, roundEnd, rounds, fallTo, walkS, walk}
-use Rattle.model.specs.Samples.{literal, negate, add, called, swapped, does, evals, store, exchange, local, function}
+use Rattle.model.specs.SampleBodies.{literal, negate, add, called, swapped, does, evals, store, exchange, local, function}
 
 -- 2: 0 + 1, 3: -2, 4: the result of function 5, 5: that of an Atomic
 abbrev xs : List Cells

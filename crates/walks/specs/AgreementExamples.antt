@@ -15,7 +15,7 @@ use Rattle.model.specs.Module.{Module}
 use Rattle.model.specs.Operands.{optional, operand, opsOf, kind, standingKind, resultKind, emittedKind, ops, kindAt, standing}
 use Rattle.model.specs.Initial.{here, there, initsOf, roots, marked, mark, unmarked, readBy, close, reachedMarks, moving, initials, initial, constantAt, initialised}
 use Rattle.model.specs.Scope.{upFrom, inRange, live, expandS, shapeS, emitted, kindsS, evalsS, has, distinct, addE, addF, addS, vis, allVis, okE, okS, allOf, seen, scopedAs, scoped}
-use Rattle.model.specs.Samples.{record-of, literal, negate, splat, add, evals, local, function}
+use Rattle.model.specs.SampleBodies.{record-of, literal, negate, splat, add, evals, local, function}
 use Rattle.walks.specs.Members.{no-mem, Each, each-none, each-cons}
 use Rattle.walks.specs.Agreement.{Maps, carriers, through, carried, textOf, plain, Alike, start, upto, text, field, AlikeR, over, next, carryCells, carryS, mentionsE, mentionsS, mentioned, Agrees, Agreement}
 use Rattle.walks.specs.AgreementProof.{nameless, alike-carried}
