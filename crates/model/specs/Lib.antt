@@ -2,3 +2,4 @@ pub mod Outcome
 pub mod Table
 pub mod Tree
 pub mod Module
+pub mod Carry
