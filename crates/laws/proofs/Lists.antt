@@ -1,5 +1,6 @@
 -- Lists, words of cells, and optional numbers: what every law of the image uses.
 use mathlib.Core.Path.{_≡_, refl, sym, ap, _∙_}
+use mathlib.Core.Bool.{Bool, true, false}
 use mathlib.Core.List.{List, [], _∷_, _++_, map, append-nil, append-assoc}
 use mathlib.Core.Option.{Option, none, some}
 use Prim.Native.Nat.{ℕ, zero, suc, _+_}
@@ -36,3 +37,8 @@ pub word-of : (w : ℕ) → wordOf (optOf w) ≡ w
 unfolding wordOf optOf
 word-of zero = refl
 word-of (suc w) = refl
+
+-- a test that is passed, and one that must have been
+pub if-true : {A : Type 0} (b : Bool) (x y : A) → b ≡ true → elim b [ true ↦ x | false ↦ y ] ≡ x
+if-true true x y e = refl
+if-true false x y e = cc
