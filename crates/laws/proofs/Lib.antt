@@ -1,3 +1,4 @@
 pub mod Lists
 pub mod Carries
 pub mod Writing
+pub mod Took

@@ -97,7 +97,13 @@ unfolding functionAt flat _⟫_
 write-function t w rest =
     rw (
       seven (t .head) (flatList ARGUMENTS (t .arguments)) (t .result) (flatList LOCALS (t .locals)) (flatList EXPRESSIONS (t .exprs)) (flatList NAMED (t .named)) (flatBlock (t .body)) rest,
-      write-run (w .head-ok), write-listed (w .arguments-ok), write-run (w .result-ok), write-listed (w .locals-ok), write-listed (w .exprs-ok), write-listed (w .named-ok), write-b (w .body-ok)
+      write-run (w .head-ok),
+      write-listed (w .arguments-ok),
+      write-run (w .result-ok),
+      write-listed (w .locals-ok),
+      write-listed (w .exprs-ok),
+      write-listed (w .named-ok),
+      write-b (w .body-ok),
     )
 
 -- LAW, of an entry point
