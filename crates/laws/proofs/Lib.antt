@@ -2,3 +2,5 @@ pub mod Lists
 pub mod Carries
 pub mod Writing
 pub mod Took
+pub mod Sections
+pub mod Views

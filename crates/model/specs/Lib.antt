@@ -3,3 +3,4 @@ pub mod Table
 pub mod Tree
 pub mod Module
 pub mod Carry
+pub mod View
