@@ -2,17 +2,18 @@
 -- With ws = write m and cells = flatModule m, which stand beside one another word for word: section k is `slice (offsetAt k ws) (endAt k ws)`, record j of section k is `slice (recordAt k j ws) (recordEnd k j ws)`, of either.
 use mathlib.Core.Path.{_≡_, refl, sym, ap, ap₂, _∙_, subst}
 use mathlib.Core.Bool.{Bool, true, false}
+use mathlib.Core.Option.{Option, none, some}
 use mathlib.Core.List.{List, [], _∷_, _++_, map, append-nil, append-assoc}
 use Prim.Native.Nat.{ℕ, zero, suc, _+_, _*_, _-_, _≤_, _<_}
 use native.Mathlib.Nat.{add-zero, zero-add, add-assoc}
 use native.Mathlib.Omega.{arith}
 use lib.Dec.{eqb}
-use lib.ListN.{length, getD, take, drop, length-append, length-map, List·getD-append}
+use lib.ListN.{length, getD, getElem?, take, drop, length-append, length-map, List·getD-append}
 use lib.Seq.{slice, length-slice}
 use borrow.Author.Tests.{eqb-true, eqb-false, eq-eqb}
 use Rattle.model.specs.Outcome.{Cell, Cells, word}
 use Rattle.model.specs.Table.{PLACE}
-use Rattle.model.specs.Tree.{flat, flatEntry, flatAll}
+use Rattle.model.specs.Tree.{Function, Entry, flat, flatEntry, flatAll}
 use Rattle.model.specs.Module.{Module, Special, countAt, offsetAt, endAt, section, HEADER, places, flatTable, flatSpecial, Section, sections, pairsFrom, bodies, flatModule, write}
 use Rattle.model.specs.View.{tables, recordAt, recordEnd}
 use Rattle.laws.proofs.Lists.{map-append}
@@ -138,3 +139,175 @@ view-table m (suc (suc (suc (suc (suc zero))))) h = refl
 view-table m (suc (suc (suc (suc (suc (suc zero)))))) h = ap (λ n. (n, flatTable (map flat (m .functions)))) (sym (length-map (m .functions) flat))
 view-table m (suc (suc (suc (suc (suc (suc (suc zero))))))) h = ap (λ n. (n, flatTable (map flatEntry (m .entries)))) (sym (length-map (m .entries) flatEntry))
 view-table m (suc (suc (suc (suc (suc (suc (suc (suc k)))))))) h = absurd (omega arith)
+
+pub view-records : (m : Module) (k : ℕ) → k < 8 → countAt k (write m) ≡ length (getD (tables m) k [])
+view-records m k h = view-count m k (omega arith) ∙ ap (λ s. s .0) (view-table m k h)
+
+table-length : (rs : List Cells) → length (flatTable rs) ≡ length rs + length (flatAll rs)
+unfolding flatTable
+table-length rs = length-append (places (length rs) rs) (flatAll rs) ∙ ap (_+ length (flatAll rs)) (length-places rs (length rs))
+
+-- a record that is found is in the table
+pub looked-length : {A : Type 0} (l : List A) (j : ℕ) {x : A} → getElem? l j ≡ some x → j < length l
+looked-length [] j e = let z : _≡_ {A = ℕ} 0 1 = cc in absurd (omega arith)
+looked-length (y ∷ l) zero e = omega arith
+looked-length (y ∷ l) (suc j) e = omega (arith, looked-length l j e)
+
+pub looked-getD : {A : Type 0} (l : List A) (j : ℕ) (d : A) {x : A} → getElem? l j ≡ some x → getD l j d ≡ x
+looked-getD [] j d e = let z : _≡_ {A = ℕ} 0 1 = cc in absurd (omega arith)
+looked-getD (y ∷ l) zero d e = cc
+looked-getD (y ∷ l) (suc j) d e = looked-getD l j d e
+
+pub looked-map : {A B : Type 0} (f : A → B) (l : List A) (j : ℕ) {x : A} → getElem? l j ≡ some x → getElem? (map f l) j ≡ some (f x)
+looked-map f [] j e = let z : _≡_ {A = ℕ} 0 1 = cc in absurd (omega arith)
+looked-map f (y ∷ l) zero e = cc
+looked-map f (y ∷ l) (suc j) e = looked-map f l j e
+
+module _ (m : Module) (k : ℕ) (h : k < 8) where
+  -- the records of section k, the section's cells, and where it ends
+  abbrev these : List Cells
+  these = getD (tables m) k []
+
+  cells-table : sectionOf m k .1 ≡ flatTable these
+  cells-table = ap (λ s. s .1) (view-table m k h)
+
+  end-table : endAt k (write m) ≡ offsetAt k (write m) + (length these + length (flatAll these))
+  end-table = view-length m k (omega arith) ∙ ap (offsetAt k (write m) +_) (ap length cells-table ∙ table-length these)
+
+  -- a record's offset
+  offset-word : (j : ℕ) → j < length these → getD (write m) (offsetAt k (write m) + j) 0 ≡ startOf (length these) these j
+  unfolding flatTable section
+  offset-word j i =
+      sym (getD-slice (write m) (offsetAt k (write m)) (endAt k (write m)) j 0 (omega (arith, end-table)))
+      ∙ ap (λ l. getD l j 0) (view-words m k (omega arith) ∙ ap (map word) cells-table ∙ map-append word (places (length these) these) (flatAll these))
+      ∙ List·getD-append (map word (places (length these) these)) (map word (flatAll these)) 0 j (rw (length-map (places (length these) these) word) (omega (arith, length-places these (length these))))
+      ∙ place-word these (length these) j i
+
+  at-start : (j : ℕ) → j < length these → recordAt k j (write m) ≡ offsetAt k (write m) + startOf (length these) these j
+  unfolding recordAt
+  at-start j i = ap (offsetAt k (write m) +_) (offset-word j i)
+
+  at-end : (j : ℕ) → j < length these → recordEnd k j (write m) ≡ offsetAt k (write m) + startOf (length these) these (suc j)
+  unfolding recordEnd
+  at-end j i = go (eqb (suc j) (countAt k (write m))) refl
+    where
+      go : (b : Bool) → eqb (suc j) (countAt k (write m)) ≡ b → elim b [ true ↦ endAt k (write m) | false ↦ recordAt k (suc j) (write m) ] ≡ offsetAt k (write m) + startOf (length these) these (suc j)
+      go true e =
+          let q : suc j ≡ length these = eqb-true (suc j) (countAt k (write m)) e ∙ view-records m k h in
+          end-table ∙ ap (offsetAt k (write m) +_) (sym (ap (startOf (length these) these) q ∙ start-end these (length these)))
+      go false e = at-start (suc j) (omega (arith, eqb-false (suc j) (countAt k (write m)) e, view-records m k h))
+
+  -- record j of section k: it lies in the section, and its cells are the record's
+  pub view-record-rising : (j : ℕ) → j < countAt k (write m) → recordAt k j (write m) ≤ recordEnd k j (write m)
+  view-record-rising j i =
+      let q : j < length these = omega (arith, view-records m k h) in
+      omega (arith, at-start j q, at-end j q, start-step these (length these) j q)
+
+  pub view-record-within : (j : ℕ) → j < countAt k (write m) → recordEnd k j (write m) ≤ endAt k (write m)
+  view-record-within j i =
+      let q : j < length these = omega (arith, view-records m k h) in
+      omega (arith, at-end j q, start-in these (length these) (suc j) q, end-table)
+
+  pub view-record : (j : ℕ) → j < countAt k (write m) → slice (recordAt k j (write m)) (recordEnd k j (write m)) (flatModule m) ≡ getD (getD (tables m) k []) j []
+  unfolding flatTable
+  view-record j i =
+      let q : j < length these = omega (arith, view-records m k h) in
+      let e = at-end j q in
+      let z : offsetAt k (write m) + startOf (length these) these (suc j) ≤ endAt k (write m) = omega (arith, view-record-within j i) in
+      rw (at-start j q, e)
+      (slice-slice (flatModule m) (offsetAt k (write m)) (endAt k (write m)) (startOf (length these) these j) (startOf (length these) these (suc j)) (view-rising m k (omega arith)) (omega (arith, view-within m k (omega arith), length-write m)) z
+      ∙ ap (slice (startOf (length these) these j) (startOf (length these) these (suc j))) (view-section m k (omega arith) ∙ cells-table)
+      ∙ start-slice these (places (length these) these) (length these) j (length-places these (length these)) q)
+
+-- ---- the same in one record each, to be cited; first for every section and every record, then one line for each table
+-- section k of the image of m has n records, and these cells
+pub record Sees (m : Module) (k n : ℕ) (cs : Cells) : Type 0 where
+  pub count : countAt k (write m) ≡ n
+  pub cells : slice (offsetAt k (write m)) (endAt k (write m)) (flatModule m) ≡ cs
+  pub words : slice (offsetAt k (write m)) (endAt k (write m)) (write m) ≡ map word cs
+
+-- record j of section k of the image of m is r
+pub record SeesRecord (m : Module) (k j : ℕ) (r : Cells) : Type 0 where
+  pub inside : j < countAt k (write m)
+  pub cells : slice (recordAt k j (write m)) (recordEnd k j (write m)) (flatModule m) ≡ r
+  pub words : slice (recordAt k j (write m)) (recordEnd k j (write m)) (write m) ≡ map word r
+
+pub sees : (m : Module) (k : ℕ) → k < 9 → Sees m k (sectionOf m k .0) (sectionOf m k .1)
+unfolding section
+sees m k h = record { count = view-count m k h; cells = view-section m k h; words = view-words m k h }
+
+pub sees-record : (m : Module) (k j : ℕ) (r : Cells) → k < 8 → getElem? (getD (tables m) k []) j ≡ some r → SeesRecord m k j r
+unfolding write
+sees-record m k j r h e =
+    let i : j < countAt k (write m) = omega (arith, looked-length (getD (tables m) k []) j e, view-records m k h) in
+    let c = view-record m k h j i ∙ looked-getD (getD (tables m) k []) j [] e in
+    record { inside = i; cells = c; words = slice-map word (recordAt k j (write m)) (recordEnd k j (write m)) (flatModule m) ∙ ap (map word) c }
+
+module _ (m : Module) where
+  pub sees-names : Sees m 0 (length (m .names)) (flatTable (m .names))
+  unfolding sections
+  sees-names = sees m 0 (omega arith)
+
+  pub sees-types : Sees m 1 (length (m .types)) (flatTable (m .types))
+  unfolding sections
+  sees-types = sees m 1 (omega arith)
+
+  pub sees-constants : Sees m 2 (length (m .constants)) (flatTable (m .constants))
+  unfolding sections
+  sees-constants = sees m 2 (omega arith)
+
+  pub sees-overrides : Sees m 3 (length (m .overrides)) (flatTable (m .overrides))
+  unfolding sections
+  sees-overrides = sees m 3 (omega arith)
+
+  pub sees-globals : Sees m 4 (length (m .globals)) (flatTable (m .globals))
+  unfolding sections
+  sees-globals = sees m 4 (omega arith)
+
+  pub sees-exprs : Sees m 5 (length (m .exprs)) (flatTable (m .exprs))
+  unfolding sections
+  sees-exprs = sees m 5 (omega arith)
+
+  pub sees-functions : Sees m 6 (length (m .functions)) (flatTable (map flat (m .functions)))
+  unfolding sections
+  sees-functions = sees m 6 (omega arith)
+
+  pub sees-entries : Sees m 7 (length (m .entries)) (flatTable (map flatEntry (m .entries)))
+  unfolding sections
+  sees-entries = sees m 7 (omega arith)
+
+  pub sees-special : Sees m 8 (length (m .special .pairs)) (flatSpecial (m .special))
+  unfolding sections
+  sees-special = sees m 8 (omega arith)
+
+  pub sees-name : (j : ℕ) (r : Cells) → getElem? (m .names) j ≡ some r → SeesRecord m 0 j r
+  unfolding tables
+  sees-name j r e = sees-record m 0 j r (omega arith) e
+
+  pub sees-type : (j : ℕ) (r : Cells) → getElem? (m .types) j ≡ some r → SeesRecord m 1 j r
+  unfolding tables
+  sees-type j r e = sees-record m 1 j r (omega arith) e
+
+  pub sees-constant : (j : ℕ) (r : Cells) → getElem? (m .constants) j ≡ some r → SeesRecord m 2 j r
+  unfolding tables
+  sees-constant j r e = sees-record m 2 j r (omega arith) e
+
+  pub sees-override : (j : ℕ) (r : Cells) → getElem? (m .overrides) j ≡ some r → SeesRecord m 3 j r
+  unfolding tables
+  sees-override j r e = sees-record m 3 j r (omega arith) e
+
+  pub sees-global : (j : ℕ) (r : Cells) → getElem? (m .globals) j ≡ some r → SeesRecord m 4 j r
+  unfolding tables
+  sees-global j r e = sees-record m 4 j r (omega arith) e
+
+  pub sees-expr : (j : ℕ) (r : Cells) → getElem? (m .exprs) j ≡ some r → SeesRecord m 5 j r
+  unfolding tables
+  sees-expr j r e = sees-record m 5 j r (omega arith) e
+
+  pub sees-function : (j : ℕ) (t : Function) → getElem? (m .functions) j ≡ some t → SeesRecord m 6 j (flat t)
+  unfolding tables
+  sees-function j t e = sees-record m 6 j (flat t) (omega arith) (looked-map flat (m .functions) j e)
+
+  pub sees-entry : (j : ℕ) (t : Entry) → getElem? (m .entries) j ≡ some t → SeesRecord m 7 j (flatEntry t)
+  unfolding tables
+  sees-entry j t e = sees-record m 7 j (flatEntry t) (omega arith) (looked-map flatEntry (m .entries) j e)
