@@ -4,3 +4,4 @@ pub mod Writing
 pub mod Took
 pub mod Sections
 pub mod Views
+pub mod Tables
