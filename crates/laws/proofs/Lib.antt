@@ -5,3 +5,4 @@ pub mod Took
 pub mod Sections
 pub mod Views
 pub mod Tables
+pub mod Modules

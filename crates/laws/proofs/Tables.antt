@@ -47,7 +47,7 @@ laid-of {P} {a} f e = inside (subst (Fine P) e f)
     inside : Fine P (laid a) → P a
     inside (fine p) = p
 
-and-true : {a b : Bool} → a ≡ true → b ≡ true → a && b ≡ true
+pub and-true : {a b : Bool} → a ≡ true → b ≡ true → a && b ≡ true
 and-true e f = rw (e, f)
 
 -- ---- written, and read
@@ -104,7 +104,7 @@ length-none : (ws : List ℕ) → length ws ≡ 0 → ws ≡ []
 length-none [] e = refl
 length-none (w ∷ ws) e = absurd (omega arith)
 
-and-split : (a b : Bool) → a && b ≡ true → (a ≡ true) × (b ≡ true)
+pub and-split : (a b : Bool) → a && b ≡ true → (a ≡ true) × (b ≡ true)
 and-split true b e = (refl, e)
 and-split false b e = let z : _≡_ {A = ℕ} 0 1 = cc in absurd (omega arith)
 
