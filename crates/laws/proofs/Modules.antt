@@ -78,7 +78,7 @@ read-parts ws m e =
     star p₀ (tableAt 1 (by typeRow) ws) g₂ l₂ λ g₁ a₁ l₁ r₁ m₁.
     mapped moduleOf (tableAt 0 (by nameRow) ws) g₁ l₁ λ a₀ r₀ m₀.
     let whole : moduleOf a₀ a₁ a₂ a₃ a₄ a₅ a₆ a₇ a₈ ≡ m =
-        ap (λ g. g a₁ a₂ a₃ a₄ a₅ a₆ a₇ a₈) m₀ ∙ ap (λ g. g a₂ a₃ a₄ a₅ a₆ a₇ a₈) m₁ ∙ ap (λ g. g a₃ a₄ a₅ a₆ a₇ a₈) m₂ ∙ ap (λ g. g a₄ a₅ a₆ a₇ a₈) m₃ ∙ ap (λ g. g a₅ a₆ a₇ a₈) m₄ ∙ ap (λ g. g a₆ a₇ a₈) m₅ ∙ ap (λ g. g a₇ a₈) m₆ ∙ ap (λ g. g a₈) m₇ ∙ m₈ in
+    ap (λ g. g a₁ a₂ a₃ a₄ a₅ a₆ a₇ a₈) m₀ ∙ ap (λ g. g a₂ a₃ a₄ a₅ a₆ a₇ a₈) m₁ ∙ ap (λ g. g a₃ a₄ a₅ a₆ a₇ a₈) m₂ ∙ ap (λ g. g a₄ a₅ a₆ a₇ a₈) m₃ ∙ ap (λ g. g a₅ a₆ a₇ a₈) m₄ ∙ ap (λ g. g a₆ a₇ a₈) m₅ ∙ ap (λ g. g a₇ a₈) m₆ ∙ ap (λ g. g a₈) m₇ ∙ m₈ in
     record {
       placing = t .0;
       names-at = r₀ ∙ ap (λ x. laid (x .names)) whole;
@@ -95,3 +95,238 @@ read-parts ws m e =
 pub read-whole : (ws : List ℕ) (m : Module) → ReadsAs ws m → read ws ≡ laid m
 unfolding read _⊛_ both mapL
 read-whole ws m r = rw (read, r .placing, r .names-at, r .types-at, r .constants-at, r .overrides-at, r .globals-at, r .exprs-at, r .functions-at, r .entries-at, r .special-at)
+
+-- ---- the places of the sections
+-- the sections from number k on, of which the first starts at `at`: what `placed` tests
+pub data Placed (ws : List ℕ) : List ℕ → ℕ → ℕ → Type 0 where
+  placed-none : {k at : ℕ} → Placed ws [] k at
+  placed-next : {m k at : ℕ} {ms : List ℕ} → offsetAt k ws ≡ at → countAt k ws ≤ m → at ≤ endAt k ws → endAt k ws ≤ length ws → Placed ws ms (suc k) (endAt k ws) → Placed ws (m ∷ ms) k at
+
+pub placed-true : (ms : List ℕ) (k at : ℕ) (ws : List ℕ) → placed ms k at ws ≡ true → Placed ws ms k at
+unfolding placed
+placed-true [] k at ws e = placed-none
+placed-true (m ∷ ms) k at ws e =
+    let a = and-split (eqb (offsetAt k ws) at) (leb (countAt k ws) m && (leb at (endAt k ws) && (leb (endAt k ws) (length ws) && placed ms (suc k) (endAt k ws) ws))) e in
+    let b = and-split (leb (countAt k ws) m) (leb at (endAt k ws) && (leb (endAt k ws) (length ws) && placed ms (suc k) (endAt k ws) ws)) (a .1) in
+    let c = and-split (leb at (endAt k ws)) (leb (endAt k ws) (length ws) && placed ms (suc k) (endAt k ws) ws) (b .1) in
+    let d = and-split (leb (endAt k ws) (length ws)) (placed ms (suc k) (endAt k ws) ws) (c .1) in
+    placed-next (eqb-true (offsetAt k ws) at (a .0)) (leb-true (countAt k ws) m (b .0)) (leb-true at (endAt k ws) (c .0)) (leb-true (endAt k ws) (length ws) (d .0)) (placed-true ms (suc k) (endAt k ws) ws (d .1))
+
+pub true-placed : {ws ms : List ℕ} {k at : ℕ} → Placed ws ms k at → placed ms k at ws ≡ true
+unfolding placed
+true-placed placed-none = refl
+true-placed {ws} (placed-next {m} {k} {at} a b c d r) =
+    and-true (eq-eqb (offsetAt k ws) at a) (and-true (le-leb (countAt k ws) m b) (and-true (le-leb at (endAt k ws) c) (and-true (le-leb (endAt k ws) (length ws) d) (true-placed r))))
+
+-- a section's count is within its limit
+placed-count : {ws ms : List ℕ} {k at : ℕ} → Placed ws ms k at → (i : ℕ) → i < length ms → countAt (k + i) ws ≤ getD ms i 0
+placed-count placed-none i h = absurd (omega arith)
+placed-count {ws} (placed-next {k} a b c d r) zero h = let q : k + 0 ≡ k = omega arith in rw q b
+placed-count {ws} (placed-next {k} a b c d r) (suc i) h = let q : k + suc i ≡ suc k + i = omega arith in rw q (placed-count r i (omega arith))
+
+-- ---- what is read is well formed
+module _ {A : Type 0} {ok : A → Type 0} {flatly : A → Cells} {p : List ℕ → Outcome A} (takes : Takes ok flatly p) (k : ℕ) (ws : List ℕ) where
+  at-took : {l : List A} → tableAt k p ws ≡ laid l → TableTook ok flatly (countAt k ws) (section k ws) l
+  unfolding tableAt
+  at-took e = laid-of (table-took takes (countAt k ws) (section k ws)) e
+
+  at-well : {l : List A} {n : ℕ} → tableAt k p ws ≡ laid l → countAt k ws ≤ n → Tabled ok n l
+  at-well e h = let t = at-took e in record { few = rw (t .many) h; each = t .each }
+
+by-took : (r : Row) → Takes (Lays r) (λ cs. cs) (by r)
+by-took r ws = run-took ws r
+
+special-is : (ws : List ℕ) (s : Special) → exact (specialAt (countAt 8 ws) (section 8 ws)) ≡ laid s → Took (WellSpecial (countAt 8 ws)) flatSpecial (section 8 ws) s []
+special-is ws s e = laid-of (fine-exact (special-took (countAt 8 ws) (section 8 ws))) e
+
+-- LAW: what is read is well formed
+pub read-well : (ws : List ℕ) (m : Module) → read ws ≡ laid m → WellFormed m
+unfolding limits
+read-well ws m e =
+    let r = read-parts ws m e in
+    let c = placed-count (placed-true limits 0 HEADER ws (r .placing)) in
+    let s = special-is ws (m .special) (r .special-at) .fine in
+    record {
+      names-ok = at-well (by-took nameRow) 0 ws (r .names-at) (c 0 (omega arith));
+      types-ok = at-well (by-took typeRow) 1 ws (r .types-at) (c 1 (omega arith));
+      constants-ok = at-well (by-took constantRow) 2 ws (r .constants-at) (c 2 (omega arith));
+      overrides-ok = at-well (by-took overrideRow) 3 ws (r .overrides-at) (c 3 (omega arith));
+      globals-ok = at-well (by-took globalRow) 4 ws (r .globals-at) (c 4 (omega arith));
+      exprs-ok = at-well (by-took expressionRow) 5 ws (r .exprs-at) (c 5 (omega arith));
+      functions-ok = at-well function-took 6 ws (r .functions-at) (c 6 (omega arith));
+      entries-ok = at-well entry-took 7 ws (r .entries-at) (c 7 (omega arith));
+      rays-ok = s .rays-ok;
+      pairs-ok = record { few = rw (s .pairs-ok .many) (c 8 (omega arith)); each = s .pairs-ok .each };
+    }
+
+-- ---- what is written is read
+map-self : {A : Type 0} (l : List A) → map (λ x. x) l ≡ l
+map-self [] = refl
+map-self (x ∷ l) = ap (x ∷_) (map-self l)
+
+each-map : {A : Type 0} {P Q : A → Type 0} → ((a : A) → P a → Q a) → {l : List A} → Each P l → Each Q l
+each-map h each-none = each-none
+each-map h (each-next {a} p ps) = each-next (h a p) (each-map h ps)
+
+module _ {A : Type 0} (p : List ℕ → Outcome A) (flatly : A → Cells) where
+  -- a table in the image of m
+  written : {m : Module} {k : ℕ} {l : List A} → Sees m k (length l) (flatTable (map flatly l)) → Each (Fills p flatly) l → tableAt k p (write m) ≡ laid l
+  unfolding tableAt section
+  written s fs = rw (s .count, s .words) (write-table p flatly fs)
+
+row-fills : (r : Row) (cs : Cells) → Lays r cs → Fills (by r) (λ cs. cs) cs
+row-fills r cs l = record { fills = ap (λ ws. run ws r) (sym (append-nil (map word cs))) ∙ write-run l [] }
+
+row-written : (r : Row) {m : Module} {k : ℕ} {l : List Cells} → Sees m k (length l) (flatTable l) → Each (Lays r) l → tableAt k (by r) (write m) ≡ laid l
+row-written r {m} {k} {l} s ok = written (by r) (λ cs. cs) (rw (map-self l) s) (each-map (row-fills r) ok)
+
+function-fills : (t : Function) → WellFunction t → Fills functionAt flat t
+function-fills t w = record { fills = ap functionAt (sym (append-nil (map word (flat t)))) ∙ write-function t w [] }
+
+entry-fills : (t : Entry) → WellEntry t → Fills entryAt flatEntry t
+entry-fills t w = record { fills = ap entryAt (sym (append-nil (map word (flatEntry t)))) ∙ write-entry t w [] }
+
+-- counts within the limits, from section k on
+data Within (ws : List ℕ) : List ℕ → ℕ → Type 0 where
+  within-none : {k : ℕ} → Within ws [] k
+  within-next : {m k : ℕ} {ms : List ℕ} → countAt k ws ≤ m → Within ws ms (suc k) → Within ws (m ∷ ms) k
+
+written-placed : (m : Module) {ms : List ℕ} {k : ℕ} → Within (write m) ms k → (at : ℕ) → k + length ms ≡ 9 → (k < 9 → offsetAt k (write m) ≡ at) → Placed (write m) ms k at
+written-placed m within-none at e h = placed-none
+written-placed m (within-next {k} c w) at e h =
+    let i : k < 9 = omega arith in
+    placed-next (h i) c (omega (arith, h i, view-rising m k i)) (view-within m k i) (written-placed m w (endAt k (write m)) (omega arith) λ j. sym (view-next m k (omega arith)))
+
+seen-few : {m : Module} {k n x : ℕ} {cs : Cells} → Sees m k n cs → n ≤ x → countAt k (write m) ≤ x
+seen-few s h = rw (s .count) h
+
+within : (m : Module) → WellFormed m → Within (write m) limits 0
+unfolding limits
+within m w =
+    within-next (seen-few (sees-names m) (w .names-ok .few))
+    (within-next (seen-few (sees-types m) (w .types-ok .few))
+    (within-next (seen-few (sees-constants m) (w .constants-ok .few))
+    (within-next (seen-few (sees-overrides m) (w .overrides-ok .few))
+    (within-next (seen-few (sees-globals m) (w .globals-ok .few))
+    (within-next (seen-few (sees-exprs m) (w .exprs-ok .few))
+    (within-next (seen-few (sees-functions m) (w .functions-ok .few))
+    (within-next (seen-few (sees-entries m) (w .entries-ok .few))
+    (within-next (seen-few (sees-special m) (w .pairs-ok .few)) within-none))))))))
+
+written-special : (m : Module) → WellFormed m → exact (specialAt (countAt 8 (write m)) (section 8 (write m))) ≡ laid (m .special)
+unfolding section exact
+written-special m w =
+    rw (sees-special m .count, sees-special m .words, ← append-nil (map word (flatSpecial (m .special))), write-special (m .special) (w .rays-ok) (w .pairs-ok .each) [])
+
+pub write-parts : (m : Module) → WellFormed m → ReadsAs (write m) m
+unfolding limits
+write-parts m w = record {
+  placing = true-placed (written-placed m (within m w) HEADER refl λ h. view-first m);
+  names-at = row-written nameRow (sees-names m) (w .names-ok .each);
+  types-at = row-written typeRow (sees-types m) (w .types-ok .each);
+  constants-at = row-written constantRow (sees-constants m) (w .constants-ok .each);
+  overrides-at = row-written overrideRow (sees-overrides m) (w .overrides-ok .each);
+  globals-at = row-written globalRow (sees-globals m) (w .globals-ok .each);
+  exprs-at = row-written expressionRow (sees-exprs m) (w .exprs-ok .each);
+  functions-at = written functionAt flat (sees-functions m) (each-map function-fills (w .functions-ok .each));
+  entries-at = written entryAt flatEntry (sees-entries m) (each-map entry-fills (w .entries-ok .each));
+  special-at = written-special m w;
+}
+
+-- LAW: what is written is read
+pub write-read : (m : Module) → WellFormed m → read (write m) ≡ laid m
+write-read m w = read-whole (write m) m (write-parts m w)
+
+-- ---- what was read, written out again, is the same words
+-- the sections from number k on stand in the words, of which the first starts at `at`
+data Stands (ws : List ℕ) : ℕ → ℕ → List Section → Type 0 where
+  stands-none : {at : ℕ} → at ≡ length ws → Stands ws 9 at []
+  stands-next : {k at : ℕ} {s : Section} {ss : List Section} → offsetAt k ws ≡ at → countAt k ws ≡ s .0 → section k ws ≡ map word (s .1) → at ≤ endAt k ws → endAt k ws ≤ length ws → Stands ws (suc k) (endAt k ws) ss → Stands ws k at (s ∷ ss)
+
+-- what each of them holds
+data Holds (ws : List ℕ) : ℕ → List Section → Type 0 where
+  holds-none : Holds ws 9 []
+  holds-next : {k : ℕ} {s : Section} {ss : List Section} → countAt k ws ≡ s .0 → section k ws ≡ map word (s .1) → Holds ws (suc k) ss → Holds ws k (s ∷ ss)
+
+end-last : (ws : List ℕ) (k : ℕ) → suc k ≡ 9 → endAt k ws ≡ length ws
+unfolding endAt
+end-last ws k e = if-true (eqb k 8) (length ws) (offsetAt (suc k) ws) (eq-eqb k 8 (omega arith))
+
+stand : {ws ms : List ℕ} {ss : List Section} {k at : ℕ} → Holds ws k ss → Placed ws ms k at → length ms ≡ length ss → (k ≡ 9 → at ≡ length ws) → Stands ws k at ss
+stand holds-none p e h = stands-none (h refl)
+stand (holds-next c w hs) placed-none e h = absurd (omega arith)
+stand {ws} (holds-next {k} c w hs) (placed-next a b l r p) e h = stands-next a c w l r (stand hs p (omega arith) (end-last ws k))
+
+stands-count : {ws : List ℕ} {k at : ℕ} {ss : List Section} → Stands ws k at ss → k + length ss ≡ 9
+stands-count (stands-none e) = refl
+stands-count (stands-next a c w l r s) = omega (arith, stands-count s)
+
+drop-split : {A : Type 0} (l : List A) (a b : ℕ) → a ≤ b → b ≤ length l → drop a l ≡ slice a b l ++ drop b l
+drop-split l a b h k = ap (drop a) (sym (take-append-drop b l)) ∙ drop-append-le a (take b l) (drop b l) (rw (length-take-le b l k) h)
+
+-- the sections are the words from the first one's start on
+stands-bodies : {ws : List ℕ} {k at : ℕ} {ss : List Section} → Stands ws k at ss → drop at ws ≡ map word (bodies ss)
+unfolding bodies section
+stands-bodies {ws} (stands-none e) = ap (λ n. drop n ws) e ∙ drop-length ws
+stands-bodies {ws} (stands-next {k} {at} {s} {ss} a c w l r q) =
+    drop-split ws at (endAt k ws) l r ∙ ap₂ _++_ (ap (λ n. slice n (endAt k ws) ws) (sym a) ∙ w) (stands-bodies q) ∙ sym (map-append word (s .1) (bodies ss))
+
+-- and the header's words from pair k on are their pairs
+stands-pairs : {ws : List ℕ} {k at : ℕ} {ss : List Section} → Stands ws k at ss → 20 ≤ length ws → slice (2 + 2 * k) 20 ws ≡ map word (pairsFrom at ss)
+unfolding pairsFrom countAt offsetAt section
+stands-pairs {ws} (stands-none e) h = slice-empty 20 ws
+stands-pairs {ws} (stands-next {k} {at} {s} {ss} a c w l r q) h =
+    let i : suc k + length ss ≡ 9 = stands-count q in
+    let n : at + length (s .1) ≡ endAt k ws = omega (arith, sym (length-map (s .1) word) ∙ sym (ap length w) ∙ length-slice (offsetAt k ws) (endAt k ws) ws r, a) in
+    let x : suc (2 + 2 * k) ≡ 3 + 2 * k = omega arith in
+    let y : suc (3 + 2 * k) ≡ 2 + 2 * suc k = omega arith in
+    slice-cons (2 + 2 * k) 20 ws 0 (omega arith) h
+    ∙ ap₂ _∷_ c (ap (λ j. slice j 20 ws) x ∙ slice-cons (3 + 2 * k) 20 ws 0 (omega arith) h ∙ ap₂ _∷_ a (ap (λ j. slice j 20 ws) y ∙ stands-pairs q h ∙ ap (λ j. map word (pairsFrom j ss)) (sym n)))
+
+row-holds : (r : Row) (k : ℕ) (ws : List ℕ) (l : List Cells) → tableAt k (by r) ws ≡ laid l → section k ws ≡ map word (flatTable l)
+row-holds r k ws l e = at-took (by-took r) k ws e .words ∙ ap (λ x. map word (flatTable x)) (map-self l)
+
+holds : (ws : List ℕ) (m : Module) → ReadsAs ws m → Holds ws 0 (sections m)
+unfolding sections
+holds ws m r =
+    let s = special-is ws (m .special) (r .special-at) in
+    holds-next (sym (at-took (by-took nameRow) 0 ws (r .names-at) .many)) (row-holds nameRow 0 ws (m .names) (r .names-at))
+    (holds-next (sym (at-took (by-took typeRow) 1 ws (r .types-at) .many)) (row-holds typeRow 1 ws (m .types) (r .types-at))
+    (holds-next (sym (at-took (by-took constantRow) 2 ws (r .constants-at) .many)) (row-holds constantRow 2 ws (m .constants) (r .constants-at))
+    (holds-next (sym (at-took (by-took overrideRow) 3 ws (r .overrides-at) .many)) (row-holds overrideRow 3 ws (m .overrides) (r .overrides-at))
+    (holds-next (sym (at-took (by-took globalRow) 4 ws (r .globals-at) .many)) (row-holds globalRow 4 ws (m .globals) (r .globals-at))
+    (holds-next (sym (at-took (by-took expressionRow) 5 ws (r .exprs-at) .many)) (row-holds expressionRow 5 ws (m .exprs) (r .exprs-at))
+    (holds-next (sym (at-took function-took 6 ws (r .functions-at) .many)) (at-took function-took 6 ws (r .functions-at) .words)
+    (holds-next (sym (at-took entry-took 7 ws (r .entries-at) .many)) (at-took entry-took 7 ws (r .entries-at) .words)
+    (holds-next (sym (s .fine .pairs-ok .many)) (s .words ∙ append-nil (map word (flatSpecial (m .special)))) holds-none))))))))
+
+-- two words in front, and then the pairs
+two-words : (ws : List ℕ) → 20 ≤ length ws → take 20 ws ≡ getD ws 0 0 ∷ getD ws 1 0 ∷ slice 2 20 ws
+two-words ws h = slice-cons 0 20 ws 0 (omega arith) h ∙ ap (getD ws 0 0 ∷_) (slice-cons 1 20 ws 0 (omega arith) h)
+
+stands-long : {ws : List ℕ} {k at : ℕ} {ss : List Section} → Stands ws k at ss → at ≤ length ws
+stands-long (stands-none e) = omega arith
+stands-long (stands-next a c w l r s) = omega arith
+
+stands : (ws : List ℕ) (m : Module) → read ws ≡ laid m → Stands ws 0 HEADER (sections m)
+unfolding limits sections
+stands ws m e = let r = read-parts ws m e in stand (holds ws m r) (placed-true limits 0 HEADER ws (r .placing)) refl (λ (q : _≡_ {A = ℕ} 0 9). absurd (omega arith))
+
+-- LAW: what was read, written out again, is the same words
+pub read-write : (ws : List ℕ) (m : Module) → read ws ≡ laid m → getD ws 0 0 ≡ 1 → getD ws 1 0 ≡ length ws → ws ≡ write m
+unfolding write flatModule
+read-write ws m e edition total =
+    let s = stands ws m e in
+    let h : 20 ≤ length ws = stands-long s in
+    let b : drop 20 ws ≡ map word (bodies (sections m)) = stands-bodies s in
+    let n : length ws - 20 ≡ length (bodies (sections m)) = sym (length-drop 20 ws) ∙ ap length b ∙ length-map (bodies (sections m)) word in
+    let t : getD ws 1 0 ≡ HEADER + length (bodies (sections m)) = omega arith in
+    let header : take 20 ws ≡ 1 ∷ (HEADER + length (bodies (sections m))) ∷ map word (pairsFrom HEADER (sections m)) = two-words ws h ∙ ap₂ _∷_ edition (ap₂ _∷_ t (stands-pairs s h)) in
+    sym (take-append-drop 20 ws) ∙ ap₂ _++_ header b ∙ ap (λ l. 1 ∷ (HEADER + length (bodies (sections m))) ∷ l) (sym (map-append word (pairsFrom HEADER (sections m)) (bodies (sections m))))
+
+-- ---- rewriting words by class
+module _ (f : ℕ → ℕ → ℕ) (keeps : Keeps f) where
+  -- LAW: rewriting the words of an image by class, and then reading, is reading and then carrying
+  pub rewrite-read : (ws : List ℕ) (m : Module) → read ws ≡ laid m → read (map word (carryCells f (flatModule m))) ≡ laid (carry f m)
+  unfolding write
+  rewrite-read ws m e = rw (← flat-carry f keeps m) (write-read (carry f m) (carry-well f keeps m (read-well ws m e)))
