@@ -170,14 +170,14 @@ each-map h (each-next {a} p ps) = each-next (h a p) (each-map h ps)
 
 module _ {A : Type 0} (p : List ℕ → Outcome A) (flatly : A → Cells) where
   -- a table in the image of m
-  written : {m : Module} {k : ℕ} {l : List A} → Sees m k (length l) (flatTable (map flatly l)) → Each (Fills p flatly) l → tableAt k p (write m) ≡ laid l
+  written : {m : Module} {k : ℕ} {l : List A} → Sees (write m) m k (length l) (flatTable (map flatly l)) → Each (Fills p flatly) l → tableAt k p (write m) ≡ laid l
   unfolding tableAt section
   written s fs = rw (s .count, s .words) (write-table p flatly fs)
 
 row-fills : (r : Row) (cs : Cells) → Lays r cs → Fills (by r) (λ cs. cs) cs
 row-fills r cs l = record { fills = ap (λ ws. run ws r) (sym (append-nil (map word cs))) ∙ write-run l [] }
 
-row-written : (r : Row) {m : Module} {k : ℕ} {l : List Cells} → Sees m k (length l) (flatTable l) → Each (Lays r) l → tableAt k (by r) (write m) ≡ laid l
+row-written : (r : Row) {m : Module} {k : ℕ} {l : List Cells} → Sees (write m) m k (length l) (flatTable l) → Each (Lays r) l → tableAt k (by r) (write m) ≡ laid l
 row-written r {m} {k} {l} s ok = written (by r) (λ cs. cs) (rw (map-self l) s) (each-map (row-fills r) ok)
 
 function-fills : (t : Function) → WellFunction t → Fills functionAt flat t
@@ -197,39 +197,39 @@ written-placed m (within-next {k} c w) at e h =
     let i : k < 9 = omega arith in
     placed-next (h i) c (omega (arith, h i, view-rising m k i)) (view-within m k i) (written-placed m w (endAt k (write m)) (omega arith) λ j. sym (view-next m k (omega arith)))
 
-seen-few : {m : Module} {k n x : ℕ} {cs : Cells} → Sees m k n cs → n ≤ x → countAt k (write m) ≤ x
+seen-few : {m : Module} {k n x : ℕ} {cs : Cells} → Sees (write m) m k n cs → n ≤ x → countAt k (write m) ≤ x
 seen-few s h = rw (s .count) h
 
 within : (m : Module) → WellFormed m → Within (write m) limits 0
 unfolding limits
 within m w =
-    within-next (seen-few (sees-names m) (w .names-ok .few))
-    (within-next (seen-few (sees-types m) (w .types-ok .few))
-    (within-next (seen-few (sees-constants m) (w .constants-ok .few))
-    (within-next (seen-few (sees-overrides m) (w .overrides-ok .few))
-    (within-next (seen-few (sees-globals m) (w .globals-ok .few))
-    (within-next (seen-few (sees-exprs m) (w .exprs-ok .few))
-    (within-next (seen-few (sees-functions m) (w .functions-ok .few))
-    (within-next (seen-few (sees-entries m) (w .entries-ok .few))
-    (within-next (seen-few (sees-special m) (w .pairs-ok .few)) within-none))))))))
+    within-next (seen-few (sees-names m refl) (w .names-ok .few))
+    (within-next (seen-few (sees-types m refl) (w .types-ok .few))
+    (within-next (seen-few (sees-constants m refl) (w .constants-ok .few))
+    (within-next (seen-few (sees-overrides m refl) (w .overrides-ok .few))
+    (within-next (seen-few (sees-globals m refl) (w .globals-ok .few))
+    (within-next (seen-few (sees-exprs m refl) (w .exprs-ok .few))
+    (within-next (seen-few (sees-functions m refl) (w .functions-ok .few))
+    (within-next (seen-few (sees-entries m refl) (w .entries-ok .few))
+    (within-next (seen-few (sees-special m refl) (w .pairs-ok .few)) within-none))))))))
 
 written-special : (m : Module) → WellFormed m → exact (specialAt (countAt 8 (write m)) (section 8 (write m))) ≡ laid (m .special)
 unfolding section exact
 written-special m w =
-    rw (sees-special m .count, sees-special m .words, ← append-nil (map word (flatSpecial (m .special))), write-special (m .special) (w .rays-ok) (w .pairs-ok .each) [])
+    rw (sees-special m refl .count, sees-special m refl .words, ← append-nil (map word (flatSpecial (m .special))), write-special (m .special) (w .rays-ok) (w .pairs-ok .each) [])
 
 pub write-parts : (m : Module) → WellFormed m → ReadsAs (write m) m
 unfolding limits
 write-parts m w = record {
   placing = true-placed (written-placed m (within m w) HEADER refl λ h. view-first m);
-  names-at = row-written nameRow (sees-names m) (w .names-ok .each);
-  types-at = row-written typeRow (sees-types m) (w .types-ok .each);
-  constants-at = row-written constantRow (sees-constants m) (w .constants-ok .each);
-  overrides-at = row-written overrideRow (sees-overrides m) (w .overrides-ok .each);
-  globals-at = row-written globalRow (sees-globals m) (w .globals-ok .each);
-  exprs-at = row-written expressionRow (sees-exprs m) (w .exprs-ok .each);
-  functions-at = written functionAt flat (sees-functions m) (each-map function-fills (w .functions-ok .each));
-  entries-at = written entryAt flatEntry (sees-entries m) (each-map entry-fills (w .entries-ok .each));
+  names-at = row-written nameRow (sees-names m refl) (w .names-ok .each);
+  types-at = row-written typeRow (sees-types m refl) (w .types-ok .each);
+  constants-at = row-written constantRow (sees-constants m refl) (w .constants-ok .each);
+  overrides-at = row-written overrideRow (sees-overrides m refl) (w .overrides-ok .each);
+  globals-at = row-written globalRow (sees-globals m refl) (w .globals-ok .each);
+  exprs-at = row-written expressionRow (sees-exprs m refl) (w .exprs-ok .each);
+  functions-at = written functionAt flat (sees-functions m refl) (each-map function-fills (w .functions-ok .each));
+  entries-at = written entryAt flatEntry (sees-entries m refl) (each-map entry-fills (w .entries-ok .each));
   special-at = written-special m w;
 }
 

@@ -219,95 +219,120 @@ module _ (m : Module) (k : ℕ) (h : k < 8) where
       ∙ ap (slice (startOf (length these) these j) (startOf (length these) these (suc j))) (view-section m k (omega arith) ∙ cells-table)
       ∙ start-slice these (places (length these) these) (length these) j (length-places these (length these)) q)
 
--- ---- the same in one record each, to be cited; first for every section and every record, then one line for each table
--- section k of the image of m has n records, and these cells
-pub record Sees (m : Module) (k n : ℕ) (cs : Cells) : Type 0 where
-  pub count : countAt k (write m) ≡ n
-  pub cells : slice (offsetAt k (write m)) (endAt k (write m)) (flatModule m) ≡ cs
-  pub words : slice (offsetAt k (write m)) (endAt k (write m)) (write m) ≡ map word cs
+-- ---- the same of words that are the image of m, in records to be cited: for every section and every record, and then one line for each table
+-- section k has n records, and these cells
+pub record Sees (ws : List ℕ) (m : Module) (k n : ℕ) (cs : Cells) : Type 0 where
+  pub count : countAt k ws ≡ n
+  pub cells : slice (offsetAt k ws) (endAt k ws) (flatModule m) ≡ cs
+  pub words : slice (offsetAt k ws) (endAt k ws) ws ≡ map word cs
 
--- record j of section k of the image of m is r
-pub record SeesRecord (m : Module) (k j : ℕ) (r : Cells) : Type 0 where
-  pub inside : j < countAt k (write m)
-  pub cells : slice (recordAt k j (write m)) (recordEnd k j (write m)) (flatModule m) ≡ r
-  pub words : slice (recordAt k j (write m)) (recordEnd k j (write m)) (write m) ≡ map word r
+-- record j of section k is r
+pub record SeesRecord (ws : List ℕ) (m : Module) (k j : ℕ) (r : Cells) : Type 0 where
+  pub inside : j < countAt k ws
+  pub rising : recordAt k j ws ≤ recordEnd k j ws
+  pub within : recordEnd k j ws ≤ endAt k ws
+  pub cells : slice (recordAt k j ws) (recordEnd k j ws) (flatModule m) ≡ r
+  pub words : slice (recordAt k j ws) (recordEnd k j ws) ws ≡ map word r
 
-pub sees : (m : Module) (k : ℕ) → k < 9 → Sees m k (sectionOf m k .0) (sectionOf m k .1)
+-- the sections stand in order, without gap, from word 20 to the end
+pub record Ordered (ws : List ℕ) : Type 0 where
+  pub first : offsetAt 0 ws ≡ HEADER
+  pub onward : (k : ℕ) → k < 8 → endAt k ws ≡ offsetAt (suc k) ws
+  pub rising : (k : ℕ) → k < 9 → offsetAt k ws ≤ endAt k ws
+  pub within : (k : ℕ) → k < 9 → endAt k ws ≤ length ws
+  pub last : endAt 8 ws ≡ length ws
+
+view-sees : (m : Module) (k : ℕ) → k < 9 → Sees (write m) m k (sectionOf m k .0) (sectionOf m k .1)
 unfolding section
-sees m k h = record { count = view-count m k h; cells = view-section m k h; words = view-words m k h }
+view-sees m k h = record { count = view-count m k h; cells = view-section m k h; words = view-words m k h }
 
-pub sees-record : (m : Module) (k j : ℕ) (r : Cells) → k < 8 → getElem? (getD (tables m) k []) j ≡ some r → SeesRecord m k j r
+view-sees-record : (m : Module) (k j : ℕ) (r : Cells) → k < 8 → getElem? (getD (tables m) k []) j ≡ some r → SeesRecord (write m) m k j r
 unfolding write
-sees-record m k j r h e =
+view-sees-record m k j r h e =
     let i : j < countAt k (write m) = omega (arith, looked-length (getD (tables m) k []) j e, view-records m k h) in
     let c = view-record m k h j i ∙ looked-getD (getD (tables m) k []) j [] e in
-    record { inside = i; cells = c; words = slice-map word (recordAt k j (write m)) (recordEnd k j (write m)) (flatModule m) ∙ ap (map word) c }
+    record {
+      inside = i;
+      rising = view-record-rising m k h j i;
+      within = view-record-within m k h j i;
+      cells = c;
+      words = slice-map word (recordAt k j (write m)) (recordEnd k j (write m)) (flatModule m) ∙ ap (map word) c;
+    }
 
-module _ (m : Module) where
-  pub sees-names : Sees m 0 (length (m .names)) (flatTable (m .names))
+module _ (m : Module) {ws : List ℕ} (same : ws ≡ write m) where
+  pub sees : (k : ℕ) → k < 9 → Sees ws m k (sectionOf m k .0) (sectionOf m k .1)
+  sees k h = rw same (view-sees m k h)
+
+  pub sees-record : (k j : ℕ) (r : Cells) → k < 8 → getElem? (getD (tables m) k []) j ≡ some r → SeesRecord ws m k j r
+  sees-record k j r h e = rw same (view-sees-record m k j r h e)
+
+  pub ordered : Ordered ws
+  ordered = rw same (record { first = view-first m; onward = view-next m; rising = view-rising m; within = view-within m; last = view-last m })
+
+  pub sees-names : Sees ws m 0 (length (m .names)) (flatTable (m .names))
   unfolding sections
-  sees-names = sees m 0 (omega arith)
+  sees-names = sees 0 (omega arith)
 
-  pub sees-types : Sees m 1 (length (m .types)) (flatTable (m .types))
+  pub sees-types : Sees ws m 1 (length (m .types)) (flatTable (m .types))
   unfolding sections
-  sees-types = sees m 1 (omega arith)
+  sees-types = sees 1 (omega arith)
 
-  pub sees-constants : Sees m 2 (length (m .constants)) (flatTable (m .constants))
+  pub sees-constants : Sees ws m 2 (length (m .constants)) (flatTable (m .constants))
   unfolding sections
-  sees-constants = sees m 2 (omega arith)
+  sees-constants = sees 2 (omega arith)
 
-  pub sees-overrides : Sees m 3 (length (m .overrides)) (flatTable (m .overrides))
+  pub sees-overrides : Sees ws m 3 (length (m .overrides)) (flatTable (m .overrides))
   unfolding sections
-  sees-overrides = sees m 3 (omega arith)
+  sees-overrides = sees 3 (omega arith)
 
-  pub sees-globals : Sees m 4 (length (m .globals)) (flatTable (m .globals))
+  pub sees-globals : Sees ws m 4 (length (m .globals)) (flatTable (m .globals))
   unfolding sections
-  sees-globals = sees m 4 (omega arith)
+  sees-globals = sees 4 (omega arith)
 
-  pub sees-exprs : Sees m 5 (length (m .exprs)) (flatTable (m .exprs))
+  pub sees-exprs : Sees ws m 5 (length (m .exprs)) (flatTable (m .exprs))
   unfolding sections
-  sees-exprs = sees m 5 (omega arith)
+  sees-exprs = sees 5 (omega arith)
 
-  pub sees-functions : Sees m 6 (length (m .functions)) (flatTable (map flat (m .functions)))
+  pub sees-functions : Sees ws m 6 (length (m .functions)) (flatTable (map flat (m .functions)))
   unfolding sections
-  sees-functions = sees m 6 (omega arith)
+  sees-functions = sees 6 (omega arith)
 
-  pub sees-entries : Sees m 7 (length (m .entries)) (flatTable (map flatEntry (m .entries)))
+  pub sees-entries : Sees ws m 7 (length (m .entries)) (flatTable (map flatEntry (m .entries)))
   unfolding sections
-  sees-entries = sees m 7 (omega arith)
+  sees-entries = sees 7 (omega arith)
 
-  pub sees-special : Sees m 8 (length (m .special .pairs)) (flatSpecial (m .special))
+  pub sees-special : Sees ws m 8 (length (m .special .pairs)) (flatSpecial (m .special))
   unfolding sections
-  sees-special = sees m 8 (omega arith)
+  sees-special = sees 8 (omega arith)
 
-  pub sees-name : (j : ℕ) (r : Cells) → getElem? (m .names) j ≡ some r → SeesRecord m 0 j r
+  pub sees-name : (j : ℕ) (r : Cells) → getElem? (m .names) j ≡ some r → SeesRecord ws m 0 j r
   unfolding tables
-  sees-name j r e = sees-record m 0 j r (omega arith) e
+  sees-name j r e = sees-record 0 j r (omega arith) e
 
-  pub sees-type : (j : ℕ) (r : Cells) → getElem? (m .types) j ≡ some r → SeesRecord m 1 j r
+  pub sees-type : (j : ℕ) (r : Cells) → getElem? (m .types) j ≡ some r → SeesRecord ws m 1 j r
   unfolding tables
-  sees-type j r e = sees-record m 1 j r (omega arith) e
+  sees-type j r e = sees-record 1 j r (omega arith) e
 
-  pub sees-constant : (j : ℕ) (r : Cells) → getElem? (m .constants) j ≡ some r → SeesRecord m 2 j r
+  pub sees-constant : (j : ℕ) (r : Cells) → getElem? (m .constants) j ≡ some r → SeesRecord ws m 2 j r
   unfolding tables
-  sees-constant j r e = sees-record m 2 j r (omega arith) e
+  sees-constant j r e = sees-record 2 j r (omega arith) e
 
-  pub sees-override : (j : ℕ) (r : Cells) → getElem? (m .overrides) j ≡ some r → SeesRecord m 3 j r
+  pub sees-override : (j : ℕ) (r : Cells) → getElem? (m .overrides) j ≡ some r → SeesRecord ws m 3 j r
   unfolding tables
-  sees-override j r e = sees-record m 3 j r (omega arith) e
+  sees-override j r e = sees-record 3 j r (omega arith) e
 
-  pub sees-global : (j : ℕ) (r : Cells) → getElem? (m .globals) j ≡ some r → SeesRecord m 4 j r
+  pub sees-global : (j : ℕ) (r : Cells) → getElem? (m .globals) j ≡ some r → SeesRecord ws m 4 j r
   unfolding tables
-  sees-global j r e = sees-record m 4 j r (omega arith) e
+  sees-global j r e = sees-record 4 j r (omega arith) e
 
-  pub sees-expr : (j : ℕ) (r : Cells) → getElem? (m .exprs) j ≡ some r → SeesRecord m 5 j r
+  pub sees-expr : (j : ℕ) (r : Cells) → getElem? (m .exprs) j ≡ some r → SeesRecord ws m 5 j r
   unfolding tables
-  sees-expr j r e = sees-record m 5 j r (omega arith) e
+  sees-expr j r e = sees-record 5 j r (omega arith) e
 
-  pub sees-function : (j : ℕ) (t : Function) → getElem? (m .functions) j ≡ some t → SeesRecord m 6 j (flat t)
+  pub sees-function : (j : ℕ) (t : Function) → getElem? (m .functions) j ≡ some t → SeesRecord ws m 6 j (flat t)
   unfolding tables
-  sees-function j t e = sees-record m 6 j (flat t) (omega arith) (looked-map flat (m .functions) j e)
+  sees-function j t e = sees-record 6 j (flat t) (omega arith) (looked-map flat (m .functions) j e)
 
-  pub sees-entry : (j : ℕ) (t : Entry) → getElem? (m .entries) j ≡ some t → SeesRecord m 7 j (flatEntry t)
+  pub sees-entry : (j : ℕ) (t : Entry) → getElem? (m .entries) j ≡ some t → SeesRecord ws m 7 j (flatEntry t)
   unfolding tables
-  sees-entry j t e = sees-record m 7 j (flatEntry t) (omega arith) (looked-map flatEntry (m .entries) j e)
+  sees-entry j t e = sees-record 7 j (flatEntry t) (omega arith) (looked-map flatEntry (m .entries) j e)
