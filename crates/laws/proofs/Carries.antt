@@ -2,13 +2,13 @@
 use mathlib.Core.Path.{_≡_, refl, sym, ap, ap₂, _∙_, subst}
 use mathlib.Core.Bool.{Bool, true, false}
 use mathlib.Core.Option.{Option, none, some}
-use mathlib.Core.List.{List, [], _∷_, _++_, map, append-nil, append-assoc}
+use mathlib.Core.List.{List, [], _∷_, _++_, map, zipWith, append-nil, append-assoc}
 use Prim.Native.Nat.{ℕ, zero, suc, _+_, _≤_, _<_}
 use native.Mathlib.Omega.{arith}
 use lib.Dec.{eqb, ltb}
-use lib.ListN.{length, getElem?, length-map, length-append}
+use lib.ListN.{length, getD, getElem?, length-map, length-append}
 use borrow.Author.Tests.{ltb-true, ltb-false, lt-ltb}
-use Rattle.model.specs.Outcome.{Cell, Cells, word}
+use Rattle.model.specs.Outcome.{Cell, Cells, class, word}
 use Rattle.model.specs.Table.{Row, SPAN, UPTO, CALLEE, EXPR, OPT-EXPR, OPT-RESULT, PLACE, PAD, OPERANDS, ARGUMENTS, LOCALS, EXPRESSIONS, NAMED, BLOCK, CASES, LENGTH, STMT-KIND, brings, more}
 use Rattle.model.specs.Tree.{Stmt, Form, Block, Cases, Case, stmt, emit, block, branch, switch, loop, break, continue, return, kill, call, effect, end, _then_, nomore, _also_, case, Range, Function, Entry, optOf, wordOf, kindOf, sizeB, sizeC, flatS, flatF, flatB, flatK, flatC, flatX, flatAll, flatList, flatBlock, flat, flatEntry}
 use Rattle.model.specs.Module.{Special, Module, places, flatTable, flatSpecial, Section, sections, pairsFrom, bodies, flatModule, HEADER}
@@ -42,6 +42,23 @@ module _ (m : ℕ → ℕ → ℕ) where
 
   length-m : (cs : Cells) → length (carryCells m cs) ≡ length cs
   length-m cs = length-map cs (carryCell m)
+
+  -- a cell keeps its class, and its word is rewritten by it: what a pass over words and tape does
+  pub carried-classes : (cs : Cells) → map class (carryCells m cs) ≡ map class cs
+  unfolding carryCell
+  carried-classes [] = refl
+  carried-classes (c ∷ cs) = ap (class c ∷_) (carried-classes cs)
+
+  pub carried-words : (cs : Cells) → map word (carryCells m cs) ≡ zipWith m (map class cs) (map word cs)
+  unfolding carryCell zipWith
+  carried-words [] = refl
+  carried-words (c ∷ cs) = ap (m (class c) (word c) ∷_) (carried-words cs)
+
+  pub carried-word : (cs : Cells) (i : ℕ) → i < length cs → getD (map word (carryCells m cs)) i 0 ≡ m (getD (map class cs) i 0) (getD (map word cs) i 0)
+  unfolding carryCell
+  carried-word [] i h = absurd (omega arith)
+  carried-word (c ∷ cs) zero h = refl
+  carried-word (c ∷ cs) (suc i) h = carried-word cs i (omega arith)
 
   opt-word : (s : ℕ) (o : Option ℕ) → wordOf (carryOpt m s o) ≡ m s (wordOf o)
   unfolding carryOpt
@@ -112,7 +129,7 @@ module _ (m : ℕ → ℕ → ℕ) (keeps : Keeps m) where
   unfolding flatList
   flat-list s h rs = ap₂ (λ c l. c ∷ l) (ap (λ n. (s, n)) (length-map rs (carryCells m)) ∙ sym (kept-cell s (length rs) h)) (flat-all rs)
 
-  flat-block : (b : Block Range) → flatBlock (carryB m b) ≡ carryCells m (flatBlock b)
+  pub flat-block : (b : Block Range) → flatBlock (carryB m b) ≡ carryCells m (flatBlock b)
   unfolding flatBlock
   flat-block b = ap₂ (λ c l. c ∷ l) (block-cell b) (flat-b b)
 
@@ -208,7 +225,7 @@ module _ (m : ℕ → ℕ → ℕ) (keeps : Keeps m) where
       go true e = rw (more, e)
       go false e = let h = ltb-false s PAD e in ap (more s) (keeps .kept s w (omega arith))
 
-  lays-carry : {ss : Row} {cs : Cells} → Lays ss cs → Lays ss (carryCells m cs)
+  pub lays-carry : {ss : Row} {cs : Cells} → Lays ss cs → Lays ss (carryCells m cs)
   unfolding carryCell
   lays-carry lays-none = lays-none
   lays-carry (lays-next {s} {w} e l) = lays-next (more-carried s w ∙ e) (lays-carry l)
@@ -242,7 +259,7 @@ module _ (m : ℕ → ℕ → ℕ) (keeps : Keeps m) where
     ok-f ok-call = ok-call
     ok-f (ok-effect e l) = ok-effect e (lays-carry l)
 
-    ok-b : {d : ℕ} {b : Block Range} → OkB d b → OkB d (carryB m b)
+    pub ok-b : {d : ℕ} {b : Block Range} → OkB d b → OkB d (carryB m b)
     ok-b (ok-deeper b) = ok-deeper (ok-bs b)
 
     ok-bs : {d : ℕ} {b : Block Range} → OkBs d b → OkBs d (carryB m b)

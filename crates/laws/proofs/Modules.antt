@@ -2,22 +2,22 @@
 -- A module is read section by section: the places of the sections are one matter (Placed, Stands), what each of them holds is another (Tables).
 use mathlib.Core.Path.{_≡_, refl, sym, ap, ap₂, _∙_, subst}
 use mathlib.Core.Bool.{Bool, true, false, _&&_}
-use mathlib.Core.List.{List, [], _∷_, _++_, map, append-nil, append-assoc}
+use mathlib.Core.List.{List, [], _∷_, _++_, map, zipWith, append-nil, append-assoc}
 use Prim.Native.Nat.{ℕ, zero, suc, _+_, _*_, _-_, _≤_, _<_}
 use native.Mathlib.Omega.{arith}
 use lib.Dec.{eqb, leb}
 use lib.ListN.{length, getD, take, drop, length-append, length-map, length-take, length-drop, take-append-drop}
 use lib.Seq.{slice, slice-cons, slice-empty, length-slice, drop-append-le, drop-length, length-take-le}
 use borrow.Author.Tests.{eqb-true, eq-eqb, leb-true, le-leb}
-use Rattle.model.specs.Outcome.{Cell, Cells, word, Outcome, fits, misfit, unknown, Laid, laid, bad, strange, exact, both, mapL}
+use Rattle.model.specs.Outcome.{Cell, Cells, class, word, Outcome, fits, misfit, unknown, Laid, laid, bad, strange, exact, both, mapL}
 use Rattle.model.specs.Table.{Row, PLACE, nameRow, typeRow, constantRow, overrideRow, globalRow, expressionRow, run}
-use Rattle.model.specs.Tree.{Function, Entry, flat, flatEntry, flatAll, functionAt, entryAt}
-use Rattle.model.specs.Module.{Special, Module, table, raysRow, pairRow, specialAt, countAt, offsetAt, endAt, limits, placed, HEADER, section, tableAt, by, _⊛_, moduleOf, read, flatTable, flatSpecial, Section, sections, pairsFrom, bodies, flatModule, write}
-use Rattle.model.specs.Carry.{Keeps, carryCell, carryCells, carry, Lays, Each, each-none, each-next, WellFunction, WellEntry, Tabled, WellFormed}
+use Rattle.model.specs.Tree.{Block, Range, Function, Entry, flatBlock, flat, flatEntry, flatAll, blockAt, functionAt, entryAt}
+use Rattle.model.specs.Module.{Special, Module, table, raysRow, pairRow, specialAt, countAt, offsetAt, endAt, limits, placed, HEADER, section, tableAt, by, _⊛_, moduleOf, read, flatTable, flatSpecial, Section, sections, pairsFrom, bodies, flatModule, write, sized}
+use Rattle.model.specs.Carry.{Keeps, carryCell, carryCells, carryB, carryFunction, carryEntry, carry, Lays, Each, each-none, each-next, WellFunction, WellEntry, Tabled, WellFormed}
 use Rattle.laws.proofs.Lists.{map-append, if-true}
-use Rattle.laws.proofs.Carries.{flat-carry, carry-well}
-use Rattle.laws.proofs.Writing.{write-run, write-function, write-entry, write-special}
-use Rattle.laws.proofs.Took.{Took, Takes, Rowed, run-took, function-took, entry-took, special-took, WellSpecial}
+use Rattle.laws.proofs.Carries.{carried-classes, carried-words, lays-carry, ok-b, flat-block, flat-carry-function, flat-carry-entry, flat-carry, carry-well-function, carry-well-entry, carry-well}
+use Rattle.laws.proofs.Writing.{write-run, write-b, write-function, write-entry, write-special}
+use Rattle.laws.proofs.Took.{Took, Takes, Rowed, run-took, function-took, entry-took, special-took, WellSpecial, read-well-run, read-well-block, read-well-function, read-well-entry}
 use Rattle.laws.proofs.Views.{sectionOf, view-count, view-words, view-first, view-next, view-last, view-rising, view-within, Sees, sees-names, sees-types, sees-constants, sees-overrides, sees-globals, sees-exprs, sees-functions, sees-entries, sees-special}
 use Rattle.laws.proofs.Tables.{Fine, fine-exact, laid-of, and-true, and-split, Fills, write-table, TableTook, table-took}
 
@@ -324,9 +324,44 @@ read-write ws m e edition total =
     let header : take 20 ws ≡ 1 ∷ (HEADER + length (bodies (sections m))) ∷ map word (pairsFrom HEADER (sections m)) = two-words ws h ∙ ap₂ _∷_ edition (ap₂ _∷_ t (stands-pairs s h)) in
     sym (take-append-drop 20 ws) ∙ ap₂ _++_ header b ∙ ap (λ l. 1 ∷ (HEADER + length (bodies (sections m))) ∷ l) (sym (map-append word (pairsFrom HEADER (sections m)) (bodies (sections m))))
 
+-- words that passed the tests of size: refusal 1
+pub sized-read-write : (bytes : ℕ) (ws : List ℕ) (m : Module) → sized bytes ws ≡ true → bytes ≡ 4 * length ws → read ws ≡ laid m → ws ≡ write m
+unfolding sized
+sized-read-write bytes ws m e n r =
+    let a = and-split (leb 80 bytes) (leb bytes 65536 && (eqb (getD ws 0 0) 1 && eqb bytes (4 * getD ws 1 0))) e in
+    let b = and-split (leb bytes 65536) (eqb (getD ws 0 0) 1 && eqb bytes (4 * getD ws 1 0)) (a .1) in
+    let c = and-split (eqb (getD ws 0 0) 1) (eqb bytes (4 * getD ws 1 0)) (b .1) in
+    read-write ws m r (eqb-true (getD ws 0 0) 1 (c .0)) (omega (arith, eqb-true bytes (4 * getD ws 1 0) (c .1)))
+
 -- ---- rewriting words by class
 module _ (f : ℕ → ℕ → ℕ) (keeps : Keeps f) where
   -- LAW: rewriting the words of an image by class, and then reading, is reading and then carrying
   pub rewrite-read : (ws : List ℕ) (m : Module) → read ws ≡ laid m → read (map word (carryCells f (flatModule m))) ≡ laid (carry f m)
   unfolding write
   rewrite-read ws m e = rw (← flat-carry f keeps m) (write-read (carry f m) (carry-well f keeps m (read-well ws m e)))
+
+  -- the same of the words and a tape that has the class of each
+  pub rewrite-read-tape : (ws tape : List ℕ) (m : Module) → read ws ≡ laid m → ws ≡ write m → tape ≡ map class (flatModule m) → read (zipWith f tape ws) ≡ laid (carry f m)
+  unfolding write
+  rewrite-read-tape ws tape m e same t = ap read (ap₂ (zipWith f) t same ∙ sym (carried-words f (flatModule m))) ∙ rewrite-read ws m e
+
+  -- the rewritten words are the carried module's image, and the tape stays
+  pub rewrite-write : (m : Module) → zipWith f (map class (flatModule m)) (write m) ≡ write (carry f m)
+  unfolding write
+  rewrite-write m = sym (ap (map word) (flat-carry f keeps m) ∙ carried-words f (flatModule m))
+
+  pub rewrite-tape : (m : Module) → map class (flatModule (carry f m)) ≡ map class (flatModule m)
+  rewrite-tape m = ap (map class) (flat-carry f keeps m) ∙ carried-classes f (flatModule m)
+
+  -- of single readers
+  pub rewrite-read-run : (ws : List ℕ) (r : Row) (cs : Cells) (rest : List ℕ) → run ws r ≡ fits cs rest → run (map word (carryCells f cs) ++ rest) r ≡ fits (carryCells f cs) rest
+  rewrite-read-run ws r cs rest e = write-run (lays-carry f keeps (read-well-run ws r cs rest e)) rest
+
+  pub rewrite-read-block : (d : ℕ) (ws : List ℕ) (b : Block Range) (rest : List ℕ) → blockAt d ws ≡ fits b rest → blockAt d (map word (carryCells f (flatBlock b)) ++ rest) ≡ fits (carryB f b) rest
+  rewrite-read-block d ws b rest e = rw (← flat-block f keeps b) (write-b (ok-b f keeps (read-well-block d ws b rest e)) rest)
+
+  pub rewrite-read-function : (ws : List ℕ) (t : Function) (rest : List ℕ) → functionAt ws ≡ fits t rest → functionAt (map word (carryCells f (flat t)) ++ rest) ≡ fits (carryFunction f t) rest
+  rewrite-read-function ws t rest e = rw (← flat-carry-function f keeps t) (write-function (carryFunction f t) (carry-well-function f keeps t (read-well-function ws t rest e)) rest)
+
+  pub rewrite-read-entry : (ws : List ℕ) (t : Entry) (rest : List ℕ) → entryAt ws ≡ fits t rest → entryAt (map word (carryCells f (flatEntry t)) ++ rest) ≡ fits (carryEntry f t) rest
+  rewrite-read-entry ws t rest e = rw (← flat-carry-entry f keeps t) (write-entry (carryEntry f t) (carry-well-entry f keeps t (read-well-entry ws t rest e)) rest)
