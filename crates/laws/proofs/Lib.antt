@@ -3,6 +3,7 @@ pub mod Carries
 pub mod Writing
 pub mod Took
 pub mod Sections
+pub mod Plain
 pub mod Views
 pub mod Tables
 pub mod Modules

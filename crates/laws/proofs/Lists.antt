@@ -1,9 +1,10 @@
 -- Lists, words of cells, and optional numbers: what every law of the image uses.
 use mathlib.Core.Path.{_≡_, refl, sym, ap, _∙_}
-use mathlib.Core.Bool.{Bool, true, false}
+use mathlib.Core.Bool.{Bool, true, false, _&&_}
 use mathlib.Core.List.{List, [], _∷_, _++_, map, append-nil, append-assoc}
 use mathlib.Core.Option.{Option, none, some}
 use Prim.Native.Nat.{ℕ, zero, suc, _+_}
+use native.Mathlib.Omega.{arith}
 use lib.ListN.{length, length-append, length-map}
 use Rattle.model.specs.Outcome.{Cell, Cells, word}
 use Rattle.model.specs.Tree.{optOf, wordOf}
@@ -42,3 +43,10 @@ word-of (suc w) = refl
 pub if-true : {A : Type 0} (b : Bool) (x y : A) → b ≡ true → elim b [ true ↦ x | false ↦ y ] ≡ x
 if-true true x y e = refl
 if-true false x y e = cc
+
+pub and-true : {a b : Bool} → a ≡ true → b ≡ true → a && b ≡ true
+and-true e f = rw (e, f)
+
+pub and-split : (a b : Bool) → a && b ≡ true → (a ≡ true) × (b ≡ true)
+and-split true b e = (refl, e)
+and-split false b e = let z : _≡_ {A = ℕ} 0 1 = cc in absurd (omega arith)

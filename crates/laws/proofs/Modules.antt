@@ -14,12 +14,12 @@ use Rattle.model.specs.Table.{Row, PLACE, nameRow, typeRow, constantRow, overri
 use Rattle.model.specs.Tree.{Block, Range, Function, Entry, flatBlock, flat, flatEntry, flatAll, blockAt, functionAt, entryAt}
 use Rattle.model.specs.Module.{Special, Module, table, raysRow, pairRow, specialAt, countAt, offsetAt, endAt, limits, placed, HEADER, section, tableAt, by, _⊛_, moduleOf, read, flatTable, flatSpecial, Section, sections, pairsFrom, bodies, flatModule, write, sized}
 use Rattle.model.specs.Carry.{Keeps, carryCell, carryCells, carryB, carryFunction, carryEntry, carry, Lays, Each, each-none, each-next, WellFunction, WellEntry, Tabled, WellFormed}
-use Rattle.laws.proofs.Lists.{map-append, if-true}
+use Rattle.laws.proofs.Lists.{map-append, if-true, and-true, and-split}
 use Rattle.laws.proofs.Carries.{carried-classes, carried-words, lays-carry, ok-b, flat-block, flat-carry-function, flat-carry-entry, flat-carry, carry-well-function, carry-well-entry, carry-well}
 use Rattle.laws.proofs.Writing.{write-run, write-b, write-function, write-entry, write-special}
 use Rattle.laws.proofs.Took.{Took, Takes, Rowed, run-took, function-took, entry-took, special-took, WellSpecial, read-well-run, read-well-block, read-well-function, read-well-entry}
 use Rattle.laws.proofs.Views.{sectionOf, view-count, view-words, view-first, view-next, view-last, view-rising, view-within, Sees, sees-names, sees-types, sees-constants, sees-overrides, sees-globals, sees-exprs, sees-functions, sees-entries, sees-special}
-use Rattle.laws.proofs.Tables.{Fine, fine-exact, laid-of, and-true, and-split, Fills, write-table, TableTook, table-took}
+use Rattle.laws.proofs.Tables.{Fine, fine-exact, laid-of, Fills, write-table, TableTook, table-took}
 
 -- ---- the parts that a reading consists of
 pub record ReadsAs (ws : List ℕ) (m : Module) : Type 0 where

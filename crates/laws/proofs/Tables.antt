@@ -14,7 +14,7 @@ use Rattle.model.specs.Table.{PLACE}
 use Rattle.model.specs.Tree.{flatAll}
 use Rattle.model.specs.Module.{next, records, table, places, flatTable}
 use Rattle.model.specs.Carry.{Each, each-none, each-next}
-use Rattle.laws.proofs.Lists.{map-append, if-true}
+use Rattle.laws.proofs.Lists.{map-append, if-true, and-true, and-split}
 use Rattle.laws.proofs.Sections.{length-places}
 use Rattle.laws.proofs.Took.{Good, good, good-misfit, good-unknown, Took, Takes}
 
@@ -46,9 +46,6 @@ laid-of {P} {a} f e = inside (subst (Fine P) e f)
   where
     inside : Fine P (laid a) → P a
     inside (fine p) = p
-
-pub and-true : {a b : Bool} → a ≡ true → b ≡ true → a && b ≡ true
-and-true e f = rw (e, f)
 
 -- ---- written, and read
 -- a record is read from exactly its own words
@@ -103,10 +100,6 @@ module _ {A : Type 0} (p : List ℕ → Outcome A) (flatly : A → Cells) where
 length-none : (ws : List ℕ) → length ws ≡ 0 → ws ≡ []
 length-none [] e = refl
 length-none (w ∷ ws) e = absurd (omega arith)
-
-pub and-split : (a b : Bool) → a && b ≡ true → (a ≡ true) × (b ≡ true)
-and-split true b e = (refl, e)
-and-split false b e = let z : _≡_ {A = ℕ} 0 1 = cc in absurd (omega arith)
 
 -- offsets and words of records of which the first starts at `at`
 record Held {A : Type 0} (ok : A → Type 0) (flatly : A → Cells) (at : ℕ) (os ws : List ℕ) (l : List A) : Type 0 where

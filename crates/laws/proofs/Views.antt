@@ -5,18 +5,20 @@ use mathlib.Core.Bool.{Bool, true, false}
 use mathlib.Core.Option.{Option, none, some}
 use mathlib.Core.List.{List, [], _∷_, _++_, map, append-nil, append-assoc}
 use Prim.Native.Nat.{ℕ, zero, suc, _+_, _*_, _-_, _≤_, _<_}
-use native.Mathlib.Nat.{add-zero, zero-add, add-assoc}
+use native.Mathlib.Nat.{add-zero, zero-add, add-assoc, suc-mul}
 use native.Mathlib.Omega.{arith}
 use lib.Dec.{eqb}
 use lib.ListN.{length, getD, getElem?, take, drop, length-append, length-map, List·getD-append}
-use lib.Seq.{slice, length-slice}
+use lib.Seq.{slice, length-slice, take-at}
 use borrow.Author.Tests.{eqb-true, eqb-false, eq-eqb}
 use Rattle.model.specs.Outcome.{Cell, Cells, word}
 use Rattle.model.specs.Table.{PLACE}
 use Rattle.model.specs.Tree.{Function, Entry, flat, flatEntry, flatAll}
 use Rattle.model.specs.Module.{Module, Special, countAt, offsetAt, endAt, section, HEADER, places, flatTable, flatSpecial, Section, sections, pairsFrom, bodies, flatModule, write}
 use Rattle.model.specs.View.{tables, recordAt, recordEnd}
+use Rattle.model.specs.Carry.{WellFormed, Tabled}
 use Rattle.laws.proofs.Lists.{map-append}
+use Rattle.laws.proofs.Plain.{plain?, plain-length, plain-start}
 use Rattle.laws.proofs.Sections.{slice-slice, getD-slice, slice-map, startOf, start-zero, start-end, start-step, start-in, start-slice, length-places, place-word, cellsOf, length-pairs, bodies-all, pair-count, pair-offset}
 
 -- section k: its count and its cells
@@ -336,3 +338,40 @@ module _ (m : Module) {ws : List ℕ} (same : ws ≡ write m) where
   pub sees-entry : (j : ℕ) (t : Entry) → getElem? (m .entries) j ≡ some t → SeesRecord ws m 7 j (flatEntry t)
   unfolding tables
   sees-entry j t e = sees-record 7 j (flatEntry t) (omega arith) (looked-map flatEntry (m .entries) j e)
+
+-- ---- the special types: three words, and pairs of two
+module _ (m : Module) {ws : List ℕ} (same : ws ≡ write m) (w : WellFormed m) where
+  three : length (m .special .rays) ≡ 3
+  unfolding plain?
+  three = plain-length (w .rays-ok) refl
+
+  -- where pair j starts in the section
+  pair-start : (j : ℕ) → j ≤ length (m .special .pairs) → startOf 3 (m .special .pairs) j ≡ 3 + j * 2
+  unfolding plain?
+  pair-start j h = plain-start (w .pairs-ok .each) refl 3 2 j refl h
+
+  special-end : endAt 8 ws ≡ offsetAt 8 ws + (3 + length (flatAll (m .special .pairs)))
+  unfolding sections flatSpecial
+  special-end = rw same (view-length m 8 (omega arith) ∙ ap (offsetAt 8 (write m) +_) (length-append (m .special .rays) (flatAll (m .special .pairs)) ∙ ap (_+ length (flatAll (m .special .pairs))) three))
+
+  inside-special : (a b : ℕ) → b ≤ 3 + length (flatAll (m .special .pairs)) → slice (offsetAt 8 ws + a) (offsetAt 8 ws + b) (flatModule m) ≡ slice a b (flatSpecial (m .special))
+  inside-special a b h =
+      slice-slice (flatModule m) (offsetAt 8 ws) (endAt 8 ws) a b (omega (arith, special-end)) (omega (arith, ordered m same .last, ap length same, length-write m)) (omega (arith, special-end))
+      ∙ ap (slice a b) (sees-special m same .cells)
+
+  pub sees-rays : slice (offsetAt 8 ws) (offsetAt 8 ws + 3) (flatModule m) ≡ m .special .rays
+  unfolding flatSpecial
+  sees-rays =
+      let z : offsetAt 8 ws ≡ offsetAt 8 ws + 0 = omega arith in
+      ap (λ o. slice o (offsetAt 8 ws + 3) (flatModule m)) z ∙ inside-special 0 3 (omega arith) ∙ take-at (m .special .rays) (flatAll (m .special .pairs)) 3 three
+
+  pub sees-pair : (j : ℕ) (p : Cells) → getElem? (m .special .pairs) j ≡ some p → slice (offsetAt 8 ws + (3 + j * 2)) (offsetAt 8 ws + (5 + j * 2)) (flatModule m) ≡ p
+  unfolding flatSpecial
+  sees-pair j p e =
+      let i : j < length (m .special .pairs) = looked-length (m .special .pairs) j e in
+      let a : 3 + j * 2 ≡ startOf 3 (m .special .pairs) j = sym (pair-start j (omega arith)) in
+      let b : 5 + j * 2 ≡ startOf 3 (m .special .pairs) (suc j) = omega (arith, pair-start (suc j) i, suc-mul j 2) in
+      inside-special (3 + j * 2) (5 + j * 2) (omega (arith, start-in (m .special .pairs) 3 (suc j) i))
+      ∙ ap₂ (λ x y. slice x y (m .special .rays ++ flatAll (m .special .pairs))) a b
+      ∙ start-slice (m .special .pairs) (m .special .rays) 3 j three i
+      ∙ looked-getD (m .special .pairs) j [] e
