@@ -7,3 +7,4 @@ pub mod Plain
 pub mod Views
 pub mod Tables
 pub mod Modules
+pub mod Examples

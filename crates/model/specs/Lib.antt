@@ -4,3 +4,4 @@ pub mod Tree
 pub mod Module
 pub mod Carry
 pub mod View
+pub mod Sample
