@@ -1,16 +1,16 @@
 -- The laws of carrying: the flat list of the carried tree is the flat list with each cell carried, and the carried tree is well formed. Both need that counts, lengths, kinds and codes are kept.
-use mathlib.Core.Path.{_≡_, refl, sym, ap, ap₂, _∙_, subst}
+use mathlib.Core.Path.{_≡_, refl, sym, ap, ap₂, _∙_}
 use mathlib.Core.Bool.{Bool, true, false}
-use mathlib.Core.Option.{Option, none, some}
-use mathlib.Core.List.{List, [], _∷_, _++_, map, zipWith, append-nil, append-assoc}
+use mathlib.Core.Option.{Option}
+use mathlib.Core.List.{List, [], _∷_, _++_, map, zipWith}
 use Prim.Native.Nat.{ℕ, zero, suc, _+_, _≤_, _<_}
 use native.Mathlib.Omega.{arith}
-use lib.Dec.{eqb, ltb}
-use lib.ListN.{length, getD, getElem?, length-map, length-append}
-use borrow.Author.Tests.{ltb-true, ltb-false, lt-ltb}
+use lib.Dec.{ltb}
+use lib.ListN.{length, getD, length-map}
+use borrow.Author.Tests.{ltb-false}
 use Rattle.model.specs.Outcome.{Cell, Cells, class, word}
-use Rattle.model.specs.Table.{Row, SPAN, UPTO, CALLEE, EXPR, OPT-EXPR, OPT-RESULT, PLACE, PAD, OPERANDS, ARGUMENTS, LOCALS, EXPRESSIONS, NAMED, BLOCK, CASES, LENGTH, STMT-KIND, brings, more}
-use Rattle.model.specs.Tree.{Stmt, Form, Block, Cases, Case, stmt, emit, block, branch, switch, loop, break, continue, return, kill, call, effect, end, _then_, nomore, _also_, case, Range, Function, Entry, optOf, wordOf, kindOf, sizeB, sizeC, flatS, flatF, flatB, flatK, flatC, flatX, flatAll, flatList, flatBlock, flat, flatEntry}
+use Rattle.model.specs.Table.{Row, EXPR, OPT-EXPR, OPT-RESULT, PLACE, PAD, OPERANDS, ARGUMENTS, LOCALS, EXPRESSIONS, NAMED, BLOCK, CASES, LENGTH, STMT-KIND, more}
+use Rattle.model.specs.Tree.{Stmt, Form, Block, Cases, Case, stmt, emit, block, branch, switch, loop, break, continue, return, kill, call, effect, end, _then_, nomore, _also_, case, Range, Function, Entry, wordOf, kindOf, sizeB, sizeC, flatS, flatF, flatB, flatK, flatC, flatX, flatAll, flatList, flatBlock, flat, flatEntry}
 use Rattle.model.specs.Module.{Special, Module, places, flatTable, flatSpecial, Section, sections, pairsFrom, bodies, flatModule, HEADER}
 use Rattle.model.specs.Carry.{Keeps, carryCell, carryCells, carryOpt, carryRange, carryS, carryF, carryB, carryK, carryC, carryFunction, carryEntry, carrySpecial, carry, Lays, lays-none, lays-next, Each, each-none, each-next, Listed, OkS, OkF, OkB, OkBs, OkK, OkC, ok-stmt, ok-emit, ok-block, ok-branch, ok-switch, ok-loop, ok-break, ok-continue, ok-return, ok-kill, ok-call, ok-effect, ok-deeper, ok-end, ok-then, ok-case, ok-nomore, ok-also, WellFunction, WellEntry, Tabled, WellFormed}
 use Rattle.laws.proofs.Lists.{map-append, map-append₃, map-map, map-same, word-of}
@@ -69,6 +69,10 @@ module _ (m : ℕ → ℕ → ℕ) (keeps : Keeps m) where
   kept-cell : (s w : ℕ) → PLACE ≤ s → carryCell m (s, w) ≡ (s, w)
   unfolding carryCell
   kept-cell s w h = ap (λ x. (s, x)) (keeps .kept s w h)
+
+  -- a word whose class is kept
+  pub kept-word : (cs : Cells) (i : ℕ) → i < length cs → PLACE ≤ getD (map class cs) i 0 → getD (map word (carryCells m cs)) i 0 ≡ getD (map word cs) i 0
+  kept-word cs i h k = carried-word m cs i h ∙ keeps .kept (getD (map class cs) i 0) (getD (map word cs) i 0) k
 
   block-cell : (b : Block Range) → _≡_ {A = Cell} (BLOCK, sizeB (carryB m b)) (carryCell m (BLOCK, sizeB b))
   block-cell b = ap (λ n. (BLOCK, n)) (size-b m b) ∙ sym (kept-cell BLOCK (sizeB b) (omega arith))

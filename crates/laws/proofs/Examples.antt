@@ -1,15 +1,13 @@
 -- Well-formedness is not vacuous: a module with every form is well formed, by the laws, and modules that are not read are not.
-use mathlib.Core.Path.{_≡_, refl, sym, _∙_}
-use mathlib.Core.Bool.{Bool, true, false}
-use Prim.Native.Nat.{ℕ, _≤_}
+use mathlib.Core.Path.{_≡_, sym, _∙_}
+use Prim.Native.Nat.{ℕ}
 use native.Mathlib.Omega.{arith}
-use lib.Dec.{ltb}
 use borrow.Author.Tests.{le-ltb}
 use Rattle.model.specs.Outcome.{Laid, laid, bad, strange}
 use Rattle.model.specs.Table.{PLACE}
 use Rattle.model.specs.Module.{Module, read, write}
 use Rattle.model.specs.Carry.{Keeps, carry, WellFormed}
-use Rattle.model.specs.Sample.{sample, moved, padded, short, odd, Shown, shown}
+use Rattle.model.specs.Sample.{sample, moved, padded, short, odd, shown}
 use Rattle.laws.proofs.Carries.{carry-well}
 use Rattle.laws.proofs.Modules.{read-well, write-read}
 

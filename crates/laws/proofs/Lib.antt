@@ -1,7 +1,7 @@
 pub mod Lists
 pub mod Carries
 pub mod Writing
-pub mod Took
+pub mod Readers
 pub mod Sections
 pub mod Plain
 pub mod Views

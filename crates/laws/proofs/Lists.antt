@@ -1,12 +1,11 @@
 -- Lists, words of cells, and optional numbers: what every law of the image uses.
-use mathlib.Core.Path.{_≡_, refl, sym, ap, _∙_}
+use mathlib.Core.Path.{_≡_, refl, ap, _∙_}
 use mathlib.Core.Bool.{Bool, true, false, _&&_}
-use mathlib.Core.List.{List, [], _∷_, _++_, map, append-nil, append-assoc}
+use mathlib.Core.List.{List, [], _∷_, _++_, map}
 use mathlib.Core.Option.{Option, none, some}
 use Prim.Native.Nat.{ℕ, zero, suc, _+_}
 use native.Mathlib.Omega.{arith}
-use lib.ListN.{length, length-append, length-map}
-use Rattle.model.specs.Outcome.{Cell, Cells, word}
+use Rattle.model.specs.Outcome.{Cells, word}
 use Rattle.model.specs.Tree.{optOf, wordOf}
 
 pub map-append : {A B : Type 0} (f : A → B) (xs ys : List A) → map f (xs ++ ys) ≡ map f xs ++ map f ys

@@ -1,25 +1,25 @@
 -- The laws of a whole image: what is written is read, what is read is well formed, what was read and is written out again is the same words, and rewriting words by class is carrying the module.
 -- A module is read section by section: the places of the sections are one matter (Placed, Stands), what each of them holds is another (Tables).
-use mathlib.Core.Path.{_≡_, refl, sym, ap, ap₂, _∙_, subst}
+use mathlib.Core.Path.{_≡_, refl, sym, ap, ap₂, _∙_}
 use mathlib.Core.Bool.{Bool, true, false, _&&_}
-use mathlib.Core.List.{List, [], _∷_, _++_, map, zipWith, append-nil, append-assoc}
+use mathlib.Core.List.{List, [], _∷_, _++_, map, zipWith, append-nil}
 use Prim.Native.Nat.{ℕ, zero, suc, _+_, _*_, _-_, _≤_, _<_}
 use native.Mathlib.Omega.{arith}
 use lib.Dec.{eqb, leb}
-use lib.ListN.{length, getD, take, drop, length-append, length-map, length-take, length-drop, take-append-drop}
+use lib.ListN.{length, getD, take, drop, length-map, length-drop, take-append-drop}
 use lib.Seq.{slice, slice-cons, slice-empty, length-slice, drop-append-le, drop-length, length-take-le}
 use borrow.Author.Tests.{eqb-true, eq-eqb, leb-true, le-leb}
-use Rattle.model.specs.Outcome.{Cell, Cells, class, word, Outcome, fits, misfit, unknown, Laid, laid, bad, strange, exact, both, mapL}
+use Rattle.model.specs.Outcome.{Cells, class, word, Outcome, fits, Laid, laid, bad, strange, exact, both, mapL}
 use Rattle.model.specs.Table.{Row, PLACE, nameRow, typeRow, constantRow, overrideRow, globalRow, expressionRow, run}
-use Rattle.model.specs.Tree.{Block, Range, Function, Entry, flatBlock, flat, flatEntry, flatAll, blockAt, functionAt, entryAt}
-use Rattle.model.specs.Module.{Special, Module, table, raysRow, pairRow, specialAt, countAt, offsetAt, endAt, limits, placed, HEADER, section, tableAt, by, _⊛_, moduleOf, read, flatTable, flatSpecial, Section, sections, pairsFrom, bodies, flatModule, write, sized}
+use Rattle.model.specs.Tree.{Block, Range, Function, Entry, flatBlock, flat, flatEntry, blockAt, functionAt, entryAt}
+use Rattle.model.specs.Module.{Special, Module, specialAt, countAt, offsetAt, endAt, limits, placed, HEADER, section, tableAt, by, _⊛_, moduleOf, read, flatTable, flatSpecial, Section, sections, pairsFrom, bodies, flatModule, write, sized}
 use Rattle.model.specs.Carry.{Keeps, carryCell, carryCells, carryB, carryFunction, carryEntry, carry, Lays, Each, each-none, each-next, WellFunction, WellEntry, Tabled, WellFormed}
 use Rattle.laws.proofs.Lists.{map-append, if-true, and-true, and-split}
-use Rattle.laws.proofs.Carries.{carried-classes, carried-words, lays-carry, ok-b, flat-block, flat-carry-function, flat-carry-entry, flat-carry, carry-well-function, carry-well-entry, carry-well}
+use Rattle.laws.proofs.Carries.{carried-classes, carried-words, kept-word, lays-carry, ok-b, flat-block, flat-carry-function, flat-carry-entry, flat-carry, carry-well-function, carry-well-entry, carry-well}
 use Rattle.laws.proofs.Writing.{write-run, write-b, write-function, write-entry, write-special}
-use Rattle.laws.proofs.Took.{Took, Takes, Rowed, run-took, function-took, entry-took, special-took, WellSpecial, read-well-run, read-well-block, read-well-function, read-well-entry}
-use Rattle.laws.proofs.Views.{sectionOf, view-count, view-words, view-first, view-next, view-last, view-rising, view-within, Sees, sees-names, sees-types, sees-constants, sees-overrides, sees-globals, sees-exprs, sees-functions, sees-entries, sees-special}
-use Rattle.laws.proofs.Tables.{Fine, fine-exact, laid-of, Fills, write-table, TableTook, table-took}
+use Rattle.laws.proofs.Readers.{Took, Takes, run-took, function-took, entry-took, special-took, WellSpecial, read-well-run, read-well-block, read-well-function, read-well-entry}
+use Rattle.laws.proofs.Views.{length-cells, length-write, view-header, view-first, view-next, view-rising, view-within, Sees, sees-names, sees-types, sees-constants, sees-overrides, sees-globals, sees-exprs, sees-functions, sees-entries, sees-special}
+use Rattle.laws.proofs.Tables.{fine-exact, laid-of, Fills, write-table, TableTook, table-took}
 
 -- ---- the parts that a reading consists of
 pub record ReadsAs (ws : List ℕ) (m : Module) : Type 0 where
@@ -352,6 +352,17 @@ module _ (f : ℕ → ℕ → ℕ) (keeps : Keeps f) where
 
   pub rewrite-tape : (m : Module) → map class (flatModule (carry f m)) ≡ map class (flatModule m)
   rewrite-tape m = ap (map class) (flat-carry f keeps m) ∙ carried-classes f (flatModule m)
+
+  pub rewrite-length : (m : Module) → length (write (carry f m)) ≡ length (write m)
+  rewrite-length m = length-write (carry f m) ∙ ap length (flat-carry f keeps m) ∙ length-map (flatModule m) (carryCell f) ∙ sym (length-write m)
+
+  -- a word of the header, or of any other class that is kept
+  pub rewrite-kept : (m : Module) (i : ℕ) → i < length (write m) → PLACE ≤ getD (map class (flatModule m)) i 0 → getD (write (carry f m)) i 0 ≡ getD (write m) i 0
+  unfolding write
+  rewrite-kept m i h k = ap (λ l. getD (map word l) i 0) (flat-carry f keeps m) ∙ kept-word f keeps (flatModule m) i (omega (arith, length-map (flatModule m) word)) k
+
+  pub rewrite-header : (m : Module) (i : ℕ) → i < HEADER → getD (write (carry f m)) i 0 ≡ getD (write m) i 0
+  rewrite-header m i h = rewrite-kept m i (omega (arith, length-write m, length-cells m)) (omega (arith, view-header m i h))
 
   -- of single readers
   pub rewrite-read-run : (ws : List ℕ) (r : Row) (cs : Cells) (rest : List ℕ) → run ws r ≡ fits cs rest → run (map word (carryCells f cs) ++ rest) r ≡ fits (carryCells f cs) rest

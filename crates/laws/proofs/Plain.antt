@@ -1,18 +1,17 @@
 -- Rows of plain symbols, each of which is one word that brings nothing: the classes of their cells are the row, so they are as long as it.
-use mathlib.Core.Path.{_≡_, refl, sym, ap, ap₂, _∙_, subst}
-use mathlib.Core.Bool.{Bool, true, false, _&&_}
+use mathlib.Core.Path.{_≡_, refl, sym, ap, _∙_}
+use mathlib.Core.Bool.{Bool, true, _&&_}
 use mathlib.Core.List.{List, [], _∷_, _++_, map}
-use Prim.Native.Nat.{ℕ, zero, suc, _+_, _*_, _≤_, _<_}
+use Prim.Native.Nat.{ℕ, zero, suc, _+_, _*_, _≤_}
 use native.Mathlib.Nat.{zero-mul, suc-mul}
 use native.Mathlib.Omega.{arith}
 use lib.Dec.{ltb}
 use lib.ListN.{length, length-map}
-use borrow.Author.Tests.{ltb-true}
-use Rattle.model.specs.Outcome.{Cell, Cells, class}
-use Rattle.model.specs.Table.{Row, PAD, More, brings, more}
+use Rattle.model.specs.Outcome.{Cells, class}
+use Rattle.model.specs.Table.{Row, PAD, brings, more}
 use Rattle.model.specs.Carry.{Lays, lays-none, lays-next, Each, each-none, each-next}
 use Rattle.laws.proofs.Lists.{and-split}
-use Rattle.laws.proofs.Sections.{startOf, start-zero}
+use Rattle.laws.proofs.Sections.{startOf}
 
 unfoldable pub plain? : Row → Bool
 plain? [] = true

@@ -1,17 +1,14 @@
 -- Runs of cells one behind the other: where each starts, and that the part between two starts is the run. It serves the sections of an image and the records of a section.
-use mathlib.Core.Path.{_≡_, refl, sym, ap, ap₂, _∙_, subst}
-use mathlib.Core.Bool.{Bool, true, false}
-use mathlib.Core.List.{List, [], _∷_, _++_, map, append-nil, append-assoc}
+use mathlib.Core.Path.{_≡_, refl, sym, ap, _∙_}
+use mathlib.Core.List.{List, [], _∷_, _++_, map, append-assoc}
 use Prim.Native.Nat.{ℕ, zero, suc, _+_, _*_, _-_, _≤_, _<_}
-use native.Mathlib.Nat.{add-zero, zero-add, add-assoc}
+use native.Mathlib.Nat.{add-zero, add-assoc}
 use native.Mathlib.Omega.{arith}
-use lib.ListN.{length, getD, take, drop, length-append, length-map, length-take, length-drop, List·getD-append, take-append-drop}
-use lib.Seq.{slice, length-take-le, take-append-seam, drop-append-seam, take-append-le, take-append-add, drop-append-add, getD-drop, getD-take, take-take, drop-drop, take-add, take-at, drop-at}
-use Rattle.model.specs.Outcome.{Cell, Cells, word}
-use Rattle.model.specs.Table.{PLACE}
+use lib.ListN.{length, getD, take, drop, length-append}
+use lib.Seq.{slice, length-take-le, take-append-seam, drop-append-seam, take-append-add, getD-drop, getD-take, take-take, drop-drop, take-add, drop-at}
+use Rattle.model.specs.Outcome.{Cells, word}
 use Rattle.model.specs.Tree.{flatAll}
-use Rattle.model.specs.Module.{places, flatTable, Section, pairsFrom, bodies}
-use Rattle.laws.proofs.Lists.{map-append}
+use Rattle.model.specs.Module.{places, Section, pairsFrom, bodies}
 
 -- ---- slices
 pub slice-middle : {A : Type 0} (pre r rest : List A) → slice (length pre) (length pre + length r) (pre ++ (r ++ rest)) ≡ r

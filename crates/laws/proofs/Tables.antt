@@ -1,22 +1,21 @@
 -- A section of records: what is written is read, and what is read is well formed and is the words. The reader of one record is a parameter.
 use mathlib.Core.Path.{_≡_, refl, sym, ap, ap₂, _∙_, subst}
 use mathlib.Core.Bool.{Bool, true, false, _&&_}
-use mathlib.Core.List.{List, [], _∷_, _++_, map, append-nil, append-assoc}
-use Prim.Native.Nat.{ℕ, zero, suc, _+_, _-_, _≤_, _<_}
+use mathlib.Core.List.{List, [], _∷_, _++_, map, append-nil}
+use Prim.Native.Nat.{ℕ, _+_, _-_, _≤_}
 use native.Mathlib.Nat.{add-zero}
 use native.Mathlib.Omega.{arith}
 use lib.Dec.{eqb, leb}
-use lib.ListN.{length, take, drop, length-append, length-map, length-take, length-drop, take-append-drop}
+use lib.ListN.{length, take, drop, length-append, length-map, length-drop, take-append-drop}
 use lib.Seq.{take-at, drop-at, length-take-le}
 use borrow.Author.Tests.{eqb-true, eq-eqb, leb-true, le-leb}
-use Rattle.model.specs.Outcome.{Cell, Cells, word, Outcome, fits, misfit, unknown, Laid, laid, bad, strange, exact, both}
-use Rattle.model.specs.Table.{PLACE}
+use Rattle.model.specs.Outcome.{Cells, word, Outcome, fits, Laid, laid, bad, strange, exact, both}
 use Rattle.model.specs.Tree.{flatAll}
 use Rattle.model.specs.Module.{next, records, table, places, flatTable}
 use Rattle.model.specs.Carry.{Each, each-none, each-next}
 use Rattle.laws.proofs.Lists.{map-append, if-true, and-true, and-split}
 use Rattle.laws.proofs.Sections.{length-places}
-use Rattle.laws.proofs.Took.{Good, good, good-misfit, good-unknown, Took, Takes}
+use Rattle.laws.proofs.Readers.{Good, good, good-misfit, good-unknown, Took, Takes}
 
 -- ---- extents
 pub data Fine {A : Type 0} (P : A → Type 0) : Laid A → Type 0 where

@@ -1,22 +1,22 @@
 -- Views of a module's words and cells: the header's counts and offsets, the cells of a section, the cells of a record. They hold for every module, since the header and the offsets are computed from it.
 -- With ws = write m and cells = flatModule m, which stand beside one another word for word: section k is `slice (offsetAt k ws) (endAt k ws)`, record j of section k is `slice (recordAt k j ws) (recordEnd k j ws)`, of either.
-use mathlib.Core.Path.{_≡_, refl, sym, ap, ap₂, _∙_, subst}
+use mathlib.Core.Path.{_≡_, refl, sym, ap, ap₂, _∙_}
 use mathlib.Core.Bool.{Bool, true, false}
-use mathlib.Core.Option.{Option, none, some}
-use mathlib.Core.List.{List, [], _∷_, _++_, map, append-nil, append-assoc}
-use Prim.Native.Nat.{ℕ, zero, suc, _+_, _*_, _-_, _≤_, _<_}
-use native.Mathlib.Nat.{add-zero, zero-add, add-assoc, suc-mul}
+use mathlib.Core.Option.{some}
+use mathlib.Core.List.{List, [], _∷_, _++_, map}
+use Prim.Native.Nat.{ℕ, zero, suc, _+_, _*_, _≤_, _<_}
+use native.Mathlib.Nat.{suc-mul}
 use native.Mathlib.Omega.{arith}
 use lib.Dec.{eqb}
-use lib.ListN.{length, getD, getElem?, take, drop, length-append, length-map, List·getD-append}
-use lib.Seq.{slice, length-slice, take-at}
-use borrow.Author.Tests.{eqb-true, eqb-false, eq-eqb}
-use Rattle.model.specs.Outcome.{Cell, Cells, word}
+use lib.ListN.{length, getD, getElem?, length-append, length-map, List·getD-append}
+use lib.Seq.{slice, take-at}
+use borrow.Author.Tests.{eqb-true, eqb-false}
+use Rattle.model.specs.Outcome.{Cells, class, word}
 use Rattle.model.specs.Table.{PLACE}
 use Rattle.model.specs.Tree.{Function, Entry, flat, flatEntry, flatAll}
-use Rattle.model.specs.Module.{Module, Special, countAt, offsetAt, endAt, section, HEADER, places, flatTable, flatSpecial, Section, sections, pairsFrom, bodies, flatModule, write}
+use Rattle.model.specs.Module.{Module, countAt, offsetAt, endAt, section, HEADER, places, flatTable, flatSpecial, Section, sections, pairsFrom, bodies, flatModule, write}
 use Rattle.model.specs.View.{tables, recordAt, recordEnd}
-use Rattle.model.specs.Carry.{WellFormed, Tabled}
+use Rattle.model.specs.Carry.{WellFormed}
 use Rattle.laws.proofs.Lists.{map-append}
 use Rattle.laws.proofs.Plain.{plain?, plain-length, plain-start}
 use Rattle.laws.proofs.Sections.{slice-slice, getD-slice, slice-map, startOf, start-zero, start-end, start-step, start-in, start-slice, length-places, place-word, cellsOf, length-pairs, bodies-all, pair-count, pair-offset}
@@ -39,6 +39,23 @@ header-word m (suc (suc i)) j e h =
     rw (q, map-append word (pairsFrom HEADER (sections m)) (bodies (sections m)))
     (List·getD-append (map word (pairsFrom HEADER (sections m))) (map word (bodies (sections m))) 0 j
     (rw (length-map (pairsFrom HEADER (sections m)) word) (omega (arith, length-pairs (sections m) HEADER, length-sections m))))
+
+-- the header's classes
+pairs-class : (ss : List Section) (at i : ℕ) → i < 2 * length ss → getD (map class (pairsFrom at ss)) i 0 ≡ PLACE
+unfolding pairsFrom
+pairs-class [] at i h = absurd (omega arith)
+pairs-class (s ∷ ss) at zero h = refl
+pairs-class (s ∷ ss) at (suc zero) h = refl
+pairs-class (s ∷ ss) at (suc (suc i)) h = pairs-class ss (at + length (s .1)) i (omega arith)
+
+pub view-header : (m : Module) (i : ℕ) → i < HEADER → getD (map class (flatModule m)) i 0 ≡ PLACE
+unfolding flatModule
+view-header m zero h = refl
+view-header m (suc zero) h = refl
+view-header m (suc (suc i)) h =
+    rw (map-append class (pairsFrom HEADER (sections m)) (bodies (sections m)))
+    (List·getD-append (map class (pairsFrom HEADER (sections m))) (map class (bodies (sections m))) 0 i (rw (length-map (pairsFrom HEADER (sections m)) class) (omega (arith, length-pairs (sections m) HEADER, length-sections m)))
+    ∙ pairs-class (sections m) HEADER i (omega (arith, length-sections m)))
 
 -- the header's count is the table's length
 pub view-count : (m : Module) (k : ℕ) → k < 9 → countAt k (write m) ≡ sectionOf m k .0

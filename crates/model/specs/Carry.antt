@@ -3,8 +3,8 @@
 -- A tree is well formed where its cells are laid out by their rows, its lists are within their limits, and its blocks are at most 32 deep: no more than what reading tests.
 use mathlib.Core.Path.{_≡_}
 use mathlib.Core.List.{List, [], _∷_, _++_, map}
-use mathlib.Core.Option.{Option, none, some}
-use Prim.Native.Nat.{ℕ, zero, suc, _≤_}
+use mathlib.Core.Option.{Option, some}
+use Prim.Native.Nat.{ℕ, suc, _≤_}
 use lib.ListN.{length, getElem?}
 use Rattle.model.specs.Outcome.{Cell, Cells}
 use Rattle.model.specs.Table.{Row, SPAN, UPTO, CALLEE, EXPR, OPT-EXPR, FROM, TO, OPT-RESULT, PLACE, ARGUMENTS, LOCALS, EXPRESSIONS, NAMED, VALUE, RETURNS, sEffect, statements, nameRow, typeRow, constantRow, overrideRow, globalRow, expressionRow, functionHead, entryHead, counted, limit, brings, more}

@@ -1,14 +1,13 @@
 -- A module with every form of statement and a list or a variant in every table, read, written and carried by computation; and modules that are not well formed, which are not read.
 use mathlib.Core.Path.{_≡_, refl}
-use mathlib.Core.Bool.{Bool, true, false}
-use mathlib.Core.List.{List, [], _∷_, _++_, map}
-use mathlib.Core.Option.{Option, none, some}
-use Prim.Native.Nat.{ℕ, zero, suc, _+_}
+use mathlib.Core.Bool.{true, false}
+use mathlib.Core.List.{[], _∷_}
+use mathlib.Core.Option.{none, some}
+use Prim.Native.Nat.{ℕ, _+_}
 use lib.Dec.{ltb}
-use lib.ListN.{length}
-use Rattle.model.specs.Outcome.{Cell, Cells, Laid, laid, bad, strange, _⟫_, eat, mapO, exact, both, mapL}
-use Rattle.model.specs.Table.{WORD, SPAN, UPTO, NAME, TYPE, OPT-TYPE, CONSTANT, INIT, OPT-INIT, EXPR, OPT-EXPR, OPT-RESULT, RESULT, NAMED-EXPR, LOCAL-INIT, KEY, PLACE, PAD, TEXT, OPERANDS, MEMBERS, TYPE-KIND, EXPR-KIND, LEVEL, VALUE, ATOMIC, RETURNS, types, expressions, levels, queries, values, atomics, results, statements, nameRow, typeRow, constantRow, overrideRow, globalRow, expressionRow, functionHead, entryHead, counted, limit, variants, repeat, text, variant, more, follow, run}
-use Rattle.model.specs.Tree.{Block, stmt, emit, block, branch, switch, loop, break, continue, return, kill, call, effect, end, _then_, nomore, _also_, case, Range, Function, Entry, optOf, wordOf, kindOf, sizeB, sizeC, flatAll, flatList, flatX, flatS, flatBlock, flat, flatEntry, rows, listed, operands, stmts, caseAt, cases, form, checked, shaped, statement, blockAt, functionAt, entryAt}
+use Rattle.model.specs.Outcome.{Cells, laid, bad, strange, _⟫_, eat, mapO, exact, both, mapL}
+use Rattle.model.specs.Table.{WORD, SPAN, UPTO, NAME, TYPE, OPT-TYPE, CONSTANT, INIT, EXPR, OPT-EXPR, OPT-RESULT, NAMED-EXPR, LOCAL-INIT, KEY, PLACE, PAD, TEXT, OPERANDS, MEMBERS, TYPE-KIND, EXPR-KIND, LEVEL, VALUE, ATOMIC, RETURNS, types, expressions, levels, queries, values, atomics, results, statements, nameRow, typeRow, constantRow, overrideRow, globalRow, expressionRow, functionHead, entryHead, counted, limit, variants, repeat, text, variant, more, follow, run}
+use Rattle.model.specs.Tree.{Block, stmt, emit, block, branch, switch, loop, break, continue, return, kill, call, effect, end, _then_, nomore, _also_, case, Range, Function, optOf, wordOf, kindOf, sizeB, sizeC, flatAll, flatList, flatX, flatS, flatBlock, flat, flatEntry, rows, listed, operands, stmts, caseAt, cases, form, checked, shaped, statement, blockAt, functionAt, entryAt}
 use Rattle.model.specs.Module.{Module, next, records, table, specialAt, countAt, offsetAt, endAt, limits, placed, section, tableAt, _⊛_, read, places, flatTable, flatSpecial, sections, pairsFrom, bodies, flatModule, write}
 use Rattle.model.specs.Carry.{carryCell, carryCells, carryOpt, carryRange, carryS, carryFunction, carryEntry, carrySpecial, carry}
 

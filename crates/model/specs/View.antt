@@ -1,5 +1,5 @@
 -- Where the parts of a module stand in its words: the tables as lists of records, and the start and the end of a record, by the header and the offsets.
-use mathlib.Core.Bool.{Bool, true, false}
+use mathlib.Core.Bool.{true, false}
 use mathlib.Core.List.{List, [], _∷_, map}
 use Prim.Native.Nat.{ℕ, suc, _+_}
 use lib.Dec.{eqb}
