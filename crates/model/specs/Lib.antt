@@ -4,4 +4,13 @@ pub mod Tree
 pub mod Module
 pub mod Carry
 pub mod View
+pub mod Taped
+pub mod Operands
+pub mod Initial
+pub mod Reached
+pub mod Scope
+pub mod Walk
 pub mod Sample
+pub mod Samples
+pub mod ScopeExamples
+pub mod WalkExamples

@@ -1,0 +1,11 @@
+pub mod Tests
+pub mod Members
+pub mod FuelProof
+pub mod Reads
+pub mod SoundProof
+pub mod Agreement
+pub mod AgreementProof
+pub mod ScopeProof
+pub mod ExpandProof
+pub mod MentionProof
+pub mod KeptProof
