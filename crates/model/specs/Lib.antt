@@ -2,11 +2,15 @@ pub mod Outcome
 pub mod Table
 pub mod Tree
 pub mod Module
+pub mod Carry
+pub mod View
+pub mod Taped
 pub mod Operands
 pub mod Initial
 pub mod Reached
 pub mod Scope
 pub mod Walk
+pub mod Sample
 pub mod SampleBodies
 pub mod ScopeExamples
 pub mod WalkExamples

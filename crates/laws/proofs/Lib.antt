@@ -1,0 +1,10 @@
+pub mod Lists
+pub mod Carries
+pub mod Writing
+pub mod Readers
+pub mod Sections
+pub mod Plain
+pub mod Views
+pub mod Tables
+pub mod Modules
+pub mod Examples
