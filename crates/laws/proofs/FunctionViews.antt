@@ -1,0 +1,283 @@
+-- Views of a function's words and tags: where its lists stand, what their counts and records are, and which classes their cells have.
+-- Words and tags hold cells that stand beside one another; a part of the cells from p to q is a run of cells. A function's cells are seven such parts one behind the other, and the lists whose rows are plain have records at even distances, so the places that are computed from the counts are where the parts stand. It holds for any cells in which a function stands: for the functions of a module, and seven words behind its entry points.
+use mathlib.Core.Path.{_≡_, refl, sym, ap, ap₂, _∙_}
+use mathlib.Core.Bool.{Bool, true, false, _&&_, _||_}
+use mathlib.Core.Option.{some}
+use mathlib.Core.List.{List, [], _∷_, _++_, map, append-assoc, append-nil}
+use Prim.Native.Nat.{ℕ, zero, suc, _+_, _*_, _-_, _≤_, _<_}
+use native.Mathlib.Nat.{suc-mul}
+use native.Mathlib.Omega.{arith}
+use lib.Dec.{eqb, ltb, leb}
+use lib.ListN.{length, getD, getElem?, take, drop, length-append, length-map, List·getD-append, List·getD-map}
+use lib.Seq.{slice, take-length, take-take, take-at, drop-append-seam, getD-take, length-slice, length-take-le}
+use borrow.Author.Tests.{eqb-true, eqb-false}
+use Rattle.model.specs.Outcome.{Cell, Cells, class, word}
+use Rattle.model.specs.Table.{Row, WORD, SPAN, UPTO, NAME, TYPE, NAMED-EXPR, LOCAL-INIT, ARGUMENTS, LOCALS, EXPRESSIONS, NAMED, EXPR-KIND, RETURNS, binding, functionHead, counted, results, variants, variant, More, brings, over, nothing, more}
+use Rattle.model.specs.Tree.{Function, Entry, flat, flatEntry, flatAll, flatList, flatBlock}
+use Rattle.model.specs.Module.{Module, flatModule, write}
+use Rattle.model.specs.Carry.{Lays, lays-none, lays-next, Each, each-none, each-next, Listed, WellFunction, WellEntry, WellFormed}
+use Rattle.model.specs.FunctionView.{argumentsAt, argumentAt, returnsAt, localsAt, localAt, expressionsAt}
+use Rattle.laws.proofs.Plain.{plain?, plain-length, plain-start, plain-classes}
+use Rattle.laws.proofs.Sections.{slice-slice, slice-middle, getD-slice, slice-map, startOf, start-zero, start-end, start-step, start-in, start-slice}
+
+-- ---- words and tags that hold cells, from the first on
+pub record Held (ws ts : List ℕ) (cells : Cells) : Type 0 where
+  pub words : take (length cells) ws ≡ map word cells
+  pub tags : take (length cells) ts ≡ map class cells
+
+pub held-all : (cells : Cells) → Held (map word cells) (map class cells) cells
+held-all cells =
+    let a : length cells ≡ length (map word cells) = sym (length-map cells word) in
+    let b : length cells ≡ length (map class cells) = sym (length-map cells class) in
+    record {
+      words = ap (λ n. take n (map word cells)) a ∙ take-length (map word cells);
+      tags = ap (λ n. take n (map class cells)) b ∙ take-length (map class cells);
+    }
+
+-- ---- a part of the cells
+pub record Part (cells : Cells) (p q : ℕ) (cs : Cells) : Type 0 where
+  pub rising : p ≤ q
+  pub within : q ≤ length cells
+  pub cells-are : slice p q cells ≡ cs
+
+-- it is as long as the cells between
+pub part-end : {cells cs : Cells} {p q : ℕ} → Part cells p q cs → q ≡ p + length cs
+part-end {cells} {cs} {p} {q} v = omega (arith, ap length (v .cells-are), length-slice p q cells (v .within))
+
+-- a part of a part
+pub part-inner : {cells cs : Cells} {p q : ℕ} → Part cells p q cs → (a b : ℕ) (ds : Cells) → a ≤ b → b ≤ length cs → slice a b cs ≡ ds → Part cells (p + a) (p + b) ds
+part-inner {cells} {p} {q} v a b ds h k e =
+    record {
+      rising = omega arith;
+      within = omega (arith, part-end v);
+      cells-are = slice-slice cells p q a b (v .rising) (v .within) (omega (arith, part-end v)) ∙ ap (slice a b) (v .cells-are) ∙ e;
+    }
+
+-- a word, a tag and a cell of a part
+pub part-cell : {cells cs : Cells} {p q : ℕ} → Part cells p q cs → (i : ℕ) (d : Cell) → i < length cs → getD cells (p + i) d ≡ getD cs i d
+part-cell {cells} {p} {q} v i d h = sym (getD-slice cells p q i d (omega (arith, part-end v))) ∙ ap (λ l. getD l i d) (v .cells-are)
+
+-- two runs one behind the other
+pub part-left : {cells : Cells} {p q : ℕ} (xs ys : Cells) → Part cells p q (xs ++ ys) → Part cells p (p + length xs) xs
+part-left {cells} {p} xs ys v =
+    let h : p + 0 ≡ p = omega arith in
+    let k : length xs ≤ length (xs ++ ys) = omega (arith, length-append xs ys) in
+    let w = part-inner v 0 (length xs) xs (omega arith) k (take-at xs ys (length xs) refl) in
+    rw h at w
+
+pub part-right : {cells : Cells} {p q : ℕ} (xs ys : Cells) → Part cells p q (xs ++ ys) → Part cells (p + length xs) q ys
+part-right {cells} {p} {q} xs ys v =
+    let h : p + length (xs ++ ys) ≡ q = sym (part-end v) in
+    let k : length xs ≤ length (xs ++ ys) = omega (arith, length-append xs ys) in
+    let w = part-inner v (length xs) (length (xs ++ ys)) ys k (omega arith) (ap (drop (length xs)) (take-length (xs ++ ys)) ∙ drop-append-seam xs ys) in
+    rw h at w
+
+-- the words and the tags of a part
+module _ {ws ts : List ℕ} {cells cs : Cells} {p q : ℕ} (o : Held ws ts cells) (v : Part cells p q cs) where
+  pub part-words : slice p q ws ≡ map word cs
+  part-words =
+      ap (drop p) (sym (take-take q (length cells) ws (v .within)) ∙ ap (take q) (o .words)) ∙ slice-map word p q cells ∙ ap (map word) (v .cells-are)
+
+  pub part-tags : slice p q ts ≡ map class cs
+  part-tags =
+      ap (drop p) (sym (take-take q (length cells) ts (v .within)) ∙ ap (take q) (o .tags)) ∙ slice-map class p q cells ∙ ap (map class) (v .cells-are)
+
+  pub part-word : (i : ℕ) → i < length cs → getD ws (p + i) 0 ≡ word (getD cs i (0, 0))
+  part-word i h = sym (getD-slice ws p q i 0 (omega (arith, part-end v))) ∙ ap (λ l. getD l i 0) part-words ∙ List·getD-map word cs i (0, 0)
+
+  pub part-tag : (i : ℕ) → i < length cs → getD ts (p + i) 0 ≡ class (getD cs i (0, 0))
+  part-tag i h = sym (getD-slice ts p q i 0 (omega (arith, part-end v))) ∙ ap (λ l. getD l i 0) part-tags ∙ List·getD-map class cs i (0, 0)
+
+-- ---- runs one behind the other, and a list behind its count
+pub all-record : {cells : Cells} {p q : ℕ} (rs : List Cells) → Part cells p q (flatAll rs) → (i : ℕ) → i < length rs → Part cells (startOf p rs i) (startOf p rs (suc i)) (getD rs i [])
+unfolding flatAll startOf
+all-record [] v i h = absurd (omega arith)
+all-record {p} (r ∷ rs) v zero h = rw (start-zero (p + length r) rs) (part-left r (flatAll rs) v)
+all-record (r ∷ rs) v (suc i) h = all-record rs (part-right r (flatAll rs) v) i (omega arith)
+
+module _ {cells : Cells} {p q : ℕ} (s : ℕ) (rs : List Cells) (v : Part cells p q (flatList s rs)) where
+  -- the records
+  pub list-all : Part cells (p + 1) q (flatAll rs)
+  unfolding flatList
+  list-all = part-right ((s, length rs) ∷ []) (flatAll rs) v
+
+  pub list-count : {ws ts : List ℕ} → Held ws ts cells → getD ws p 0 ≡ length rs
+  unfolding flatList
+  list-count {ws} o = let h : p + 0 ≡ p = omega arith in rw h at (part-word o v 0 (omega arith))
+
+  pub list-class : {ws ts : List ℕ} → Held ws ts cells → getD ts p 0 ≡ s
+  unfolding flatList
+  list-class {ts} o = let h : p + 0 ≡ p = omega arith in rw h at (part-tag o v 0 (omega arith))
+
+  -- record i, where the records before it end
+  pub list-record : (i : ℕ) → i < length rs → Part cells (startOf (p + 1) rs i) (startOf (p + 1) rs (suc i)) (getD rs i [])
+  list-record i h = all-record rs list-all i h
+
+  -- and where the row is plain: at even distances, n words each
+  module _ {ss : Row} (each : Each (Lays ss) rs) (plain : plain? ss ≡ true) (n : ℕ) (long : length ss ≡ n) where
+    pub rows-end : q ≡ p + 1 + length rs * n
+    rows-end = part-end list-all ∙ sym (start-end rs (p + 1)) ∙ plain-start each plain (p + 1) n (length rs) long (omega arith)
+
+    pub rows-record : (i : ℕ) → i < length rs → Part cells (p + 1 + i * n) (p + 1 + suc i * n) (getD rs i [])
+    rows-record i h =
+        let a = plain-start each plain (p + 1) n i long (omega arith) in
+        let b = plain-start each plain (p + 1) n (suc i) long h in
+        rw (a, b) at (list-record i h)
+
+-- ---- a function in cells: from s to e
+pub record Stands (ws ts : List ℕ) (cells : Cells) (s e : ℕ) (f : Function) : Type 0 where
+  pub held : Held ws ts cells
+  pub part : Part cells s e (flat f)
+  pub well : WellFunction f
+
+-- where the named expressions stand, and the body
+abbrev pub namedAt : ℕ → List ℕ → Function → ℕ
+namedAt s ws f = expressionsAt s ws + 1 + length (flatAll (f .exprs))
+
+abbrev pub bodyAt : ℕ → List ℕ → Function → ℕ
+bodyAt s ws f = namedAt s ws f + 1 + 2 * length (f .named)
+
+-- its parts
+pub record Parts (ws : List ℕ) (cells : Cells) (s e : ℕ) (f : Function) : Type 0 where
+  pub head-part : Part cells s (argumentsAt s) (f .head)
+  pub arguments-part : Part cells (argumentsAt s) (returnsAt s ws) (flatList ARGUMENTS (f .arguments))
+  pub result-part : Part cells (returnsAt s ws) (localsAt s ws) (f .result)
+  pub locals-part : Part cells (localsAt s ws) (expressionsAt s ws) (flatList LOCALS (f .locals))
+  pub exprs-part : Part cells (expressionsAt s ws) (namedAt s ws f) (flatList EXPRESSIONS (f .exprs))
+  pub named-part : Part cells (namedAt s ws f) (bodyAt s ws f) (flatList NAMED (f .named))
+  pub body-part : Part cells (bodyAt s ws f) e (flatBlock (f .body))
+
+-- ---- the shape of a result
+pub data Result : Cells → Type 0 where
+  no-result : Result ((RETURNS, 0) ∷ [])
+  some-result : {t : ℕ} {cs : Cells} → map class cs ≡ binding [] → Result ((RETURNS, 1) ∷ (TYPE, t) ∷ cs)
+
+of-none : (cs : Cells) → map class cs ≡ [] → Result ((RETURNS, 0) ∷ cs)
+of-none [] e = no-result
+of-none (c ∷ cs) e = let z : _≡_ {A = ℕ} 0 1 = cc in absurd (omega arith)
+
+of-some : (cs : Cells) → map class cs ≡ TYPE ∷ binding [] → Result ((RETURNS, 1) ∷ cs)
+of-some [] e = let z : _≡_ {A = ℕ} 0 1 = cc in absurd (omega arith)
+of-some ((s, t) ∷ cs) e =
+    let a : s ≡ TYPE = cc in
+    let b : map class cs ≡ binding [] = cc in
+    rw a (some-result b)
+
+pub result-shape : {r : Cells} → Lays (RETURNS ∷ []) r → Result r
+unfolding more variants results variant plain?
+result-shape (lays-next {w = zero} {xs} {cs} e l) =
+    let n : xs ≡ [] = cc in
+    of-none cs (plain-classes l (rw n refl) ∙ rw n refl)
+result-shape (lays-next {w = suc zero} {xs} {cs} e l) =
+    let n : xs ≡ TYPE ∷ binding [] = cc in
+    of-some cs (plain-classes l (rw n refl) ∙ rw n refl)
+result-shape (lays-next {w = suc (suc w)} e l) = let z : _≡_ {A = ℕ} 0 1 = cc in absurd (omega arith)
+
+-- it is as long as its first word says
+pub result-long : {r : Cells} → Result r → length r ≡ 1 + 7 * word (getD r 0 (0, 0))
+result-long no-result = refl
+result-long (some-result {cs} e) = omega (arith, sym (length-map cs class) ∙ ap length e)
+
+-- ---- the parts of a function that stands in cells
+joined : (a b c d e f g : Cells) → a ++ b ++ c ++ d ++ e ++ f ++ g ≡ a ++ (b ++ (c ++ (d ++ (e ++ (f ++ g)))))
+joined a b c d e f g = simp append-assoc
+
+-- the cells from each of the first six on
+abbrev rest-5 : Function → Cells
+rest-5 f = flatList NAMED (f .named) ++ flatBlock (f .body)
+
+abbrev rest-4 : Function → Cells
+rest-4 f = flatList EXPRESSIONS (f .exprs) ++ rest-5 f
+
+abbrev rest-3 : Function → Cells
+rest-3 f = flatList LOCALS (f .locals) ++ rest-4 f
+
+abbrev rest-2 : Function → Cells
+rest-2 f = f .result ++ rest-3 f
+
+abbrev rest-1 : Function → Cells
+rest-1 f = flatList ARGUMENTS (f .arguments) ++ rest-2 f
+
+abbrev rest-0 : Function → Cells
+rest-0 f = f .head ++ rest-1 f
+
+moved : {cells cs : Cells} {p q x y : ℕ} → Part cells p q cs → p ≡ x → q ≡ y → Part cells x y cs
+moved v a b = rw (a, b) at v
+
+flat-list : (s : ℕ) (rs : List Cells) → length (flatList s rs) ≡ 1 + length (flatAll rs)
+unfolding flatList
+flat-list s rs = omega arith
+
+module _ {ws ts : List ℕ} {cells : Cells} {s e : ℕ} {f : Function} (v : Stands ws ts cells s e f) where
+  abbrev w : WellFunction f
+  w = v .well
+
+  abbrev o : Held ws ts cells
+  o = v .held
+
+  three : length (f .head) ≡ 3
+  unfolding functionHead plain?
+  three = plain-length (w .head-ok) refl
+
+  part-0 : Part cells s e (rest-0 f)
+  unfolding flat
+  part-0 = rw joined at (v .part)
+
+  part-1 : Part cells (argumentsAt s) e (rest-1 f)
+  part-1 = moved (part-right (f .head) (rest-1 f) part-0) (omega (arith, three)) refl
+
+  arguments-here : Part cells (argumentsAt s) (returnsAt s ws) (flatList ARGUMENTS (f .arguments))
+  unfolding returnsAt counted plain?
+  arguments-here =
+      let a = part-left (flatList ARGUMENTS (f .arguments)) (rest-2 f) part-1 in
+      moved a refl (omega (arith, rows-end ARGUMENTS (f .arguments) a (w .arguments-ok .each) refl 8 refl, list-count ARGUMENTS (f .arguments) a o))
+
+  part-2 : Part cells (returnsAt s ws) e (rest-2 f)
+  part-2 = moved (part-right (flatList ARGUMENTS (f .arguments)) (rest-2 f) part-1) (sym (part-end arguments-here)) refl
+
+  pub returns-shape : Result (f .result)
+  returns-shape = result-shape (w .result-ok)
+
+  result-here : Part cells (returnsAt s ws) (localsAt s ws) (f .result)
+  unfolding localsAt
+  result-here =
+      let a = part-left (f .result) (rest-3 f) part-2 in
+      let h : returnsAt s ws + 0 ≡ returnsAt s ws = omega arith in
+      let k = rw h at (part-word o a 0 (omega (arith, result-long returns-shape))) in
+      moved a refl (omega (arith, result-long returns-shape, k))
+
+  part-3 : Part cells (localsAt s ws) e (rest-3 f)
+  part-3 = moved (part-right (f .result) (rest-3 f) part-2) (sym (part-end result-here)) refl
+
+  locals-here : Part cells (localsAt s ws) (expressionsAt s ws) (flatList LOCALS (f .locals))
+  unfolding expressionsAt counted plain?
+  locals-here =
+      let a = part-left (flatList LOCALS (f .locals)) (rest-4 f) part-3 in
+      moved a refl (omega (arith, rows-end LOCALS (f .locals) a (w .locals-ok .each) refl 5 refl, list-count LOCALS (f .locals) a o))
+
+  part-4 : Part cells (expressionsAt s ws) e (rest-4 f)
+  part-4 = moved (part-right (flatList LOCALS (f .locals)) (rest-4 f) part-3) (sym (part-end locals-here)) refl
+
+  exprs-here : Part cells (expressionsAt s ws) (namedAt s ws f) (flatList EXPRESSIONS (f .exprs))
+  exprs-here = moved (part-left (flatList EXPRESSIONS (f .exprs)) (rest-5 f) part-4) refl (omega (arith, flat-list EXPRESSIONS (f .exprs)))
+
+  part-5 : Part cells (namedAt s ws f) e (rest-5 f)
+  part-5 = moved (part-right (flatList EXPRESSIONS (f .exprs)) (rest-5 f) part-4) (sym (part-end exprs-here)) refl
+
+  named-here : Part cells (namedAt s ws f) (bodyAt s ws f) (flatList NAMED (f .named))
+  unfolding counted plain?
+  named-here =
+      let a = part-left (flatList NAMED (f .named)) (flatBlock (f .body)) part-5 in
+      moved a refl (omega (arith, rows-end NAMED (f .named) a (w .named-ok .each) refl 2 refl))
+
+  pub parts : Parts ws cells s e f
+  parts =
+      record {
+        head-part = moved (part-left (f .head) (rest-1 f) part-0) refl (omega (arith, three));
+        arguments-part = arguments-here;
+        result-part = result-here;
+        locals-part = locals-here;
+        exprs-part = exprs-here;
+        named-part = named-here;
+        body-part = moved (part-right (flatList NAMED (f .named)) (flatBlock (f .body)) part-5) (sym (part-end named-here)) refl;
+      }
