@@ -12,8 +12,8 @@ use lib.ListN.{length, getD, getElem?, take, drop, length-append, length-map, Li
 use lib.Seq.{slice, take-length, take-take, take-at, drop-append-seam, getD-take, length-slice, length-take-le}
 use borrow.Author.Tests.{eqb-true, eqb-false}
 use Rattle.model.specs.Outcome.{Cell, Cells, class, word}
-use Rattle.model.specs.Table.{Row, WORD, SPAN, UPTO, NAME, TYPE, NAMED-EXPR, LOCAL-INIT, ARGUMENTS, LOCALS, EXPRESSIONS, NAMED, EXPR-KIND, RETURNS, binding, functionHead, counted, results, variants, variant, More, brings, over, nothing, more}
-use Rattle.model.specs.Tree.{Function, Entry, flat, flatEntry, flatAll, flatList, flatBlock}
+use Rattle.model.specs.Table.{Row, WORD, SPAN, UPTO, NAME, TYPE, NAMED-EXPR, LOCAL-INIT, ARGUMENTS, LOCALS, EXPRESSIONS, NAMED, EXPR-KIND, RETURNS, BLOCK, binding, functionHead, counted, results, variants, variant, More, brings, over, nothing, more}
+use Rattle.model.specs.Tree.{Function, Entry, flat, flatEntry, flatAll, flatList, flatB, flatBlock, sizeB}
 use Rattle.model.specs.Module.{Module, flatModule, write}
 use Rattle.model.specs.Carry.{Lays, lays-none, lays-next, Each, each-none, each-next, Listed, WellFunction, WellEntry, WellFormed}
 use Rattle.model.specs.FunctionView.{argumentsAt, argumentAt, returnsAt, localsAt, localAt, expressionsAt}
@@ -33,6 +33,12 @@ held-all cells =
       words = ap (λ n. take n (map word cells)) a ∙ take-length (map word cells);
       tags = ap (λ n. take n (map class cells)) b ∙ take-length (map class cells);
     }
+
+-- an element of a list of which each is fine
+pub each-at : {A : Type 0} {P : A → Type 0} {l : List A} → Each P l → (i : ℕ) (d : A) → i < length l → P (getD l i d)
+each-at each-none i d h = absurd (omega arith)
+each-at (each-next p ps) zero d h = p
+each-at (each-next p ps) (suc i) d h = each-at ps i d (omega arith)
 
 -- ---- a part of the cells
 pub record Part (cells : Cells) (p q : ℕ) (cs : Cells) : Type 0 where
@@ -178,6 +184,22 @@ pub result-long : {r : Cells} → Result r → length r ≡ 1 + 7 * word (getD r
 result-long no-result = refl
 result-long (some-result {cs} e) = omega (arith, sym (length-map cs class) ∙ ap length e)
 
+pub result-class : {r : Cells} → Result r → class (getD r 0 (0, 0)) ≡ RETURNS
+result-class no-result = refl
+result-class (some-result e) = refl
+
+pub result-bound : {r : Cells} → Result r → word (getD r 0 (0, 0)) ≤ 1
+result-bound no-result = omega arith
+result-bound (some-result e) = omega arith
+
+pub result-zero : {r : Cells} → Result r → word (getD r 0 (0, 0)) ≡ 0 → r ≡ (RETURNS, 0) ∷ []
+result-zero no-result z = refl
+result-zero (some-result e) z = absurd (omega arith)
+
+pub result-one : {r : Cells} → Result r → word (getD r 0 (0, 0)) ≡ 1 → r ≡ (RETURNS, 1) ∷ (TYPE, word (getD r 1 (0, 0))) ∷ drop 2 r
+result-one no-result z = absurd (omega arith)
+result-one (some-result e) z = refl
+
 -- ---- the parts of a function that stands in cells
 joined : (a b c d e f g : Cells) → a ++ b ++ c ++ d ++ e ++ f ++ g ≡ a ++ (b ++ (c ++ (d ++ (e ++ (f ++ g)))))
 joined a b c d e f g = simp append-assoc
@@ -281,3 +303,129 @@ module _ {ws ts : List ℕ} {cells : Cells} {s e : ℕ} {f : Function} (v : Stan
         named-part = named-here;
         body-part = moved (part-right (flatList NAMED (f .named)) (flatBlock (f .body)) part-5) (sym (part-end named-here)) refl;
       }
+
+  -- the head
+  pub head-classes : map class (f .head) ≡ NAME ∷ SPAN ∷ UPTO ∷ []
+  unfolding functionHead plain?
+  head-classes = plain-classes (w .head-ok) refl
+
+  -- the arguments
+  pub arguments-count : getD ws (argumentsAt s) 0 ≡ length (f .arguments)
+  arguments-count = list-count ARGUMENTS (f .arguments) arguments-here o
+
+  pub arguments-class : getD ts (argumentsAt s) 0 ≡ ARGUMENTS
+  arguments-class = list-class ARGUMENTS (f .arguments) arguments-here o
+
+  module _ (i : ℕ) (h : i < length (f .arguments)) where
+    pub argument-part : Part cells (argumentAt s i) (argumentAt s i + 8) (getD (f .arguments) i [])
+    unfolding counted plain?
+    argument-part = moved (rows-record ARGUMENTS (f .arguments) arguments-here (w .arguments-ok .each) refl 8 refl i h) (omega arith) (omega (arith, suc-mul i 8))
+
+    pub argument-classes : map class (getD (f .arguments) i []) ≡ NAME ∷ TYPE ∷ binding []
+    unfolding counted plain?
+    argument-classes = plain-classes (each-at (w .arguments-ok .each) i [] h) refl
+
+    argument-long : length (getD (f .arguments) i []) ≡ 8
+    argument-long = sym (length-map (getD (f .arguments) i []) class) ∙ ap length argument-classes
+
+    pub argument-type : getD ws (argumentAt s i + 1) 0 ≡ word (getD (getD (f .arguments) i []) 1 (0, 0))
+    argument-type = part-word o argument-part 1 (omega (arith, argument-long))
+
+    pub argument-type-class : getD ts (argumentAt s i + 1) 0 ≡ TYPE
+    argument-type-class = part-tag o argument-part 1 (omega (arith, argument-long)) ∙ sym (List·getD-map class (getD (f .arguments) i []) 1 (0, 0)) ∙ ap (λ l. getD l 1 0) argument-classes
+
+  -- the result
+  result-first : 0 < length (f .result)
+  result-first = omega (arith, result-long returns-shape)
+
+  pub returns-word : getD ws (returnsAt s ws) 0 ≡ word (getD (f .result) 0 (0, 0))
+  returns-word = let h : returnsAt s ws + 0 ≡ returnsAt s ws = omega arith in rw h at (part-word o result-here 0 result-first)
+
+  pub returns-class : getD ts (returnsAt s ws) 0 ≡ RETURNS
+  returns-class = let h : returnsAt s ws + 0 ≡ returnsAt s ws = omega arith in rw h at (part-tag o result-here 0 result-first) ∙ result-class returns-shape
+
+  -- 0 or 1, as there is none or one; the word behind 1 is its type
+  pub returns-bound : getD ws (returnsAt s ws) 0 ≤ 1
+  returns-bound = rw returns-word (result-bound returns-shape)
+
+  pub returns-zero : getD ws (returnsAt s ws) 0 ≡ 0 → f .result ≡ (RETURNS, 0) ∷ []
+  returns-zero e = result-zero returns-shape (sym returns-word ∙ e)
+
+  pub returns-one : getD ws (returnsAt s ws) 0 ≡ 1 → f .result ≡ (RETURNS, 1) ∷ (TYPE, getD ws (returnsAt s ws + 1) 0) ∷ drop 2 (f .result)
+  returns-one e =
+      let l : length (f .result) ≡ 8 = omega (arith, result-long returns-shape, returns-word) in
+      rw (part-word o result-here 1 (omega arith)) (result-one returns-shape (sym returns-word ∙ e))
+
+  pub returns-type-class : getD ws (returnsAt s ws) 0 ≡ 1 → getD ts (returnsAt s ws + 1) 0 ≡ TYPE
+  returns-type-class e =
+      let l : length (f .result) ≡ 8 = omega (arith, result-long returns-shape, returns-word) in
+      part-tag o result-here 1 (omega arith) ∙ ap (λ c. class (getD c 1 (0, 0))) (returns-one e)
+
+  -- the locals
+  pub locals-count : getD ws (localsAt s ws) 0 ≡ length (f .locals)
+  locals-count = list-count LOCALS (f .locals) locals-here o
+
+  pub locals-class : getD ts (localsAt s ws) 0 ≡ LOCALS
+  locals-class = list-class LOCALS (f .locals) locals-here o
+
+  module _ (i : ℕ) (h : i < length (f .locals)) where
+    pub local-part : Part cells (localAt s i ws) (localAt s i ws + 5) (getD (f .locals) i [])
+    unfolding counted plain?
+    local-part = moved (rows-record LOCALS (f .locals) locals-here (w .locals-ok .each) refl 5 refl i h) (omega arith) (omega (arith, suc-mul i 5))
+
+    pub local-classes : map class (getD (f .locals) i []) ≡ SPAN ∷ UPTO ∷ NAME ∷ TYPE ∷ LOCAL-INIT ∷ []
+    unfolding counted plain?
+    local-classes = plain-classes (each-at (w .locals-ok .each) i [] h) refl
+
+    local-long : length (getD (f .locals) i []) ≡ 5
+    local-long = sym (length-map (getD (f .locals) i []) class) ∙ ap length local-classes
+
+    pub local-type : getD ws (localAt s i ws + 3) 0 ≡ word (getD (getD (f .locals) i []) 3 (0, 0))
+    local-type = part-word o local-part 3 (omega (arith, local-long))
+
+    pub local-init : getD ws (localAt s i ws + 4) 0 ≡ word (getD (getD (f .locals) i []) 4 (0, 0))
+    local-init = part-word o local-part 4 (omega (arith, local-long))
+
+    pub local-init-class : getD ts (localAt s i ws + 4) 0 ≡ LOCAL-INIT
+    local-init-class = part-tag o local-part 4 (omega (arith, local-long)) ∙ sym (List·getD-map class (getD (f .locals) i []) 4 (0, 0)) ∙ ap (λ l. getD l 4 0) local-classes
+
+  -- the expressions
+  pub exprs-count : getD ws (expressionsAt s ws) 0 ≡ length (f .exprs)
+  exprs-count = list-count EXPRESSIONS (f .exprs) exprs-here o
+
+  pub exprs-class : getD ts (expressionsAt s ws) 0 ≡ EXPRESSIONS
+  exprs-class = list-class EXPRESSIONS (f .exprs) exprs-here o
+
+  pub exprs-all : Part cells (expressionsAt s ws + 1) (namedAt s ws f) (flatAll (f .exprs))
+  exprs-all = list-all EXPRESSIONS (f .exprs) exprs-here
+
+  pub expr-part : (i : ℕ) → i < length (f .exprs) → Part cells (startOf (expressionsAt s ws + 1) (f .exprs) i) (startOf (expressionsAt s ws + 1) (f .exprs) (suc i)) (getD (f .exprs) i [])
+  expr-part = list-record EXPRESSIONS (f .exprs) exprs-here
+
+  -- the named expressions
+  pub named-count : getD ws (namedAt s ws f) 0 ≡ length (f .named)
+  named-count = list-count NAMED (f .named) named-here o
+
+  pub named-class : getD ts (namedAt s ws f) 0 ≡ NAMED
+  named-class = list-class NAMED (f .named) named-here o
+
+  pub named-row : (i : ℕ) → i < length (f .named) → Part cells (namedAt s ws f + 1 + 2 * i) (namedAt s ws f + 3 + 2 * i) (getD (f .named) i [])
+  unfolding counted plain?
+  named-row i h = moved (rows-record NAMED (f .named) named-here (w .named-ok .each) refl 2 refl i h) (omega arith) (omega (arith, suc-mul i 2))
+
+  pub named-classes : (i : ℕ) → i < length (f .named) → map class (getD (f .named) i []) ≡ NAMED-EXPR ∷ NAME ∷ []
+  unfolding counted plain?
+  named-classes i h = plain-classes (each-at (w .named-ok .each) i [] h) refl
+
+  -- the body
+  pub body-count : getD ws (bodyAt s ws f) 0 ≡ sizeB (f .body)
+  unfolding flatBlock
+  body-count = let h : bodyAt s ws f + 0 ≡ bodyAt s ws f = omega arith in rw h at (part-word o (parts .body-part) 0 (omega arith))
+
+  pub body-class : getD ts (bodyAt s ws f) 0 ≡ BLOCK
+  unfolding flatBlock
+  body-class = let h : bodyAt s ws f + 0 ≡ bodyAt s ws f = omega arith in rw h at (part-tag o (parts .body-part) 0 (omega arith))
+
+  pub stands-end : e ≡ bodyAt s ws f + 1 + length (flatB (f .body))
+  unfolding flatBlock
+  stands-end = omega (arith, part-end (parts .body-part))
