@@ -12,13 +12,16 @@ use lib.ListN.{length, getD, getElem?, take, drop, length-append, length-map, Li
 use lib.Seq.{slice, take-length, take-take, take-at, drop-append-seam, getD-take, length-slice, length-take-le}
 use borrow.Author.Tests.{eqb-true, eqb-false}
 use Rattle.model.specs.Outcome.{Cell, Cells, class, word}
-use Rattle.model.specs.Table.{Row, WORD, SPAN, UPTO, NAME, TYPE, NAMED-EXPR, LOCAL-INIT, ARGUMENTS, LOCALS, EXPRESSIONS, NAMED, EXPR-KIND, RETURNS, BLOCK, binding, functionHead, counted, results, variants, variant, More, brings, over, nothing, more}
+use Rattle.model.specs.Table.{Row, WORD, SPAN, UPTO, NAME, TYPE, NAMED-EXPR, LOCAL-INIT, ARGUMENTS, LOCALS, EXPRESSIONS, NAMED, EXPR-KIND, RETURNS, BLOCK, binding, functionHead, entryHead, counted, results, variants, variant, More, brings, over, nothing, more}
 use Rattle.model.specs.Tree.{Function, Entry, flat, flatEntry, flatAll, flatList, flatB, flatBlock, sizeB}
-use Rattle.model.specs.Module.{Module, flatModule, write}
+use Rattle.model.specs.Module.{Module, countAt, offsetAt, endAt, HEADER, places, flatTable, flatModule, write}
+use Rattle.model.specs.View.{tables, recordAt, recordEnd}
+use Rattle.model.specs.Taped.{Taped}
 use Rattle.model.specs.Carry.{Lays, lays-none, lays-next, Each, each-none, each-next, Listed, WellFunction, WellEntry, WellFormed}
-use Rattle.model.specs.FunctionView.{argumentsAt, argumentAt, returnsAt, localsAt, localAt, expressionsAt}
+use Rattle.model.specs.FunctionView.{ENTRY-HEAD, argumentsAt, argumentAt, returnsAt, localsAt, localAt, expressionsAt}
 use Rattle.laws.proofs.Plain.{plain?, plain-length, plain-start, plain-classes}
-use Rattle.laws.proofs.Sections.{slice-slice, slice-middle, getD-slice, slice-map, startOf, start-zero, start-end, start-step, start-in, start-slice}
+use Rattle.laws.proofs.Views.{length-cells, length-write, looked-length, looked-getD, view-rising, view-within, view-table, view-records, view-length, Sees, SeesRecord, sees-functions, sees-entries, sees-function, sees-entry}
+use Rattle.laws.proofs.Sections.{slice-slice, slice-middle, getD-slice, slice-map, startOf, start-zero, start-end, start-step, start-in, start-slice, length-places}
 
 -- ---- words and tags that hold cells, from the first on
 pub record Held (ws ts : List ℕ) (cells : Cells) : Type 0 where
@@ -429,3 +432,121 @@ module _ {ws ts : List ℕ} {cells : Cells} {s e : ℕ} {f : Function} (v : Stan
   pub stands-end : e ≡ bodyAt s ws f + 1 + length (flatB (f .body))
   unfolding flatBlock
   stands-end = omega (arith, part-end (parts .body-part))
+
+-- ---- words and tape that hold a module
+-- an element that is there
+pub looked-at : {A : Type 0} (l : List A) (j : ℕ) (d : A) → j < length l → getElem? l j ≡ some (getD l j d)
+looked-at [] j d h = absurd (omega arith)
+looked-at (x ∷ l) zero d h = refl
+looked-at (x ∷ l) (suc j) d h = looked-at l j d (omega arith)
+
+looked-each : {A : Type 0} {P : A → Type 0} {l : List A} → Each P l → (j : ℕ) {x : A} → getElem? l j ≡ some x → P x
+looked-each {P} {l} ps j {x} e = rw (looked-getD l j x e) at (each-at ps j x (looked-length l j e))
+
+entry-classes : {x : Entry} → WellEntry x → map class (x .head) ≡ NAME ∷ binding []
+unfolding entryHead plain?
+entry-classes w = plain-classes (w .head-ok) refl
+
+entry-long : {x : Entry} → WellEntry x → length (x .head) ≡ 7
+entry-long {x} w = sym (length-map (x .head) class) ∙ ap length (entry-classes w)
+
+table-least : (rs : List Cells) → length rs ≤ length (flatTable rs)
+unfolding flatTable
+table-least rs = omega (arith, length-append (places (length rs) rs) (flatAll rs), length-places rs (length rs))
+
+module _ {words tags : List ℕ} {n : ℕ} {m : Module} (t : Taped words tags n m) where
+  pub taped-write : n ≡ length (write m)
+  taped-write =
+      let h : n ≤ length words = omega (arith, t .small, t .words-long) in
+      sym (length-take-le n words h) ∙ ap length (t .words-are)
+
+  pub taped-length : n ≡ length (flatModule m)
+  taped-length = taped-write ∙ length-write m
+
+  pub taped-held : Held words tags (flatModule m)
+  unfolding write
+  taped-held = record { words = rw (← taped-length) (t .words-are); tags = rw (← taped-length) (t .tags-are) }
+
+  pub taped-word : (i : ℕ) → i < n → getD words i 0 ≡ getD (write m) i 0
+  taped-word i h = sym (getD-take n words i 0 h) ∙ ap (λ l. getD l i 0) (t .words-are)
+
+  pub taped-class : (i : ℕ) → i < n → getD tags i 0 ≡ getD (map class (flatModule m)) i 0
+  taped-class i h = sym (getD-take n tags i 0 h) ∙ ap (λ l. getD l i 0) (t .tags-are)
+
+  pub taped-slice : (a b : ℕ) → b ≤ n → slice a b words ≡ slice a b (write m)
+  taped-slice a b h = ap (drop a) (sym (take-take b n words h) ∙ ap (take b) (t .words-are))
+
+  pub taped-slice-class : (a b : ℕ) → b ≤ n → slice a b tags ≡ slice a b (map class (flatModule m))
+  taped-slice-class a b h = ap (drop a) (sym (take-take b n tags h) ∙ ap (take b) (t .tags-are))
+
+  -- the header
+  pub taped-header : HEADER ≤ n
+  taped-header = omega (arith, taped-length, length-cells m)
+
+  pub taped-count : (k : ℕ) → k < 9 → countAt k words ≡ countAt k (write m)
+  unfolding countAt
+  taped-count k h = taped-word (2 + 2 * k) (omega (arith, taped-header))
+
+  pub taped-offset : (k : ℕ) → k < 9 → offsetAt k words ≡ offsetAt k (write m)
+  unfolding offsetAt
+  taped-offset k h = taped-word (3 + 2 * k) (omega (arith, taped-header))
+
+  pub taped-end : (k : ℕ) → k < 8 → endAt k words ≡ endAt k (write m)
+  unfolding endAt
+  taped-end k h = go (eqb k 8) refl
+    where
+      go : (b : Bool) → eqb k 8 ≡ b → _≡_ {A = ℕ} (elim b [ true ↦ length words | false ↦ offsetAt (suc k) words ]) (elim b [ true ↦ length (write m) | false ↦ offsetAt (suc k) (write m) ])
+      go true e = absurd (omega (arith, eqb-true k 8 e))
+      go false e = taped-offset (suc k) (omega arith)
+
+  -- the records of the tables
+  offset-inside : (k j : ℕ) → k < 8 → j < countAt k (write m) → offsetAt k (write m) + j < n
+  offset-inside k j h i =
+      omega (arith, view-length m k (omega arith), ap (λ s. length (s .1)) (view-table m k h), table-least (getD (tables m) k []), view-records m k h, view-within m k (omega arith), taped-write)
+
+  pub taped-record : (k j : ℕ) → k < 8 → j < countAt k (write m) → recordAt k j words ≡ recordAt k j (write m)
+  unfolding recordAt
+  taped-record k j h i = let e = taped-offset k (omega arith) in ap₂ _+_ e (ap (λ o. getD words (o + j) 0) e ∙ taped-word (offsetAt k (write m) + j) (offset-inside k j h i))
+
+  pub taped-record-end : (k j : ℕ) → k < 8 → j < countAt k (write m) → recordEnd k j words ≡ recordEnd k j (write m)
+  unfolding recordEnd
+  taped-record-end k j h i = rw (taped-count k (omega arith), recordEnd) (go (eqb (suc j) (countAt k (write m))) refl)
+    where
+      go : (b : Bool) → eqb (suc j) (countAt k (write m)) ≡ b → _≡_ {A = ℕ} (elim b [ true ↦ endAt k words | false ↦ recordAt k (suc j) words ]) (elim b [ true ↦ endAt k (write m) | false ↦ recordAt k (suc j) (write m) ])
+      go true e = taped-end k h
+      go false e = taped-record k (suc j) h (omega (arith, eqb-false (suc j) (countAt k (write m)) e))
+
+  -- record j of a table, by words that hold the module
+  pub taped-part : {k j : ℕ} {r : Cells} → k < 8 → SeesRecord (write m) m k j r → Part (flatModule m) (recordAt k j words) (recordEnd k j words) r
+  taped-part {k} {j} h v =
+      rw (taped-record k j h (v .inside), taped-record-end k j h (v .inside))
+      (record { rising = v .rising; within = omega (arith, v .within, view-within m k (omega arith), length-write m); cells-are = v .cells })
+
+  pub taped-functions : countAt 6 words ≡ length (m .functions)
+  taped-functions = taped-count 6 (omega arith) ∙ sees-functions m refl .count
+
+  pub taped-entries : countAt 7 words ≡ length (m .entries)
+  taped-entries = taped-count 7 (omega arith) ∙ sees-entries m refl .count
+
+  -- function j stands where the offsets say
+  pub taped-function : (j : ℕ) (f : Function) → getElem? (m .functions) j ≡ some f → Stands words tags (flatModule m) (recordAt 6 j words) (recordEnd 6 j words) f
+  taped-function j f e =
+      record { held = taped-held; part = taped-part (omega arith) (sees-function m refl j f e); well = looked-each (t .well .functions-ok .each) j e }
+
+  -- and entry point j: seven words, and its function
+  pub taped-entry-head : (j : ℕ) (x : Entry) → getElem? (m .entries) j ≡ some x → Part (flatModule m) (recordAt 7 j words) (recordAt 7 j words + ENTRY-HEAD) (x .head)
+  unfolding flatEntry
+  taped-entry-head j x e = moved (part-left (x .head) (flat (x .function)) (taped-part (omega arith) (sees-entry m refl j x e))) refl (omega (arith, entry-long (looked-each (t .well .entries-ok .each) j e)))
+
+  pub taped-entry-classes : (j : ℕ) (x : Entry) → getElem? (m .entries) j ≡ some x → map class (x .head) ≡ NAME ∷ binding []
+  taped-entry-classes j x e = entry-classes (looked-each (t .well .entries-ok .each) j e)
+
+  pub taped-entry : (j : ℕ) (x : Entry) → getElem? (m .entries) j ≡ some x → Stands words tags (flatModule m) (recordAt 7 j words + ENTRY-HEAD) (recordEnd 7 j words) (x .function)
+  unfolding flatEntry
+  taped-entry j x e =
+      let w : WellEntry x = looked-each (t .well .entries-ok .each) j e in
+      record {
+        held = taped-held;
+        part = moved (part-right (x .head) (flat (x .function)) (taped-part (omega arith) (sees-entry m refl j x e))) (omega (arith, entry-long w)) refl;
+        well = w .function-ok;
+      }
