@@ -2,26 +2,28 @@
 -- Words and tags hold cells that stand beside one another; a part of the cells from p to q is a run of cells. A function's cells are seven such parts one behind the other, and the lists whose rows are plain have records at even distances, so the places that are computed from the counts are where the parts stand. It holds for any cells in which a function stands: for the functions of a module, and seven words behind its entry points.
 use mathlib.Core.Path.{_≡_, refl, sym, ap, ap₂, _∙_}
 use mathlib.Core.Bool.{Bool, true, false, _&&_, _||_}
-use mathlib.Core.Option.{some}
+use mathlib.Core.Option.{Option, none, some}
 use mathlib.Core.List.{List, [], _∷_, _++_, map, append-assoc, append-nil}
 use Prim.Native.Nat.{ℕ, zero, suc, _+_, _*_, _-_, _≤_, _<_}
 use native.Mathlib.Nat.{suc-mul}
 use native.Mathlib.Omega.{arith}
 use lib.Dec.{eqb, ltb, leb}
-use lib.ListN.{length, getD, getElem?, take, drop, length-append, length-map, List·getD-append, List·getD-map}
+use lib.ListN.{length, getD, getElem?, take, drop, length-append, length-map, List·getD-map}
 use lib.Seq.{slice, take-length, take-take, take-at, drop-append-seam, getD-take, length-slice, length-take-le}
-use borrow.Author.Tests.{eqb-true, eqb-false}
+use borrow.Author.Tests.{eqb-true, eqb-false, ne-eqb}
 use Rattle.model.specs.Outcome.{Cell, Cells, class, word}
-use Rattle.model.specs.Table.{Row, WORD, SPAN, UPTO, NAME, TYPE, NAMED-EXPR, LOCAL-INIT, ARGUMENTS, LOCALS, EXPRESSIONS, NAMED, EXPR-KIND, RETURNS, BLOCK, binding, functionHead, entryHead, counted, results, variants, variant, More, brings, over, nothing, more}
+use Rattle.model.specs.Table.{Row, PAD, SPAN, UPTO, NAME, TYPE, CONSTANT, OVERRIDE, GLOBAL, FUNCTION, EXPR, OPT-EXPR, ARGUMENT, LOCAL, NAMED-EXPR, LOCAL-INIT, OPERANDS, LEVEL, QUERY, ARGUMENTS, LOCALS, EXPRESSIONS, NAMED, EXPR-KIND, VALUE, ATOMIC, RETURNS, BLOCK, CASES, LENGTH, STMT-KIND, CALLEE, FROM, TO, RESULT, OPT-RESULT, PLACE, binding, functionHead, entryHead, counted, expressions, levels, queries, results, repeat, variants, variant, brings, more}
 use Rattle.model.specs.Tree.{Function, Entry, flat, flatEntry, flatAll, flatList, flatB, flatBlock, sizeB}
 use Rattle.model.specs.Module.{Module, countAt, offsetAt, endAt, HEADER, places, flatTable, flatModule, write}
 use Rattle.model.specs.View.{tables, recordAt, recordEnd}
 use Rattle.model.specs.Taped.{Taped}
-use Rattle.model.specs.Carry.{Lays, lays-none, lays-next, Each, each-none, each-next, Listed, WellFunction, WellEntry, WellFormed}
+use Rattle.model.specs.Operands.{kind, kindAt}
+use Rattle.model.specs.Carry.{Lays, lays-none, lays-next, Each, each-none, each-next, WellFunction, WellEntry}
 use Rattle.model.specs.FunctionView.{ENTRY-HEAD, argumentsAt, argumentAt, returnsAt, localsAt, localAt, expressionsAt}
-use Rattle.laws.proofs.Plain.{plain?, plain-length, plain-start, plain-classes}
-use Rattle.laws.proofs.Views.{length-cells, length-write, looked-length, looked-getD, view-rising, view-within, view-table, view-records, view-length, Sees, SeesRecord, sees-functions, sees-entries, sees-function, sees-entry}
-use Rattle.laws.proofs.Sections.{slice-slice, slice-middle, getD-slice, slice-map, startOf, start-zero, start-end, start-step, start-in, start-slice, length-places}
+use Rattle.laws.proofs.Lists.{and-true, and-split}
+use Rattle.laws.proofs.Plain.{plain?, plain-more, plain-length, plain-start, plain-classes}
+use Rattle.laws.proofs.Views.{length-cells, length-write, looked-length, looked-getD, view-within, view-table, view-records, view-length, SeesRecord, sees-functions, sees-entries, sees-function, sees-entry}
+use Rattle.laws.proofs.Sections.{slice-slice, getD-slice, slice-map, startOf, start-zero, start-end, length-places}
 
 -- ---- words and tags that hold cells, from the first on
 pub record Held (ws ts : List ℕ) (cells : Cells) : Type 0 where
@@ -139,6 +141,10 @@ pub record Stands (ws ts : List ℕ) (cells : Cells) (s e : ℕ) (f : Function) 
   pub part : Part cells s e (flat f)
   pub well : WellFunction f
 
+-- of the cells' own words and classes
+pub stands-all : {cells : Cells} {s e : ℕ} {f : Function} → s ≤ e → e ≤ length cells → slice s e cells ≡ flat f → WellFunction f → Stands (map word cells) (map class cells) cells s e f
+stands-all {cells} a b c w = record { held = held-all cells; part = record { rising = a; within = b; cells-are = c }; well = w }
+
 -- where the named expressions stand, and the body
 abbrev pub namedAt : ℕ → List ℕ → Function → ℕ
 namedAt s ws f = expressionsAt s ws + 1 + length (flatAll (f .exprs))
@@ -202,6 +208,180 @@ result-zero (some-result e) z = absurd (omega arith)
 pub result-one : {r : Cells} → Result r → word (getD r 0 (0, 0)) ≡ 1 → r ≡ (RETURNS, 1) ∷ (TYPE, word (getD r 1 (0, 0))) ∷ drop 2 r
 result-one no-result z = absurd (omega arith)
 result-one (some-result e) z = refl
+
+-- ---- the shape of an expression record
+split-or : {A : Type 0} (a b : Bool) → a || b ≡ true → (a ≡ true → A) → (b ≡ true → A) → A
+split-or true b h f g = f refl
+split-or false b h f g = g h
+
+-- the classes of the fields of expressions: no count but that of operands, and no kind but of a level or a query
+abbrev pub among : ℕ → List ℕ → Bool
+among s [] = false
+among s (x ∷ xs) = eqb s x || among s xs
+
+unfoldable pub field? : ℕ → Bool
+field? s =
+    (ltb s PAD && (leb s UPTO || among s (TYPE ∷ CONSTANT ∷ OVERRIDE ∷ GLOBAL ∷ FUNCTION ∷ EXPR ∷ OPT-EXPR ∷ ARGUMENT ∷ LOCAL ∷ [])))
+    || among s (OPERANDS ∷ LEVEL ∷ QUERY ∷ [])
+
+abbrev pub Field : Cell → Type 0
+Field c = field? (class c) ≡ true
+
+-- a class that fields do not have
+pub field-eqb : (s c : ℕ) → field? s ≡ true → field? c ≡ false → eqb s c ≡ false
+field-eqb s c h k = ne-eqb s c λ e. let z : _≡_ {A = Bool} true false = sym h ∙ ap field? e ∙ k in let y : _≡_ {A = ℕ} 0 1 = cc in omega arith
+
+-- the kind of an expression, the lists of a function and the tree of statements are none; nor is what a statement evaluates, a range, a callee, or an initialiser
+abbrev pub NOT-FIELDS : List ℕ
+NOT-FIELDS =
+    EXPR-KIND
+    ∷ ARGUMENTS
+    ∷ LOCALS
+    ∷ EXPRESSIONS
+    ∷ NAMED
+    ∷ RETURNS
+    ∷ BLOCK
+    ∷ CASES
+    ∷ LENGTH
+    ∷ STMT-KIND
+    ∷ VALUE
+    ∷ ATOMIC
+    ∷ CALLEE
+    ∷ FROM
+    ∷ TO
+    ∷ RESULT
+    ∷ OPT-RESULT
+    ∷ NAMED-EXPR
+    ∷ LOCAL-INIT
+    ∷ NAME
+    ∷ PLACE
+    ∷ []
+
+none-fields : Each (λ c. field? c ≡ false) NOT-FIELDS
+unfolding field?
+none-fields = each-next refl (each-next refl (each-next refl (each-next refl (each-next refl (each-next refl (each-next refl (each-next refl (each-next refl (each-next refl (each-next refl (each-next refl (each-next refl (each-next refl (each-next refl (each-next refl (each-next refl (each-next refl (each-next refl (each-next refl (each-next refl (each-none)))))))))))))))))))))
+
+none-among : (c : ℕ) (l : List ℕ) → Each (λ x. field? x ≡ false) l → among c l ≡ true → field? c ≡ false
+none-among c [] q h = let z : _≡_ {A = ℕ} 0 1 = cc in absurd (omega arith)
+none-among c (x ∷ l) (each-next p ps) h = split-or (eqb c x) (among c l) h (λ e. ap field? (eqb-true c x e) ∙ p) λ e. none-among c l ps e
+
+-- so a field's class differs from each of them: `field-not s BLOCK h refl`
+pub field-not : (s c : ℕ) → field? s ≡ true → among c NOT-FIELDS ≡ true → eqb s c ≡ false
+field-not s c h k = field-eqb s c h (none-among c NOT-FIELDS none-fields k)
+
+-- rows of fields
+unfoldable pub fields? : Row → Bool
+fields? [] = true
+fields? (s ∷ ss) = field? s && fields? ss
+
+rows? : List Row → Bool
+rows? [] = true
+rows? (r ∷ rs) = fields? r && rows? rs
+
+fields-append : (xs ss : Row) → fields? xs ≡ true → fields? ss ≡ true → fields? (xs ++ ss) ≡ true
+unfolding fields?
+fields-append [] ss h k = k
+fields-append (x ∷ xs) ss h k = let a = and-split (field? x) (fields? xs) h in and-true (a .0) (fields-append xs ss (a .1) k)
+
+fields-repeat : (n : ℕ) (r : Row) → fields? r ≡ true → fields? (repeat n r) ≡ true
+unfolding repeat fields?
+fields-repeat zero r h = refl
+fields-repeat (suc n) r h = fields-append r (repeat n r) h (fields-repeat n r h)
+
+rows-at : (l : List Row) (k : ℕ) {r : Row} → rows? l ≡ true → getElem? l k ≡ some r → fields? r ≡ true
+unfolding rows?
+rows-at [] k h e = let z : _≡_ {A = ℕ} 0 1 = cc in absurd (omega arith)
+rows-at (x ∷ l) zero {r} h e = let q : x ≡ r = cc in rw q at (and-split (fields? x) (rows? l) h .0)
+rows-at (x ∷ l) (suc k) h e = rows-at l k (and-split (fields? x) (rows? l) h .1) e
+
+variant-brings : (o : Option Row) {xs : Row} → variant o ≡ brings xs → o ≡ some xs
+unfolding variant
+variant-brings none e = cc
+variant-brings (some r) e = cc
+
+-- the test of the table: the rows of expressions, levels and queries
+expressions-fields : rows? expressions ≡ true
+unfolding rows? fields? field? expressions
+expressions-fields = refl
+
+levels-fields : rows? levels ≡ true
+unfolding rows? fields? field? levels
+levels-fields = refl
+
+queries-fields : rows? queries ≡ true
+unfolding rows? fields? field? queries
+queries-fields = refl
+
+at-operands : (w : ℕ) (xs : Row) → more OPERANDS w ≡ brings xs → fields? xs ≡ true
+unfolding more fields? field?
+at-operands w xs e = let n : repeat w (EXPR ∷ []) ≡ xs = cc in rw n at (fields-repeat w (EXPR ∷ []) refl)
+
+at-level : (w : ℕ) (xs : Row) → more LEVEL w ≡ brings xs → fields? xs ≡ true
+unfolding more variants
+at-level w xs e = rows-at levels w levels-fields (variant-brings (getElem? levels w) e)
+
+at-query : (w : ℕ) (xs : Row) → more QUERY w ≡ brings xs → fields? xs ≡ true
+unfolding more variants
+at-query w xs e = rows-at queries w queries-fields (variant-brings (getElem? queries w) e)
+
+-- what a field's word brings are fields
+fields-more : (s w : ℕ) (xs : Row) → field? s ≡ true → more s w ≡ brings xs → fields? xs ≡ true
+unfolding fields? field?
+fields-more s w xs h e =
+    split-or (ltb s PAD && (leb s UPTO || among s (TYPE ∷ CONSTANT ∷ OVERRIDE ∷ GLOBAL ∷ FUNCTION ∷ EXPR ∷ OPT-EXPR ∷ ARGUMENT ∷ LOCAL ∷ []))) (among s (OPERANDS ∷ LEVEL ∷ QUERY ∷ [])) h
+    (λ a. plain-one (and-split (ltb s PAD) (leb s UPTO || among s (TYPE ∷ CONSTANT ∷ OVERRIDE ∷ GLOBAL ∷ FUNCTION ∷ EXPR ∷ OPT-EXPR ∷ ARGUMENT ∷ LOCAL ∷ [])) a .0))
+    λ b.
+    split-or (eqb s OPERANDS) (among s (LEVEL ∷ QUERY ∷ [])) b (λ c. at-operands w xs (rw (eqb-true s OPERANDS c) at e)) λ c.
+    split-or (eqb s LEVEL) (among s (QUERY ∷ [])) c (λ d. at-level w xs (rw (eqb-true s LEVEL d) at e)) λ d.
+    split-or (eqb s QUERY) (among s []) d (λ x. at-query w xs (rw (eqb-true s QUERY x) at e)) λ x.
+    let z : _≡_ {A = ℕ} 0 1 = cc in absurd (omega arith)
+  where
+    plain-one : ltb s PAD ≡ true → fields? xs ≡ true
+    plain-one a = let n : xs ≡ [] = cc (plain-more s w a) in rw n refl
+
+-- LAW, of cells laid out by a row of fields
+pub lays-fields : {ss : Row} {cs : Cells} → Lays ss cs → fields? ss ≡ true → Each Field cs
+unfolding fields?
+lays-fields lays-none h = each-none
+lays-fields (lays-next {s} {w} {xs} {ss} e l) h =
+    let a = and-split (field? s) (fields? ss) h in
+    each-next (a .0) (lays-fields l (fields-append xs ss (fields-more s w xs (a .0) e) (a .1)))
+
+-- a record begins with its kind, and behind it are fields, laid out by the kind's row
+pub data Expression : Cells → Type 0 where
+  expression : {k : ℕ} {row : Row} {cs : Cells} → k < 27 → getElem? expressions k ≡ some row → Lays row cs → Each Field cs → Expression ((EXPR-KIND, k) ∷ cs)
+
+known : (k : ℕ) {r : Row} → getElem? expressions k ≡ some r → k < 27
+unfolding expressions
+known k a = looked-length expressions k a
+
+pub expression-shape : {r : Cells} → Lays (EXPR-KIND ∷ []) r → Expression r
+unfolding more variants
+expression-shape (lays-next {w = k} {xs} {cs} e l) =
+    let a : getElem? expressions k ≡ some xs = variant-brings (getElem? expressions k) e in
+    let b : Lays xs cs = rw append-nil at l in
+    expression (known k a) a b (lays-fields b (rows-at expressions k expressions-fields a))
+
+pub expression-class : {r : Cells} → Expression r → class (getD r 0 (0, 0)) ≡ EXPR-KIND
+expression-class (expression h e l q) = refl
+
+pub expression-kind : {r : Cells} → Expression r → word (getD r 0 (0, 0)) ≡ kind r
+unfolding kind
+expression-kind (expression h e l q) = refl
+
+pub expression-known : {r : Cells} → Expression r → kind r < 27
+unfolding kind
+expression-known (expression h e l q) = h
+
+pub expression-first : {r : Cells} → Expression r → 0 < length r
+expression-first (expression h e l q) = omega arith
+
+pub expression-field : {r : Cells} → Expression r → (i : ℕ) → suc i < length r → field? (class (getD r (suc i) (0, 0))) ≡ true
+expression-field (expression h e l q) i k = each-at q i (0, 0) (omega arith)
+
+pub each-expression : {rs : List Cells} → Each (Lays (EXPR-KIND ∷ [])) rs → Each Expression rs
+each-expression each-none = each-none
+each-expression (each-next p ps) = each-next (expression-shape p) (each-expression ps)
 
 -- ---- the parts of a function that stands in cells
 joined : (a b c d e f g : Cells) → a ++ b ++ c ++ d ++ e ++ f ++ g ≡ a ++ (b ++ (c ++ (d ++ (e ++ (f ++ g)))))
@@ -404,6 +584,32 @@ module _ {ws ts : List ℕ} {cells : Cells} {s e : ℕ} {f : Function} (v : Stan
 
   pub expr-part : (i : ℕ) → i < length (f .exprs) → Part cells (startOf (expressionsAt s ws + 1) (f .exprs) i) (startOf (expressionsAt s ws + 1) (f .exprs) (suc i)) (getD (f .exprs) i [])
   expr-part = list-record EXPRESSIONS (f .exprs) exprs-here
+
+  pub exprs-shapes : Each Expression (f .exprs)
+  unfolding counted
+  exprs-shapes = each-expression (w .exprs-ok .each)
+
+  module _ (i : ℕ) (h : i < length (f .exprs)) where
+    pub expr-shape : Expression (getD (f .exprs) i [])
+    expr-shape = each-at exprs-shapes i [] h
+
+    abbrev at : ℕ
+    at = startOf (expressionsAt s ws + 1) (f .exprs) i
+
+    -- its first word is its kind, and no other of its words is a kind, nor one of a statement or of a function's list
+    pub expr-class : getD ts (startOf (expressionsAt s ws + 1) (f .exprs) i) 0 ≡ EXPR-KIND
+    expr-class = let z : at + 0 ≡ at = omega arith in rw z at (part-tag o (expr-part i h) 0 (expression-first expr-shape)) ∙ expression-class expr-shape
+
+    pub expr-kind : getD ws (startOf (expressionsAt s ws + 1) (f .exprs) i) 0 ≡ kindAt (f .exprs) i
+    unfolding kindAt
+    expr-kind = let z : at + 0 ≡ at = omega arith in rw z at (part-word o (expr-part i h) 0 (expression-first expr-shape)) ∙ expression-kind expr-shape
+
+    pub expr-known : kindAt (f .exprs) i < 27
+    unfolding kindAt
+    expr-known = expression-known expr-shape
+
+    pub expr-field : (j : ℕ) → suc j < length (getD (f .exprs) i []) → field? (getD ts (startOf (expressionsAt s ws + 1) (f .exprs) i + suc j) 0) ≡ true
+    expr-field j k = rw (part-tag o (expr-part i h) (suc j) k) (expression-field expr-shape j k)
 
   -- the named expressions
   pub named-count : getD ws (namedAt s ws f) 0 ≡ length (f .named)
