@@ -11,6 +11,7 @@ pub mod Initial
 pub mod Reached
 pub mod Scope
 pub mod Walk
+pub mod Calls
 pub mod Sample
 pub mod SampleBodies
 pub mod ScopeExamples
