@@ -3,3 +3,5 @@ pub mod Reading
 pub mod Walk
 pub mod Rows
 pub mod Steps
+pub mod Extents
+pub mod Header

@@ -1,3 +1,4 @@
 pub mod Parts
 pub mod Rows
 pub mod Walks
+pub mod Extents
