@@ -1,0 +1,131 @@
+-- Redirecting by example: P7 and P8 of document 01, where calls stay and where they change, and each refusal. One table, one theorem.
+use mathlib.Core.Path.{_≡_, refl}
+use mathlib.Core.Bool.{Bool, true, false, _&&_, _||_, cond, not}
+use mathlib.Core.List.{List, [], _∷_, _++_, map}
+use mathlib.Core.Option.{Option, none, some}
+use Prim.Native.Nat.{ℕ, suc}
+use lib.Dec.{eqb}
+use lib.ListN.{length, getD}
+use Rattle.model.specs.Outcome.{Cells, class, word}
+use Rattle.model.specs.Table.{WORD, SPAN, UPTO, NAME, TYPE, CALLEE, FUNCTION, OPT-TYPE, PAD, TEXT, RETURNS, binding}
+use Rattle.model.specs.Tree.{Block, call, end, _then_, Range, Function, Entry, optOf, wordOf, kindOf, sizeB, sizeC, flatAll, flatList, flatX, flatS, flatBlock, flat}
+use Rattle.model.specs.Module.{Module}
+use Rattle.model.specs.Carry.{carryCell, carryOpt, carryRange, carryS, carryFunction, carryEntry}
+use Rattle.model.specs.Calls.{Order, ordered, ring, numbers, any, keep, free, held, Rounds, round, rounds, answer, order}
+use Rattle.model.specs.SampleBodies.{does, called}
+use Rattle.model.specs.Redirect.{nameWord, find, omitted, allBelow, argumentTypes, agree, typeBehind, resultType, same, redirecting, redirectFn, redirectEntry, stays, redirectFns, withFunctions, withEntries, redirect, Answer, redirected, outside, noOriginal, noReplacement, argumentsDiffer, resultsDiffer, refusal, after, nothing, function, compared, withReplacement, withOriginal, redirectFunction}
+
+-- a function by its name number, argument types, result, expressions and body
+abbrev made : ℕ → List ℕ → Cells → List Cells → Block Range → Function
+made name args result xs b = record {
+  head = (NAME, suc name) ∷ (SPAN, 0) ∷ (UPTO, 0) ∷ [];
+  arguments = map (λ t. (NAME, 0) ∷ (TYPE, t) ∷ (WORD, 0) ∷ (WORD, 0) ∷ (WORD, 0) ∷ (WORD, 0) ∷ (WORD, 0) ∷ (WORD, 0) ∷ []) args;
+  result = result;
+  locals = [];
+  exprs = xs;
+  named = [];
+  body = b;
+}
+
+abbrev no-result : Cells
+no-result = (RETURNS, 0) ∷ []
+
+abbrev result-of : ℕ → Cells
+result-of t = (RETURNS, 1) ∷ (TYPE, t) ∷ (WORD, 0) ∷ (WORD, 0) ∷ (WORD, 0) ∷ (WORD, 0) ∷ (WORD, 0) ∷ (WORD, 0) ∷ []
+
+-- one call, without arguments or result
+abbrev to : ℕ → Block Range
+to f = does (call f [] none) then end
+
+abbrev plain : ℕ → Block Range → Function
+plain name b = made name [] no-result [] b
+
+-- an entry point, whose function may bear a name
+abbrev entry : Function → Entry
+entry f = record { head = (NAME, 1) ∷ (WORD, 0) ∷ (WORD, 0) ∷ (WORD, 0) ∷ (WORD, 0) ∷ (WORD, 0) ∷ (WORD, 0) ∷ []; function = f }
+
+abbrev letter : ℕ → Cells
+letter c = (TEXT, 1) ∷ (PAD, c) ∷ []
+
+-- four names: shade, tone, fog, and one that no function has
+abbrev holding : List Function → List Entry → Module
+holding fs es = record { names = letter 115 ∷ letter 116 ∷ letter 102 ∷ letter 120 ∷ []; types = []; constants = []; overrides = []; globals = []; exprs = []; functions = fs; entries = es; special = record { rays = (OPT-TYPE, 0) ∷ (OPT-TYPE, 0) ∷ (OPT-TYPE, 0) ∷ []; pairs = [] } }
+
+-- "P6 shade calls fog; tone; fog calls tone"
+abbrev shades : List Function
+shades = plain 0 (to 2) ∷ plain 1 end ∷ plain 2 (to 1) ∷ []
+
+abbrev P6 : Module
+P6 = holding shades []
+
+-- "Call statements, reached or not": the callees that stand in a function's cells
+unfoldable pub callsIn : Cells → ℕ → Bool
+callsIn [] j = false
+callsIn (c ∷ cs) j = (eqb (class c) CALLEE && eqb (word c) j) || callsIn cs j
+
+unfoldable pub calling : Module → ℕ → ℕ → Bool
+calling m i j = callsIn (flat (function m i)) j
+
+unfoldable pub ordering : Module → Order
+ordering m = order (length (m .functions)) (calling m)
+
+-- a function that calls tone (1) for a value, and one that calls fog for it
+abbrev valued : ℕ → ℕ → Function
+valued name f = made name [] (result-of 0) (called f ∷ []) (does (call f [] (some 0)) then end)
+
+pub record Redirects : Type 0 where
+  -- "P7 P6 with fog replaced by tone: tone, shade, fog"
+  pub P7 : redirectFunction P6 2 1 [] ≡ redirected 2 1 (holding (plain 0 (to 1) ∷ plain 1 end ∷ plain 2 (to 1) ∷ []) [])
+  pub P7-order : ordering (after P6 (redirectFunction P6 2 1 [])) ≡ ordered (1 ∷ 0 ∷ 2 ∷ [])
+  -- "P8 P6 with tone replaced by shade: 12, left 2"
+  pub P8 : redirectFunction P6 1 0 [] ≡ redirected 1 0 (holding (plain 0 (to 2) ∷ plain 1 end ∷ plain 2 (to 0) ∷ []) [])
+  pub P8-order : ordering (after P6 (redirectFunction P6 1 0 [])) ≡ ring 2
+  -- a function replaced by itself
+  pub itself : redirectFunction P6 2 2 [] ≡ redirected 2 2 P6
+  -- an omitted function stays; a name that no function has may be omitted
+  pub omits : redirectFunction P6 2 1 (0 ∷ []) ≡ redirected 2 1 P6
+  pub omits-none : redirectFunction P6 2 1 (3 ∷ []) ≡ redirectFunction P6 2 1 []
+  -- the replacement's own call stays: fog replaced by shade, which calls it
+  pub own : redirectFunction P6 2 0 [] ≡ redirected 2 0 P6
+  -- the original's call of itself changes
+  pub self : redirectFunction (holding (plain 0 (to 0) ∷ plain 1 end ∷ []) []) 0 1 [] ≡ redirected 0 1 (holding (plain 0 (to 1) ∷ plain 1 end ∷ []) [])
+  -- every call changes, and a CallResult with its Call
+  pub twice : redirectFunction (holding (plain 0 (does (call 2 [] none) then to 2) ∷ plain 1 end ∷ plain 2 end ∷ []) []) 2 1 [] ≡ redirected 2 1 (holding (plain 0 (does (call 1 [] none) then to 1) ∷ plain 1 end ∷ plain 2 end ∷ []) [])
+  pub results : redirectFunction (holding (valued 0 2 ∷ valued 1 0 ∷ valued 2 1 ∷ []) []) 2 1 [] ≡ redirected 2 1 (holding (valued 0 1 ∷ valued 1 0 ∷ valued 2 1 ∷ []) [])
+  -- an entry point changes, whatever name its function bears
+  pub entries : redirectFunction (holding shades (entry (plain 0 (to 2)) ∷ [])) 2 1 (0 ∷ []) ≡ redirected 2 1 (holding shades (entry (plain 0 (to 1)) ∷ []))
+  -- refusals, each with a second fault that comes later in the sequence
+  pub no-name : refusal (redirectFunction P6 4 3 []) ≡ 13
+  pub no-omitted-name : refusal (redirectFunction P6 3 3 (4 ∷ [])) ≡ 13
+  pub no-original : refusal (redirectFunction P6 3 3 []) ≡ 8
+  pub no-replacement : refusal (redirectFunction P6 0 3 []) ≡ 9
+  -- arguments up to the shorter list; results with none and some
+  pub arguments : refusal (redirectFunction (holding (made 0 (0 ∷ 1 ∷ []) no-result [] end ∷ made 1 (0 ∷ 2 ∷ []) (result-of 0) [] end ∷ []) []) 0 1 []) ≡ 10
+  pub shorter : redirectFunction (holding (made 0 (0 ∷ 1 ∷ []) no-result [] end ∷ made 1 (0 ∷ []) no-result [] end ∷ []) []) 0 1 [] ≡ redirected 0 1 (holding (made 0 (0 ∷ 1 ∷ []) no-result [] end ∷ made 1 (0 ∷ []) no-result [] end ∷ []) [])
+  pub none-some : refusal (redirectFunction (holding (made 0 [] no-result [] end ∷ made 1 [] (result-of 0) [] end ∷ []) []) 0 1 []) ≡ 11
+  pub some-some : refusal (redirectFunction (holding (made 0 [] (result-of 1) [] end ∷ made 1 [] (result-of 0) [] end ∷ []) []) 0 1 []) ≡ 11
+
+pub redirects : Redirects
+unfolding optOf wordOf kindOf sizeB sizeC flatAll flatList flatX flatS flatBlock flat carryCell carryOpt carryRange carryS carryFunction carryEntry numbers any keep free held round rounds answer order nameWord find omitted allBelow argumentTypes agree typeBehind resultType same redirecting redirectFn redirectEntry stays redirectFns withFunctions withEntries redirect refusal after nothing function compared withReplacement withOriginal redirectFunction callsIn calling ordering
+redirects = record {
+  P7 = refl;
+  P7-order = refl;
+  P8 = refl;
+  P8-order = refl;
+  itself = refl;
+  omits = refl;
+  omits-none = refl;
+  own = refl;
+  self = refl;
+  twice = refl;
+  results = refl;
+  entries = refl;
+  no-name = refl;
+  no-omitted-name = refl;
+  no-original = refl;
+  no-replacement = refl;
+  arguments = refl;
+  shorter = refl;
+  none-some = refl;
+  some-some = refl;
+}
