@@ -706,7 +706,7 @@ module _ {words tags : List ℕ} {n : ℕ} {m : Module} (t : Taped words tags n 
       go false e = taped-offset (suc k) (omega arith)
 
   -- the records of the tables
-  offset-inside : (k j : ℕ) → k < 8 → j < countAt k (write m) → offsetAt k (write m) + j < n
+  pub offset-inside : (k j : ℕ) → k < 8 → j < countAt k (write m) → offsetAt k (write m) + j < n
   offset-inside k j h i =
       omega (arith, view-length m k (omega arith), ap (λ s. length (s .1)) (view-table m k h), table-least (getD (tables m) k []), view-records m k h, view-within m k (omega arith), taped-write)
 

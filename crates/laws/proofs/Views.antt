@@ -62,7 +62,7 @@ pub view-count : (m : Module) (k : ℕ) → k < 9 → countAt k (write m) ≡ se
 unfolding countAt
 view-count m k h = header-word m (2 + 2 * k) (2 * k) refl (omega arith) ∙ pair-count (sections m) HEADER k (2 * k) (omega (arith, length-sections m)) refl
 
-offset-start : (m : Module) (k : ℕ) → k < 9 → offsetAt k (write m) ≡ startOf HEADER (map cellsOf (sections m)) k
+pub offset-start : (m : Module) (k : ℕ) → k < 9 → offsetAt k (write m) ≡ startOf HEADER (map cellsOf (sections m)) k
 unfolding offsetAt
 offset-start m k h = header-word m (3 + 2 * k) (1 + 2 * k) (omega arith) (omega arith) ∙ pair-offset (sections m) HEADER k (1 + 2 * k) (omega (arith, length-sections m)) refl
 
@@ -202,7 +202,7 @@ module _ (m : Module) (k : ℕ) (h : k < 8) where
       ∙ List·getD-append (map word (places (length these) these)) (map word (flatAll these)) 0 j (rw (length-map (places (length these) these) word) (omega (arith, length-places these (length these))))
       ∙ place-word these (length these) j i
 
-  at-start : (j : ℕ) → j < length these → recordAt k j (write m) ≡ offsetAt k (write m) + startOf (length these) these j
+  pub at-start : (j : ℕ) → j < length these → recordAt k j (write m) ≡ offsetAt k (write m) + startOf (length these) these j
   unfolding recordAt
   at-start j i = ap (offsetAt k (write m) +_) (offset-word j i)
 

@@ -1,0 +1,358 @@
+// Redirecting over the words and the tape of an image that passed intake: redirect_function of redirect.rs. Functions are found by name number,
+// their argument and result types are compared, and the numbers of Calls and CallResults that name the original name the replacement.
+// The tests read and change nothing; the pass after them goes once over the functions and the entry points.
+use calls::FunctionHandle;
+ghost use mathlib.Core.Path.{_≡_};
+ghost use mathlib.Core.List.{_∷_, zipWith};
+ghost use Prim.Native.Nat.{suc, _^_, _≤_, _<_};
+ghost use lib.Dec.{eqb};
+ghost use lib.ListN.{length, getD};
+ghost use lib.Seq.{slice, sets};
+ghost use Rattle.model.specs.Module.{countAt};
+ghost use Rattle.model.specs.View.{recordAt, recordEnd};
+ghost use Rattle.model.specs.FunctionView.{returnsAt};
+ghost use Rattle.model.specs.Taped.{Tape};
+ghost use Rattle.model.specs.Redirect.{omitted as omittedOf, allBelow, redirecting, stays as staysOf};
+ghost use Rattle.redirect.specs.Passes.{Finds, Agrees, Returns, Compares, Tests, Turns, turnOne, turnAll, redirectedBy, Redirects};
+
+// The table function with a name, or none.
+pub enum Found {
+    At(FunctionHandle),
+    Nothing,
+}
+
+// Both functions, the original first; or why nothing was changed: refusals 13, 8, 9, 10 and 11.
+pub enum Redirected {
+    Done(FunctionHandle, FunctionHandle),
+    Outside,
+    NoOriginal,
+    NoReplacement,
+    ArgumentsDiffer,
+    ResultsDiffer,
+}
+
+fn wide(x: u32) -> usize
+    ensures { λ r. ⌜ (r ≡ x) × (r < 2 ^ 32) ⌝ }
+{
+    x as usize
+}
+
+// Whether an optional name is the name with a number.
+fn is_named(w: u32, name: u32) -> bool
+    ensures { λ r. ⌜ r ≡ eqb w (suc name) ⌝ }
+{
+    if w == 0 {
+        return false;
+    }
+    w - 1 == name
+}
+
+// Where table function j starts.
+fn start_of(words: &[u32; 16384], tags: &[u8; 16384], n: usize, j: usize) -> usize
+    requires { ⌜ Tape (now words) (now tags) n ⌝ }
+    requires { ⌜ j < countAt 6 (now words) ⌝ }
+    ensures { λ r. ⌜ r ≡ recordAt 6 j (now (words .entry)) ⌝ }
+{
+    let at = wide(words[15]);
+    at + wide(words[at + j])
+}
+
+// Where it ends: where the next one starts, or where the section ends.
+fn end_of(words: &[u32; 16384], tags: &[u8; 16384], n: usize, j: usize) -> usize
+    requires { ⌜ Tape (now words) (now tags) n ⌝ }
+    requires { ⌜ j < countAt 6 (now words) ⌝ }
+    ensures { λ r. ⌜ r ≡ recordEnd 6 j (now (words .entry)) ⌝ }
+{
+    if j + 1 == wide(words[14]) {
+        return wide(words[17]);
+    }
+    start_of(words, tags, n, j + 1)
+}
+
+// The table function with a name.
+pub fn find(words: &[u32; 16384], tags: &[u8; 16384], n: usize, name: u32) -> Found
+    requires { ⌜ Tape (now words) (now tags) n ⌝ }
+    ensures { λ r. ⌜ Finds r (now (words .entry)) (now (tags .entry)) n name ⌝ }
+{
+    let count = wide(words[14]);
+    let mut j = 0;
+    while j < count {
+        let i = j;
+        j += 1;
+        let at = start_of(words, tags, n, i);
+        if is_named(words[at], name) {
+            return Found::At(FunctionHandle(i as u32));
+        }
+    }
+    Found::Nothing
+}
+
+// Whether every number of a list is below a bound.
+fn all_below(list: &[u32], bound: u32) -> bool
+    ensures { λ r. ⌜ r ≡ allBelow (now (list .entry)) bound ⌝ }
+{
+    let mut i = 0;
+    while i < list.len() {
+        let j = i;
+        i += 1;
+        if bound <= list[j] {
+            return false;
+        }
+    }
+    true
+}
+
+// Whether all numbers given are those of names.
+fn inside(original: u32, replacement: u32, omit: &[u32], names: u32) -> bool
+    ensures { λ r. ⌜ r ≡ allBelow (original ∷ replacement ∷ now (omit .entry)) names ⌝ }
+{
+    if names <= original {
+        return false;
+    }
+    if names <= replacement {
+        return false;
+    }
+    all_below(omit, names)
+}
+
+// Whether an optional name is one of the omitted ones.
+fn omitted(omit: &[u32], w: u32) -> bool
+    ensures { λ r. ⌜ r ≡ omittedOf (now (omit .entry)) w ⌝ }
+{
+    let mut i = 0;
+    while i < omit.len() {
+        let j = i;
+        i += 1;
+        if is_named(w, omit[j]) {
+            return true;
+        }
+    }
+    false
+}
+
+// Whether the argument types of table functions i and k are equal, up to the shorter list.
+fn arguments_agree(words: &[u32; 16384], tags: &[u8; 16384], n: usize, i: usize, k: usize) -> bool
+    requires { ⌜ Tape (now words) (now tags) n ⌝ }
+    requires { ⌜ (i < countAt 6 (now words)) × (k < countAt 6 (now words)) ⌝ }
+    ensures { λ r. ⌜ Agrees r (now (words .entry)) (now (tags .entry)) n i k ⌝ }
+{
+    let a = start_of(words, tags, n, i);
+    let b = start_of(words, tags, n, k);
+    let some = wide(words[a + 3]);
+    let others = wide(words[b + 3]);
+    let mut j = 0;
+    while j < some {
+        if others <= j {
+            return true;
+        }
+        if words[a + 5 + 8 * j] != words[b + 5 + 8 * j] {
+            return false;
+        }
+        j += 1;
+    }
+    true
+}
+
+// Where the result of table function i stands.
+fn returns_at(words: &[u32; 16384], tags: &[u8; 16384], n: usize, i: usize) -> usize
+    requires { ⌜ Tape (now words) (now tags) n ⌝ }
+    requires { ⌜ i < countAt 6 (now words) ⌝ }
+    ensures { λ r. ⌜ (r ≡ returnsAt (recordAt 6 i (now (words .entry))) (now (words .entry))) × (r < 16384) ⌝ }
+{
+    let a = start_of(words, tags, n, i);
+    a + 4 + 8 * wide(words[a + 3])
+}
+
+// Whether two functions have no result, or results of one type.
+fn results_agree(words: &[u32; 16384], tags: &[u8; 16384], n: usize, i: usize, k: usize) -> bool
+    requires { ⌜ Tape (now words) (now tags) n ⌝ }
+    requires { ⌜ (i < countAt 6 (now words)) × (k < countAt 6 (now words)) ⌝ }
+    ensures { λ r. ⌜ Returns r (now (words .entry)) (now (tags .entry)) n i k ⌝ }
+{
+    let x = returns_at(words, tags, n, i);
+    let y = returns_at(words, tags, n, k);
+    let some = words[x];
+    if some != words[y] {
+        return false;
+    }
+    if some == 0 {
+        return true;
+    }
+    words[x + 1] == words[y + 1]
+}
+
+// Compares argument types, and then result types.
+pub fn compare(
+    words: &[u32; 16384],
+    tags: &[u8; 16384],
+    n: usize,
+    original: FunctionHandle,
+    replacement: FunctionHandle,
+) -> Redirected
+    requires { ⌜ Tape (now words) (now tags) n ⌝ }
+    requires { ⌜ (original .0 < countAt 6 (now words)) × (replacement .0 < countAt 6 (now words)) ⌝ }
+    ensures { λ r. ⌜ Compares r (now (words .entry)) (now (tags .entry)) n (original .0) (replacement .0) ⌝ }
+{
+    let i = wide(original.0);
+    let k = wide(replacement.0);
+    if !arguments_agree(words, tags, n, i, k) {
+        return Redirected::ArgumentsDiffer;
+    }
+    if !results_agree(words, tags, n, i, k) {
+        return Redirected::ResultsDiffer;
+    }
+    Redirected::Done(original, replacement)
+}
+
+// The tests in sequence: 13, 8, 9, 10, 11.
+fn test(
+    words: &[u32; 16384],
+    tags: &[u8; 16384],
+    n: usize,
+    original: u32,
+    replacement: u32,
+    omit: &[u32],
+) -> Redirected
+    requires { ⌜ Tape (now words) (now tags) n ⌝ }
+    ensures { λ r. ⌜ Tests r (now (words .entry)) (now (tags .entry)) n original replacement (now (omit .entry)) ⌝ }
+{
+    if !inside(original, replacement, omit, words[2]) {
+        return Redirected::Outside;
+    }
+    let Found::At(a) = find(words, tags, n, original) else {
+        return Redirected::NoOriginal;
+    };
+    let Found::At(b) = find(words, tags, n, replacement) else {
+        return Redirected::NoReplacement;
+    };
+    compare(words, tags, n, a, b)
+}
+
+// A word of the class s: the function of a Call or of a CallResult.
+fn redirect_word(s: u8, w: u32, original: u32, replacement: u32) -> u32
+    ensures { λ r. ⌜ r ≡ redirecting original replacement s w ⌝ }
+{
+    if s == 92 {
+        if w == original {
+            return replacement;
+        }
+        return w;
+    }
+    if s == 91 {
+        if w == original {
+            return replacement;
+        }
+    }
+    w
+}
+
+// All words from `at` to `end`.
+fn redirect_fn(
+    words: &mut [u32; 16384],
+    tags: &[u8; 16384],
+    at: usize,
+    end: usize,
+    original: u32,
+    replacement: u32,
+)
+    requires { ⌜ (at ≤ end) × (end ≤ 16384) × (length (now words) ≡ 16384) × (length (now tags) ≡ 16384) ⌝ }
+    ensures { λ _. ⌜ now (words .exit) ≡ sets (now (words .entry)) at (zipWith (redirecting original replacement) (slice at end (now (tags .entry))) (slice at end (now (words .entry)))) ⌝ }
+{
+    let mut i = at;
+    while i < end {
+        let j = i;
+        i += 1;
+        words[j] = redirect_word(tags[j], words[j], original, replacement);
+    }
+}
+
+// Whether function j stays as it is: the replacement, or one whose name w is omitted.
+fn stays(replacement: u32, omit: &[u32], j: usize, w: u32) -> bool
+    ensures { λ r. ⌜ r ≡ staysOf replacement (now (omit .entry)) j w ⌝ }
+{
+    if j == wide(replacement) {
+        return true;
+    }
+    omitted(omit, w)
+}
+
+// Table function j.
+fn redirect_one(
+    words: &mut [u32; 16384],
+    tags: &[u8; 16384],
+    n: usize,
+    j: usize,
+    original: u32,
+    replacement: u32,
+    omit: &[u32],
+)
+    requires { ⌜ Tape (now words) (now tags) n ⌝ }
+    requires { ⌜ j < countAt 6 (now words) ⌝ }
+    ensures { λ _. ⌜ Turns (now (words .exit)) (now (words .entry)) (now (tags .entry)) n (turnOne j original replacement (now (omit .entry))) ⌝ }
+{
+    let at = start_of(words, tags, n, j);
+    if !stays(replacement, omit, j, words[at]) {
+        let end = end_of(words, tags, n, j);
+        redirect_fn(words, tags, at, end, original, replacement);
+    }
+}
+
+// Table functions.
+fn redirect_functions(
+    words: &mut [u32; 16384],
+    tags: &[u8; 16384],
+    n: usize,
+    original: u32,
+    replacement: u32,
+    omit: &[u32],
+)
+    requires { ⌜ Tape (now words) (now tags) n ⌝ }
+    ensures { λ _. ⌜ Turns (now (words .exit)) (now (words .entry)) (now (tags .entry)) n (turnAll original replacement (now (omit .entry))) ⌝ }
+{
+    let count = wide(words[14]);
+    let mut j = 0;
+    while j < count {
+        let i = j;
+        j += 1;
+        redirect_one(words, tags, n, i, original, replacement, omit);
+    }
+}
+
+// Table functions, and then the section of entry points as a whole: no other of its words has the class of a Call's or a CallResult's function.
+fn redirect_all(
+    words: &mut [u32; 16384],
+    tags: &[u8; 16384],
+    n: usize,
+    original: u32,
+    replacement: u32,
+    omit: &[u32],
+)
+    requires { ⌜ Tape (now words) (now tags) n ⌝ }
+    ensures { λ _. ⌜ Turns (now (words .exit)) (now (words .entry)) (now (tags .entry)) n (redirectedBy original replacement (now (omit .entry))) ⌝ }
+{
+    redirect_functions(words, tags, n, original, replacement, omit);
+    let at = wide(words[17]);
+    let end = wide(words[19]);
+    redirect_fn(words, tags, at, end, original, replacement);
+}
+
+// Calls of the function named `original` become calls of the function named `replacement`, but for those in the replacement and in the functions
+// whose names are omitted; entry points always change.
+pub fn redirect_words(
+    words: &mut [u32; 16384],
+    tags: &[u8; 16384],
+    n: usize,
+    original: u32,
+    replacement: u32,
+    omit: &[u32],
+) -> Redirected
+    requires { ⌜ Tape (now words) (now tags) n ⌝ }
+    ensures { λ r. ⌜ Redirects r (now (words .exit)) (now (words .entry)) (now (tags .entry)) n original replacement (now (omit .entry)) ⌝ }
+{
+    let r = test(words, tags, n, original, replacement, omit);
+    let Redirected::Done(a, b) = r else {
+        return r;
+    };
+    redirect_all(words, tags, n, a.0, b.0, omit);
+    r
+}
