@@ -12,7 +12,9 @@ pub mod Reached
 pub mod Scope
 pub mod Walk
 pub mod Calls
+pub mod Callees
 pub mod Sample
 pub mod SampleBodies
 pub mod ScopeExamples
 pub mod WalkExamples
+pub mod CalleesExamples
