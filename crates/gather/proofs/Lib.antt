@@ -1,0 +1,5 @@
+pub mod Cells
+pub mod Places
+pub mod Marking
+pub mod Same
+pub mod Whole
