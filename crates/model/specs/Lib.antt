@@ -9,6 +9,7 @@ pub mod Taped
 pub mod Operands
 pub mod Initial
 pub mod Reached
+pub mod Numbers
 pub mod Scope
 pub mod Walk
 pub mod Calls
