@@ -3,3 +3,4 @@ pub mod Places
 pub mod Marking
 pub mod Same
 pub mod Whole
+pub mod Numbered
