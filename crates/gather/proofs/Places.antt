@@ -1,8 +1,8 @@
--- Where the record of a table function starts and ends, by the words that the code reads. Assumes nothing.
+-- Where a record starts, and where that of a table function ends, by the words that the code reads. Assumes nothing.
 use mathlib.Core.Path.{_≡_, refl, sym, ap, ap₂, _∙_}
 use mathlib.Core.Bool.{true, false}
 use mathlib.Core.List.{List}
-use Prim.Native.Nat.{ℕ, suc, _+_}
+use Prim.Native.Nat.{ℕ, suc, _+_, _*_}
 use native.Mathlib.Numerals.{add-one}
 use native.Mathlib.Omega.{arith}
 use lib.ListN.{getD}
@@ -10,9 +10,9 @@ use borrow.Author.Tests.{eq-eqb, ne-eqb}
 use Rattle.model.specs.Module.{countAt, offsetAt, endAt}
 use Rattle.model.specs.View.{recordAt, recordEnd}
 
-pub start-is : (ws : List ℕ) (i b x : ℕ) → b ≡ getD ws 15 0 → x ≡ getD ws (b + i) 0 → b + x ≡ recordAt 6 i ws
+pub start-is : (ws : List ℕ) (k i b x : ℕ) → b ≡ getD ws (3 + 2 * k) 0 → x ≡ getD ws (b + i) 0 → b + x ≡ recordAt k i ws
 unfolding recordAt offsetAt
-start-is ws i b x e f = ap₂ _+_ e (f ∙ ap (λ o. getD ws (o + i) 0) e)
+start-is ws k i b x e f = ap₂ _+_ e (f ∙ ap (λ o. getD ws (o + i) 0) e)
 
 -- the last one
 pub end-last : (ws : List ℕ) (i c x : ℕ) → c ≡ getD ws 14 0 → i + 1 ≡ c → x ≡ getD ws 17 0 → x ≡ recordEnd 6 i ws

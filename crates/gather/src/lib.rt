@@ -10,18 +10,18 @@ ghost use Rattle.model.specs.Taped.{Tape};
 ghost use Rattle.calls.specs.Marks.{NoCalls};
 ghost use Rattle.gather.specs.Gathering.{picked, calledBy, Markable, Framed, Known, Marks, Gathered, Listed};
 
-fn wide(x: u32) -> usize
+pub fn wide(x: u32) -> usize
     ensures { λ r. ⌜ (r ≡ x) × (r < 2 ^ 32) ⌝ }
 {
     x as usize
 }
 
-// Where function i starts: at its offset from the start of the functions.
-fn start(words: &[u32; 16384], i: usize) -> usize
-    requires { ⌜ (length (now words) ≡ 16384) × (offsetAt 6 (now words) + i < 16384) ⌝ }
-    ensures { λ r. ⌜ (r ≡ recordAt 6 i (now (words .entry))) × (r < 2 ^ 33) ⌝ }
+// Where record i of section k starts: at its offset from the start of the section.
+pub fn record_at(words: &[u32; 16384], k: usize, i: usize) -> usize
+    requires { ⌜ (length (now words) ≡ 16384) × (k < 8) × (offsetAt k (now words) + i < 16384) ⌝ }
+    ensures { λ r. ⌜ (r ≡ recordAt k i (now (words .entry))) × (r < 2 ^ 33) ⌝ }
 {
-    let base = wide(words[15]);
+    let base = wide(words[3 + 2 * k]);
     base + wide(words[base + i])
 }
 
@@ -33,7 +33,7 @@ fn end(words: &[u32; 16384], i: usize) -> usize
     if i + 1 == wide(words[14]) {
         return wide(words[17]);
     }
-    start(words, i + 1)
+    record_at(words, 6, i + 1)
 }
 
 // Function i calls what the words from `at` to `end` call.
@@ -64,7 +64,7 @@ fn function(words: &[u32; 16384], tags: &[u8; 16384], i: usize, callees: &mut [u
     requires { ⌜ (i < countAt 6 (now words)) × (length (now callees) ≡ 1024) ⌝ }
     ensures { λ _. ⌜ Marks (now (callees .entry)) i (calledBy (now (words .entry)) (now (tags .entry)) i) (now (callees .exit)) ⌝ }
 {
-    let from = start(words, i);
+    let from = record_at(words, 6, i);
     let to = end(words, i);
     scan(words, tags, from, to, i, callees);
 }

@@ -24,15 +24,15 @@ wide-requires-2 c κs = search needs
 returns : tie.Need-returns
 returns c = end-last _ _ _ _ (c .before .before .before .wide .ensures .0) (c .before .before .if1 .taken) (c .wide2 .ensures .0)
 
-add-start : tie.Need-add-start
-add-start c = search needs
+add-record-at : tie.Need-add-record-at
+add-record-at c = search needs
 
-start-requires : tie.Need-start-requires
+record-at-requires : tie.Need-record-at-requires
 unfolding countAt
-start-requires c κs = search needs
+record-at-requires c κs = search needs
 
 returns-2 : tie.Need-returns-2
-returns-2 c = end-next _ _ _ _ (c .before .before .wide .ensures .0) (c .before .if1 .left) (c .start .ensures .0)
+returns-2 c = end-next _ _ _ _ (c .before .before .wide .ensures .0) (c .before .if1 .left) (c .record-at .ensures .0)
 
 pub end-spec : {M : Type 1} → statement M
 end-spec =
@@ -44,6 +44,6 @@ end-spec =
     element-copy-out-wide-2
     wide-requires-2
     returns
-    add-start
-    start-requires
+    add-record-at
+    record-at-requires
     returns-2)
