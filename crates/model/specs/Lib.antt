@@ -9,10 +9,13 @@ pub mod Taped
 pub mod Operands
 pub mod Initial
 pub mod Reached
+pub mod Numbers
 pub mod Scope
 pub mod Walk
 pub mod Calls
+pub mod Callees
 pub mod Sample
 pub mod SampleBodies
 pub mod ScopeExamples
 pub mod WalkExamples
+pub mod CalleesExamples
