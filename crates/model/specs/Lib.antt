@@ -6,6 +6,8 @@ pub mod Carry
 pub mod View
 pub mod Taped
 pub mod Operands
+pub mod Lower
+pub mod Names
 pub mod Initial
 pub mod Reached
 pub mod Scope
@@ -14,3 +16,5 @@ pub mod Sample
 pub mod Samples
 pub mod ScopeExamples
 pub mod WalkExamples
+pub mod LowerExamples
+pub mod NamesExamples
