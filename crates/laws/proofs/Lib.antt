@@ -5,6 +5,7 @@ pub mod Readers
 pub mod Sections
 pub mod Plain
 pub mod Views
+pub mod FunctionViews
 pub mod Tables
 pub mod Modules
 pub mod Examples

@@ -4,6 +4,7 @@ pub mod Tree
 pub mod Module
 pub mod Carry
 pub mod View
+pub mod FunctionView
 pub mod Taped
 pub mod Operands
 pub mod Lower
