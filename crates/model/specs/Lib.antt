@@ -6,6 +6,7 @@ pub mod Carry
 pub mod View
 pub mod FunctionView
 pub mod Taped
+pub mod Between
 pub mod Operands
 pub mod Lower
 pub mod Names
