@@ -2,12 +2,14 @@
 -- The function of an entry point may be unnamed, entry points may share a name, and so may two expressions.
 use mathlib.Core.Bool.{Bool, true, false, _&&_, not}
 use mathlib.Core.List.{List, [], _∷_, map}
-use Prim.Native.Nat.{ℕ}
+use Prim.Native.Nat.{ℕ, _<_}
 use lib.Dec.{eqb}
 use Rattle.model.specs.Outcome.{Cells, class, word}
-use Rattle.model.specs.Table.{NAME, NAMED-EXPR, KEY}
+use Rattle.model.specs.Table.{NAME, NAMED-EXPR, KEY, EXPRESSIONS, limit}
 use Rattle.model.specs.Tree.{Function, Entry}
 use Rattle.model.specs.Module.{Module}
+use Rattle.model.specs.Carry.{Each}
+use Rattle.model.specs.Taped.{Taped}
 
 -- the word of the first field of the class s
 unfoldable pub field : ℕ → Cells → ℕ
@@ -35,14 +37,14 @@ same [] (y ∷ ys) = false
 same (x ∷ xs) [] = false
 same (x ∷ xs) (y ∷ ys) = eqb x y && same xs ys
 
-unfoldable pub unlike : List Cells → Cells → Bool
-unlike [] r = true
-unlike (s ∷ ss) r = not (same (map word r) (map word s)) && unlike ss r
+unfoldable pub unlike : List (List ℕ) → List ℕ → Bool
+unlike [] x = true
+unlike (y ∷ ys) x = not (same x y) && unlike ys x
 
 -- "names are distinct"
-unfoldable pub namesDiffer : List Cells → Bool
-namesDiffer [] = true
-namesDiffer (r ∷ rs) = unlike rs r && namesDiffer rs
+unfoldable pub differ : List (List ℕ) → Bool
+differ [] = true
+differ (x ∷ xs) = unlike xs x && differ xs
 
 -- ---- functions
 -- named expressions: each has a name, and no expression is named twice
@@ -73,7 +75,21 @@ named m =
     && (present (entryNames (m .entries))
     && (functionsNamed (m .functions)
     && (entriesNamed (m .entries)
-    && (namesDiffer (m .names)
+    && (differ (map (map word) (m .names))
     -- "functions have distinct names": names differ, so equal names are equal numbers
     && (distinct (functionNames (m .functions))
     && distinct (map (field KEY) (m .special .pairs)))))))
+
+-- ---- what refusal 3 leaves of the named numbers: each is the number of an expression of its function, so it is below their limit
+abbrev pub Few : Function → Type 0
+Few f = Each (λ r. field NAMED-EXPR r < limit EXPRESSIONS) (f .named)
+
+pub record NumbersFew (m : Module) : Type 0 where
+  pub in-functions : Each Few (m .functions)
+  pub in-entries : Each (λ p. Few (p .function)) (m .entries)
+
+-- words and tape that hold such a module
+pub record Numbered (words tags : List ℕ) (n : ℕ) : Type 0 where
+  pub holds : Module
+  pub taped : Taped words tags n holds
+  pub few : NumbersFew holds

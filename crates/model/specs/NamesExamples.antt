@@ -7,7 +7,7 @@ use Rattle.model.specs.Outcome.{Cells}
 use Rattle.model.specs.Table.{WORD, SPAN, UPTO, NAME, TYPE, NAMED-EXPR, KEY, PAD, TEXT}
 use Rattle.model.specs.Tree.{Function, Entry, end}
 use Rattle.model.specs.Module.{Module}
-use Rattle.model.specs.Names.{field, present, absent, distinct, same, unlike, namesDiffer, expressionsNamed, functionsNamed, entriesNamed, functionNames, entryNames, named}
+use Rattle.model.specs.Names.{field, present, absent, distinct, same, unlike, differ, expressionsNamed, functionsNamed, entriesNamed, functionNames, entryNames, named}
 
 -- names, functions, entry points, pairs of special types
 abbrev holding : List Cells → List Function → List Entry → List Cells → Module
@@ -48,7 +48,7 @@ pub record Tried : Type 0 where
   pub keys-equal : named (holding [] [] [] (pair 7 ∷ pair 8 ∷ pair 7 ∷ [])) ≡ false
 
 tried : Tried
-unfolding field present absent distinct same unlike namesDiffer expressionsNamed functionsNamed entriesNamed functionNames entryNames named
+unfolding field present absent distinct same unlike differ expressionsNamed functionsNamed entriesNamed functionNames entryNames named
 tried = record {
   fine = refl;
   function-unnamed = refl;
