@@ -16,3 +16,4 @@ pub mod Sample
 pub mod Samples
 pub mod ScopeExamples
 pub mod WalkExamples
+pub mod NumbersExamples
