@@ -1,11 +1,11 @@
 -- Refusal 3 by example: a small module that passes, and for each rule one that is turned back by one word.
 use mathlib.Core.Path.{_≡_, refl}
 use mathlib.Core.Bool.{true, false}
-use mathlib.Core.List.{List, [], _∷_}
+use mathlib.Core.List.{[], _∷_}
 use Prim.Native.Nat.{ℕ}
 use Rattle.model.specs.Outcome.{Cells}
-use Rattle.model.specs.Table.{WORD, SPAN, UPTO, NAME, TYPE, OPT-TYPE, CONSTANT, INIT, OPT-INIT, EXPR, NAMED-EXPR, ARGUMENT, LOCAL, KEY, TEXT, TYPE-KIND, binding}
-use Rattle.model.specs.Tree.{end, _then_, call, stmt, kindOf, sizeB, flatAll, flatList, flatX, flatS, flatBlock, flat, flatEntry, wordOf, Block, Range, Function}
+use Rattle.model.specs.Table.{WORD, SPAN, UPTO, NAME, TYPE, OPT-TYPE, INIT, EXPR, ARGUMENT, LOCAL, KEY, TEXT, TYPE-KIND}
+use Rattle.model.specs.Tree.{end, _then_, kindOf, sizeB, flatAll, flatList, flatX, flatS, flatBlock, flat, flatEntry, wordOf, Function}
 use Rattle.model.specs.Module.{Module}
 use Rattle.model.specs.Operands.{optional, operand, opsOf, kind, constantKind}
 use Rattle.model.specs.Initial.{initsOf, roots, mark, unmarked, readBy, close, reachedMarks, constantAt, initialised}

@@ -6,8 +6,8 @@ pub mod range;
 use initial::constant;
 use initial::initialised;
 use range::CODES;
+use range::checked;
 use range::inside;
-use range::ordered;
 use range::outside;
 use range::ranged;
 use range::wide;
@@ -116,10 +116,7 @@ fn function(
     let exprs = locals + 1 + 5 * wide(l);
     let e = words[exprs];
     inside(t, e, a, l);
-    if !ranged(words, tags, t, at, end) {
-        return false;
-    }
-    if !ordered(words, tags, at, end) {
+    if !checked(words, tags, t, at, end) {
         return false;
     }
     initialised(words, tags, locals, exprs, end)
