@@ -1,6 +1,6 @@
 -- Refusal 5 by example, computed: for each rule a module that breaks it, and what the rules allow.
 use mathlib.Core.Path.{_≡_, refl}
-use mathlib.Core.Bool.{Bool, true, false, _&&_, not}
+use mathlib.Core.Bool.{true, false}
 use mathlib.Core.List.{List, [], _∷_}
 use Prim.Native.Nat.{ℕ}
 use Rattle.model.specs.Outcome.{Cells}
