@@ -8,3 +8,4 @@ pub mod Header
 pub mod Sections
 pub mod Whole
 pub mod Laying
+pub mod Held

@@ -6,7 +6,10 @@ pub mod Carry
 pub mod View
 pub mod FunctionView
 pub mod Taped
+pub mod Between
 pub mod Operands
+pub mod Lower
+pub mod Names
 pub mod Initial
 pub mod Reached
 pub mod Numbers
@@ -19,3 +22,5 @@ pub mod SampleBodies
 pub mod ScopeExamples
 pub mod WalkExamples
 pub mod CalleesExamples
+pub mod LowerExamples
+pub mod NamesExamples
