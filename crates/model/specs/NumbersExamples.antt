@@ -9,7 +9,7 @@ use Rattle.model.specs.Tree.{end, _then_, kindOf, sizeB, flatAll, flatLi
 use Rattle.model.specs.Module.{Module}
 use Rattle.model.specs.Operands.{optional, operand, opsOf, kind, constantKind}
 use Rattle.model.specs.Initial.{initsOf, roots, mark, unmarked, readBy, close, reachedMarks, constantAt, initialised}
-use Rattle.model.specs.Samples.{record-of, literal, negate, splat, called, evals, store, local, function}
+use Rattle.model.specs.SampleBodies.{record-of, literal, negate, splat, called, evals, store, local, function}
 use Rattle.model.specs.Numbers.{caps, bound, below, within, rising, ordered, every, outside, inside, sound, constantOnly, numbered}
 
 -- one name, one leaf, one constant whose init is the one global expression, one function
