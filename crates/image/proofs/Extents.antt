@@ -141,7 +141,7 @@ bad-first (laid c) = refl
 bad-first bad = refl
 bad-first strange = refl
 
-after-bad : (b : Bool) → after b bad ≡ bad
+pub after-bad : (b : Bool) → after b bad ≡ bad
 unfolding after
 after-bad true = refl
 after-bad false = refl

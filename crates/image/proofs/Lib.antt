@@ -5,3 +5,7 @@ pub mod Rows
 pub mod Steps
 pub mod Extents
 pub mod Header
+pub mod Sections
+pub mod Whole
+pub mod Laying
+pub mod Held

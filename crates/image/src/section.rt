@@ -1,8 +1,15 @@
 // Laying out the header and the sections: each record has its extent, and each section its place.
-use crate::record::{fill, place, row, times, wide, Walked};
-use crate::table::{PAIR_ROW, RAYS_ROW, RECORDS};
+use crate::record::Walked;
+use crate::record::fill;
+use crate::record::place;
+use crate::record::row;
+use crate::record::times;
+use crate::record::wide;
+use crate::table::PAIR_ROW;
+use crate::table::RAYS_ROW;
+use crate::table::RECORDS;
 ghost use mathlib.Core.Path.{_≡_};
-ghost use mathlib.Core.Bool.{Bool};
+ghost use mathlib.Core.Bool.{true};
 ghost use Prim.Native.Nat.{_+_, _-_, _*_, _^_, _≤_, _<_};
 ghost use lib.ListN.{length, take, getD};
 ghost use lib.Seq.{slice};
@@ -144,7 +151,14 @@ fn section(
 }
 
 // The special types: three optional types, and then pairs.
-fn special(words: &[u32], tags: &mut [u8; 16384], table: &[u16], base: usize, stop: usize, count: u32) -> Held
+fn special(
+    words: &[u32],
+    tags: &mut [u8; 16384],
+    table: &[u16],
+    base: usize,
+    stop: usize,
+    count: u32,
+) -> Held
     requires { ⌜ base ≤ stop ⌝ }
     requires { ⌜ stop ≤ length (now words) ⌝ }
     requires { ⌜ stop ≤ 16384 ⌝ }
@@ -228,4 +242,45 @@ pub fn placed(words: &[u32], total: usize) -> bool
         }
     }
     true
+}
+
+// The eight tables, where the sections are in place, and then the special types.
+pub fn sections(words: &[u32], tags: &mut [u8; 16384], table: &[u16], total: usize) -> Held
+    requires { ⌜ 20 ≤ total ⌝ }
+    requires { ⌜ total ≤ length (now words) ⌝ }
+    requires { ⌜ total ≤ 16384 ⌝ }
+    requires { ⌜ now table ≡ numbers ⌝ }
+    requires { ⌜ placedOf limits 0 20 (take total (now words)) ≡ true ⌝ }
+    ensures { λ r. ⌜ Covers r (now (tags .exit)) (now (tags .entry)) 20 (sectionsFrom tableRows 0 (take total (now (words .entry)))) ⌝ }
+{
+    let mut k = 0;
+    let mut odd = false;
+    while k < 8 {
+        let j = k;
+        k += 1;
+        let base = wide(words[3 + 2 * j]);
+        let stop = wide(words[5 + 2 * j]);
+        let pc = place(table[RECORDS + j]);
+        let r = section(words, tags, table, base, stop, words[2 + 2 * j], pc);
+        match r {
+            Held::Fits => {}
+            Held::Strange => {
+                odd = true;
+            }
+            Held::Bad => {
+                return Held::Bad;
+            }
+        }
+    }
+    let r = special(words, tags, table, wide(words[19]), total, words[18]);
+    match r {
+        Held::Fits => {
+            if odd {
+                return Held::Strange;
+            }
+            Held::Fits
+        }
+        Held::Strange => Held::Strange,
+        Held::Bad => Held::Bad,
+    }
 }
