@@ -12,6 +12,7 @@ use Rattle.model.specs.Tree.{Block, call, end, _then_, Range, Function, 
 use Rattle.model.specs.Module.{Module}
 use Rattle.model.specs.Carry.{carryCell, carryOpt, carryRange, carryS, carryFunction, carryEntry}
 use Rattle.model.specs.Calls.{Order, ordered, ring, numbers, any, keep, free, held, Rounds, round, rounds, answer, order}
+use Rattle.model.specs.Callees.{calleesS, calleesAt, calls, orderOf}
 use Rattle.model.specs.SampleBodies.{does, called}
 use Rattle.model.specs.Redirect.{nameWord, find, omitted, allBelow, argumentTypes, agree, typeBehind, resultType, same, redirecting, redirectFn, redirectEntry, stays, redirectFns, withFunctions, withEntries, redirect, Answer, redirected, outside, noOriginal, noReplacement, argumentsDiffer, resultsDiffer, refusal, after, nothing, function, compared, withReplacement, withOriginal, redirectFunction}
 
@@ -58,17 +59,6 @@ shades = plain 0 (to 2) ∷ plain 1 end ∷ plain 2 (to 1) ∷ []
 abbrev P6 : Module
 P6 = holding shades []
 
--- "Call statements, reached or not": the callees that stand in a function's cells
-unfoldable pub callsIn : Cells → ℕ → Bool
-callsIn [] j = false
-callsIn (c ∷ cs) j = (eqb (class c) CALLEE && eqb (word c) j) || callsIn cs j
-
-unfoldable pub calling : Module → ℕ → ℕ → Bool
-calling m i j = callsIn (flat (function m i)) j
-
-unfoldable pub ordering : Module → Order
-ordering m = order (length (m .functions)) (calling m)
-
 -- a function that calls tone (1) for a value, and one that calls fog for it
 abbrev valued : ℕ → ℕ → Function
 valued name f = made name [] (result-of 0) (called f ∷ []) (does (call f [] (some 0)) then end)
@@ -76,10 +66,10 @@ valued name f = made name [] (result-of 0) (called f ∷ []) (does (call f [] (s
 pub record Redirects : Type 0 where
   -- "P7 P6 with fog replaced by tone: tone, shade, fog"
   pub P7 : redirectFunction P6 2 1 [] ≡ redirected 2 1 (holding (plain 0 (to 1) ∷ plain 1 end ∷ plain 2 (to 1) ∷ []) [])
-  pub P7-order : ordering (after P6 (redirectFunction P6 2 1 [])) ≡ ordered (1 ∷ 0 ∷ 2 ∷ [])
+  pub P7-order : orderOf (after P6 (redirectFunction P6 2 1 [])) ≡ ordered (1 ∷ 0 ∷ 2 ∷ [])
   -- "P8 P6 with tone replaced by shade: 12, left 2"
   pub P8 : redirectFunction P6 1 0 [] ≡ redirected 1 0 (holding (plain 0 (to 2) ∷ plain 1 end ∷ plain 2 (to 0) ∷ []) [])
-  pub P8-order : ordering (after P6 (redirectFunction P6 1 0 [])) ≡ ring 2
+  pub P8-order : orderOf (after P6 (redirectFunction P6 1 0 [])) ≡ ring 2
   -- a function replaced by itself
   pub itself : redirectFunction P6 2 2 [] ≡ redirected 2 2 P6
   -- an omitted function stays; a name that no function has may be omitted
@@ -106,7 +96,7 @@ pub record Redirects : Type 0 where
   pub some-some : refusal (redirectFunction (holding (made 0 [] (result-of 1) [] end ∷ made 1 [] (result-of 0) [] end ∷ []) []) 0 1 []) ≡ 11
 
 pub redirects : Redirects
-unfolding optOf wordOf kindOf sizeB sizeC flatAll flatList flatX flatS flatBlock flat carryCell carryOpt carryRange carryS carryFunction carryEntry numbers any keep free held round rounds answer order nameWord find omitted allBelow argumentTypes agree typeBehind resultType same redirecting redirectFn redirectEntry stays redirectFns withFunctions withEntries redirect refusal after nothing function compared withReplacement withOriginal redirectFunction callsIn calling ordering
+unfolding optOf wordOf kindOf sizeB sizeC flatAll flatList flatX flatS flatBlock flat carryCell carryOpt carryRange carryS carryFunction carryEntry numbers any keep free held round rounds answer order calleesS calleesAt calls orderOf nameWord find omitted allBelow argumentTypes agree typeBehind resultType same redirecting redirectFn redirectEntry stays redirectFns withFunctions withEntries redirect refusal after nothing function compared withReplacement withOriginal redirectFunction
 redirects = record {
   P7 = refl;
   P7-order = refl;

@@ -106,6 +106,17 @@ pub entries-long : (m : Module) → length (entries-before m) ≡ offsetAt 7 (wr
 unfolding entries-before
 entries-long m = before-long m 7 (omega arith)
 
+-- ---- table functions
+pub functions-before : Module → Cells
+functions-before m = before m 6
+
+pub functions-behind : Module → Cells
+functions-behind m = behind m 6
+
+pub functions-in : (m : Module) (fs : List Function) → length fs ≡ length (m .functions) → length (flatTable (map flat fs)) ≡ length (flatTable (map flat (m .functions))) → flatModule (withFunctions m fs) ≡ functions-before m ++ (flatTable (map flat fs) ++ functions-behind m)
+unfolding flatModule withFunctions sections headOf functions-before functions-behind
+functions-in m fs d e = section-in m 6 (omega arith) (length fs, flatTable (map flat fs)) d e
+
 -- ---- a function
 map-set : {A B : Type 0} (g : A → B) (l : List A) (k : ℕ) (x : A) → map g (set l k x) ≡ set (map g l) k (g x)
 map-set g [] k x = refl

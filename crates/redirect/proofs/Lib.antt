@@ -6,3 +6,8 @@ pub mod Finding
 pub mod Testing
 pub mod Turning
 pub mod Ending
+pub mod Differing
+pub mod Kept
+pub mod Scoping
+pub mod Numbering
+pub mod Theorems
