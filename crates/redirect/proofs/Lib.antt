@@ -11,3 +11,4 @@ pub mod Kept
 pub mod Scoping
 pub mod Numbering
 pub mod Theorems
+pub mod Storing

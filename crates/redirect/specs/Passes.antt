@@ -10,6 +10,7 @@ use Rattle.model.specs.Tree.{Function}
 use Rattle.model.specs.Module.{Module, countAt, write}
 use Rattle.model.specs.Taped.{Taped}
 use Rattle.model.specs.Redirect.{nameWord, find, argumentTypes, agree, resultType, same as sameType, redirectFn, stays, redirectFns, withFunctions, redirect, Answer, redirected, outside, noOriginal, noReplacement, argumentsDiffer, resultsDiffer, after, nothing, function, compared, redirectFunction}
+use Rattle.words.specs.Words.{bytesOf}
 use Rattle.redirect.specs.declared.Found.{Found}
 use Rattle.redirect.specs.declared.Found.the-variants.{At, Nothing}
 use Rattle.redirect.specs.declared.Redirected.{Redirected}
@@ -80,3 +81,8 @@ redirectedBy a b omit m = redirect m a b omit
 pub record Redirects (r : Redirected) (words₁ words tags : List ℕ) (n original replacement : ℕ) (omit : List ℕ) : Type 0 where
   pub answer : (m : Module) → Taped words tags n m → shown r ≡ told (redirectFunction m original replacement omit)
   pub words-are : (m : Module) → Taped words tags n m → words₁ ≡ sets words 0 (write (after m (redirectFunction m original replacement omit)))
+
+-- the bytes of the image are those of the module that the answer leaves
+pub record Stores (r : Redirected) (image words tags : List ℕ) (n original replacement : ℕ) (omit : List ℕ) : Type 0 where
+  pub answer : (m : Module) → Taped words tags n m → shown r ≡ told (redirectFunction m original replacement omit)
+  pub bytes-are : (m : Module) → Taped words tags n m → image ≡ bytesOf (write (after m (redirectFunction m original replacement omit)))

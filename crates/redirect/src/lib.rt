@@ -2,18 +2,20 @@
 // their argument and result types are compared, and the numbers of Calls and CallResults that name the original name the replacement.
 // The tests read and change nothing; the pass after them goes once over the functions and the entry points.
 use calls::FunctionHandle;
+use words::store;
 ghost use mathlib.Core.Path.{_≡_};
 ghost use mathlib.Core.List.{_∷_, zipWith};
 ghost use Prim.Native.Nat.{suc, _^_, _≤_, _<_};
 ghost use lib.Dec.{eqb};
-ghost use lib.ListN.{length, getD};
+ghost use lib.ListN.{length, take};
 ghost use lib.Seq.{slice, sets};
 ghost use Rattle.model.specs.Module.{countAt};
 ghost use Rattle.model.specs.View.{recordAt, recordEnd};
 ghost use Rattle.model.specs.FunctionView.{returnsAt};
 ghost use Rattle.model.specs.Taped.{Tape};
 ghost use Rattle.model.specs.Redirect.{omitted as omittedOf, allBelow, redirecting, stays as staysOf};
-ghost use Rattle.redirect.specs.Passes.{Finds, Agrees, Returns, Compares, Tests, Turns, turnOne, turnAll, redirectedBy, Redirects};
+ghost use Rattle.redirect.specs.Passes.{Finds, Agrees, Returns, Compares, Tests, Turns, turnOne, turnAll, redirectedBy, Redirects, Stores};
+ghost use Rattle.words.specs.Words.{bytesOf};
 
 // The table function with a name, or none.
 pub enum Found {
@@ -354,5 +356,27 @@ pub fn redirect_words(
         return r;
     };
     redirect_all(words, tags, n, a.0, b.0, omit);
+    r
+}
+
+// The same of an image whose words are loaded and laid out: where it is accepted, the words go back to its bytes.
+pub fn redirect_loaded(
+    image: &mut [u8],
+    words: &mut [u32; 16384],
+    tags: &[u8; 16384],
+    n: usize,
+    original: u32,
+    replacement: u32,
+    omit: &[u32],
+) -> Redirected
+    requires { ⌜ Tape (now words) (now tags) n ⌝ }
+    requires { ⌜ now image ≡ bytesOf (take n (now words)) ⌝ }
+    ensures { λ r. ⌜ Stores r (now (image .exit)) (now (words .entry)) (now (tags .entry)) n original replacement (now (omit .entry)) ⌝ }
+{
+    let r = redirect_words(words, tags, n, original, replacement, omit);
+    let Redirected::Done(_, _) = r else {
+        return r;
+    };
+    store(words, n, image);
     r
 }
