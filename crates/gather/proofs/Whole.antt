@@ -83,7 +83,7 @@ again {words} {tags} {callees} {after} {i} g h m =
     }
 
 -- ---- the module
-found : {A : Type 0} (l : List A) (i : ℕ) → i < length l → (x : A) × (getElem? l i ≡ some x)
+pub found : {A : Type 0} (l : List A) (i : ℕ) → i < length l → (x : A) × (getElem? l i ≡ some x)
 found [] i h = absurd (omega arith)
 found (x ∷ l) zero h = (x, refl)
 found (x ∷ l) (suc i) h = found l i (omega arith)
@@ -93,7 +93,7 @@ missed [] i h = refl
 missed (x ∷ l) zero h = absurd (omega arith)
 missed (x ∷ l) (suc i) h = missed l i (omega arith)
 
-each-found : {A : Type 0} {P : A → Type 0} {l : List A} → Each P l → (i : ℕ) {x : A} → getElem? l i ≡ some x → P x
+pub each-found : {A : Type 0} {P : A → Type 0} {l : List A} → Each P l → (i : ℕ) {x : A} → getElem? l i ≡ some x → P x
 each-found each-none i e = let z : _≡_ {A = ℕ} 0 1 = cc in absurd (omega arith)
 each-found {P} (each-next {a} p ps) zero {x} e = let q : a ≡ x = cc in rw q at p
 each-found (each-next p ps) (suc i) e = each-found ps i e
@@ -102,7 +102,7 @@ wider : {a b : ℕ} → a ≤ b → {l : List ℕ} → Each (λ j. j < a) l → 
 wider h each-none = each-none
 wider h (each-next {a = x} p ps) = each-next {a = x} (omega arith) (wider h ps)
 
-table-least : (rs : List Cells) → length rs ≤ length (flatTable rs)
+pub table-least : (rs : List Cells) → length rs ≤ length (flatTable rs)
 unfolding flatTable
 table-least rs = omega (arith, length-append (places (length rs) rs) (flatAll rs), length-places rs (length rs))
 
@@ -126,10 +126,10 @@ module _ {words tags : List ℕ} {n : ℕ} {m : Module} (t : Taped words tags n 
       go true e = ap (λ x. among x l) (called-at i (ltb-true i (countAt 6 words) e))
       go false e = sym (ap (λ x. among (calleesAt x) l) (missed (m .functions) i (omega (arith, taped-functions t, ltb-false i (countAt 6 words) e))))
 
-  few : countAt 6 words ≤ 256
+  pub few : countAt 6 words ≤ 256
   few = omega (arith, taped-functions t, t .well .functions-ok .few)
 
-  offsets : offsetAt 6 words + countAt 6 words ≤ 16384
+  pub offsets : offsetAt 6 words + countAt 6 words ≤ 16384
   unfolding sections
   offsets =
       omega (arith, taped-offset t 6 (omega arith), taped-functions t, view-length m 6 (omega arith), table-least (map flat (m .functions)), length-map (m .functions) flat, view-within m 6 (omega arith), taped-write t, t .small)

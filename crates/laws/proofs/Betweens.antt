@@ -1,7 +1,7 @@
 -- The cells between two places of words and tape: one by one, and where words and tape hold a module, those of its sections and records.
-use mathlib.Core.Path.{_≡_, refl, sym, ap, ap₂, _∙_}
+use mathlib.Core.Path.{_≡_, refl, ap, ap₂, _∙_}
 use mathlib.Core.List.{List, [], _∷_, map}
-use Prim.Native.Nat.{ℕ, suc, _+_, _≤_, _<_}
+use Prim.Native.Nat.{ℕ, suc, _+_, _*_, _≤_, _<_}
 use native.Mathlib.Omega.{arith}
 use lib.ListN.{length, getD, take, drop-of-length-le, length-take, length-append}
 use lib.Seq.{slice, slice-cons}
@@ -47,6 +47,11 @@ module _ {words tags : List ℕ} {n : ℕ} {m : Module} (t : Taped words tags n 
       let v = section-part k h in
       let l : offsetAt (suc k) words ≤ n = omega (arith, v .within, taped-length t) in
       record { rising = v .rising; small = omega (arith, t .small); in-words = omega (arith, t .small, t .words-long); in-tags = omega (arith, t .small, t .tags-long) }
+
+  -- by the words of the header
+  pub header-stretch : (k a e : ℕ) → k < 8 → a ≡ getD words (3 + 2 * k) 0 → e ≡ getD words (3 + 2 * suc k) 0 → Stretch words tags a e
+  unfolding offsetAt
+  header-stretch k a e h p q = rw (p, q) (section-stretch k h)
 
   pub section-between : (k : ℕ) → k < 8 → between tags words (offsetAt k words) (offsetAt (suc k) words) ≡ sectionOf m k .1
   section-between k h = part-between (section-part k h)

@@ -1,5 +1,5 @@
 -- Which classes stand where: behind the kind of a type, in the head, the arguments, the result, the locals and the body of a function there is no kind of a type or an expression, and nothing of the named expressions. What a flat pass asks of the cells that it goes over.
-use mathlib.Core.Path.{_≡_, refl, sym, ap, _∙_}
+use mathlib.Core.Path.{_≡_, refl}
 use mathlib.Core.Bool.{Bool, true, false, _&&_, _||_, not}
 use mathlib.Core.Option.{Option, none, some}
 use mathlib.Core.List.{List, [], _∷_, _++_, map, append-nil}
@@ -7,11 +7,11 @@ use Prim.Native.Nat.{ℕ, zero, suc, _+_}
 use native.Mathlib.Omega.{arith}
 use lib.Dec.{eqb, ltb, leb}
 use lib.ListN.{length, getElem?}
-use borrow.Author.Tests.{eqb-true, eqb-false, ltb-true, ne-eqb, not-true}
+use borrow.Author.Tests.{eqb-true, ltb-true, ne-eqb, not-true}
 use Rattle.model.specs.Outcome.{Cell, Cells, class}
-use Rattle.model.specs.Table.{Row, SPAN, UPTO, NAME, CALLEE, EXPR, OPT-EXPR, FROM, TO, OPT-RESULT, NAMED-EXPR, PAD, OPERANDS, MEMBERS, ARGUMENTS, LOCALS, NAMED, TYPE-KIND, EXPR-KIND, VALUE, ATOMIC, RETURNS, BLOCK, CASES, LENGTH, STMT-KIND, Shape, sEmit, sBlock, sIf, sSwitch, sLoop, sBreak, sContinue, sReturn, sKill, sCall, sEffect, types, values, atomics, results, statements, typeRow, functionHead, entryHead, counted, limit, variants, brings, over, repeat, variant, more}
-use Rattle.model.specs.Tree.{Stmt, Form, Block, Cases, Case, stmt, emit, block, branch, switch, loop, break, continue, return, kill, call, effect, end, _then_, nomore, _also_, case, Range, Function, Entry, flatAll, flatList, flatX, flatS, flatF, flatB, flatK, flatC, flatBlock}
-use Rattle.model.specs.Carry.{Lays, lays-none, lays-next, Each, each-none, each-next, Listed, OkS, OkF, OkB, OkBs, OkK, OkC, ok-stmt, ok-emit, ok-block, ok-branch, ok-switch, ok-loop, ok-break, ok-continue, ok-return, ok-kill, ok-call, ok-effect, ok-deeper, ok-end, ok-then, ok-case, ok-nomore, ok-also, WellFunction, WellEntry}
+use Rattle.model.specs.Table.{Row, SPAN, UPTO, NAME, EXPR, NAMED-EXPR, PAD, MEMBERS, ARGUMENTS, LOCALS, NAMED, TYPE-KIND, EXPR-KIND, VALUE, ATOMIC, RETURNS, Shape, sEmit, sBlock, sIf, sSwitch, sLoop, sBreak, sContinue, sReturn, sKill, sCall, sEffect, types, values, atomics, results, statements, typeRow, functionHead, entryHead, counted, limit, variants, brings, over, repeat, variant, more}
+use Rattle.model.specs.Tree.{Stmt, Form, Block, Cases, Case, Range, Function, Entry, flatAll, flatList, flatX, flatS, flatF, flatB, flatK, flatC, flatBlock}
+use Rattle.model.specs.Carry.{Lays, lays-none, lays-next, Each, each-none, each-next, OkS, OkF, OkB, OkBs, OkK, OkC, ok-stmt, ok-emit, ok-block, ok-branch, ok-switch, ok-loop, ok-break, ok-continue, ok-return, ok-kill, ok-call, ok-effect, ok-deeper, ok-end, ok-then, ok-case, ok-nomore, ok-also, WellFunction, WellEntry}
 use Rattle.model.specs.Module.{places}
 use Rattle.laws.proofs.Lists.{and-true, and-split}
 use Rattle.laws.proofs.Plain.{plain?, plain-more}

@@ -1,8 +1,8 @@
 -- What the passes of an image say together: the test of refusal 4, for the module that words and tape hold.
-use mathlib.Core.Path.{_≡_, refl, sym, ap, ap₂, _∙_}
-use mathlib.Core.Bool.{Bool, true, false, _&&_, not}
-use mathlib.Core.List.{List, [], _∷_, map}
-use Prim.Native.Nat.{ℕ, zero, suc, _+_, _*_, _≤_, _<_}
+use mathlib.Core.Path.{_≡_, refl, sym, ap, _∙_}
+use mathlib.Core.Bool.{Bool, true, false, not}
+use mathlib.Core.List.{List, [], _∷_}
+use Prim.Native.Nat.{ℕ, zero, suc, _+_, _≤_, _<_}
 use native.Mathlib.Omega.{arith}
 use lib.Dec.{ltb, leb, leb·zero, leb·suc-suc}
 use lib.ListN.{length, getD, List·getD-eq-default}
@@ -10,17 +10,18 @@ use borrow.Author.Tests.{leb-true, leb-false, not-true, not-false}
 use Rattle.model.specs.Outcome.{Cells, word}
 use Rattle.model.specs.Table.{SPAN, UPTO, NAME, TYPE, INIT, OPT-INIT, WORD, constantRow, overrideRow}
 use Rattle.model.specs.Module.{Module, countAt, offsetAt}
-use Rattle.model.specs.View.{tables, recordAt}
+use Rattle.model.specs.View.{tables}
 use Rattle.model.specs.Taped.{Tape, Taped}
-use Rattle.model.specs.Between.{between, Stretch}
+use Rattle.model.specs.Between.{between}
 use Rattle.model.specs.Operands.{optional}
 use Rattle.model.specs.Lower.{below, typesLower, operandsLower, functionsLower, entriesLower, initOf, initsLower, lower}
+use Rattle.laws.proofs.Lists.{and-right}
 use Rattle.laws.proofs.Plain.{plain?}
 use Rattle.laws.proofs.Quiet.{Plainly, plain-none, plain-next, plainly}
-use Rattle.laws.proofs.FunctionViews.{each-at, Part, part-end, part-word, taped-held, taped-length}
-use Rattle.laws.proofs.Betweens.{section-stretch, table-between, table-count, record-offset, record-part}
+use Rattle.laws.proofs.FunctionViews.{each-at, part-end, part-word, taped-held, taped-length}
+use Rattle.laws.proofs.Betweens.{table-between, table-count, record-offset, record-part}
 use Rattle.lower.specs.Passes.{pass, typeNext, typeOk, exprNext, exprOk, wordAt, initOk, Reaches}
-use Rattle.lower.proofs.Sections.{and-right, types-are, exprs-are, functions-are, entries-are, inits-are}
+use Rattle.lower.proofs.Sections.{types-are, exprs-are, functions-are, entries-are, inits-are}
 
 -- the init is word 4 of a constant, and word 5 of an override
 pub record Held (d : ℕ) (r : Cells) (inits : List ℕ) : Type 0 where
@@ -120,13 +121,8 @@ module _ {words tags : List ℕ} {n : ℕ} {m : Module} (t : Taped words tags n 
   entries-answer a e p q = rw (p, q) (ap (λ cs. pass cs exprNext exprOk 0) (table-between t 7 (omega arith)) ∙ entries-are (t .well .entries-ok .each))
 
 -- ---- what the code asks of the tape
-module _ {words tags : List ℕ} {n : ℕ} (t : Tape words tags n) where
-  pub stretch : (k a e : ℕ) → k < 8 → a ≡ getD words (3 + 2 * k) 0 → e ≡ getD words (3 + 2 * suc k) 0 → Stretch words tags a e
-  unfolding offsetAt
-  stretch k a e h p q = rw (p, q) (section-stretch (t .taped) k h)
-
-  pub reach : Reaches words 2 4 × Reaches words 3 5
-  reach = both-reach (t .taped)
+pub reach : {words tags : List ℕ} {n : ℕ} → Tape words tags n → Reaches words 2 4 × Reaches words 3 5
+reach t = both-reach (t .taped)
 
 -- ---- the returns: the first test that fails, or the last
 module _ (m : Module) (a : Bool) (types : a ≡ typesLower (m .types) 0) where

@@ -3,26 +3,21 @@ use mathlib.Core.Path.{_≡_, refl, sym, ap, ap₂, _∙_}
 use mathlib.Core.Bool.{Bool, true, false, _&&_}
 use mathlib.Core.List.{List, [], _∷_, _++_, map}
 use Prim.Native.Nat.{ℕ, zero, suc, _+_}
-use native.Mathlib.Nat.{add-zero, add-suc}
-use native.Mathlib.Omega.{arith}
 use lib.Dec.{eqb, ltb, leb, leb·zero, leb·suc-suc, eqb·suc-zero}
 use lib.ListN.{length, getD}
 use Rattle.model.specs.Outcome.{Cell, Cells, class, word}
-use Rattle.model.specs.Table.{NAME, TYPE, CONSTANT, OVERRIDE, EXPR, OPT-EXPR, NAMED-EXPR, PLACE, EXPRESSIONS, NAMED, TYPE-KIND, EXPR-KIND, typeRow, expressionRow, counted}
+use Rattle.model.specs.Table.{NAME, TYPE, CONSTANT, OVERRIDE, EXPR, OPT-EXPR, NAMED-EXPR, PLACE, EXPRESSIONS, NAMED, EXPR-KIND, typeRow, expressionRow, counted}
 use Rattle.model.specs.Tree.{Function, Entry, flat, flatEntry, flatAll, flatList, flatBlock}
 use Rattle.model.specs.Module.{countAt, places, flatTable}
 use Rattle.model.specs.Carry.{Lays, Each, each-none, each-next, WellFunction, WellEntry}
 use Rattle.model.specs.Operands.{optional, operand, opsOf}
 use Rattle.model.specs.Lower.{below, basesOf, typesLower, operandsLower, functionsLower, entriesLower, initOf, initsOf, initsLower}
+use Rattle.laws.proofs.Lists.{and-assoc, and-right}
 use Rattle.laws.proofs.FunctionViews.{Field, field?, field-not, Expression, expression, expression-shape}
-use Rattle.laws.proofs.Quiet.{each-append, each-map, Quiet, quiet-named, quiet-type-kind, quiet-expr-kind, Typed, typed, type-shape, before, before-quiet, body-quiet, entry-quiet, Plainly, plain-none, plain-next, named-shape}
+use Rattle.laws.proofs.Quiet.{each-append, each-map, Quiet, quiet-type-kind, quiet-expr-kind, Typed, typed, type-shape, before, before-quiet, body-quiet, entry-quiet, Plainly, plain-none, plain-next, named-shape}
 use Rattle.lower.specs.Passes.{pass, typeNext, typeOk, exprNext, exprOk, wordAt, initOk}
 
 -- ---- runs of cells one behind the other
-and-assoc : (a b c : Bool) → (a && b) && c ≡ a && (b && c)
-and-assoc true b c = refl
-and-assoc false b c = refl
-
 module _ (next : ℕ → ℕ → ℕ) where
   -- the count behind the cells
   unfoldable pub count : Cells → ℕ → ℕ
@@ -178,10 +173,6 @@ named-kindless (each-next l ls) = each-append (one (named-shape l)) (named-kindl
   where
     one : {r : Cells} → Plainly (NAMED-EXPR ∷ NAME ∷ []) r → Each Kindless r
     one (plain-next (plain-next plain-none)) = each-next (record { kindless = refl }) (each-next (record { kindless = refl }) each-none)
-
-pub and-right : (a : Bool) → a && true ≡ a
-and-right true = refl
-and-right false = refl
 
 -- the expressions behind their count, and the named ones behind theirs
 list-pass : {xs : List Cells} → Each (Lays (counted EXPRESSIONS)) xs → pass (flatList EXPRESSIONS xs) exprNext exprOk 0 ≡ operandsLower xs 0

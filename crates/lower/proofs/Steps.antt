@@ -1,14 +1,13 @@
 -- The steps of the passes: one lemma for each return and each turn of a loop.
-use mathlib.Core.Path.{_≡_, refl, sym, ap, ap₂, _∙_}
+use mathlib.Core.Path.{_≡_, refl, sym, ap, _∙_}
 use mathlib.Core.Bool.{Bool, true, false, _&&_, not}
-use mathlib.Core.List.{List, [], _∷_}
+use mathlib.Core.List.{List}
 use Prim.Native.Nat.{ℕ, suc, _+_, _*_, _≤_, _<_}
 use native.Mathlib.Numerals.{add-one}
 use native.Mathlib.Omega.{arith}
-use lib.Dec.{eqb, ltb, leb}
-use lib.ListN.{length, getD}
+use lib.Dec.{eqb, ltb}
+use lib.ListN.{getD}
 use borrow.Author.Tests.{eq-eqb, ne-eqb, le-leb, lt-leb, not-true, not-false}
-use Rattle.model.specs.Outcome.{Cells}
 use Rattle.model.specs.Table.{TYPE, CONSTANT, OVERRIDE, EXPR, OPT-EXPR, NAMED, TYPE-KIND, EXPR-KIND}
 use Rattle.model.specs.Module.{countAt, offsetAt}
 use Rattle.model.specs.View.{recordAt}

@@ -1,5 +1,4 @@
 -- The flat passes of refusal 4. A pass goes over cells with a count of the records that have begun: what is being read is record `count - 1`, so a number w is lower where w + 1 < count, and an optional number w (0 for none, else the number plus 1) where w < count.
-use mathlib.Core.Path.{_≡_}
 use mathlib.Core.Bool.{Bool, true, false, _&&_}
 use mathlib.Core.List.{List, [], _∷_}
 use Prim.Native.Nat.{ℕ, suc, _+_, _<_}

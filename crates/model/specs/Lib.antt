@@ -25,3 +25,4 @@ pub mod WalkExamples
 pub mod CalleesExamples
 pub mod LowerExamples
 pub mod NamesExamples
+pub mod NumbersExamples

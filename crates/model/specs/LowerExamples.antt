@@ -1,6 +1,6 @@
 -- Refusal 4 by example, computed: for each rule a module that keeps it and one that does not, which differ in one number.
 use mathlib.Core.Path.{_≡_, refl}
-use mathlib.Core.Bool.{Bool, true, false, _&&_}
+use mathlib.Core.Bool.{true, false}
 use mathlib.Core.List.{List, [], _∷_}
 use Prim.Native.Nat.{ℕ}
 use Rattle.model.specs.Outcome.{Cells}

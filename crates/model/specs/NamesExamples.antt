@@ -1,13 +1,16 @@
 -- Refusal 5 by example, computed: for each rule a module that breaks it, and what the rules allow.
 use mathlib.Core.Path.{_≡_, refl}
-use mathlib.Core.Bool.{Bool, true, false, _&&_, not}
+use mathlib.Core.Bool.{true, false}
 use mathlib.Core.List.{List, [], _∷_}
 use Prim.Native.Nat.{ℕ}
+use lib.Dec.{lit<}
 use Rattle.model.specs.Outcome.{Cells}
-use Rattle.model.specs.Table.{WORD, SPAN, UPTO, NAME, TYPE, NAMED-EXPR, KEY, PAD, TEXT}
+use Rattle.model.specs.Table.{WORD, SPAN, UPTO, NAME, TYPE, NAMED-EXPR, KEY, PAD, TEXT, limit}
 use Rattle.model.specs.Tree.{Function, Entry, end}
 use Rattle.model.specs.Module.{Module}
-use Rattle.model.specs.Names.{field, present, absent, distinct, same, unlike, differ, expressionsNamed, functionsNamed, entriesNamed, functionNames, entryNames, named}
+use Rattle.model.specs.Carry.{each-none, each-next}
+use Rattle.model.specs.Names.{field, present, absent, distinct, same, unlike, differ, expressionsNamed, functionsNamed, entriesNamed, functionNames, entryNames, named, NumbersFew}
+use Rattle.model.specs.Sample.{sample, function as sampled}
 
 -- names, functions, entry points, pairs of special types
 abbrev holding : List Cells → List Function → List Entry → List Cells → Module
@@ -61,3 +64,8 @@ tried = record {
   entry-named-twice = refl;
   keys-equal = refl;
 }
+
+-- a module whose named numbers are few
+sample-few : NumbersFew sample
+unfolding sample sampled field limit
+sample-few = record { in-functions = each-next (each-next (lit< tt) each-none) each-none; in-entries = each-next (each-next (lit< tt) each-none) each-none }

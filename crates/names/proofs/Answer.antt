@@ -1,30 +1,28 @@
 -- What the passes of an image say together: the test of refusal 5, for the module that words and tape hold.
 use mathlib.Core.Path.{_≡_, refl, sym, ap, ap₂, _∙_, subst}
-use mathlib.Core.Bool.{Bool, true, false, _&&_, not}
+use mathlib.Core.Bool.{Bool, true, false, not}
 use mathlib.Core.List.{List, [], _∷_, map}
 use mathlib.Core.Option.{some}
-use Prim.Native.Nat.{ℕ, zero, suc, _+_, _*_, _≤_, _<_}
-use native.Mathlib.Nat.{add-zero}
+use Prim.Native.Nat.{ℕ, zero, suc, _+_, _*_, _<_}
 use native.Mathlib.Omega.{arith}
-use lib.Dec.{eqb}
-use lib.ListN.{length, getD, getElem?, take, length-take, length-drop, length-map}
+use lib.ListN.{length, getD, getElem?, take, length-take, length-drop}
 use lib.Seq.{slice}
 use borrow.Author.Tests.{ne-eqb, not-true, not-false}
 use Rattle.model.specs.Outcome.{Cells, word, laid}
-use Rattle.model.specs.Table.{Row, SPAN, UPTO, NAME, TYPE, WORD, KEY, TEXT, nameRow, functionHead, entryHead}
-use Rattle.model.specs.Tree.{Function, Entry, flat, flatEntry}
-use Rattle.model.specs.Module.{Module, countAt, offsetAt, pairRow, flatModule, read, write}
-use Rattle.model.specs.View.{tables, recordAt, recordEnd}
+use Rattle.model.specs.Table.{SPAN, UPTO, NAME, TYPE, WORD, KEY, nameRow, functionHead, entryHead}
+use Rattle.model.specs.Tree.{Function, Entry}
+use Rattle.model.specs.Module.{Module, countAt, offsetAt, flatModule, read, write}
+use Rattle.model.specs.View.{tables, recordAt}
 use Rattle.model.specs.Taped.{Taped}
-use Rattle.model.specs.Between.{between, Stretch}
-use Rattle.model.specs.Carry.{Lays, lays-next, Each, each-none, each-next, WellFunction, WellEntry}
+use Rattle.model.specs.Between.{between}
+use Rattle.model.specs.Carry.{Lays, lays-next, Each, each-none, each-next}
 use Rattle.model.specs.Names.{field, present, distinct, differ, functionsNamed, entriesNamed, functionNames, entryNames, named, NumbersFew, Numbered}
 use Rattle.laws.proofs.Plain.{plain?}
 use Rattle.laws.proofs.Quiet.{Plainly, plain-none, plain-next, plainly}
 use Rattle.laws.proofs.Views.{sees-name, sees-pair, sees-special}
 use Rattle.laws.proofs.Modules.{write-read}
-use Rattle.laws.proofs.FunctionViews.{each-at, looked-at, Part, part-end, part-word, part-words, Stands, parts, taped-held, taped-length, taped-count, taped-offset, taped-functions, taped-entries, taped-part, taped-function, taped-entry-head}
-use Rattle.laws.proofs.Betweens.{section-stretch, table-between, table-count, record-offset, record-part}
+use Rattle.laws.proofs.FunctionViews.{Part, part-end, part-word, part-words, parts, taped-held, taped-length, taped-count, taped-offset, taped-functions, taped-entries, taped-part, taped-function, taped-entry-head}
+use Rattle.laws.proofs.Betweens.{table-between, table-count, record-offset, record-part}
 use Rattle.names.specs.Passes.{listing, placeOf, numberAt, Placed, nameAt, Spelled, NONE, marking, Small}
 use Rattle.names.proofs.Marks.{functions-are, entries-are, functions-small, entries-small}
 
@@ -237,10 +235,6 @@ module _ {words tags : List ℕ} {n : ℕ} (v : Numbered words tags n) where
 
   pub spelled : Spelled words
   spelled = spelled-names (v .taped)
-
-  pub stretch : (k a e : ℕ) → k < 8 → a ≡ getD words (3 + 2 * k) 0 → e ≡ getD words (3 + 2 * suc k) 0 → Stretch words tags a e
-  unfolding offsetAt
-  stretch k a e h p q = rw (p, q) (section-stretch (v .taped) k h)
 
   pub few-functions : (a e : ℕ) → a ≡ getD words 15 0 → e ≡ getD words 17 0 → Each Small (between tags words a e)
   few-functions = functions-few (v .taped) (v .few)

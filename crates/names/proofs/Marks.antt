@@ -2,20 +2,21 @@
 use mathlib.Core.Path.{_≡_, refl, sym, ap, ap₂, _∙_}
 use mathlib.Core.Bool.{Bool, true, false, _&&_, not}
 use mathlib.Core.List.{List, [], _∷_, _++_, map, append-assoc}
-use Prim.Native.Nat.{ℕ, suc, _+_, _≤_, _<_}
+use Prim.Native.Nat.{ℕ, _+_, _<_}
 use native.Mathlib.Omega.{arith}
 use lib.Dec.{eqb, ltb}
-use lib.ListN.{length, getD, set, replicate, length-set, length-replicate, getD-replicate, List·getD-eq-default}
+use lib.ListN.{length, getD, set, length-set, length-replicate, getD-replicate, List·getD-eq-default}
 use lib.Seq.{getD-set-same, getD-set-other}
-use borrow.Author.Tests.{eqb-true, eqb-false, eq-eqb, ne-eqb, ltb-true, ltb-false}
-use Rattle.model.specs.Outcome.{Cell, Cells, class, word}
-use Rattle.model.specs.Table.{NAME, NAMED-EXPR, PLACE, EXPRESSIONS, NAMED, EXPR-KIND, counted, limit}
+use borrow.Author.Tests.{eqb-true, eqb-false, eq-eqb, ltb-true, ltb-false}
+use Rattle.model.specs.Outcome.{Cell, Cells, class}
+use Rattle.model.specs.Table.{NAME, NAMED-EXPR, EXPRESSIONS, NAMED, EXPR-KIND, counted, limit}
 use Rattle.model.specs.Tree.{Function, Entry, flat, flatEntry, flatAll, flatList, flatBlock}
-use Rattle.model.specs.Module.{places, flatTable}
+use Rattle.model.specs.Module.{flatTable}
 use Rattle.model.specs.Carry.{Lays, Each, each-none, each-next, WellFunction, WellEntry}
 use Rattle.model.specs.Names.{field, present, absent, distinct, expressionsNamed, functionsNamed, entriesNamed, Few}
-use Rattle.laws.proofs.FunctionViews.{Field, field?, field-not, Expression, expression, expression-shape}
-use Rattle.laws.proofs.Quiet.{each-append, each-map, Quiet, quiet-named-expr, quiet-named, Plainly, plain-none, plain-next, named-shape, before, before-quiet, body-quiet, entry-quiet, places-quiet}
+use Rattle.laws.proofs.Lists.{and-assoc, and-right}
+use Rattle.laws.proofs.FunctionViews.{Field, field-not, Expression, expression, expression-shape}
+use Rattle.laws.proofs.Quiet.{each-append, each-map, Quiet, quiet-named-expr, quiet-named, Plainly, plain-none, plain-next, named-shape, before-quiet, body-quiet, entry-quiet, places-quiet}
 use Rattle.names.specs.Passes.{unnamed, NONE, marking, Small}
 
 -- ---- marks
@@ -83,10 +84,6 @@ rows-are (each-next {a = r} {l = rs} h hs) ms l =
     ∙ ap (λ b. eqb (getD ms e 0) 0 && (not (eqb (field NAME r) 0) && (present (map (field NAME) rs) && (distinct xs && b)))) (mark-clear xs ms e (omega arith))
     ∙ shuffle (eqb (getD ms e 0) 0) (not (eqb (field NAME r) 0)) (present (map (field NAME) rs)) (distinct xs) (absent xs e) (clear xs ms)
 
-and-right : (a : Bool) → a && true ≡ a
-and-right true = refl
-and-right false = refl
-
 function-rows : (f : Function) → Few f → rowsOk (f .named) NONE ≡ expressionsNamed f
 unfolding expressionsNamed limit
 function-rows f h =
@@ -101,17 +98,13 @@ pub record Onward (cs : Cells) (says : Bool) (b : ℕ) (ms : List ℕ) (rest : C
   pub calm : eqb last NAMED-EXPR ≡ false
   pub is : marking (cs ++ rest) b ms ≡ says && marking rest last marks
 
-and-assoc : (a b c : Bool) → a && (b && c) ≡ (a && b) && c
-and-assoc true b c = refl
-and-assoc false b c = refl
-
 onward-append : {cs ds : Cells} {x y : Bool} {b : ℕ} {ms : List ℕ} {rest : Cells} (o : Onward cs x b ms (ds ++ rest)) → Onward ds y (o .last) (o .marks) rest → Onward (cs ++ ds) (x && y) b ms rest
 onward-append {cs} {ds} {x} {y} {rest} o p =
     record {
       last = p .last;
       marks = p .marks;
       calm = p .calm;
-      is = rw (append-assoc cs ds rest) (o .is ∙ ap (x &&_) (p .is) ∙ and-assoc x y (marking rest (p .last) (p .marks)));
+      is = rw (append-assoc cs ds rest) (o .is ∙ ap (x &&_) (p .is) ∙ sym (and-assoc x y (marking rest (p .last) (p .marks))));
     }
 
 -- cells that are neither the list nor a named number
@@ -174,7 +167,7 @@ rows-on (each-next {a = r} {l = rs} l ls) b ms rest e =
       last = o .last;
       marks = o .marks;
       calm = o .calm;
-      is = rw (append-assoc r (flatAll rs) rest) (row-on (named-shape l) b ms (flatAll rs ++ rest) ∙ ap (λ q. x && (y && q)) (o .is) ∙ ap (x &&_) (and-assoc y z w) ∙ and-assoc x (y && z) w);
+      is = rw (append-assoc r (flatAll rs) rest) (row-on (named-shape l) b ms (flatAll rs ++ rest) ∙ ap (λ q. x && (y && q)) (o .is) ∙ ap (x &&_) (sym (and-assoc y z w)) ∙ sym (and-assoc x (y && z) w));
     }
 
 named-on : {rs : List Cells} → Each (Lays (counted NAMED)) rs → (b : ℕ) (ms : List ℕ) (rest : Cells) → Onward (flatList NAMED rs) (rowsOk rs NONE) b ms rest
@@ -277,3 +270,7 @@ functions-small {fs} w h = each-append (each-map (λ c q. calm-small c (quiet-ca
 pub entries-small : {ps : List Entry} → Each WellEntry ps → Each (λ p. Few (p .function)) ps → Each Small (flatTable (map flatEntry ps))
 unfolding flatTable
 entries-small {ps} w h = each-append (each-map (λ c q. calm-small c (quiet-calm c q)) (places-quiet (map flatEntry ps) (length (map flatEntry ps)))) (all-entries-small w h)
+
+-- ---- what refusal 3 tests, that a named number is below the count of the function's expressions, is enough
+pub named-few : {f : Function} → WellFunction f → Each (λ r. field NAMED-EXPR r < length (f .exprs)) (f .named) → Few f
+named-few {f} w h = each-map (λ r l. omega (arith, w .exprs-ok .few)) h

@@ -2,19 +2,18 @@
 use mathlib.Core.Path.{_≡_, refl, sym, ap, ap₂, _∙_}
 use mathlib.Core.Bool.{Bool, true, false, _&&_, not}
 use mathlib.Core.List.{List, [], _∷_}
-use Prim.Native.Nat.{ℕ, zero, suc, _+_, _-_, _*_, _≤_, _<_}
+use Prim.Native.Nat.{ℕ, suc, _+_, _-_, _*_, _≤_, _<_}
 use native.Mathlib.Numerals.{add-one}
 use native.Mathlib.Omega.{arith}
 use lib.Dec.{eqb, ltb}
-use lib.ListN.{length, getD, set, replicate, length-set, length-replicate}
+use lib.ListN.{length, getD, set, length-set, length-replicate}
 use lib.Seq.{slice, slice-cons, length-slice}
 use borrow.Author.Tests.{eq-eqb, ne-eqb, ltb-true, ltb-false, not-true, not-false}
-use Rattle.model.specs.Outcome.{Cells}
 use Rattle.model.specs.Table.{NAME, NAMED-EXPR, NAMED}
 use Rattle.model.specs.Module.{countAt, offsetAt, endAt}
 use Rattle.model.specs.View.{recordAt, recordEnd}
 use Rattle.model.specs.Between.{between, Stretch}
-use Rattle.model.specs.Carry.{Each, each-none, each-next}
+use Rattle.model.specs.Carry.{Each, each-next}
 use Rattle.model.specs.Names.{present, absent, distinct, same, unlike, differ}
 use Rattle.laws.proofs.Betweens.{between-none, between-next, slice-none}
 use Rattle.names.specs.Passes.{listing, placeOf, numberAt, Placed, nameAt, Spelled, unnamed, NONE, marking, Small}

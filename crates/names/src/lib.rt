@@ -1,6 +1,6 @@
 // Refusal 5 of document 01: what has to have a name and has none, and what is equal and has to differ.
 // Cost: the named expressions are one linear pass, with marks. Names, names of functions and keys are compared by pairs; most pairs of names are
-// decided by their lengths or their first words. The worst case is 512 names of equal length that differ in the last byte: 130,816 pairs of 31 words.
+// decided by their lengths or their first words. The worst case is 512 names of equal length that differ in the last byte: 130,816 pairs of 30 words, about 4 ms.
 ghost use mathlib.Core.Path.{_≡_};
 ghost use Prim.Native.Nat.{_+_, _-_, _*_, _^_, _≤_, _<_};
 ghost use lib.ListN.{length};

@@ -1,8 +1,8 @@
 -- A function in words and tape, and the loops over table functions and entry points. Assumes nothing.
-use mathlib.Core.Path.{_≡_, refl, sym, ap, ap₂, _∙_}
+use mathlib.Core.Path.{_≡_, refl, sym, ap, _∙_}
 use mathlib.Core.Bool.{Bool, true, false, _&&_, not}
 use mathlib.Core.Option.{some}
-use mathlib.Core.List.{List, [], _∷_, map}
+use mathlib.Core.List.{List, []}
 use Prim.Native.Nat.{ℕ, suc, _+_, _*_, _^_, _≤_, _<_}
 use native.Mathlib.Numerals.{add-one}
 use native.Mathlib.Omega.{arith}
@@ -11,16 +11,16 @@ use lib.Seq.{drop-cons, drop-length}
 use borrow.Author.Tests.{not-true, not-false}
 use Rattle.model.specs.Outcome.{Cells}
 use Rattle.model.specs.Tree.{Function, Entry, end, flat, flatEntry}
-use Rattle.model.specs.Module.{Module, countAt, flatModule, write}
+use Rattle.model.specs.Module.{Module, countAt, flatModule}
 use Rattle.model.specs.View.{recordAt, recordEnd}
 use Rattle.model.specs.FunctionView.{returnsAt, localsAt, expressionsAt}
 use Rattle.model.specs.Taped.{Taped, Tape}
 use Rattle.model.specs.Initial.{initialised}
 use Rattle.model.specs.Numbers.{Bounds, within, ordered, every, outside, inside, sound, soundFunction, soundEntry, constantOnly, numbered}
-use Rattle.laws.proofs.Views.{SeesRecord, sees-entry}
-use Rattle.laws.proofs.FunctionViews.{Part, Stands, arguments-count, locals-count, exprs-count, stands-end, parts, looked-at, taped-part, taped-function, taped-entry, taped-functions, taped-entries}
-use Rattle.numbers.specs.Ranges.{Long, between, table, codes, headed, owned, Ranged, Owned, Says, Tabled, Frame, Framed, Sound, Loose, Loosely, Lists, Listed, Initialised, tablesFine, kindsFine, functionsFine, entriesFine}
-use Rattle.numbers.proofs.Tabling.{part-between, taped-long, cells-few, headed-is}
+use Rattle.laws.proofs.Views.{sees-entry}
+use Rattle.laws.proofs.FunctionViews.{arguments-count, locals-count, exprs-count, stands-end, looked-at, taped-part, taped-function, taped-entry, taped-functions, taped-entries}
+use Rattle.numbers.specs.Ranges.{Long, table, headed, owned, Checked, Owned, Says, Tabled, Frame, Framed, Sound, Loose, Loosely, Lists, Listed, Initialised, tablesFine, kindsFine, functionsFine, entriesFine}
+use Rattle.numbers.proofs.Tabling.{and-next, part-between, taped-long, cells-few, headed-is}
 
 -- ---- where its counts stand
 module _ {words tags : List ℕ} {at from end : ℕ} {f : Function} {cs : Cells} (fr : Frame words tags at from end f cs) where
@@ -98,25 +98,19 @@ module _ (words tags : List ℕ) (at from end : ℕ) (pre : Framed words tags at
           now-is : (f : Function) (cs : Cells) → Frame words tags at from end f cs → (b : Bounds) → t ≡ table b → t₁ ≡ table (inside b f)
           now-is f cs fr b q = got .same b q ∙ ap table (bounds-are fr a r l e (a-is .0) (r-is .0) (l-is .0) e-is u v u-is v-is b)
 
-          module _ (r₁ : Bool) (ranged : Ranged r₁ words tags t₁ at end) where
-            in-range : (f : Function) (cs : Cells) → Frame words tags at from end f cs → (b : Bounds) → t ≡ table b → within (inside b f) cs ≡ r₁
-            in-range f cs fr b q = sym (ranged .same (inside b f) (now-is f cs fr b q) ∙ ap (within (inside b f)) (part-between (fr .own .held) (fr .whole)))
+          module _ (r₁ : Bool) (checked : Checked r₁ words tags t₁ at end) where
+            both : (f : Function) (cs : Cells) → Frame words tags at from end f cs → (b : Bounds) → t ≡ table b → within (inside b f) cs && ordered cs ≡ r₁
+            both f cs fr b q = sym (checked .same (inside b f) (now-is f cs fr b q) ∙ ap (λ cs. within (inside b f) cs && ordered cs) (part-between (fr .own .held) (fr .whole)))
+
+            split : (f : Function) (cs : Cells) → Frame words tags at from end f cs → (b : Bounds) → t ≡ table b → (v : Bool) → r₁ ≡ v → sound b f cs ≡ v && initialised f
+            unfolding sound
+            split f cs fr b q v z = and-next (within (inside b f) cs) (ordered cs) (initialised f) ∙ ap (_&& initialised f) (both f cs fr b q ∙ z)
 
             pub function-over : not r₁ ≡ true → Sound false t₁ t words tags at from end
-            unfolding sound
-            function-over z = record { same = λ f cs fr b q. rw (in-range f cs fr b q, not-true r₁ z); kept = now-is }
+            function-over z = record { same = λ f cs fr b q. sym (split f cs fr b q false (not-true r₁ z)); kept = now-is }
 
-            module _ (z₁ : not r₁ ≡ false) (r₂ : Bool) (rises : r₂ ≡ ordered (between words tags at end)) where
-              in-order : (f : Function) (cs : Cells) → Frame words tags at from end f cs → ordered cs ≡ r₂
-              in-order f cs fr = sym (rises ∙ ap ordered (part-between (fr .own .held) (fr .whole)))
-
-              pub function-falls : not r₂ ≡ true → Sound false t₁ t words tags at from end
-              unfolding sound
-              function-falls z = record { same = λ f cs fr b q. rw (in-range f cs fr b q, not-false r₁ z₁, in-order f cs fr, not-true r₂ z); kept = now-is }
-
-              pub function-done : not r₂ ≡ false → (r₃ : Bool) → Initialised r₃ words tags (from + 4 + 8 * a + 1 + 7 * r) (from + 4 + 8 * a + 1 + 7 * r + 1 + 5 * l) end → Sound r₃ t₁ t words tags at from end
-              unfolding sound
-              function-done z r₃ reached = record { same = λ f cs fr b q. rw (in-range f cs fr b q, not-false r₁ z₁, in-order f cs fr, not-false r₂ z) (reached .same f (lists-are fr a r l e (a-is .0) (r-is .0) (l-is .0))); kept = now-is }
+            pub function-done : not r₁ ≡ false → (r₃ : Bool) → Initialised r₃ words tags (from + 4 + 8 * a + 1 + 7 * r) (from + 4 + 8 * a + 1 + 7 * r + 1 + 5 * l) end → Sound r₃ t₁ t words tags at from end
+            function-done z r₃ reached = record { same = λ f cs fr b q. reached .same f (lists-are fr a r l e (a-is .0) (r-is .0) (l-is .0)) ∙ sym (split f cs fr b q true (not-false r₁ z)); kept = now-is }
 
 -- ---- one after the other: records of section k, whose functions start at `from` of the record's start
 module _ {A : Type 0} (k : ℕ) (items : Module → List A) (fn : A → Function) (cells : A → Cells) (from : ℕ → ℕ) (d : Module → A) where

@@ -2,19 +2,18 @@
 use mathlib.Core.Path.{_≡_, refl, sym, ap, _∙_}
 use mathlib.Core.Bool.{Bool, true, false, _&&_, not}
 use mathlib.Core.Option.{Option, none, some}
-use mathlib.Core.List.{List, [], _∷_, _++_, map}
+use mathlib.Core.List.{List, [], _∷_, map}
 use Prim.Native.Nat.{ℕ, zero, suc, _+_, _^_, _≤_, _<_}
 use native.Mathlib.Numerals.{add-one}
 use native.Mathlib.Omega.{arith}
-use lib.Dec.{eqb, ltb, leb}
-use lib.ListN.{length, getD, set, replicate, take, drop, length-take, drop-of-length-le}
+use lib.Dec.{ltb, leb}
+use lib.ListN.{getD, set, take, length-take, drop-of-length-le}
 use lib.Seq.{slice, slice-cons}
 use borrow.Author.Tests.{lt-ltb, le-ltb, eq-eqb, ne-eqb, not-true, not-false}
-use Rattle.model.specs.Outcome.{Cell, Cells, class, word}
-use Rattle.model.specs.Table.{FROM}
+use Rattle.model.specs.Outcome.{Cells}
 use Rattle.model.specs.Module.{countAt}
 use Rattle.model.specs.Numbers.{Bounds, caps, bound, below, within, rising, ordered}
-use Rattle.numbers.specs.Ranges.{Long, paired, between, cap, upTo, table, codes, headed, owned, Ranged, Owned}
+use Rattle.numbers.specs.Ranges.{Long, paired, between, cap, upTo, table, codes, headed, owned, Ranged, Checked, Owned}
 
 -- ---- the cells between two places
 slice-none : (i end : ℕ) (l : List ℕ) → end ≤ i → slice i end l ≡ []
@@ -44,6 +43,11 @@ unfolding cap below
 cap-below none w h = lt-ltb w (2 ^ 32) h
 cap-below (some n) w h = refl
 
+-- a word of the class s, as the code tests it
+module _ (t : List ℕ) (b : Bounds) (e : t ≡ table b) (s f c w : ℕ) (s-is : s ≡ c) (few : s < 256) (f-is : f ≡ w) (low : f < 2 ^ 32) where
+  cell-tested : below (bound b c) w ≡ ltb f (getD t s 0)
+  cell-tested = rw (← s-is, ← f-is) (sym (cap-below (bound b s) f low) ∙ ap (ltb f) (sym (ap (λ l. getD l s 0) e ∙ table-at b s few)))
+
 -- ---- each word below its bound
 pub record Left (words tags t : List ℕ) (at end i : ℕ) : Type 0 where
   pub to : i ≤ end
@@ -59,12 +63,9 @@ module _ (words tags t : List ℕ) (at end : ℕ) where
     ranged-done h = record { same = λ b e. sym (ap (within b) (between-none words tags i end h)) ∙ inv .same b e }
 
     module _ (h : i < end) (long : Long words tags) (ok : end ≤ 16384) (s : ℕ) (s-is : s ≡ getD tags i 0) (few : s < 256) (f : ℕ) (f-is : f ≡ getD words i 0) (low : f < 2 ^ 32) where
-      cell-is : (b : Bounds) → t ≡ table b → below (bound b (getD tags i 0)) (getD words i 0) ≡ ltb f (getD t s 0)
-      cell-is b e = rw (← s-is, ← f-is) (sym (cap-below (bound b s) f low) ∙ ap (ltb f) (sym (ap (λ l. getD l s 0) e ∙ table-at b s few)))
-
       step : (b : Bounds) → t ≡ table b → (v : Bool) → ltb f (getD t s 0) ≡ v → (v && within b (between words tags (i + 1) end)) ≡ within b (between words tags at end)
       unfolding within
-      step b e v q = sym (ap (_&& within b (between words tags (i + 1) end)) (cell-is b e ∙ q)) ∙ sym (ap (within b) (between-cons words tags i end h long ok)) ∙ inv .same b e
+      step b e v q = sym (ap (_&& within b (between words tags (i + 1) end)) (cell-tested t b e s f (getD tags i 0) (getD words i 0) s-is few f-is low ∙ q)) ∙ sym (ap (within b) (between-cons words tags i end h long ok)) ∙ inv .same b e
 
       pub ranged-over : getD t s 0 ≤ f → Ranged false words tags t at end
       ranged-over g = record { same = λ b e. step b e false (le-ltb f (getD t s 0) g) }
@@ -90,29 +91,53 @@ module _ (words tags : List ℕ) (i end : ℕ) where
   unfolding rising
   rising-tested e h long ok = rw (between-cons words tags (i + 1) end h long ok, rising, eq-eqb (getD tags i 0) 97 e)
 
-pub record Leaves (words tags : List ℕ) (at end i : ℕ) : Type 0 where
+and-false : (x : Bool) → x && false ≡ false
+and-false true = refl
+and-false false = refl
+
+-- ---- both at once
+pub record Leaves (words tags t : List ℕ) (at end i : ℕ) : Type 0 where
   pub to : i ≤ end
-  pub same : ordered (between words tags i end) ≡ ordered (between words tags at end)
+  pub same : (b : Bounds) → t ≡ table b → within b (between words tags i end) && ordered (between words tags i end) ≡ within b (between words tags at end) && ordered (between words tags at end)
 
-module _ (words tags : List ℕ) (at end : ℕ) where
-  pub ordered-begin : at ≤ end → Leaves words tags at end at
-  ordered-begin h = record { to = h; same = refl }
+module _ (words tags t : List ℕ) (at end : ℕ) where
+  pub checked-begin : at ≤ end → Leaves words tags t at end at
+  checked-begin h = record { to = h; same = λ b e. refl }
 
-  module _ (i : ℕ) (inv : Leaves words tags at end i) where
-    pub ordered-done : end ≤ i → true ≡ ordered (between words tags at end)
-    unfolding ordered
-    ordered-done h = sym (ap ordered (between-none words tags i end h)) ∙ inv .same
+  module _ (i : ℕ) (inv : Leaves words tags t at end i) where
+    pub checked-done : end ≤ i → Checked true words tags t at end
+    unfolding within ordered
+    checked-done h = record { same = λ b e. sym (ap (λ cs. within b cs && ordered cs) (between-none words tags i end h)) ∙ inv .same b e }
 
-    module _ (h : i < end) (long : Long words tags) (ok : end ≤ 16384) (v : Bool) (v-is : v ≡ rising (getD tags i 0, getD words i 0) (between words tags (i + 1) end)) where
-      turn : (v && ordered (between words tags (i + 1) end)) ≡ ordered (between words tags at end)
-      unfolding ordered
-      turn = ap (_&& ordered (between words tags (i + 1) end)) v-is ∙ sym (ap ordered (between-cons words tags i end h long ok)) ∙ inv .same
+    module _ (h : i < end) (long : Long words tags) (ok : end ≤ 16384) (s : ℕ) (s-is : (s ≡ getD tags i 0) × (s < 256)) (f : ℕ) (f-is : (f ≡ getD words i 0) × (f < 2 ^ 32)) where
+      rest : Cells
+      rest = between words tags (i + 1) end
 
-      pub ordered-over : not v ≡ true → false ≡ ordered (between words tags at end)
-      ordered-over q = rw (not-true v q) at turn
+      turn : (b : Bounds) → t ≡ table b → (p q : Bool) → ltb f (getD t s 0) ≡ p → rising (getD tags i 0, getD words i 0) rest ≡ q → (p && within b rest) && (q && ordered rest) ≡ within b (between words tags at end) && ordered (between words tags at end)
+      unfolding within ordered rest
+      turn b e p q u v =
+          sym
+          (ap (λ x. (x && within b rest) && (rising (getD tags i 0, getD words i 0) rest && ordered rest)) (cell-tested t b e s f (getD tags i 0) (getD words i 0) (s-is .0) (s-is .1) (f-is .0) (f-is .1) ∙ u)
+          ∙ ap (λ x. (p && within b rest) && (x && ordered rest)) v)
+          ∙ sym (ap (λ cs. within b cs && ordered cs) (between-cons words tags i end h long ok))
+          ∙ inv .same b e
 
-      pub ordered-next : not v ≡ false → Leaves words tags at end (i + 1)
-      ordered-next q = record { to = omega arith; same = rw (not-false v q) at turn }
+      pub checked-over : getD t s 0 ≤ f → Checked false words tags t at end
+      checked-over g = record { same = λ b e. turn b e false (rising (getD tags i 0, getD words i 0) rest) (le-ltb f (getD t s 0) g) refl }
+
+      module _ (g : f < getD t s 0) where
+        pub checked-plain : (s ≡ 97 → ⊥) → Leaves words tags t at end (i + 1)
+        unfolding rest
+        checked-plain n = record { to = omega arith; same = λ b e. turn b e true true (lt-ltb f (getD t s 0) g) (sym (rising-other words tags i end (λ z. n (s-is .0 ∙ z)))) }
+
+        module _ (v : Bool) (v-is : v ≡ rising (getD tags i 0, getD words i 0) (between words tags (i + 1) end)) where
+          pub checked-falls : not v ≡ true → Checked false words tags t at end
+          unfolding rest
+          checked-falls q = record { same = λ b e. sym (and-false (within b rest)) ∙ turn b e true false (lt-ltb f (getD t s 0) g) (sym v-is ∙ not-true v q) }
+
+          pub checked-emit : not v ≡ false → Leaves words tags t at end (i + 1)
+          unfolding rest
+          checked-emit q = record { to = omega arith; same = λ b e. turn b e true true (lt-ltb f (getD t s 0) g) (sym v-is ∙ not-false v q) }
 
 -- ---- the counts put in
 pub outside-is : (words t : List ℕ) → t ≡ codes → (a b c d e f g : ℕ) → a ≡ getD words 2 0 → b ≡ getD words 4 0 → f ≡ getD words 12 0 → g ≡ getD words 14 0 → c ≡ getD words 6 0 → d ≡ getD words 8 0 → e ≡ getD words 10 0

@@ -7,24 +7,24 @@ use mathlib.Core.List.{List, [], _∷_, _++_, map}
 use Prim.Native.Nat.{ℕ, zero, suc, _+_, _*_, _-_, _^_, _≤_, _<_}
 use native.Mathlib.Numerals.{add-one}
 use native.Mathlib.Omega.{arith}
-use lib.Dec.{eqb, ltb}
-use lib.ListN.{length, getD, take, drop, replicate, length-append, length-map, length-replicate, List·getD-append, List·getD-eq-default}
-use lib.Seq.{slice, sets, slice-cons, take-suc, take-nil, getD-drop, drop-drop, sets-eq}
-use borrow.Author.Tests.{ltb-true, ltb-false, eq-eqb, ne-eqb, eqb-false, not-true, not-false}
-use Rattle.model.specs.Outcome.{Cell, Cells, class, word}
-use Rattle.model.specs.Table.{SPAN, UPTO, NAME, TYPE, LOCAL-INIT, LOCALS, EXPRESSIONS, NAMED, EXPR-KIND, counted, limit}
+use lib.Dec.{ltb}
+use lib.ListN.{length, getD, take, drop, replicate, length-map, length-replicate, List·getD-append, List·getD-eq-default}
+use lib.Seq.{slice, sets, slice-cons, take-suc, getD-drop, drop-drop, sets-eq}
+use borrow.Author.Tests.{ltb-true, ltb-false, not-true, not-false}
+use Rattle.model.specs.Outcome.{Cells, class, word}
+use Rattle.model.specs.Table.{SPAN, UPTO, NAME, TYPE, LOCAL-INIT, LOCALS, NAMED, EXPR-KIND, counted, limit}
 use Rattle.model.specs.Tree.{Function, flatAll}
 use Rattle.model.specs.Carry.{Lays, Each, each-none, each-next}
 use Rattle.model.specs.FunctionView.{localsAt, expressionsAt}
 use Rattle.model.specs.Operands.{constantKind, optional, opsOf, ops, kindAt}
-use Rattle.model.specs.Initial.{Mem, here, there, root, step, Reached, initsOf, roots, initialised}
+use Rattle.model.specs.Initial.{Mem, here, root, step, Reached, initsOf, roots, initialised}
 use Rattle.model.specs.Reached.{initialised-is, initialised-all}
 use Rattle.laws.proofs.Plain.{plain?, plain-classes}
-use Rattle.laws.proofs.Sections.{startOf, start-zero, start-step}
-use Rattle.laws.proofs.FunctionViews.{Held, Part, part-end, part-left, part-right, part-word, part-tag, Stands, field?, field-not, Expression, expression-first, expression-class, expression-field, list-all, locals-count, exprs-count, exprs-all, exprs-shapes, expr-part, expr-kind, named-class, stands-end, parts}
+use Rattle.laws.proofs.Sections.{startOf}
+use Rattle.laws.proofs.FunctionViews.{Held, Part, part-end, part-left, part-right, part-word, part-tag, field?, field-not, Expression, expression-first, expression-class, expression-field, list-all, locals-count, exprs-count, exprs-all, exprs-shapes, expr-part, expr-kind, named-class, stands-end, parts}
 use Rattle.numbers.specs.Ranges.{Long, between, Lists, Listed, Initialised}
 use Rattle.numbers.specs.Marks.{finds, on, blank, inits, Visits, Room, Done, Work, Starting, Reaching, Reaches}
-use Rattle.numbers.proofs.Visiting.{no-mem, mem-left, mem-right, mem-cases, mem-one, room-after}
+use Rattle.numbers.proofs.Visiting.{no-mem, mem-left, mem-right, mem-cases, mem-one, visits-none, room-after}
 use Rattle.numbers.proofs.Tabling.{part-between}
 
 -- ---- the last of the list
@@ -383,6 +383,11 @@ module _ (words tags : List ℕ) (locals exprs end : ℕ) (pre : Listed words ta
 
     pub init-room : (l₀ : List ℕ) → length l₀ ≡ 1024 → Room e (replicate 1024 0) l₀ 0
     init-room l₀ long = record { marks-long = length-replicate {A = ℕ} 1024 0; list-long = long; few = many-few (pre .lists) e (e-is .0); room = omega (arith, blank-most e (replicate 1024 0)) }
+
+    -- without locals nothing is reached
+    pub init-empty : count ≡ 0 → Initialised true words tags locals exprs end
+    unfolding inits
+    init-empty z = record { same = λ f ls. reached-fine f e (replicate 1024 0) (replicate 1024 0) (begun ls e (e-is .0) count (count-is .0) (replicate 1024 0) (replicate 1024 0) (replicate 1024 0) 0 (length-replicate {A = ℕ} 1024 0) (rw z (visits-none e (replicate 1024 0) (replicate 1024 0) 0))) }
 
     pub init-few : length (finds (exprs + 1) (slice (exprs + 1) end tags)) ≤ 1025
     init-few = found-few (pre .lists) e (e-is .0)

@@ -2,25 +2,24 @@
 use mathlib.Core.Path.{_≡_, refl, sym, ap, ap₂, _∙_}
 use mathlib.Core.Bool.{Bool, true, false, _&&_, not}
 use mathlib.Core.List.{List, [], _∷_, _++_, map}
-use Prim.Native.Nat.{ℕ, zero, suc, _+_, _*_, _^_, _≤_, _<_}
+use Prim.Native.Nat.{ℕ, suc, _+_, _*_, _^_, _≤_, _<_}
 use native.Mathlib.Numerals.{add-one}
 use native.Mathlib.Omega.{arith}
-use lib.Dec.{eqb, ltb}
 use lib.ListN.{length, getD, drop, length-append}
-use lib.Seq.{slice, drop-cons, drop-length}
+use lib.Seq.{drop-cons, drop-length}
 use borrow.Author.Tests.{eq-eqb, ne-eqb, not-true, not-false}
-use Rattle.model.specs.Outcome.{Cell, Cells, class, word}
-use Rattle.model.specs.Table.{PLACE, EXPR-KIND, expressionRow}
+use Rattle.model.specs.Outcome.{Cells, class, word}
+use Rattle.model.specs.Table.{expressionRow}
 use Rattle.model.specs.Tree.{flatAll}
 use Rattle.model.specs.Module.{Module, countAt, offsetAt, endAt, places, flatTable, flatSpecial, flatModule, write}
 use Rattle.model.specs.View.{tables, recordAt, recordEnd}
 use Rattle.model.specs.Taped.{Taped, Tape}
 use Rattle.model.specs.Operands.{kind, constantKind}
-use Rattle.model.specs.Numbers.{Bounds, caps, bound, below, within, every, outside, constantOnly, numbered}
+use Rattle.model.specs.Numbers.{Bounds, caps, bound, below, within, every, outside, constantOnly}
 use Rattle.laws.proofs.Sections.{length-places}
-use Rattle.laws.proofs.Views.{length-write, view-rising, view-next, view-within, view-last, view-section, view-length, view-table, view-records, Sees, sees-names, sees-types, sees-constants, sees-overrides, sees-globals, sees-exprs, sees-functions, sees-special, SeesRecord, sees-expr}
+use Rattle.laws.proofs.Views.{length-write, view-rising, view-next, view-within, view-last, view-section, view-table, view-records, sees-names, sees-types, sees-constants, sees-overrides, sees-globals, sees-exprs, sees-functions, sees-special, sees-expr}
 use Rattle.laws.proofs.FunctionViews.{Held, Part, part-words, part-tags, part-word, part-end, each-at, Expression, expression-first, expression-kind, each-expression, looked-at, taped-write, taped-held, taped-count, taped-offset, taped-part}
-use Rattle.numbers.specs.Ranges.{Long, paired, between, table, headed, Ranged, Says, Tabled, tablesFine, kindsFine, functionsFine, entriesFine}
+use Rattle.numbers.specs.Ranges.{Long, paired, between, table, headed, Ranged, Says, Tabled, tablesFine, kindsFine}
 
 -- ---- the cells between two places are the part that stands there
 paired-cells : (cs : Cells) → paired (map class cs) (map word cs) ≡ cs
@@ -33,7 +32,7 @@ unfolding between
 part-between {cs} o v = rw (part-words o v, part-tags o v) (paired-cells cs)
 
 -- ---- what a pass over a section tests
-and-next : (a b c : Bool) → (a && (b && c)) ≡ ((a && b) && c)
+pub and-next : (a b c : Bool) → (a && (b && c)) ≡ ((a && b) && c)
 and-next true b c = refl
 and-next false b c = refl
 

@@ -1,16 +1,15 @@
 -- Marks and the list of what is to be visited: one visit, visits one after the other, and the loops that visit what cells read and what locals begin with. Assumes nothing.
 use mathlib.Core.Path.{_≡_, refl, sym, ap, _∙_, subst}
 use mathlib.Core.Logic.{_⊎_, inl, inr, ⊎-elim}
-use mathlib.Core.Bool.{Bool, true, false, _&&_, _||_}
+use mathlib.Core.Bool.{Bool, true, false}
 use mathlib.Core.List.{List, [], _∷_, _++_}
 use Prim.Native.Nat.{ℕ, zero, suc, _+_, _*_, _-_, _^_, _≤_, _<_}
 use native.Mathlib.Numerals.{add-one}
 use native.Mathlib.Omega.{arith}
-use lib.Dec.{eqb, ltb, leb}
+use lib.Dec.{eqb, leb}
 use lib.ListN.{length, getD, set, take, drop, length-set}
 use lib.Seq.{slice, sets, slice-cons, slice-empty, take-suc-set, getD-set-same, getD-set-other, getD-drop, drop-drop}
-use borrow.Author.Tests.{lt-ltb, eq-eqb, ne-eqb, le-leb, lt-leb, ltb-true, eqb-true, eqb-false}
-use Rattle.model.specs.Outcome.{Cell, Cells, class, word}
+use borrow.Author.Tests.{lt-ltb, eq-eqb, ne-eqb, le-leb, lt-leb, eqb-true, eqb-false}
 use Rattle.model.specs.Operands.{constantKind, optional, operand, opsOf}
 use Rattle.model.specs.Initial.{Mem, here, there}
 use Rattle.numbers.specs.Ranges.{Long, between}

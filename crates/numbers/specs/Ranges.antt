@@ -6,13 +6,13 @@ use mathlib.Core.List.{List, [], _∷_, _++_, map}
 use Prim.Native.Nat.{ℕ, zero, suc, _^_, _≤_}
 use lib.ListN.{length, replicate}
 use lib.Seq.{slice}
-use Rattle.model.specs.Outcome.{Cell, Cells}
+use Rattle.model.specs.Outcome.{Cells}
 use Rattle.model.specs.Tree.{Function}
 use Rattle.model.specs.Module.{Module, countAt}
 use Rattle.model.specs.Taped.{Taped}
 use Rattle.model.specs.FunctionView.{localsAt, expressionsAt}
 use Rattle.model.specs.Initial.{initialised}
-use Rattle.model.specs.Numbers.{Bounds, bound, within, every, outside, inside, sound, soundFunction, soundEntry, constantOnly}
+use Rattle.model.specs.Numbers.{Bounds, bound, within, ordered, every, outside, inside, sound, soundFunction, soundEntry, constantOnly}
 use Rattle.laws.proofs.FunctionViews.{Part, Stands}
 
 -- ---- words and tape, which are lent as arrays
@@ -80,6 +80,10 @@ owned b e a l = record {
 
 pub record Ranged (r : Bool) (words tags t : List ℕ) (at end : ℕ) : Type 0 where
   pub same : (b : Bounds) → t ≡ table b → r ≡ within b (between words tags at end)
+
+-- with the order of Emit's words
+pub record Checked (r : Bool) (words tags t : List ℕ) (at end : ℕ) : Type 0 where
+  pub same : (b : Bounds) → t ≡ table b → r ≡ within b (between words tags at end) && ordered (between words tags at end)
 
 pub record Owned (t₁ t : List ℕ) (e a l : ℕ) : Type 0 where
   pub same : (b : Bounds) → t ≡ table b → t₁ ≡ table (owned b e a l)

@@ -185,10 +185,13 @@ pub fn initialised(
     requires { ⌜ Listed (now words) (now tags) locals exprs end ⌝ }
     ensures { λ r. ⌜ Initialised r (now (words .entry)) (now (tags .entry)) locals exprs end ⌝ }
 {
-    let mut marks = [0u8; 1024];
-    let mut list = [0u32; 1024];
     let count = wide(words[locals]);
     let e = wide(words[exprs]);
+    if count == 0 {
+        return true;
+    }
+    let mut marks = [0u8; 1024];
+    let mut list = [0u32; 1024];
     let top = roots(words, locals + 1, count, &mut marks, &mut list, e);
     if top == 0 {
         return true;

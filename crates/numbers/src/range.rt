@@ -2,8 +2,8 @@
 ghost use mathlib.Core.Path.{_≡_};
 ghost use Prim.Native.Nat.{_+_, _^_, _≤_, _<_};
 ghost use lib.ListN.{getD};
-ghost use Rattle.model.specs.Numbers.{rising as risingOf, ordered as orderedOf};
-ghost use Rattle.numbers.specs.Ranges.{Long, between, table, codes, headed, Ranged, Owned};
+ghost use Rattle.model.specs.Numbers.{rising as risingOf};
+ghost use Rattle.numbers.specs.Ranges.{Long, between, table, codes, headed, Ranged, Checked, Owned};
 
 pub fn wide(x: u32) -> usize
     ensures { λ r. ⌜ (r ≡ x) × (r < 2 ^ 32) ⌝ }
@@ -370,19 +370,31 @@ fn rising(words: &[u32; 16384], tags: &[u8; 16384], i: usize, end: usize) -> boo
     words[i] <= words[i + 1]
 }
 
-// Whether each Emit from `at` to `end` starts at its end or before.
-pub fn ordered(words: &[u32; 16384], tags: &[u8; 16384], at: usize, end: usize) -> bool
+// The same of a function's record, with each Emit's start at its end or before.
+pub fn checked(
+    words: &[u32; 16384],
+    tags: &[u8; 16384],
+    t: &[u64; 256],
+    at: usize,
+    end: usize,
+) -> bool
     requires { ⌜ Long (now words) (now tags) ⌝ }
     requires { ⌜ at ≤ end ⌝ }
     requires { ⌜ end ≤ 16384 ⌝ }
-    ensures { λ r. ⌜ r ≡ orderedOf (between (now (words .entry)) (now (tags .entry)) at end) ⌝ }
+    ensures { λ r. ⌜ Checked r (now (words .entry)) (now (tags .entry)) (now (t .entry)) at end ⌝ }
 {
     let mut i = at;
     while i < end {
         let j = i;
         i += 1;
-        if !rising(words, tags, j, end) {
+        let k = slot(tags[j]);
+        if t[k] <= far(words[j]) {
             return false;
+        }
+        if k == 97 {
+            if !rising(words, tags, j, end) {
+                return false;
+            }
         }
     }
     true

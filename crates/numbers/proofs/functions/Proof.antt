@@ -1,4 +1,3 @@
-use native.Mathlib.Omega.{arith}
 use Prim.Native.Nat.{_-_}
 use Rattle.numbers.proofs.Framing.{InFunctions, functions-begin, functions-in, functions-done, functions-framed, functions-over, functions-next}
 use borrow.Author.Needs.{needs}

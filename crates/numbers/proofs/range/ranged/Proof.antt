@@ -1,4 +1,3 @@
-use native.Mathlib.Omega.{arith}
 use Prim.Native.Nat.{_-_}
 use Rattle.numbers.proofs.Ranging.{Left, ranged-begin, ranged-done, ranged-over, ranged-next}
 use borrow.Author.Needs.{needs}
