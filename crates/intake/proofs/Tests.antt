@@ -15,6 +15,7 @@ use Rattle.model.specs.Names.{named, Numbered}
 use Rattle.model.specs.Scope.{inScope}
 use Rattle.model.specs.Intake.{tested, verdict, intakeOf, Passes}
 use Rattle.numbers.specs.Ranges.{Says}
+use Rattle.scope.specs.Functions.{Numbered as ScopeNumbered}
 use Rattle.image.specs.Layout.{Lays, Answer, fits, size, misfit, unknown, shows, held, layoutOf}
 use Rattle.image.specs.declared.Layout.{Layout}
 use Rattle.image.specs.declared.Layout.the-variants.{Fits, Size as LaidSize, Misfit as LaidMisfit, Strange}
@@ -55,6 +56,9 @@ module _ (words tags : List ℕ) (n : ℕ) where
       pub numbers-right : (m : Module) → Taped words tags n m → numbered m ≡ true
       numbers-right = first
 
+      pub scope-ready : ScopeNumbered words tags n
+      scope-ready = record { holds = first }
+
       module _ (b₄ : Bool) (t₄ : Of words tags n b₄ lower) where
         pub order-fails : not b₄ ≡ true → Tested Order words tags n
         unfolding tested
@@ -76,14 +80,14 @@ module _ (words tags : List ℕ) (n : ℕ) where
               third : (m : Module) → Taped words tags n m → named m ≡ true
               third m t = sym (t₅ m t) ∙ no-false b₅ y₅
 
-              module _ (b₆ : Bool) (t₆ : Of words tags n b₆ inScope) where
+              module _ (b₆ : Bool) (t₆ : Says b₆ words tags n inScope) where
                 pub scope-fails : not b₆ ≡ true → Tested Scope words tags n
                 unfolding tested
-                scope-fails e = record { same = λ m t. rw (tested, first m t, second m t, third m t, sym (t₆ m t) ∙ no-true b₆ e); many = λ k q. let z : _≡_ {A = ℕ} 0 1 = cc in absurd (omega arith) }
+                scope-fails e = record { same = λ m t. rw (tested, first m t, second m t, third m t, sym (t₆ .same m t) ∙ no-true b₆ e); many = λ k q. let z : _≡_ {A = ℕ} 0 1 = cc in absurd (omega arith) }
 
                 pub all-pass : not b₆ ≡ false → Tested (Accepted n) words tags n
                 unfolding tested
-                all-pass e = record { same = λ m t. sym (rw (tested, first m t, second m t, third m t, sym (t₆ m t) ∙ no-false b₆ e)); many = λ k q. cc }
+                all-pass e = record { same = λ m t. sym (rw (tested, first m t, second m t, third m t, sym (t₆ .same m t) ∙ no-false b₆ e)); many = λ k q. cc }
 
 -- ---- what passes
 passes : (m : Module) → tested m ≡ 0 → Passes m

@@ -30,6 +30,9 @@ fn test(words: &[u32; 16384], tags: &[u8; 16384], n: usize) -> Taken
     if !names::named(words, tags, n) {
         return Taken::Name;
     }
+    if !scope::in_scope(words, tags, n) {
+        return Taken::Scope;
+    }
     Taken::Accepted(n)
 }
 
