@@ -1,1 +1,2 @@
 pub mod Restated
+pub mod Leaves

@@ -1,4 +1,2 @@
 // Refusal 6: the Scope paragraph of document 01, in one pass over each body.
-pub fn nothing() -> u32 {
-    0
-}
+pub mod body;

@@ -1,0 +1,195 @@
+// Scope in one pass over a body. Beside each expression stands the word up to which it is in scope: 0 while it is not evaluated, and 1, which no
+// statement lies before, for an initialiser expression. What a block evaluates stays until the block's end, and what a Loop's body evaluates before
+// its first Continue, like what its continuing block evaluates, until the end of the Loop.
+ghost use mathlib.Core.Path.{_≡_};
+ghost use mathlib.Core.Bool.{Bool, true, false, _||_};
+ghost use mathlib.Core.List.{[], _∷_};
+ghost use mathlib.Core.Option.{some};
+ghost use Prim.Native.Nat.{ℕ, suc, _+_, _-_, _^_, _≤_, _<_};
+ghost use lib.ListN.{length, getD};
+ghost use Rattle.model.specs.Tree.{wordOf};
+ghost use Rattle.model.specs.Operands.{operand, opsOf, resultOf, standingKind, emittedKind};
+ghost use Rattle.scope.specs.Tape.{between, Steps, stepped, Placed, Exprs, exprsOf};
+ghost use Rattle.scope.specs.Lasts.{visibleAt, allSeen, fitsResult, placeOf, keptOf, told, StmtHere, BlockHere, FoundS, FoundB, FoundE, FoundR, FoundO, FoundL};
+
+pub fn wide(x: u32) -> usize
+    ensures { λ r. ⌜ (r ≡ x) × (r < 2 ^ 32) ⌝ }
+{
+    x as usize
+}
+
+// Kinds 0 to 3 and 9 to 11.
+fn stands(k: u32) -> bool
+    ensures { λ r. ⌜ r ≡ standingKind k ⌝ }
+{
+    if k <= 3 {
+        return true;
+    }
+    if k < 9 {
+        return false;
+    }
+    k <= 11
+}
+
+// Neither standing nor a result, 23 to 25.
+fn emits(k: u32) -> bool
+    ensures { λ r. ⌜ r ≡ emittedKind k ⌝ }
+{
+    if stands(k) {
+        return false;
+    }
+    if k < 23 {
+        return true;
+    }
+    25 < k
+}
+
+// The kind of expression e.
+fn kind(words: &[u32; 16384], starts: &[u32; 1025], e: usize) -> u32
+    requires { ⌜ e < 1025 ⌝ }
+    requires { ⌜ getD (now starts) e 0 < 16384 ⌝ }
+    ensures { λ r. ⌜ r ≡ getD (now (words .entry)) (getD (now (starts .entry)) e 0) 0 ⌝ }
+{
+    let p = wide(starts[e]);
+    words[p]
+}
+
+// Is expression e in scope at the word `at`?
+fn visible(
+    words: &[u32; 16384],
+    starts: &[u32; 1025],
+    until: &[usize; 1024],
+    count: usize,
+    at: usize,
+    e: usize,
+) -> bool
+    requires { ⌜ Placed (now starts) count ⌝ }
+    ensures { λ r. ⌜ r ≡ visibleAt (now (words .entry)) (now (starts .entry)) (now (until .entry)) count at e ⌝ }
+{
+    if count <= e {
+        return false;
+    }
+    if at < until[e] {
+        return true;
+    }
+    stands(kind(words, starts, e))
+}
+
+// Does the word j read only what is in scope at the word `at`?
+fn read(
+    words: &[u32; 16384],
+    tags: &[u8; 16384],
+    starts: &[u32; 1025],
+    until: &[usize; 1024],
+    count: usize,
+    at: usize,
+    j: usize,
+) -> bool
+    requires { ⌜ Placed (now starts) count ⌝ }
+    requires { ⌜ j < 16384 ⌝ }
+    ensures { λ r. ⌜ r ≡ allSeen (operand (getD (now (tags .entry)) j 0) (getD (now (words .entry)) j 0) []) (visibleAt (now (words .entry)) (now (starts .entry)) (now (until .entry)) count at) ⌝ }
+{
+    let s = tags[j];
+    let w = wide(words[j]);
+    if s == 93 {
+        return visible(words, starts, until, count, at, w);
+    }
+    if s == 94 {
+        if w == 0 {
+            return true;
+        }
+        return visible(words, starts, until, count, at, w - 1);
+    }
+    true
+}
+
+// The same of the words from `from` to `to`.
+fn reads(
+    words: &[u32; 16384],
+    tags: &[u8; 16384],
+    starts: &[u32; 1025],
+    until: &[usize; 1024],
+    count: usize,
+    at: usize,
+    from: usize,
+    to: usize,
+) -> bool
+    requires { ⌜ Placed (now starts) count ⌝ }
+    requires { ⌜ to ≤ 16384 ⌝ }
+    ensures { λ r. ⌜ r ≡ allSeen (opsOf (between (now (words .entry)) (now (tags .entry)) from to)) (visibleAt (now (words .entry)) (now (starts .entry)) (now (until .entry)) count at) ⌝ }
+{
+    let mut i = from;
+    while i < to {
+        let j = i;
+        i += 1;
+        if !read(words, tags, starts, until, count, at, j) {
+            return false;
+        }
+    }
+    true
+}
+
+// What the words from `from` to `to` evaluate: the number plus 1, or 0 for nothing.
+fn result_of(words: &[u32; 16384], tags: &[u8; 16384], from: usize, to: usize) -> usize
+    requires { ⌜ to ≤ 16384 ⌝ }
+    ensures { λ r. ⌜ r ≡ wordOf (resultOf (between (now (words .entry)) (now (tags .entry)) from to)) ⌝ }
+{
+    let mut i = from;
+    while i < to {
+        let j = i;
+        i += 1;
+        let s = tags[j];
+        let w = wide(words[j]);
+        if s == 99 {
+            return w + 1;
+        }
+        if s == 100 {
+            return w;
+        }
+    }
+    0
+}
+
+// Where the block at the word `at` ends.
+fn skip(words: &[u32; 16384], at: usize) -> usize
+    requires { ⌜ at < 16384 ⌝ }
+    requires { ⌜ Steps (now words) (getD (now words) at 0) (at + 1) ⌝ }
+    ensures { λ r. ⌜ r ≡ stepped (getD (now (words .entry)) at 0) (now (words .entry)) (at + 1) ⌝ }
+{
+    let mut n = words[at];
+    let mut i = at + 1;
+    while 0 < n {
+        n -= 1;
+        i += wide(words[i]);
+    }
+    i
+}
+
+// What is found of statements: 0, out of scope; 1, in scope; 2, in scope, with a Continue of the Loop around them.
+fn found(fine: bool) -> u8
+    ensures { λ r. ⌜ r ≡ told fine false ⌝ }
+{
+    if fine {
+        return 1;
+    }
+    0
+}
+
+fn joined(a: u8, b: u8) -> u8
+    ensures { λ r. ⌜ ((h g : Bool) → a ≡ told true h → b ≡ told true g → r ≡ told true (h || g)) ⌝ }
+{
+    if a == 2 {
+        return 2;
+    }
+    b
+}
+
+// How long a block keeps what it evaluates next.
+fn kept(cut: u8, keep: usize, fin: usize) -> usize
+    ensures { λ r. ⌜ ((h : Bool) → cut ≡ told true h → r ≡ keptOf h keep fin) ⌝ }
+{
+    if cut == 2 {
+        return fin;
+    }
+    keep
+}
