@@ -129,6 +129,71 @@ fn reads(
     true
 }
 
+// Expression e of an Emit at the word `at`, in scope up to the word `keep`.
+fn evaluated(
+    words: &[u32; 16384],
+    tags: &[u8; 16384],
+    starts: &[u32; 1025],
+    initial: &[u8; 1024],
+    until: &mut [usize; 1024],
+    count: usize,
+    at: usize,
+    keep: usize,
+    e: usize,
+) -> bool
+    requires { ⌜ Exprs (now words) (now tags) (now starts) count ⌝ }
+    requires { ⌜ at < keep ⌝ }
+    requires { ⌜ e < count ⌝ }
+    ensures { λ r. ⌜ FoundE (now (words .entry)) (now (tags .entry)) (now (starts .entry)) (now (initial .entry)) count at keep e (now (until .entry)) (now (until .exit)) r ⌝ }
+{
+    if !emits(kind(words, starts, e)) {
+        return false;
+    }
+    if until[e] != 0 {
+        return false;
+    }
+    if initial[e] != 0 {
+        until[e] = 1;
+        return true;
+    }
+    let from = wide(starts[e]);
+    let to = wide(starts[e + 1]);
+    if !reads(words, tags, starts, until, count, at, from, to) {
+        return false;
+    }
+    until[e] = keep;
+    true
+}
+
+// The Emit at the word `at`.
+fn emit(
+    words: &[u32; 16384],
+    tags: &[u8; 16384],
+    starts: &[u32; 1025],
+    initial: &[u8; 1024],
+    until: &mut [usize; 1024],
+    count: usize,
+    at: usize,
+    keep: usize,
+) -> bool
+    requires { ⌜ Exprs (now words) (now tags) (now starts) count ⌝ }
+    requires { ⌜ at < keep ⌝ }
+    requires { ⌜ at + 5 < 16384 ⌝ }
+    requires { ⌜ getD (now words) (at + 5) 0 ≤ count ⌝ }
+    ensures { λ r. ⌜ FoundR (now (words .entry)) (now (tags .entry)) (now (starts .entry)) (now (initial .entry)) count at keep (getD (now (words .entry)) (at + 4) 0) (getD (now (words .entry)) (at + 5) 0) (now (until .entry)) (now (until .exit)) r ⌝ }
+{
+    let mut e = wide(words[at + 4]);
+    let to = wide(words[at + 5]);
+    while e < to {
+        let j = e;
+        e += 1;
+        if !evaluated(words, tags, starts, initial, until, count, at, keep, j) {
+            return false;
+        }
+    }
+    true
+}
+
 // What the words from `from` to `to` evaluate: the number plus 1, or 0 for nothing.
 fn result_of(words: &[u32; 16384], tags: &[u8; 16384], from: usize, to: usize) -> usize
     requires { ⌜ to ≤ 16384 ⌝ }
@@ -148,6 +213,93 @@ fn result_of(words: &[u32; 16384], tags: &[u8; 16384], from: usize, to: usize) -
         }
     }
     0
+}
+
+// Is expression e a result that the statement at the word `at` may have?
+fn result_fits(
+    words: &[u32; 16384],
+    tags: &[u8; 16384],
+    starts: &[u32; 1025],
+    count: usize,
+    at: usize,
+    e: usize,
+) -> bool
+    requires { ⌜ Exprs (now words) (now tags) (now starts) count ⌝ }
+    requires { ⌜ at + 4 < 16384 ⌝ }
+    requires { ⌜ e < count ⌝ }
+    ensures { λ r. ⌜ r ≡ fitsResult (exprsOf (now (words .entry)) (now (tags .entry)) (now (starts .entry)) count) (getD (now (words .entry)) (at + 1) 0) (getD (now (words .entry)) (at + 4) 0) (some e) ⌝ }
+{
+    let k = kind(words, starts, e);
+    let s = words[at + 1];
+    if s == 15 {
+        if k != 23 {
+            return false;
+        }
+        let p = wide(starts[e]) + 3;
+        return words[p] == words[at + 4];
+    }
+    if s == 14 {
+        return k == 25;
+    }
+    k == 24
+}
+
+// The result of the statement from the word `at` to the word `stop`.
+fn result(
+    words: &[u32; 16384],
+    tags: &[u8; 16384],
+    starts: &[u32; 1025],
+    until: &mut [usize; 1024],
+    count: usize,
+    at: usize,
+    stop: usize,
+    keep: usize,
+) -> bool
+    requires { ⌜ Exprs (now words) (now tags) (now starts) count ⌝ }
+    requires { ⌜ stop ≤ keep ⌝ }
+    requires { ⌜ stop ≤ 16384 ⌝ }
+    requires { ⌜ at + 4 ≤ stop ⌝ }
+    ensures { λ r. ⌜ FoundO (now (words .entry)) (now (tags .entry)) (now (starts .entry)) count at stop keep (now (until .entry)) (now (until .exit)) r ⌝ }
+{
+    let r = result_of(words, tags, at + 4, stop);
+    if r == 0 {
+        return true;
+    }
+    let e = r - 1;
+    if count <= e {
+        return false;
+    }
+    if !result_fits(words, tags, starts, count, at, e) {
+        return false;
+    }
+    if until[e] != 0 {
+        return false;
+    }
+    until[e] = keep;
+    true
+}
+
+// A statement without blocks that is no Emit: its reads, and its result.
+fn simple(
+    words: &[u32; 16384],
+    tags: &[u8; 16384],
+    starts: &[u32; 1025],
+    until: &mut [usize; 1024],
+    count: usize,
+    at: usize,
+    stop: usize,
+    keep: usize,
+) -> bool
+    requires { ⌜ Exprs (now words) (now tags) (now starts) count ⌝ }
+    requires { ⌜ stop ≤ keep ⌝ }
+    requires { ⌜ stop ≤ 16384 ⌝ }
+    requires { ⌜ at + 4 ≤ stop ⌝ }
+    ensures { λ r. ⌜ FoundL (now (words .entry)) (now (tags .entry)) (now (starts .entry)) count at stop keep (now (until .entry)) (now (until .exit)) r ⌝ }
+{
+    if !reads(words, tags, starts, until, count, at, at + 4, stop) {
+        return false;
+    }
+    result(words, tags, starts, until, count, at, stop, keep)
 }
 
 // Where the block at the word `at` ends.
