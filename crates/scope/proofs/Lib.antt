@@ -2,3 +2,5 @@ pub mod Restated
 pub mod Leaves
 pub mod Scopes
 pub mod Results
+pub mod Trees
+pub mod Blocks
