@@ -4,3 +4,4 @@ pub mod Scopes
 pub mod Results
 pub mod Trees
 pub mod Blocks
+pub mod Parts

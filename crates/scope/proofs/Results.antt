@@ -33,18 +33,18 @@ call-row : more EXPR-KIND 23 ≡ brings (81 ∷ 82 ∷ FUNCTION ∷ [])
 unfolding more variants variant expressions
 call-row = refl
 
-plain : (s w : ℕ) → s < 105 → more s w ≡ brings []
+pub plain : (s w : ℕ) → s < 105 → more s w ≡ brings []
 unfolding more
 plain s w h = rw (more, lt-ltb s 105 h)
 
 -- what a word brings is one row
-brings-one : {xs ys : Row} {m : More} → m ≡ brings xs → m ≡ brings ys → xs ≡ ys
+pub brings-one : {xs ys : Row} {m : More} → m ≡ brings xs → m ≡ brings ys → xs ≡ ys
 brings-one p q = cc
 
 lays-split : {s t w : ℕ} {ss : Row} {cs : Cells} (row : Row) → Lays (s ∷ ss) ((t, w) ∷ cs) → more s w ≡ brings row → Lays (row ++ ss) cs
 lays-split row (lays-next e l) m = rw (brings-one e m) at l
 
-lays-done : {cs : Cells} → Lays [] cs → cs ≡ []
+pub lays-done : {cs : Cells} → Lays [] cs → cs ≡ []
 lays-done lays-none = refl
 
 called-of : {cs : Cells} → Lays (81 ∷ 82 ∷ FUNCTION ∷ []) cs → Called cs
