@@ -5,3 +5,4 @@ pub mod Results
 pub mod Trees
 pub mod Blocks
 pub mod Parts
+pub mod Statements

@@ -132,7 +132,7 @@ unfolding wordOf
 opt-some none r h n = absurd (n h)
 opt-some (some e) r h n = ap some (omega arith)
 
-fits-none : (xs : List Cells) (k f : ℕ) → fitsResult xs k f none ≡ true
+pub fits-none : (xs : List Cells) (k f : ℕ) → fitsResult xs k f none ≡ true
 unfolding fitsResult callResult effectResult
 fits-none xs k f = go (eqb k 15)
   where
