@@ -270,12 +270,18 @@ unfolding told
 joined-rest a b n true g p q = absurd (n p)
 joined-rest a b n false g p q = q
 
-pub kept-cut : (cut keep fin : ℕ) → cut ≡ 2 → (h : Bool) → cut ≡ told true h → fin ≡ keptOf h keep fin
+pub kept-cut : (cut keep fin : ℕ) → cut ≡ 2 → ((h : Bool) → cut ≡ told true h → fin ≡ keptOf h keep fin) × (fin ≤ keep → fin ≤ fin)
 unfolding told keptOf
-kept-cut cut keep fin e true p = refl
-kept-cut cut keep fin e false p = absurd (omega arith)
+kept-cut cut keep fin e = (go, λ q. le-refl fin)
+  where
+    go : (h : Bool) → cut ≡ told true h → fin ≡ keptOf h keep fin
+    go true p = refl
+    go false p = absurd (omega arith)
 
-pub kept-rest : (cut keep fin : ℕ) → (cut ≡ 2 → ⊥) → (h : Bool) → cut ≡ told true h → keep ≡ keptOf h keep fin
+pub kept-rest : (cut keep fin : ℕ) → (cut ≡ 2 → ⊥) → ((h : Bool) → cut ≡ told true h → keep ≡ keptOf h keep fin) × (fin ≤ keep → fin ≤ keep)
 unfolding told keptOf
-kept-rest cut keep fin n true p = absurd (n p)
-kept-rest cut keep fin n false p = refl
+kept-rest cut keep fin n = (go, λ q. q)
+  where
+    go : (h : Bool) → cut ≡ told true h → keep ≡ keptOf h keep fin
+    go true p = absurd (n p)
+    go false p = refl
