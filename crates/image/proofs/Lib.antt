@@ -3,3 +3,9 @@ pub mod Reading
 pub mod Walk
 pub mod Rows
 pub mod Steps
+pub mod Extents
+pub mod Header
+pub mod Sections
+pub mod Whole
+pub mod Laying
+pub mod Held

@@ -1,3 +1,5 @@
 pub mod Parts
 pub mod Rows
 pub mod Walks
+pub mod Extents
+pub mod Layout

@@ -5,6 +5,9 @@ pub mod Readers
 pub mod Sections
 pub mod Plain
 pub mod Views
+pub mod FunctionViews
+pub mod Quiet
+pub mod Betweens
 pub mod Tables
 pub mod Modules
 pub mod Examples

@@ -6,7 +6,7 @@ use mathlib.Core.List.{List, [], _∷_, _++_}
 use Prim.Native.Nat.{ℕ, zero, suc}
 use lib.Dec.{eqb}
 use lib.ListN.{length, getD, replicate, set}
-use Rattle.model.specs.Outcome.{Cell, Cells, class, word}
+use Rattle.model.specs.Outcome.{Cells, class, word}
 use Rattle.model.specs.Table.{LOCAL-INIT}
 use Rattle.model.specs.Tree.{Function}
 use Rattle.model.specs.Operands.{optional, opsOf, ops, kind, standingKind, constantKind}

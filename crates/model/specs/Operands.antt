@@ -6,7 +6,7 @@ use mathlib.Core.Option.{Option, none, some}
 use Prim.Native.Nat.{ℕ, zero, suc}
 use lib.Dec.{eqb, leb}
 use lib.ListN.{getD}
-use Rattle.model.specs.Outcome.{Cell, Cells, class, word}
+use Rattle.model.specs.Outcome.{Cells, class, word}
 use Rattle.model.specs.Table.{FUNCTION, EXPR, OPT-EXPR, RESULT, OPT-RESULT, EXPR-KIND}
 use Rattle.model.specs.Tree.{optOf}
 

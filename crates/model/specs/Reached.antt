@@ -7,12 +7,12 @@ use mathlib.Core.List.{List, [], _∷_, _++_}
 use Prim.Native.Nat.{ℕ, zero, suc, _<_, _≤_}
 use native.Mathlib.Omega.{arith}
 use lib.Dec.{eqb, ltb}
-use lib.ListN.{length, getD, replicate, set, length-set, length-replicate, List·getD-eq-default}
+use lib.ListN.{length, replicate, set, length-set, length-replicate, List·getD-eq-default}
 use borrow.Author.Tests.{ltb-true, ltb-false, eqb-true, eqb-false}
-use Rattle.model.specs.Outcome.{Cell, Cells}
+use Rattle.model.specs.Outcome.{Cells}
 use Rattle.model.specs.Tree.{Function}
-use Rattle.model.specs.Operands.{opsOf, ops, kind, standingKind, constantKind, kindAt, standing}
-use Rattle.model.specs.Initial.{Mem, here, there, Reach, root, step, Reached, roots, Marks, marked, mark, unmarked, readBy, close, reachedMarks, reached, moving, initials, initial, constantAt, initialised}
+use Rattle.model.specs.Operands.{opsOf, ops, kind, constantKind, kindAt, standing}
+use Rattle.model.specs.Initial.{Mem, here, there, root, step, Reached, roots, Marks, marked, mark, unmarked, readBy, close, reachedMarks, reached, moving, initials, initial, constantAt, initialised}
 
 -- ---- tests
 by : (P : Type 0) (b : Bool) → (b ≡ true → P) → (b ≡ false → P) → P

@@ -6,7 +6,7 @@ use mathlib.Core.Option.{Option, none, some}
 use Prim.Native.Nat.{ℕ, zero, suc, _-_}
 use lib.Dec.{eqb}
 use lib.ListN.{getD}
-use Rattle.model.specs.Outcome.{Cell, Cells}
+use Rattle.model.specs.Outcome.{Cells}
 use Rattle.model.specs.Tree.{Stmt, stmt, Form, emit, block, branch, switch, loop, break, continue, return, kill, call, effect, Block, end, _then_, Case, case, Cases, nomore, _also_, Range, Function, Entry}
 use Rattle.model.specs.Module.{Module}
 use Rattle.model.specs.Operands.{opsOf, resultOf, functionOf, emittedKind, ops, kindAt, standing}

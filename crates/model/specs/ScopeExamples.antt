@@ -1,7 +1,7 @@
 -- The Scope paragraph of document 01 by example: for each of its rules a function that passes and, beside it, one that is refused and differs in as little as can be. One table, one theorem.
 use mathlib.Core.Path.{_≡_, refl}
 use mathlib.Core.Bool.{Bool, true, false}
-use mathlib.Core.List.{List, [], _∷_, map}
+use mathlib.Core.List.{List, [], _∷_}
 use mathlib.Core.Option.{Option, none, some}
 use Prim.Native.Nat.{ℕ}
 use lib.ListN.{replicate}
@@ -10,7 +10,7 @@ use Rattle.model.specs.Tree.{optOf, Form, block, branch, switch, loop, b
 use Rattle.model.specs.Operands.{optional, operand, opsOf, resultOf, functionOf, kind, standingKind, resultKind, emittedKind, ops, kindAt, standing}
 use Rattle.model.specs.Initial.{initsOf, roots, marked, mark, unmarked, readBy, close, reachedMarks, moving, initials}
 use Rattle.model.specs.Scope.{upFrom, inRange, live, expandS, shapeS, emitted, isOf, callResult, effectResult, kindsS, evalsOpt, evalsS, has, distinct, addE, addOpt, addF, addS, topB, holdsS, contB, vis, allVis, optVis, okE, okS, allOf, seen, scopedAs, scoped}
-use Rattle.model.specs.Samples.{literal, negate, splat, add, called, swapped, loaded, does, evals, store, atomic, uniformLoad, local, function}
+use Rattle.model.specs.SampleBodies.{literal, negate, called, swapped, loaded, does, evals, store, atomic, uniformLoad, local, function}
 
 abbrev Body : Type 0
 Body = Block Range
@@ -79,6 +79,8 @@ pairs =
     -- "The innermost Loop block or Switch around a Break .. exists and is no continuing block"
     ∷ record { good = f (loops (only break) end none); bad = f (only break) }
     ∷ record { good = f (loops end (only (switch 0 (case [] (only break) 0 also nomore))) none); bad = f (loops end (only (branch 0 (only break) end)) none) }
+    -- not the Switch outside the Loop
+    ∷ record { good = f (only (switch 0 (case [] (only break) 0 also nomore))); bad = f (only (switch 0 (case [] (loops end (only break) none) 0 also nomore))) }
     -- "and the innermost Loop block around a Continue"
     ∷ record { good = f (loops end (loops (only continue) end none) none); bad = f (loops end (only (switch 0 (case [] (only continue) 0 also nomore))) none) }
     ∷ record { good = f (loops (only (switch 0 (case [] (only continue) 0 also nomore))) end none); bad = f (only (switch 0 (case [] (only continue) 0 also nomore))) }
@@ -97,6 +99,6 @@ unfolding scoped
 verdicts [] = []
 verdicts (p ∷ ps) = (scoped (p .good), scoped (p .bad)) ∷ verdicts ps
 
-sentences : verdicts pairs ≡ replicate 24 (true, false)
+sentences : verdicts pairs ≡ replicate 25 (true, false)
 unfolding verdicts pairs optOf optional operand opsOf resultOf functionOf kind standingKind resultKind emittedKind ops kindAt standing initsOf roots marked mark unmarked readBy close reachedMarks moving initials upFrom inRange live expandS shapeS emitted isOf callResult effectResult kindsS evalsOpt evalsS has distinct addE addOpt addF addS topB holdsS contB vis allVis optVis okE okS allOf seen scopedAs scoped
 sentences = refl

@@ -1,17 +1,16 @@
 -- Small walks, computed: which numbers are taken where, the order of events, and each of the five ends. One table, one theorem; and the marks of what a local reaches where operands run forward.
 use mathlib.Core.Path.{_≡_, refl}
-use mathlib.Core.Bool.{Bool, true, false}
+use mathlib.Core.Bool.{true, false}
 use mathlib.Core.List.{List, [], _∷_}
-use mathlib.Core.Option.{Option, none, some}
+use mathlib.Core.Option.{none, some}
 use Prim.Native.Nat.{ℕ}
-use lib.ListN.{length, getD}
 use Rattle.model.specs.Outcome.{Cells}
-use Rattle.model.specs.Tree.{optOf, block, branch, switch, loop, break, continue, return, kill, call, Block, end, _then_, case, nomore, _also_, Range, Function}
-use Rattle.model.specs.Operands.{optional, operand, opsOf, resultOf, kind, standingKind, ops, kindAt}
-use Rattle.model.specs.Initial.{initsOf, roots, marked, mark, unmarked, readBy, close, reachedMarks, reached, moving, initials}
+use Rattle.model.specs.Tree.{optOf, branch, switch, loop, break, continue, return, kill, call, end, _then_, case, nomore, _also_, Function}
+use Rattle.model.specs.Operands.{optional, operand, opsOf, resultOf, kind, standingKind, ops}
+use Rattle.model.specs.Initial.{initsOf, roots, marked, mark, unmarked, readBy, close, reachedMarks, moving, initials}
 use Rattle.model.specs.Scope.{upFrom, inRange, live, expandS, seen}
-use Rattle.model.specs.Walk.{Event, read, eval, calls, exhausted, missing, finished, returned, killed, Trace, halt, _▸_, ends, only, ▸read, ▸readOpt, ▸evalOpt, ▸emit, choose, pick, roundEnd, rounds, fallTo, walkS, walk}
-use Rattle.model.specs.Samples.{literal, negate, splat, add, called, swapped, does, evals, store, atomic, exchange, local, function}
+use Rattle.model.specs.Walk.{read, eval, calls, exhausted, missing, finished, returned, killed, Trace, halt, _▸_, ends, only, ▸read, ▸readOpt, ▸evalOpt, ▸emit, choose, pick, roundEnd, rounds, fallTo, walkS, walk}
+use Rattle.model.specs.SampleBodies.{literal, negate, add, called, swapped, does, evals, store, exchange, local, function}
 
 -- 2: 0 + 1, 3: -2, 4: the result of function 5, 5: that of an Atomic
 abbrev xs : List Cells

@@ -1,6 +1,6 @@
 -- Agreement of two functions through maps, and what it is for a walk to be carried through them. Nothing here knows how the maps came about: a linker's maps, or those that another linker supplies, are held to the same.
 -- A reference is a matter of its cell's class, so one list (`carriers`) says for every record and statement which map each word goes through.
--- Document 01: "that record equals the source's, spans apart, with references carried through the maps and names compared by text. Within a function only standing or initialiser expressions may share a record." Issue of demand 3: one claim on the whole list of numbers.
+-- Document 01: "that record equals the source's, spans apart, with references carried through the maps and names compared by text. Within a function only standing or initialiser expressions may share a record. Demand 3 is one claim on the whole list, not one for each number."
 use mathlib.Core.Path.{_≡_}
 use mathlib.Core.Logic.{_⊎_}
 use mathlib.Core.Bool.{Bool, true, false, not, _||_}
@@ -9,7 +9,7 @@ use mathlib.Core.Option.{Option, none, some}
 use Prim.Native.Nat.{ℕ, zero, suc}
 use lib.Dec.{eqb}
 use lib.ListN.{getD, getElem?}
-use Rattle.model.specs.Outcome.{Cell, Cells, class, word}
+use Rattle.model.specs.Outcome.{Cells, class, word}
 use Rattle.model.specs.Table.{SPAN, UPTO, NAME, TYPE, OPT-TYPE, CONSTANT, OVERRIDE, GLOBAL, INIT, OPT-INIT, FUNCTION, CALLEE, EXPR, OPT-EXPR, RESULT, OPT-RESULT, NAMED-EXPR, LOCAL-INIT}
 use Rattle.model.specs.Tree.{stmt, emit, block, branch, switch, loop, break, continue, return, kill, call, effect, end, _then_, case, nomore, _also_, Function, Entry}
 use Rattle.model.specs.Module.{Module}

@@ -1,23 +1,28 @@
 -- Agreement carries walks. Each part of a walk commutes with carrying: `Is k k′` says that k′ is k carried, for every list of numbers, and a part whose continuations are carried is carried.
 use Prim.Native.Nat.{ℕ, zero, suc}
 use mathlib.Core.Path.{_≡_, refl, ap, sym, _∙_}
-use mathlib.Core.Bool.{Bool, true, false, false≢true}
-use mathlib.Core.List.{List, [], _∷_, _++_, map}
+use mathlib.Core.Bool.{Bool, true, false, _&&_, _||_, not, false≢true}
+use mathlib.Core.List.{List, [], _∷_, map}
 use mathlib.Core.Option.{Option, none, some}
-use lib.ListN.{length, getD}
+use lib.ListN.{length}
 use lib.Dec.{eqb}
 use borrow.Author.Tests.{eqb-true}
-use Rattle.model.specs.Outcome.{Cell, Cells, class, word}
-use Rattle.model.specs.Table.{FUNCTION, EXPR, OPT-EXPR, RESULT, OPT-RESULT, EXPR-KIND}
+use Rattle.model.specs.Outcome.{Cells, class, word}
+use Rattle.model.specs.Table.{SPAN, UPTO, NAME, FUNCTION, EXPR, OPT-EXPR, RESULT, OPT-RESULT, EXPR-KIND}
 use Rattle.model.specs.Tree.{stmt, emit, block, branch, switch, loop, break, continue, return, kill, call, effect, end, _then_, case, nomore, _also_, Function, optOf}
 use Rattle.model.specs.Module.{Module}
-use Rattle.model.specs.Operands.{optional, operand, opsOf, resultOf, functionOf, NO-KIND, kind, ops, kindAt}
-use Rattle.model.specs.Initial.{Mem, here, there}
+use Rattle.model.specs.Operands.{optional, operand, opsOf, resultOf, functionOf, NO-KIND, kind, ops}
+use Rattle.model.specs.Initial.{here, there}
 use Rattle.model.specs.Scope.{XStmt, XForm, XBlock, XCase, XCases, evalsOpt, seen}
-use Rattle.model.specs.Walk.{Event, read, eval, calls, End, Trace, halt, _▸_, finished, Rest, K, ends, only, ▸read, ▸readOpt, ▸evalOpt, ▸emit, choose, pick, roundEnd, rounds, fallTo, walkS, walkF, walkB, walkK, walkC, walk}
-use Rattle.walks.specs.Tests.{by}
+use Rattle.model.specs.Walk.{read, eval, calls, End, Trace, halt, _▸_, finished, Rest, K, ends, only, ▸read, ▸readOpt, ▸evalOpt, ▸emit, choose, pick, roundEnd, rounds, fallTo, walkS, walkF, walkB, walkK, walkC, walk}
+use Rattle.walks.specs.Tests.{and-l, and-r, by}
 use Rattle.walks.specs.Members.{mem-left, mem-right, Each}
-use Rattle.walks.specs.Agreement.{Maps, optWord, carriers, through, carried, textOf, plain, Alike, start, upto, text, field, AlikeR, over, next, carryOpt, carryCells, carryS, carryF, carryB, carryK, carryC, mentionsE, mentionsS, mentionsF, mentionsB, mentionsK, mentionsC, mentioned, Agrees, carryE, carryT, endOf, Carries}
+use Rattle.walks.specs.Agreement.{Maps, optWord, carriers, through, carried, plain, Alike, start, upto, text, field, AlikeR, over, next, carryOpt, carryCells, carryS, carryF, carryB, carryK, carryC, mentionsE, mentionsS, mentionsF, mentionsB, mentionsK, mentionsC, mentioned, Agrees, carryE, carryT, endOf, Carries}
+
+-- no name among the cells
+unfoldable pub nameless : Cells → Bool
+nameless [] = true
+nameless (c ∷ cs) = not (eqb (class c) NAME) && nameless cs
 
 -- ---- cells carried
 module _ (μ : Maps) (f : ℕ → ℕ) where
@@ -105,6 +110,23 @@ module _ (μ : Maps) (f : ℕ → ℕ) where
             → elim p [ true ↦ some w′ | false ↦ functionOf r′ ] ≡ carryOpt (μ .function) (elim p [ true ↦ some w | false ↦ functionOf r ])
         go true h ih = ap some (alike-function-word a h)
         go false h ih = ih
+
+    -- a record without names agrees with itself carried
+    cell-carried : (s w : ℕ) → not (eqb s NAME) ≡ true → Alike M M′ μ f s w (carried μ f s w)
+    unfolding plain
+    cell-carried s w n =
+        by _ (eqb s SPAN) (λ q. rw (eqb-true s SPAN q) start)
+        (λ p. by _ (eqb s UPTO) (λ q. rw (eqb-true s UPTO q) upto) (λ q. field (go (eqb s SPAN) (eqb s UPTO) (eqb s NAME) p q n) refl))
+      where
+        go : (a b c : Bool) → a ≡ false → b ≡ false → not c ≡ true → not (a || (b || c)) ≡ true
+        go true b c p q n = absurd (false≢true (sym p))
+        go false true c p q n = absurd (false≢true (sym q))
+        go false false c p q n = n
+
+    pub alike-carried : (r : Cells) → nameless r ≡ true → AlikeR M M′ μ f r (carryCells μ f r)
+    unfolding nameless carryCells
+    alike-carried [] h = over
+    alike-carried ((s, w) ∷ r) h = next (cell-carried s w (and-l (not (eqb s NAME)) _ h)) (alike-carried r (and-r (not (eqb s NAME)) _ h))
 
   -- ---- the parts of a walk
   -- k′ is k carried

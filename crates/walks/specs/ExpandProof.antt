@@ -1,18 +1,16 @@
 -- What holds of a body with its initialiser expressions dropped because it holds of the body with nothing dropped: its kinds, and that nothing is evaluated twice. And what it evaluates: emitted expressions that were not dropped, and results.
-use Prim.Native.Nat.{ℕ, zero, suc}
-use mathlib.Core.Path.{_≡_, refl, ap, sym, _∙_}
-use mathlib.Core.Logic.{_⊎_, inl, inr, ⊎-elim}
-use mathlib.Core.Bool.{Bool, true, false, _&&_, _||_, not, false≢true}
+use Prim.Native.Nat.{ℕ}
+use mathlib.Core.Path.{_≡_, refl}
+use mathlib.Core.Logic.{⊎-elim}
+use mathlib.Core.Bool.{Bool, true, false, not}
 use mathlib.Core.List.{List, [], _∷_, _++_}
 use mathlib.Core.Option.{Option, none, some}
 use lib.Dec.{eqb}
-use lib.ListN.{getD}
 use borrow.Author.Tests.{eqb-true}
 use Rattle.model.specs.Outcome.{Cells}
 use Rattle.model.specs.Tree.{Stmt, stmt, Form, emit, block, branch, switch, loop, break, continue, return, kill, call, effect, Block, end, _then_, Case, case, Cases, nomore, _also_, Range}
-use Rattle.model.specs.Operands.{resultOf, functionOf, resultKind, emittedKind, kindAt}
-use Rattle.model.specs.Initial.{Mem, here, there}
-use Rattle.model.specs.Scope.{inRange, live, expandS, expandF, expand, expandK, expandC, emitted, isOf, callResult, effectResult, kindsS, kindsF, kindsB, kindsK, kindsC, evalsOpt, evalsS, evalsF, evalsB, evalsK, evalsC, has, distinct}
+use Rattle.model.specs.Operands.{resultOf, resultKind, emittedKind, kindAt}
+use Rattle.model.specs.Scope.{inRange, live, expandS, expandF, expand, expandK, expandC, emitted, callResult, effectResult, kindsS, kindsF, kindsB, kindsK, kindsC, evalsOpt, evalsS, evalsF, evalsB, evalsK, evalsC, has, distinct}
 use Rattle.walks.specs.Tests.{Yes, and-l, and-r, and-both, or-l, or-r, and-map, or-cases, not-map}
 use Rattle.walks.specs.Members.{Each, each-none, each-append, each-cons}
 

@@ -1,6 +1,6 @@
 -- The fuel of a Loop is never met: a Loop is its body, its continuing block, the end of the round, and the Loop again (`loop-unrolls`).
 -- Why: what follows is asked only at lists of numbers no longer than the walk's own, and at a shorter one after a round. So two walks whose continuations agree on such lists agree (`Resp`), and the fuel that is left after a round is again more than there are numbers.
-use Prim.Native.Nat.{ℕ, zero, suc, _<_, _≤_}
+use Prim.Native.Nat.{ℕ, zero, suc, _<_}
 use mathlib.Core.Path.{_≡_, refl, ap}
 use mathlib.Core.List.{List, [], _∷_}
 use mathlib.Core.Option.{Option, none, some}
@@ -10,20 +10,8 @@ use Rattle.model.specs.Outcome.{Cells}
 use Rattle.model.specs.Tree.{stmt, emit, block, branch, switch, loop, break, continue, return, kill, call, effect, end, _then_, case, nomore, _also_}
 use Rattle.model.specs.Operands.{opsOf, resultOf}
 use Rattle.model.specs.Scope.{XStmt, XForm, XBlock, XCase, XCases}
-use Rattle.model.specs.Walk.{read, calls, Trace, _▸_, Rest, K, ends, only, ▸read, ▸evalOpt, ▸emit, choose, pick, roundEnd, rounds, fallTo, walkS, walkF, walkB, walkK, walkC}
+use Rattle.model.specs.Walk.{read, calls, _▸_, Rest, K, only, ▸read, ▸evalOpt, ▸emit, choose, pick, roundEnd, rounds, fallTo, walkS, walkF, walkB, walkK, walkC}
 
--- ---- the statement
--- one round: the body, from which a Break leaves; the continuing block; the end of the round; then `again`
-unfoldable pub round : XBlock → XBlock → Option ℕ → List Cells → Rest → Rest → Rest
-round a b x xs out again =
-    let cont : Rest = walkB b xs (only (roundEnd x out again)) in
-    walkB a xs (record { go = cont; brk = out; con = cont })
-
--- a Loop is a round and the Loop again, with no fuel
-abbrev pub Unrolls : Type 0
-Unrolls = (a b : XBlock) (x : Option ℕ) (xs : List Cells) (k : K) (cs : List ℕ) → walkF (loop a b x) xs k cs ≡ round a b x xs (k .go) (walkF (loop a b x) xs k) cs
-
--- ---- the proof
 -- k and j agree on lists shorter than N
 abbrev Upto : ℕ → Rest → Rest → Type 0
 Upto N k j = (ds : List ℕ) → length ds < N → k ds ≡ j ds
@@ -108,9 +96,10 @@ module _ (xs : List Cells) where
     respC (c also ks) zero N k j h cs l = respK c N _ _ (λ ds m. respC ks zero N k j h ds m) k j h cs l
     respC (c also ks) (suc n) N k j h cs l = respC ks n N k j h cs l
 
--- THEOREM
-pub loop-unrolls : Unrolls
-unfolding walkS rounds round
+pub loop-unrolls : (a b : XBlock) (x : Option ℕ) (xs : List Cells) (k : K) (cs : List ℕ)
+    → walkF (loop a b x) xs k cs
+    ≡ (let cont : Rest = walkB b xs (only (roundEnd x (k .go) (walkF (loop a b x) xs k))) in walkB a xs (record { go = cont; brk = k .go; con = cont }) cs)
+unfolding walkS rounds
 loop-unrolls a b x xs k cs =
     let again : (ds : List ℕ) → suc (length ds) < suc (length cs) → rounds (length cs) _ _ x (k .go) ds ≡ walkF (loop a b x) xs k ds =
     λ ds m. rounds-upto (length cs) (suc (length ds)) (λ i es. walkB a xs i es) (λ i es. walkB b xs i es) x (k .go) (k .go) (respB xs a) (respB xs b) ds (λ es w. refl) (omega arith) (omega arith) in

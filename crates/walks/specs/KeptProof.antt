@@ -1,9 +1,9 @@
 -- The rest of the Scope paragraph through agreement: places, kinds and single evaluation of the body carried.
 -- Single evaluation is where it matters which expressions may share a record: a map that is one to one on what the body evaluates takes distinct numbers to distinct ones.
 use Prim.Native.Nat.{ℕ}
-use mathlib.Core.Path.{_≡_, refl, ap, ap₂, sym, _∙_}
+use mathlib.Core.Path.{_≡_, refl, ap, ap₂}
 use mathlib.Core.Logic.{⊎-elim}
-use mathlib.Core.Bool.{Bool, true, false, _&&_, _||_, not, false≢true}
+use mathlib.Core.Bool.{_&&_}
 use mathlib.Core.List.{List, [], _∷_, _++_, map}
 use mathlib.Core.Option.{Option, none, some}
 use lib.Dec.{eqb}
@@ -14,9 +14,9 @@ use Rattle.model.specs.Tree.{stmt, emit, block, branch, switch, loop, break, co
 use Rattle.model.specs.Operands.{resultOf, functionOf, emittedKind, kindAt}
 use Rattle.model.specs.Initial.{Mem, here, there}
 use Rattle.model.specs.Scope.{XStmt, XForm, XBlock, XCase, XCases, Place, inSwitch, inLoop, inContinuing, shapeS, shapeF, shapeB, shapeK, shapeC, emitted, isOf, callResult, effectResult, kindsS, kindsF, kindsB, kindsK, kindsC, evalsOpt, evalsS, evalsF, evalsB, evalsK, evalsC, has, distinct}
-use Rattle.walks.specs.Tests.{Yes, and-l, and-r, and-later, and-map, or-l, or-r, or-cases, not-map}
+use Rattle.walks.specs.Tests.{Yes, and-later, and-map, or-l, or-r, or-cases, not-map}
 use Rattle.walks.specs.Members.{mem-left, mem-right, Each}
-use Rattle.walks.specs.Agreement.{Maps, carryOpt, carryCells, carryS, carryF, carryB, carryK, carryC}
+use Rattle.walks.specs.Agreement.{Maps, carryOpt, carryS, carryF, carryB, carryK, carryC}
 use Rattle.walks.specs.AgreementProof.{result-carry}
 
 module _ (μ : Maps) (f : ℕ → ℕ) where

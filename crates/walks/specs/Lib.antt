@@ -1,11 +1,15 @@
 pub mod Tests
 pub mod Members
-pub mod FuelProof
 pub mod Reads
-pub mod SoundProof
 pub mod Agreement
+pub mod FuelProof
+pub mod PlaceProof
+pub mod SoundProof
 pub mod AgreementProof
 pub mod ScopeProof
 pub mod ExpandProof
 pub mod MentionProof
 pub mod KeptProof
+pub mod FunctionProof
+pub mod Theorems
+pub mod AgreementExamples

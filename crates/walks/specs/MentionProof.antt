@@ -1,6 +1,5 @@
 -- What a body mentions. What it evaluates is mentioned; and where its reads are in scope, whatever it mentions stands or is evaluated, so that a fact of both is a fact of all that it mentions (`isB`).
 use Prim.Native.Nat.{ℕ}
-use mathlib.Core.Path.{_≡_, refl}
 use mathlib.Core.Logic.{⊎-elim}
 use mathlib.Core.Bool.{Bool, true, false}
 use mathlib.Core.List.{List, [], _∷_, _++_}

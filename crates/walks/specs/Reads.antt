@@ -1,7 +1,7 @@
 -- What it is for a walk to read, apart from standing expressions, only what it has already evaluated: a judgement on its trace, that goes along with the list of what was evaluated.
 use mathlib.Core.Path.{_≡_}
 use mathlib.Core.Bool.{Bool, true}
-use mathlib.Core.List.{List, [], _∷_}
+use mathlib.Core.List.{List, _∷_}
 use Prim.Native.Nat.{ℕ}
 use Rattle.model.specs.Scope.{vis}
 use Rattle.model.specs.Walk.{End, Trace, halt, _▸_, read, eval, calls}

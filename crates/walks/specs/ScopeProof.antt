@@ -1,7 +1,7 @@
 -- What agreement keeps of scope: where a body's reads are in scope, so are those of the body carried, over records that agree. Scopes are carried element by element, and a Continue stands where it stood, so each test of the source is a test of the target.
-use Prim.Native.Nat.{ℕ, zero, suc}
-use mathlib.Core.Path.{_≡_, refl, ap, ap₂, sym, _∙_, subst}
-use mathlib.Core.Bool.{Bool, true, false, _&&_, _||_, false≢true}
+use Prim.Native.Nat.{ℕ}
+use mathlib.Core.Path.{_≡_, refl, ap, ap₂, sym, _∙_}
+use mathlib.Core.Bool.{Bool, true, false, _||_, false≢true}
 use mathlib.Core.List.{List, [], _∷_, _++_, map}
 use mathlib.Core.Option.{Option, none, some}
 use lib.Dec.{eqb}
@@ -9,10 +9,10 @@ use borrow.Author.Tests.{eqb-true, eq-eqb}
 use Rattle.model.specs.Outcome.{Cells}
 use Rattle.model.specs.Tree.{stmt, emit, block, branch, switch, loop, break, continue, return, kill, call, effect, end, _then_, case, nomore, _also_}
 use Rattle.model.specs.Operands.{opsOf, resultOf, ops, standing}
-use Rattle.model.specs.Initial.{Mem, here, there}
+use Rattle.model.specs.Initial.{here, there}
 use Rattle.model.specs.Scope.{XStmt, XForm, XBlock, XCase, XCases, evalsOpt, addE, addOpt, addF, addS, topB, holdsS, holdsF, holdsB, holdsK, holdsC, contB, vis, allVis, optVis, okE, okS, okF, okB, okK, okC}
 use Rattle.walks.specs.Tests.{Yes, and-map, or-map}
-use Rattle.walks.specs.Agreement.{Maps, carryOpt, carryCells, carryS, carryF, carryB, carryK, carryC, mentionsE, mentionsS, mentionsF, mentionsB, mentionsK, mentionsC}
+use Rattle.walks.specs.Agreement.{Maps, carryOpt, carryS, carryF, carryB, carryK, carryC, mentionsE, mentionsS, mentionsF, mentionsB, mentionsK, mentionsC}
 use Rattle.walks.specs.Members.{mem-left, mem-right, Each}
 use Rattle.walks.specs.AgreementProof.{ops-carry, result-carry}
 

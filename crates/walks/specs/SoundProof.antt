@@ -1,8 +1,8 @@
 -- Scope is sound: in a walk of a body whose reads are in scope nothing is read before it is evaluated.
 -- The invariant: what is in scope (ρ) has been evaluated (σ), `Sub ρ σ`. `Runs ρ k`: from whatever has evaluated ρ, the trace of k is sound. A part of a body is sound if what follows it is, each at the scope that it finds: behind it, at its Breaks, at its Continues (`Does`).
 use Prim.Native.Nat.{ℕ, zero, suc}
-use mathlib.Core.Path.{_≡_, refl}
-use mathlib.Core.Bool.{Bool, true, false, _&&_, _||_, false≢true}
+use mathlib.Core.Path.{refl}
+use mathlib.Core.Bool.{Bool, true, false, _||_, false≢true}
 use mathlib.Core.List.{List, [], _∷_}
 use mathlib.Core.Option.{Option, none, some}
 use lib.ListN.{length}
@@ -11,7 +11,7 @@ use Rattle.model.specs.Outcome.{Cells}
 use Rattle.model.specs.Tree.{stmt, emit, block, branch, switch, loop, break, continue, return, kill, call, effect, end, _then_, case, nomore, _also_}
 use Rattle.model.specs.Operands.{opsOf, resultOf, ops, standing}
 use Rattle.model.specs.Scope.{XStmt, XForm, XBlock, XCase, XCases, addE, addOpt, addF, addS, topB, holdsS, holdsF, holdsB, holdsK, holdsC, contB, vis, allVis, optVis, okE, okS, okF, okB, okK, okC}
-use Rattle.model.specs.Walk.{read, eval, calls, End, finished, Trace, halt, _▸_, Rest, K, ends, only, ▸read, ▸readOpt, ▸evalOpt, ▸emit, choose, pick, roundEnd, rounds, fallTo, walkS, walkF, walkB, walkK, walkC}
+use Rattle.model.specs.Walk.{End, finished, Trace, Rest, K, ends, only, ▸read, ▸readOpt, ▸evalOpt, ▸emit, choose, pick, roundEnd, rounds, fallTo, walkS, walkF, walkB, walkK, walkC}
 use Rattle.walks.specs.Tests.{Yes, and-l, and-r, or-l, or-r, or-later}
 use Rattle.walks.specs.Reads.{Sound, s-halt, s-read, s-eval, s-call}
 

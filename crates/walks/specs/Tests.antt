@@ -1,5 +1,5 @@
 -- Tests that pass: conjunctions and disjunctions of Booleans that equal true.
-use mathlib.Core.Path.{_≡_, refl, sym, _∙_}
+use mathlib.Core.Path.{_≡_, refl}
 use mathlib.Core.Logic.{_⊎_, inl, inr}
 use mathlib.Core.Bool.{Bool, true, false, _&&_, _||_, not, false≢true}
 

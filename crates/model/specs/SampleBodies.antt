@@ -1,10 +1,9 @@
 -- Small hand-made functions: the parts of which the examples on scope and walks are put together.
 use mathlib.Core.List.{List, [], _∷_}
-use mathlib.Core.Option.{Option, none, some}
 use Prim.Native.Nat.{ℕ}
-use Rattle.model.specs.Outcome.{Cell, Cells}
+use Rattle.model.specs.Outcome.{Cells}
 use Rattle.model.specs.Table.{WORD, NAME, TYPE, FUNCTION, EXPR, OPT-EXPR, OPT-RESULT, RESULT, LOCAL-INIT, EXPR-KIND, ATOMIC, SPAN, UPTO}
-use Rattle.model.specs.Tree.{Stmt, stmt, Form, emit, call, effect, Block, end, _then_, Range, Function}
+use Rattle.model.specs.Tree.{Stmt, stmt, Form, emit, effect, Block, Range, Function}
 
 -- ---- expressions
 abbrev pub record-of : ℕ → Cells → Cells

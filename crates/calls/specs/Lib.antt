@@ -1,0 +1,4 @@
+pub mod Marks
+pub mod Placing
+pub mod Claims
+pub mod Examples

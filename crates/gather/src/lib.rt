@@ -1,0 +1,98 @@
+// The callees of every table function, from words and tape: one pass over the words of each
+// function record, which marks each word of the class CALLEE. Then the order of output.
+use calls::Ordered;
+ghost use mathlib.Core.Path.{_≡_};
+ghost use Prim.Native.Nat.{suc, _+_, _^_, _≤_, _<_};
+ghost use lib.ListN.{length};
+ghost use Rattle.model.specs.Module.{countAt, offsetAt};
+ghost use Rattle.model.specs.View.{recordAt, recordEnd};
+ghost use Rattle.model.specs.Taped.{Tape};
+ghost use Rattle.calls.specs.Marks.{NoCalls};
+ghost use Rattle.gather.specs.Gathering.{picked, calledBy, Markable, Framed, Known, Marks, Gathered, Listed};
+
+pub fn wide(x: u32) -> usize
+    ensures { λ r. ⌜ (r ≡ x) × (r < 2 ^ 32) ⌝ }
+{
+    x as usize
+}
+
+// Where record i of section k starts: at its offset from the start of the section.
+pub fn record_at(words: &[u32; 16384], k: usize, i: usize) -> usize
+    requires { ⌜ (length (now words) ≡ 16384) × (k < 8) × (offsetAt k (now words) + i < 16384) ⌝ }
+    ensures { λ r. ⌜ (r ≡ recordAt k i (now (words .entry))) × (r < 2 ^ 33) ⌝ }
+{
+    let base = wide(words[3 + 2 * k]);
+    base + wide(words[base + i])
+}
+
+// Where function i ends: where the next one starts, the last where the entry points start.
+fn end(words: &[u32; 16384], i: usize) -> usize
+    requires { ⌜ (length (now words) ≡ 16384) × (i < countAt 6 (now words)) × (offsetAt 6 (now words) + countAt 6 (now words) ≤ 16384) ⌝ }
+    ensures { λ r. ⌜ r ≡ recordEnd 6 i (now (words .entry)) ⌝ }
+{
+    if i + 1 == wide(words[14]) {
+        return wide(words[17]);
+    }
+    record_at(words, 6, i + 1)
+}
+
+// Function i calls what the words from `at` to `end` call.
+fn scan(
+    words: &[u32; 16384],
+    tags: &[u8; 16384],
+    at: usize,
+    end: usize,
+    i: usize,
+    callees: &mut [u64; 1024],
+)
+    requires { ⌜ Markable (now words) (now tags) at end i (now callees) ⌝ }
+    ensures { λ _. ⌜ Marks (now (callees .entry)) i (picked (now (words .entry)) (now (tags .entry)) at end) (now (callees .exit)) ⌝ }
+{
+    let mut j = at;
+    while j < end {
+        let k = j;
+        j += 1;
+        if tags[k] == 92 {
+            calls::mark(callees, i, wide(words[k]));
+        }
+    }
+}
+
+// Function i calls what its record calls.
+fn function(words: &[u32; 16384], tags: &[u8; 16384], i: usize, callees: &mut [u64; 1024])
+    requires { ⌜ Framed (now words) (now tags) ⌝ }
+    requires { ⌜ (i < countAt 6 (now words)) × (length (now callees) ≡ 1024) ⌝ }
+    ensures { λ _. ⌜ Marks (now (callees .entry)) i (calledBy (now (words .entry)) (now (tags .entry)) i) (now (callees .exit)) ⌝ }
+{
+    let from = record_at(words, 6, i);
+    let to = end(words, i);
+    scan(words, tags, from, to, i, callees);
+}
+
+// What every table function calls.
+pub fn gather(words: &[u32; 16384], tags: &[u8; 16384], n: usize, callees: &mut [u64; 1024])
+    requires { ⌜ Tape (now words) (now tags) n ⌝ }
+    requires { ⌜ Known (now words) (now tags) n ⌝ }
+    requires { ⌜ NoCalls (now callees) ⌝ }
+    ensures { λ _. ⌜ Gathered (now (words .entry)) (now (tags .entry)) n (now (callees .exit)) ⌝ }
+{
+    let count = wide(words[14]);
+    let mut i = 0;
+    while i < count {
+        let f = i;
+        i += 1;
+        function(words, tags, f, callees);
+    }
+}
+
+// The order of the module's functions, as their source numbers, goes to the start of `out`.
+pub fn order_of(words: &[u32; 16384], tags: &[u8; 16384], n: usize, out: &mut [u32; 256]) -> Ordered
+    requires { ⌜ Tape (now words) (now tags) n ⌝ }
+    requires { ⌜ Known (now words) (now tags) n ⌝ }
+    requires { ⌜ length (now out) ≡ 256 ⌝ }
+    ensures { λ r. ⌜ Listed (now (words .entry)) (now (tags .entry)) n (now (out .entry)) r (now (out .exit)) ⌝ }
+{
+    let mut callees = calls::clear();
+    gather(words, tags, n, &mut callees);
+    calls::order(&callees, wide(words[14]), out)
+}

@@ -1,0 +1,127 @@
+use native.Mathlib.Omega.{arith}
+use mathlib.Core.Path.{_∙_}
+use Rattle.lower.proofs.Answer.{types-answer, exprs-answer, inits-answer, functions-answer, entries-answer, stretch, reach, types-fail, exprs-fail, inits-fail, functions-fail, last}
+use borrow.Author.Needs.{needs}
+use Rattle.lower.proofs.lower.Statement.{statement}
+use Rattle.lower.proofs.lower.Tie as tie
+use Rattle.lower.proofs.lower.Reads as reads
+use Rattle.lower.proofs.lower.Lts as lts
+use Rattle.lower.proofs.inits.Reads as inits-reads
+use Rattle.lower.proofs.operands.Reads as operands-reads
+use Rattle.lower.proofs.types.Reads as types-reads
+use Rattle.lower.proofs.wide.Reads as wide-reads
+
+-- src/lib.rt:161:22
+element-copy-out-wide : tie.Need-element-copy-out-wide
+element-copy-out-wide c = search needs
+
+-- src/lib.rt:161:9
+wide-requires : tie.Need-wide-requires
+wide-requires c κs = search needs
+
+-- src/lib.rt:162:26
+element-copy-out-wide-2 : tie.Need-element-copy-out-wide-2
+element-copy-out-wide-2 c = search needs
+
+-- src/lib.rt:162:9
+wide-requires-2 : tie.Need-wide-requires-2
+wide-requires-2 c κs = search needs
+
+-- src/lib.rt:163:24
+element-copy-out-wide-3 : tie.Need-element-copy-out-wide-3
+element-copy-out-wide-3 c = search needs
+
+-- src/lib.rt:163:9
+wide-requires-3 : tie.Need-wide-requires-3
+wide-requires-3 c κs = search needs
+
+-- src/lib.rt:164:33
+element-copy-out-wide-4 : tie.Need-element-copy-out-wide-4
+element-copy-out-wide-4 c = search needs
+
+-- src/lib.rt:164:28
+wide-requires-4 : tie.Need-wide-requires-4
+wide-requires-4 c κs = search needs
+
+-- src/lib.rt:164:49
+element-copy-out-wide-5 : tie.Need-element-copy-out-wide-5
+element-copy-out-wide-5 c = search needs
+
+-- src/lib.rt:164:44
+wide-requires-5 : tie.Need-wide-requires-5
+wide-requires-5 c κs = search needs
+
+-- src/lib.rt:164:9
+types-requires : tie.Need-types-requires
+types-requires c κs = stretch (c .before .before .before .before .before .before .before .before .before .before .pre) 1 _ _ (omega arith) (c .before .before .wide4 .ensures .0) (c .wide5 .ensures .0)
+
+-- src/lib.rt:165:9
+returns : tie.Need-returns
+returns c = λ m t. types-fail m _ (c .before .types .ensures ∙ types-answer t _ _ (c .before .before .before .before .wide4 .ensures .0) (c .before .before .wide5 .ensures .0)) (c .if1 .taken)
+
+-- src/lib.rt:167:9
+operands-requires : tie.Need-operands-requires
+operands-requires c κs = stretch (c .before .before .before .before .before .before .before .before .before .before .before .before .pre) 5 _ _ (omega arith) (c .before .before .before .before .before .before .before .before .before .before .wide .ensures .0) (c .before .before .before .before .before .before .before .before .wide2 .ensures .0)
+
+-- src/lib.rt:168:9
+returns-2 : tie.Need-returns-2
+returns-2 c = λ m t. exprs-fail m _ (c .before .before .before .types .ensures ∙ types-answer t _ _ (c .before .before .before .before .before .before .wide4 .ensures .0) (c .before .before .before .before .wide5 .ensures .0)) (c .before .before .if1 .left) _ (c .before .operands .ensures ∙ exprs-answer t _ _ (c .before .before .before .before .before .before .before .before .before .before .before .before .wide .ensures .0) (c .before .before .before .before .before .before .before .before .before .before .wide2 .ensures .0)) (c .if2 .taken)
+
+-- src/lib.rt:170:9
+inits-requires : tie.Need-inits-requires
+inits-requires c κs = (stretch (c .before .before .before .before .before .before .before .before .before .before .before .before .before .before .pre) 5 _ _ (omega arith) (c .before .before .before .before .before .before .before .before .before .before .before .before .wide .ensures .0) (c .before .before .before .before .before .before .before .before .before .before .wide2 .ensures .0), reach (c .before .before .before .before .before .before .before .before .before .before .before .before .before .before .pre))
+
+-- src/lib.rt:171:9
+returns-3 : tie.Need-returns-3
+returns-3 c = λ m t. inits-fail m _ (c .before .before .before .before .before .types .ensures ∙ types-answer t _ _ (c .before .before .before .before .before .before .before .before .wide4 .ensures .0) (c .before .before .before .before .before .before .wide5 .ensures .0)) (c .before .before .before .before .if1 .left) _ (c .before .before .before .operands .ensures ∙ exprs-answer t _ _ (c .before .before .before .before .before .before .before .before .before .before .before .before .before .before .wide .ensures .0) (c .before .before .before .before .before .before .before .before .before .before .before .before .wide2 .ensures .0)) (c .before .before .if2 .left) _ (c .before .inits .ensures ∙ inits-answer t _ _ (c .before .before .before .before .before .before .before .before .before .before .before .before .before .before .wide .ensures .0) (c .before .before .before .before .before .before .before .before .before .before .before .before .wide2 .ensures .0)) (c .if3 .taken)
+
+-- src/lib.rt:173:9
+operands-requires-2 : tie.Need-operands-requires-2
+operands-requires-2 c κs = stretch (c .before .before .before .before .before .before .before .before .before .before .before .before .before .before .before .before .pre) 6 _ _ (omega arith) (c .before .before .before .before .before .before .before .before .before .before .before .before .wide2 .ensures .0) (c .before .before .before .before .before .before .before .before .before .before .wide3 .ensures .0)
+
+-- src/lib.rt:174:9
+returns-4 : tie.Need-returns-4
+returns-4 c = λ m t. functions-fail m _ (c .before .before .before .before .before .before .before .types .ensures ∙ types-answer t _ _ (c .before .before .before .before .before .before .before .before .before .before .wide4 .ensures .0) (c .before .before .before .before .before .before .before .before .wide5 .ensures .0)) (c .before .before .before .before .before .before .if1 .left) _ (c .before .before .before .before .before .operands .ensures ∙ exprs-answer t _ _ (c .before .before .before .before .before .before .before .before .before .before .before .before .before .before .before .before .wide .ensures .0) (c .before .before .before .before .before .before .before .before .before .before .before .before .before .before .wide2 .ensures .0)) (c .before .before .before .before .if2 .left) _ (c .before .before .before .inits .ensures ∙ inits-answer t _ _ (c .before .before .before .before .before .before .before .before .before .before .before .before .before .before .before .before .wide .ensures .0) (c .before .before .before .before .before .before .before .before .before .before .before .before .before .before .wide2 .ensures .0)) (c .before .before .if3 .left) _ (c .before .operands2 .ensures ∙ functions-answer t _ _ (c .before .before .before .before .before .before .before .before .before .before .before .before .before .before .wide2 .ensures .0) (c .before .before .before .before .before .before .before .before .before .before .before .before .wide3 .ensures .0)) (c .if4 .taken)
+
+-- src/lib.rt:176:41
+element-copy-out-wide-6 : tie.Need-element-copy-out-wide-6
+element-copy-out-wide-6 c = search needs
+
+-- src/lib.rt:176:36
+wide-requires-6 : tie.Need-wide-requires-6
+wide-requires-6 c κs = search needs
+
+-- src/lib.rt:176:5
+operands-requires-3 : tie.Need-operands-requires-3
+operands-requires-3 c κs = stretch (c .before .before .before .before .before .before .before .before .before .before .before .before .before .before .before .before .before .before .before .before .pre) 7 _ _ (omega arith) (c .before .before .before .before .before .before .before .before .before .before .before .before .before .before .wide3 .ensures .0) (c .wide6 .ensures .0)
+
+-- src/lib.rt:157:1
+returns-5 : tie.Need-returns-5
+returns-5 c = λ m t. last m _ (c .before .before .before .before .before .before .before .before .before .before .types .ensures ∙ types-answer t _ _ (c .before .before .before .before .before .before .before .before .before .before .before .before .before .wide4 .ensures .0) (c .before .before .before .before .before .before .before .before .before .before .before .wide5 .ensures .0)) (c .before .before .before .before .before .before .before .before .before .if1 .left) _ (c .before .before .before .before .before .before .before .before .operands .ensures ∙ exprs-answer t _ _ (c .before .before .before .before .before .before .before .before .before .before .before .before .before .before .before .before .before .before .before .wide .ensures .0) (c .before .before .before .before .before .before .before .before .before .before .before .before .before .before .before .before .before .wide2 .ensures .0)) (c .before .before .before .before .before .before .before .if2 .left) _ (c .before .before .before .before .before .before .inits .ensures ∙ inits-answer t _ _ (c .before .before .before .before .before .before .before .before .before .before .before .before .before .before .before .before .before .before .before .wide .ensures .0) (c .before .before .before .before .before .before .before .before .before .before .before .before .before .before .before .before .before .wide2 .ensures .0)) (c .before .before .before .before .before .if3 .left) _ (c .before .before .before .before .operands2 .ensures ∙ functions-answer t _ _ (c .before .before .before .before .before .before .before .before .before .before .before .before .before .before .before .before .before .wide2 .ensures .0) (c .before .before .before .before .before .before .before .before .before .before .before .before .before .before .before .wide3 .ensures .0)) (c .before .before .before .if4 .left) _ (c .operands3 .ensures ∙ entries-answer t _ _ (c .before .before .before .before .before .before .before .before .before .before .before .before .before .before .before .wide3 .ensures .0) (c .before .wide6 .ensures .0))
+
+pub lower-spec : {M : Type 1} → statement M
+lower-spec =
+    tie.close
+    (tie.spec
+    element-copy-out-wide
+    wide-requires
+    element-copy-out-wide-2
+    wide-requires-2
+    element-copy-out-wide-3
+    wide-requires-3
+    element-copy-out-wide-4
+    wide-requires-4
+    element-copy-out-wide-5
+    wide-requires-5
+    types-requires
+    returns
+    operands-requires
+    returns-2
+    inits-requires
+    returns-3
+    operands-requires-2
+    returns-4
+    element-copy-out-wide-6
+    wide-requires-6
+    operands-requires-3
+    returns-5)

@@ -1,0 +1,177 @@
+// Refusal 4 of document 01: a base, a member, an operand or an init that is not lower than what names it. Flat passes over the words and the
+// tape, linear in the words. `count` is how many records have begun, so the record that is being read has the number count - 1.
+ghost use mathlib.Core.Path.{_≡_};
+ghost use Prim.Native.Nat.{_+_, _*_, _^_, _<_};
+ghost use lib.ListN.{getD};
+ghost use Rattle.model.specs.Module.{Module, countAt};
+ghost use Rattle.model.specs.Taped.{Tape, Taped};
+ghost use Rattle.model.specs.Between.{between, Stretch};
+ghost use Rattle.model.specs.Lower.{lower as lowerOf};
+ghost use Rattle.lower.specs.Passes.{pass, typeNext, typeOk, exprNext, exprOk, wordAt, initOk, Reaches};
+
+fn wide(x: u32) -> usize
+    ensures { λ r. ⌜ (r ≡ x) × (r < 2 ^ 32) ⌝ }
+{
+    x as usize
+}
+
+// A type begins with its kind.
+fn type_next(s: u8, count: usize) -> usize
+    requires { ⌜ count < 16384 ⌝ }
+    ensures { λ r. ⌜ r ≡ typeNext s count ⌝ }
+{
+    if s == 115 {
+        return count + 1;
+    }
+    count
+}
+
+// A base or a member is lower.
+fn type_ok(s: u8, w: u32, count: usize) -> bool
+    ensures { λ r. ⌜ r ≡ typeOk s w count ⌝ }
+{
+    if s == 84 {
+        return wide(w) + 1 < count;
+    }
+    true
+}
+
+// An expression begins with its kind; behind a function's expressions stand those that are named.
+fn expr_next(s: u8, count: usize) -> usize
+    requires { ⌜ count < 16384 ⌝ }
+    ensures { λ r. ⌜ r ≡ exprNext s count ⌝ }
+{
+    if s == 116 {
+        return count + 1;
+    }
+    if s == 114 {
+        return 0;
+    }
+    count
+}
+
+// An operand is lower; what statements read is not tested here.
+fn expr_ok(s: u8, w: u32, count: usize) -> bool
+    ensures { λ r. ⌜ r ≡ exprOk s w count ⌝ }
+{
+    if count == 0 {
+        return true;
+    }
+    if s == 93 {
+        return wide(w) + 1 < count;
+    }
+    if s == 94 {
+        return wide(w) < count;
+    }
+    true
+}
+
+// Word d of record j of section k.
+fn word_at(words: &[u32; 16384], k: usize, j: usize, d: usize) -> usize
+    requires { ⌜ (k < 9) × (j < countAt k (now words)) × (d < 8) ⌝ }
+    requires { ⌜ Reaches (now words) k d ⌝ }
+    ensures { λ r. ⌜ (r ≡ wordAt (now (words .entry)) k j d) × (r < 2 ^ 32) ⌝ }
+{
+    let base = wide(words[3 + 2 * k]);
+    let at = base + wide(words[base + j]);
+    wide(words[at + d])
+}
+
+// The init of a constant or an override that is named is lower.
+fn init_ok(words: &[u32; 16384], s: u8, w: u32, count: usize) -> bool
+    requires { ⌜ Reaches (now words) 2 4 × Reaches (now words) 3 5 ⌝ }
+    ensures { λ r. ⌜ r ≡ initOk (now (words .entry)) s w count ⌝ }
+{
+    let j = wide(w);
+    if s == 86 {
+        if wide(words[6]) <= j {
+            return true;
+        }
+        return word_at(words, 2, j, 4) + 1 < count;
+    }
+    if s == 87 {
+        if wide(words[8]) <= j {
+            return true;
+        }
+        return word_at(words, 3, j, 5) < count;
+    }
+    true
+}
+
+fn types(words: &[u32; 16384], tags: &[u8; 16384], at: usize, end: usize) -> bool
+    requires { ⌜ Stretch (now words) (now tags) at end ⌝ }
+    ensures { λ r. ⌜ r ≡ pass (between (now (tags .entry)) (now (words .entry)) at end) typeNext typeOk 0 ⌝ }
+{
+    let mut count = 0;
+    let mut i = at;
+    while i < end {
+        let j = i;
+        i += 1;
+        let s = tags[j];
+        count = type_next(s, count);
+        if !type_ok(s, words[j], count) {
+            return false;
+        }
+    }
+    true
+}
+
+fn operands(words: &[u32; 16384], tags: &[u8; 16384], at: usize, end: usize) -> bool
+    requires { ⌜ Stretch (now words) (now tags) at end ⌝ }
+    ensures { λ r. ⌜ r ≡ pass (between (now (tags .entry)) (now (words .entry)) at end) exprNext exprOk 0 ⌝ }
+{
+    let mut count = 0;
+    let mut i = at;
+    while i < end {
+        let j = i;
+        i += 1;
+        let s = tags[j];
+        count = expr_next(s, count);
+        if !expr_ok(s, words[j], count) {
+            return false;
+        }
+    }
+    true
+}
+
+fn inits(words: &[u32; 16384], tags: &[u8; 16384], at: usize, end: usize) -> bool
+    requires { ⌜ Stretch (now words) (now tags) at end ⌝ }
+    requires { ⌜ Reaches (now words) 2 4 × Reaches (now words) 3 5 ⌝ }
+    ensures { λ r. ⌜ r ≡ pass (between (now (tags .entry)) (now (words .entry)) at end) exprNext (initOk (now (words .entry))) 0 ⌝ }
+{
+    let mut count = 0;
+    let mut i = at;
+    while i < end {
+        let j = i;
+        i += 1;
+        let s = tags[j];
+        count = expr_next(s, count);
+        if !init_ok(words, s, words[j], count) {
+            return false;
+        }
+    }
+    true
+}
+
+// Whether every reference of the image that words and tape hold is lower.
+pub fn lower(words: &[u32; 16384], tags: &[u8; 16384], n: usize) -> bool
+    requires { ⌜ Tape (now words) (now tags) n ⌝ }
+    ensures { λ r. ⌜ ((m : Module) → Taped (now (words .entry)) (now (tags .entry)) n m → r ≡ lowerOf m) ⌝ }
+{
+    let exprs = wide(words[13]);
+    let functions = wide(words[15]);
+    let entries = wide(words[17]);
+    if !types(words, tags, wide(words[5]), wide(words[7])) {
+        return false;
+    }
+    if !operands(words, tags, exprs, functions) {
+        return false;
+    }
+    if !inits(words, tags, exprs, functions) {
+        return false;
+    }
+    if !operands(words, tags, functions, entries) {
+        return false;
+    }
+    operands(words, tags, entries, wide(words[19]))
+}

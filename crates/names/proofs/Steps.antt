@@ -1,0 +1,329 @@
+-- The steps of the passes: one lemma for each return, each turn of a loop and each call.
+use mathlib.Core.Path.{_≡_, refl, sym, ap, ap₂, _∙_}
+use mathlib.Core.Bool.{Bool, true, false, _&&_, not}
+use mathlib.Core.List.{List, [], _∷_}
+use Prim.Native.Nat.{ℕ, zero, suc, _+_, _-_, _*_, _≤_, _<_}
+use native.Mathlib.Numerals.{add-one}
+use native.Mathlib.Omega.{arith}
+use lib.Dec.{eqb, ltb}
+use lib.ListN.{length, getD, set, replicate, length-set, length-replicate}
+use lib.Seq.{slice, slice-cons, length-slice}
+use borrow.Author.Tests.{eq-eqb, ne-eqb, ltb-true, ltb-false, not-true, not-false}
+use Rattle.model.specs.Outcome.{Cells}
+use Rattle.model.specs.Table.{NAME, NAMED-EXPR, NAMED}
+use Rattle.model.specs.Module.{countAt, offsetAt, endAt}
+use Rattle.model.specs.View.{recordAt, recordEnd}
+use Rattle.model.specs.Between.{between, Stretch}
+use Rattle.model.specs.Carry.{Each, each-none, each-next}
+use Rattle.model.specs.Names.{present, absent, distinct, same, unlike, differ}
+use Rattle.laws.proofs.Betweens.{between-none, between-next, slice-none}
+use Rattle.names.specs.Passes.{listing, placeOf, numberAt, Placed, nameAt, Spelled, unnamed, NONE, marking, Small}
+
+-- ---- places
+module _ (ws : List ℕ) (k j b : ℕ) (p : Placed ws k) (h : j < countAt k ws) (is : b ≡ getD ws (3 + 2 * k) 0) where
+  pair-is : k ≡ 8 → b + 3 + 2 * j ≡ placeOf ws k j
+  unfolding placeOf offsetAt
+  pair-is e = rw (placeOf, eq-eqb k 8 e, is, e)
+
+  pub pair-placed : k ≡ 8 → (b + 3 + 2 * j ≡ placeOf ws k j) × (b + 3 + 2 * j < 16384)
+  pair-placed e = let q = pair-is e in (q, omega (arith, p .place j h))
+
+  module _ (other : k ≡ 8 → ⊥) where
+    pub offset-in : b + j < 16384
+    unfolding offsetAt
+    offset-in = rw is (p .offset j h other)
+
+    record-is : (a : ℕ) → a ≡ getD ws (b + j) 0 → b + a ≡ placeOf ws k j
+    unfolding placeOf offsetAt recordAt
+    record-is a e = rw (placeOf, ne-eqb k 8 other, e, is)
+
+    pub record-placed : (a : ℕ) → a ≡ getD ws (b + j) 0 → (b + a ≡ placeOf ws k j) × (b + a < 16384)
+    record-placed a e = let q = record-is a e in (q, omega (arith, p .place j h))
+
+pub count-is : (ws : List ℕ) (k r : ℕ) → r ≡ getD ws (2 + 2 * k) 0 → r ≡ countAt k ws
+unfolding countAt
+count-is ws k r e = e
+
+pub number-is : (ws : List ℕ) (k j a r : ℕ) → a ≡ placeOf ws k j → r ≡ getD ws a 0 → r ≡ numberAt ws k j
+unfolding numberAt
+number-is ws k j a r p e = e ∙ ap (λ x. getD ws x 0) p
+
+-- ---- loops over numbers and names: f of what is left is the whole
+pub record Over {A : Type 0} (f : List A → Bool) (at : ℕ → A) (whole : Bool) (n i : ℕ) : Type 0 where
+  pub within : i ≤ n
+  pub same : f (listing at (n - i) i) ≡ whole
+
+module _ {A : Type 0} (f : List A → Bool) (at : ℕ → A) (whole : Bool) (n : ℕ) where
+  pub over-all : (c : ℕ) → n ≡ c → f (listing at c 0) ≡ whole → Over f at whole n 0
+  over-all c e h = let z : n - 0 ≡ c = omega arith in record { within = omega arith; same = rw z h }
+
+  pub over-from : (c i : ℕ) → n ≡ c → i ≤ c → f (listing at (c - i) i) ≡ whole → Over f at whole n i
+  over-from c i e l h = record { within = omega arith; same = rw e h }
+
+  module _ (i : ℕ) (o : Over f at whole n i) where
+    pub over-none : n ≤ i → f [] ≡ whole
+    unfolding listing
+    over-none h = let z : n - i ≡ 0 = omega arith in rw z at (o .same)
+
+    pub over-next : i < n → f (at i ∷ listing at (n - (i + 1)) (i + 1)) ≡ whole
+    unfolding listing
+    over-next h = let z : n - i ≡ suc (n - suc i) = omega arith in rw (add-one i) (rw z at (o .same))
+
+    pub over-on : i < n → f (at i ∷ listing at (n - (i + 1)) (i + 1)) ≡ f (listing at (n - (i + 1)) (i + 1)) → Over f at whole n (i + 1)
+    over-on h e = record { within = omega arith; same = sym e ∙ over-next h }
+
+-- at the end
+pub present-done : (ws : List ℕ) (k : ℕ) (whole : Bool) (n i : ℕ) → Over present (numberAt ws k) whole n i → n ≤ i → true ≡ whole
+unfolding present
+present-done ws k whole n i o h = over-none present (numberAt ws k) whole n i o h
+
+pub absent-done : (ws : List ℕ) (k x : ℕ) (whole : Bool) (n i : ℕ) → Over (λ l. absent l x) (numberAt ws k) whole n i → n ≤ i → true ≡ whole
+unfolding absent
+absent-done ws k x whole n i o h = over-none (λ l. absent l x) (numberAt ws k) whole n i o h
+
+pub distinct-done : (ws : List ℕ) (k : ℕ) (whole : Bool) (n i : ℕ) → Over distinct (numberAt ws k) whole n i → n ≤ i → true ≡ whole
+unfolding distinct
+distinct-done ws k whole n i o h = over-none distinct (numberAt ws k) whole n i o h
+
+pub unlike-done : (ws x : List ℕ) (whole : Bool) (n i : ℕ) → Over (λ l. unlike l x) (nameAt ws) whole n i → n ≤ i → true ≡ whole
+unfolding unlike
+unlike-done ws x whole n i o h = over-none (λ l. unlike l x) (nameAt ws) whole n i o h
+
+pub differ-done : (ws : List ℕ) (whole : Bool) (n i : ℕ) → Over differ (nameAt ws) whole n i → n ≤ i → true ≡ whole
+unfolding differ
+differ-done ws whole n i o h = over-none differ (nameAt ws) whole n i o h
+
+-- a name that is there
+module _ (ws : List ℕ) (k n i : ℕ) (whole : Bool) (o : Over present (numberAt ws k) whole n i) (h : i < n) (x : ℕ) (is : x ≡ numberAt ws k i) where
+  pub present-none : x ≡ 0 → false ≡ whole
+  unfolding present
+  present-none e = rw (eq-eqb (numberAt ws k i) 0 (sym is ∙ e)) at (over-next present (numberAt ws k) whole n i o h)
+
+  pub present-next : (x ≡ 0 → ⊥) → Over present (numberAt ws k) whole n (i + 1)
+  unfolding present
+  present-next e = over-on present (numberAt ws k) whole n i o h (rw (present, ne-eqb (numberAt ws k i) 0 λ z. e (is ∙ z)))
+
+-- a number that is another
+module _ (ws : List ℕ) (k n i y : ℕ) (whole : Bool) (o : Over (λ l. absent l y) (numberAt ws k) whole n i) (h : i < n) (x : ℕ) (is : x ≡ numberAt ws k i) where
+  pub absent-found : y ≡ x → false ≡ whole
+  unfolding absent
+  absent-found e = rw (eq-eqb y (numberAt ws k i) (e ∙ is)) at (over-next (λ l. absent l y) (numberAt ws k) whole n i o h)
+
+  pub absent-next : (y ≡ x → ⊥) → Over (λ l. absent l y) (numberAt ws k) whole n (i + 1)
+  unfolding absent
+  absent-next e = over-on (λ l. absent l y) (numberAt ws k) whole n i o h (rw (absent, ne-eqb y (numberAt ws k i) λ z. e (z ∙ sym is)))
+
+module _ (ws : List ℕ) (k n i : ℕ) (whole : Bool) (o : Over distinct (numberAt ws k) whole n i) (h : i < n) (x : ℕ) (is : x ≡ numberAt ws k i)
+    (c : ℕ) (count : n ≡ c) (b : Bool) (found : b ≡ absent (listing (numberAt ws k) (c - (i + 1)) (i + 1)) x) where
+  tested : absent (listing (numberAt ws k) (n - (i + 1)) (i + 1)) (numberAt ws k i) ≡ b
+  tested = rw (count, ← is) (sym found)
+
+  pub distinct-fails : not b ≡ true → false ≡ whole
+  unfolding distinct
+  distinct-fails e = rw (tested, not-true b e) at (over-next distinct (numberAt ws k) whole n i o h)
+
+  pub distinct-next : not b ≡ false → Over distinct (numberAt ws k) whole n (i + 1)
+  unfolding distinct
+  distinct-next e = over-on distinct (numberAt ws k) whole n i o h (rw (distinct, tested, not-false b e))
+
+-- ---- names
+pub next-in : (j q : ℕ) → j < q → (j + 1 ≡ q → ⊥) → j + 1 < q
+next-in j q h e = go (ltb (j + 1) q) refl
+  where
+    go : (b : Bool) → ltb (j + 1) q ≡ b → j + 1 < q
+    go true t = ltb-true (j + 1) q t
+    go false t = let l = ltb-false (j + 1) q t in let z : j + 1 ≡ q = omega arith in absurd (e z)
+
+module _ (ws : List ℕ) (j q r : ℕ) (count : q ≡ countAt 0 ws) where
+  pub end-last : j + 1 ≡ q → r ≡ getD ws 5 0 → r ≡ recordEnd 0 j ws
+  unfolding recordEnd endAt offsetAt
+  end-last e f = let z : suc j ≡ countAt 0 ws = omega arith in rw (recordEnd, eq-eqb (suc j) (countAt 0 ws) z) f
+
+  pub end-next : (j + 1 ≡ q → ⊥) → r ≡ placeOf ws 0 (j + 1) → r ≡ recordEnd 0 j ws
+  unfolding recordEnd placeOf
+  end-next e f =
+      let d : suc j ≡ countAt 0 ws → ⊥ = λ z. let y : j + 1 ≡ q = omega arith in e y in
+      rw (recordEnd, ne-eqb (suc j) (countAt 0 ws) d) (f ∙ ap (λ i. recordAt 0 i ws) (add-one j))
+
+-- words one by one
+pub record Both (ws : List ℕ) (a b n i : ℕ) (whole : Bool) : Type 0 where
+  pub within : i ≤ n
+  pub same-left : same (slice (a + i) (a + n) ws) (slice (b + i) (b + n) ws) ≡ whole
+
+module _ (ws : List ℕ) (a b n : ℕ) where
+  pub both-all : Both ws a b n 0 (same (slice a (a + n) ws) (slice b (b + n) ws))
+  both-all = let y : a + 0 ≡ a = omega arith in let z : b + 0 ≡ b = omega arith in record { within = omega arith; same-left = rw (y, z) refl }
+
+  module _ (i : ℕ) (whole : Bool) (s : Both ws a b n i whole) where
+    pub both-none : n ≤ i → true ≡ whole
+    unfolding same
+    both-none h = rw (slice-none (a + i) (a + n) ws (omega arith), slice-none (b + i) (b + n) ws (omega arith)) at (s .same-left)
+
+    module _ (h : i < n) (long : length ws ≡ 16384) (fits : (a + n ≤ 16384) × (b + n ≤ 16384)) where
+      opened : eqb (getD ws (a + i) 0) (getD ws (b + i) 0) && same (slice (suc (a + i)) (a + n) ws) (slice (suc (b + i)) (b + n) ws) ≡ whole
+      unfolding same
+      opened =
+          let k : a + i < a + n = omega arith in
+          let l : b + i < b + n = omega arith in
+          let x : a + n ≤ length ws = omega (arith, fits .0) in
+          let y : b + n ≤ length ws = omega (arith, fits .1) in
+          rw (slice-cons (a + i) (a + n) ws 0 k x, slice-cons (b + i) (b + n) ws 0 l y) at (s .same-left)
+
+      pub both-fails : (getD ws (a + i) 0 ≡ getD ws (b + i) 0 → ⊥) → false ≡ whole
+      both-fails e = rw (ne-eqb (getD ws (a + i) 0) (getD ws (b + i) 0) e) at opened
+
+      pub both-next : getD ws (a + i) 0 ≡ getD ws (b + i) 0 → Both ws a b n (i + 1) whole
+      both-next e =
+          let x : a + (i + 1) ≡ suc (a + i) = omega arith in
+          let y : b + (i + 1) ≡ suc (b + i) = omega arith in
+          record { within = omega arith; same-left = rw (x, y) (rw (eq-eqb (getD ws (a + i) 0) (getD ws (b + i) 0) e) at opened) }
+
+-- lists of other lengths
+pub same-long : (xs ys : List ℕ) → (length xs ≡ length ys → ⊥) → same xs ys ≡ false
+unfolding same
+same-long [] [] e = absurd (e refl)
+same-long [] (y ∷ ys) e = refl
+same-long (x ∷ xs) [] e = refl
+same-long (x ∷ xs) (y ∷ ys) e = go (eqb x y) (same-long xs ys λ q. e (ap suc q))
+  where
+    go : (b : Bool) → same xs ys ≡ false → b && same xs ys ≡ false
+    go true q = q
+    go false q = refl
+
+module _ (ws : List ℕ) (a n j b e : ℕ) (s : Spelled ws) (fits : a + n ≤ 16384) (h : j < countAt 0 ws) (starts : b ≡ placeOf ws 0 j) (ends : e ≡ recordEnd 0 j ws) where
+  name-is : slice b e ws ≡ nameAt ws j
+  unfolding nameAt placeOf
+  name-is = ap₂ (λ x y. slice x y ws) starts ends
+
+  pub name-rising : b ≤ e
+  unfolding placeOf
+  name-rising = rw (starts, ends) (s .rising j h)
+
+  pub name-within : e ≤ 16384
+  name-within = rw ends (s .within j h)
+
+  pub name-other : (e - b ≡ n → ⊥) → false ≡ same (slice a (a + n) ws) (nameAt ws j)
+  name-other d =
+      let x : a + n ≤ length ws = omega (arith, s .long) in
+      let y : e ≤ length ws = omega (arith, s .long, name-within) in
+      let l : length (slice a (a + n) ws) ≡ n = length-slice a (a + n) ws x ∙ omega arith in
+      let k : length (nameAt ws j) ≡ e - b = sym (ap length name-is) ∙ length-slice b e ws y in
+      sym (same-long (slice a (a + n) ws) (nameAt ws j) λ q. d (omega arith))
+
+  pub name-within-b : e - b ≡ n → b + n ≤ 16384
+  name-within-b d = omega (arith, name-rising, name-within)
+
+  pub name-same : e - b ≡ n → (r : Bool) → r ≡ same (slice a (a + n) ws) (slice b (b + n) ws) → r ≡ same (slice a (a + n) ws) (nameAt ws j)
+  name-same d r q = let z : b + n ≡ e = omega (arith, name-rising) in q ∙ ap (same (slice a (a + n) ws)) (ap (λ x. slice b x ws) z ∙ name-is)
+
+module _ (ws : List ℕ) (n i : ℕ) (x : List ℕ) (whole : Bool) (o : Over (λ l. unlike l x) (nameAt ws) whole n i) (h : i < n) (b : Bool) (is : b ≡ same x (nameAt ws i)) where
+  pub unlike-found : b ≡ true → false ≡ whole
+  unfolding unlike
+  unlike-found e = rw (sym is ∙ e) at (over-next (λ l. unlike l x) (nameAt ws) whole n i o h)
+
+  pub unlike-next : b ≡ false → Over (λ l. unlike l x) (nameAt ws) whole n (i + 1)
+  unfolding unlike
+  unlike-next e = over-on (λ l. unlike l x) (nameAt ws) whole n i o h (rw (unlike, sym is ∙ e))
+
+module _ (ws : List ℕ) (n i : ℕ) (whole : Bool) (o : Over differ (nameAt ws) whole n i) (h : i < n) (s : Spelled ws) (c : ℕ) (count : n ≡ c) (below : i < countAt 0 ws)
+    (a e : ℕ) (starts : a ≡ placeOf ws 0 i) (ends : e ≡ recordEnd 0 i ws) where
+  pub part-fits : a + (e - a) ≤ 16384
+  part-fits = omega (arith, name-rising ws 0 0 i a e s (omega arith) below starts ends, name-within ws 0 0 i a e s (omega arith) below starts ends)
+
+  part-is : slice a (a + (e - a)) ws ≡ nameAt ws i
+  part-is =
+      let z : a + (e - a) ≡ e = omega (arith, name-rising ws 0 0 i a e s (omega arith) below starts ends) in
+      ap (λ x. slice a x ws) z ∙ name-is ws 0 0 i a e s (omega arith) below starts ends
+
+  module _ (b : Bool) (found : b ≡ unlike (listing (nameAt ws) (c - (i + 1)) (i + 1)) (slice a (a + (e - a)) ws)) where
+    name-tested : unlike (listing (nameAt ws) (n - (i + 1)) (i + 1)) (nameAt ws i) ≡ b
+    name-tested = rw (count, ← part-is) (sym found)
+
+    pub differ-fails : not b ≡ true → false ≡ whole
+    unfolding differ
+    differ-fails q = rw (name-tested, not-true b q) at (over-next differ (nameAt ws) whole n i o h)
+
+    pub differ-next : not b ≡ false → Over differ (nameAt ws) whole n (i + 1)
+    unfolding differ
+    differ-next q = over-on differ (nameAt ws) whole n i o h (rw (differ, name-tested, not-false b q))
+
+-- ---- named expressions
+module _ (b s w : ℕ) where
+  pub unnamed-tested : b ≡ NAMED-EXPR → s ≡ NAME → eqb w 0 ≡ unnamed b s w
+  unfolding unnamed
+  unnamed-tested e f = rw (unnamed, eq-eqb b NAMED-EXPR e, eq-eqb s NAME f)
+
+  pub unnamed-class : b ≡ NAMED-EXPR → (s ≡ NAME → ⊥) → false ≡ unnamed b s w
+  unfolding unnamed
+  unnamed-class e f = rw (unnamed, eq-eqb b NAMED-EXPR e, ne-eqb s NAME f)
+
+  pub unnamed-before : (b ≡ NAMED-EXPR → ⊥) → false ≡ unnamed b s w
+  unfolding unnamed
+  unnamed-before e = rw (unnamed, ne-eqb b NAMED-EXPR e)
+
+each-first : {A : Type 0} {P : A → Type 0} {x : A} {xs : List A} → Each P (x ∷ xs) → P x
+each-first (each-next p ps) = p
+
+each-rest : {A : Type 0} {P : A → Type 0} {x : A} {xs : List A} → Each P (x ∷ xs) → Each P xs
+each-rest (each-next p ps) = ps
+
+-- what is left from word i on, with the class before and the marks, is the whole
+pub record Marked (words tags : List ℕ) (end : ℕ) (whole : Bool) (marks : List ℕ) (b i : ℕ) : Type 0 where
+  pub within : i ≤ end
+  pub long : length marks ≡ 1024
+  pub few : Each Small (between tags words i end)
+  pub same : marking (between tags words i end) b marks ≡ whole
+
+module _ (words tags : List ℕ) (at end : ℕ) (st : Stretch words tags at end) where
+  pub marked-all : Each Small (between tags words at end) → Marked words tags end (marking (between tags words at end) 0 NONE) NONE 0 at
+  marked-all f = record { within = st .rising; long = length-replicate {A = ℕ} 1024 0; few = f; same = refl }
+
+  module _ (whole : Bool) (marks : List ℕ) (b i : ℕ) (l : Marked words tags end whole marks b i) where
+    pub marked-none : end ≤ i → true ≡ whole
+    unfolding marking
+    marked-none h = rw (between-none tags words i end h) at (l .same)
+
+    module _ (h : i < end) where
+      here : between tags words i end ≡ (getD tags i 0, getD words i 0) ∷ between tags words (suc i) end
+      here = between-next tags words i end h (st .in-tags) (st .in-words)
+
+      first : Each Small ((getD tags i 0, getD words i 0) ∷ between tags words (suc i) end)
+      first = rw here at (l .few)
+
+      opened-cell : not (unnamed b (getD tags i 0) (getD words i 0)) && elim (eqb (getD tags i 0) NAMED) [ true ↦ marking (between tags words (suc i) end) (getD tags i 0) NONE | false ↦ elim (eqb (getD tags i 0) NAMED-EXPR) [ true ↦ eqb (getD marks (getD words i 0) 0) 0 && marking (between tags words (suc i) end) (getD tags i 0) (set marks (getD words i 0) 1) | false ↦ marking (between tags words (suc i) end) (getD tags i 0) marks ] ] ≡ whole
+      unfolding marking
+      opened-cell = rw here at (l .same)
+
+      pub unnamed-fails : (u : Bool) → u ≡ unnamed b (getD tags i 0) (getD words i 0) → u ≡ true → false ≡ whole
+      unnamed-fails u is t = rw (sym is ∙ t) at opened-cell
+
+      module _ (u : Bool) (is : u ≡ unnamed b (getD tags i 0) (getD words i 0)) (ok : u ≡ false) where
+        passed : elim (eqb (getD tags i 0) NAMED) [ true ↦ marking (between tags words (suc i) end) (getD tags i 0) NONE | false ↦ elim (eqb (getD tags i 0) NAMED-EXPR) [ true ↦ eqb (getD marks (getD words i 0) 0) 0 && marking (between tags words (suc i) end) (getD tags i 0) (set marks (getD words i 0) 1) | false ↦ marking (between tags words (suc i) end) (getD tags i 0) marks ] ] ≡ whole
+        passed = rw (sym is ∙ ok) at opened-cell
+
+        -- the cells behind this one, with other marks
+        on : (ms : List ℕ) → length ms ≡ 1024 → marking (between tags words (suc i) end) (getD tags i 0) ms ≡ whole → Marked words tags end whole ms (getD tags i 0) (i + 1)
+        on ms n e = rw (add-one i) (record { within = h; long = n; few = each-rest first; same = e })
+
+        pub list-next : (getD tags i 0) ≡ NAMED → Marked words tags end whole NONE (getD tags i 0) (i + 1)
+        list-next e = on NONE (length-replicate {A = ℕ} 1024 0) (rw (eq-eqb (getD tags i 0) NAMED e) at passed)
+
+        module _ (d : (getD tags i 0) ≡ NAMED → ⊥) where
+          unlisted : elim (eqb (getD tags i 0) NAMED-EXPR) [ true ↦ eqb (getD marks (getD words i 0) 0) 0 && marking (between tags words (suc i) end) (getD tags i 0) (set marks (getD words i 0) 1) | false ↦ marking (between tags words (suc i) end) (getD tags i 0) marks ] ≡ whole
+          unlisted = rw (ne-eqb (getD tags i 0) NAMED d) at passed
+
+          pub other-next : ((getD tags i 0) ≡ NAMED-EXPR → ⊥) → Marked words tags end whole marks (getD tags i 0) (i + 1)
+          other-next e = on marks (l .long) (rw (ne-eqb (getD tags i 0) NAMED-EXPR e) at unlisted)
+
+          module _ (x : (getD tags i 0) ≡ NAMED-EXPR) (e : ℕ) (number : e ≡ (getD words i 0)) where
+            pub in-marks : e < 1024
+            in-marks = rw number (each-first first .small x)
+
+            expr-left : eqb (getD marks e 0) 0 && marking (between tags words (suc i) end) (getD tags i 0) (set marks e 1) ≡ whole
+            expr-left = rw number (rw (eq-eqb (getD tags i 0) NAMED-EXPR x) at unlisted)
+
+            pub twice : (getD marks e 0 ≡ 0 → ⊥) → false ≡ whole
+            twice q = rw (ne-eqb (getD marks e 0) 0 q) at expr-left
+
+            pub mark-next : getD marks e 0 ≡ 0 → Marked words tags end whole (set marks e 1) (getD tags i 0) (i + 1)
+            mark-next q = on (set marks e 1) (length-set marks e 1 ∙ l .long) (rw (eq-eqb (getD marks e 0) 0 q) at expr-left)

@@ -1,0 +1,265 @@
+// Refusal 5 of document 01: what has to have a name and has none, and what is equal and has to differ.
+// Cost: the named expressions are one linear pass, with marks. Names, names of functions and keys are compared by pairs; most pairs of names are
+// decided by their lengths or their first words. The worst case is 512 names of equal length that differ in the last byte: 130,816 pairs of 31 words.
+ghost use mathlib.Core.Path.{_≡_};
+ghost use Prim.Native.Nat.{_+_, _-_, _*_, _^_, _≤_, _<_};
+ghost use lib.ListN.{length};
+ghost use lib.Seq.{slice};
+ghost use Rattle.model.specs.Module.{Module, countAt};
+ghost use Rattle.model.specs.View.{recordEnd};
+ghost use Rattle.model.specs.Taped.{Taped};
+ghost use Rattle.model.specs.Between.{between, Stretch};
+ghost use Rattle.model.specs.Carry.{Each};
+ghost use Rattle.model.specs.Names.{present as presentOf, absent as absentOf, distinct as distinctOf, same as sameOf, unlike as unlikeOf, differ as differOf, named as namedOf, Numbered};
+ghost use Rattle.names.specs.Passes.{listing, placeOf, numberAt, Placed, nameAt, Spelled, unnamed as unnamedOf, NONE, marking, Small};
+
+fn wide(x: u32) -> usize
+    ensures { λ r. ⌜ (r ≡ x) × (r < 2 ^ 32) ⌝ }
+{
+    x as usize
+}
+
+// How many records section k has.
+fn count(words: &[u32; 16384], k: usize) -> usize
+    requires { ⌜ k < 9 ⌝ }
+    ensures { λ r. ⌜ (r ≡ countAt k (now (words .entry))) × (r < 2 ^ 32) ⌝ }
+{
+    wide(words[2 + 2 * k])
+}
+
+// Where record j of section k starts, or pair j of the special types.
+fn place(words: &[u32; 16384], k: usize, j: usize) -> usize
+    requires { ⌜ Placed (now words) k ⌝ }
+    requires { ⌜ j < countAt k (now words) ⌝ }
+    requires { ⌜ j < 2 ^ 32 ⌝ }
+    ensures { λ r. ⌜ (r ≡ placeOf (now (words .entry)) k j) × (r < 16384) ⌝ }
+{
+    let base = wide(words[3 + 2 * k]);
+    if k == 8 {
+        return base + 3 + 2 * j;
+    }
+    base + wide(words[base + j])
+}
+
+// The name of a function or an entry point, or the key of a pair.
+fn number(words: &[u32; 16384], k: usize, j: usize) -> u32
+    requires { ⌜ Placed (now words) k ⌝ }
+    requires { ⌜ j < countAt k (now words) ⌝ }
+    requires { ⌜ j < 2 ^ 32 ⌝ }
+    ensures { λ r. ⌜ r ≡ numberAt (now (words .entry)) k j ⌝ }
+{
+    let at = place(words, k, j);
+    words[at]
+}
+
+// Whether all of section k have a name.
+fn present(words: &[u32; 16384], k: usize) -> bool
+    requires { ⌜ Placed (now words) k ⌝ }
+    ensures { λ r. ⌜ r ≡ presentOf (listing (numberAt (now (words .entry)) k) (countAt k (now (words .entry))) 0) ⌝ }
+{
+    let n = count(words, k);
+    let mut i = 0;
+    while i < n {
+        let j = i;
+        i += 1;
+        if number(words, k, j) == 0 {
+            return false;
+        }
+    }
+    true
+}
+
+// Whether none of section k from a number on is x.
+fn absent(words: &[u32; 16384], k: usize, from: usize, x: u32) -> bool
+    requires { ⌜ Placed (now words) k ⌝ }
+    requires { ⌜ from ≤ countAt k (now words) ⌝ }
+    ensures { λ r. ⌜ r ≡ absentOf (listing (numberAt (now (words .entry)) k) (countAt k (now (words .entry)) - from) from) x ⌝ }
+{
+    let n = count(words, k);
+    let mut i = from;
+    while i < n {
+        let j = i;
+        i += 1;
+        if x == number(words, k, j) {
+            return false;
+        }
+    }
+    true
+}
+
+// Whether those of section k differ.
+fn distinct(words: &[u32; 16384], k: usize) -> bool
+    requires { ⌜ Placed (now words) k ⌝ }
+    ensures { λ r. ⌜ r ≡ distinctOf (listing (numberAt (now (words .entry)) k) (countAt k (now (words .entry))) 0) ⌝ }
+{
+    let n = count(words, k);
+    let mut i = 0;
+    while i < n {
+        let j = i;
+        i += 1;
+        let x = number(words, k, j);
+        if !absent(words, k, i, x) {
+            return false;
+        }
+    }
+    true
+}
+
+// Where name j ends.
+fn end(words: &[u32; 16384], j: usize) -> usize
+    requires { ⌜ Spelled (now words) ⌝ }
+    requires { ⌜ j < countAt 0 (now words) ⌝ }
+    requires { ⌜ j < 2 ^ 32 ⌝ }
+    ensures { λ r. ⌜ r ≡ recordEnd 0 j (now (words .entry)) ⌝ }
+{
+    let next = j + 1;
+    if next == count(words, 0) {
+        return wide(words[5]);
+    }
+    place(words, 0, next)
+}
+
+// Whether the n words from a and the n words from b are equal.
+fn same(words: &[u32; 16384], a: usize, b: usize, n: usize) -> bool
+    requires { ⌜ length (now words) ≡ 16384 ⌝ }
+    requires { ⌜ (a + n ≤ 16384) × (b + n ≤ 16384) ⌝ }
+    ensures { λ r. ⌜ r ≡ sameOf (slice a (a + n) (now (words .entry))) (slice b (b + n) (now (words .entry))) ⌝ }
+{
+    let mut i = 0;
+    while i < n {
+        let j = i;
+        i += 1;
+        if words[a + j] != words[b + j] {
+            return false;
+        }
+    }
+    true
+}
+
+// Whether the n words from a are name j.
+fn is_name(words: &[u32; 16384], a: usize, n: usize, j: usize) -> bool
+    requires { ⌜ Spelled (now words) ⌝ }
+    requires { ⌜ a + n ≤ 16384 ⌝ }
+    requires { ⌜ j < countAt 0 (now words) ⌝ }
+    requires { ⌜ j < 2 ^ 32 ⌝ }
+    ensures { λ r. ⌜ r ≡ sameOf (slice a (a + n) (now (words .entry))) (nameAt (now (words .entry)) j) ⌝ }
+{
+    let b = place(words, 0, j);
+    let e = end(words, j);
+    if e - b != n {
+        return false;
+    }
+    same(words, a, b, n)
+}
+
+// Whether none of the names from a number on is the n words from a.
+fn unlike(words: &[u32; 16384], from: usize, a: usize, n: usize) -> bool
+    requires { ⌜ Spelled (now words) ⌝ }
+    requires { ⌜ a + n ≤ 16384 ⌝ }
+    requires { ⌜ from ≤ countAt 0 (now words) ⌝ }
+    ensures { λ r. ⌜ r ≡ unlikeOf (listing (nameAt (now (words .entry))) (countAt 0 (now (words .entry)) - from) from) (slice a (a + n) (now (words .entry))) ⌝ }
+{
+    let most = count(words, 0);
+    let mut i = from;
+    while i < most {
+        let j = i;
+        i += 1;
+        if is_name(words, a, n, j) {
+            return false;
+        }
+    }
+    true
+}
+
+// Whether the names differ.
+fn differ(words: &[u32; 16384]) -> bool
+    requires { ⌜ Spelled (now words) ⌝ }
+    ensures { λ r. ⌜ r ≡ differOf (listing (nameAt (now (words .entry))) (countAt 0 (now (words .entry))) 0) ⌝ }
+{
+    let most = count(words, 0);
+    let mut i = 0;
+    while i < most {
+        let j = i;
+        i += 1;
+        let a = place(words, 0, j);
+        let e = end(words, j);
+        if !unlike(words, i, a, e - a) {
+            return false;
+        }
+    }
+    true
+}
+
+// Whether a word w of the class s, behind a word of the class before, is the name of an expression, and none.
+fn unnamed(before: u8, s: u8, w: u32) -> bool
+    ensures { λ r. ⌜ r ≡ unnamedOf before s w ⌝ }
+{
+    if before == 101 {
+        if s == 83 {
+            return w == 0;
+        }
+        return false;
+    }
+    false
+}
+
+// Whether each named expression has a name, and none is named twice in a function.
+fn expressions(words: &[u32; 16384], tags: &[u8; 16384], at: usize, end: usize) -> bool
+    requires { ⌜ Stretch (now words) (now tags) at end ⌝ }
+    requires { ⌜ Each Small (between (now tags) (now words) at end) ⌝ }
+    ensures { λ r. ⌜ r ≡ marking (between (now (tags .entry)) (now (words .entry)) at end) 0 NONE ⌝ }
+{
+    let mut marks = [0u8; 1024];
+    let mut before = 0;
+    let mut i = at;
+    while i < end {
+        let j = i;
+        i += 1;
+        let b = before;
+        let s = tags[j];
+        let w = words[j];
+        before = s;
+        if unnamed(b, s, w) {
+            return false;
+        }
+        if s == 114 {
+            marks = [0u8; 1024];
+        } else if s == 101 {
+            let e = wide(w);
+            if marks[e] != 0 {
+                return false;
+            }
+            marks[e] = 1;
+        }
+    }
+    true
+}
+
+// Whether all that has to be named is, and what has to differ does, in the image that words and tape hold.
+pub fn named(words: &[u32; 16384], tags: &[u8; 16384], n: usize) -> bool
+    requires { ⌜ Numbered (now words) (now tags) n ⌝ }
+    ensures { λ r. ⌜ ((m : Module) → Taped (now (words .entry)) (now (tags .entry)) n m → r ≡ namedOf m) ⌝ }
+{
+    let functions = wide(words[15]);
+    let entries = wide(words[17]);
+    let special = wide(words[19]);
+    if !present(words, 6) {
+        return false;
+    }
+    if !present(words, 7) {
+        return false;
+    }
+    if !expressions(words, tags, functions, entries) {
+        return false;
+    }
+    if !expressions(words, tags, entries, special) {
+        return false;
+    }
+    if !differ(words) {
+        return false;
+    }
+    if !distinct(words, 6) {
+        return false;
+    }
+    distinct(words, 8)
+}

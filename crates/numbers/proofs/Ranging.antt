@@ -1,0 +1,127 @@
+-- The passes that compare each word with the bound of its class, and each Emit's start with its end: what is left to test from word i on is the whole. Assumes nothing.
+use mathlib.Core.Path.{_≡_, refl, sym, ap, _∙_}
+use mathlib.Core.Bool.{Bool, true, false, _&&_, not}
+use mathlib.Core.Option.{Option, none, some}
+use mathlib.Core.List.{List, [], _∷_, _++_, map}
+use Prim.Native.Nat.{ℕ, zero, suc, _+_, _^_, _≤_, _<_}
+use native.Mathlib.Numerals.{add-one}
+use native.Mathlib.Omega.{arith}
+use lib.Dec.{eqb, ltb, leb}
+use lib.ListN.{length, getD, set, replicate, take, drop, length-take, drop-of-length-le}
+use lib.Seq.{slice, slice-cons}
+use borrow.Author.Tests.{lt-ltb, le-ltb, eq-eqb, ne-eqb, not-true, not-false}
+use Rattle.model.specs.Outcome.{Cell, Cells, class, word}
+use Rattle.model.specs.Table.{FROM}
+use Rattle.model.specs.Module.{countAt}
+use Rattle.model.specs.Numbers.{Bounds, caps, bound, below, within, rising, ordered}
+use Rattle.numbers.specs.Ranges.{Long, paired, between, cap, upTo, table, codes, headed, owned, Ranged, Owned}
+
+-- ---- the cells between two places
+slice-none : (i end : ℕ) (l : List ℕ) → end ≤ i → slice i end l ≡ []
+slice-none i end l h = drop-of-length-le (take end l) {i = i} (omega (arith, length-take end l))
+
+pub between-none : (words tags : List ℕ) (i end : ℕ) → end ≤ i → between words tags i end ≡ []
+unfolding between paired
+between-none words tags i end h = rw (slice-none i end tags h)
+
+pub between-cons : (words tags : List ℕ) (i end : ℕ) → i < end → Long words tags → end ≤ 16384 → between words tags i end ≡ (getD tags i 0, getD words i 0) ∷ between words tags (i + 1) end
+unfolding between paired
+between-cons words tags i end h long ok = rw (add-one i, slice-cons i end tags 0 h (omega arith), slice-cons i end words 0 h (omega arith))
+
+-- ---- the table
+map-upTo : (f : ℕ → ℕ) (n k s : ℕ) → s < n → getD (map f (upTo k n)) s 0 ≡ f (k + s)
+unfolding upTo
+map-upTo f zero k s h = absurd (omega arith)
+map-upTo f (suc n) k zero h = let z : k ≡ k + 0 = omega arith in ap f z
+map-upTo f (suc n) k (suc s) h = let z : suc k + s ≡ k + suc s = omega arith in map-upTo f n (suc k) s (omega arith) ∙ ap f z
+
+pub table-at : (b : Bounds) (s : ℕ) → s < 256 → getD (table b) s 0 ≡ cap (bound b s)
+unfolding table
+table-at b s h = let z : 0 + s ≡ s = omega arith in map-upTo (λ s. cap (bound b s)) 256 0 s h ∙ ap (λ x. cap (bound b x)) z
+
+cap-below : (o : Option ℕ) (w : ℕ) → w < 2 ^ 32 → ltb w (cap o) ≡ below o w
+unfolding cap below
+cap-below none w h = lt-ltb w (2 ^ 32) h
+cap-below (some n) w h = refl
+
+-- ---- each word below its bound
+pub record Left (words tags t : List ℕ) (at end i : ℕ) : Type 0 where
+  pub to : i ≤ end
+  pub same : (b : Bounds) → t ≡ table b → within b (between words tags i end) ≡ within b (between words tags at end)
+
+module _ (words tags t : List ℕ) (at end : ℕ) where
+  pub ranged-begin : at ≤ end → Left words tags t at end at
+  ranged-begin h = record { to = h; same = λ b e. refl }
+
+  module _ (i : ℕ) (inv : Left words tags t at end i) where
+    pub ranged-done : end ≤ i → Ranged true words tags t at end
+    unfolding within
+    ranged-done h = record { same = λ b e. sym (ap (within b) (between-none words tags i end h)) ∙ inv .same b e }
+
+    module _ (h : i < end) (long : Long words tags) (ok : end ≤ 16384) (s : ℕ) (s-is : s ≡ getD tags i 0) (few : s < 256) (f : ℕ) (f-is : f ≡ getD words i 0) (low : f < 2 ^ 32) where
+      cell-is : (b : Bounds) → t ≡ table b → below (bound b (getD tags i 0)) (getD words i 0) ≡ ltb f (getD t s 0)
+      cell-is b e = rw (← s-is, ← f-is) (sym (cap-below (bound b s) f low) ∙ ap (ltb f) (sym (ap (λ l. getD l s 0) e ∙ table-at b s few)))
+
+      step : (b : Bounds) → t ≡ table b → (v : Bool) → ltb f (getD t s 0) ≡ v → (v && within b (between words tags (i + 1) end)) ≡ within b (between words tags at end)
+      unfolding within
+      step b e v q = sym (ap (_&& within b (between words tags (i + 1) end)) (cell-is b e ∙ q)) ∙ sym (ap (within b) (between-cons words tags i end h long ok)) ∙ inv .same b e
+
+      pub ranged-over : getD t s 0 ≤ f → Ranged false words tags t at end
+      ranged-over g = record { same = λ b e. step b e false (le-ltb f (getD t s 0) g) }
+
+      pub ranged-next : f < getD t s 0 → Left words tags t at end (i + 1)
+      ranged-next g = record { to = omega arith; same = λ b e. step b e true (lt-ltb f (getD t s 0) g) }
+
+-- ---- Emit's start
+module _ (words tags : List ℕ) (i end : ℕ) where
+  pub rising-other : (getD tags i 0 ≡ 97 → ⊥) → true ≡ rising (getD tags i 0, getD words i 0) (between words tags (i + 1) end)
+  unfolding rising
+  rising-other ne = go (between words tags (i + 1) end)
+    where
+      go : (cs : Cells) → true ≡ rising (getD tags i 0, getD words i 0) cs
+      go [] = refl
+      go (d ∷ cs) = rw (rising, ne-eqb (getD tags i 0) 97 ne)
+
+  pub rising-last : end ≤ i + 1 → true ≡ rising (getD tags i 0, getD words i 0) (between words tags (i + 1) end)
+  unfolding rising
+  rising-last h = rw (between-none words tags (i + 1) end h)
+
+  pub rising-tested : getD tags i 0 ≡ 97 → i + 1 < end → Long words tags → end ≤ 16384 → leb (getD words i 0) (getD words (i + 1) 0) ≡ rising (getD tags i 0, getD words i 0) (between words tags (i + 1) end)
+  unfolding rising
+  rising-tested e h long ok = rw (between-cons words tags (i + 1) end h long ok, rising, eq-eqb (getD tags i 0) 97 e)
+
+pub record Leaves (words tags : List ℕ) (at end i : ℕ) : Type 0 where
+  pub to : i ≤ end
+  pub same : ordered (between words tags i end) ≡ ordered (between words tags at end)
+
+module _ (words tags : List ℕ) (at end : ℕ) where
+  pub ordered-begin : at ≤ end → Leaves words tags at end at
+  ordered-begin h = record { to = h; same = refl }
+
+  module _ (i : ℕ) (inv : Leaves words tags at end i) where
+    pub ordered-done : end ≤ i → true ≡ ordered (between words tags at end)
+    unfolding ordered
+    ordered-done h = sym (ap ordered (between-none words tags i end h)) ∙ inv .same
+
+    module _ (h : i < end) (long : Long words tags) (ok : end ≤ 16384) (v : Bool) (v-is : v ≡ rising (getD tags i 0, getD words i 0) (between words tags (i + 1) end)) where
+      turn : (v && ordered (between words tags (i + 1) end)) ≡ ordered (between words tags at end)
+      unfolding ordered
+      turn = ap (_&& ordered (between words tags (i + 1) end)) v-is ∙ sym (ap ordered (between-cons words tags i end h long ok)) ∙ inv .same
+
+      pub ordered-over : not v ≡ true → false ≡ ordered (between words tags at end)
+      ordered-over q = rw (not-true v q) at turn
+
+      pub ordered-next : not v ≡ false → Leaves words tags at end (i + 1)
+      ordered-next q = record { to = omega arith; same = rw (not-false v q) at turn }
+
+-- ---- the counts put in
+pub outside-is : (words t : List ℕ) → t ≡ codes → (a b c d e f g : ℕ) → a ≡ getD words 2 0 → b ≡ getD words 4 0 → f ≡ getD words 12 0 → g ≡ getD words 14 0 → c ≡ getD words 6 0 → d ≡ getD words 8 0 → e ≡ getD words 10 0
+    → set (set (set (set (set (set (set (set (set (set (set (set (set (set (set (set (set (set (set t 83 (a + 1)) 84 b) 85 (b + 1)) 86 c) 87 d) 88 e) 89 f) 90 (f + 1)) 91 g) 92 g) 93 f) 94 (f + 1)) 95 0) 96 0) 98 (f + 1)) 99 f) 100 (f + 1)) 101 f) 102 (f + 1)
+    ≡ table (headed words)
+unfolding codes upTo table cap bound caps headed countAt
+outside-is words t q a b c d e f g qa qb qf qg qc qd qe = rw (q, add-one a, add-one b, add-one f, qa, qb, qc, qd, qe, qf, qg)
+
+pub inside-is : (t : List ℕ) (e a l x y z : ℕ) → x ≡ e → y ≡ a → z ≡ l
+    → Owned (set (set (set (set (set (set (set (set (set t 93 x) 94 (x + 1)) 95 y) 96 z) 98 (x + 1)) 99 x) 100 (x + 1)) 101 x) 102 (x + 1)) t e a l
+unfolding upTo table cap bound caps owned
+inside-is t e a l x y z qx qy qz = record { same = λ b q. rw (q, add-one x, qx, qy, qz) }

@@ -1,0 +1,182 @@
+// Refusal 3: a number or code out of range, or a kind barred from its place. Flat passes over words and tape: one comparison for each word with the
+// bound of its class; a second look at Emit's start; and the kinds that the initialisers of locals reach, each expression visited once.
+pub mod initial;
+pub mod range;
+
+use initial::constant;
+use initial::initialised;
+use range::CODES;
+use range::inside;
+use range::ordered;
+use range::outside;
+use range::ranged;
+use range::wide;
+ghost use mathlib.Core.Path.{_≡_};
+ghost use Prim.Native.Nat.{suc, _<_};
+ghost use Rattle.model.specs.Module.{countAt, offsetAt};
+ghost use Rattle.model.specs.View.{recordAt, recordEnd};
+ghost use Rattle.model.specs.Taped.{Tape};
+ghost use Rattle.model.specs.Numbers.{numbered as numberedOf};
+ghost use Rattle.numbers.specs.Ranges.{Ranged, Says, Tabled, Framed, Sound, Loosely, tablesFine, kindsFine, functionsFine, entriesFine};
+
+// A table section: count offsets, and records whose numbers are in range.
+fn table(words: &[u32; 16384], tags: &[u8; 16384], n: usize, t: &[u64; 256], k: usize) -> bool
+    requires { ⌜ Tape (now words) (now tags) n ⌝ }
+    requires { ⌜ k < 8 ⌝ }
+    ensures { λ r. ⌜ Ranged r (now (words .entry)) (now (tags .entry)) (now (t .entry)) (offsetAt k (now (words .entry))) (offsetAt (suc k) (now (words .entry))) ⌝ }
+{
+    let at = wide(words[3 + 2 * k]);
+    let end = wide(words[5 + 2 * k]);
+    ranged(words, tags, t, at, end)
+}
+
+// Sections 1 to 5 and 8.
+fn tables(words: &[u32; 16384], tags: &[u8; 16384], n: usize, t: &[u64; 256]) -> bool
+    requires { ⌜ Tape (now words) (now tags) n ⌝ }
+    ensures { λ r. ⌜ Tabled r (now (words .entry)) (now (tags .entry)) n (now (t .entry)) tablesFine ⌝ }
+{
+    if !table(words, tags, n, t, 1) {
+        return false;
+    }
+    if !table(words, tags, n, t, 2) {
+        return false;
+    }
+    if !table(words, tags, n, t, 3) {
+        return false;
+    }
+    if !table(words, tags, n, t, 4) {
+        return false;
+    }
+    if !table(words, tags, n, t, 5) {
+        return false;
+    }
+    let at = wide(words[19]);
+    ranged(words, tags, t, at, n)
+}
+
+// Where record j of section k starts.
+fn record_at(words: &[u32; 16384], tags: &[u8; 16384], n: usize, k: usize, j: usize) -> usize
+    requires { ⌜ Tape (now words) (now tags) n ⌝ }
+    requires { ⌜ k < 8 ⌝ }
+    requires { ⌜ j < countAt k (now words) ⌝ }
+    ensures { λ r. ⌜ r ≡ recordAt k j (now (words .entry)) ⌝ }
+{
+    let at = wide(words[3 + 2 * k]);
+    at + wide(words[at + j])
+}
+
+// Where it ends: where the next one starts, or where the section ends.
+fn record_end(words: &[u32; 16384], tags: &[u8; 16384], n: usize, k: usize, j: usize) -> usize
+    requires { ⌜ Tape (now words) (now tags) n ⌝ }
+    requires { ⌜ k < 8 ⌝ }
+    requires { ⌜ j < countAt k (now words) ⌝ }
+    ensures { λ r. ⌜ r ≡ recordEnd k j (now (words .entry)) ⌝ }
+{
+    let count = wide(words[2 + 2 * k]);
+    if j + 1 == count {
+        return wide(words[5 + 2 * k]);
+    }
+    record_at(words, tags, n, k, j + 1)
+}
+
+// The kinds of global expressions.
+fn kinds(words: &[u32; 16384], tags: &[u8; 16384], n: usize) -> bool
+    requires { ⌜ Tape (now words) (now tags) n ⌝ }
+    ensures { λ r. ⌜ Says r (now (words .entry)) (now (tags .entry)) n kindsFine ⌝ }
+{
+    let count = wide(words[12]);
+    let mut j = 0;
+    while j < count {
+        let i = j;
+        j += 1;
+        let at = record_at(words, tags, n, 5, i);
+        if !constant(words[at]) {
+            return false;
+        }
+    }
+    true
+}
+
+// A record from `at` to `end` whose function starts at `from`: every word in range, Emit's ranges, and what initialisers reach.
+fn function(
+    words: &[u32; 16384],
+    tags: &[u8; 16384],
+    t: &mut [u64; 256],
+    at: usize,
+    from: usize,
+    end: usize,
+) -> bool
+    requires { ⌜ Framed (now words) (now tags) at from end ⌝ }
+    ensures { λ r. ⌜ Sound r (now (t .exit)) (now (t .entry)) (now (words .entry)) (now (tags .entry)) at from end ⌝ }
+{
+    let a = words[from + 3];
+    let result = from + 4 + 8 * wide(a);
+    let locals = result + 1 + 7 * wide(words[result]);
+    let l = words[locals];
+    let exprs = locals + 1 + 5 * wide(l);
+    let e = words[exprs];
+    inside(t, e, a, l);
+    if !ranged(words, tags, t, at, end) {
+        return false;
+    }
+    if !ordered(words, tags, at, end) {
+        return false;
+    }
+    initialised(words, tags, locals, exprs, end)
+}
+
+// Table functions (k is 6, and a function starts its record) and entry points (k is 7, and seven words stand before it).
+fn functions(words: &[u32; 16384], tags: &[u8; 16384], n: usize, t: &mut [u64; 256]) -> bool
+    requires { ⌜ Tape (now words) (now tags) n ⌝ }
+    ensures { λ r. ⌜ Loosely r (now (t .exit)) (now (words .entry)) (now (tags .entry)) n (now (t .entry)) functionsFine ⌝ }
+{
+    let count = wide(words[14]);
+    let mut j = 0;
+    while j < count {
+        let i = j;
+        j += 1;
+        let at = record_at(words, tags, n, 6, i);
+        let end = record_end(words, tags, n, 6, i);
+        if !function(words, tags, t, at, at, end) {
+            return false;
+        }
+    }
+    true
+}
+
+fn entries(words: &[u32; 16384], tags: &[u8; 16384], n: usize, t: &mut [u64; 256]) -> bool
+    requires { ⌜ Tape (now words) (now tags) n ⌝ }
+    ensures { λ r. ⌜ Loosely r (now (t .exit)) (now (words .entry)) (now (tags .entry)) n (now (t .entry)) entriesFine ⌝ }
+{
+    let count = wide(words[16]);
+    let mut j = 0;
+    while j < count {
+        let i = j;
+        j += 1;
+        let at = record_at(words, tags, n, 7, i);
+        let end = record_end(words, tags, n, 7, i);
+        if !function(words, tags, t, at, at + 7, end) {
+            return false;
+        }
+    }
+    true
+}
+
+// Whether every number and code is in range and every kind in its place.
+pub fn numbered(words: &[u32; 16384], tags: &[u8; 16384], n: usize) -> bool
+    requires { ⌜ Tape (now words) (now tags) n ⌝ }
+    ensures { λ r. ⌜ Says r (now (words .entry)) (now (tags .entry)) n numberedOf ⌝ }
+{
+    let mut t = CODES;
+    outside(&mut t, words);
+    if !tables(words, tags, n, &t) {
+        return false;
+    }
+    if !kinds(words, tags, n) {
+        return false;
+    }
+    if !functions(words, tags, n, &mut t) {
+        return false;
+    }
+    entries(words, tags, n, &mut t)
+}
