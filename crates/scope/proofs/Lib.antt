@@ -6,3 +6,4 @@ pub mod Trees
 pub mod Blocks
 pub mod Parts
 pub mod Statements
+pub mod Bodies

@@ -9,7 +9,9 @@ ghost use Prim.Native.Nat.{ℕ, suc, _+_, _-_, _^_, _≤_, _<_};
 ghost use lib.ListN.{length, getD};
 ghost use Rattle.model.specs.Tree.{wordOf};
 ghost use Rattle.model.specs.Operands.{operand, opsOf, resultOf, standingKind, emittedKind};
-ghost use Rattle.scope.specs.Tape.{between, Steps, stepped, Placed, Exprs, exprsOf};
+ghost use Rattle.model.specs.Scope.{inBody};
+ghost use Rattle.scope.specs.Fine.{fineB};
+ghost use Rattle.scope.specs.Tape.{between, blockOf, Steps, stepped, Placed, Exprs, exprsOf, marks};
 ghost use Rattle.scope.specs.Lasts.{visibleAt, allSeen, fitsResult, placeOf, keptOf, told, StmtHere, BlockHere, FoundS, FoundB, FoundE, FoundR, FoundO, FoundL};
 
 pub fn wide(x: u32) -> usize
@@ -588,4 +590,35 @@ fn block(
         cut = joined(cut, r);
     }
     cut
+}
+
+// Is the body from the word `at` to the word `end` in scope?
+pub fn body(
+    words: &[u32; 16384],
+    tags: &[u8; 16384],
+    starts: &[u32; 1025],
+    initial: &[u8; 1024],
+    count: usize,
+    at: usize,
+    end: usize,
+) -> bool
+    requires { ⌜ BlockHere (now words) (now tags) (now starts) count at end end ⌝ }
+    ensures { λ r. ⌜ r ≡ fineB (exprsOf (now (words .entry)) (now (tags .entry)) (now (starts .entry)) count) (marks (now (initial .entry))) (blockOf (now (words .entry)) (now (tags .entry)) at end) inBody [] [] ⌝ }
+{
+    let mut until = [0usize; 1024];
+    let r = block(
+        words,
+        tags,
+        starts,
+        initial,
+        &mut until,
+        count,
+        at,
+        end,
+        end,
+        false,
+        false,
+        true,
+    );
+    r != 0
 }
