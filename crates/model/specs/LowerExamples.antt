@@ -9,7 +9,7 @@ use Rattle.model.specs.Tree.{Function, Entry, end, _then_}
 use Rattle.model.specs.Module.{Module}
 use Rattle.model.specs.Operands.{optional, operand, opsOf}
 use Rattle.model.specs.Lower.{below, basesOf, typesLower, operandsLower, functionsLower, entriesLower, initOf, initsOf, initsLower, lower}
-use Rattle.model.specs.Samples.{record-of, literal, negate, store, function}
+use Rattle.model.specs.SampleBodies.{record-of, literal, negate, store, function}
 
 -- types, constants, overrides, global expressions, functions, entry points
 abbrev holding : List Cells → List Cells → List Cells → List Cells → List Function → List Entry → Module

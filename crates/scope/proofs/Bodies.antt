@@ -13,7 +13,7 @@ use Rattle.scope.specs.Tape.{blockOf, exprsOf, marks}
 use Rattle.scope.specs.Lasts.{Scope, told, placeOf, BlockHere, FoundB}
 use Rattle.scope.proofs.Scopes.{absurd-bool}
 
-zeros : (n e : ℕ) → getD (replicate n 0) e 0 ≡ 0
+zeros : (n e : ℕ) → getD {A = ℕ} (replicate n 0) e 0 ≡ 0
 zeros zero e = refl
 zeros (suc n) zero = refl
 zeros (suc n) (suc e) = zeros n e
