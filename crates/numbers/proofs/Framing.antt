@@ -53,11 +53,11 @@ module _ {words tags : List ℕ} {at from end : ℕ} {f : Function} {cs : Cells}
           let z : v ≡ length (f .locals) = v-is ∙ ap (λ o. getD words o 0) locals-is ∙ locals-count (fr .own) in
           rw (x, y, z)
 
-      lists-are : Lists words tags (from + 4 + 8 * a + 1 + 7 * r) (from + 4 + 8 * a + 1 + 7 * r + 1 + 5 * l) end f
+      pub lists-are : Lists words tags (from + 4 + 8 * a + 1 + 7 * r) (from + 4 + 8 * a + 1 + 7 * r + 1 + 5 * l) end f
       lists-are = record { start = from; long = fr .long; cells = fr .cells; small = fr .small; own = fr .own; locals-at = locals-is; exprs-at = exprs-is }
 
 -- ---- what is tested of it
-abbrev Word : ℕ → ℕ → Type 0
+abbrev pub Word : ℕ → ℕ → Type 0
 Word v w = (v ≡ w) × (v < 2 ^ 32)
 
 module _ (words tags : List ℕ) (at from end : ℕ) (pre : Framed words tags at from end) where

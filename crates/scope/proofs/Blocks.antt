@@ -72,11 +72,11 @@ pub record Goes (ws ts st ini u₀ : List ℕ) (count at fin keep : ℕ) (p : Pl
   pub aside-in : (e : ℕ) → has κ e ≡ true → keep ≤ getD u e 0
   pub aside-out : (e : ℕ) → has κ e ≡ false → getD u e 0 ≤ fin
   pub kept : Kept keep u₀ u
-  pub left : fineB (exprsOf ws ts st count) (marks ini) rest p ρ′ δ′ ≡ fineB (exprsOf ws ts st count) (marks ini) b p ρ δ
-  pub conts : cutB h (expand rest (marks ini)) ρ′ κ ≡ contB (expand b (marks ini)) ρ
+  pub left : fineB (exprsOf ws ts st count) (marks ws ts st count ini) rest p ρ′ δ′ ≡ fineB (exprsOf ws ts st count) (marks ws ts st count ini) b p ρ δ
+  pub conts : cutB h (expand rest (marks ws ts st count ini)) ρ′ κ ≡ contB (expand b (marks ws ts st count ini)) ρ
   pub uncut : h ≡ false → κ ≡ ρ′
   pub dones : doneB rest δ′ ≡ doneB b δ
-  pub holds : (h || holdsB (expand rest (marks ini))) ≡ holdsB (expand b (marks ini))
+  pub holds : (h || holdsB (expand rest (marks ws ts st count ini))) ≡ holdsB (expand b (marks ws ts st count ini))
 
 pub record Walking (ws ts st ini u₀ : List ℕ) (count at fin keep : ℕ) (p : Place) (u : List ℕ) (i cut : ℕ) : Type 0 where
   pub rest : Block Range
@@ -197,7 +197,7 @@ module _ (ws ts st ini u₀ : List ℕ) (count at fin keep : ℕ) (p : Place) (h
   xs = exprsOf ws ts st count
 
   abbrev dr : ℕ → Bool
-  dr = marks ini
+  dr = marks ws ts st count ini
 
   pub block-begin : Walking ws ts st ini u₀ count at fin keep p u₀ (at + 1) 1
   unfolding told keptOf cutB

@@ -36,6 +36,6 @@ told-is true false r e = rw e refl
 told-is false h r e = rw e refl
 
 pub body-is : (ws ts st ini u : List ℕ) (count at end : ℕ) → BlockHere ws ts st count at end end → (r : ℕ) → FoundB ws ts st ini count at end end (placeOf false false true) (replicate 1024 0) u r
-    → not (eqb r 0) ≡ fineB (exprsOf ws ts st count) (marks ini) (blockOf ws ts at end) inBody [] []
+    → not (eqb r 0) ≡ fineB (exprsOf ws ts st count) (marks ws ts st count ini) (blockOf ws ts at end) inBody [] []
 body-is ws ts st ini u count at end here r got =
-    told-is (fineB (exprsOf ws ts st count) (marks ini) (blockOf ws ts at end) inBody [] []) (holdsB (expand (blockOf ws ts at end) (marks ini))) r (got .found [] [] (begins count at end (here .later)) .says)
+    told-is (fineB (exprsOf ws ts st count) (marks ws ts st count ini) (blockOf ws ts at end) inBody [] []) (holdsB (expand (blockOf ws ts at end) (marks ws ts st count ini))) r (got .found [] [] (begins count at end (here .later)) .says)

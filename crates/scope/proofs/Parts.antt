@@ -288,10 +288,10 @@ pub record Passes (ws ts st ini u₀ : List ℕ) (count at stop keep : ℕ) (p :
   pub δ′ : List ℕ
   pub scope : Scope count i keep ρ δ′ u
   pub kept : Kept stop u₀ u
-  pub left : fineP (exprsOf ws ts st count) (marks ini) rest p ρ δ′ ≡ fineS (exprsOf ws ts st count) (marks ini) s p ρ δ
+  pub left : fineP (exprsOf ws ts st count) (marks ws ts st count ini) rest p ρ δ′ ≡ fineS (exprsOf ws ts st count) (marks ws ts st count ini) s p ρ δ
   pub dones : doneP rest δ′ ≡ doneS s δ
-  pub holds : (h || holdsP (marks ini) rest) ≡ holdsS (expandS s (marks ini))
-  pub adds : addS (expandS s (marks ini)) ρ ≡ ρ
+  pub holds : (h || holdsP (marks ws ts st count ini) rest) ≡ holdsS (expandS s (marks ws ts st count ini))
+  pub adds : addS (expandS s (marks ws ts st count ini)) ρ ≡ ρ
 
 pub record Passing (ws ts st ini u₀ : List ℕ) (count at stop keep : ℕ) (p : Place) (u : List ℕ) (i cut : ℕ) : Type 0 where
   pub rest : Parts
@@ -305,7 +305,7 @@ pub parts-begin : (ws ts st ini u₀ : List ℕ) (count at stop keep : ℕ) (p :
 unfolding told expandS evalsS addS holdsS fineS doneS
 parts-begin ws ts st ini u₀ count at stop keep p here a b s =
     let g = header ws ts at stop (stmtOf ws ts at stop) (here .holds) in
-    let d = parted (exprsOf ws ts st count) (marks ini) (g .f) p (g .ok) (omega (arith, g .kind)) (omega (arith, g .kind)) (λ e. s (g .kind ∙ e)) in
+    let d = parted (exprsOf ws ts st count) (marks ws ts st count ini) (g .f) p (g .ok) (omega (arith, g .kind)) (omega (arith, g .kind)) (λ e. s (g .kind ∙ e)) in
     record {
       rest = partsF (g .f);
       runs = rw (d .flat) (g .runs);
@@ -426,7 +426,7 @@ module _ (ws ts st ini u₀ : List ℕ) (count at stop keep : ℕ) (p : Place) (
   xs = exprsOf ws ts st count
 
   abbrev dr : ℕ → Bool
-  dr = marks ini
+  dr = marks ws ts st count ini
 
   module _ (u : List ℕ) (i cut : ℕ) (inv : Passing ws ts st ini u₀ count at stop keep p u i cut) (l : i < stop) where
     -- a block

@@ -226,13 +226,22 @@ pub tells-false : {count q k : ℕ} {u₀ u : List ℕ} {ok : Bool} {ρ δ : Lis
 tells-false h = record { says = sym h; scope = λ g. absurd-bool g h; kept = λ g. absurd-bool g h }
 
 -- ---- expression e of an Emit
-pub marks-not : (ini : List ℕ) (e : ℕ) → getD ini e 0 ≡ 0 → marks ini e ≡ false
-unfolding marks
-marks-not ini e h = rw (eq-eqb (getD ini e 0) 0 h)
+emitted-moves : (k : ℕ) → emittedKind k ≡ true → standingKind k ≡ false
+unfolding emittedKind
+emitted-moves k h = go (standingKind k) refl
+  where
+    go : (b : Bool) → standingKind k ≡ b → standingKind k ≡ false
+    go true q = absurd-bool h (rw (emittedKind, q))
+    go false q = q
 
-pub marks-is : (ini : List ℕ) (e : ℕ) → (getD ini e 0 ≡ 0 → ⊥) → marks ini e ≡ true
-unfolding marks
-marks-is ini e h = rw (ne-eqb (getD ini e 0) 0 h)
+module _ (ws ts st : List ℕ) (count : ℕ) (ini : List ℕ) (e : ℕ) where
+  pub marks-not : getD ini e 0 ≡ 0 → marks ws ts st count ini e ≡ false
+  unfolding marks
+  marks-not h = rw (marks, eq-eqb (getD ini e 0) 0 h)
+
+  pub marks-is : (getD ini e 0 ≡ 0 → ⊥) → emittedKind (kindAt (exprsOf ws ts st count) e) ≡ true → marks ws ts st count ini e ≡ true
+  unfolding marks standing
+  marks-is h k = rw (marks, ne-eqb (getD ini e 0) 0 h, emitted-moves (kindAt (exprsOf ws ts st count) e) k)
 
 pub reads-to : (ws ts st : List ℕ) (count e to : ℕ) → Exprs ws ts st count → e < count → (to ≡ getD st (e + 1) 0) × (to < 2 ^ 32) → to ≤ 16384
 reads-to ws ts st count e to x i q = let w : getD st (e + 1) 0 ≤ 16384 = rw (add-one e) (x .placed .within e i) in omega (arith, q .0)
@@ -259,8 +268,8 @@ module _ (ws ts st ini u : List ℕ) (count at keep e : ℕ) (x : Exprs ws ts st
         unfolding oneE
         evaluated-initial n = record {
           found = λ ρ δ s. record {
-            says = rw (emitted-is, not-false em y, new s, marks-is ini e n);
-            scope = λ g. rw (next-drop (exprsOf ws ts st count) (marks ini) e ρ (marks-is ini e n)) (scope-mark u e 1 z count at keep ρ δ s (x .placed .few) i h refl);
+            says = rw (emitted-is, not-false em y, new s, marks-is ws ts st count ini e n (emitted-is ∙ not-false em y));
+            scope = λ g. rw (next-drop (exprsOf ws ts st count) (marks ws ts st count ini) e ρ (marks-is ws ts st count ini e n (emitted-is ∙ not-false em y))) (scope-mark u e 1 z count at keep ρ δ s (x .placed .few) i h refl);
             kept = λ g. kept-set u e 1 z keep (omega arith) (omega (arith, s .long, x .placed .few));
           };
         }
@@ -276,14 +285,14 @@ module _ (ws ts st ini u : List ℕ) (count at keep e : ℕ) (x : Exprs ws ts st
 
           pub evaluated-reads : not r ≡ true → FoundE ws ts st ini count at keep e u u false
           unfolding oneE
-          evaluated-reads n = record { found = λ ρ δ s. tells-false (rw (emitted-is, not-false em y, new s, marks-not ini e m, reads-is ρ δ s, not-true r n)) }
+          evaluated-reads n = record { found = λ ρ δ s. tells-false (rw (emitted-is, not-false em y, new s, marks-not ws ts st count ini e m, reads-is ρ δ s, not-true r n)) }
 
           pub evaluated-fine : not r ≡ false → FoundE ws ts st ini count at keep e u (set u e keep) true
           unfolding oneE
           evaluated-fine n = record {
             found = λ ρ δ s. record {
-              says = rw (emitted-is, not-false em y, new s, marks-not ini e m, reads-is ρ δ s, not-false r n);
-              scope = λ g. rw (next-keep (exprsOf ws ts st count) (marks ini) e ρ (marks-not ini e m)) (scope-add u e keep z count at keep ρ δ s (x .placed .few) i h refl);
+              says = rw (emitted-is, not-false em y, new s, marks-not ws ts st count ini e m, reads-is ρ δ s, not-false r n);
+              scope = λ g. rw (next-keep (exprsOf ws ts st count) (marks ws ts st count ini) e ρ (marks-not ws ts st count ini e m)) (scope-add u e keep z count at keep ρ δ s (x .placed .few) i h refl);
               kept = λ g. kept-set u e keep z keep (omega arith) (omega (arith, s .long, x .placed .few));
             };
           }
@@ -294,8 +303,8 @@ pub record Emits (ws ts st ini u₀ : List ℕ) (count at keep a b : ℕ) (ρ δ
   pub δ′ : List ℕ
   pub scope : Scope count at keep ρ′ δ′ u
   pub kept : Kept keep u₀ u
-  pub left : fineE (exprsOf ws ts st count) (marks ini) (upFrom (b - e) e) ρ′ δ′ ≡ fineE (exprsOf ws ts st count) (marks ini) (upFrom (b - a) a) ρ δ
-  pub adds : addE (live (upFrom (b - e) e) (marks ini)) ρ′ ≡ addE (live (upFrom (b - a) a) (marks ini)) ρ
+  pub left : fineE (exprsOf ws ts st count) (marks ws ts st count ini) (upFrom (b - e) e) ρ′ δ′ ≡ fineE (exprsOf ws ts st count) (marks ws ts st count ini) (upFrom (b - a) a) ρ δ
+  pub adds : addE (live (upFrom (b - e) e) (marks ws ts st count ini)) ρ′ ≡ addE (live (upFrom (b - a) a) (marks ws ts st count ini)) ρ
   pub dones : addE (upFrom (b - e) e) δ′ ≡ addE (upFrom (b - a) a) δ
 
 pub record Emitting (ws ts st ini u₀ : List ℕ) (count at keep a b : ℕ) (u : List ℕ) (e : ℕ) : Type 0 where
@@ -337,17 +346,17 @@ module _ (ws ts st ini u₀ : List ℕ) (count at keep a b : ℕ) where
           step : (ρ δ : List ℕ) → Emits ws ts st ini u₀ count at keep a b ρ δ u e → Emits ws ts st ini u₀ count at keep a b ρ δ u₁ (e + 1)
           step ρ δ g =
               let t = got .found (g .ρ′) (g .δ′) (g .scope) in
-              let ok : oneE (exprsOf ws ts st count) (marks ini) e (g .ρ′) (g .δ′) ≡ true = sym (t .says) ∙ not-false r n in
+              let ok : oneE (exprsOf ws ts st count) (marks ws ts st count ini) e (g .ρ′) (g .δ′) ≡ true = sym (t .says) ∙ not-false r n in
               record {
-                ρ′ = nextE (exprsOf ws ts st count) (marks ini) e (g .ρ′);
+                ρ′ = nextE (exprsOf ws ts st count) (marks ws ts st count ini) e (g .ρ′);
                 δ′ = e ∷ g .δ′;
                 scope = t .scope ok;
                 kept = kept-then (g .kept) (t .kept ok);
-                left = sym (ap (λ l. fineE (exprsOf ws ts st count) (marks ini) l (g .ρ′) (g .δ′)) (up-next b e h)
-                    ∙ fine-next (exprsOf ws ts st count) (marks ini) e (upFrom (b - (e + 1)) (e + 1)) (g .ρ′) (g .δ′)
-                    ∙ ap (_&& fineE (exprsOf ws ts st count) (marks ini) (upFrom (b - (e + 1)) (e + 1)) (nextE (exprsOf ws ts st count) (marks ini) e (g .ρ′)) (e ∷ g .δ′)) ok)
+                left = sym (ap (λ l. fineE (exprsOf ws ts st count) (marks ws ts st count ini) l (g .ρ′) (g .δ′)) (up-next b e h)
+                    ∙ fine-next (exprsOf ws ts st count) (marks ws ts st count ini) e (upFrom (b - (e + 1)) (e + 1)) (g .ρ′) (g .δ′)
+                    ∙ ap (_&& fineE (exprsOf ws ts st count) (marks ws ts st count ini) (upFrom (b - (e + 1)) (e + 1)) (nextE (exprsOf ws ts st count) (marks ws ts st count ini) e (g .ρ′)) (e ∷ g .δ′)) ok)
                     ∙ g .left;
-                adds = sym (ap (λ l. addE (live l (marks ini)) (g .ρ′)) (up-next b e h) ∙ add-next (exprsOf ws ts st count) (marks ini) e (upFrom (b - (e + 1)) (e + 1)) (g .ρ′)) ∙ g .adds;
+                adds = sym (ap (λ l. addE (live l (marks ws ts st count ini)) (g .ρ′)) (up-next b e h) ∙ add-next (exprsOf ws ts st count) (marks ws ts st count ini) e (upFrom (b - (e + 1)) (e + 1)) (g .ρ′)) ∙ g .adds;
                 dones = sym (ap (λ l. addE l (g .δ′)) (up-next b e h) ∙ done-next e (upFrom (b - (e + 1)) (e + 1)) (g .δ′)) ∙ g .dones;
               }
 
@@ -355,21 +364,21 @@ module _ (ws ts st ini u₀ : List ℕ) (count at keep a b : ℕ) where
       unfolding inRange
       emit-wrong a′ b′ p q n = rw (sym (p .0), sym (q .0)) (record { found = λ ρ δ s. tells-false (wrong ρ δ (inv .going ρ δ s)) })
         where
-          wrong : (ρ δ : List ℕ) → Emits ws ts st ini u₀ count at keep a b ρ δ u e → fineE (exprsOf ws ts st count) (marks ini) (upFrom (b - a) a) ρ δ ≡ false
+          wrong : (ρ δ : List ℕ) → Emits ws ts st ini u₀ count at keep a b ρ δ u e → fineE (exprsOf ws ts st count) (marks ws ts st count ini) (upFrom (b - a) a) ρ δ ≡ false
           wrong ρ δ g =
               sym (g .left)
-              ∙ ap (λ l. fineE (exprsOf ws ts st count) (marks ini) l (g .ρ′) (g .δ′)) (up-next b e h)
-              ∙ fine-next (exprsOf ws ts st count) (marks ini) e (upFrom (b - (e + 1)) (e + 1)) (g .ρ′) (g .δ′)
-              ∙ ap (_&& fineE (exprsOf ws ts st count) (marks ini) (upFrom (b - (e + 1)) (e + 1)) (nextE (exprsOf ws ts st count) (marks ini) e (g .ρ′)) (e ∷ g .δ′)) (sym (got .found (g .ρ′) (g .δ′) (g .scope) .says) ∙ not-true r n)
+              ∙ ap (λ l. fineE (exprsOf ws ts st count) (marks ws ts st count ini) l (g .ρ′) (g .δ′)) (up-next b e h)
+              ∙ fine-next (exprsOf ws ts st count) (marks ws ts st count ini) e (upFrom (b - (e + 1)) (e + 1)) (g .ρ′) (g .δ′)
+              ∙ ap (_&& fineE (exprsOf ws ts st count) (marks ws ts st count ini) (upFrom (b - (e + 1)) (e + 1)) (nextE (exprsOf ws ts st count) (marks ws ts st count ini) e (g .ρ′)) (e ∷ g .δ′)) (sym (got .found (g .ρ′) (g .δ′) (g .scope) .says) ∙ not-true r n)
 
     pub emit-done : (a′ b′ : ℕ) → (a ≡ a′) × (a < 2 ^ 32) → (b ≡ b′) × (b < 2 ^ 32) → b ≤ e → FoundR ws ts st ini count at keep a′ b′ u₀ u true
     unfolding inRange fineE addE live
     emit-done a′ b′ p q h = rw (sym (p .0), sym (q .0)) (record { found = λ ρ δ s. done ρ δ (inv .going ρ δ s) })
       where
         done : (ρ δ : List ℕ) → Emits ws ts st ini u₀ count at keep a b ρ δ u e
-            → Tells count at keep u₀ u true (fineE (exprsOf ws ts st count) (marks ini) (upFrom (b - a) a) ρ δ) (addE (live (upFrom (b - a) a) (marks ini)) ρ) (addE (upFrom (b - a) a) δ)
+            → Tells count at keep u₀ u true (fineE (exprsOf ws ts st count) (marks ws ts st count ini) (upFrom (b - a) a) ρ δ) (addE (live (upFrom (b - a) a) (marks ws ts st count ini)) ρ) (addE (upFrom (b - a) a) δ)
         done ρ δ g = record {
-          says = ap (λ l. fineE (exprsOf ws ts st count) (marks ini) l (g .ρ′) (g .δ′)) (sym (up-none b e h)) ∙ g .left;
-          scope = λ k. subst (λ l. Scope count at keep l (addE (upFrom (b - a) a) δ) u) (ap (λ l. addE (live l (marks ini)) (g .ρ′)) (sym (up-none b e h)) ∙ g .adds) (subst (λ l. Scope count at keep (g .ρ′) l u) (ap (λ l. addE l (g .δ′)) (sym (up-none b e h)) ∙ g .dones) (g .scope));
+          says = ap (λ l. fineE (exprsOf ws ts st count) (marks ws ts st count ini) l (g .ρ′) (g .δ′)) (sym (up-none b e h)) ∙ g .left;
+          scope = λ k. subst (λ l. Scope count at keep l (addE (upFrom (b - a) a) δ) u) (ap (λ l. addE (live l (marks ws ts st count ini)) (g .ρ′)) (sym (up-none b e h)) ∙ g .adds) (subst (λ l. Scope count at keep (g .ρ′) l u) (ap (λ l. addE l (g .δ′)) (sym (up-none b e h)) ∙ g .dones) (g .scope));
           kept = λ k. g .kept;
         }

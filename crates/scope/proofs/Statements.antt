@@ -173,7 +173,7 @@ module _ (ws ts st ini u₀ : List ℕ) (count at stop keep : ℕ) (ret : Bool) 
   xs = exprsOf ws ts st count
 
   abbrev dr : ℕ → Bool
-  dr = marks ini
+  dr = marks ws ts st count ini
 
   L : Looped ws ts at stop S
   L = looped ws ts at stop S (here .holds) k
@@ -421,14 +421,14 @@ module _ (ws ts st ini u₀ : List ℕ) (count at stop keep : ℕ) (here : StmtH
       record { found = λ ρ δ s. finds-none (rw e is) }
 
   pub stmt-switch : getD ws (at + 1) 0 ≡ 3 → (b c r : Bool) (u : List ℕ) (n : ℕ) → FoundS ws ts st ini count at stop keep (placeOf true c r) u₀ u n → FoundS ws ts st ini count at stop keep (placeOf b c r) u₀ u n
-  stmt-switch k b c r u n got = record { found = λ ρ δ s. subst (λ z. Finds count stop keep u₀ u n z (holdsS (expandS (stmtOf ws ts at stop) (marks ini))) (addS (expandS (stmtOf ws ts at stop) (marks ini)) ρ) (doneS (stmtOf ws ts at stop) δ)) (same ρ δ) (got .found ρ δ s) }
+  stmt-switch k b c r u n got = record { found = λ ρ δ s. subst (λ z. Finds count stop keep u₀ u n z (holdsS (expandS (stmtOf ws ts at stop) (marks ws ts st count ini))) (addS (expandS (stmtOf ws ts at stop) (marks ws ts st count ini)) ρ) (doneS (stmtOf ws ts at stop) δ)) (same ρ δ) (got .found ρ δ s) }
     where
-      same : (ρ δ : List ℕ) → fineS (exprsOf ws ts st count) (marks ini) (stmtOf ws ts at stop) (placeOf true c r) ρ δ ≡ fineS (exprsOf ws ts st count) (marks ini) (stmtOf ws ts at stop) (placeOf b c r) ρ δ
+      same : (ρ δ : List ℕ) → fineS (exprsOf ws ts st count) (marks ws ts st count ini) (stmtOf ws ts at stop) (placeOf true c r) ρ δ ≡ fineS (exprsOf ws ts st count) (marks ws ts st count ini) (stmtOf ws ts at stop) (placeOf b c r) ρ δ
       same ρ δ =
-          ap (λ z. fineS (exprsOf ws ts st count) (marks ini) z (placeOf true c r) ρ δ) (T .is)
-          ∙ fine-form (exprsOf ws ts st count) (marks ini) (T .a) (T .b) (T .f) (placeOf true c r) ρ δ
-          ∙ switch-place (exprsOf ws ts st count) (marks ini) (T .f) b c r ρ δ (T .ok) (sym (T .kind) ∙ k)
-          ∙ sym (ap (λ z. fineS (exprsOf ws ts st count) (marks ini) z (placeOf b c r) ρ δ) (T .is) ∙ fine-form (exprsOf ws ts st count) (marks ini) (T .a) (T .b) (T .f) (placeOf b c r) ρ δ)
+          ap (λ z. fineS (exprsOf ws ts st count) (marks ws ts st count ini) z (placeOf true c r) ρ δ) (T .is)
+          ∙ fine-form (exprsOf ws ts st count) (marks ws ts st count ini) (T .a) (T .b) (T .f) (placeOf true c r) ρ δ
+          ∙ switch-place (exprsOf ws ts st count) (marks ws ts st count ini) (T .f) b c r ρ δ (T .ok) (sym (T .kind) ∙ k)
+          ∙ sym (ap (λ z. fineS (exprsOf ws ts st count) (marks ws ts st count ini) z (placeOf b c r) ρ δ) (T .is) ∙ fine-form (exprsOf ws ts st count) (marks ws ts st count ini) (T .a) (T .b) (T .f) (placeOf b c r) ρ δ)
 
 return-no : (xs : List Cells) (dr : ℕ → Bool) (f : Form Range) (b c r : Bool) (ρ δ : List ℕ) → OkF DEPTH f → kindOf f ≡ 7 → r ≡ false → fineF xs dr f (placeOf b c r) ρ δ ≡ false
 unfolding kindOf fineF
@@ -511,8 +511,8 @@ module _ (ws ts st ini u₀ : List ℕ) (count at stop keep : ℕ) (here : StmtH
   abbrev H : Header ws ts at stop (stmtOf ws ts at stop)
   H = header ws ts at stop (stmtOf ws ts at stop) (here .holds)
 
-  Z : Simple (exprsOf ws ts st count) (marks ini) (H .f) (getD ws (at + 4) 0)
-  Z = simple-of (exprsOf ws ts st count) (marks ini) ws ts (at + 4) (H .f) (H .runs) (H .ok) (omega (arith, H .kind))
+  Z : Simple (exprsOf ws ts st count) (marks ws ts st count ini) (H .f) (getD ws (at + 4) 0)
+  Z = simple-of (exprsOf ws ts st count) (marks ws ts st count ini) ws ts (at + 4) (H .f) (H .runs) (H .ok) (omega (arith, H .kind))
 
   fields : between ws ts (at + 4) stop ≡ flatF (H .f)
   fields = between-runs ws ts (at + 4) stop (flatF (H .f)) (H .runs) (H .long)
@@ -526,12 +526,12 @@ module _ (ws ts st ini u₀ : List ℕ) (count at stop keep : ℕ) (here : StmtH
           let t = rw (fields, H .kind) at (got .found ρ δ s) in
           let e = Z .fine (placeOf b c r) ρ δ (λ z. q (H .kind ∙ z)) in
           record {
-            says = n-is ∙ ap (λ z. told z false) (t .says ∙ sym e) ∙ ap (told (fineF (exprsOf ws ts st count) (marks ini) (H .f) (placeOf b c r) ρ δ)) (sym (Z .holds));
+            says = n-is ∙ ap (λ z. told z false) (t .says ∙ sym e) ∙ ap (told (fineF (exprsOf ws ts st count) (marks ws ts st count ini) (H .f) (placeOf b c r) ρ δ)) (sym (Z .holds));
             scope = λ g. rw (Z .adds ρ, Z .evals) (scope-on {q = at} stop (omega (arith, H .long)) (t .scope (sym e ∙ g)));
             kept = λ g. t .kept (sym e ∙ g);
           }
 
   pub stmt-no-return : (b c r : Bool) → getD ws (at + 1) 0 ≡ 7 → r ≡ false → FoundS ws ts st ini count at stop keep (placeOf b c r) u₀ u₀ 0
   stmt-no-return b c r e h = record {
-    found = λ ρ δ s. finds-none (ap (λ z. fineS (exprsOf ws ts st count) (marks ini) z (placeOf b c r) ρ δ) (H .is) ∙ fine-form (exprsOf ws ts st count) (marks ini) (H .a) (H .b) (H .f) (placeOf b c r) ρ δ ∙ return-no (exprsOf ws ts st count) (marks ini) (H .f) b c r ρ δ (H .ok) (sym (H .kind) ∙ e) h);
+    found = λ ρ δ s. finds-none (ap (λ z. fineS (exprsOf ws ts st count) (marks ws ts st count ini) z (placeOf b c r) ρ δ) (H .is) ∙ fine-form (exprsOf ws ts st count) (marks ws ts st count ini) (H .a) (H .b) (H .f) (placeOf b c r) ρ δ ∙ return-no (exprsOf ws ts st count) (marks ws ts st count ini) (H .f) b c r ρ δ (H .ok) (sym (H .kind) ∙ e) h);
   }

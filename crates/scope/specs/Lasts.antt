@@ -81,11 +81,11 @@ pub record BlockHere (ws ts st : List ℕ) (count at fin keep : ℕ) : Type 0 wh
 
 abbrev pub FindsS : List ℕ → List ℕ → List ℕ → List ℕ → ℕ → ℕ → ℕ → ℕ → Place → List ℕ → List ℕ → ℕ → Stmt Range → List ℕ → List ℕ → Type 0
 FindsS ws ts st ini count at stop keep p u₀ u r s ρ δ =
-    Finds count stop keep u₀ u r (fineS (exprsOf ws ts st count) (marks ini) s p ρ δ) (holdsS (expandS s (marks ini))) (addS (expandS s (marks ini)) ρ) (doneS s δ)
+    Finds count stop keep u₀ u r (fineS (exprsOf ws ts st count) (marks ws ts st count ini) s p ρ δ) (holdsS (expandS s (marks ws ts st count ini))) (addS (expandS s (marks ws ts st count ini)) ρ) (doneS s δ)
 
 abbrev pub FindsB : List ℕ → List ℕ → List ℕ → List ℕ → ℕ → ℕ → ℕ → ℕ → Place → List ℕ → List ℕ → ℕ → Block Range → List ℕ → List ℕ → Type 0
 FindsB ws ts st ini count at fin keep p u₀ u r b ρ δ =
-    Finds count fin keep u₀ u r (fineB (exprsOf ws ts st count) (marks ini) b p ρ δ) (holdsB (expand b (marks ini))) (contB (expand b (marks ini)) ρ) (doneB b δ)
+    Finds count fin keep u₀ u r (fineB (exprsOf ws ts st count) (marks ws ts st count ini) b p ρ δ) (holdsB (expand b (marks ws ts st count ini))) (contB (expand b (marks ws ts st count ini)) ρ) (doneB b δ)
 
 pub record FoundS (ws ts st ini : List ℕ) (count at stop keep : ℕ) (p : Place) (u₀ u : List ℕ) (r : ℕ) : Type 0 where
   pub found : (ρ δ : List ℕ) → Scope count at keep ρ δ u₀ → FindsS ws ts st ini count at stop keep p u₀ u r (stmtOf ws ts at stop) ρ δ
@@ -95,14 +95,14 @@ pub record FoundB (ws ts st ini : List ℕ) (count at fin keep : ℕ) (p : Place
 
 -- expression e of an Emit
 pub record FoundE (ws ts st ini : List ℕ) (count at keep e : ℕ) (u₀ u : List ℕ) (r : Bool) : Type 0 where
-  pub found : (ρ δ : List ℕ) → Scope count at keep ρ δ u₀ → Tells count at keep u₀ u r (oneE (exprsOf ws ts st count) (marks ini) e ρ δ) (nextE (exprsOf ws ts st count) (marks ini) e ρ) (e ∷ δ)
+  pub found : (ρ δ : List ℕ) → Scope count at keep ρ δ u₀ → Tells count at keep u₀ u r (oneE (exprsOf ws ts st count) (marks ws ts st count ini) e ρ δ) (nextE (exprsOf ws ts st count) (marks ws ts st count ini) e ρ) (e ∷ δ)
 
 abbrev pub rangeOf : ℕ → ℕ → List ℕ
 rangeOf a b = inRange (record { from = a; to = b })
 
 pub record FoundR (ws ts st ini : List ℕ) (count at keep a b : ℕ) (u₀ u : List ℕ) (r : Bool) : Type 0 where
   pub found : (ρ δ : List ℕ) → Scope count at keep ρ δ u₀
-      → Tells count at keep u₀ u r (fineE (exprsOf ws ts st count) (marks ini) (rangeOf a b) ρ δ) (addE (live (rangeOf a b) (marks ini)) ρ) (addE (rangeOf a b) δ)
+      → Tells count at keep u₀ u r (fineE (exprsOf ws ts st count) (marks ws ts st count ini) (rangeOf a b) ρ δ) (addE (live (rangeOf a b) (marks ws ts st count ini)) ρ) (addE (rangeOf a b) δ)
 
 -- the result of a statement, and the whole of a statement without blocks
 abbrev pub resultIn : List ℕ → List ℕ → ℕ → ℕ → Option ℕ

@@ -1,6 +1,6 @@
 -- Words and tape seen as cells, and the trees that stand in them: a block or a statement from one word to another, the table of a function's expressions.
 use mathlib.Core.Path.{_≡_}
-use mathlib.Core.Bool.{Bool, not}
+use mathlib.Core.Bool.{Bool, _&&_, not}
 use mathlib.Core.List.{List, [], _∷_, map}
 use Prim.Native.Nat.{ℕ, zero, suc, _+_, _-_, _≤_, _<_}
 use lib.Dec.{eqb}
@@ -8,6 +8,7 @@ use lib.ListN.{length, getD}
 use Rattle.model.specs.Outcome.{Cell, Cells, word, Outcome, fits, misfit, unknown}
 use Rattle.model.specs.Table.{expressionRow, TO}
 use Rattle.model.specs.Tree.{Stmt, stmt, kill, Block, end, Range, flatS, flatBlock, statement, blockAt, DEPTH}
+use Rattle.model.specs.Operands.{standing}
 use Rattle.model.specs.Carry.{Lays, OkS, OkB}
 
 -- ---- cells
@@ -79,6 +80,6 @@ pub record Exprs (ws ts st : List ℕ) (count : ℕ) : Type 0 where
   pub placed : Placed st count
   pub lays : (e : ℕ) → e < count → Lays expressionRow (recordOf ws ts st e)
 
--- the marks of the initialiser expressions
-unfoldable pub marks : List ℕ → ℕ → Bool
-marks ini e = not (eqb (getD ini e 0) 0)
+-- the initialiser expressions: those that are marked and do not stand
+unfoldable pub marks : List ℕ → List ℕ → List ℕ → ℕ → List ℕ → ℕ → Bool
+marks ws ts st count ini e = not (eqb (getD ini e 0) 0) && not (standing (exprsOf ws ts st count) e)

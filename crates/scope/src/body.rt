@@ -603,7 +603,7 @@ pub fn body(
     end: usize,
 ) -> bool
     requires { ⌜ BlockHere (now words) (now tags) (now starts) count at end end ⌝ }
-    ensures { λ r. ⌜ r ≡ fineB (exprsOf (now (words .entry)) (now (tags .entry)) (now (starts .entry)) count) (marks (now (initial .entry))) (blockOf (now (words .entry)) (now (tags .entry)) at end) inBody [] [] ⌝ }
+    ensures { λ r. ⌜ r ≡ fineB (exprsOf (now (words .entry)) (now (tags .entry)) (now (starts .entry)) count) (marks (now (words .entry)) (now (tags .entry)) (now (starts .entry)) count (now (initial .entry))) (blockOf (now (words .entry)) (now (tags .entry)) at end) inBody [] [] ⌝ }
 {
     let mut until = [0usize; 1024];
     let r = block(

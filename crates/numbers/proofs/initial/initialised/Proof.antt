@@ -62,7 +62,7 @@ reach-requires c κs = init-reach _ _ _ _ _ (c .before .before .before .before .
 
 -- src/initial.rt:154:1
 returns-2 : tie.Need-returns-2
-returns-2 c = init-done _ _ _ _ _ (c .before .before .before .before .before .before .before .before .before .before .before .before .before .before .pre) _ _ (c .before .before .before .before .before .before .before .before .before .before .before .before .wide .ensures) (c .before .before .before .before .before .before .before .before .before .before .wide2 .ensures) (replicate 1024 0) (length-replicate {A = ℕ} 1024 0) _ _ _ (c .before .before .before .before .before .before .before .roots .ensures) _ (c .before .before .before .before .places .ensures) _ (c .reach .ensures)
+returns-2 c = init-done _ _ _ _ _ (c .before .before .before .before .before .before .before .before .before .before .before .before .before .before .pre) _ _ (c .before .before .before .before .before .before .before .before .before .before .before .before .wide .ensures) (c .before .before .before .before .before .before .before .before .before .before .wide2 .ensures) (replicate 1024 0) (length-replicate {A = ℕ} 1024 0) _ _ _ (c .before .before .before .before .before .before .before .roots .ensures) _ (c .before .before .before .before .places .ensures) _ _ _ (c .reach .ensures)
 
 pub initialised-spec : {M : Type 1} → statement M
 initialised-spec =
