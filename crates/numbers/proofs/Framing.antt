@@ -196,13 +196,13 @@ InFunctions = Looping 6 (λ m. m .functions) (λ f. f) flat (λ p. p) (λ m. noF
 abbrev pub InEntries : List ℕ → List ℕ → ℕ → List ℕ → ℕ → List ℕ → Type 0
 InEntries = Looping 7 (λ m. m .entries) (λ e. e .function) flatEntry (λ p. p + 7) (λ m. noEntry)
 
-framing-functions : (words tags : List ℕ) (n : ℕ) → Framing 6 (λ m. m .functions) (λ f. f) flat (λ p. p) (λ m. noFunction) words tags n
+pub framing-functions : (words tags : List ℕ) (n : ℕ) → Framing 6 (λ m. m .functions) (λ f. f) flat (λ p. p) (λ m. noFunction) words tags n
 framing-functions words tags n = record {
   count = λ m tp. taped-functions tp;
   frames = λ m tp j f e. record { long = taped-long tp; cells = flatModule m; small = cells-few tp; whole = taped-function tp j f e .part; own = taped-function tp j f e };
 }
 
-framing-entries : (words tags : List ℕ) (n : ℕ) → Framing 7 (λ m. m .entries) (λ e. e .function) flatEntry (λ p. p + 7) (λ m. noEntry) words tags n
+pub framing-entries : (words tags : List ℕ) (n : ℕ) → Framing 7 (λ m. m .entries) (λ e. e .function) flatEntry (λ p. p + 7) (λ m. noEntry) words tags n
 framing-entries words tags n = record {
   count = λ m tp. taped-entries tp;
   frames = λ m tp j x e. record { long = taped-long tp; cells = flatModule m; small = cells-few tp; whole = taped-part tp (omega arith) (sees-entry m refl j x e); own = taped-entry tp j x e };
@@ -286,7 +286,7 @@ regroup true true false d x k f e r p = refl
 regroup true false c d x k f e r p = refl
 regroup false b c d x k f e r p = refl
 
-numbered-is : (m : Module) → numbered m ≡ (tablesFine m && (kindsFine m && (functionsFine m && entriesFine m)))
+pub numbered-is : (m : Module) → numbered m ≡ (tablesFine m && (kindsFine m && (functionsFine m && entriesFine m)))
 unfolding numbered tablesFine kindsFine functionsFine entriesFine
 numbered-is m =
     let b = outside m in

@@ -7,4 +7,4 @@ pub mod Blocks
 pub mod Parts
 pub mod Statements
 pub mod Bodies
-pub mod Functions
+pub mod Whole

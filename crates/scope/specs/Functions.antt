@@ -10,7 +10,7 @@ use Rattle.model.specs.Module.{Module}
 use Rattle.model.specs.Taped.{Taped}
 use Rattle.model.specs.Initial.{initialised}
 use Rattle.model.specs.Numbers.{numbered}
-use Rattle.model.specs.Scope.{scoped}
+use Rattle.model.specs.Scope.{scoped, allScoped, entriesScoped}
 use Rattle.numbers.specs.Ranges.{Frame, Lists}
 use Rattle.scope.specs.Tape.{Ends}
 
@@ -30,7 +30,7 @@ pub record Stated (words tags : List ℕ) (at from end : ℕ) : Type 0 where
   pub cells : Cells
   pub frame : Frame words tags at from end function cells
   pub inits : initialised function ≡ true
-  pub ends : Ends words tags (length (function .exprs)) at end
+  pub ends : Ends words tags (length (function .exprs)) from end
 
 pub record Scoped (r : Bool) (words tags : List ℕ) (at from end : ℕ) : Type 0 where
   pub same : (f : Function) (cs : Cells) → Frame words tags at from end f cs → initialised f ≡ true → r ≡ scoped f
@@ -38,3 +38,10 @@ pub record Scoped (r : Bool) (words tags : List ℕ) (at from end : ℕ) : Type 
 -- every module in words and tape has its numbers in range
 pub record Numbered (words tags : List ℕ) (n : ℕ) : Type 0 where
   pub holds : (m : Module) → Taped words tags n m → numbered m ≡ true
+
+-- "of every function and every entry point"
+abbrev pub functionsScoped : Module → Bool
+functionsScoped m = allScoped (m .functions)
+
+abbrev pub entryPointsScoped : Module → Bool
+entryPointsScoped m = entriesScoped (m .entries)

@@ -20,16 +20,17 @@ use Rattle.model.specs.Reached.{initial-is, initial-all}
 use Rattle.model.specs.Scope.{inBody, expand, allOf, seen, scopedAs, scoped}
 use Rattle.laws.proofs.Sections.{startOf, start-end, start-step}
 use Rattle.laws.proofs.FunctionViews.{Held, Part, part-end, part-right, part-word, part-tag, Stands, namedAt, bodyAt, each-at, Expression, expression-first, expr-part, expr-shape, exprs-all, named-count, parts, stands-end}
-use Rattle.numbers.specs.Ranges.{Lists, Listed}
+use Rattle.numbers.specs.Ranges.{Lists, Listed, Frame, Framed}
 use Rattle.numbers.specs.Marks.{finds, on, inits, Visits, Room, Work, Starting, Reaching, Reaches}
 use Rattle.numbers.proofs.Reaching.{all, starting, begun, many-is, many-few, end-in, exprs-in}
+use Rattle.numbers.proofs.Framing.{Word, lists-are}
 use Rattle.scope.specs.Fine.{keepAll, fineB}
 use Rattle.scope.specs.Tape.{cellsFrom, between, blockOf, HoldsB, Ends, recordOf, tableFrom, exprsOf, Placed, Exprs, marks}
 use Rattle.scope.specs.Lasts.{BlockHere}
-use Rattle.scope.specs.Functions.{Known, Tested}
+use Rattle.scope.specs.Functions.{Known, Tested, Stated, Scoped}
 use Rattle.scope.proofs.Restated.{same, restated}
 use Rattle.scope.proofs.Scopes.{absurd-bool, expr-in}
-use Rattle.scope.proofs.Trees.{Runs, between-runs, block-is, block-held}
+use Rattle.scope.proofs.Trees.{Runs, between-runs, block-is, block-held, ends-in}
 
 -- a part of the cells, as the pass sees it
 pub part-runs : {ws ts : List ℕ} {cells : Cells} (o : Held ws ts cells) (cs : Cells) {p q : ℕ} → Part cells p q cs → Runs ws ts p cs
@@ -186,3 +187,20 @@ module _ (words tags : List ℕ) (locals exprs end : ℕ) (pre : Known words tag
               let fine : q ≡ true = got .same f locals exprs end ls sg w ∙ i in
               scoped-is f ls (e-is .0) sg named named-is k k-is m₁ l₁ (got .left fine f locals exprs end ls sg w) r is;
         }
+
+-- ---- from the record's start on
+module _ (words tags : List ℕ) (at from end : ℕ) (pre : Stated words tags at from end) where
+  pub stated-framed : Framed words tags at from end
+  stated-framed = record { function = pre .function; record-cells = pre .cells; frame = pre .frame }
+
+  module _ (a r l : ℕ) (a-is : Word a (getD words (from + 3) 0)) (r-is : Word r (getD words (from + 4 + 8 * a) 0)) (l-is : Word l (getD words (from + 4 + 8 * a + 1 + 7 * r) 0)) where
+    pub stated-known : Known words tags (from + 4 + 8 * a + 1 + 7 * r) (from + 4 + 8 * a + 1 + 7 * r + 1 + 5 * l) end
+    stated-known = record {
+      function = pre .function;
+      lists = lists-are (pre .frame) a r l 0 (a-is .0) (r-is .0) (l-is .0);
+      inits = pre .inits;
+      ends = ends-in words tags (from + 4 + 8 * a + 1 + 7 * r + 1 + 5 * l) end (pre .ends) (omega arith) (omega arith);
+    }
+
+    pub stated-scoped : (q : Bool) → Tested q words tags (from + 4 + 8 * a + 1 + 7 * r) (from + 4 + 8 * a + 1 + 7 * r + 1 + 5 * l) end → Scoped q words tags at from end
+    stated-scoped q got = record { same = λ f cs fr i. got .same f (lists-are fr a r l 0 (a-is .0) (r-is .0) (l-is .0)) i }
