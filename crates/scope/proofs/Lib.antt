@@ -8,3 +8,4 @@ pub mod Parts
 pub mod Statements
 pub mod Bodies
 pub mod Whole
+pub mod Images

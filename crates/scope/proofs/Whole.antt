@@ -69,7 +69,7 @@ on-is m y = go (getD m y 0)
     go zero = refl
     go (suc v) = lt-ltb 0 (suc v) (omega arith) ∙ sym (ap not (ne-eqb (suc v) 0 (λ q. omega arith)))
 
-and-split : (a b : Bool) → (a && b) ≡ true → (a ≡ true) × (b ≡ true)
+pub and-split : (a b : Bool) → (a && b) ≡ true → (a ≡ true) × (b ≡ true)
 and-split true b h = (refl, h)
 and-split false b h = absurd-bool h refl
 
