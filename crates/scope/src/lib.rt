@@ -48,3 +48,55 @@ fn function(words: &[u32; 16384], tags: &[u8; 16384], at: usize, from: usize, en
     let exprs = locals + 1 + 5 * wide(words[locals]);
     scoped(words, tags, locals, exprs, end)
 }
+
+// Table functions.
+fn functions(words: &[u32; 16384], tags: &[u8; 16384], n: usize) -> bool
+    requires { ⌜ Tape (now words) (now tags) n ⌝ }
+    requires { ⌜ Numbered (now words) (now tags) n ⌝ }
+    ensures { λ r. ⌜ Says r (now (words .entry)) (now (tags .entry)) n functionsScoped ⌝ }
+{
+    let count = wide(words[14]);
+    let mut j = 0;
+    while j < count {
+        let i = j;
+        j += 1;
+        let at = record_at(words, tags, n, 6, i);
+        let end = record_end(words, tags, n, 6, i);
+        if !function(words, tags, at, at, end) {
+            return false;
+        }
+    }
+    true
+}
+
+// Entry points: seven words stand before a function.
+fn entries(words: &[u32; 16384], tags: &[u8; 16384], n: usize) -> bool
+    requires { ⌜ Tape (now words) (now tags) n ⌝ }
+    requires { ⌜ Numbered (now words) (now tags) n ⌝ }
+    ensures { λ r. ⌜ Says r (now (words .entry)) (now (tags .entry)) n entryPointsScoped ⌝ }
+{
+    let count = wide(words[16]);
+    let mut j = 0;
+    while j < count {
+        let i = j;
+        j += 1;
+        let at = record_at(words, tags, n, 7, i);
+        let end = record_end(words, tags, n, 7, i);
+        if !function(words, tags, at, at + 7, end) {
+            return false;
+        }
+    }
+    true
+}
+
+// Is an image whose numbers are in range in scope?
+pub fn in_scope(words: &[u32; 16384], tags: &[u8; 16384], n: usize) -> bool
+    requires { ⌜ Tape (now words) (now tags) n ⌝ }
+    requires { ⌜ Numbered (now words) (now tags) n ⌝ }
+    ensures { λ r. ⌜ Says r (now (words .entry)) (now (tags .entry)) n inScope ⌝ }
+{
+    if !functions(words, tags, n) {
+        return false;
+    }
+    entries(words, tags, n)
+}
