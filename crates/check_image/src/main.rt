@@ -1,6 +1,7 @@
 // Reads an image on standard input and says what intake answers: `accepted`, or `refused` and the number. Input longer than an image may be is
 // refused 1 and not cut: the buffer holds one byte more.
-use libc::{STDIN_FILENO, STDOUT_FILENO};
+use libc::STDIN_FILENO;
+use libc::STDOUT_FILENO;
 ghost use mathlib.Core.Path.{_≡_};
 ghost use lib.ListN.{length};
 
