@@ -7,16 +7,17 @@ use native.Mathlib.Omega.{arith}
 use lib.Dec.{eqb}
 use lib.ListN.{length, getD}
 use borrow.Author.Tests.{ltb-true, eqb-false, not-true}
-use Rattle.model.specs.Outcome.{Cells, word}
+use Rattle.model.specs.Outcome.{Cells, word, laid}
 use Rattle.model.specs.Table.{NAME, ARGUMENTS, LOCALS, EXPRESSIONS, NAMED, functionHead}
 use Rattle.model.specs.Tree.{Function, flatList, flatBlock, flat}
-use Rattle.model.specs.Module.{Module}
+use Rattle.model.specs.Module.{Module, read}
 use Rattle.model.specs.Taped.{Taped}
 use Rattle.model.specs.Carry.{Lays, lays-none, lays-next, Each, each-none, each-next, WellFunction, WellFormed}
 use Rattle.model.specs.Initial.{initialised}
 use Rattle.model.specs.Numbers.{Bounds, caps, bound, below, within, ordered, every, outside, inside, sound, soundFunction, numbered}
 use Rattle.model.specs.Names.{field, present, functionNames, named}
 use Rattle.laws.proofs.Lists.{and-split}
+use Rattle.laws.proofs.Modules.{write-read}
 use Rattle.gather.specs.Gathering.{Known}
 use Rattle.gather.proofs.Numbered.{functions-sound, passed-known}
 use Rattle.listing.specs.Lines.{nameWord, NamesKnown, Naming, Passed}
@@ -64,3 +65,10 @@ passed-naming p m t = names-known m (t .well) (p .numbers m t) (p .names m t)
 
 pub passed-callees : {words tags : List ℕ} {n : ℕ} → Passed words tags n → Known words tags n
 passed-callees p = passed-known (p .numbers)
+
+-- words and tape hold one module, so what is shown of one that they hold is shown of it
+taped-same : {words tags : List ℕ} {n : ℕ} {m o : Module} → Taped words tags n m → Taped words tags n o → m ≡ o
+taped-same {m} {o} t u = let p : laid m ≡ laid o = sym (write-read m (t .well)) ∙ ap read (sym (t .words-are) ∙ u .words-are) ∙ write-read o (u .well) in cc
+
+pub passed-one : {words tags : List ℕ} {n : ℕ} {m : Module} → Taped words tags n m → numbered m ≡ true → named m ≡ true → Passed words tags n
+passed-one t h k = record { numbers = λ o u. subst (λ x. numbered x ≡ true) (taped-same t u) h; names = λ o u. subst (λ x. named x ≡ true) (taped-same t u) k }
