@@ -46,17 +46,21 @@ each-below b (each-next {a = f} {l = fs} w ws) h =
     let a = and-split (soundFunction b f) (every (soundFunction b) fs) h in
     each-next (sound-below b f w (a .0)) (each-below b ws (a .1))
 
-pub numbered-known : (m : Module) → WellFormed m → numbered m ≡ true → CalleesKnown m
-unfolding numbered outside
-numbered-known m w h =
+-- test 3 of the table functions
+pub functions-sound : (m : Module) → numbered m ≡ true → every (soundFunction (outside m)) (m .functions) ≡ true
+unfolding numbered
+functions-sound m h =
     let a = and-split (every (within (outside m)) (m .types)) _ h in
     let b = and-split (every (within (outside m)) (m .constants)) _ (a .1) in
     let c = and-split (every (within (outside m)) (m .overrides)) _ (b .1) in
     let d = and-split (every (within (outside m)) (m .globals)) _ (c .1) in
     let e = and-split (every (within (outside m)) (m .exprs)) _ (d .1) in
     let f = and-split (every constantOnly (m .exprs)) _ (e .1) in
-    let g = and-split (every (soundFunction (outside m)) (m .functions)) _ (f .1) in
-    each-below (outside m) (w .functions-ok .each) (g .0)
+    and-split (every (soundFunction (outside m)) (m .functions)) _ (f .1) .0
+
+pub numbered-known : (m : Module) → WellFormed m → numbered m ≡ true → CalleesKnown m
+unfolding outside
+numbered-known m w h = each-below (outside m) (w .functions-ok .each) (functions-sound m h)
 
 pub passed-known : {words tags : List ℕ} {n : ℕ} → ((m : Module) → Taped words tags n m → numbered m ≡ true) → Known words tags n
 passed-known h m t = numbered-known m (t .well) (h m t)

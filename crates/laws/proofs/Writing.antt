@@ -47,7 +47,7 @@ right s n rest e = rw (checked, eq-eqb n (length (flatS s)) e)
 mutual
   unfolding flatS kindOf sizeB sizeC stmts cases caseAt form statement shaped blockAt eat _⟫_ statements flatBlock flatX
 
-  write-s : {d : ℕ} {s : Stmt Range} → OkS d s → (rest : List ℕ) → statement (blockAt d) (map word (flatS s) ++ rest) ≡ fits s rest
+  pub write-s : {d : ℕ} {s : Stmt Range} → OkS d s → (rest : List ℕ) → statement (blockAt d) (map word (flatS s) ++ rest) ≡ fits s rest
   write-s (ok-stmt {a} {b} {x} o) rest = write-f o a b (suc (suc (suc (suc (length (flatF x)))))) refl rest
 
   write-f : {d : ℕ} {x : Form Range} → OkF d x → (a b n : ℕ) → n ≡ length (flatS (stmt a b x)) → (rest : List ℕ)

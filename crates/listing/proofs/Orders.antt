@@ -14,6 +14,7 @@ use Rattle.model.specs.Taped.{Taped, Tape}
 use Rattle.model.specs.Calls.{In, here, later, keep, times, ordered, order}
 use Rattle.model.specs.Callees.{calls, orderOf}
 use Rattle.calls.specs.Placing.{shown}
+use Rattle.calls.specs.declared.Ordered.{Ordered}
 use Rattle.calls.specs.declared.Ordered.the-variants.{All}
 use Rattle.calls.proofs.Lists.{either, in-keep}
 use Rattle.calls.proofs.Theorems.{claims}
@@ -43,7 +44,7 @@ order-known n c os e k h =
     absurd (omega (arith, claims n c .none-else os e (getD os k 0) b)))
     (less-or-not (getD os k 0) n)
 
-pub printable : {words tags : List ℕ} {n : ℕ} {out out′ : List ℕ} → Tape words tags n → Listed words tags n out All out′ → {c : ℕ} → c ≡ countAt 6 words → Printable words out′ c
+printable : {words tags : List ℕ} {n : ℕ} {out out′ : List ℕ} → Tape words tags n → Listed words tags n out All out′ → {c : ℕ} → c ≡ countAt 6 words → Printable words out′ c
 unfolding shown orderOf
 printable {words} {out′} p l {c} e =
     let t = p .taped in
@@ -58,3 +59,6 @@ printable {words} {out′} p l {c} e =
           (λ (b : length (take (length (m .functions)) out′) ≤ k). omega (arith, List·getD-eq-default (take (length (m .functions)) out′) 0 b))
           (less-or-not k (length (take (length (m .functions)) out′)));
     }
+
+pub printable-of : {words tags : List ℕ} {n : ℕ} {out out′ : List ℕ} {a : Ordered} → Tape words tags n → a ≡ All → Listed words tags n out a out′ → {c : ℕ} → c ≡ countAt 6 words → Printable words out′ c
+printable-of p e l q = printable p (rw e at l) q

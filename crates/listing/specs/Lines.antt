@@ -1,7 +1,7 @@
 -- What the program `order` prints, as bytes. Document 01: "prints the function count, then by line new number, source number, name", and "Refused: `refused 5`, or `refused 12 left 2`".
 -- Assumes nothing: these are definitions.
 use mathlib.Core.Path.{_≡_}
-use mathlib.Core.Bool.{cond}
+use mathlib.Core.Bool.{true, cond}
 use mathlib.Core.Option.{Option, none, some}
 use mathlib.Core.List.{List, [], _∷_, _++_, map}
 use Prim.Native.Nat.{ℕ, zero, suc, _+_, _*_, _-_, _/_, _%_, _≤_, _<_}
@@ -14,6 +14,8 @@ use Rattle.model.specs.Module.{Module, countAt, offsetAt}
 use Rattle.model.specs.View.{recordAt}
 use Rattle.model.specs.Taped.{Taped}
 use Rattle.model.specs.Carry.{Each}
+use Rattle.model.specs.Numbers.{numbered}
+use Rattle.model.specs.Names.{named}
 use Rattle.words.specs.Words.{bytesOf}
 
 -- ---- bytes
@@ -89,3 +91,8 @@ pub record Lines (words tags : List ℕ) (n new s : ℕ) (out′ : List ℕ) (r 
 pub record Printable (words order : List ℕ) (count : ℕ) : Type 0 where
   pub few : count ≤ 256
   pub known : (k : ℕ) → k < count → getD order k 0 < countAt 6 words
+
+-- what intake has shown of the module that words and tape hold, as far as it is needed here
+pub record Passed (words tags : List ℕ) (n : ℕ) : Type 0 where
+  pub numbers : (m : Module) → Taped words tags n m → numbered m ≡ true
+  pub names : (m : Module) → Taped words tags n m → named m ≡ true

@@ -1,5 +1,6 @@
 // What the program `order` prints: the count of functions, and for each its new number, its source
 // number and its name. A line is put together in a buffer, and its contract says which bytes it has.
+use calls::Ordered;
 use libc::STDOUT_FILENO;
 ghost use mathlib.Core.Path.{_≡_};
 ghost use mathlib.Core.List.{[], _∷_};
@@ -8,7 +9,7 @@ ghost use lib.ListN.{length, getD, drop};
 ghost use Rattle.model.specs.Module.{countAt};
 ghost use Rattle.model.specs.Taped.{Tape};
 ghost use Rattle.words.specs.Words.{bytesOf};
-ghost use Rattle.listing.specs.Lines.{decimal, textAt, Puts, Room, Naming, Lines, Printable};
+ghost use Rattle.listing.specs.Lines.{decimal, textAt, Puts, Room, Naming, Lines, Printable, Passed};
 
 // Byte k of the words from `at` on.
 fn byte(words: &[u32; 16384], at: usize, k: usize) -> u8
@@ -149,4 +150,21 @@ pub fn print_ring(left: u32) {
     io::write_all(STDOUT_FILENO, b"refused 12 left ");
     io::print_decimal(STDOUT_FILENO, left as u64);
     io::write_all(STDOUT_FILENO, b"\n");
+}
+
+// The order of a module that intake has passed, or refusal 12.
+pub fn show(words: &[u32; 16384], tags: &[u8; 16384], n: usize)
+    requires { ⌜ Tape (now words) (now tags) n ⌝ }
+    requires { ⌜ Passed (now words) (now tags) n ⌝ }
+{
+    let mut order = [0u32; 256];
+    let answer = gather::order_of(words, tags, n, &mut order);
+    match answer {
+        Ordered::All => {
+            print_order(words, tags, n, &order, gather::wide(words[14]));
+        }
+        Ordered::Ring(left) => {
+            print_ring(left);
+        }
+    }
 }

@@ -14,6 +14,7 @@ pub mod Initial
 pub mod Reached
 pub mod Numbers
 pub mod Scope
+pub mod Intake
 pub mod Walk
 pub mod Calls
 pub mod Callees

@@ -53,11 +53,11 @@ module _ {words tags : List ℕ} {at from end : ℕ} {f : Function} {cs : Cells}
           let z : v ≡ length (f .locals) = v-is ∙ ap (λ o. getD words o 0) locals-is ∙ locals-count (fr .own) in
           rw (x, y, z)
 
-      lists-are : Lists words tags (from + 4 + 8 * a + 1 + 7 * r) (from + 4 + 8 * a + 1 + 7 * r + 1 + 5 * l) end f
+      pub lists-are : Lists words tags (from + 4 + 8 * a + 1 + 7 * r) (from + 4 + 8 * a + 1 + 7 * r + 1 + 5 * l) end f
       lists-are = record { start = from; long = fr .long; cells = fr .cells; small = fr .small; own = fr .own; locals-at = locals-is; exprs-at = exprs-is }
 
 -- ---- what is tested of it
-abbrev Word : ℕ → ℕ → Type 0
+abbrev pub Word : ℕ → ℕ → Type 0
 Word v w = (v ≡ w) × (v < 2 ^ 32)
 
 module _ (words tags : List ℕ) (at from end : ℕ) (pre : Framed words tags at from end) where
@@ -190,13 +190,13 @@ InFunctions = Looping 6 (λ m. m .functions) (λ f. f) flat (λ p. p) (λ m. noF
 abbrev pub InEntries : List ℕ → List ℕ → ℕ → List ℕ → ℕ → List ℕ → Type 0
 InEntries = Looping 7 (λ m. m .entries) (λ e. e .function) flatEntry (λ p. p + 7) (λ m. noEntry)
 
-framing-functions : (words tags : List ℕ) (n : ℕ) → Framing 6 (λ m. m .functions) (λ f. f) flat (λ p. p) (λ m. noFunction) words tags n
+pub framing-functions : (words tags : List ℕ) (n : ℕ) → Framing 6 (λ m. m .functions) (λ f. f) flat (λ p. p) (λ m. noFunction) words tags n
 framing-functions words tags n = record {
   count = λ m tp. taped-functions tp;
   frames = λ m tp j f e. record { long = taped-long tp; cells = flatModule m; small = cells-few tp; whole = taped-function tp j f e .part; own = taped-function tp j f e };
 }
 
-framing-entries : (words tags : List ℕ) (n : ℕ) → Framing 7 (λ m. m .entries) (λ e. e .function) flatEntry (λ p. p + 7) (λ m. noEntry) words tags n
+pub framing-entries : (words tags : List ℕ) (n : ℕ) → Framing 7 (λ m. m .entries) (λ e. e .function) flatEntry (λ p. p + 7) (λ m. noEntry) words tags n
 framing-entries words tags n = record {
   count = λ m tp. taped-entries tp;
   frames = λ m tp j x e. record { long = taped-long tp; cells = flatModule m; small = cells-few tp; whole = taped-part tp (omega arith) (sees-entry m refl j x e); own = taped-entry tp j x e };
@@ -280,7 +280,7 @@ regroup true true false d x k f e r p = refl
 regroup true false c d x k f e r p = refl
 regroup false b c d x k f e r p = refl
 
-numbered-is : (m : Module) → numbered m ≡ (tablesFine m && (kindsFine m && (functionsFine m && entriesFine m)))
+pub numbered-is : (m : Module) → numbered m ≡ (tablesFine m && (kindsFine m && (functionsFine m && entriesFine m)))
 unfolding numbered tablesFine kindsFine functionsFine entriesFine
 numbered-is m =
     let b = outside m in

@@ -46,7 +46,7 @@ module _ (f : Function) (e : ℕ) (marks list : List ℕ) where
     done : (y : ℕ) → on marks y ≡ true → Done f e marks y
     done y h = ⊎-elim (λ p. absurd (no-mem p)) (λ d. d) (w .settled y h)
 
-    all : {y : ℕ} → Reached f y → y < e → on marks y ≡ true
+    pub all : {y : ℕ} → Reached f y → y < e → on marks y ≡ true
     all {y} (root p) l = w .begun y p l
     all {y} (step {e = d} r p) l = done d (all r (omega (arith, inside d y p, w .many))) .closed y p l
 
@@ -111,8 +111,8 @@ module _ (words tags starts m₀ l₀ : List ℕ) (t₀ e : ℕ) where
   reach-begin = record { going = λ f locals exprs end ls st w. w }
 
   module _ (m l : List ℕ) (t : ℕ) (inv : Going words tags starts m₀ l₀ t₀ e m l t) where
-    pub reach-done : t ≤ 0 → Reaches true words tags starts m₀ l₀ t₀ e
-    reach-done h = let z : t ≡ 0 = omega arith in record { same = λ f locals exprs end ls st w. reached-fine f e m l (rw z at (inv .going f locals exprs end ls st w)) }
+    pub reach-done : t ≤ 0 → Reaches true words tags starts m₀ l₀ t₀ e m l
+    reach-done h = let z : t ≡ 0 = omega arith in record { same = λ f locals exprs end ls st w. reached-fine f e m l (rw z at (inv .going f locals exprs end ls st w)); left = λ q f locals exprs end ls st w. rw z at (inv .going f locals exprs end ls st w) }
 
     module _ (pre : Reaching words tags starts m₀ l₀ t₀ e) (h : 0 < t) where
       this : Work (pre .function) e m l t
@@ -160,8 +160,8 @@ module _ (words tags starts m₀ l₀ : List ℕ) (t₀ e : ℕ) where
             kind-is : (f : Function) (locals exprs end : ℕ) → Lists words tags locals exprs end f → Starting f e (exprs + 1) starts → Work f e m l t → constantKind (kindAt (f .exprs) (getD l (t - 1) 0)) ≡ v
             kind-is f locals exprs end ls st w = rw (← x-is .0) (ap constantKind (sym (kind-at f locals exprs end ls st w)) ∙ sym v-is)
 
-            pub reach-barred : not v ≡ true → Reaches false words tags starts m₀ l₀ t₀ e
-            reach-barred q = record { same = λ f locals exprs end ls st w₀. let w = inv .going f locals exprs end ls st w₀ in barred f e m l t w h (kind-is f locals exprs end ls st w ∙ not-true v q) }
+            pub reach-barred : not v ≡ true → Reaches false words tags starts m₀ l₀ t₀ e m l
+            reach-barred q = record { same = λ f locals exprs end ls st w₀. let w = inv .going f locals exprs end ls st w₀ in barred f e m l t w h (kind-is f locals exprs end ls st w ∙ not-true v q); left = λ z. absurd (false≢true z) }
 
             module _ (q : not v ≡ false) (to : ℕ) (to-is : (to ≡ getD starts (x + 1) 0) × (to < 2 ^ 32)) where
               to-at : (f : Function) (locals exprs end : ℕ) → Lists words tags locals exprs end f → Starting f e (exprs + 1) starts → startOf (exprs + 1) (f .exprs) (suc x) ≡ to
@@ -309,10 +309,10 @@ getD-sets l vs x h k = ap (λ s. getD s x 0) (sets-eq vs l 0 (omega arith)) ∙ 
 
 -- the places of the two lists
 module _ {words tags : List ℕ} {locals exprs end : ℕ} {f : Function} (ls : Lists words tags locals exprs end f) where
-  end-in : end ≤ 16384
+  pub end-in : end ≤ 16384
   end-in = omega (arith, ls .own .part .within, ls .small)
 
-  exprs-in : exprs + 1 < end
+  pub exprs-in : exprs + 1 < end
   exprs-in = omega (arith, ls .exprs-at, stands-end (ls .own))
 
   locals-in : (count : ℕ) → count ≡ getD words locals 0 → locals + 1 + 5 * count ≡ exprs
@@ -320,10 +320,10 @@ module _ {words tags : List ℕ} {locals exprs end : ℕ} {f : Function} (ls : L
   locals-in count q = rw (q, ls .locals-at) (sym (ls .exprs-at))
 
   module _ (e : ℕ) (is : e ≡ getD words exprs 0) where
-    many-is : e ≡ length (f .exprs)
+    pub many-is : e ≡ length (f .exprs)
     many-is = is ∙ ap (λ o. getD words o 0) (ls .exprs-at) ∙ exprs-count (ls .own)
 
-    many-few : e ≤ 1024
+    pub many-few : e ≤ 1024
     unfolding limit
     many-few = let h : length (f .exprs) ≤ 1024 = ls .own .well .exprs-ok .few in omega (arith, many-is)
 
@@ -335,7 +335,7 @@ module _ {words tags : List ℕ} {locals exprs end : ℕ} {f : Function} (ls : L
     found-few : length (finds (exprs + 1) (slice (exprs + 1) end tags)) ≤ 1025
     found-few = omega (arith, ap length found, begins-long (exprs + 1) (f .exprs), many-few, many-is)
 
-    starting : (starts₀ starts : List ℕ) → length starts₀ ≡ 1025 → starts ≡ sets starts₀ 0 (finds (exprs + 1) (slice (exprs + 1) end tags)) → Starting f e (exprs + 1) starts
+    pub starting : (starts₀ starts : List ℕ) → length starts₀ ≡ 1025 → starts ≡ sets starts₀ 0 (finds (exprs + 1) (slice (exprs + 1) end tags)) → Starting f e (exprs + 1) starts
     starting starts₀ starts l q = record {
       each = λ x h.
           let b = begins-long (exprs + 1) (f .exprs) in
@@ -348,7 +348,7 @@ module _ {words tags : List ℕ} {locals exprs end : ℕ} {f : Function} (ls : L
         let n : count ≡ length (f .locals) = q ∙ ap (λ o. getD words o 0) (ls .locals-at) ∙ locals-count (ls .own) in
         rw (n, ls .locals-at) (inits-all (ls .own .held) (f .locals) (localsAt (ls .start) words + 1) (expressionsAt (ls .start) words) (list-all LOCALS (f .locals) (parts (ls .own) .locals-part)) (ls .own .well .locals-ok .each))
 
-    begun : (count : ℕ) → count ≡ getD words locals 0 → (l₀ m l : List ℕ) (t : ℕ) → length l₀ ≡ 1024 → Visits e (inits count (drop (locals + 1) words)) (replicate 1024 0) l₀ 0 m l t → Work f e m l t
+    pub begun : (count : ℕ) → count ≡ getD words locals 0 → (l₀ m l : List ℕ) (t : ℕ) → length l₀ ≡ 1024 → Visits e (inits count (drop (locals + 1) words)) (replicate 1024 0) l₀ 0 m l t → Work f e m l t
     begun count q l₀ m l t long v = record {
       many = many-is;
       room = room-after room v;
@@ -408,5 +408,5 @@ module _ (words tags : List ℕ) (locals exprs end : ℕ) (pre : Listed words ta
           work = begun (pre .lists) e (e-is .0) count (count-is .0) l₀ m l t long v;
         }
 
-        pub init-done : (r : Bool) → Reaches r words tags starts m l t e → Initialised r words tags locals exprs end
-        init-done r got = record { same = λ f ls. got .same f locals exprs end ls (starting ls e (e-is .0) (replicate 1025 0) starts (length-replicate {A = ℕ} 1025 0) found-at) (begun ls e (e-is .0) count (count-is .0) l₀ m l t long v) }
+        pub init-done : (r : Bool) (m₁ l₁ : List ℕ) → Reaches r words tags starts m l t e m₁ l₁ → Initialised r words tags locals exprs end
+        init-done r m₁ l₁ got = record { same = λ f ls. got .same f locals exprs end ls (starting ls e (e-is .0) (replicate 1025 0) starts (length-replicate {A = ℕ} 1025 0) found-at) (begun ls e (e-is .0) count (count-is .0) l₀ m l t long v) }

@@ -84,5 +84,7 @@ pub record Reaching (words tags starts marks list : List ℕ) (top e : ℕ) : Ty
   pub starting : Starting function e (exprs + 1) starts
   pub work : Work function e marks list top
 
-pub record Reaches (r : Bool) (words tags starts marks list : List ℕ) (top e : ℕ) : Type 0 where
+-- the answer, and where it is good the marks that are left: nothing is on the list any more
+pub record Reaches (r : Bool) (words tags starts marks list : List ℕ) (top e : ℕ) (marks₁ list₁ : List ℕ) : Type 0 where
   pub same : (f : Function) (locals exprs end : ℕ) → Lists words tags locals exprs end f → Starting f e (exprs + 1) starts → Work f e marks list top → r ≡ initialised f
+  pub left : r ≡ true → (f : Function) (locals exprs end : ℕ) → Lists words tags locals exprs end f → Starting f e (exprs + 1) starts → Work f e marks list top → Work f e marks₁ list₁ 0

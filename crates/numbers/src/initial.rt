@@ -38,7 +38,7 @@ fn short(x: usize) -> u32
 
 // Where each expression record starts, from `at` on, and where the last one ends: a record starts with its kind, and behind the last stands the
 // number of named expressions.
-fn places(tags: &[u8; 16384], at: usize, end: usize, starts: &mut [u32; 1025])
+pub fn places(tags: &[u8; 16384], at: usize, end: usize, starts: &mut [u32; 1025])
     requires { ⌜ length (now tags) ≡ 16384 ⌝ }
     requires { ⌜ at ≤ end ⌝ }
     requires { ⌜ end ≤ 16384 ⌝ }
@@ -123,7 +123,7 @@ fn spread(
 }
 
 // Visits the initialisers of `count` locals from `at` on, each of five words with its initialiser last.
-fn roots(
+pub fn roots(
     words: &[u32; 16384],
     at: usize,
     count: usize,
@@ -148,7 +148,7 @@ fn roots(
 }
 
 // Visits what is on the list, until nothing is: whether all of it is of kinds that stand outside functions too.
-fn reach(
+pub fn reach(
     words: &[u32; 16384],
     tags: &[u8; 16384],
     starts: &[u32; 1025],
@@ -158,7 +158,7 @@ fn reach(
     e: usize,
 ) -> bool
     requires { ⌜ Reaching (now words) (now tags) (now starts) (now marks) (now list) first e ⌝ }
-    ensures { λ r. ⌜ Reaches r (now (words .entry)) (now (tags .entry)) (now (starts .entry)) (now (marks .entry)) (now (list .entry)) first e ⌝ }
+    ensures { λ r. ⌜ Reaches r (now (words .entry)) (now (tags .entry)) (now (starts .entry)) (now (marks .entry)) (now (list .entry)) first e (now (marks .exit)) (now (list .exit)) ⌝ }
 {
     let mut top = first;
     while 0 < top {

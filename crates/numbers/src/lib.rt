@@ -57,7 +57,7 @@ fn tables(words: &[u32; 16384], tags: &[u8; 16384], n: usize, t: &[u64; 256]) ->
 }
 
 // Where record j of section k starts.
-fn record_at(words: &[u32; 16384], tags: &[u8; 16384], n: usize, k: usize, j: usize) -> usize
+pub fn record_at(words: &[u32; 16384], tags: &[u8; 16384], n: usize, k: usize, j: usize) -> usize
     requires { ⌜ Tape (now words) (now tags) n ⌝ }
     requires { ⌜ k < 8 ⌝ }
     requires { ⌜ j < countAt k (now words) ⌝ }
@@ -68,7 +68,7 @@ fn record_at(words: &[u32; 16384], tags: &[u8; 16384], n: usize, k: usize, j: us
 }
 
 // Where it ends: where the next one starts, or where the section ends.
-fn record_end(words: &[u32; 16384], tags: &[u8; 16384], n: usize, k: usize, j: usize) -> usize
+pub fn record_end(words: &[u32; 16384], tags: &[u8; 16384], n: usize, k: usize, j: usize) -> usize
     requires { ⌜ Tape (now words) (now tags) n ⌝ }
     requires { ⌜ k < 8 ⌝ }
     requires { ⌜ j < countAt k (now words) ⌝ }

@@ -1,6 +1,5 @@
 // Replays reference vectors: standard input holds them one after the other, each as the number that intake answers (0 for accepted), the length
 // of the image and its bytes. A vector that is answered otherwise is named by its place; the last line says how many agree.
-use image::Layout;
 use libc::STDIN_FILENO;
 use libc::STDOUT_FILENO;
 ghost use mathlib.Core.Path.{_≡_};
@@ -19,41 +18,25 @@ fn head() -> Found {
         return Found::End;
     }
     let want = words::word_at(&bytes, 0);
-    let n = image::record::wide(words::word_at(&bytes, 4));
+    let n = words::word_at(&bytes, 4) as usize;
     Found::Vector(want, n)
 }
 
-// Is it the answer of the tests so far: 1, 2, or none of these? A code that is none of the listed is 3.
-fn expected(layout: Layout, want: u32) -> bool {
-    match layout {
-        Layout::Fits(_) => want != 1 && want != 2,
-        Layout::Size => want == 1,
-        Layout::Misfit => want == 2,
-        Layout::Strange => want == 3,
-    }
-}
-
-// Reads an image that is as long as the slice, and compares the answer.
-fn one(bytes: &mut [u8], words: &mut [u32; 16384], tags: &mut [u8; 16384], want: u32) -> bool {
+// Reads an image that is as long as the slice, and compares intake's answer.
+fn one(bytes: &mut [u8], want: u32) -> bool {
     let got = io::read_full(STDIN_FILENO, bytes);
     if got < bytes.len() {
         return false;
     }
-    expected(image::lay_out(bytes, words, tags), want)
+    intake::intake(bytes) == want
 }
 
 // An image of n bytes, at the start of the buffer. No vector is longer than that.
-fn part(
-    bytes: &mut [u8],
-    words: &mut [u32; 16384],
-    tags: &mut [u8; 16384],
-    want: u32,
-    n: usize,
-) -> bool {
+fn part(bytes: &mut [u8], want: u32, n: usize) -> bool {
     if bytes.len() < n {
         return false;
     }
-    one(&mut bytes[..n], words, tags, want)
+    one(&mut bytes[..n], want)
 }
 
 fn buffer() -> [u8; 65600]
@@ -64,9 +47,7 @@ fn buffer() -> [u8; 65600]
 
 fn agrees(want: u32, n: usize) -> bool {
     let mut bytes = buffer();
-    let mut words = [0u32; 16384];
-    let mut tags = [0u8; 16384];
-    part(&mut bytes, &mut words, &mut tags, want, n)
+    part(&mut bytes, want, n)
 }
 
 fn report(number: u64, text: &[u8]) {

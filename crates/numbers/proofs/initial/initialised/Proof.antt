@@ -66,7 +66,7 @@ reach-requires c κs = init-reach _ _ _ _ _ (c .before .before .before .before .
 
 -- src/initial.rt:178:1
 returns-3 : tie.Need-returns-3
-returns-3 c = init-done _ _ _ _ _ (c .before .before .before .before .before .before .before .before .before .before .before .before .before .before .before .pre) _ _ (c .before .before .before .before .before .before .before .before .before .before .before .before .before .wide .ensures) (c .before .before .before .before .before .before .before .before .before .before .before .wide2 .ensures) (replicate 1024 0) (length-replicate {A = ℕ} 1024 0) _ _ _ (c .before .before .before .before .before .before .before .roots .ensures) _ (c .before .before .before .before .places .ensures) _ (c .reach .ensures)
+returns-3 c = init-done _ _ _ _ _ (c .before .before .before .before .before .before .before .before .before .before .before .before .before .before .before .pre) _ _ (c .before .before .before .before .before .before .before .before .before .before .before .before .before .wide .ensures) (c .before .before .before .before .before .before .before .before .before .before .before .wide2 .ensures) (replicate 1024 0) (length-replicate {A = ℕ} 1024 0) _ _ _ (c .before .before .before .before .before .before .before .roots .ensures) _ (c .before .before .before .before .places .ensures) _ _ _ (c .reach .ensures)
 
 pub initialised-spec : {M : Type 1} → statement M
 initialised-spec =

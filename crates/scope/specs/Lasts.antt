@@ -1,0 +1,120 @@
+-- How long each expression stays in scope. Beside expression e stands the word up to which it is in scope: 0 while it is not evaluated. At the word q, in a block whose scope stays at least up to the word k, those in scope (ρ) last up to k at least, and the others up to q at most.
+use mathlib.Core.Path.{_≡_}
+use mathlib.Core.Bool.{Bool, true, false, _&&_}
+use mathlib.Core.List.{List, [], _∷_}
+use mathlib.Core.Option.{Option}
+use Prim.Native.Nat.{ℕ, zero, suc, _+_, _≤_, _<_}
+use lib.Dec.{eqb, ltb}
+use lib.ListN.{length, getD}
+use Rattle.model.specs.Tree.{Stmt, Block, Range, flatS}
+use Rattle.model.specs.Outcome.{Cells}
+use Rattle.model.specs.Operands.{opsOf, resultOf, standingKind, standing}
+use Rattle.model.specs.Scope.{Place, expandS, expand, inRange, live, has, addE, addS, holdsS, holdsB, contB, addOpt, evalsOpt, callResult, effectResult, allVis}
+use Rattle.scope.specs.Fine.{doneB, doneS, fresh, oneE, nextE, fineE, fineS, fineB}
+use Rattle.scope.specs.Tape.{between, blockOf, stmtOf, HoldsB, HoldsS, Ends, exprsOf, Exprs, marks}
+
+pub record Scope (count q k : ℕ) (ρ δ u : List ℕ) : Type 0 where
+  pub long : length u ≡ 1024
+  pub later : 0 < q
+  pub inside : (e : ℕ) → has ρ e ≡ true → k ≤ getD u e 0
+  pub outside : (e : ℕ) → has ρ e ≡ false → getD u e 0 ≤ q
+  pub done : (e : ℕ) → has δ e ≡ ltb 0 (getD u e 0)
+  pub none : (e : ℕ) → count ≤ e → getD u e 0 ≡ 0
+
+-- what was evaluated lasts as before, and what was not lasts at most up to k
+pub record Kept (k : ℕ) (u₀ u : List ℕ) : Type 0 where
+  pub same : (e : ℕ) → 0 < getD u₀ e 0 → getD u e 0 ≡ getD u₀ e 0
+  pub most : (e : ℕ) → getD u₀ e 0 ≡ 0 → getD u e 0 ≤ k
+
+-- ---- answers
+-- 0: out of scope; 1: in scope; 2: in scope, with a Continue of the Loop around it
+unfoldable pub told : Bool → Bool → ℕ
+told false h = 0
+told true false = 1
+told true true = 2
+
+-- the answer, and where it is good the scope that is left
+pub record Finds (count q k : ℕ) (u₀ u : List ℕ) (r : ℕ) (ok holds : Bool) (ρ δ : List ℕ) : Type 0 where
+  pub says : r ≡ told ok holds
+  pub scope : ok ≡ true → Scope count q k ρ δ u
+  pub kept : ok ≡ true → Kept k u₀ u
+
+pub record Tells (count q k : ℕ) (u₀ u : List ℕ) (r ok : Bool) (ρ δ : List ℕ) : Type 0 where
+  pub says : r ≡ ok
+  pub scope : ok ≡ true → Scope count q k ρ δ u
+  pub kept : ok ≡ true → Kept k u₀ u
+
+-- ---- reads
+-- is expression e in scope at the word `at`?
+unfoldable pub visibleAt : List ℕ → List ℕ → List ℕ → ℕ → ℕ → ℕ → Bool
+visibleAt ws st u count at e = elim (ltb e count) [ true ↦ elim (ltb at (getD u e 0)) [ true ↦ true | false ↦ standingKind (getD ws (getD st e 0) 0) ] | false ↦ false ]
+
+unfoldable pub allSeen : List ℕ → (ℕ → Bool) → Bool
+allSeen [] seen = true
+allSeen (e ∷ es) seen = seen e && allSeen es seen
+
+-- the result o of a statement of the kind k whose first field is f
+unfoldable pub fitsResult : List Cells → ℕ → ℕ → Option ℕ → Bool
+fitsResult xs k f o = elim (eqb k 15) [ true ↦ callResult xs f o | false ↦ effectResult xs k o ]
+
+abbrev pub placeOf : Bool → Bool → Bool → Place
+placeOf b c r = record { breaks = b; continues = c; returns = r }
+
+-- what a block keeps: up to the word keep, and from its first Continue on up to its end
+unfoldable pub keptOf : Bool → ℕ → ℕ → ℕ
+keptOf h keep fin = elim h [ true ↦ fin | false ↦ keep ]
+
+-- ---- what the functions of a body ask, and what they find
+pub record StmtHere (ws ts st : List ℕ) (count at stop keep : ℕ) : Type 0 where
+  pub exprs : Exprs ws ts st count
+  pub holds : HoldsS ws ts at stop (stmtOf ws ts at stop)
+  pub ends : Ends ws ts count at stop
+  pub later : 0 < at
+  pub keeps : stop ≤ keep
+
+pub record BlockHere (ws ts st : List ℕ) (count at fin keep : ℕ) : Type 0 where
+  pub exprs : Exprs ws ts st count
+  pub holds : HoldsB ws ts at fin (blockOf ws ts at fin)
+  pub ends : Ends ws ts count at fin
+  pub later : 0 < at
+  pub keeps : fin ≤ keep
+
+abbrev pub FindsS : List ℕ → List ℕ → List ℕ → List ℕ → ℕ → ℕ → ℕ → ℕ → Place → List ℕ → List ℕ → ℕ → Stmt Range → List ℕ → List ℕ → Type 0
+FindsS ws ts st ini count at stop keep p u₀ u r s ρ δ =
+    Finds count stop keep u₀ u r (fineS (exprsOf ws ts st count) (marks ws ts st count ini) s p ρ δ) (holdsS (expandS s (marks ws ts st count ini))) (addS (expandS s (marks ws ts st count ini)) ρ) (doneS s δ)
+
+abbrev pub FindsB : List ℕ → List ℕ → List ℕ → List ℕ → ℕ → ℕ → ℕ → ℕ → Place → List ℕ → List ℕ → ℕ → Block Range → List ℕ → List ℕ → Type 0
+FindsB ws ts st ini count at fin keep p u₀ u r b ρ δ =
+    Finds count fin keep u₀ u r (fineB (exprsOf ws ts st count) (marks ws ts st count ini) b p ρ δ) (holdsB (expand b (marks ws ts st count ini))) (contB (expand b (marks ws ts st count ini)) ρ) (doneB b δ)
+
+pub record FoundS (ws ts st ini : List ℕ) (count at stop keep : ℕ) (p : Place) (u₀ u : List ℕ) (r : ℕ) : Type 0 where
+  pub found : (ρ δ : List ℕ) → Scope count at keep ρ δ u₀ → FindsS ws ts st ini count at stop keep p u₀ u r (stmtOf ws ts at stop) ρ δ
+
+pub record FoundB (ws ts st ini : List ℕ) (count at fin keep : ℕ) (p : Place) (u₀ u : List ℕ) (r : ℕ) : Type 0 where
+  pub found : (ρ δ : List ℕ) → Scope count at keep ρ δ u₀ → FindsB ws ts st ini count at fin keep p u₀ u r (blockOf ws ts at fin) ρ δ
+
+-- expression e of an Emit
+pub record FoundE (ws ts st ini : List ℕ) (count at keep e : ℕ) (u₀ u : List ℕ) (r : Bool) : Type 0 where
+  pub found : (ρ δ : List ℕ) → Scope count at keep ρ δ u₀ → Tells count at keep u₀ u r (oneE (exprsOf ws ts st count) (marks ws ts st count ini) e ρ δ) (nextE (exprsOf ws ts st count) (marks ws ts st count ini) e ρ) (e ∷ δ)
+
+abbrev pub rangeOf : ℕ → ℕ → List ℕ
+rangeOf a b = inRange (record { from = a; to = b })
+
+pub record FoundR (ws ts st ini : List ℕ) (count at keep a b : ℕ) (u₀ u : List ℕ) (r : Bool) : Type 0 where
+  pub found : (ρ δ : List ℕ) → Scope count at keep ρ δ u₀
+      → Tells count at keep u₀ u r (fineE (exprsOf ws ts st count) (marks ws ts st count ini) (rangeOf a b) ρ δ) (addE (live (rangeOf a b) (marks ws ts st count ini)) ρ) (addE (rangeOf a b) δ)
+
+-- the result of a statement, and the whole of a statement without blocks
+abbrev pub resultIn : List ℕ → List ℕ → ℕ → ℕ → Option ℕ
+resultIn ws ts at stop = resultOf (between ws ts (at + 4) stop)
+
+abbrev pub resultOk : List ℕ → List ℕ → List ℕ → ℕ → ℕ → ℕ → List ℕ → Bool
+resultOk ws ts st count at stop δ = fitsResult (exprsOf ws ts st count) (getD ws (at + 1) 0) (getD ws (at + 4) 0) (resultIn ws ts at stop) && fresh (evalsOpt (resultIn ws ts at stop)) δ
+
+pub record FoundO (ws ts st : List ℕ) (count at stop keep : ℕ) (u₀ u : List ℕ) (r : Bool) : Type 0 where
+  pub found : (ρ δ : List ℕ) → Scope count at keep ρ δ u₀
+      → Tells count at keep u₀ u r (resultOk ws ts st count at stop δ) (addOpt (resultIn ws ts at stop) ρ) (addE (evalsOpt (resultIn ws ts at stop)) δ)
+
+pub record FoundL (ws ts st : List ℕ) (count at stop keep : ℕ) (u₀ u : List ℕ) (r : Bool) : Type 0 where
+  pub found : (ρ δ : List ℕ) → Scope count at keep ρ δ u₀
+      → Tells count at keep u₀ u r (allVis (standing (exprsOf ws ts st count)) ρ (opsOf (between ws ts (at + 4) stop)) && resultOk ws ts st count at stop δ) (addOpt (resultIn ws ts at stop) ρ) (addE (evalsOpt (resultIn ws ts at stop)) δ)

@@ -1,0 +1,4 @@
+pub mod Fine
+pub mod Tape
+pub mod Lasts
+pub mod Functions

@@ -1,0 +1,625 @@
+// Scope in one pass over a body. Beside each expression stands the word up to which it is in scope: 0 while it is not evaluated, and 1, which no
+// statement lies before, for an initialiser expression. What a block evaluates stays until the block's end, and what a Loop's body evaluates before
+// its first Continue, like what its continuing block evaluates, until the end of the Loop.
+ghost use mathlib.Core.Path.{_≡_};
+ghost use mathlib.Core.Bool.{Bool, true, false, _||_};
+ghost use mathlib.Core.List.{[], _∷_};
+ghost use mathlib.Core.Option.{some};
+ghost use Prim.Native.Nat.{ℕ, suc, _+_, _-_, _^_, _≤_, _<_};
+ghost use lib.ListN.{length, getD};
+ghost use Rattle.model.specs.Tree.{wordOf};
+ghost use Rattle.model.specs.Operands.{operand, opsOf, resultOf, standingKind, emittedKind};
+ghost use Rattle.model.specs.Scope.{inBody};
+ghost use Rattle.scope.specs.Fine.{fineB};
+ghost use Rattle.scope.specs.Tape.{between, blockOf, Steps, stepped, Placed, Exprs, exprsOf, marks};
+ghost use Rattle.scope.specs.Lasts.{visibleAt, allSeen, fitsResult, placeOf, keptOf, told, StmtHere, BlockHere, FoundS, FoundB, FoundE, FoundR, FoundO, FoundL};
+
+pub fn wide(x: u32) -> usize
+    ensures { λ r. ⌜ (r ≡ x) × (r < 2 ^ 32) ⌝ }
+{
+    x as usize
+}
+
+// Kinds 0 to 3 and 9 to 11.
+fn stands(k: u32) -> bool
+    ensures { λ r. ⌜ r ≡ standingKind k ⌝ }
+{
+    if k <= 3 {
+        return true;
+    }
+    if k < 9 {
+        return false;
+    }
+    k <= 11
+}
+
+// Neither standing nor a result, 23 to 25.
+fn emits(k: u32) -> bool
+    ensures { λ r. ⌜ r ≡ emittedKind k ⌝ }
+{
+    if stands(k) {
+        return false;
+    }
+    if k < 23 {
+        return true;
+    }
+    25 < k
+}
+
+// The kind of expression e.
+fn kind(words: &[u32; 16384], starts: &[u32; 1025], e: usize) -> u32
+    requires { ⌜ e < 1025 ⌝ }
+    requires { ⌜ getD (now starts) e 0 < 16384 ⌝ }
+    ensures { λ r. ⌜ r ≡ getD (now (words .entry)) (getD (now (starts .entry)) e 0) 0 ⌝ }
+{
+    let p = wide(starts[e]);
+    words[p]
+}
+
+// Is expression e in scope at the word `at`?
+fn visible(
+    words: &[u32; 16384],
+    starts: &[u32; 1025],
+    until: &[usize; 1024],
+    count: usize,
+    at: usize,
+    e: usize,
+) -> bool
+    requires { ⌜ Placed (now starts) count ⌝ }
+    ensures { λ r. ⌜ r ≡ visibleAt (now (words .entry)) (now (starts .entry)) (now (until .entry)) count at e ⌝ }
+{
+    if count <= e {
+        return false;
+    }
+    if at < until[e] {
+        return true;
+    }
+    stands(kind(words, starts, e))
+}
+
+// Does the word j read only what is in scope at the word `at`?
+fn read(
+    words: &[u32; 16384],
+    tags: &[u8; 16384],
+    starts: &[u32; 1025],
+    until: &[usize; 1024],
+    count: usize,
+    at: usize,
+    j: usize,
+) -> bool
+    requires { ⌜ Placed (now starts) count ⌝ }
+    requires { ⌜ j < 16384 ⌝ }
+    ensures { λ r. ⌜ r ≡ allSeen (operand (getD (now (tags .entry)) j 0) (getD (now (words .entry)) j 0) []) (visibleAt (now (words .entry)) (now (starts .entry)) (now (until .entry)) count at) ⌝ }
+{
+    let s = tags[j];
+    let w = wide(words[j]);
+    if s == 93 {
+        return visible(words, starts, until, count, at, w);
+    }
+    if s == 94 {
+        if w == 0 {
+            return true;
+        }
+        return visible(words, starts, until, count, at, w - 1);
+    }
+    true
+}
+
+// The same of the words from `from` to `to`.
+fn reads(
+    words: &[u32; 16384],
+    tags: &[u8; 16384],
+    starts: &[u32; 1025],
+    until: &[usize; 1024],
+    count: usize,
+    at: usize,
+    from: usize,
+    to: usize,
+) -> bool
+    requires { ⌜ Placed (now starts) count ⌝ }
+    requires { ⌜ to ≤ 16384 ⌝ }
+    ensures { λ r. ⌜ r ≡ allSeen (opsOf (between (now (words .entry)) (now (tags .entry)) from to)) (visibleAt (now (words .entry)) (now (starts .entry)) (now (until .entry)) count at) ⌝ }
+{
+    let mut i = from;
+    while i < to {
+        let j = i;
+        i += 1;
+        if !read(words, tags, starts, until, count, at, j) {
+            return false;
+        }
+    }
+    true
+}
+
+// Expression e of an Emit at the word `at`, in scope up to the word `keep`.
+fn evaluated(
+    words: &[u32; 16384],
+    tags: &[u8; 16384],
+    starts: &[u32; 1025],
+    initial: &[u8; 1024],
+    until: &mut [usize; 1024],
+    count: usize,
+    at: usize,
+    keep: usize,
+    e: usize,
+) -> bool
+    requires { ⌜ Exprs (now words) (now tags) (now starts) count ⌝ }
+    requires { ⌜ at < keep ⌝ }
+    requires { ⌜ e < count ⌝ }
+    ensures { λ r. ⌜ FoundE (now (words .entry)) (now (tags .entry)) (now (starts .entry)) (now (initial .entry)) count at keep e (now (until .entry)) (now (until .exit)) r ⌝ }
+{
+    if !emits(kind(words, starts, e)) {
+        return false;
+    }
+    if until[e] != 0 {
+        return false;
+    }
+    if initial[e] != 0 {
+        until[e] = 1;
+        return true;
+    }
+    let from = wide(starts[e]);
+    let to = wide(starts[e + 1]);
+    if !reads(words, tags, starts, until, count, at, from, to) {
+        return false;
+    }
+    until[e] = keep;
+    true
+}
+
+// The Emit at the word `at`.
+fn emit(
+    words: &[u32; 16384],
+    tags: &[u8; 16384],
+    starts: &[u32; 1025],
+    initial: &[u8; 1024],
+    until: &mut [usize; 1024],
+    count: usize,
+    at: usize,
+    keep: usize,
+) -> bool
+    requires { ⌜ Exprs (now words) (now tags) (now starts) count ⌝ }
+    requires { ⌜ at < keep ⌝ }
+    requires { ⌜ at + 5 < 16384 ⌝ }
+    requires { ⌜ getD (now words) (at + 5) 0 ≤ count ⌝ }
+    ensures { λ r. ⌜ FoundR (now (words .entry)) (now (tags .entry)) (now (starts .entry)) (now (initial .entry)) count at keep (getD (now (words .entry)) (at + 4) 0) (getD (now (words .entry)) (at + 5) 0) (now (until .entry)) (now (until .exit)) r ⌝ }
+{
+    let mut e = wide(words[at + 4]);
+    let to = wide(words[at + 5]);
+    while e < to {
+        let j = e;
+        e += 1;
+        if !evaluated(words, tags, starts, initial, until, count, at, keep, j) {
+            return false;
+        }
+    }
+    true
+}
+
+// What the words from `from` to `to` evaluate: the number plus 1, or 0 for nothing.
+fn result_of(words: &[u32; 16384], tags: &[u8; 16384], from: usize, to: usize) -> usize
+    requires { ⌜ to ≤ 16384 ⌝ }
+    ensures { λ r. ⌜ r ≡ wordOf (resultOf (between (now (words .entry)) (now (tags .entry)) from to)) ⌝ }
+{
+    let mut i = from;
+    while i < to {
+        let j = i;
+        i += 1;
+        let s = tags[j];
+        let w = wide(words[j]);
+        if s == 99 {
+            return w + 1;
+        }
+        if s == 100 {
+            return w;
+        }
+    }
+    0
+}
+
+// Is expression e a result that the statement at the word `at` may have?
+fn result_fits(
+    words: &[u32; 16384],
+    tags: &[u8; 16384],
+    starts: &[u32; 1025],
+    count: usize,
+    at: usize,
+    e: usize,
+) -> bool
+    requires { ⌜ Exprs (now words) (now tags) (now starts) count ⌝ }
+    requires { ⌜ at + 4 < 16384 ⌝ }
+    requires { ⌜ e < count ⌝ }
+    ensures { λ r. ⌜ r ≡ fitsResult (exprsOf (now (words .entry)) (now (tags .entry)) (now (starts .entry)) count) (getD (now (words .entry)) (at + 1) 0) (getD (now (words .entry)) (at + 4) 0) (some e) ⌝ }
+{
+    let k = kind(words, starts, e);
+    let s = words[at + 1];
+    if s == 15 {
+        if k != 23 {
+            return false;
+        }
+        let p = wide(starts[e]) + 3;
+        return words[p] == words[at + 4];
+    }
+    if s == 14 {
+        return k == 25;
+    }
+    k == 24
+}
+
+// The result of the statement from the word `at` to the word `stop`.
+fn result(
+    words: &[u32; 16384],
+    tags: &[u8; 16384],
+    starts: &[u32; 1025],
+    until: &mut [usize; 1024],
+    count: usize,
+    at: usize,
+    stop: usize,
+    keep: usize,
+) -> bool
+    requires { ⌜ Exprs (now words) (now tags) (now starts) count ⌝ }
+    requires { ⌜ stop ≤ keep ⌝ }
+    requires { ⌜ stop ≤ 16384 ⌝ }
+    requires { ⌜ at + 4 ≤ stop ⌝ }
+    ensures { λ r. ⌜ FoundO (now (words .entry)) (now (tags .entry)) (now (starts .entry)) count at stop keep (now (until .entry)) (now (until .exit)) r ⌝ }
+{
+    let r = result_of(words, tags, at + 4, stop);
+    if r == 0 {
+        return true;
+    }
+    let e = r - 1;
+    if count <= e {
+        return false;
+    }
+    if !result_fits(words, tags, starts, count, at, e) {
+        return false;
+    }
+    if 0 < until[e] {
+        return false;
+    }
+    until[e] = keep;
+    true
+}
+
+// A statement without blocks that is no Emit: its reads, and its result.
+fn simple(
+    words: &[u32; 16384],
+    tags: &[u8; 16384],
+    starts: &[u32; 1025],
+    until: &mut [usize; 1024],
+    count: usize,
+    at: usize,
+    stop: usize,
+    keep: usize,
+) -> bool
+    requires { ⌜ Exprs (now words) (now tags) (now starts) count ⌝ }
+    requires { ⌜ stop ≤ keep ⌝ }
+    requires { ⌜ stop ≤ 16384 ⌝ }
+    requires { ⌜ at + 4 ≤ stop ⌝ }
+    ensures { λ r. ⌜ FoundL (now (words .entry)) (now (tags .entry)) (now (starts .entry)) count at stop keep (now (until .entry)) (now (until .exit)) r ⌝ }
+{
+    if !reads(words, tags, starts, until, count, at, at + 4, stop) {
+        return false;
+    }
+    result(words, tags, starts, until, count, at, stop, keep)
+}
+
+// Where the block at the word `at` ends.
+fn skip(words: &[u32; 16384], at: usize) -> usize
+    requires { ⌜ at < 16384 ⌝ }
+    requires { ⌜ Steps (now words) (getD (now words) at 0) (at + 1) ⌝ }
+    ensures { λ r. ⌜ r ≡ stepped (getD (now (words .entry)) at 0) (now (words .entry)) (at + 1) ⌝ }
+{
+    let mut n = words[at];
+    let mut i = at + 1;
+    while 0 < n {
+        n -= 1;
+        i += wide(words[i]);
+    }
+    i
+}
+
+// What is found of statements: 0, out of scope; 1, in scope; 2, in scope, with a Continue of the Loop around them.
+fn found(fine: bool) -> u8
+    ensures { λ r. ⌜ r ≡ told fine false ⌝ }
+{
+    if fine {
+        return 1;
+    }
+    0
+}
+
+fn joined(a: u8, b: u8) -> u8
+    ensures { λ r. ⌜ ((h g : Bool) → a ≡ told true h → b ≡ told true g → r ≡ told true (h || g)) ⌝ }
+{
+    if a == 2 {
+        return 2;
+    }
+    b
+}
+
+// How long a block keeps what it evaluates next.
+fn kept(cut: u8, keep: usize, fin: usize) -> usize
+    ensures { λ r. ⌜ ((h : Bool) → cut ≡ told true h → r ≡ keptOf h keep fin) × (fin ≤ keep → fin ≤ r) ⌝ }
+{
+    if cut == 2 {
+        return fin;
+    }
+    keep
+}
+
+// A statement with blocks that is no Loop: its reads, and its blocks.
+fn parts(
+    words: &[u32; 16384],
+    tags: &[u8; 16384],
+    starts: &[u32; 1025],
+    initial: &[u8; 1024],
+    until: &mut [usize; 1024],
+    count: usize,
+    at: usize,
+    stop: usize,
+    keep: usize,
+    breaks: bool,
+    continues: bool,
+    returns: bool,
+) -> u8
+    requires { ⌜ StmtHere (now words) (now tags) (now starts) count at stop keep ⌝ }
+    requires { ⌜ (0 < getD (now words) (at + 1) 0) × (getD (now words) (at + 1) 0 < 4) ⌝ }
+    requires { ⌜ (getD (now words) (at + 1) 0 ≡ 3 → breaks ≡ true) ⌝ }
+    ensures { λ r. ⌜ FoundS (now (words .entry)) (now (tags .entry)) (now (starts .entry)) (now (initial .entry)) count at stop keep (placeOf breaks continues returns) (now (until .entry)) (now (until .exit)) r ⌝ }
+{
+    let mut i = at + 4;
+    let mut cut: u8 = 1;
+    while i < stop {
+        let j = i;
+        if tags[j] == 122 {
+            let fin = skip(words, j);
+            i = fin;
+            let r = block(
+                words,
+                tags,
+                starts,
+                initial,
+                until,
+                count,
+                j,
+                fin,
+                fin,
+                breaks,
+                continues,
+                returns,
+            );
+            if r == 0 {
+                return 0;
+            }
+            cut = joined(cut, r);
+        } else {
+            i = j + 1;
+            if !read(words, tags, starts, until, count, j, j) {
+                return 0;
+            }
+        }
+    }
+    cut
+}
+
+// A Loop.
+fn looped(
+    words: &[u32; 16384],
+    tags: &[u8; 16384],
+    starts: &[u32; 1025],
+    initial: &[u8; 1024],
+    until: &mut [usize; 1024],
+    count: usize,
+    at: usize,
+    stop: usize,
+    keep: usize,
+    returns: bool,
+) -> u8
+    requires { ⌜ StmtHere (now words) (now tags) (now starts) count at stop keep ⌝ }
+    requires { ⌜ getD (now words) (at + 1) 0 ≡ 4 ⌝ }
+    ensures { λ r. ⌜ ((b c : Bool) → FoundS (now (words .entry)) (now (tags .entry)) (now (starts .entry)) (now (initial .entry)) count at stop keep (placeOf b c returns) (now (until .entry)) (now (until .exit)) r) ⌝ }
+{
+    let body = at + 4;
+    let continuing = skip(words, body);
+    let r = block(
+        words,
+        tags,
+        starts,
+        initial,
+        until,
+        count,
+        body,
+        continuing,
+        stop,
+        true,
+        true,
+        returns,
+    );
+    if r == 0 {
+        return 0;
+    }
+    let break_if = skip(words, continuing);
+    let breaks = false;
+    let q = block(
+        words,
+        tags,
+        starts,
+        initial,
+        until,
+        count,
+        continuing,
+        break_if,
+        stop,
+        breaks,
+        false,
+        false,
+    );
+    if q == 0 {
+        return 0;
+    }
+    found(read(words, tags, starts, until, count, break_if, break_if))
+}
+
+// The statement from the word `at` to the word `stop`.
+fn stmt(
+    words: &[u32; 16384],
+    tags: &[u8; 16384],
+    starts: &[u32; 1025],
+    initial: &[u8; 1024],
+    until: &mut [usize; 1024],
+    count: usize,
+    at: usize,
+    stop: usize,
+    keep: usize,
+    breaks: bool,
+    continues: bool,
+    returns: bool,
+) -> u8
+    requires { ⌜ StmtHere (now words) (now tags) (now starts) count at stop keep ⌝ }
+    ensures { λ r. ⌜ FoundS (now (words .entry)) (now (tags .entry)) (now (starts .entry)) (now (initial .entry)) count at stop keep (placeOf breaks continues returns) (now (until .entry)) (now (until .exit)) r ⌝ }
+{
+    let k = words[at + 1];
+    if k == 0 {
+        return found(emit(words, tags, starts, initial, until, count, at, keep));
+    }
+    if k < 3 {
+        return parts(
+            words,
+            tags,
+            starts,
+            initial,
+            until,
+            count,
+            at,
+            stop,
+            keep,
+            breaks,
+            continues,
+            returns,
+        );
+    }
+    if k == 3 {
+        return parts(
+            words,
+            tags,
+            starts,
+            initial,
+            until,
+            count,
+            at,
+            stop,
+            keep,
+            true,
+            continues,
+            returns,
+        );
+    }
+    if k == 4 {
+        return looped(
+            words,
+            tags,
+            starts,
+            initial,
+            until,
+            count,
+            at,
+            stop,
+            keep,
+            returns,
+        );
+    }
+    if k == 5 {
+        return found(breaks);
+    }
+    if k == 6 {
+        if continues {
+            return 2;
+        }
+        return 0;
+    }
+    if k == 7 {
+        if returns {
+            return found(simple(words, tags, starts, until, count, at, stop, keep));
+        }
+        return 0;
+    }
+    found(simple(words, tags, starts, until, count, at, stop, keep))
+}
+
+// The block from the word `at` to the word `fin`, whose evaluations stay up to the word `keep`, or up to its end from its first Continue on.
+fn block(
+    words: &[u32; 16384],
+    tags: &[u8; 16384],
+    starts: &[u32; 1025],
+    initial: &[u8; 1024],
+    until: &mut [usize; 1024],
+    count: usize,
+    at: usize,
+    fin: usize,
+    keep: usize,
+    breaks: bool,
+    continues: bool,
+    returns: bool,
+) -> u8
+    requires { ⌜ BlockHere (now words) (now tags) (now starts) count at fin keep ⌝ }
+    ensures { λ r. ⌜ FoundB (now (words .entry)) (now (tags .entry)) (now (starts .entry)) (now (initial .entry)) count at fin keep (placeOf breaks continues returns) (now (until .entry)) (now (until .exit)) r ⌝ }
+{
+    let mut i = at + 1;
+    let mut cut: u8 = 1;
+    while i < fin {
+        let j = i;
+        i = j + wide(words[j]);
+        let k = kept(cut, keep, fin);
+        let r = stmt(
+            words,
+            tags,
+            starts,
+            initial,
+            until,
+            count,
+            j,
+            i,
+            k,
+            breaks,
+            continues,
+            returns,
+        );
+        if r == 0 {
+            return 0;
+        }
+        cut = joined(cut, r);
+    }
+    cut
+}
+
+// Is the body from the word `at` to the word `end` in scope?
+pub fn body(
+    words: &[u32; 16384],
+    tags: &[u8; 16384],
+    starts: &[u32; 1025],
+    initial: &[u8; 1024],
+    count: usize,
+    at: usize,
+    end: usize,
+) -> bool
+    requires { ⌜ BlockHere (now words) (now tags) (now starts) count at end end ⌝ }
+    ensures { λ r. ⌜ r ≡ fineB (exprsOf (now (words .entry)) (now (tags .entry)) (now (starts .entry)) count) (marks (now (words .entry)) (now (tags .entry)) (now (starts .entry)) count (now (initial .entry))) (blockOf (now (words .entry)) (now (tags .entry)) at end) inBody [] [] ⌝ }
+{
+    let mut until = [0usize; 1024];
+    let r = block(
+        words,
+        tags,
+        starts,
+        initial,
+        &mut until,
+        count,
+        at,
+        end,
+        end,
+        false,
+        false,
+        true,
+    );
+    r != 0
+}

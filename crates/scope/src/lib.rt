@@ -1,0 +1,102 @@
+// Refusal 6: the Scope paragraph of document 01, in one pass over each body.
+pub mod body;
+
+use body::body;
+use body::wide;
+use numbers::initial::places;
+use numbers::initial::reach;
+use numbers::initial::roots;
+use numbers::record_at;
+use numbers::record_end;
+ghost use mathlib.Core.Path.{_≡_};
+ghost use Rattle.model.specs.Taped.{Tape};
+ghost use Rattle.model.specs.Scope.{inScope};
+ghost use Rattle.numbers.specs.Ranges.{Says};
+ghost use Rattle.scope.specs.Functions.{Known, Tested, Stated, Scoped, Numbered, functionsScoped, entryPointsScoped};
+
+// Is the body of a function in scope? Its lists of locals and expressions have their numbers at the words `locals` and `exprs`.
+pub fn scoped(
+    words: &[u32; 16384],
+    tags: &[u8; 16384],
+    locals: usize,
+    exprs: usize,
+    end: usize,
+) -> bool
+    requires { ⌜ Known (now words) (now tags) locals exprs end ⌝ }
+    ensures { λ r. ⌜ Tested r (now (words .entry)) (now (tags .entry)) locals exprs end ⌝ }
+{
+    let mut initial = [0u8; 1024];
+    let mut list = [0u32; 1024];
+    let mut starts = [0u32; 1025];
+    let count = wide(words[locals]);
+    let e = wide(words[exprs]);
+    let top = roots(words, locals + 1, count, &mut initial, &mut list, e);
+    places(tags, exprs + 1, end, &mut starts);
+    reach(words, tags, &starts, &mut initial, &mut list, top, e);
+    let named = wide(starts[e]);
+    let at = named + 1 + 2 * wide(words[named]);
+    body(words, tags, &starts, &initial, e, at, end)
+}
+
+// The same of the record from `at` to `end` whose function starts at `from`.
+fn function(words: &[u32; 16384], tags: &[u8; 16384], at: usize, from: usize, end: usize) -> bool
+    requires { ⌜ Stated (now words) (now tags) at from end ⌝ }
+    ensures { λ r. ⌜ Scoped r (now (words .entry)) (now (tags .entry)) at from end ⌝ }
+{
+    let result = from + 4 + 8 * wide(words[from + 3]);
+    let locals = result + 1 + 7 * wide(words[result]);
+    let exprs = locals + 1 + 5 * wide(words[locals]);
+    scoped(words, tags, locals, exprs, end)
+}
+
+// Table functions.
+fn functions(words: &[u32; 16384], tags: &[u8; 16384], n: usize) -> bool
+    requires { ⌜ Tape (now words) (now tags) n ⌝ }
+    requires { ⌜ Numbered (now words) (now tags) n ⌝ }
+    ensures { λ r. ⌜ Says r (now (words .entry)) (now (tags .entry)) n functionsScoped ⌝ }
+{
+    let count = wide(words[14]);
+    let mut j = 0;
+    while j < count {
+        let i = j;
+        j += 1;
+        let at = record_at(words, tags, n, 6, i);
+        let end = record_end(words, tags, n, 6, i);
+        if !function(words, tags, at, at, end) {
+            return false;
+        }
+    }
+    true
+}
+
+// Entry points: seven words stand before a function.
+fn entries(words: &[u32; 16384], tags: &[u8; 16384], n: usize) -> bool
+    requires { ⌜ Tape (now words) (now tags) n ⌝ }
+    requires { ⌜ Numbered (now words) (now tags) n ⌝ }
+    ensures { λ r. ⌜ Says r (now (words .entry)) (now (tags .entry)) n entryPointsScoped ⌝ }
+{
+    let count = wide(words[16]);
+    let mut j = 0;
+    while j < count {
+        let i = j;
+        j += 1;
+        let at = record_at(words, tags, n, 7, i);
+        let end = record_end(words, tags, n, 7, i);
+        if !function(words, tags, at, at + 7, end) {
+            return false;
+        }
+    }
+    true
+}
+
+// Is an image whose numbers are in range in scope?
+pub fn in_scope(words: &[u32; 16384], tags: &[u8; 16384], n: usize) -> bool
+    requires { ⌜ Tape (now words) (now tags) n ⌝ }
+    requires { ⌜ Numbered (now words) (now tags) n ⌝ }
+    ensures { λ r. ⌜ Says r (now (words .entry)) (now (tags .entry)) n inScope ⌝ }
+{
+    if !functions(words, tags, n) {
+        return false;
+    }
+    entries(words, tags, n)
+}
