@@ -1,0 +1,17 @@
+//! The C functions of the proved archive, as `include/wuldgisp.h` declares them.
+//!
+//! Nothing checks such a declaration against the archive, so they stand in this file alone, and a test compares
+//! this file with the header. Each answers its refusal in the low half of its number, 0 for accepted.
+
+extern "C" {
+    pub fn wuldgisp_intake(image: *const u8, image_len: usize) -> u32;
+    pub fn wuldgisp_order(image: *const u8, image_len: usize, order: *mut u32, order_len: usize) -> u64;
+    pub fn wuldgisp_redirect(
+        image: *mut u8,
+        image_len: usize,
+        original: u32,
+        replacement: u32,
+        omit: *const u32,
+        omit_len: usize,
+    ) -> u64;
+}

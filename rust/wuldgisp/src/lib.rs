@@ -1,0 +1,125 @@
+//! Module images, checked, ordered and redirected by a proved archive.
+//!
+//! The functions here are thin: they lend their slices to the C functions of `libwuldgisp.a` and give the answers
+//! a type. What the answers are is said, and proved, where the archive is made; an image is at most 65,536 bytes
+//! of little-endian words, and every byte slice, of any length and content, has an answer.
+//!
+//! ```
+//! // fog and tone; shade calls fog, and fog calls tone.
+//! let mut image = plain::assemble(
+//!     r#"wuldgisp-text 1
+//!     names { "shade" "tone" "fog" }
+//!     functions {
+//!       function name=0 { body { Call function=2 arguments=[] } }
+//!       function name=1 { body { } }
+//!       function name=2 { body { Call function=1 arguments=[] } }
+//!     }
+//!     special_types { }"#,
+//! )?;
+//! wuldgisp::intake(&image)?;
+//! assert_eq!(wuldgisp::order(&image)?, [1, 2, 0]);
+//!
+//! // Name 2 is fog, name 1 is tone: calls of fog become calls of tone.
+//! let redirected = wuldgisp::redirect(&mut image, 2, 1, &[])?;
+//! assert_eq!((redirected.original, redirected.replacement), (2, 1));
+//! assert_eq!(wuldgisp::order(&image)?, [1, 0, 2]);
+//! # Ok::<(), Box<dyn std::error::Error>>(())
+//! ```
+
+mod archive;
+mod refusal;
+
+pub use refusal::Refusal;
+
+/// The most functions of an image, and so the longest order.
+const FUNCTIONS: usize = 256;
+
+/// Whether an image is accepted: document 01's tests 1 to 6.
+///
+/// ```
+/// use wuldgisp::Refusal;
+///
+/// let refusal = wuldgisp::intake(b"no image").unwrap_err();
+/// assert_eq!(refusal, Refusal::Size);
+/// assert_eq!(refusal.number(), 1);
+/// assert_eq!(refusal.to_string(), "refused 1: the size, the edition or the total of words is wrong");
+/// ```
+pub fn intake(image: &[u8]) -> Result<(), Refusal> {
+    // SAFETY: the pointer and the length are those of a slice that is only read and outlives the call.
+    let answer = unsafe { archive::wuldgisp_intake(image.as_ptr(), image.len()) };
+    accepted(answer.into()).map(|_| ())
+}
+
+/// The source number of each function in output order: by rank, then by source number.
+///
+/// ```
+/// use wuldgisp::Refusal;
+///
+/// let ring = plain::assemble(
+///     r#"wuldgisp-text 1
+///     names { "self" }
+///     functions { function name=0 { body { Call function=0 arguments=[] } } }
+///     special_types { }"#,
+/// )?;
+/// assert_eq!(wuldgisp::order(&ring), Err(Refusal::Ring { left: 1 }));
+/// # Ok::<(), plain::TextError>(())
+/// ```
+pub fn order(image: &[u8]) -> Result<Vec<u32>, Refusal> {
+    let mut order = [0; FUNCTIONS];
+    // SAFETY: both pointers and lengths are those of slices that outlive the call; the image is only read, and the
+    // order, which is written, is lent by no one else.
+    let answer =
+        unsafe { archive::wuldgisp_order(image.as_ptr(), image.len(), order.as_mut_ptr(), order.len()) };
+    let count = accepted(answer)? as usize;
+    Ok(order[..count].to_vec())
+}
+
+/// What a redirect found: the numbers of both functions.
+#[derive(Clone, Copy, Debug, PartialEq, Eq, Hash)]
+pub struct Redirected {
+    pub original: u32,
+    pub replacement: u32,
+}
+
+/// Makes calls of one function calls of another, in the image itself.
+///
+/// Functions are given by the numbers of their names. The replacement's own body and the functions with an
+/// omitted name keep their calls; entry points never do. A refused call changes no byte.
+///
+/// ```
+/// use wuldgisp::Refusal;
+///
+/// let mut image = plain::assemble("wuldgisp-text 1 names { \"tone\" } special_types { }")?;
+/// assert_eq!(wuldgisp::redirect(&mut image, 0, 1, &[]), Err(Refusal::NumberGiven));
+/// assert_eq!(wuldgisp::redirect(&mut image, 0, 0, &[]), Err(Refusal::OriginalNotFound));
+/// # Ok::<(), plain::TextError>(())
+/// ```
+pub fn redirect(
+    image: &mut [u8],
+    original: u32,
+    replacement: u32,
+    omit: &[u32],
+) -> Result<Redirected, Refusal> {
+    // SAFETY: both pointers and lengths are those of slices that outlive the call; the image, which is written, is
+    // lent by no one else, and the omitted names are only read.
+    let answer = unsafe {
+        archive::wuldgisp_redirect(
+            image.as_mut_ptr(),
+            image.len(),
+            original,
+            replacement,
+            omit.as_ptr(),
+            omit.len(),
+        )
+    };
+    let both = accepted(answer)?;
+    Ok(Redirected { original: both % 65_536, replacement: both / 65_536 })
+}
+
+/// The value of an accepted answer, or the refusal.
+fn accepted(answer: u64) -> Result<u32, Refusal> {
+    match Refusal::from_answer(answer) {
+        None => Ok((answer >> 32) as u32),
+        Some(refusal) => Err(refusal),
+    }
+}

@@ -1,0 +1,91 @@
+//! The declarations in `src/archive.rs` are those of `include/wuldgisp.h`: names, arguments and types.
+//!
+//! Both files are brought to one spelling, the Rust one, and compared as sets. WULDGISP_HEADER names another
+//! header.
+
+use std::collections::BTreeSet;
+use std::path::{Path, PathBuf};
+
+/// A text without its comments and with single spaces.
+fn bare(text: &str) -> String {
+    let mut text = text.to_owned();
+    while let Some(start) = text.find("/*") {
+        let end = text[start..].find("*/").map_or(text.len(), |end| start + end + 2);
+        text.replace_range(start..end, " ");
+    }
+    let no_comment = |line: &str| line.split("//").next().unwrap_or("").to_owned();
+    let lines: Vec<String> =
+        text.lines().filter(|line| !line.trim_start().starts_with('#')).map(no_comment).collect();
+    lines.join(" ").split_whitespace().collect::<Vec<_>>().join(" ")
+}
+
+/// A C type in Rust's spelling.
+fn rust_type(c: &str) -> String {
+    match c.replace(" *", "*").trim() {
+        "uint8_t" => "u8".to_owned(),
+        "uint32_t" => "u32".to_owned(),
+        "uint64_t" => "u64".to_owned(),
+        "size_t" => "usize".to_owned(),
+        pointer => {
+            let base = pointer.strip_suffix('*').unwrap_or_else(|| panic!("an unknown type: {pointer}"));
+            match base.strip_prefix("const ") {
+                Some(base) => format!("*const {}", rust_type(base)),
+                None => format!("*mut {}", rust_type(base)),
+            }
+        }
+    }
+}
+
+/// A C declaration's type and name.
+fn typed(declaration: &str) -> (String, String) {
+    let declaration = declaration.trim();
+    let at = declaration.rfind([' ', '*']).expect("a type and a name") + 1;
+    (rust_type(&declaration[..at]), declaration[at..].to_owned())
+}
+
+/// The C functions: every statement with a parenthesis.
+fn of_header(text: &str) -> BTreeSet<String> {
+    let text = bare(text).replace("extern \"C\" {", " ").replace('}', " ");
+    let mut functions = BTreeSet::new();
+    for prototype in text.split(';').filter(|statement| statement.contains('(')) {
+        let (head, arguments) = prototype.split_once('(').expect("a parenthesis");
+        let (result, name) = typed(head);
+        let arguments = arguments.trim_end().strip_suffix(')').expect("a closing parenthesis");
+        let arguments: Vec<String> =
+            arguments.split(',').map(typed).map(|(ty, name)| format!("{name}: {ty}")).collect();
+        functions.insert(format!("{name}({}) -> {result}", arguments.join(", ")));
+    }
+    functions
+}
+
+/// The Rust functions.
+fn of_rust(text: &str) -> BTreeSet<String> {
+    let text = bare(text);
+    let function = |statement: &str| {
+        let at = statement.find("pub fn ")?;
+        let function = statement[at + 7..].trim().replace("( ", "(").replace(", )", ")");
+        Some(function)
+    };
+    text.split(';').filter_map(function).collect()
+}
+
+#[test]
+fn declarations_are_the_headers() {
+    let package = Path::new(env!("CARGO_MANIFEST_DIR"));
+    let header = std::env::var_os("WULDGISP_HEADER").map(PathBuf::from);
+    let header = header.unwrap_or(package.join("../../include/wuldgisp.h"));
+    let header_text =
+        std::fs::read_to_string(&header).unwrap_or_else(|error| panic!("include/wuldgisp.h: {error}"));
+    let rust_text = std::fs::read_to_string(package.join("src/archive.rs")).unwrap();
+    let rust = of_rust(&rust_text);
+    assert!(!rust.is_empty());
+    assert_eq!(rust, of_header(&header_text));
+}
+
+#[test]
+fn both_spellings_are_read() {
+    let c = "#include <stdint.h>\n/* two\nlines */ uint32_t f(const uint8_t *a, size_t b); // more\nuint64_t\n g(uint8_t* a, uint32_t b);";
+    let rust = "extern \"C\" {\n pub fn f(a: *const u8, b: usize) -> u32;\n /// g\n pub fn g(\n a: *mut u8,\n b: u32,\n ) -> u64;\n}";
+    assert_eq!(of_header(c), of_rust(rust));
+    assert_eq!(of_rust(rust).len(), 2);
+}
