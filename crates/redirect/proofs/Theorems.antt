@@ -15,6 +15,7 @@ use Rattle.model.specs.Lower.{lower}
 use Rattle.model.specs.Names.{named}
 use Rattle.model.specs.Numbers.{numbered}
 use Rattle.model.specs.Scope.{inScope}
+use Rattle.model.specs.Intake.{tested, verdict, intakeOf, Passes}
 use Rattle.model.specs.Walk.{walk}
 use Rattle.model.specs.Redirect.{nameWord, find, allBelow, argumentTypes, agree, resultType, same, redirecting, redirectFn, redirectEntry, stays, redirectFns, withFunctions, withEntries, redirect, Answer, redirected, outside, noOriginal, noReplacement, argumentsDiffer, resultsDiffer, function, compared, withReplacement, withOriginal, redirectFunction}
 use Rattle.laws.proofs.Carries.{flat-carry-function}
@@ -76,23 +77,14 @@ sizes m a b omit bytes =
     (view-edition (redirect m a b omit) ∙ sym (view-edition m))
     (view-total (redirect m a b omit) ∙ as-long m a b omit ∙ sym (view-total m))
 
--- what a module that passes tests 2 to 6 has
-pub record Passes (m : Module) : Type 0 where
-  pub formed : WellFormed m
-  pub in-range : numbered m ≡ true
-  pub lowered : lower m ≡ true
-  pub all-named : named m ≡ true
-  pub scopes : inScope m ≡ true
-
--- Tests 2 to 6, where the replacement is a table function.
-pub passes : (m : Module) (a b : ℕ) (omit : List ℕ) → b < length (m .functions) → Passes m → Passes (redirect m a b omit)
-passes m a b omit low p =
+-- Tests 3 to 6, where the replacement is a table function.
+pub passes : (m : Module) (a b : ℕ) (omit : List ℕ) → b < length (m .functions) → WellFormed m → Passes m → Passes (redirect m a b omit)
+passes m a b omit low w p =
     record {
-      formed = well m a b omit (p .formed);
-      in-range = redirect-numbered m a b omit (p .formed) low (p .in-range);
-      lowered = redirect-lower a b m omit ∙ p .lowered;
-      all-named = redirect-named a b m omit ∙ p .all-named;
-      scopes = redirect-scope a b m omit (p .scopes);
+      numbers = redirect-numbered m a b omit w low (p .numbers);
+      lowers = redirect-lower a b m omit ∙ p .lowers;
+      names = redirect-named a b m omit ∙ p .names;
+      scope = redirect-scope a b m omit (p .scope);
     }
 
 -- ---- an accepted redirecting
@@ -134,11 +126,22 @@ accepted m o p omit a b m′ e =
     parts true q = accept-found m o p omit (find (m .functions) 0 o) (find (m .functions) 0 p) a b m′ refl refl q
     parts false q = let z : _≡_ {A = ℕ} 0 1 = cc in absurd (omega arith)
 
--- THE REDIRECTED IMAGE PASSES INTAKE: where the module passed tests 2 to 6, so does the one that redirecting gives.
-pub redirected-passes : (m : Module) (o p : ℕ) (omit : List ℕ) (a b : ℕ) (m′ : Module) → redirectFunction m o p omit ≡ redirected a b m′ → Passes m → Passes m′
-redirected-passes m o p omit a b m′ e q =
+-- THE REDIRECTED IMAGE PASSES INTAKE: where the module's image passed, so does the image of the one that redirecting gives.
+pub redirected-well : (m : Module) (o p : ℕ) (omit : List ℕ) (a b : ℕ) (m′ : Module) → redirectFunction m o p omit ≡ redirected a b m′ → WellFormed m → WellFormed m′
+redirected-well m o p omit a b m′ e w = let r = accepted m o p omit a b m′ e in rw (r .module-is) (well m a b omit w)
+
+pub redirected-passes : (m : Module) (o p : ℕ) (omit : List ℕ) (a b : ℕ) (m′ : Module) → redirectFunction m o p omit ≡ redirected a b m′ → WellFormed m → Passes m → Passes m′
+redirected-passes m o p omit a b m′ e w q =
     let r = accepted m o p omit a b m′ e in
-    rw (r .module-is) (passes m a b omit (omega (arith, find-in (m .functions) 0 p b (r .replacement))) q)
+    rw (r .module-is) (passes m a b omit (omega (arith, find-in (m .functions) 0 p b (r .replacement))) w q)
+
+pub redirected-intake : (m : Module) (o p : ℕ) (omit : List ℕ) (a b : ℕ) (m′ : Module) → redirectFunction m o p omit ≡ redirected a b m′ → WellFormed m → Passes m → (bytes : ℕ) → sized bytes (write m) ≡ true → intakeOf bytes (write m′) ≡ 0
+unfolding intakeOf verdict tested
+redirected-intake m o p omit a b m′ e w q bytes h =
+    let r = accepted m o p omit a b m′ e in
+    let t = redirected-passes m o p omit a b m′ e w q in
+    let z : sized bytes (write m′) ≡ true = ap (λ x. sized bytes (write x)) (r .module-is) ∙ sizes m a b omit bytes ∙ h in
+    rw (intakeOf, z, write-read m′ (redirected-well m o p omit a b m′ e w), tested, t .numbers, t .lowers, t .names, t .scope)
 
 -- A FUNCTION REDIRECTED TO ITSELF: nothing changes.
 pub redirected-itself : (m : Module) (o : ℕ) (omit : List ℕ) (a b : ℕ) (m′ : Module) → WellFormed m → redirectFunction m o o omit ≡ redirected a b m′ → m′ ≡ m
