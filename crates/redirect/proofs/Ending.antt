@@ -87,6 +87,19 @@ not-done NoReplacement k = refuses-by 9 refl
 not-done ArgumentsDiffer k = refuses-by 10 refl
 not-done ResultsDiffer k = refuses-by 11 refl
 
+-- and the first
+pub data Accepted : Redirected → Type 0 where
+  accepts : {r : Redirected} (a b : ℕ) → shown r ≡ both a b → Accepted r
+
+pub is-done : (r : Redirected) → OneOf (0 ∷ []) (tagOf the-type r) → Accepted r
+unfolding shown
+is-done (Done a b) k = accepts (a .0) (b .0) refl
+is-done Outside k = absurd (miss (0 ∷ []) 1 tt k)
+is-done NoOriginal k = absurd (miss (0 ∷ []) 2 tt k)
+is-done NoReplacement k = absurd (miss (0 ∷ []) 3 tt k)
+is-done ArgumentsDiffer k = absurd (miss (0 ∷ []) 4 tt k)
+is-done ResultsDiffer k = absurd (miss (0 ∷ []) 5 tt k)
+
 module _ (words tags : List ℕ) (n o p : ℕ) (omit : List ℕ) (r : Redirected) (t : Tests r words tags n o p omit) where
   pub words-stay : Refused r → Redirects r words words tags n o p omit
   words-stay (refuses-by k e) =

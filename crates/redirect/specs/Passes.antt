@@ -82,7 +82,15 @@ pub record Redirects (r : Redirected) (words₁ words tags : List ℕ) (n origin
   pub answer : (m : Module) → Taped words tags n m → shown r ≡ told (redirectFunction m original replacement omit)
   pub words-are : (m : Module) → Taped words tags n m → words₁ ≡ sets words 0 (write (after m (redirectFunction m original replacement omit)))
 
--- the bytes of the image are those of the module that the answer leaves
-pub record Stores (r : Redirected) (image words tags : List ℕ) (n original replacement : ℕ) (omit : List ℕ) : Type 0 where
+-- the bytes of an image afterwards: those of the redirected module, or, where it is refused, what was there
+unfoldable pub imageAfter : List ℕ → Answer → List ℕ
+imageAfter image (redirected a b m) = bytesOf (write m)
+imageAfter image outside = image
+imageAfter image noOriginal = image
+imageAfter image noReplacement = image
+imageAfter image argumentsDiffer = image
+imageAfter image resultsDiffer = image
+
+pub record Stores (r : Redirected) (image₁ image words tags : List ℕ) (n original replacement : ℕ) (omit : List ℕ) : Type 0 where
   pub answer : (m : Module) → Taped words tags n m → shown r ≡ told (redirectFunction m original replacement omit)
-  pub bytes-are : (m : Module) → Taped words tags n m → image ≡ bytesOf (write (after m (redirectFunction m original replacement omit)))
+  pub bytes-are : (m : Module) → Taped words tags n m → image₁ ≡ imageAfter image (redirectFunction m original replacement omit)

@@ -5,9 +5,9 @@ use calls::FunctionHandle;
 use words::store;
 ghost use mathlib.Core.Path.{_≡_};
 ghost use mathlib.Core.List.{_∷_, zipWith};
-ghost use Prim.Native.Nat.{suc, _^_, _≤_, _<_};
+ghost use Prim.Native.Nat.{suc, _*_, _^_, _≤_, _<_};
 ghost use lib.Dec.{eqb};
-ghost use lib.ListN.{length, take};
+ghost use lib.ListN.{length};
 ghost use lib.Seq.{slice, sets};
 ghost use Rattle.model.specs.Module.{countAt};
 ghost use Rattle.model.specs.View.{recordAt, recordEnd};
@@ -15,7 +15,6 @@ ghost use Rattle.model.specs.FunctionView.{returnsAt};
 ghost use Rattle.model.specs.Taped.{Tape};
 ghost use Rattle.model.specs.Redirect.{omitted as omittedOf, allBelow, redirecting, stays as staysOf};
 ghost use Rattle.redirect.specs.Passes.{Finds, Agrees, Returns, Compares, Tests, Turns, turnOne, turnAll, redirectedBy, Redirects, Stores};
-ghost use Rattle.words.specs.Words.{bytesOf};
 
 // The table function with a name, or none.
 pub enum Found {
@@ -370,8 +369,8 @@ pub fn redirect_loaded(
     omit: &[u32],
 ) -> Redirected
     requires { ⌜ Tape (now words) (now tags) n ⌝ }
-    requires { ⌜ now image ≡ bytesOf (take n (now words)) ⌝ }
-    ensures { λ r. ⌜ Stores r (now (image .exit)) (now (words .entry)) (now (tags .entry)) n original replacement (now (omit .entry)) ⌝ }
+    requires { ⌜ length (now image) ≡ 4 * n ⌝ }
+    ensures { λ r. ⌜ Stores r (now (image .exit)) (now (image .entry)) (now (words .entry)) (now (tags .entry)) n original replacement (now (omit .entry)) ⌝ }
 {
     let r = redirect_words(words, tags, n, original, replacement, omit);
     let Redirected::Done(_, _) = r else {

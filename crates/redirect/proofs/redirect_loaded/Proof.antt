@@ -1,4 +1,4 @@
-use Rattle.redirect.proofs.Ending.{not-done}
+use Rattle.redirect.proofs.Ending.{not-done, is-done}
 use Rattle.redirect.proofs.Storing.{store-asks, stays-stored, turned-stored}
 use borrow.Author.Needs.{needs}
 use Rattle.redirect.proofs.redirect_loaded.Statement.{statement}
@@ -29,7 +29,7 @@ same-length c = search needs
 
 -- src/lib.rt:363:1
 returns-2 : tie.Need-returns-2
-returns-2 c = turned-stored (c .before .before .before .before .before .before .before .before .before .before .before .before .args .image .now) (c .before .before .before .before .before .before .before .before .before .before .before .before .args .words .now) (c .before .before .before .before .before .before .before .before .before .before .before .before .args .tags .now) (c .before .before .before .before .before .before .before .before .before .before .before .before .args .n) (c .before .before .before .before .before .before .before .before .before .before .before .before .args .original) (c .before .before .before .before .before .before .before .before .before .before .before .before .args .replacement) (c .before .before .before .before .before .before .before .before .before .before .before .before .args .omit .now) (c .before .before .before .before .before .before .before .before .before .before .before .before .pre .0) (c .before .before .before .before .before .before .before .before .before .before .before .before .pre .1) (c .before .before .before .before .before .before .before .before .redirect-words .result) (c .before .before .before .before .before .before .before .before .redirect-words .last .0) (c .before .before .before .before .before .before .before .before .redirect-words .ensures) (c .before .before .store .last .1 .1 .0) (c .before .before .store .ensures)
+returns-2 c = turned-stored (c .before .before .before .before .before .before .before .before .before .before .before .before .args .image .now) (c .before .before .before .before .before .before .before .before .before .before .before .before .args .words .now) (c .before .before .before .before .before .before .before .before .before .before .before .before .args .tags .now) (c .before .before .before .before .before .before .before .before .before .before .before .before .args .n) (c .before .before .before .before .before .before .before .before .before .before .before .before .args .original) (c .before .before .before .before .before .before .before .before .before .before .before .before .args .replacement) (c .before .before .before .before .before .before .before .before .before .before .before .before .args .omit .now) (c .before .before .before .before .before .before .before .before .before .before .before .before .pre .0) (c .before .before .before .before .before .before .before .before .before .before .before .before .pre .1) (c .before .before .before .before .before .before .before .before .redirect-words .result) (c .before .before .before .before .before .before .before .before .redirect-words .last .0) (c .before .before .before .before .before .before .before .before .redirect-words .ensures) (is-done (c .before .before .before .before .before .before .before .before .redirect-words .result) (c .before .before .before .before .before .before .before .match .keys1)) (c .before .before .store .last .1 .1 .0) (c .before .before .store .ensures)
 
 pub redirect-loaded-spec : {M : Type 1} → statement M
 redirect-loaded-spec =
