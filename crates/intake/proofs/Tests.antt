@@ -90,7 +90,7 @@ module _ (words tags : List ℕ) (n : ℕ) where
                 all-pass e = record { same = λ m t. sym (rw (tested, first m t, second m t, third m t, sym (t₆ .same m t) ∙ no-false b₆ e)); many = λ k q. cc }
 
 -- ---- what passes
-passes : (m : Module) → tested m ≡ 0 → Passes m
+pub passes : (m : Module) → tested m ≡ 0 → Passes m
 unfolding tested
 passes m h = go (numbered m) refl (lower m) refl (named m) refl (inScope m) refl h
   where
@@ -164,6 +164,7 @@ module _ (bytes words tags words₁ tags₁ : List ℕ) (words-long : length wor
           same = s ∙ sym (rw (intakeOf, held-so .sized-right, held-so .reads));
           held = λ k g. let i = t .many k g in record {
             holds = m;
+            sized-right = held-so .sized-right;
             reads = held-so .reads;
             long = i ∙ held-so .long;
             taped = rw i (held-so .taped);

@@ -1,5 +1,6 @@
 -- Intake's answers: document 01's number for each, and what words and tape hold where an image is accepted.
 use mathlib.Core.Path.{_≡_}
+use mathlib.Core.Bool.{true}
 use mathlib.Core.List.{List}
 use Prim.Native.Nat.{ℕ}
 use lib.ListN.{length}
@@ -29,6 +30,7 @@ pub record Tested (r : Taken) (words tags : List ℕ) (n : ℕ) : Type 0 where
 -- an accepted image, held by words and tape
 pub record Accepts (bytes words tags : List ℕ) (n : ℕ) : Type 0 where
   pub holds : Module
+  pub sized-right : sized (length bytes) (wordsOf bytes) ≡ true
   pub reads : read (wordsOf bytes) ≡ laid holds
   pub long : n ≡ length (wordsOf bytes)
   pub taped : Taped words tags n holds

@@ -11,3 +11,4 @@ pub mod Betweens
 pub mod Tables
 pub mod Modules
 pub mod Examples
+pub mod Tapes

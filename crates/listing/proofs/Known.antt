@@ -17,7 +17,7 @@ use Rattle.model.specs.Initial.{initialised}
 use Rattle.model.specs.Numbers.{Bounds, caps, bound, below, within, ordered, every, outside, inside, sound, soundFunction, numbered}
 use Rattle.model.specs.Names.{field, present, functionNames, named}
 use Rattle.laws.proofs.Lists.{and-split}
-use Rattle.laws.proofs.Modules.{write-read}
+use Rattle.laws.proofs.Tapes.{taped-same}
 use Rattle.gather.specs.Gathering.{Known}
 use Rattle.gather.proofs.Numbered.{functions-sound, passed-known}
 use Rattle.listing.specs.Lines.{nameWord, NamesKnown, Naming, Passed}
@@ -67,8 +67,5 @@ pub passed-callees : {words tags : List ℕ} {n : ℕ} → Passed words tags n �
 passed-callees p = passed-known (p .numbers)
 
 -- words and tape hold one module, so what is shown of one that they hold is shown of it
-taped-same : {words tags : List ℕ} {n : ℕ} {m o : Module} → Taped words tags n m → Taped words tags n o → m ≡ o
-taped-same {m} {o} t u = let p : laid m ≡ laid o = sym (write-read m (t .well)) ∙ ap read (sym (t .words-are) ∙ u .words-are) ∙ write-read o (u .well) in cc
-
 pub passed-one : {words tags : List ℕ} {n : ℕ} {m : Module} → Taped words tags n m → numbered m ≡ true → named m ≡ true → Passed words tags n
 passed-one t h k = record { numbers = λ o u. subst (λ x. numbered x ≡ true) (taped-same t u) h; names = λ o u. subst (λ x. named x ≡ true) (taped-same t u) k }

@@ -1,5 +1,7 @@
 // The functions that the archive exports to C and Rust, thin over the crates that do the work. include/wuldgisp.h declares them.
 ghost use Rattle.intake.specs.Taken.{Answers};
+ghost use Rattle.basic.specs.Images.{Orders};
+ghost use Rattle.layered.specs.Images.{Answers as Redirects};
 
 // Intake: 0 for an image that is accepted, else the number of the test that refuses it, 1 to 6.
 #[no_mangle]
@@ -7,4 +9,27 @@ pub extern "C" fn wuldgisp_intake(image: &[u8]) -> u32
     ensures { λ r. ⌜ Answers r (now (image .entry)) ⌝ }
 {
     intake::intake(image)
+}
+
+// The order of output, as far as there is room for it. The low half of the answer is the number of the refusal, or 0; the high half is the count of
+// functions, or, with refusal 12, of those that are left.
+#[no_mangle]
+pub extern "C" fn wuldgisp_order(image: &[u8], order: &mut [u32]) -> u64
+    ensures { λ r. ⌜ Orders r (now (order .exit)) (now (order .entry)) (now (image .entry)) ⌝ }
+{
+    basic::order(image, order)
+}
+
+// Redirects calls in the image itself. The low half of the answer is the number of the refusal, or 0; the high half is the original's number and 65,536
+// times the replacement's.
+#[no_mangle]
+pub extern "C" fn wuldgisp_redirect(
+    image: &mut [u8],
+    original: u32,
+    replacement: u32,
+    omit: &[u32],
+) -> u64
+    ensures { λ r. ⌜ Redirects r (now (image .exit)) (now (image .entry)) original replacement (now (omit .entry)) ⌝ }
+{
+    layered::redirect(image, original, replacement, omit)
 }

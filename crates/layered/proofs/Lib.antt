@@ -1,0 +1,3 @@
+pub mod Sizes
+pub mod Images
+pub mod Theorems
