@@ -35,15 +35,7 @@ pub fn redirect_function(image: &mut [u8], original: u32, replacement: u32, omit
     let Taken::Accepted(n) = taken else {
         return Answer::Refused(intake::number(taken));
     };
-    let r = redirect::redirect_loaded(
-        image,
-        &mut words,
-        &tags,
-        n,
-        original,
-        replacement,
-        omit,
-    );
+    let r = redirect::redirect_loaded(image, &mut words, &tags, n, original, replacement, omit);
     told(r)
 }
 

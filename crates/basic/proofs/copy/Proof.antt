@@ -1,10 +1,9 @@
+-- `basic::copy` meets its contract. Assumes nothing.
 use Prim.Native.Nat.{_-_}
 use Rattle.basic.proofs.Copying.{Copying, copy-begin, copy-full, copy-next, copy-done}
 use borrow.Author.Needs.{needs}
 use Rattle.basic.proofs.copy.Statement.{statement}
 use Rattle.basic.proofs.copy.Tie as tie
-use Rattle.basic.proofs.copy.Reads as reads
-use Rattle.basic.proofs.copy.Lts as lts
 
 abbrev Inv-loop : tie.InvT-loop
 Inv-loop order count out₀ i₀ out i = Copying order count out₀ out i
@@ -12,51 +11,39 @@ Inv-loop order count out₀ i₀ out i = Copying order count out₀ out i
 abbrev μ-loop : tie.MeasureT-loop
 μ-loop order count out₀ i₀ out i = count - i
 
--- src/lib.rt:19:5
 loop-holds : tie.Need-loop-holds Inv-loop μ-loop
 loop-holds c = search (copy-begin, needs)
 
--- src/lib.rt:21:13
 same-length : tie.Need-same-length Inv-loop μ-loop
 same-length c = search needs
 
--- src/lib.rt:21:13
 returns : tie.Need-returns Inv-loop μ-loop
 returns c = search (copy-full, needs)
 
--- src/lib.rt:24:9
 add-i : tie.Need-add-i Inv-loop μ-loop
 add-i c = search needs
 
--- src/lib.rt:25:18
 mul-out : tie.Need-mul-out Inv-loop μ-loop
 mul-out c = search needs
 
--- src/lib.rt:25:18
 element-copy-out-out : tie.Need-element-copy-out-out Inv-loop μ-loop
 element-copy-out-out c = search needs
 
--- src/lib.rt:25:9
 mul-out-2 : tie.Need-mul-out-2 Inv-loop μ-loop
 mul-out-2 c = search needs
 
--- src/lib.rt:25:9
 slice-write-out : tie.Need-slice-write-out Inv-loop μ-loop
 slice-write-out c = search needs
 
--- src/lib.rt:19:5
 loop-less : tie.Need-loop-less Inv-loop μ-loop
 loop-less c = search needs
 
--- src/lib.rt:19:5
 loop-again : tie.Need-loop-again Inv-loop μ-loop
 loop-again c = search (copy-next, needs)
 
--- src/lib.rt:13:1
 same-length-2 : tie.Need-same-length-2 Inv-loop μ-loop
 same-length-2 c = search needs
 
--- src/lib.rt:13:1
 returns-2 : tie.Need-returns-2 Inv-loop μ-loop
 returns-2 c = search (copy-done, needs)
 

@@ -1,3 +1,4 @@
+-- `basic::list` meets its contract. Assumes nothing.
 use Rattle.basic.proofs.Images.{count-few, list-long, listed-all, listed-ring}
 use lib.ListN.{replicate, length-replicate}
 use Prim.Native.Nat.{ℕ}
@@ -5,63 +6,45 @@ use Rattle.model.specs.Module.{countAt}
 use borrow.Author.Needs.{needs}
 use Rattle.basic.proofs.list.Statement.{statement}
 use Rattle.basic.proofs.list.Tie as tie
-use Rattle.basic.proofs.list.Reads as reads
-use Rattle.basic.proofs.list.Lts as lts
-use Rattle.basic.proofs.copy.Reads as copy-reads
-use Rattle.gather.proofs.order_of.Reads as order-of-reads
-use Rattle.gather.proofs.wide.Reads as wide-reads
 
--- src/lib.rt:37:9
 order-of-requires : tie.Need-order-of-requires
 order-of-requires c κs = search needs
 
--- src/lib.rt:40:38
 enum-told : tie.Need-enum-told
 enum-told c = search needs
 
--- src/lib.rt:40:38
 element-copy-out-wide : tie.Need-element-copy-out-wide
 element-copy-out-wide c = search needs
 
--- src/lib.rt:40:17
 wide-requires : tie.Need-wide-requires
 wide-requires c κs = search needs
 
--- src/lib.rt:41:13
 copy-requires : tie.Need-copy-requires
 unfolding countAt
 copy-requires c κs = (list-long (c .before .before .before .before .before .before .before .before .before .args .words .now) (c .before .before .before .before .before .before .before .before .before .args .tags .now) (c .before .before .before .before .before .before .before .before .before .args .n) (c .before .before .before .before .before .before .before .before .before .pre .0) (replicate 256 0) (c .before .before .before .before .before .before .order-of .last .1 .1 .1 .0) (c .before .before .before .before .before .before .order-of .result) (c .before .before .before .before .before .before .order-of .ensures) (c .before .before .before .before .enum-told .given .1) (length-replicate {A = ℕ} 256 0), count-few (c .before .before .before .before .before .before .before .before .before .args .words .now) (c .before .before .before .before .before .before .before .before .before .args .tags .now) (c .before .before .before .before .before .before .before .before .before .args .n) (c .before .before .before .before .before .before .before .before .before .pre .0) (c .before .before .wide .result) (c .before .before .wide .ensures .0))
 
--- src/lib.rt:42:13
 mul-result : tie.Need-mul-result
 mul-result c = search needs
 
--- src/lib.rt:44:23
 enum-known-answer : tie.Need-enum-known-answer
 enum-known-answer c = search needs
 
--- src/lib.rt:44:37
 cast-result : tie.Need-cast-result
 cast-result c = search needs
 
--- src/lib.rt:44:37
 mul-result-2 : tie.Need-mul-result-2
 mul-result-2 c = search needs
 
--- src/lib.rt:44:32
 add-result : tie.Need-add-result
 add-result c = search needs
 
--- src/lib.rt:31:1
 same-length : tie.Need-same-length
 same-length c = search needs
 
--- src/lib.rt:31:1
 returns : tie.Need-returns
 unfolding countAt
 returns c = listed-all (c .before .before .before .before .before .before .before .before .before .before .before .before .args .words .now) (c .before .before .before .before .before .before .before .before .before .before .before .before .args .tags .now) (c .before .before .before .before .before .before .before .before .before .before .before .before .args .n) (c .before .before .before .before .before .before .before .before .before .before .before .before .pre .0) (replicate 256 0) (c .before .before .before .before .before .before .before .before .before .order-of .last .1 .1 .1 .0) (c .before .before .before .before .before .before .before .before .before .order-of .result) (c .before .before .before .before .before .before .before .before .before .order-of .ensures) (c .before .before .before .before .before .before .before .enum-told .given .1) (c .before .before .before .before .before .wide .result) (c .before .before .before .before .before .wide .ensures .0) (c .before .before .before .before .before .before .before .before .before .before .before .before .args .out .now) (c .before .before .copy .last .1 .1 .0) (c .before .before .copy .ensures)
 
--- src/lib.rt:31:1
 returns-2 : tie.Need-returns-2
 returns-2 c = search (listed-ring, needs)
 

@@ -1,52 +1,36 @@
+-- `basic::order` meets its contract. Assumes nothing.
 use Rattle.basic.proofs.Images.{intake-refuses, list-asks, list-tells}
 use borrow.Author.Needs.{needs}
 use Rattle.basic.proofs.order.Statement.{statement}
 use Rattle.basic.proofs.order.Tie as tie
-use Rattle.basic.proofs.order.Reads as reads
-use Rattle.basic.proofs.order.Lts as lts
-use Rattle.basic.proofs.list.Reads as list-reads
-use Rattle.intake.proofs.fresh_tags.Reads as fresh-tags-reads
-use Rattle.intake.proofs.fresh_words.Reads as fresh-words-reads
-use Rattle.intake.proofs.number.Reads as number-reads
-use Rattle.intake.proofs.take_in.Reads as take-in-reads
 
--- src/lib.rt:52:21
 fresh-words-requires : tie.Need-fresh-words-requires
 fresh-words-requires c κs = search needs
 
--- src/lib.rt:53:20
 fresh-tags-requires : tie.Need-fresh-tags-requires
 fresh-tags-requires c κs = search needs
 
--- src/lib.rt:54:9
 take-in-requires : tie.Need-take-in-requires
 take-in-requires c κs = search needs
 
--- src/lib.rt:55:28
 enum-known-taken : tie.Need-enum-known-taken
 enum-known-taken c = search needs
 
--- src/lib.rt:56:9
 list-requires : tie.Need-list-requires
 list-requires c κs = list-asks (c .before .before .before .before .before .before .before .before .before .before .before .before .before .args .image .now) (c .before .before .before .before .before .before .take-in .last .1 .0) (c .before .before .before .before .before .before .take-in .last .1 .1 .0) (c .before .before .before .before .before .before .take-in .result) (c .before .before .before .before .before .before .take-in .ensures) (c .before .before .before .before .taken .given .0 .0) (search needs)
 
--- src/lib.rt:56:9
 same-length : tie.Need-same-length
 same-length c = search needs
 
--- src/lib.rt:56:9
 returns : tie.Need-returns
 returns c = list-tells (c .before .before .before .before .before .before .before .before .before .before .before .before .before .before .before .before .args .image .now) (c .before .before .before .before .before .before .before .before .before .take-in .last .1 .0) (c .before .before .before .before .before .before .before .before .before .take-in .last .1 .1 .0) (c .before .before .before .before .before .before .before .before .before .take-in .result) (c .before .before .before .before .before .before .before .before .before .take-in .ensures) (c .before .before .before .before .before .before .before .taken .given .0 .0) (search needs) (c .before .before .list .result) (c .before .before .before .before .before .before .before .before .before .before .before .before .before .before .before .before .args .out .now) (c .before .before .list .last .1 .1 .1 .0) (c .before .before .list .ensures)
 
--- src/lib.rt:58:5
 number-requires : tie.Need-number-requires
 number-requires c κs = search needs
 
--- src/lib.rt:58:5
 cast-result : tie.Need-cast-result
 cast-result c = search needs
 
--- src/lib.rt:49:1
 returns-2 : tie.Need-returns-2
 returns-2 c = search (intake-refuses, needs)
 

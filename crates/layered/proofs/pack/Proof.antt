@@ -1,47 +1,36 @@
+-- `layered::pack` meets its contract. Assumes nothing.
 use Rattle.layered.proofs.Images.{pack-fits, pack-both, pack-refused}
 use borrow.Author.Needs.{needs}
 use Rattle.layered.proofs.pack.Statement.{statement}
 use Rattle.layered.proofs.pack.Tie as tie
-use Rattle.layered.proofs.pack.Reads as reads
-use Rattle.layered.proofs.pack.Lts as lts
 
--- src/lib.rt:56:22
 enum-known-answer : tie.Need-enum-known-answer
 enum-known-answer c = search needs
 
--- src/lib.rt:56:32
 cast-result : tie.Need-cast-result
 cast-result c = search needs
 
--- src/lib.rt:56:53
 cast-result-2 : tie.Need-cast-result-2
 cast-result-2 c = search needs
 
--- src/lib.rt:56:45
 mul-result : tie.Need-mul-result
 mul-result c = search needs
 
--- src/lib.rt:56:32
 add-result : tie.Need-add-result
 add-result c = search needs
 
--- src/lib.rt:56:31
 mul-result-2 : tie.Need-mul-result-2
 mul-result-2 c = search (pack-fits, needs)
 
--- src/lib.rt:57:25
 enum-known-answer-2 : tie.Need-enum-known-answer-2
 enum-known-answer-2 c = search needs
 
--- src/lib.rt:57:31
 cast-result-3 : tie.Need-cast-result-3
 cast-result-3 c = search needs
 
--- src/lib.rt:51:1
 returns : tie.Need-returns
 returns c = search (pack-both, needs)
 
--- src/lib.rt:51:1
 returns-2 : tie.Need-returns-2
 returns-2 c = search (pack-refused, needs)
 

@@ -1,0 +1,192 @@
+// Reads an image on standard input, redirects calls in it, and writes it to standard output. The arguments are numbers of names: the original's, the
+// replacement's, and those of omitted functions. A refusal or a wrong argument is one line on standard error, and nothing is written.
+use layered::Answer;
+use libc::STDERR_FILENO;
+use libc::STDIN_FILENO;
+use libc::STDOUT_FILENO;
+ghost use mathlib.Core.Path.{_≡_};
+ghost use Prim.Native.Nat.{_≤_, _<_};
+ghost use lib.ListN.{length};
+ghost use Rattle.redirect_image.specs.Numbers.{WRONG, stepped, read as readOf};
+
+// Longer than an image may be, so that one that is too long is seen to be.
+fn buffer() -> [u8; 65540]
+    ensures { λ r. ⌜ 65540 ≡ length r ⌝ }
+{
+    [0; 65540]
+}
+
+// Room for every name.
+fn names() -> [u32; 512]
+    ensures { λ r. ⌜ 512 ≡ length r ⌝ }
+{
+    [0; 512]
+}
+
+// A number and one more digit; 4,294,967,296 stands for what is no number of 32 bits.
+fn step(x: u64, digit: u8) -> u64
+    requires { ⌜ x ≤ WRONG ⌝ }
+    ensures { λ r. ⌜ (r ≡ stepped x digit) × (r ≤ WRONG) ⌝ }
+{
+    if digit < 48 {
+        return 4294967296;
+    }
+    if 57 < digit {
+        return 4294967296;
+    }
+    let next = 10 * x + (digit as u64 - 48);
+    if 4294967296 < next {
+        return 4294967296;
+    }
+    next
+}
+
+// A decimal number.
+fn read(text: &[u8]) -> u64
+    ensures { λ r. ⌜ (r ≡ readOf (now (text .entry))) × (r ≤ WRONG) ⌝ }
+{
+    if text.len() == 0 {
+        return 4294967296;
+    }
+    let mut x = 0;
+    let mut i = 0;
+    while i < text.len() {
+        let j = i;
+        i += 1;
+        x = step(x, text[j]);
+    }
+    x
+}
+
+// Argument i as a number.
+fn argument(i: usize) -> u64
+    ensures { λ r. ⌜ r ≤ WRONG ⌝ }
+{
+    let mut text = io::buffer();
+    let n = os::arg(i, &mut text);
+    if os::errno() != 0 {
+        return 4294967296;
+    }
+    read(&text[..n])
+}
+
+fn say(text: &[u8]) {
+    io::write_all(STDERR_FILENO, text);
+}
+
+fn usage() {
+    say(
+        b"usage: redirect_image ORIGINAL REPLACEMENT [OMITTED ..] < IMAGE > REDIRECTED, where functions are given by the numbers of their names\n",
+    );
+}
+
+fn wrong(i: usize) {
+    say(b"redirect_image: argument ");
+    io::print_decimal(STDERR_FILENO, i as u64);
+    say(b" is no number of a name\n");
+}
+
+// What a number of document 01 means.
+fn meaning(k: u32) {
+    if k == 1 {
+        say(b": the size, the edition or the total of words is wrong\n");
+    } else if k == 2 {
+        say(b": the layout or the padding is wrong, or a limit is passed\n");
+    } else if k == 3 {
+        say(b": a number or a code is out of range, or a kind stands where it is barred\n");
+    } else if k == 4 {
+        say(b": a reference is not to a lower number\n");
+    } else if k == 5 {
+        say(b": a name is missing, or names, named numbers or special keys are equal\n");
+    } else if k == 6 {
+        say(b": a rule of scope is broken\n");
+    } else if k == 8 {
+        say(b": no function bears the original's name\n");
+    } else if k == 9 {
+        say(b": no function bears the replacement's name\n");
+    } else if k == 10 {
+        say(b": the original and the replacement have other argument types\n");
+    } else if k == 11 {
+        say(b": the original and the replacement have other result types\n");
+    } else {
+        say(b": a number given by the caller lies outside its table\n");
+    }
+}
+
+fn refused(k: u32) {
+    say(b"redirect_image: refused ");
+    io::print_decimal(STDERR_FILENO, k as u64);
+    meaning(k);
+}
+
+// The first n bytes, redirected.
+fn redirect(image: &mut [u8], n: usize, original: u32, replacement: u32, omit: &[u32]) {
+    if n <= image.len() {
+        match layered::redirect_function(&mut image[..n], original, replacement, omit) {
+            Answer::Done(_, _) => {
+                if !io::write_all(STDOUT_FILENO, &image[..n]) {
+                    os::fail(b"redirect_image: standard output");
+                }
+            }
+            Answer::Refused(k) => {
+                refused(k);
+            }
+        }
+    }
+}
+
+// The numbers of the arguments from the third on; or the first argument that is none.
+fn omitted(omit: &mut [u32; 512], count: usize) -> usize
+    requires { ⌜ length (now omit) ≡ 512 ⌝ }
+    requires { ⌜ count ≤ 512 ⌝ }
+    ensures { λ _. ⌜ length (now (omit .exit)) ≡ 512 ⌝ }
+{
+    let mut i = 0;
+    while i < count {
+        let j = i;
+        i += 1;
+        let x = argument(j + 3);
+        if x == 4294967296 {
+            return j + 3;
+        }
+        omit[j] = x as u32;
+    }
+    0
+}
+
+fn run(original: u32, replacement: u32, count: usize)
+    requires { ⌜ count ≤ 512 ⌝ }
+{
+    let mut omit = names();
+    let bad = omitted(&mut omit, count);
+    if bad != 0 {
+        wrong(bad);
+        return;
+    }
+    let mut image = buffer();
+    let n = io::read_full(STDIN_FILENO, &mut image);
+    redirect(&mut image, n, original, replacement, &omit[..count]);
+}
+
+fn main() {
+    let count = os::arg_count();
+    if count < 3 {
+        usage();
+        return;
+    }
+    if 515 < count {
+        say(b"redirect_image: more names are omitted than an image may have, 512\n");
+        return;
+    }
+    let original = argument(1);
+    if original == 4294967296 {
+        wrong(1);
+        return;
+    }
+    let replacement = argument(2);
+    if replacement == 4294967296 {
+        wrong(2);
+        return;
+    }
+    run(original as u32, replacement as u32, count - 3);
+}
