@@ -27,6 +27,34 @@ extern "C" {
  */
 uint32_t wuldgisp_intake(const uint8_t *image, size_t image_len);
 
+/* Order: the functions of an image, callees first, by rank and then by source number.
+ *
+ * image, image_len: the bytes of a module image; they are only read.
+ * order, order_len: room for source numbers. Of an image that is accepted the function that comes out as number i has the source number order[i],
+ *   as far as there is room; 256 is always enough. What is not written, like all of it where the image is refused, stays as it was.
+ * Answers in the low half (its lowest 32 bits) 0 if it is accepted, and then in the high half the count of functions. Else the low half is a refusal:
+ *   1 to 6  as intake answers
+ *   12      a ring of calls; the high half is the count of functions from which a chain of calls reaches a ring
+ */
+uint64_t wuldgisp_order(const uint8_t *image, size_t image_len, uint32_t *order, size_t order_len);
+
+/* Redirect: calls of one function become calls of another, in the image itself.
+ *
+ * image, image_len: the bytes of a module image. Where the call is accepted, Call statements and CallResult expressions that name the original name
+ *   the replacement, everywhere but in the replacement and in the omitted functions; entry points always change. Where it is refused, no byte changes.
+ * original, replacement: the functions, by the numbers of their names.
+ * omit, omit_len: the functions that stay as they are, by the numbers of their names; they are only read.
+ * Answers in the low half 0 if it is accepted, and then in the high half the original's function number and 65,536 times the replacement's. Else the
+ * low half is a refusal and the high half is 0:
+ *   1 to 6  as intake answers
+ *   13      a name number outside the table of names
+ *   8       no function has the original's name
+ *   9       no function has the replacement's name
+ *   10      an argument type differs, up to the shorter list
+ *   11      the result types differ, or one of the two has none
+ */
+uint64_t wuldgisp_redirect(uint8_t *image, size_t image_len, uint32_t original, uint32_t replacement, const uint32_t *omit, size_t omit_len);
+
 #ifdef __cplusplus
 }
 #endif

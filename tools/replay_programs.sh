@@ -1,0 +1,59 @@
+#!/usr/bin/env bash
+# Replays the vectors through the programs order and redirect_image and compares all that they write, byte for byte. Wants them in target/bin.
+set -euo pipefail
+cd "$(dirname "$0")/.."
+
+work=$(mktemp -d)
+trap 'rm -rf "$work"' EXIT
+
+orders=0
+for expected in vectors/*.order; do
+  target/bin/order < "${expected%.order}.img" > "$work/order"
+  cmp "$work/order" "$expected"
+  orders=$((orders + 1))
+done
+echo "$orders orders agree"
+
+# redirect_image with these arguments on an image; what it writes goes to $work/out and $work/err
+redirect() {
+  local image=$1
+  shift
+  target/bin/redirect_image "$@" < "$image" > "$work/out" 2> "$work/err"
+}
+
+# it wrote nothing but one line that begins with these words
+told() {
+  if [ -s "$work/out" ] || [ "$(wc -l < "$work/err")" != 1 ] || [[ "$(cat "$work/err")" != "$1"* ]]; then
+    echo "redirect_image: expected nothing but the line '$1..', and got:" >&2
+    cat "$work/err" >&2
+    exit 1
+  fi
+}
+
+redirects=0
+while IFS='|' read -r name both omit answer; do
+  # shellcheck disable=SC2086  # the numbers are words apart
+  redirect "vectors/$name.img" $both $omit
+  if [ "$answer" = ok ]; then
+    cmp "$work/out" "vectors/$name.redirected"
+    cmp "$work/err" /dev/null
+  else
+    told "redirect_image: $answer: "
+  fi
+  redirects=$((redirects + 1))
+done < <(tr '\t' '|' < vectors/redirect.tsv)
+echo "$redirects redirects agree"
+
+image=vectors/r000.img
+redirect "$image" && told "usage: redirect_image "
+redirect "$image" 0 && told "usage: redirect_image "
+redirect "$image" x 1 && told "redirect_image: argument 1 is no number of a name"
+redirect "$image" 0 -1 && told "redirect_image: argument 2 is no number of a name"
+redirect "$image" 0 1 2 "" && told "redirect_image: argument 4 is no number of a name"
+redirect "$image" 0 4294967296 && told "redirect_image: argument 2 is no number of a name"
+redirect "$image" 0 4294967295 && told "redirect_image: refused 13: "
+redirect "$image" 0 1 $(seq 513) && told "redirect_image: more names are omitted than an image may have"
+redirect /dev/null 0 1 && told "redirect_image: refused 1: "
+head -c 70000 /dev/zero > "$work/long"
+redirect "$work/long" 0 1 && told "redirect_image: refused 1: "
+echo "wrong arguments are told in one line"
