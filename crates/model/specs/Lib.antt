@@ -28,3 +28,4 @@ pub mod LowerExamples
 pub mod NamesExamples
 pub mod NumbersExamples
 pub mod RedirectExamples
+pub mod Marked

@@ -1,4 +1,4 @@
--- Redirecting by example: P7 and P8 of document 01, where calls stay and where they change, and each refusal. One table, one theorem.
+-- Redirecting by example: where calls stay and where they change, and each refusal. One table, one theorem; P7 and P8 are in Marked.antt.
 use mathlib.Core.Path.{_≡_, refl}
 use mathlib.Core.Bool.{Bool, true, false, _&&_, _||_, cond, not}
 use mathlib.Core.List.{List, [], _∷_, _++_, map}
@@ -11,13 +11,11 @@ use Rattle.model.specs.Table.{WORD, SPAN, UPTO, NAME, TYPE, CALLEE, FUNC
 use Rattle.model.specs.Tree.{Block, call, end, _then_, Range, Function, Entry, optOf, wordOf, kindOf, sizeB, sizeC, flatAll, flatList, flatX, flatS, flatBlock, flat}
 use Rattle.model.specs.Module.{Module}
 use Rattle.model.specs.Carry.{carryCell, carryOpt, carryRange, carryS, carryFunction, carryEntry}
-use Rattle.model.specs.Calls.{Order, ordered, ring, numbers, any, keep, free, held, Rounds, round, rounds, answer, order}
-use Rattle.model.specs.Callees.{calleesS, calleesAt, calls, orderOf}
 use Rattle.model.specs.SampleBodies.{does, called}
-use Rattle.model.specs.Redirect.{nameWord, find, omitted, allBelow, argumentTypes, agree, typeBehind, resultType, same, redirecting, redirectFn, redirectEntry, stays, redirectFns, withFunctions, withEntries, redirect, Answer, redirected, outside, noOriginal, noReplacement, argumentsDiffer, resultsDiffer, refusal, after, nothing, function, compared, withReplacement, withOriginal, redirectFunction}
+use Rattle.model.specs.Redirect.{nameWord, find, omitted, allBelow, argumentTypes, agree, typeBehind, resultType, same, redirecting, redirectFn, redirectEntry, stays, redirectFns, withFunctions, withEntries, redirect, Answer, redirected, outside, noOriginal, noReplacement, argumentsDiffer, resultsDiffer, refusal, nothing, function, compared, withReplacement, withOriginal, redirectFunction}
 
 -- a function by its name number, argument types, result, expressions and body
-abbrev made : ℕ → List ℕ → Cells → List Cells → Block Range → Function
+abbrev pub made : ℕ → List ℕ → Cells → List Cells → Block Range → Function
 made name args result xs b = record {
   head = (NAME, suc name) ∷ (SPAN, 0) ∷ (UPTO, 0) ∷ [];
   arguments = map (λ t. (NAME, 0) ∷ (TYPE, t) ∷ (WORD, 0) ∷ (WORD, 0) ∷ (WORD, 0) ∷ (WORD, 0) ∷ (WORD, 0) ∷ (WORD, 0) ∷ []) args;
@@ -28,35 +26,35 @@ made name args result xs b = record {
   body = b;
 }
 
-abbrev no-result : Cells
+abbrev pub no-result : Cells
 no-result = (RETURNS, 0) ∷ []
 
 abbrev result-of : ℕ → Cells
 result-of t = (RETURNS, 1) ∷ (TYPE, t) ∷ (WORD, 0) ∷ (WORD, 0) ∷ (WORD, 0) ∷ (WORD, 0) ∷ (WORD, 0) ∷ (WORD, 0) ∷ []
 
 -- one call, without arguments or result
-abbrev to : ℕ → Block Range
+abbrev pub to : ℕ → Block Range
 to f = does (call f [] none) then end
 
-abbrev plain : ℕ → Block Range → Function
+abbrev pub plain : ℕ → Block Range → Function
 plain name b = made name [] no-result [] b
 
 -- an entry point, whose function may bear a name
 abbrev entry : Function → Entry
 entry f = record { head = (NAME, 1) ∷ (WORD, 0) ∷ (WORD, 0) ∷ (WORD, 0) ∷ (WORD, 0) ∷ (WORD, 0) ∷ (WORD, 0) ∷ []; function = f }
 
-abbrev letter : ℕ → Cells
+abbrev pub letter : ℕ → Cells
 letter c = (TEXT, 1) ∷ (PAD, c) ∷ []
 
 -- four names: shade, tone, fog, and one that no function has
-abbrev holding : List Function → List Entry → Module
+abbrev pub holding : List Function → List Entry → Module
 holding fs es = record { names = letter 115 ∷ letter 116 ∷ letter 102 ∷ letter 120 ∷ []; types = []; constants = []; overrides = []; globals = []; exprs = []; functions = fs; entries = es; special = record { rays = (OPT-TYPE, 0) ∷ (OPT-TYPE, 0) ∷ (OPT-TYPE, 0) ∷ []; pairs = [] } }
 
 -- "P6 shade calls fog; tone; fog calls tone"
-abbrev shades : List Function
+abbrev pub shades : List Function
 shades = plain 0 (to 2) ∷ plain 1 end ∷ plain 2 (to 1) ∷ []
 
-abbrev P6 : Module
+abbrev pub P6 : Module
 P6 = holding shades []
 
 -- a function that calls tone (1) for a value, and one that calls fog for it
@@ -64,12 +62,6 @@ abbrev valued : ℕ → ℕ → Function
 valued name f = made name [] (result-of 0) (called f ∷ []) (does (call f [] (some 0)) then end)
 
 pub record Redirects : Type 0 where
-  -- "P7 P6 with fog replaced by tone: tone, shade, fog"
-  pub P7 : redirectFunction P6 2 1 [] ≡ redirected 2 1 (holding (plain 0 (to 1) ∷ plain 1 end ∷ plain 2 (to 1) ∷ []) [])
-  pub P7-order : orderOf (after P6 (redirectFunction P6 2 1 [])) ≡ ordered (1 ∷ 0 ∷ 2 ∷ [])
-  -- "P8 P6 with tone replaced by shade: 12, left 2"
-  pub P8 : redirectFunction P6 1 0 [] ≡ redirected 1 0 (holding (plain 0 (to 2) ∷ plain 1 end ∷ plain 2 (to 0) ∷ []) [])
-  pub P8-order : orderOf (after P6 (redirectFunction P6 1 0 [])) ≡ ring 2
   -- a function replaced by itself
   pub itself : redirectFunction P6 2 2 [] ≡ redirected 2 2 P6
   -- an omitted function stays; a name that no function has may be omitted
@@ -96,12 +88,8 @@ pub record Redirects : Type 0 where
   pub some-some : refusal (redirectFunction (holding (made 0 [] (result-of 1) [] end ∷ made 1 [] (result-of 0) [] end ∷ []) []) 0 1 []) ≡ 11
 
 pub redirects : Redirects
-unfolding optOf wordOf kindOf sizeB sizeC flatAll flatList flatX flatS flatBlock flat carryCell carryOpt carryRange carryS carryFunction carryEntry numbers any keep free held round rounds answer order calleesS calleesAt calls orderOf nameWord find omitted allBelow argumentTypes agree typeBehind resultType same redirecting redirectFn redirectEntry stays redirectFns withFunctions withEntries redirect refusal after nothing function compared withReplacement withOriginal redirectFunction
+unfolding optOf wordOf kindOf sizeB sizeC flatAll flatList flatX flatS flatBlock flat carryCell carryOpt carryRange carryS carryFunction carryEntry nameWord find omitted allBelow argumentTypes agree typeBehind resultType same redirecting redirectFn redirectEntry stays redirectFns withFunctions withEntries redirect refusal nothing function compared withReplacement withOriginal redirectFunction
 redirects = record {
-  P7 = refl;
-  P7-order = refl;
-  P8 = refl;
-  P8-order = refl;
   itself = refl;
   omits = refl;
   omits-none = refl;
