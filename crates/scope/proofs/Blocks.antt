@@ -69,8 +69,9 @@ pub record Goes (ws ts st ini u₀ : List ℕ) (count at fin keep : ℕ) (p : Pl
   pub δ′ : List ℕ
   pub κ : List ℕ
   pub scope : Scope count i (keptOf h keep fin) ρ′ δ′ u
+  pub aside-known : (e : ℕ) → has κ e ≡ true → e < count
   pub aside-in : (e : ℕ) → has κ e ≡ true → keep ≤ getD u e 0
-  pub aside-out : (e : ℕ) → has κ e ≡ false → getD u e 0 ≤ fin
+  pub aside-out : (e : ℕ) → e < count → has κ e ≡ false → getD u e 0 ≤ fin
   pub kept : Kept keep u₀ u
   pub left : fineB (exprsOf ws ts st count) (marks ws ts st count ini) rest p ρ′ δ′ ≡ fineB (exprsOf ws ts st count) (marks ws ts st count ini) b p ρ δ
   pub conts : cutB h (expand rest (marks ws ts st count ini)) ρ′ κ ≡ contB (expand b (marks ws ts st count ini)) ρ
@@ -178,15 +179,15 @@ pub leave : {count q k : ℕ} {ρ δ u : List ℕ} (q′ : ℕ) (u₁ ρ₁ δ�
 leave {count} {q} {k} {ρ} {δ} {u} q′ u₁ ρ₁ δ₁ s h l p t = record {
   long = t .long;
   later = omega (arith, s .later);
+  known = s .known;
   inside = λ e g. let i : 0 < getD u e 0 = omega (arith, s .inside e g) in omega (arith, p .same e i, s .inside e g);
-  outside = λ e g. go e g (either (getD u e 0) 0);
+  outside = λ e i g. go e i g (either (getD u e 0) 0);
   done = t .done;
-  none = t .none;
 }
   where
-    go : (e : ℕ) → has ρ e ≡ false → (getD u e 0 ≡ 0) ⊎ (getD u e 0 ≡ 0 → ⊥) → getD u₁ e 0 ≤ q′
-    go e g (inl z) = p .most e z
-    go e g (inr n) = let i : 0 < getD u e 0 = omega arith in omega (arith, p .same e i, s .outside e g)
+    go : (e : ℕ) → e < count → has ρ e ≡ false → (getD u e 0 ≡ 0) ⊎ (getD u e 0 ≡ 0 → ⊥) → getD u₁ e 0 ≤ q′
+    go e i g (inl z) = p .most e z
+    go e i g (inr n) = let m : 0 < getD u e 0 = omega arith in omega (arith, p .same e m, s .outside e i g)
 
 -- ---- the loop over a block
 module _ (ws ts st ini u₀ : List ℕ) (count at fin keep : ℕ) (p : Place) (here : BlockHere ws ts st count at fin keep) where
@@ -214,8 +215,9 @@ module _ (ws ts st ini u₀ : List ℕ) (count at fin keep : ℕ) (p : Place) (h
       δ′ = δ;
       κ = ρ;
       scope = scope-on (at + 1) (omega arith) s;
+      aside-known = s .known;
       aside-in = s .inside;
-      aside-out = λ e g. omega (arith, s .outside e g, block-long ws ts at fin B (here .holds));
+      aside-out = λ e i g. omega (arith, s .outside e i g, block-long ws ts at fin B (here .holds));
       kept = kept-all keep u₀;
       left = refl;
       conts = refl;
@@ -303,6 +305,14 @@ module _ (ws ts st ini u₀ : List ℕ) (count at fin keep : ℕ) (p : Place) (h
             kept-next : Kept keep u u₁
             kept-next = kept-more keep (kept-high (g .h)) (f .kept fine)
 
+            known-next : (e : ℕ) → has κ′ e ≡ true → e < count
+            unfolding κ′ aside ρ″
+            known-next e = go (g .h)
+              where
+                go : (h : Bool) → has (aside h (g .κ) ρ″) e ≡ true → e < count
+                go true q = g .aside-known e q
+                go false q = f .scope fine .known e q
+
             in-next : (e : ℕ) → has κ′ e ≡ true → keep ≤ getD u₁ e 0
             unfolding κ′ aside keptOf ρ″
             in-next e = go (g .h) (f .scope fine)
@@ -311,17 +321,17 @@ module _ (ws ts st ini u₀ : List ℕ) (count at fin keep : ℕ) (p : Place) (h
                 go true t q = let z : 0 < getD u e 0 = omega (arith, g .aside-in e q, here .keeps, l) in omega (arith, g .aside-in e q, f .kept fine .same e z)
                 go false t q = t .inside e q
 
-            out-next : (e : ℕ) → has κ′ e ≡ false → getD u₁ e 0 ≤ fin
+            out-next : (e : ℕ) → e < count → has κ′ e ≡ false → getD u₁ e 0 ≤ fin
             unfolding κ′ aside keptOf ρ″
-            out-next e = go (g .h) (f .scope fine) (f .kept fine)
+            out-next e b = go (g .h) (f .scope fine) (f .kept fine)
               where
                 old : Kept fin u u₁ → getD u e 0 ≤ fin → (getD u e 0 ≡ 0) ⊎ (getD u e 0 ≡ 0 → ⊥) → getD u₁ e 0 ≤ fin
                 old t q (inl z) = t .most e z
                 old t q (inr m) = let z : 0 < getD u e 0 = omega arith in omega (arith, t .same e z)
 
                 go : (h : Bool) → Scope count (i + w) (keptOf h keep fin) ρ″ (doneS (next l .s) (g .δ′)) u₁ → Kept (keptOf h keep fin) u u₁ → has (aside h (g .κ) ρ″) e ≡ false → getD u₁ e 0 ≤ fin
-                go true t m q = old m (g .aside-out e q) (either (getD u e 0) 0)
-                go false t m q = omega (arith, t .outside e q, block-far)
+                go true t m q = old m (g .aside-out e b q) (either (getD u e 0) 0)
+                go false t m q = omega (arith, t .outside e b q, block-far)
 
             conts-next : cutB (g .h || hs) (expand (next l .b) dr) ρ″ κ′ ≡ contB (expand B dr) ρ
             unfolding κ′ aside cutB ρ″
@@ -348,6 +358,7 @@ module _ (ws ts st ini u₀ : List ℕ) (count at fin keep : ℕ) (p : Place) (h
               δ′ = doneS (next l .s) (g .δ′);
               κ = κ′;
               scope = scope-next;
+              aside-known = known-next;
               aside-in = in-next;
               aside-out = out-next;
               kept = kept-then (g .kept) kept-next;
@@ -385,10 +396,10 @@ module _ (ws ts st ini u₀ : List ℕ) (count at fin keep : ℕ) (p : Place) (h
               scope = λ q. subst (λ x. Scope count fin keep x (doneB B δ) u) kappa (subst (λ x. Scope count fin keep (g .κ) x u) delta (record {
                 long = g .scope .long;
                 later = omega (arith, here .later, block-long ws ts at fin B (here .holds));
+                known = g .aside-known;
                 inside = g .aside-in;
                 outside = g .aside-out;
                 done = g .scope .done;
-                none = g .scope .none;
               }));
               kept = λ q. g .kept;
             }

@@ -170,13 +170,13 @@ module _ (ws ts st u : List ℕ) (count at stop keep : ℕ) (x : Exprs ws ts st 
       module _ (y : not ok ≡ false) where
         pub result-twice : 0 < getD u (r - 1) 0 → FoundO ws ts st count at stop keep u u false
         unfolding evalsOpt fresh
-        result-twice z = record { found = λ ρ δ s. tells-false (rw (o-is, sym ok-is, not-false ok y, s .done (r - 1), lt-ltb 0 (getD u (r - 1) 0) (omega arith))) }
+        result-twice z = record { found = λ ρ δ s. tells-false (rw (o-is, sym ok-is, not-false ok y, s .done (r - 1) i, lt-ltb 0 (getD u (r - 1) 0) (omega arith))) }
 
         pub result-fine : getD u (r - 1) 0 ≤ 0 → FoundO ws ts st count at stop keep u (set u (r - 1) keep) true
         unfolding evalsOpt fresh addOpt addE
         result-fine low = let z : getD u (r - 1) 0 ≡ 0 = omega arith in record {
           found = λ ρ δ s. rw o-is (record {
-            says = rw (sym ok-is, not-false ok y, s .done (r - 1), le-ltb 0 (getD u (r - 1) 0) (omega arith));
+            says = rw (sym ok-is, not-false ok y, s .done (r - 1) i, le-ltb 0 (getD u (r - 1) 0) (omega arith));
             scope = λ g. scope-add u (r - 1) keep z count at keep ρ δ s (x .placed .few) i (omega arith) refl;
             kept = λ g. kept-set u (r - 1) keep z keep (omega arith) (omega (arith, s .long, x .placed .few));
           });

@@ -114,11 +114,11 @@ module _ (ws ts st : List ℕ) where
         where
           inner : e < count → (b : Bool) → has ρ e ≡ b → elim (ltb at (getD u e 0)) [ true ↦ true | false ↦ standingKind (getD ws (getD st e 0) 0) ] ≡ (has ρ e || standing (exprsOf ws ts st count) e)
           inner i true g = rw (g, lt-ltb at (getD u e 0) (omega (arith, sc .inside e g)))
-          inner i false g = rw (g, le-ltb at (getD u e 0) (sc .outside e g)) (sym (standing-in x e i))
+          inner i false g = rw (g, le-ltb at (getD u e 0) (sc .outside e i g)) (sym (standing-in x e i))
 
           go : (b : Bool) → ltb e count ≡ b → (c : Bool) → has ρ e ≡ c → visibleAt ws st u count at e ≡ (has ρ e || standing (exprsOf ws ts st count) e)
           go true i c g = rw (visibleAt, i) (inner (ltb-true e count i) c g)
-          go false i true g = absurd (omega (arith, sc .inside e g, sc .none e (ltb-false e count i)))
+          go false i true g = absurd (omega (arith, sc .known e g, ltb-false e count i))
           go false i false g = rw (visibleAt, i, g) (sym (standing-out e (ltb-false e count i)))
 
       pub seen-is : (es : List ℕ) → allSeen es (visibleAt ws st u count at) ≡ allVis (standing (exprsOf ws ts st count)) ρ es
@@ -131,20 +131,20 @@ pub scope-on : {count q k : ℕ} {ρ δ u : List ℕ} (q′ : ℕ) → q ≤ q�
 scope-on q′ h s = record {
   long = s .long;
   later = omega (arith, s .later);
+  known = s .known;
   inside = s .inside;
-  outside = λ e g. omega (arith, s .outside e g);
+  outside = λ e i g. omega (arith, s .outside e i g);
   done = s .done;
-  none = s .none;
 }
 
 pub scope-less : {count q k : ℕ} {ρ δ u : List ℕ} (k′ : ℕ) → k′ ≤ k → Scope count q k ρ δ u → Scope count q k′ ρ δ u
 scope-less k′ h s = record {
   long = s .long;
   later = s .later;
+  known = s .known;
   inside = λ e g. omega (arith, s .inside e g);
   outside = s .outside;
   done = s .done;
-  none = s .none;
 }
 
 pub kept-all : (k : ℕ) (u : List ℕ) → Kept k u u
@@ -176,50 +176,51 @@ module _ (u : List ℕ) (e v : ℕ) (z : getD u e 0 ≡ 0) where
     set-long : e < length u
     set-long = omega (arith, s .long)
 
-    done-set : 0 < v → (x : ℕ) → (x ≡ e) ⊎ (x ≡ e → ⊥) → has (e ∷ δ) x ≡ ltb 0 (getD (set u e v) x 0)
-    done-set p x (inl q) = has-here x δ e q ∙ rw q (sym (ap (ltb 0) (getD-set-same u e v 0 set-long) ∙ lt-ltb 0 v p))
-    done-set p x (inr n) = has-there x δ e n ∙ s .done x ∙ ap (ltb 0) (sym (getD-set-other u e x v 0 n))
-
-    none-set : (x : ℕ) → count ≤ x → getD (set u e v) x 0 ≡ 0
-    none-set x g = getD-set-other u e x v 0 (λ q. omega arith) ∙ s .none x g
+    done-set : 0 < v → (x : ℕ) → x < count → (x ≡ e) ⊎ (x ≡ e → ⊥) → has (e ∷ δ) x ≡ ltb 0 (getD (set u e v) x 0)
+    done-set p x i (inl q) = has-here x δ e q ∙ rw q (sym (ap (ltb 0) (getD-set-same u e v 0 set-long) ∙ lt-ltb 0 v p))
+    done-set p x i (inr n) = has-there x δ e n ∙ s .done x i ∙ ap (ltb 0) (sym (getD-set-other u e x v 0 n))
 
     -- it comes into scope
     pub scope-add : v ≡ k → Scope count at k (e ∷ ρ) (e ∷ δ) (set u e v)
     scope-add is = record {
       long = length-set u e v ∙ s .long;
       later = s .later;
+      known = λ x g. known x g (either x e);
       inside = λ x g. inside x g (either x e);
-      outside = λ x g. outside x g (either x e);
-      done = λ x. done-set (omega arith) x (either x e);
-      none = none-set;
+      outside = λ x i g. outside x i g (either x e);
+      done = λ x i. done-set (omega arith) x i (either x e);
     }
       where
+        known : (x : ℕ) → has (e ∷ ρ) x ≡ true → (x ≡ e) ⊎ (x ≡ e → ⊥) → x < count
+        known x g (inl q) = omega arith
+        known x g (inr n) = s .known x (sym (has-there x ρ e n) ∙ g)
+
         inside : (x : ℕ) → has (e ∷ ρ) x ≡ true → (x ≡ e) ⊎ (x ≡ e → ⊥) → k ≤ getD (set u e v) x 0
         inside x g (inl q) = rw q (omega (arith, getD-set-same u e v 0 set-long))
         inside x g (inr n) = omega (arith, getD-set-other u e x v 0 n, s .inside x (sym (has-there x ρ e n) ∙ g))
 
-        outside : (x : ℕ) → has (e ∷ ρ) x ≡ false → (x ≡ e) ⊎ (x ≡ e → ⊥) → getD (set u e v) x 0 ≤ at
-        outside x g (inl q) = absurd-bool (has-here x ρ e q) g
-        outside x g (inr n) = omega (arith, getD-set-other u e x v 0 n, s .outside x (sym (has-there x ρ e n) ∙ g))
+        outside : (x : ℕ) → x < count → has (e ∷ ρ) x ≡ false → (x ≡ e) ⊎ (x ≡ e → ⊥) → getD (set u e v) x 0 ≤ at
+        outside x i g (inl q) = absurd-bool (has-here x ρ e q) g
+        outside x i g (inr n) = omega (arith, getD-set-other u e x v 0 n, s .outside x i (sym (has-there x ρ e n) ∙ g))
 
     -- it does not
     pub scope-mark : v ≡ 1 → Scope count at k ρ (e ∷ δ) (set u e v)
     scope-mark is = record {
       long = length-set u e v ∙ s .long;
       later = s .later;
+      known = s .known;
       inside = λ x g. inside x g (either x e);
-      outside = λ x g. outside x g (either x e);
-      done = λ x. done-set (omega arith) x (either x e);
-      none = none-set;
+      outside = λ x i g. outside x i g (either x e);
+      done = λ x i. done-set (omega arith) x i (either x e);
     }
       where
         inside : (x : ℕ) → has ρ x ≡ true → (x ≡ e) ⊎ (x ≡ e → ⊥) → k ≤ getD (set u e v) x 0
         inside x g (inl q) = let w : getD u x 0 ≡ 0 = ap (λ i. getD u i 0) q ∙ z in absurd (omega (arith, s .inside x g))
         inside x g (inr n) = omega (arith, getD-set-other u e x v 0 n, s .inside x g)
 
-        outside : (x : ℕ) → has ρ x ≡ false → (x ≡ e) ⊎ (x ≡ e → ⊥) → getD (set u e v) x 0 ≤ at
-        outside x g (inl q) = rw q (omega (arith, getD-set-same u e v 0 set-long, s .later))
-        outside x g (inr n) = omega (arith, getD-set-other u e x v 0 n, s .outside x g)
+        outside : (x : ℕ) → x < count → has ρ x ≡ false → (x ≡ e) ⊎ (x ≡ e → ⊥) → getD (set u e v) x 0 ≤ at
+        outside x i g (inl q) = rw q (omega (arith, getD-set-same u e v 0 set-long, s .later))
+        outside x i g (inr n) = omega (arith, getD-set-other u e x v 0 n, s .outside x i g)
 
 -- ---- a refusal
 pub tells-false : {count q k : ℕ} {u₀ u : List ℕ} {ok : Bool} {ρ δ : List ℕ} → ok ≡ false → Tells count q k u₀ u false ok ρ δ
@@ -258,11 +259,11 @@ module _ (ws ts st ini u : List ℕ) (count at keep e : ℕ) (x : Exprs ws ts st
     module _ (y : not em ≡ false) where
       pub evaluated-twice : (getD u e 0 ≡ 0 → ⊥) → FoundE ws ts st ini count at keep e u u false
       unfolding oneE
-      evaluated-twice n = record { found = λ ρ δ s. tells-false (rw (emitted-is, not-false em y, s .done e, lt-ltb 0 (getD u e 0) (omega arith))) }
+      evaluated-twice n = record { found = λ ρ δ s. tells-false (rw (emitted-is, not-false em y, s .done e i, lt-ltb 0 (getD u e 0) (omega arith))) }
 
       module _ (z : getD u e 0 ≡ 0) where
         new : {ρ δ : List ℕ} → Scope count at keep ρ δ u → has δ e ≡ false
-        new s = s .done e ∙ le-ltb 0 (getD u e 0) (omega arith)
+        new s = s .done e i ∙ le-ltb 0 (getD u e 0) (omega arith)
 
         pub evaluated-initial : (getD ini e 0 ≡ 0 → ⊥) → FoundE ws ts st ini count at keep e u (set u e 1) true
         unfolding oneE

@@ -6,8 +6,8 @@ use Prim.Native.Nat.{ℕ, zero, suc, _+_, _*_, _-_, _^_, _≤_, _<_}
 use native.Mathlib.Numerals.{add-one}
 use native.Mathlib.Omega.{arith}
 use lib.Dec.{eqb, ltb}
-use lib.ListN.{length, getD, drop, replicate, length-replicate}
-use lib.Seq.{slice, sets, ext-getD}
+use lib.ListN.{length, getD, drop, replicate}
+use lib.Seq.{slice, sets, length-sets, ext-getD}
 use borrow.Author.Tests.{eq-eqb, ne-eqb, lt-ltb, ltb-true, ltb-false, not-true, not-false}
 use Rattle.model.specs.Outcome.{Cell, Cells, class, word}
 use Rattle.model.specs.Table.{EXPR-KIND, EXPRESSIONS, TO, counted, expressionRow, limit}
@@ -27,7 +27,7 @@ use Rattle.numbers.proofs.Framing.{Word, lists-are}
 use Rattle.scope.specs.Fine.{keepAll, fineB}
 use Rattle.scope.specs.Tape.{cellsFrom, between, blockOf, HoldsB, Ends, recordOf, tableFrom, exprsOf, Placed, Exprs, marks}
 use Rattle.scope.specs.Lasts.{BlockHere}
-use Rattle.scope.specs.Functions.{Known, Tested, Stated, Scoped}
+use Rattle.scope.specs.Functions.{Lent, Known, Tested, Stated, Scoped}
 use Rattle.scope.proofs.Restated.{same, restated}
 use Rattle.scope.proofs.Scopes.{absurd-bool, expr-in}
 use Rattle.scope.proofs.Trees.{Runs, between-runs, block-is, block-held, ends-in}
@@ -168,9 +168,23 @@ module _ (words tags : List ℕ) (locals exprs end : ℕ) (pre : Known words tag
     pub known-few : e ≤ 1024
     known-few = many-few (pre .lists) e (e-is .0)
 
-    module _ (m l : List ℕ) (t : ℕ) (v : Visits e (inits count (drop (locals + 1) words)) (replicate 1024 0) (replicate 1024 0) 0 m l t) (st : List ℕ) (st-is : st ≡ sets (replicate 1025 0) 0 (finds (exprs + 1) (slice (exprs + 1) end tags))) where
+    module _ (st₀ l₀ u₀ : List ℕ) (lent : Lent st₀ l₀ u₀) (m l : List ℕ) (t : ℕ) (v : Visits e (inits count (drop (locals + 1) words)) (replicate 1024 0) l₀ 0 m l t) (st : List ℕ) (st-is : st ≡ sets st₀ 0 (finds (exprs + 1) (slice (exprs + 1) end tags))) where
       starts : (f : Function) → Lists words tags locals exprs end f → Starting f e (exprs + 1) st
-      starts f ls = starting ls e (e-is .0) (replicate 1025 0) st (length-replicate {A = ℕ} 1025 0) st-is
+      starts f ls = starting ls e (e-is .0) st₀ st (lent .starts-long) st-is
+
+      work : (f : Function) → Lists words tags locals exprs end f → Work f e m l t
+      work f ls = begun ls e (e-is .0) count (count-is .0) l₀ m l t (lent .list-long) v
+
+      pub known-reach : Reaching words tags st m l t e
+      known-reach = record {
+        function = pre .function;
+        locals = locals;
+        exprs = exprs;
+        end = end;
+        lists = pre .lists;
+        starting = starts (pre .function) (pre .lists);
+        work = work (pre .function) (pre .lists);
+      }
 
       pub known-named : (named : ℕ) → (named ≡ getD st e 0) × (named < 2 ^ 32) → named < 16384
       known-named named is = named-in (pre .function) (pre .lists) (e-is .0) (starts (pre .function) (pre .lists)) named is
@@ -179,14 +193,19 @@ module _ (words tags : List ℕ) (locals exprs end : ℕ) (pre : Known words tag
         pub known-body : BlockHere words tags st e (named + 1 + 2 * k) end end
         known-body = body-here (pre .function) (pre .lists) (e-is .0) (starts (pre .function) (pre .lists)) named named-is k k-is (pre .ends)
 
-        pub known-scoped : (q : Bool) (m₁ l₁ : List ℕ) → Reaches q words tags st m l t e m₁ l₁ → (r : Bool) → r ≡ fineB (exprsOf words tags st e) (marks words tags st e m₁) (blockOf words tags (named + 1 + 2 * k) end) inBody [] [] → Tested r words tags locals exprs end
-        known-scoped q m₁ l₁ got r is = record {
-          same = λ f ls i.
-              let sg = starts f ls in
-              let w = begun ls e (e-is .0) count (count-is .0) (replicate 1024 0) m l t (length-replicate {A = ℕ} 1024 0) v in
-              let fine : q ≡ true = got .same f locals exprs end ls sg w ∙ i in
-              scoped-is f ls (e-is .0) sg named named-is k k-is m₁ l₁ (got .left fine f locals exprs end ls sg w) r is;
-        }
+        module _ (q : Bool) (m₁ l₁ : List ℕ) (got : Reaches q words tags st m l t e m₁ l₁) where
+          left : (f : Function) → Lists words tags locals exprs end f → initialised f ≡ true → Work f e m₁ l₁ 0
+          left f ls i = got .left (got .same f locals exprs end ls (starts f ls) (work f ls) ∙ i) f locals exprs end ls (starts f ls) (work f ls)
+
+          pub known-scoped : (r : Bool) → r ≡ fineB (exprsOf words tags st e) (marks words tags st e m₁) (blockOf words tags (named + 1 + 2 * k) end) inBody [] [] → Tested r words tags locals exprs end
+          known-scoped r is = record { same = λ f ls i. scoped-is f ls (e-is .0) (starts f ls) named named-is k k-is m₁ l₁ (left f ls i) r is }
+
+          pub known-lent : (u₁ : List ℕ) → length u₁ ≡ 1024 → Lent st l₁ u₁
+          known-lent u₁ long = record {
+            starts-long = ap length st-is ∙ length-sets st₀ 0 (finds (exprs + 1) (slice (exprs + 1) end tags)) ∙ lent .starts-long;
+            list-long = left (pre .function) (pre .lists) (pre .inits) .room .list-long;
+            until-long = long;
+          }
 
 -- ---- from the record's start on
 module _ (words tags : List ℕ) (at from end : ℕ) (pre : Stated words tags at from end) where

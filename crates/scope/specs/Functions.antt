@@ -14,6 +14,12 @@ use Rattle.model.specs.Scope.{scoped, allScoped, entriesScoped}
 use Rattle.numbers.specs.Ranges.{Frame, Lists}
 use Rattle.scope.specs.Tape.{Ends}
 
+-- the arrays that a pass works in: where expressions start, what is still to be visited, and how long each lasts
+pub record Lent (starts list until : List ℕ) : Type 0 where
+  pub starts-long : length starts ≡ 1025
+  pub list-long : length list ≡ 1024
+  pub until-long : length until ≡ 1024
+
 -- its lists of locals and expressions have their numbers at the words `locals` and `exprs`
 pub record Known (words tags : List ℕ) (locals exprs end : ℕ) : Type 0 where
   pub function : Function

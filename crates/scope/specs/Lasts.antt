@@ -1,4 +1,4 @@
--- How long each expression stays in scope. Beside expression e stands the word up to which it is in scope: 0 while it is not evaluated. At the word q, in a block whose scope stays at least up to the word k, those in scope (ρ) last up to k at least, and the others up to q at most.
+-- How long each expression stays in scope. Beside expression e, of count, stands the word up to which it is in scope: 0 while it is not evaluated; what stands behind them is left from another function. At the word q, in a block whose scope stays at least up to the word k, those in scope (ρ) last up to k at least, and the others up to q at most.
 use mathlib.Core.Path.{_≡_}
 use mathlib.Core.Bool.{Bool, true, false, _&&_}
 use mathlib.Core.List.{List, [], _∷_}
@@ -16,10 +16,15 @@ use Rattle.scope.specs.Tape.{between, blockOf, stmtOf, HoldsB, HoldsS, E
 pub record Scope (count q k : ℕ) (ρ δ u : List ℕ) : Type 0 where
   pub long : length u ≡ 1024
   pub later : 0 < q
+  pub known : (e : ℕ) → has ρ e ≡ true → e < count
   pub inside : (e : ℕ) → has ρ e ≡ true → k ≤ getD u e 0
-  pub outside : (e : ℕ) → has ρ e ≡ false → getD u e 0 ≤ q
-  pub done : (e : ℕ) → has δ e ≡ ltb 0 (getD u e 0)
-  pub none : (e : ℕ) → count ≤ e → getD u e 0 ≡ 0
+  pub outside : (e : ℕ) → e < count → has ρ e ≡ false → getD u e 0 ≤ q
+  pub done : (e : ℕ) → e < count → has δ e ≡ ltb 0 (getD u e 0)
+
+-- none of the first count is evaluated
+pub record Cleared (u : List ℕ) (count : ℕ) : Type 0 where
+  pub long : length u ≡ 1024
+  pub none : (e : ℕ) → e < count → getD u e 0 ≡ 0
 
 -- what was evaluated lasts as before, and what was not lasts at most up to k
 pub record Kept (k : ℕ) (u₀ u : List ℕ) : Type 0 where

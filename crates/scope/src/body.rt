@@ -12,7 +12,7 @@ ghost use Rattle.model.specs.Operands.{operand, opsOf, resultOf, standingKind, 
 ghost use Rattle.model.specs.Scope.{inBody};
 ghost use Rattle.scope.specs.Fine.{fineB};
 ghost use Rattle.scope.specs.Tape.{between, blockOf, Steps, stepped, Placed, Exprs, exprsOf, marks};
-ghost use Rattle.scope.specs.Lasts.{visibleAt, allSeen, fitsResult, placeOf, keptOf, told, StmtHere, BlockHere, FoundS, FoundB, FoundE, FoundR, FoundO, FoundL};
+ghost use Rattle.scope.specs.Lasts.{Cleared, visibleAt, allSeen, fitsResult, placeOf, keptOf, told, StmtHere, BlockHere, FoundS, FoundB, FoundE, FoundR, FoundO, FoundL};
 
 pub fn wide(x: u32) -> usize
     ensures { λ r. ⌜ (r ≡ x) × (r < 2 ^ 32) ⌝ }
@@ -593,26 +593,43 @@ fn block(
     cut
 }
 
+// Nothing is evaluated: 0 beside each of the first `count` expressions. What stands behind them is left from another function, and is not read.
+fn clear(until: &mut [usize; 1024], count: usize)
+    requires { ⌜ count ≤ 1024 ⌝ }
+    requires { ⌜ length (now until) ≡ 1024 ⌝ }
+    ensures { λ _. ⌜ Cleared (now (until .exit)) count ⌝ }
+{
+    let mut i = 0;
+    while i < count {
+        let j = i;
+        i += 1;
+        until[j] = 0;
+    }
+}
+
 // Is the body from the word `at` to the word `end` in scope?
 pub fn body(
     words: &[u32; 16384],
     tags: &[u8; 16384],
     starts: &[u32; 1025],
     initial: &[u8; 1024],
+    until: &mut [usize; 1024],
     count: usize,
     at: usize,
     end: usize,
 ) -> bool
     requires { ⌜ BlockHere (now words) (now tags) (now starts) count at end end ⌝ }
+    requires { ⌜ length (now until) ≡ 1024 ⌝ }
     ensures { λ r. ⌜ r ≡ fineB (exprsOf (now (words .entry)) (now (tags .entry)) (now (starts .entry)) count) (marks (now (words .entry)) (now (tags .entry)) (now (starts .entry)) count (now (initial .entry))) (blockOf (now (words .entry)) (now (tags .entry)) at end) inBody [] [] ⌝ }
+    ensures { λ r. ⌜ (r ≡ true → length (now (until .exit)) ≡ 1024) ⌝ }
 {
-    let mut until = [0usize; 1024];
+    clear(until, count);
     let r = block(
         words,
         tags,
         starts,
         initial,
-        &mut until,
+        until,
         count,
         at,
         end,

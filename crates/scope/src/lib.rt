@@ -1,4 +1,6 @@
-// Refusal 6: the Scope paragraph of document 01, in one pass over each body.
+// Refusal 6: the Scope paragraph of document 01, in one pass over each body. The large arrays that a pass works in are made once for an image and
+// lent to one function after the other. `starts` and `list` are written before they are read, and of `until` each body clears as much as its function
+// has expressions. What is lent comes back as long as it was where the answer is yes; after a no there is no next function.
 pub mod body;
 
 use body::body;
@@ -9,51 +11,75 @@ use numbers::initial::roots;
 use numbers::record_at;
 use numbers::record_end;
 ghost use mathlib.Core.Path.{_≡_};
+ghost use mathlib.Core.Bool.{true};
 ghost use Rattle.model.specs.Taped.{Tape};
 ghost use Rattle.model.specs.Scope.{inScope};
 ghost use Rattle.numbers.specs.Ranges.{Says};
-ghost use Rattle.scope.specs.Functions.{Known, Tested, Stated, Scoped, Numbered, functionsScoped, entryPointsScoped};
+ghost use Rattle.scope.specs.Functions.{Lent, Known, Tested, Stated, Scoped, Numbered, functionsScoped, entryPointsScoped};
 
 // Is the body of a function in scope? Its lists of locals and expressions have their numbers at the words `locals` and `exprs`.
 pub fn scoped(
     words: &[u32; 16384],
     tags: &[u8; 16384],
+    starts: &mut [u32; 1025],
+    list: &mut [u32; 1024],
+    until: &mut [usize; 1024],
     locals: usize,
     exprs: usize,
     end: usize,
 ) -> bool
     requires { ⌜ Known (now words) (now tags) locals exprs end ⌝ }
+    requires { ⌜ Lent (now starts) (now list) (now until) ⌝ }
     ensures { λ r. ⌜ Tested r (now (words .entry)) (now (tags .entry)) locals exprs end ⌝ }
+    ensures { λ r. ⌜ (r ≡ true → Lent (now (starts .exit)) (now (list .exit)) (now (until .exit))) ⌝ }
 {
     let mut initial = [0u8; 1024];
-    let mut list = [0u32; 1024];
-    let mut starts = [0u32; 1025];
     let count = wide(words[locals]);
     let e = wide(words[exprs]);
-    let top = roots(words, locals + 1, count, &mut initial, &mut list, e);
-    places(tags, exprs + 1, end, &mut starts);
-    reach(words, tags, &starts, &mut initial, &mut list, top, e);
+    let top = roots(words, locals + 1, count, &mut initial, list, e);
+    places(tags, exprs + 1, end, starts);
+    reach(words, tags, starts, &mut initial, list, top, e);
     let named = wide(starts[e]);
     let at = named + 1 + 2 * wide(words[named]);
-    body(words, tags, &starts, &initial, e, at, end)
+    body(words, tags, starts, &initial, until, e, at, end)
 }
 
 // The same of the record from `at` to `end` whose function starts at `from`.
-fn function(words: &[u32; 16384], tags: &[u8; 16384], at: usize, from: usize, end: usize) -> bool
+fn function(
+    words: &[u32; 16384],
+    tags: &[u8; 16384],
+    starts: &mut [u32; 1025],
+    list: &mut [u32; 1024],
+    until: &mut [usize; 1024],
+    at: usize,
+    from: usize,
+    end: usize,
+) -> bool
     requires { ⌜ Stated (now words) (now tags) at from end ⌝ }
+    requires { ⌜ Lent (now starts) (now list) (now until) ⌝ }
     ensures { λ r. ⌜ Scoped r (now (words .entry)) (now (tags .entry)) at from end ⌝ }
+    ensures { λ r. ⌜ (r ≡ true → Lent (now (starts .exit)) (now (list .exit)) (now (until .exit))) ⌝ }
 {
     let result = from + 4 + 8 * wide(words[from + 3]);
     let locals = result + 1 + 7 * wide(words[result]);
     let exprs = locals + 1 + 5 * wide(words[locals]);
-    scoped(words, tags, locals, exprs, end)
+    scoped(words, tags, starts, list, until, locals, exprs, end)
 }
 
 // Table functions.
-fn functions(words: &[u32; 16384], tags: &[u8; 16384], n: usize) -> bool
+fn functions(
+    words: &[u32; 16384],
+    tags: &[u8; 16384],
+    starts: &mut [u32; 1025],
+    list: &mut [u32; 1024],
+    until: &mut [usize; 1024],
+    n: usize,
+) -> bool
     requires { ⌜ Tape (now words) (now tags) n ⌝ }
     requires { ⌜ Numbered (now words) (now tags) n ⌝ }
+    requires { ⌜ Lent (now starts) (now list) (now until) ⌝ }
     ensures { λ r. ⌜ Says r (now (words .entry)) (now (tags .entry)) n functionsScoped ⌝ }
+    ensures { λ r. ⌜ (r ≡ true → Lent (now (starts .exit)) (now (list .exit)) (now (until .exit))) ⌝ }
 {
     let count = wide(words[14]);
     let mut j = 0;
@@ -62,7 +88,7 @@ fn functions(words: &[u32; 16384], tags: &[u8; 16384], n: usize) -> bool
         j += 1;
         let at = record_at(words, tags, n, 6, i);
         let end = record_end(words, tags, n, 6, i);
-        if !function(words, tags, at, at, end) {
+        if !function(words, tags, starts, list, until, at, at, end) {
             return false;
         }
     }
@@ -70,10 +96,19 @@ fn functions(words: &[u32; 16384], tags: &[u8; 16384], n: usize) -> bool
 }
 
 // Entry points: seven words stand before a function.
-fn entries(words: &[u32; 16384], tags: &[u8; 16384], n: usize) -> bool
+fn entries(
+    words: &[u32; 16384],
+    tags: &[u8; 16384],
+    starts: &mut [u32; 1025],
+    list: &mut [u32; 1024],
+    until: &mut [usize; 1024],
+    n: usize,
+) -> bool
     requires { ⌜ Tape (now words) (now tags) n ⌝ }
     requires { ⌜ Numbered (now words) (now tags) n ⌝ }
+    requires { ⌜ Lent (now starts) (now list) (now until) ⌝ }
     ensures { λ r. ⌜ Says r (now (words .entry)) (now (tags .entry)) n entryPointsScoped ⌝ }
+    ensures { λ r. ⌜ (r ≡ true → Lent (now (starts .exit)) (now (list .exit)) (now (until .exit))) ⌝ }
 {
     let count = wide(words[16]);
     let mut j = 0;
@@ -82,7 +117,7 @@ fn entries(words: &[u32; 16384], tags: &[u8; 16384], n: usize) -> bool
         j += 1;
         let at = record_at(words, tags, n, 7, i);
         let end = record_end(words, tags, n, 7, i);
-        if !function(words, tags, at, at + 7, end) {
+        if !function(words, tags, starts, list, until, at, at + 7, end) {
             return false;
         }
     }
@@ -95,8 +130,11 @@ pub fn in_scope(words: &[u32; 16384], tags: &[u8; 16384], n: usize) -> bool
     requires { ⌜ Numbered (now words) (now tags) n ⌝ }
     ensures { λ r. ⌜ Says r (now (words .entry)) (now (tags .entry)) n inScope ⌝ }
 {
-    if !functions(words, tags, n) {
+    let mut starts = [0u32; 1025];
+    let mut list = [0u32; 1024];
+    let mut until = [0usize; 1024];
+    if !functions(words, tags, &mut starts, &mut list, &mut until, n) {
         return false;
     }
-    entries(words, tags, n)
+    entries(words, tags, &mut starts, &mut list, &mut until, n)
 }
