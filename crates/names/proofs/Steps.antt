@@ -8,13 +8,13 @@ use native.Mathlib.Omega.{arith}
 use lib.Dec.{eqb, ltb}
 use lib.ListN.{length, getD, set, length-set, length-replicate}
 use lib.Seq.{slice, slice-cons, length-slice}
-use borrow.Author.Tests.{eq-eqb, ne-eqb, ltb-true, ltb-false, not-true, not-false}
+use borrow.Author.Tests.{eq-eqb, ne-eqb, ltb-true, ltb-false}
 use Rattle.model.specs.Table.{NAME, NAMED-EXPR, NAMED}
 use Rattle.model.specs.Module.{countAt, offsetAt, endAt}
 use Rattle.model.specs.View.{recordAt, recordEnd}
 use Rattle.model.specs.Between.{between, Stretch}
 use Rattle.model.specs.Carry.{Each, each-next}
-use Rattle.model.specs.Names.{present, absent, distinct, same, unlike, differ}
+use Rattle.model.specs.Names.{present, absent, same, unlike}
 use Rattle.laws.proofs.Betweens.{between-none, between-next, slice-none}
 use Rattle.names.specs.Passes.{listing, placeOf, numberAt, Placed, nameAt, Spelled, unnamed, NONE, marking, Small}
 
@@ -80,17 +80,9 @@ pub absent-done : (ws : List ℕ) (k x : ℕ) (whole : Bool) (n i : ℕ) → Ove
 unfolding absent
 absent-done ws k x whole n i o h = over-none (λ l. absent l x) (numberAt ws k) whole n i o h
 
-pub distinct-done : (ws : List ℕ) (k : ℕ) (whole : Bool) (n i : ℕ) → Over distinct (numberAt ws k) whole n i → n ≤ i → true ≡ whole
-unfolding distinct
-distinct-done ws k whole n i o h = over-none distinct (numberAt ws k) whole n i o h
-
 pub unlike-done : (ws x : List ℕ) (whole : Bool) (n i : ℕ) → Over (λ l. unlike l x) (nameAt ws) whole n i → n ≤ i → true ≡ whole
 unfolding unlike
 unlike-done ws x whole n i o h = over-none (λ l. unlike l x) (nameAt ws) whole n i o h
-
-pub differ-done : (ws : List ℕ) (whole : Bool) (n i : ℕ) → Over differ (nameAt ws) whole n i → n ≤ i → true ≡ whole
-unfolding differ
-differ-done ws whole n i o h = over-none differ (nameAt ws) whole n i o h
 
 -- a name that is there
 module _ (ws : List ℕ) (k n i : ℕ) (whole : Bool) (o : Over present (numberAt ws k) whole n i) (h : i < n) (x : ℕ) (is : x ≡ numberAt ws k i) where
@@ -111,19 +103,6 @@ module _ (ws : List ℕ) (k n i y : ℕ) (whole : Bool) (o : Over (λ l. absent 
   pub absent-next : (y ≡ x → ⊥) → Over (λ l. absent l y) (numberAt ws k) whole n (i + 1)
   unfolding absent
   absent-next e = over-on (λ l. absent l y) (numberAt ws k) whole n i o h (rw (absent, ne-eqb y (numberAt ws k i) λ z. e (z ∙ sym is)))
-
-module _ (ws : List ℕ) (k n i : ℕ) (whole : Bool) (o : Over distinct (numberAt ws k) whole n i) (h : i < n) (x : ℕ) (is : x ≡ numberAt ws k i)
-    (c : ℕ) (count : n ≡ c) (b : Bool) (found : b ≡ absent (listing (numberAt ws k) (c - (i + 1)) (i + 1)) x) where
-  tested : absent (listing (numberAt ws k) (n - (i + 1)) (i + 1)) (numberAt ws k i) ≡ b
-  tested = rw (count, ← is) (sym found)
-
-  pub distinct-fails : not b ≡ true → false ≡ whole
-  unfolding distinct
-  distinct-fails e = rw (tested, not-true b e) at (over-next distinct (numberAt ws k) whole n i o h)
-
-  pub distinct-next : not b ≡ false → Over distinct (numberAt ws k) whole n (i + 1)
-  unfolding distinct
-  distinct-next e = over-on distinct (numberAt ws k) whole n i o h (rw (distinct, tested, not-false b e))
 
 -- ---- names
 pub next-in : (j q : ℕ) → j < q → (j + 1 ≡ q → ⊥) → j + 1 < q
@@ -224,27 +203,16 @@ module _ (ws : List ℕ) (n i : ℕ) (x : List ℕ) (whole : Bool) (o : Over (λ
   unfolding unlike
   unlike-next e = over-on (λ l. unlike l x) (nameAt ws) whole n i o h (rw (unlike, sym is ∙ e))
 
-module _ (ws : List ℕ) (n i : ℕ) (whole : Bool) (o : Over differ (nameAt ws) whole n i) (h : i < n) (s : Spelled ws) (c : ℕ) (count : n ≡ c) (below : i < countAt 0 ws)
-    (a e : ℕ) (starts : a ≡ placeOf ws 0 i) (ends : e ≡ recordEnd 0 i ws) where
+-- a name by its first word and its length
+module _ {ws : List ℕ} {i a e : ℕ} (s : Spelled ws) (below : i < countAt 0 ws) (starts : a ≡ placeOf ws 0 i) (ends : e ≡ recordEnd 0 i ws) where
+  pub part-rising : a ≤ e
+  part-rising = name-rising ws 0 0 i a e s (omega arith) below starts ends
+
   pub part-fits : a + (e - a) ≤ 16384
-  part-fits = omega (arith, name-rising ws 0 0 i a e s (omega arith) below starts ends, name-within ws 0 0 i a e s (omega arith) below starts ends)
+  part-fits = omega (arith, part-rising, name-within ws 0 0 i a e s (omega arith) below starts ends)
 
-  part-is : slice a (a + (e - a)) ws ≡ nameAt ws i
-  part-is =
-      let z : a + (e - a) ≡ e = omega (arith, name-rising ws 0 0 i a e s (omega arith) below starts ends) in
-      ap (λ x. slice a x ws) z ∙ name-is ws 0 0 i a e s (omega arith) below starts ends
-
-  module _ (b : Bool) (found : b ≡ unlike (listing (nameAt ws) (c - (i + 1)) (i + 1)) (slice a (a + (e - a)) ws)) where
-    name-tested : unlike (listing (nameAt ws) (n - (i + 1)) (i + 1)) (nameAt ws i) ≡ b
-    name-tested = rw (count, ← part-is) (sym found)
-
-    pub differ-fails : not b ≡ true → false ≡ whole
-    unfolding differ
-    differ-fails q = rw (name-tested, not-true b q) at (over-next differ (nameAt ws) whole n i o h)
-
-    pub differ-next : not b ≡ false → Over differ (nameAt ws) whole n (i + 1)
-    unfolding differ
-    differ-next q = over-on differ (nameAt ws) whole n i o h (rw (differ, name-tested, not-false b q))
+  pub part-is : slice a (a + (e - a)) ws ≡ nameAt ws i
+  part-is = let z : a + (e - a) ≡ e = omega (arith, part-rising) in ap (λ x. slice a x ws) z ∙ name-is ws 0 0 i a e s (omega arith) below starts ends
 
 -- ---- named expressions
 module _ (b s w : ℕ) where

@@ -1,6 +1,8 @@
 // Refusal 5 of document 01: what has to have a name and has none, and what is equal and has to differ.
-// Cost: the named expressions are one linear pass, with marks. Names, names of functions and keys are compared by pairs; most pairs of names are
-// decided by their lengths or their first words. The worst case is 512 names of equal length that differ in the last byte: 130,816 pairs of 30 words, about 4 ms.
+// Cost: linear, but for marks that meet. The named expressions are one pass, with marks. So are names, names of functions and keys, from the last
+// to the first: each leaves a mark by its hash, and only one whose mark may be there already is compared with all later ones, which is one or two of
+// 512 names whose hashes fall as if by chance. Names or keys that are made to leave their marks at one place are still compared by pairs. The worst
+// case is 512 names of equal length and one place that differ in their last words: 130,816 pairs of 30 words, about 2 ms.
 ghost use mathlib.Core.Path.{_≡_};
 ghost use Prim.Native.Nat.{_+_, _-_, _*_, _^_, _≤_, _<_};
 ghost use lib.ListN.{length};
@@ -12,6 +14,7 @@ ghost use Rattle.model.specs.Between.{between, Stretch};
 ghost use Rattle.model.specs.Carry.{Each};
 ghost use Rattle.model.specs.Names.{present as presentOf, absent as absentOf, distinct as distinctOf, same as sameOf, unlike as unlikeOf, differ as differOf, named as namedOf, Numbered};
 ghost use Rattle.names.specs.Passes.{listing, placeOf, numberAt, Placed, nameAt, Spelled, unnamed as unnamedOf, NONE, marking, Small};
+ghost use Rattle.names.specs.Places.{mix as mixOf, hash as hashOf, itself, print as printOf, Leaves, Seen, New};
 
 fn wide(x: u32) -> usize
     ensures { λ r. ⌜ (r ≡ x) × (r < 2 ^ 32) ⌝ }
@@ -87,18 +90,60 @@ fn absent(words: &[u32; 16384], k: usize, from: usize, x: u32) -> bool
     true
 }
 
+// The mark that a hash leaves.
+fn print(h: usize) -> u8
+    ensures { λ r. ⌜ r ≡ printOf h ⌝ }
+{
+    (h % 254 + 1) as u8
+}
+
+// Whether the hash h has surely not left its mark at a place; it leaves it. No mark is 0, and where prints differ the mark is 255.
+fn mark(seen: &mut [u8], at: usize, h: usize) -> bool
+    requires { ⌜ at < length (now seen) ⌝ }
+    ensures { λ r. ⌜ Leaves (now (seen .entry)) at h (now (seen .exit)) r ⌝ }
+{
+    let own = print(h);
+    let old = seen[at];
+    if old == own {
+        return false;
+    }
+    if old == 255 {
+        return false;
+    }
+    if old == 0 {
+        seen[at] = own;
+        return true;
+    }
+    seen[at] = 255;
+    true
+}
+
+// Whether number j of section k is none of the later ones, which have left their marks; it leaves its own.
+fn new_number(words: &[u32; 16384], seen: &mut [u8], k: usize, j: usize) -> bool
+    requires { ⌜ Placed (now words) k ⌝ }
+    requires { ⌜ j < countAt k (now words) ⌝ }
+    requires { ⌜ j < 2 ^ 32 ⌝ }
+    requires { ⌜ Seen itself 1024 (numberAt (now words) k) (countAt k (now words)) (j + 1) (now seen) ⌝ }
+    ensures { λ r. ⌜ New absentOf itself 1024 (numberAt (now (words .entry)) k) (countAt k (now (words .entry))) j (now (seen .exit)) r ⌝ }
+{
+    let x = number(words, k, j);
+    let h = wide(x);
+    if mark(seen, h % 1024, h) {
+        return true;
+    }
+    absent(words, k, j + 1, x)
+}
+
 // Whether those of section k differ.
 fn distinct(words: &[u32; 16384], k: usize) -> bool
     requires { ⌜ Placed (now words) k ⌝ }
     ensures { λ r. ⌜ r ≡ distinctOf (listing (numberAt (now (words .entry)) k) (countAt k (now (words .entry))) 0) ⌝ }
 {
-    let n = count(words, k);
-    let mut i = 0;
-    while i < n {
-        let j = i;
-        i += 1;
-        let x = number(words, k, j);
-        if !absent(words, k, i, x) {
+    let mut seen = [0u8; 1024];
+    let mut i = count(words, k);
+    while 0 < i {
+        i -= 1;
+        if !new_number(words, &mut seen, k, i) {
             return false;
         }
     }
@@ -171,19 +216,58 @@ fn unlike(words: &[u32; 16384], from: usize, a: usize, n: usize) -> bool
     true
 }
 
+// The hash of a name whose words so far have the hash h, and whose next word is w.
+fn mix(h: usize, w: u32) -> usize
+    requires { ⌜ h < 2 ^ 24 ⌝ }
+    ensures { λ r. ⌜ (r ≡ mixOf h w) × (r < 2 ^ 24) ⌝ }
+{
+    (h + wide(w)) * 2654435769 / 1048576 % 16777216
+}
+
+// The hash of the n words from a.
+fn hash(words: &[u32; 16384], a: usize, n: usize) -> usize
+    requires { ⌜ length (now words) ≡ 16384 ⌝ }
+    requires { ⌜ a + n ≤ 16384 ⌝ }
+    ensures { λ r. ⌜ r ≡ hashOf (slice a (a + n) (now (words .entry))) ⌝ }
+{
+    let mut h = 0;
+    let mut i = 0;
+    while i < n {
+        let j = i;
+        i += 1;
+        h = mix(h, words[a + j]);
+    }
+    h
+}
+
+// Whether name j is none of the later ones, which have left their marks; it leaves its own.
+fn new_name(words: &[u32; 16384], seen: &mut [u8], j: usize) -> bool
+    requires { ⌜ Spelled (now words) ⌝ }
+    requires { ⌜ j < countAt 0 (now words) ⌝ }
+    requires { ⌜ j < 2 ^ 32 ⌝ }
+    requires { ⌜ Seen hashOf 4096 (nameAt (now words)) (countAt 0 (now words)) (j + 1) (now seen) ⌝ }
+    ensures { λ r. ⌜ New unlikeOf hashOf 4096 (nameAt (now (words .entry))) (countAt 0 (now (words .entry))) j (now (seen .exit)) r ⌝ }
+{
+    let a = place(words, 0, j);
+    let e = end(words, j);
+    let n = e - a;
+    let h = hash(words, a, n);
+    if mark(seen, h % 4096, h) {
+        return true;
+    }
+    unlike(words, j + 1, a, n)
+}
+
 // Whether the names differ.
 fn differ(words: &[u32; 16384]) -> bool
     requires { ⌜ Spelled (now words) ⌝ }
     ensures { λ r. ⌜ r ≡ differOf (listing (nameAt (now (words .entry))) (countAt 0 (now (words .entry))) 0) ⌝ }
 {
-    let most = count(words, 0);
-    let mut i = 0;
-    while i < most {
-        let j = i;
-        i += 1;
-        let a = place(words, 0, j);
-        let e = end(words, j);
-        if !unlike(words, i, a, e - a) {
+    let mut seen = [0u8; 4096];
+    let mut i = count(words, 0);
+    while 0 < i {
+        i -= 1;
+        if !new_name(words, &mut seen, i) {
             return false;
         }
     }

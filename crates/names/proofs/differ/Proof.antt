@@ -1,53 +1,46 @@
--- `names::differ` meets its contract: the invariant is that what is left from name i on says what the whole says.
-use mathlib.Core.Path.{refl}
-use Prim.Native.Nat.{_-_}
+-- `names::differ` meets its contract: the invariant is that the names from number i on differ and have their marks.
 use native.Mathlib.Omega.{arith}
 use Rattle.model.specs.Module.{countAt}
 use Rattle.model.specs.Names.{differ}
-use Rattle.names.specs.Passes.{listing, nameAt}
-use Rattle.names.proofs.Steps.{Over, over-all, name-rising, part-fits, differ-done, differ-fails, differ-next}
+use Rattle.names.specs.Passes.{nameAt}
+use Rattle.names.specs.Places.{hash}
+use Rattle.names.proofs.Places.{names, Down, down-all, down-seen, down-fails, down-next, down-done}
 use borrow.Author.Needs.{needs}
 use Rattle.names.proofs.differ.Statement.{statement}
 use Rattle.names.proofs.differ.Tie as tie
 
 abbrev Inv-loop : tie.InvT-loop
-Inv-loop words most i₀ i = Over differ (nameAt words) (differ (listing (nameAt words) (countAt 0 words) 0)) most i
+Inv-loop words seen₀ i₀ seen i = Down differ hash 4096 (nameAt words) (countAt 0 words) seen i
 
 abbrev μ-loop : tie.MeasureT-loop
-μ-loop words most i₀ i = most - i
+μ-loop words seen₀ i₀ seen i = i
 
 count-requires : tie.Need-count-requires Inv-loop μ-loop
 count-requires c κs = search needs
 
 loop-holds : tie.Need-loop-holds Inv-loop μ-loop
-loop-holds c = over-all differ (nameAt (c .before .args .words .now)) _ _ _ (c .count .ensures .0) refl
+loop-holds c = down-all names hash 4096 _ _ _ (c .count .ensures .0)
 
-add-i : tie.Need-add-i Inv-loop μ-loop
-add-i c = search needs
+sub-i : tie.Need-sub-i Inv-loop μ-loop
+sub-i c = search needs
 
-place-requires : tie.Need-place-requires Inv-loop μ-loop
-place-requires c κs = let h = c .before .before .count .ensures in (c .before .before .before .pre .placed, (omega arith, omega arith))
+slice-aggregate-new-name : tie.Need-slice-aggregate-new-name Inv-loop μ-loop
+slice-aggregate-new-name c = search needs
 
-end-requires : tie.Need-end-requires Inv-loop μ-loop
-end-requires c κs = let h = c .before .before .before .count .ensures in (c .before .before .before .before .pre, (omega arith, omega arith))
-
-sub-unlike : tie.Need-sub-unlike Inv-loop μ-loop
-sub-unlike c = let h = c .before .before .before .before .count .ensures in name-rising _ 0 0 _ _ _ (c .before .before .before .before .before .pre) (omega arith) (omega arith) (c .before .place .ensures .0) (c .end .ensures)
-
-unlike-requires : tie.Need-unlike-requires Inv-loop μ-loop
-unlike-requires c κs = let h = c .before .before .before .before .count .ensures in (c .before .before .before .before .before .pre, (part-fits _ _ _ _ (c .before .before .before .loop .inv) (c .before .before .loop-test .taken) (c .before .before .before .before .before .pre) _ (c .before .before .before .before .count .ensures .0) (omega arith) _ _ (c .before .place .ensures .0) (c .end .ensures), omega arith))
+new-name-requires : tie.Need-new-name-requires Inv-loop μ-loop
+new-name-requires c κs = let h = c .before .before .before .count .ensures in let o = c .before .before .loop .inv in (c .before .before .before .before .pre, (omega arith, (omega arith, down-seen names o (c .before .loop-test .taken))))
 
 returns : tie.Need-returns Inv-loop μ-loop
-returns c = let h = c .before .before .before .before .before .before .count .ensures in differ-fails _ _ _ _ (c .before .before .before .before .before .loop .inv) (c .before .before .before .before .loop-test .taken) (c .before .before .before .before .before .before .before .pre) _ (c .before .before .before .before .before .before .count .ensures .0) (omega arith) _ _ (c .before .before .before .place .ensures .0) (c .before .before .end .ensures) _ (c .before .unlike .ensures) (c .if1 .taken)
+returns c = down-fails names (c .before .before .before .before .before .loop .inv) (c .before .before .before .before .loop-test .taken) (c .before .before .new-name .ensures) (c .if1 .taken)
 
 loop-less : tie.Need-loop-less Inv-loop μ-loop
 loop-less c = search needs
 
 loop-again : tie.Need-loop-again Inv-loop μ-loop
-loop-again c = let h = c .before .before .before .before .before .before .count .ensures in differ-next _ _ _ _ (c .before .before .before .before .before .loop .inv) (c .before .before .before .before .loop-test .taken) (c .before .before .before .before .before .before .before .pre) _ (c .before .before .before .before .before .before .count .ensures .0) (omega arith) _ _ (c .before .before .before .place .ensures .0) (c .before .before .end .ensures) _ (c .before .unlike .ensures) (c .if1 .left)
+loop-again c = down-next names (c .before .before .before .before .before .loop .inv) (c .before .before .before .before .loop-test .taken) (c .before .before .new-name .ensures) (c .if1 .left)
 
 returns-2 : tie.Need-returns-2 Inv-loop μ-loop
-returns-2 c = differ-done _ _ _ _ (c .before .loop .inv) (c .loop-test .left)
+returns-2 c = down-done names (c .before .loop .inv) (c .loop-test .left)
 
 pub differ-spec : {M : Type 1} → statement M
 differ-spec =
@@ -57,11 +50,9 @@ differ-spec =
     μ-loop
     count-requires
     loop-holds
-    add-i
-    place-requires
-    end-requires
-    sub-unlike
-    unlike-requires
+    sub-i
+    slice-aggregate-new-name
+    new-name-requires
     returns
     loop-less
     loop-again
