@@ -7,10 +7,10 @@ use native.Mathlib.Omega.{arith}
 use lib.Dec.{eqb}
 use lib.ListN.{length, getD}
 use borrow.Author.Tests.{ltb-true, eqb-false, not-true}
-use Rattle.model.specs.Outcome.{Cells, word, laid}
+use Rattle.model.specs.Outcome.{Cells, word}
 use Rattle.model.specs.Table.{NAME, ARGUMENTS, LOCALS, EXPRESSIONS, NAMED, functionHead}
 use Rattle.model.specs.Tree.{Function, flatList, flatBlock, flat}
-use Rattle.model.specs.Module.{Module, read}
+use Rattle.model.specs.Module.{Module}
 use Rattle.model.specs.Taped.{Taped}
 use Rattle.model.specs.Carry.{Lays, lays-none, lays-next, Each, each-none, each-next, WellFunction, WellFormed}
 use Rattle.model.specs.Initial.{initialised}

@@ -8,10 +8,10 @@ use native.Mathlib.Omega.{arith}
 use lib.ListN.{length, getD, getElem?, take, length-take, length-drop}
 use lib.Seq.{slice}
 use borrow.Author.Tests.{ne-eqb, not-true, not-false}
-use Rattle.model.specs.Outcome.{Cells, word, laid}
+use Rattle.model.specs.Outcome.{Cells, word}
 use Rattle.model.specs.Table.{SPAN, UPTO, NAME, TYPE, WORD, KEY, nameRow, functionHead, entryHead}
 use Rattle.model.specs.Tree.{Function, Entry}
-use Rattle.model.specs.Module.{Module, countAt, offsetAt, flatModule, read, write}
+use Rattle.model.specs.Module.{Module, countAt, offsetAt, flatModule, write}
 use Rattle.model.specs.View.{tables, recordAt}
 use Rattle.model.specs.Taped.{Taped}
 use Rattle.model.specs.Between.{between}
@@ -20,7 +20,7 @@ use Rattle.model.specs.Names.{field, present, distinct, differ, functionsNamed,
 use Rattle.laws.proofs.Plain.{plain?}
 use Rattle.laws.proofs.Quiet.{Plainly, plain-none, plain-next, plainly}
 use Rattle.laws.proofs.Views.{sees-name, sees-pair, sees-special}
-use Rattle.laws.proofs.Modules.{write-read}
+use Rattle.laws.proofs.Tapes.{taped-same}
 use Rattle.laws.proofs.FunctionViews.{Part, part-end, part-word, part-words, parts, taped-held, taped-length, taped-count, taped-offset, taped-functions, taped-entries, taped-part, taped-function, taped-entry-head}
 use Rattle.laws.proofs.Betweens.{table-between, table-count, record-offset, record-part}
 use Rattle.names.specs.Passes.{listing, placeOf, numberAt, Placed, nameAt, Spelled, NONE, marking, Small}
@@ -217,10 +217,6 @@ module _ {words tags : List ℕ} {n : ℕ} {m : Module} (t : Taped words tags n 
     entries-few : (a e : ℕ) → a ≡ getD words 17 0 → e ≡ getD words 19 0 → Each Small (between tags words a e)
     unfolding offsetAt tables
     entries-few a e p q = rw (p, q) (rw (table-between t 7 (omega arith)) (entries-small (t .well .entries-ok .each) (few .in-entries)))
-
--- ---- words and tape hold one module
-taped-same : {words tags : List ℕ} {n : ℕ} {m o : Module} → Taped words tags n m → Taped words tags n o → m ≡ o
-taped-same {m} {o} t u = let p : laid m ≡ laid o = sym (write-read m (t .well)) ∙ ap read (sym (t .words-are) ∙ u .words-are) ∙ write-read o (u .well) in cc
 
 -- ---- what the code asks
 module _ {words tags : List ℕ} {n : ℕ} (v : Numbered words tags n) where

@@ -1,47 +1,33 @@
+-- `intake::test` meets its contract. Assumes nothing.
 use Rattle.intake.proofs.Tests.{number-fails, names-ready, scope-ready, order-fails, name-fails, scope-fails, all-pass}
 use borrow.Author.Needs.{needs}
 use Rattle.intake.proofs.test.Statement.{statement}
 use Rattle.intake.proofs.test.Tie as tie
-use Rattle.intake.proofs.test.Reads as reads
-use Rattle.intake.proofs.test.Lts as lts
-use Rattle.lower.proofs.lower.Reads as lower-reads
-use Rattle.names.proofs.named.Reads as named-reads
-use Rattle.numbers.proofs.numbered.Reads as numbered-reads
-use Rattle.scope.proofs.in_scope.Reads as in-scope-reads
 
--- src/lib.rt:24:9
 numbered-requires : tie.Need-numbered-requires
 numbered-requires c κs = search needs
 
--- src/lib.rt:25:9
 returns : tie.Need-returns
 returns c = search (number-fails, needs)
 
--- src/lib.rt:27:9
 lower-requires : tie.Need-lower-requires
 lower-requires c κs = search needs
 
--- src/lib.rt:28:9
 returns-2 : tie.Need-returns-2
 returns-2 c = search (order-fails, needs)
 
--- src/lib.rt:30:9
 named-requires : tie.Need-named-requires
 named-requires c κs = search (names-ready, needs)
 
--- src/lib.rt:31:9
 returns-3 : tie.Need-returns-3
 returns-3 c = search (name-fails, needs)
 
--- src/lib.rt:33:9
 in-scope-requires : tie.Need-in-scope-requires
 in-scope-requires c κs = (search needs, search (scope-ready, needs))
 
--- src/lib.rt:34:9
 returns-4 : tie.Need-returns-4
 returns-4 c = search (scope-fails, needs)
 
--- src/lib.rt:20:1
 returns-5 : tie.Need-returns-5
 returns-5 c = all-pass (c .before .before .before .before .before .before .before .before .args .words .now) (c .before .before .before .before .before .before .before .before .args .tags .now) (c .before .before .before .before .before .before .before .before .args .n) (c .before .before .before .before .before .before .before .numbered .result) (c .before .before .before .before .before .before .before .numbered .ensures) (c .before .before .before .before .before .before .if1 .left) (c .before .before .before .before .before .lower .result) (c .before .before .before .before .before .lower .ensures) (c .before .before .before .before .if2 .left) (c .before .before .before .named .result) (c .before .before .before .named .ensures) (c .before .before .if3 .left) (c .before .in-scope .result) (c .before .in-scope .ensures) (c .if4 .left)
 

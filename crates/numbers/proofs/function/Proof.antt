@@ -1,117 +1,86 @@
+-- `numbers::function` meets its contract. Assumes nothing.
 use native.Mathlib.Omega.{arith}
 use mathlib.Core.Path.{refl}
 use Rattle.numbers.proofs.Framing.{function-arguments, function-long, function-rising, function-small, function-result, function-locals, function-exprs, function-listed, function-over, function-done}
 use borrow.Author.Needs.{needs}
 use Rattle.numbers.proofs.function.Statement.{statement}
 use Rattle.numbers.proofs.function.Tie as tie
-use Rattle.numbers.proofs.function.Reads as reads
-use Rattle.numbers.proofs.function.Lts as lts
-use Rattle.numbers.proofs.initial.initialised.Reads as initialised-reads
-use Rattle.numbers.proofs.range.checked.Reads as checked-reads
-use Rattle.numbers.proofs.range.inside.Reads as inside-reads
-use Rattle.numbers.proofs.range.wide.Reads as wide-reads
 
--- src/lib.rt:112:19
 add-a : tie.Need-add-a
 add-a c = omega (arith, function-arguments _ _ _ _ _ (c .pre))
 
--- src/lib.rt:112:13
 mul-a : tie.Need-mul-a
 mul-a c = omega (arith, function-arguments _ _ _ _ _ (c .pre))
 
--- src/lib.rt:112:13
 element-copy-out-a : tie.Need-element-copy-out-a
 element-copy-out-a c = function-arguments _ _ _ _ _ (c .pre)
 
--- src/lib.rt:113:18
 add-result : tie.Need-add-result
 add-result c = omega (arith, function-arguments _ _ _ _ _ (c .before .pre))
 
--- src/lib.rt:113:33
 wide-requires : tie.Need-wide-requires
 wide-requires c κs = search needs
 
--- src/lib.rt:113:29
 mul-result : tie.Need-mul-result
 mul-result c = omega (arith, function-result _ _ _ _ _ (c .before .before .pre) _ (c .wide .ensures))
 
--- src/lib.rt:113:18
 add-result-2 : tie.Need-add-result-2
 add-result-2 c = omega (arith, function-result _ _ _ _ _ (c .before .before .pre) _ (c .wide .ensures))
 
--- src/lib.rt:114:18
 add-locals : tie.Need-add-locals
 add-locals c = omega (arith, function-result _ _ _ _ _ (c .before .before .pre) _ (c .wide .ensures))
 
--- src/lib.rt:114:40
 mul-wide : tie.Need-mul-wide
 mul-wide c = omega (arith, function-result _ _ _ _ _ (c .before .before .pre) _ (c .wide .ensures))
 
--- src/lib.rt:114:40
 element-copy-out-wide : tie.Need-element-copy-out-wide
 element-copy-out-wide c = function-result _ _ _ _ _ (c .before .before .pre) _ (c .wide .ensures)
 
--- src/lib.rt:114:35
 wide-requires-2 : tie.Need-wide-requires-2
 wide-requires-2 c κs = search needs
 
--- src/lib.rt:114:31
 mul-locals : tie.Need-mul-locals
 mul-locals c = omega (arith, function-locals _ _ _ _ _ (c .before .before .before .before .pre) _ (c .before .before .wide .ensures) _ (c .wide2 .ensures))
 
--- src/lib.rt:114:18
 add-locals-2 : tie.Need-add-locals-2
 add-locals-2 c = omega (arith, function-locals _ _ _ _ _ (c .before .before .before .before .pre) _ (c .before .before .wide .ensures) _ (c .wide2 .ensures))
 
--- src/lib.rt:115:13
 mul-l : tie.Need-mul-l
 mul-l c = omega (arith, function-locals _ _ _ _ _ (c .before .before .before .before .pre) _ (c .before .before .wide .ensures) _ (c .wide2 .ensures))
 
--- src/lib.rt:115:13
 element-copy-out-l : tie.Need-element-copy-out-l
 element-copy-out-l c = function-locals _ _ _ _ _ (c .before .before .before .before .pre) _ (c .before .before .wide .ensures) _ (c .wide2 .ensures)
 
--- src/lib.rt:116:17
 add-exprs : tie.Need-add-exprs
 add-exprs c = omega (arith, function-locals _ _ _ _ _ (c .before .before .before .before .before .pre) _ (c .before .before .before .wide .ensures) _ (c .before .wide2 .ensures))
 
--- src/lib.rt:116:34
 wide-requires-3 : tie.Need-wide-requires-3
 wide-requires-3 c κs = search needs
 
--- src/lib.rt:116:30
 mul-exprs : tie.Need-mul-exprs
 mul-exprs c = omega (arith, function-exprs _ _ _ _ _ (c .before .before .before .before .before .before .pre) _ (c .before .before .before .before .wide .ensures) _ (c .before .before .wide2 .ensures) _ (c .wide3 .ensures))
 
--- src/lib.rt:116:17
 add-exprs-2 : tie.Need-add-exprs-2
 add-exprs-2 c = omega (arith, function-exprs _ _ _ _ _ (c .before .before .before .before .before .before .pre) _ (c .before .before .before .before .wide .ensures) _ (c .before .before .wide2 .ensures) _ (c .wide3 .ensures))
 
--- src/lib.rt:117:13
 mul-e : tie.Need-mul-e
 mul-e c = omega (arith, function-exprs _ _ _ _ _ (c .before .before .before .before .before .before .pre) _ (c .before .before .before .before .wide .ensures) _ (c .before .before .wide2 .ensures) _ (c .wide3 .ensures))
 
--- src/lib.rt:117:13
 element-copy-out-e : tie.Need-element-copy-out-e
 element-copy-out-e c = function-exprs _ _ _ _ _ (c .before .before .before .before .before .before .pre) _ (c .before .before .before .before .wide .ensures) _ (c .before .before .wide2 .ensures) _ (c .wide3 .ensures)
 
--- src/lib.rt:118:5
 inside-requires : tie.Need-inside-requires
 inside-requires c κs = search needs
 
--- src/lib.rt:119:9
 checked-requires : tie.Need-checked-requires
 checked-requires c κs = (function-long _ _ _ _ _ (c .before .before .before .before .before .before .before .before .before .before .pre), (function-rising _ _ _ _ _ (c .before .before .before .before .before .before .before .before .before .before .pre), function-small _ _ _ _ _ (c .before .before .before .before .before .before .before .before .before .before .pre)))
 
--- src/lib.rt:120:9
 returns : tie.Need-returns
 returns c = function-over _ _ _ _ _ (c .before .before .before .before .before .before .before .before .before .before .before .before .pre) _ (c .before .before .before .before .before .before .before .before .before .before .wide .ensures) _ (c .before .before .before .before .before .before .before .before .wide2 .ensures) _ (c .before .before .before .before .before .before .wide3 .ensures) _ refl _ _ refl refl _ _ (c .before .before .before .inside .ensures) _ (c .before .checked .ensures) (c .if1 .taken)
 
--- src/lib.rt:122:5
 initialised-requires : tie.Need-initialised-requires
 initialised-requires c κs = function-listed _ _ _ _ _ (c .before .before .before .before .before .before .before .before .before .before .before .before .pre) _ (c .before .before .before .before .before .before .before .before .before .before .wide .ensures) _ (c .before .before .before .before .before .before .before .before .wide2 .ensures) _ (c .before .before .before .before .before .before .wide3 .ensures)
 
--- src/lib.rt:101:1
 returns-2 : tie.Need-returns-2
 returns-2 c = function-done _ _ _ _ _ (c .before .before .before .before .before .before .before .before .before .before .before .before .before .pre) _ (c .before .before .before .before .before .before .before .before .before .before .before .wide .ensures) _ (c .before .before .before .before .before .before .before .before .before .wide2 .ensures) _ (c .before .before .before .before .before .before .before .wide3 .ensures) _ refl _ _ refl refl _ _ (c .before .before .before .before .inside .ensures) _ (c .before .before .checked .ensures) (c .before .if1 .left) _ (c .initialised .ensures)
 

@@ -1,14 +1,9 @@
+-- `numbers::functions` meets its contract. Assumes nothing.
 use Prim.Native.Nat.{_-_}
 use Rattle.numbers.proofs.Framing.{InFunctions, functions-begin, functions-in, functions-done, functions-framed, functions-over, functions-next}
 use borrow.Author.Needs.{needs}
 use Rattle.numbers.proofs.functions.Statement.{statement}
 use Rattle.numbers.proofs.functions.Tie as tie
-use Rattle.numbers.proofs.functions.Reads as reads
-use Rattle.numbers.proofs.functions.Lts as lts
-use Rattle.numbers.proofs.function.Reads as function-reads
-use Rattle.numbers.proofs.range.wide.Reads as wide-reads
-use Rattle.numbers.proofs.record_at.Reads as record-at-reads
-use Rattle.numbers.proofs.record_end.Reads as record-end-reads
 
 abbrev Inv-loop : tie.InvT-loop
 Inv-loop words tags n t₀ count j₀ t j = InFunctions words tags n t₀ j t
@@ -16,47 +11,36 @@ Inv-loop words tags n t₀ count j₀ t j = InFunctions words tags n t₀ j t
 abbrev μ-loop : tie.MeasureT-loop
 μ-loop words tags n t₀ count j₀ t j = count - j
 
--- src/lib.rt:125:22
 element-copy-out-wide : tie.Need-element-copy-out-wide Inv-loop μ-loop
 element-copy-out-wide c = search needs
 
--- src/lib.rt:125:9
 wide-requires : tie.Need-wide-requires Inv-loop μ-loop
 wide-requires c κs = search needs
 
--- src/lib.rt:127:5
 loop-holds : tie.Need-loop-holds Inv-loop μ-loop
 loop-holds c = functions-begin _ _ _ _
 
--- src/lib.rt:129:9
 add-j : tie.Need-add-j Inv-loop μ-loop
 add-j c = search needs
 
--- src/lib.rt:130:13
 record-at-requires : tie.Need-record-at-requires Inv-loop μ-loop
 record-at-requires c κs = (c .before .before .before .before .pre, (search needs, functions-in _ _ _ (c .before .before .wide .ensures) (c .loop-test .taken)))
 
--- src/lib.rt:131:13
 record-end-requires : tie.Need-record-end-requires Inv-loop μ-loop
 record-end-requires c κs = (c .before .before .before .before .before .pre, (search needs, functions-in _ _ _ (c .before .before .before .wide .ensures) (c .before .loop-test .taken)))
 
--- src/lib.rt:132:13
 function-requires : tie.Need-function-requires Inv-loop μ-loop
 function-requires c κs = functions-framed _ _ _ _ _ _ _ (c .before .before .before .before .before .wide .ensures) (c .before .before .before .before .loop .inv) (c .before .before .before .loop-test .taken) _ _ (c .before .before .record-at .ensures) (c .before .record-end .ensures) (c .before .before .before .before .before .before .before .pre)
 
--- src/lib.rt:133:13
 returns : tie.Need-returns Inv-loop μ-loop
 returns c = functions-over _ _ _ _ _ _ _ (c .before .before .before .before .before .before .before .wide .ensures) (c .before .before .before .before .before .before .loop .inv) (c .before .before .before .before .before .loop-test .taken) _ _ (c .before .before .before .before .record-at .ensures) (c .before .before .before .record-end .ensures) _ _ (c .before .function .ensures) (c .if1 .taken)
 
--- src/lib.rt:127:5
 loop-less : tie.Need-loop-less Inv-loop μ-loop
 loop-less c = search needs
 
--- src/lib.rt:127:5
 loop-again : tie.Need-loop-again Inv-loop μ-loop
 loop-again c = functions-next _ _ _ _ _ _ _ (c .before .before .before .before .before .before .before .wide .ensures) (c .before .before .before .before .before .before .loop .inv) (c .before .before .before .before .before .loop-test .taken) _ _ (c .before .before .before .before .record-at .ensures) (c .before .before .before .record-end .ensures) _ _ (c .before .function .ensures) (c .if1 .left)
 
--- src/lib.rt:121:1
 returns-2 : tie.Need-returns-2 Inv-loop μ-loop
 returns-2 c = functions-done _ _ _ _ _ _ _ (c .before .before .wide .ensures) (c .before .loop .inv) (c .loop-test .left)
 

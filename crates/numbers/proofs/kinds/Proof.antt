@@ -1,14 +1,10 @@
+-- `numbers::kinds` meets its contract. Assumes nothing.
 use native.Mathlib.Omega.{arith}
 use Prim.Native.Nat.{_-_}
 use Rattle.numbers.proofs.Tabling.{Kinding, kinds-begin, kinds-done, kinds-record, kinds-inside, kinds-over, kinds-next}
 use borrow.Author.Needs.{needs}
 use Rattle.numbers.proofs.kinds.Statement.{statement}
 use Rattle.numbers.proofs.kinds.Tie as tie
-use Rattle.numbers.proofs.kinds.Reads as reads
-use Rattle.numbers.proofs.kinds.Lts as lts
-use Rattle.numbers.proofs.initial.constant.Reads as constant-reads
-use Rattle.numbers.proofs.range.wide.Reads as wide-reads
-use Rattle.numbers.proofs.record_at.Reads as record-at-reads
 
 abbrev Inv-loop : tie.InvT-loop
 Inv-loop words tags n count j₀ j = Kinding words tags n j
@@ -16,51 +12,39 @@ Inv-loop words tags n count j₀ j = Kinding words tags n j
 abbrev μ-loop : tie.MeasureT-loop
 μ-loop words tags n count j₀ j = count - j
 
--- src/lib.rt:86:22
 element-copy-out-wide : tie.Need-element-copy-out-wide Inv-loop μ-loop
 element-copy-out-wide c = search needs
 
--- src/lib.rt:86:9
 wide-requires : tie.Need-wide-requires Inv-loop μ-loop
 wide-requires c κs = search needs
 
--- src/lib.rt:88:5
 loop-holds : tie.Need-loop-holds Inv-loop μ-loop
 loop-holds c = search (kinds-begin, needs)
 
--- src/lib.rt:90:9
 add-j : tie.Need-add-j Inv-loop μ-loop
 add-j c = search needs
 
--- src/lib.rt:91:13
 record-at-requires : tie.Need-record-at-requires Inv-loop μ-loop
 record-at-requires c κs = search (kinds-record, needs)
 
--- src/lib.rt:92:22
 mul-constant : tie.Need-mul-constant Inv-loop μ-loop
 mul-constant c = omega (arith, kinds-inside _ _ _ _ (c .before .before .loop .inv) _ (c .before .before .before .wide .ensures) (c .before .loop-test .taken) _ (c .record-at .ensures) (c .before .before .before .before .before .pre))
 
--- src/lib.rt:92:22
 element-copy-out-constant : tie.Need-element-copy-out-constant Inv-loop μ-loop
 element-copy-out-constant c = search (kinds-inside, needs)
 
--- src/lib.rt:92:13
 constant-requires : tie.Need-constant-requires Inv-loop μ-loop
 constant-requires c κs = search needs
 
--- src/lib.rt:93:13
 returns : tie.Need-returns Inv-loop μ-loop
 returns c = search (kinds-over, needs)
 
--- src/lib.rt:88:5
 loop-less : tie.Need-loop-less Inv-loop μ-loop
 loop-less c = search needs
 
--- src/lib.rt:88:5
 loop-again : tie.Need-loop-again Inv-loop μ-loop
 loop-again c = search (kinds-next, needs)
 
--- src/lib.rt:82:1
 returns-2 : tie.Need-returns-2 Inv-loop μ-loop
 returns-2 c = search (kinds-done, needs)
 

@@ -1,51 +1,36 @@
+-- `numbers::numbered` meets its contract. Assumes nothing.
 use mathlib.Core.Path.{refl}
 use Rattle.numbers.specs.Ranges.{codes, upTo}
 use Rattle.numbers.proofs.Framing.{numbered-tables, numbered-kinds, numbered-functions, numbered-entries}
 use borrow.Author.Needs.{needs}
 use Rattle.numbers.proofs.numbered.Statement.{statement}
 use Rattle.numbers.proofs.numbered.Tie as tie
-use Rattle.numbers.proofs.numbered.Reads as reads
-use Rattle.numbers.proofs.numbered.Lts as lts
-use Rattle.numbers.proofs.entries.Reads as entries-reads
-use Rattle.numbers.proofs.functions.Reads as functions-reads
-use Rattle.numbers.proofs.kinds.Reads as kinds-reads
-use Rattle.numbers.proofs.range.outside.Reads as outside-reads
-use Rattle.numbers.proofs.tables.Reads as tables-reads
 
--- src/lib.rt:163:5
 outside-requires : tie.Need-outside-requires
 unfolding codes upTo
 outside-requires c κs = refl
 
--- src/lib.rt:164:9
 tables-requires : tie.Need-tables-requires
 tables-requires c κs = search needs
 
--- src/lib.rt:165:9
 returns : tie.Need-returns
 returns c = numbered-tables _ _ _ _ (c .before .before .before .outside .ensures) _ (c .before .tables .ensures) (c .if1 .taken)
 
--- src/lib.rt:167:9
 kinds-requires : tie.Need-kinds-requires
 kinds-requires c κs = search needs
 
--- src/lib.rt:168:9
 returns-2 : tie.Need-returns-2
 returns-2 c = numbered-kinds _ _ _ _ (c .before .before .before .before .before .outside .ensures) _ (c .before .before .before .tables .ensures) (c .before .before .if1 .left) _ (c .before .kinds .ensures) (c .if2 .taken)
 
--- src/lib.rt:170:9
 functions-requires : tie.Need-functions-requires
 functions-requires c κs = search needs
 
--- src/lib.rt:171:9
 returns-3 : tie.Need-returns-3
 returns-3 c = numbered-functions _ _ _ _ (c .before .before .before .before .before .before .before .before .outside .ensures) _ (c .before .before .before .before .before .before .tables .ensures) (c .before .before .before .before .before .if1 .left) _ (c .before .before .before .before .kinds .ensures) (c .before .before .before .if2 .left) _ _ (c .before .functions .ensures) (c .if3 .taken)
 
--- src/lib.rt:173:5
 entries-requires : tie.Need-entries-requires
 entries-requires c κs = search needs
 
--- src/lib.rt:158:1
 returns-4 : tie.Need-returns-4
 returns-4 c = numbered-entries _ _ _ _ (c .before .before .before .before .before .before .before .before .before .before .outside .ensures) _ (c .before .before .before .before .before .before .before .before .tables .ensures) (c .before .before .before .before .before .before .before .if1 .left) _ (c .before .before .before .before .before .before .kinds .ensures) (c .before .before .before .before .before .if2 .left) _ _ (c .before .before .before .functions .ensures) (c .before .before .if3 .left) _ _ (c .entries .ensures)
 

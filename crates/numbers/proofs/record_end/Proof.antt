@@ -1,71 +1,53 @@
+-- `numbers::record_end` meets its contract. Assumes nothing.
 use native.Mathlib.Omega.{arith}
 use Rattle.numbers.proofs.Tabling.{record-few}
 use Rattle.numbers.proofs.Tabling.{record-last, record-more, record-onward}
 use borrow.Author.Needs.{needs}
 use Rattle.numbers.proofs.record_end.Statement.{statement}
 use Rattle.numbers.proofs.record_end.Tie as tie
-use Rattle.numbers.proofs.record_end.Reads as reads
-use Rattle.numbers.proofs.record_end.Lts as lts
-use Rattle.numbers.proofs.range.wide.Reads as wide-reads
-use Rattle.numbers.proofs.record_at.Reads as record-at-reads
 
--- src/lib.rt:74:32
 mul-wide : tie.Need-mul-wide
 mul-wide c = search needs
 
--- src/lib.rt:74:28
 add-wide : tie.Need-add-wide
 add-wide c = search needs
 
--- src/lib.rt:74:22
 mul-wide-2 : tie.Need-mul-wide-2
 mul-wide-2 c = search needs
 
--- src/lib.rt:74:22
 element-copy-out-wide : tie.Need-element-copy-out-wide
 element-copy-out-wide c = search needs
 
--- src/lib.rt:74:9
 wide-requires : tie.Need-wide-requires
 wide-requires c κs = search needs
 
--- src/lib.rt:75:8
 add-if1 : tie.Need-add-if1
 add-if1 c = let p = c .before .before .pre in omega (arith, record-few _ _ _ (p .0) _ (p .1 .0) _ (p .1 .1))
 
--- src/lib.rt:76:31
 mul-wide-3 : tie.Need-mul-wide-3
 mul-wide-3 c = search needs
 
--- src/lib.rt:76:27
 add-wide-2 : tie.Need-add-wide-2
 add-wide-2 c = search needs
 
--- src/lib.rt:76:21
 mul-wide-4 : tie.Need-mul-wide-4
 mul-wide-4 c = search needs
 
--- src/lib.rt:76:21
 element-copy-out-wide-2 : tie.Need-element-copy-out-wide-2
 element-copy-out-wide-2 c = search needs
 
--- src/lib.rt:76:9
 wide-requires-2 : tie.Need-wide-requires-2
 wide-requires-2 c κs = search needs
 
--- src/lib.rt:76:9
 returns : tie.Need-returns
 returns c = search (record-last, needs)
 
--- src/lib.rt:78:34
 add-record-at : tie.Need-add-record-at
 add-record-at c = let p = c .before .before .before .pre in omega (arith, record-few _ _ _ (p .0) _ (p .1 .0) _ (p .1 .1))
 
--- src/lib.rt:78:5
 record-at-requires : tie.Need-record-at-requires
 record-at-requires c κs = let p = c .before .before .before .pre in (p .0, (p .1 .0, record-more _ _ _ (p .0) _ (p .1 .0) _ _ (p .1 .1) (c .before .wide .ensures) (c .if1 .left)))
 
--- src/lib.rt:68:1
 returns-2 : tie.Need-returns-2
 returns-2 c = let p = c .before .before .before .before .pre in record-onward _ _ _ (p .0) _ (p .1 .0) _ _ _ (c .before .before .wide .ensures) (c .before .if1 .left) (c .record-at .ensures)
 

@@ -1,11 +1,10 @@
+-- `redirect::all_below` meets its contract. Assumes nothing.
 use Prim.Native.Nat.{_-_}
 use lib.ListN.{length}
 use Rattle.redirect.proofs.Leaves.{Below, below-begin, below-not, below-next, below-done}
 use borrow.Author.Needs.{needs}
 use Rattle.redirect.proofs.all_below.Statement.{statement}
 use Rattle.redirect.proofs.all_below.Tie as tie
-use Rattle.redirect.proofs.all_below.Reads as reads
-use Rattle.redirect.proofs.all_below.Lts as lts
 
 abbrev Inv-loop : tie.InvT-loop
 Inv-loop list bound i₀ i = Below list bound i
@@ -13,35 +12,27 @@ Inv-loop list bound i₀ i = Below list bound i
 abbrev μ-loop : tie.MeasureT-loop
 μ-loop list bound i₀ i = length list - i
 
--- src/lib.rt:94:5
 loop-holds : tie.Need-loop-holds Inv-loop μ-loop
 loop-holds c = search (below-begin, needs)
 
--- src/lib.rt:96:9
 add-i : tie.Need-add-i Inv-loop μ-loop
 add-i c = search needs
 
--- src/lib.rt:97:21
 mul-if1 : tie.Need-mul-if1 Inv-loop μ-loop
 mul-if1 c = search needs
 
--- src/lib.rt:97:21
 shared-slice-read-if1 : tie.Need-shared-slice-read-if1 Inv-loop μ-loop
 shared-slice-read-if1 c = search needs
 
--- src/lib.rt:98:13
 returns : tie.Need-returns Inv-loop μ-loop
 returns c = search (below-not, needs)
 
--- src/lib.rt:94:5
 loop-less : tie.Need-loop-less Inv-loop μ-loop
 loop-less c = search needs
 
--- src/lib.rt:94:5
 loop-again : tie.Need-loop-again Inv-loop μ-loop
 loop-again c = search (below-next, needs)
 
--- src/lib.rt:90:1
 returns-2 : tie.Need-returns-2 Inv-loop μ-loop
 returns-2 c = search (below-done, needs)
 

@@ -1,3 +1,4 @@
+-- `redirect::arguments_agree` meets its contract. Assumes nothing.
 use native.Mathlib.Omega.{arith}
 use Prim.Native.Nat.{_-_}
 use Rattle.redirect.proofs.Leaves.{small-fits, small-fits-four}
@@ -5,10 +6,6 @@ use Rattle.redirect.proofs.Finding.{Agreeing, agree-begin, count-a, cou
 use borrow.Author.Needs.{needs}
 use Rattle.redirect.proofs.arguments_agree.Statement.{statement}
 use Rattle.redirect.proofs.arguments_agree.Tie as tie
-use Rattle.redirect.proofs.arguments_agree.Reads as reads
-use Rattle.redirect.proofs.arguments_agree.Lts as lts
-use Rattle.redirect.proofs.start_of.Reads as start-of-reads
-use Rattle.redirect.proofs.wide.Reads as wide-reads
 
 abbrev Inv-loop : tie.InvT-loop
 Inv-loop words tags n i k a b some others j₀ j = Agreeing words tags n i k some others j
@@ -16,111 +13,84 @@ Inv-loop words tags n i k a b some others j₀ j = Agreeing words tags n i k som
 abbrev μ-loop : tie.MeasureT-loop
 μ-loop words tags n i k a b some others j₀ j = some - j
 
--- src/lib.rt:138:9
 start-of-requires : tie.Need-start-of-requires Inv-loop μ-loop
 start-of-requires c κs = search needs
 
--- src/lib.rt:139:9
 start-of-requires-2 : tie.Need-start-of-requires-2 Inv-loop μ-loop
 start-of-requires-2 c κs = search needs
 
--- src/lib.rt:140:27
 add-wide : tie.Need-add-wide Inv-loop μ-loop
 add-wide c = search (small-fits, count-a, needs)
 
--- src/lib.rt:140:21
 mul-wide : tie.Need-mul-wide Inv-loop μ-loop
 mul-wide c = search (small-fits-four, count-a, needs)
 
--- src/lib.rt:140:21
 element-copy-out-wide : tie.Need-element-copy-out-wide Inv-loop μ-loop
 element-copy-out-wide c = search (count-a, needs)
 
--- src/lib.rt:140:9
 wide-requires : tie.Need-wide-requires Inv-loop μ-loop
 wide-requires c κs = search needs
 
--- src/lib.rt:141:29
 add-wide-2 : tie.Need-add-wide-2 Inv-loop μ-loop
 add-wide-2 c = search (small-fits, count-b, needs)
 
--- src/lib.rt:141:23
 mul-wide-2 : tie.Need-mul-wide-2 Inv-loop μ-loop
 mul-wide-2 c = search (small-fits-four, count-b, needs)
 
--- src/lib.rt:141:23
 element-copy-out-wide-2 : tie.Need-element-copy-out-wide-2 Inv-loop μ-loop
 element-copy-out-wide-2 c = search (count-b, needs)
 
--- src/lib.rt:141:9
 wide-requires-2 : tie.Need-wide-requires-2 Inv-loop μ-loop
 wide-requires-2 c κs = search needs
 
--- src/lib.rt:143:5
 loop-holds : tie.Need-loop-holds Inv-loop μ-loop
 loop-holds c = search (agree-begin, needs)
 
--- src/lib.rt:145:13
 returns : tie.Need-returns Inv-loop μ-loop
 returns c = search (agree-short, needs)
 
--- src/lib.rt:147:18
 add-if2 : tie.Need-add-if2 Inv-loop μ-loop
 add-if2 c = let h = in-a (c .before .before .before .before .before .before .before .before .before .args .words .now) (c .before .before .before .before .before .before .before .before .before .args .tags .now) (c .before .before .before .before .before .before .before .before .before .args .n) (c .before .before .before .before .before .before .before .before .before .args .i) (c .before .before .before .before .before .before .before .before .before .args .k) (c .before .before .before .before .before .before .before .before .before .pre .0) (c .before .before .before .before .before .before .before .before .before .pre .1 .0) (c .before .before .before .before .before .before .before .before .before .pre .1 .1) (c .before .before .before .before .before .before .before .before .start-of .result) (c .before .before .before .before .before .before .before .start-of2 .result) (c .before .before .before .before .before .before .before .before .start-of .ensures) (c .before .before .before .before .before .before .before .start-of2 .ensures) (c .before .before .before .before .before .wide .result) (c .before .before .before .wide2 .result) (c .before .before .before .before .before .wide .ensures .0) (c .before .before .before .wide2 .ensures .0) (c .before .before .loop .j) (c .before .before .loop .inv) (c .before .loop-test .taken) in record { fits = omega (arith, h) }
 
--- src/lib.rt:147:26
 mul-if2 : tie.Need-mul-if2 Inv-loop μ-loop
 mul-if2 c = let h = in-a (c .before .before .before .before .before .before .before .before .before .args .words .now) (c .before .before .before .before .before .before .before .before .before .args .tags .now) (c .before .before .before .before .before .before .before .before .before .args .n) (c .before .before .before .before .before .before .before .before .before .args .i) (c .before .before .before .before .before .before .before .before .before .args .k) (c .before .before .before .before .before .before .before .before .before .pre .0) (c .before .before .before .before .before .before .before .before .before .pre .1 .0) (c .before .before .before .before .before .before .before .before .before .pre .1 .1) (c .before .before .before .before .before .before .before .before .start-of .result) (c .before .before .before .before .before .before .before .start-of2 .result) (c .before .before .before .before .before .before .before .before .start-of .ensures) (c .before .before .before .before .before .before .before .start-of2 .ensures) (c .before .before .before .before .before .wide .result) (c .before .before .before .wide2 .result) (c .before .before .before .before .before .wide .ensures .0) (c .before .before .before .wide2 .ensures .0) (c .before .before .loop .j) (c .before .before .loop .inv) (c .before .loop-test .taken) in record { fits = omega (arith, h) }
 
--- src/lib.rt:147:18
 add-if2-2 : tie.Need-add-if2-2 Inv-loop μ-loop
 add-if2-2 c = let h = in-a (c .before .before .before .before .before .before .before .before .before .args .words .now) (c .before .before .before .before .before .before .before .before .before .args .tags .now) (c .before .before .before .before .before .before .before .before .before .args .n) (c .before .before .before .before .before .before .before .before .before .args .i) (c .before .before .before .before .before .before .before .before .before .args .k) (c .before .before .before .before .before .before .before .before .before .pre .0) (c .before .before .before .before .before .before .before .before .before .pre .1 .0) (c .before .before .before .before .before .before .before .before .before .pre .1 .1) (c .before .before .before .before .before .before .before .before .start-of .result) (c .before .before .before .before .before .before .before .start-of2 .result) (c .before .before .before .before .before .before .before .before .start-of .ensures) (c .before .before .before .before .before .before .before .start-of2 .ensures) (c .before .before .before .before .before .wide .result) (c .before .before .before .wide2 .result) (c .before .before .before .before .before .wide .ensures .0) (c .before .before .before .wide2 .ensures .0) (c .before .before .loop .j) (c .before .before .loop .inv) (c .before .loop-test .taken) in small-fits _ h
 
--- src/lib.rt:147:12
 mul-if2-2 : tie.Need-mul-if2-2 Inv-loop μ-loop
 mul-if2-2 c = let h = in-a (c .before .before .before .before .before .before .before .before .before .args .words .now) (c .before .before .before .before .before .before .before .before .before .args .tags .now) (c .before .before .before .before .before .before .before .before .before .args .n) (c .before .before .before .before .before .before .before .before .before .args .i) (c .before .before .before .before .before .before .before .before .before .args .k) (c .before .before .before .before .before .before .before .before .before .pre .0) (c .before .before .before .before .before .before .before .before .before .pre .1 .0) (c .before .before .before .before .before .before .before .before .before .pre .1 .1) (c .before .before .before .before .before .before .before .before .start-of .result) (c .before .before .before .before .before .before .before .start-of2 .result) (c .before .before .before .before .before .before .before .before .start-of .ensures) (c .before .before .before .before .before .before .before .start-of2 .ensures) (c .before .before .before .before .before .wide .result) (c .before .before .before .wide2 .result) (c .before .before .before .before .before .wide .ensures .0) (c .before .before .before .wide2 .ensures .0) (c .before .before .loop .j) (c .before .before .loop .inv) (c .before .loop-test .taken) in small-fits-four _ h
 
--- src/lib.rt:147:12
 element-copy-out-if2 : tie.Need-element-copy-out-if2 Inv-loop μ-loop
 element-copy-out-if2 c = let h = in-a (c .before .before .before .before .before .before .before .before .before .args .words .now) (c .before .before .before .before .before .before .before .before .before .args .tags .now) (c .before .before .before .before .before .before .before .before .before .args .n) (c .before .before .before .before .before .before .before .before .before .args .i) (c .before .before .before .before .before .before .before .before .before .args .k) (c .before .before .before .before .before .before .before .before .before .pre .0) (c .before .before .before .before .before .before .before .before .before .pre .1 .0) (c .before .before .before .before .before .before .before .before .before .pre .1 .1) (c .before .before .before .before .before .before .before .before .start-of .result) (c .before .before .before .before .before .before .before .start-of2 .result) (c .before .before .before .before .before .before .before .before .start-of .ensures) (c .before .before .before .before .before .before .before .start-of2 .ensures) (c .before .before .before .before .before .wide .result) (c .before .before .before .wide2 .result) (c .before .before .before .before .before .wide .ensures .0) (c .before .before .before .wide2 .ensures .0) (c .before .before .loop .j) (c .before .before .loop .inv) (c .before .loop-test .taken) in h
 
--- src/lib.rt:147:42
 add-if2-3 : tie.Need-add-if2-3 Inv-loop μ-loop
 add-if2-3 c = let h = in-b (c .before .before .before .before .before .before .before .before .before .before .args .words .now) (c .before .before .before .before .before .before .before .before .before .before .args .tags .now) (c .before .before .before .before .before .before .before .before .before .before .args .n) (c .before .before .before .before .before .before .before .before .before .before .args .i) (c .before .before .before .before .before .before .before .before .before .before .args .k) (c .before .before .before .before .before .before .before .before .before .before .pre .0) (c .before .before .before .before .before .before .before .before .before .before .pre .1 .0) (c .before .before .before .before .before .before .before .before .before .before .pre .1 .1) (c .before .before .before .before .before .before .before .before .before .start-of .result) (c .before .before .before .before .before .before .before .before .start-of2 .result) (c .before .before .before .before .before .before .before .before .before .start-of .ensures) (c .before .before .before .before .before .before .before .before .start-of2 .ensures) (c .before .before .before .before .before .before .wide .result) (c .before .before .before .before .wide2 .result) (c .before .before .before .before .before .before .wide .ensures .0) (c .before .before .before .before .wide2 .ensures .0) (c .before .before .before .loop .j) (c .before .before .before .loop .inv) (c .before .before .loop-test .taken) (c .before .if1 .left) in record { fits = omega (arith, h) }
 
--- src/lib.rt:147:50
 mul-if2-3 : tie.Need-mul-if2-3 Inv-loop μ-loop
 mul-if2-3 c = let h = in-b (c .before .before .before .before .before .before .before .before .before .before .args .words .now) (c .before .before .before .before .before .before .before .before .before .before .args .tags .now) (c .before .before .before .before .before .before .before .before .before .before .args .n) (c .before .before .before .before .before .before .before .before .before .before .args .i) (c .before .before .before .before .before .before .before .before .before .before .args .k) (c .before .before .before .before .before .before .before .before .before .before .pre .0) (c .before .before .before .before .before .before .before .before .before .before .pre .1 .0) (c .before .before .before .before .before .before .before .before .before .before .pre .1 .1) (c .before .before .before .before .before .before .before .before .before .start-of .result) (c .before .before .before .before .before .before .before .before .start-of2 .result) (c .before .before .before .before .before .before .before .before .before .start-of .ensures) (c .before .before .before .before .before .before .before .before .start-of2 .ensures) (c .before .before .before .before .before .before .wide .result) (c .before .before .before .before .wide2 .result) (c .before .before .before .before .before .before .wide .ensures .0) (c .before .before .before .before .wide2 .ensures .0) (c .before .before .before .loop .j) (c .before .before .before .loop .inv) (c .before .before .loop-test .taken) (c .before .if1 .left) in record { fits = omega (arith, h) }
 
--- src/lib.rt:147:42
 add-if2-4 : tie.Need-add-if2-4 Inv-loop μ-loop
 add-if2-4 c = let h = in-b (c .before .before .before .before .before .before .before .before .before .before .args .words .now) (c .before .before .before .before .before .before .before .before .before .before .args .tags .now) (c .before .before .before .before .before .before .before .before .before .before .args .n) (c .before .before .before .before .before .before .before .before .before .before .args .i) (c .before .before .before .before .before .before .before .before .before .before .args .k) (c .before .before .before .before .before .before .before .before .before .before .pre .0) (c .before .before .before .before .before .before .before .before .before .before .pre .1 .0) (c .before .before .before .before .before .before .before .before .before .before .pre .1 .1) (c .before .before .before .before .before .before .before .before .before .start-of .result) (c .before .before .before .before .before .before .before .before .start-of2 .result) (c .before .before .before .before .before .before .before .before .before .start-of .ensures) (c .before .before .before .before .before .before .before .before .start-of2 .ensures) (c .before .before .before .before .before .before .wide .result) (c .before .before .before .before .wide2 .result) (c .before .before .before .before .before .before .wide .ensures .0) (c .before .before .before .before .wide2 .ensures .0) (c .before .before .before .loop .j) (c .before .before .before .loop .inv) (c .before .before .loop-test .taken) (c .before .if1 .left) in small-fits _ h
 
--- src/lib.rt:147:36
 mul-if2-4 : tie.Need-mul-if2-4 Inv-loop μ-loop
 mul-if2-4 c = let h = in-b (c .before .before .before .before .before .before .before .before .before .before .args .words .now) (c .before .before .before .before .before .before .before .before .before .before .args .tags .now) (c .before .before .before .before .before .before .before .before .before .before .args .n) (c .before .before .before .before .before .before .before .before .before .before .args .i) (c .before .before .before .before .before .before .before .before .before .before .args .k) (c .before .before .before .before .before .before .before .before .before .before .pre .0) (c .before .before .before .before .before .before .before .before .before .before .pre .1 .0) (c .before .before .before .before .before .before .before .before .before .before .pre .1 .1) (c .before .before .before .before .before .before .before .before .before .start-of .result) (c .before .before .before .before .before .before .before .before .start-of2 .result) (c .before .before .before .before .before .before .before .before .before .start-of .ensures) (c .before .before .before .before .before .before .before .before .start-of2 .ensures) (c .before .before .before .before .before .before .wide .result) (c .before .before .before .before .wide2 .result) (c .before .before .before .before .before .before .wide .ensures .0) (c .before .before .before .before .wide2 .ensures .0) (c .before .before .before .loop .j) (c .before .before .before .loop .inv) (c .before .before .loop-test .taken) (c .before .if1 .left) in small-fits-four _ h
 
--- src/lib.rt:147:36
 element-copy-out-if2-2 : tie.Need-element-copy-out-if2-2 Inv-loop μ-loop
 element-copy-out-if2-2 c = let h = in-b (c .before .before .before .before .before .before .before .before .before .before .args .words .now) (c .before .before .before .before .before .before .before .before .before .before .args .tags .now) (c .before .before .before .before .before .before .before .before .before .before .args .n) (c .before .before .before .before .before .before .before .before .before .before .args .i) (c .before .before .before .before .before .before .before .before .before .before .args .k) (c .before .before .before .before .before .before .before .before .before .before .pre .0) (c .before .before .before .before .before .before .before .before .before .before .pre .1 .0) (c .before .before .before .before .before .before .before .before .before .before .pre .1 .1) (c .before .before .before .before .before .before .before .before .before .start-of .result) (c .before .before .before .before .before .before .before .before .start-of2 .result) (c .before .before .before .before .before .before .before .before .before .start-of .ensures) (c .before .before .before .before .before .before .before .before .start-of2 .ensures) (c .before .before .before .before .before .before .wide .result) (c .before .before .before .before .wide2 .result) (c .before .before .before .before .before .before .wide .ensures .0) (c .before .before .before .before .wide2 .ensures .0) (c .before .before .before .loop .j) (c .before .before .before .loop .inv) (c .before .before .loop-test .taken) (c .before .if1 .left) in h
 
--- src/lib.rt:148:13
 returns-2 : tie.Need-returns-2 Inv-loop μ-loop
 returns-2 c = search (agree-not, needs)
 
--- src/lib.rt:150:9
 add-j : tie.Need-add-j Inv-loop μ-loop
 add-j c = search needs
 
--- src/lib.rt:143:5
 loop-less : tie.Need-loop-less Inv-loop μ-loop
 loop-less c = search needs
 
--- src/lib.rt:143:5
 loop-again : tie.Need-loop-again Inv-loop μ-loop
 loop-again c = search (agree-next, needs)
 
--- src/lib.rt:133:1
 returns-3 : tie.Need-returns-3 Inv-loop μ-loop
 returns-3 c = search (agree-done, needs)
 

@@ -1,40 +1,29 @@
+-- `redirect::compare` meets its contract. Assumes nothing.
 use borrow.Author.Tests.{not-true, not-false}
 use mathlib.Core.Path.{refl}
 use Rattle.redirect.proofs.Finding.{differ-arguments, differ-results, differ-none}
 use borrow.Author.Needs.{needs}
 use Rattle.redirect.proofs.compare.Statement.{statement}
 use Rattle.redirect.proofs.compare.Tie as tie
-use Rattle.redirect.proofs.compare.Reads as reads
-use Rattle.redirect.proofs.compare.Lts as lts
-use Rattle.redirect.proofs.arguments_agree.Reads as arguments-agree-reads
-use Rattle.redirect.proofs.results_agree.Reads as results-agree-reads
-use Rattle.redirect.proofs.wide.Reads as wide-reads
 
--- src/lib.rt:196:9
 wide-requires : tie.Need-wide-requires
 wide-requires c κs = search needs
 
--- src/lib.rt:197:9
 wide-requires-2 : tie.Need-wide-requires-2
 wide-requires-2 c κs = search needs
 
--- src/lib.rt:198:9
 arguments-agree-requires : tie.Need-arguments-agree-requires
 arguments-agree-requires c κs = search needs
 
--- src/lib.rt:199:9
 returns : tie.Need-returns
 returns c = differ-arguments (c .before .before .before .before .args .words .now) (c .before .before .before .before .args .tags .now) (c .before .before .before .before .args .n) (c .before .before .before .before .args .original .0) (c .before .before .before .before .args .replacement .0) (c .before .before .before .wide .result) (c .before .before .wide2 .result) (c .before .before .before .wide .ensures .0) (c .before .before .wide2 .ensures .0) (c .before .arguments-agree .result) (c .before .arguments-agree .ensures) (not-true _ (c .if1 .taken))
 
--- src/lib.rt:201:9
 results-agree-requires : tie.Need-results-agree-requires
 results-agree-requires c κs = search needs
 
--- src/lib.rt:202:9
 returns-2 : tie.Need-returns-2
 returns-2 c = differ-results (c .before .before .before .before .before .before .args .words .now) (c .before .before .before .before .before .before .args .tags .now) (c .before .before .before .before .before .before .args .n) (c .before .before .before .before .before .before .args .original .0) (c .before .before .before .before .before .before .args .replacement .0) (c .before .before .before .before .before .wide .result) (c .before .before .before .before .wide2 .result) (c .before .before .before .before .before .wide .ensures .0) (c .before .before .before .before .wide2 .ensures .0) (c .before .before .before .arguments-agree .result) (c .before .before .before .arguments-agree .ensures) (not-false _ (c .before .before .if1 .left)) (c .before .results-agree .result) (c .before .results-agree .ensures) (not-true _ (c .if2 .taken))
 
--- src/lib.rt:185:1
 returns-3 : tie.Need-returns-3
 returns-3 c = differ-none (c .before .before .before .before .before .before .args .words .now) (c .before .before .before .before .before .before .args .tags .now) (c .before .before .before .before .before .before .args .n) (c .before .before .before .before .before .before .args .original .0) (c .before .before .before .before .before .before .args .replacement .0) (c .before .before .before .before .before .wide .result) (c .before .before .before .before .wide2 .result) (c .before .before .before .before .before .wide .ensures .0) (c .before .before .before .before .wide2 .ensures .0) (c .before .before .before .arguments-agree .result) (c .before .before .before .arguments-agree .ensures) (not-false _ (c .before .before .if1 .left)) (c .before .results-agree .result) (c .before .results-agree .ensures) (not-false _ (c .if2 .left)) _ _ refl refl
 

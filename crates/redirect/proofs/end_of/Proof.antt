@@ -1,45 +1,33 @@
+-- `redirect::end_of` meets its contract. Assumes nothing.
 use Rattle.redirect.proofs.Places.{next-fits, end-last, next-in, end-next}
 use borrow.Author.Needs.{needs}
 use Rattle.redirect.proofs.end_of.Statement.{statement}
 use Rattle.redirect.proofs.end_of.Tie as tie
-use Rattle.redirect.proofs.end_of.Reads as reads
-use Rattle.redirect.proofs.end_of.Lts as lts
-use Rattle.redirect.proofs.start_of.Reads as start-of-reads
-use Rattle.redirect.proofs.wide.Reads as wide-reads
 
--- src/lib.rt:65:8
 add-if1 : tie.Need-add-if1
 add-if1 c = search (next-fits, needs)
 
--- src/lib.rt:65:22
 element-copy-out-wide : tie.Need-element-copy-out-wide
 element-copy-out-wide c = search needs
 
--- src/lib.rt:65:17
 wide-requires : tie.Need-wide-requires
 wide-requires c κs = search needs
 
--- src/lib.rt:66:21
 element-copy-out-wide-2 : tie.Need-element-copy-out-wide-2
 element-copy-out-wide-2 c = search needs
 
--- src/lib.rt:66:9
 wide-requires-2 : tie.Need-wide-requires-2
 wide-requires-2 c κs = search needs
 
--- src/lib.rt:66:9
 returns : tie.Need-returns
 returns c = search (end-last, needs)
 
--- src/lib.rt:68:30
 add-start-of : tie.Need-add-start-of
 add-start-of c = search (next-fits, needs)
 
--- src/lib.rt:68:5
 start-of-requires : tie.Need-start-of-requires
 start-of-requires c κs = search (next-in, needs)
 
--- src/lib.rt:60:1
 returns-2 : tie.Need-returns-2
 returns-2 c = search (end-next, needs)
 

@@ -1,14 +1,10 @@
+-- `redirect::find` meets its contract. Assumes nothing.
 use Prim.Native.Nat.{_-_}
 use mathlib.Core.Path.{refl}
 use Rattle.redirect.proofs.Finding.{Seeking, seek-begin, seek-asks, seek-small, seek-at, seek-fits, seek-here, seek-on, seek-none}
 use borrow.Author.Needs.{needs}
 use Rattle.redirect.proofs.find.Statement.{statement}
 use Rattle.redirect.proofs.find.Tie as tie
-use Rattle.redirect.proofs.find.Reads as reads
-use Rattle.redirect.proofs.find.Lts as lts
-use Rattle.redirect.proofs.is_named.Reads as is-named-reads
-use Rattle.redirect.proofs.start_of.Reads as start-of-reads
-use Rattle.redirect.proofs.wide.Reads as wide-reads
 
 abbrev Inv-loop : tie.InvT-loop
 Inv-loop words tags n name count j₀ j = Seeking words tags n name count j
@@ -16,55 +12,42 @@ Inv-loop words tags n name count j₀ j = Seeking words tags n name count j
 abbrev μ-loop : tie.MeasureT-loop
 μ-loop words tags n name count j₀ j = count - j
 
--- src/lib.rt:76:22
 element-copy-out-wide : tie.Need-element-copy-out-wide Inv-loop μ-loop
 element-copy-out-wide c = search needs
 
--- src/lib.rt:76:9
 wide-requires : tie.Need-wide-requires Inv-loop μ-loop
 wide-requires c κs = search needs
 
--- src/lib.rt:78:5
 loop-holds : tie.Need-loop-holds Inv-loop μ-loop
 loop-holds c = search (seek-begin, needs)
 
--- src/lib.rt:80:9
 add-j : tie.Need-add-j Inv-loop μ-loop
 add-j c = search needs
 
--- src/lib.rt:81:13
 start-of-requires : tie.Need-start-of-requires Inv-loop μ-loop
 start-of-requires c κs = search (seek-asks, needs)
 
--- src/lib.rt:82:21
 mul-is-named : tie.Need-mul-is-named Inv-loop μ-loop
 mul-is-named c = search (seek-fits, needs)
 
--- src/lib.rt:82:21
 element-copy-out-is-named : tie.Need-element-copy-out-is-named Inv-loop μ-loop
 element-copy-out-is-named c = search (seek-at, needs)
 
--- src/lib.rt:82:12
 is-named-requires : tie.Need-is-named-requires Inv-loop μ-loop
 is-named-requires c κs = search needs
 
--- src/lib.rt:83:45
 cast-t18 : tie.Need-cast-t18 Inv-loop μ-loop
 cast-t18 c = search (seek-small, needs)
 
--- src/lib.rt:83:13
 returns : tie.Need-returns Inv-loop μ-loop
 returns c = let s = c .before .before .before .before .before .before .before .before in let l = c .before .before .before .before .before .loop in seek-here (s .args .words .now) (s .args .tags .now) (s .args .n) (s .args .name) (s .pre) (c .before .before .before .before .before .before .wide .result) (l .j) (l .inv) (c .before .before .before .before .loop-test .taken) (c .before .before .before .start-of .result) (c .before .before .before .start-of .ensures) (c .before .is-named .result) (c .before .is-named .ensures) (c .if1 .taken) _ refl
 
--- src/lib.rt:78:5
 loop-less : tie.Need-loop-less Inv-loop μ-loop
 loop-less c = search needs
 
--- src/lib.rt:78:5
 loop-again : tie.Need-loop-again Inv-loop μ-loop
 loop-again c = search (seek-on, needs)
 
--- src/lib.rt:72:1
 returns-2 : tie.Need-returns-2 Inv-loop μ-loop
 returns-2 c = search (seek-none, needs)
 

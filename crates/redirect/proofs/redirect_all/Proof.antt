@@ -1,38 +1,27 @@
+-- `redirect::redirect_all` meets its contract. Assumes nothing.
 use Rattle.redirect.proofs.Turning.{all-turns, all-asks}
 use borrow.Author.Needs.{needs}
 use Rattle.redirect.proofs.redirect_all.Statement.{statement}
 use Rattle.redirect.proofs.redirect_all.Tie as tie
-use Rattle.redirect.proofs.redirect_all.Reads as reads
-use Rattle.redirect.proofs.redirect_all.Lts as lts
-use Rattle.redirect.proofs.redirect_fn.Reads as redirect-fn-reads
-use Rattle.redirect.proofs.redirect_functions.Reads as redirect-functions-reads
-use Rattle.redirect.proofs.wide.Reads as wide-reads
 
--- src/lib.rt:326:5
 redirect-functions-requires : tie.Need-redirect-functions-requires
 redirect-functions-requires c κs = search needs
 
--- src/lib.rt:327:19
 element-copy-out-wide : tie.Need-element-copy-out-wide
 element-copy-out-wide c = search needs
 
--- src/lib.rt:327:9
 wide-requires : tie.Need-wide-requires
 wide-requires c κs = search needs
 
--- src/lib.rt:328:20
 element-copy-out-wide-2 : tie.Need-element-copy-out-wide-2
 element-copy-out-wide-2 c = search needs
 
--- src/lib.rt:328:9
 wide-requires-2 : tie.Need-wide-requires-2
 wide-requires-2 c κs = search needs
 
--- src/lib.rt:329:5
 redirect-fn-requires : tie.Need-redirect-fn-requires
 redirect-fn-requires c κs = all-asks (c .before .before .before .before .before .before .before .before .args .words .now) (c .before .before .before .before .before .redirect-functions .last .0) (c .before .before .before .before .before .before .before .before .args .tags .now) (c .before .before .before .before .before .before .before .before .args .n) (c .before .before .before .before .before .before .before .before .args .original) (c .before .before .before .before .before .before .before .before .args .replacement) (c .before .before .before .before .before .before .before .before .args .omit .now) (c .before .before .before .before .before .before .before .before .pre) (c .before .before .before .before .before .redirect-functions .ensures) (c .before .before .before .wide .result) (c .before .wide2 .result) (c .before .before .before .wide .ensures .0) (c .before .wide2 .ensures .0)
 
--- src/lib.rt:315:1
 returns : tie.Need-returns
 returns c = all-turns (c .before .before .before .before .before .before .before .before .before .args .words .now) (c .before .before .before .before .before .before .redirect-functions .last .0) (c .before .before .before .before .before .before .before .before .before .args .tags .now) (c .before .before .before .before .before .before .before .before .before .args .n) (c .before .before .before .before .before .before .before .before .before .args .original) (c .before .before .before .before .before .before .before .before .before .args .replacement) (c .before .before .before .before .before .before .before .before .before .args .omit .now) (c .before .before .before .before .before .before .before .before .before .pre) (c .before .before .before .before .before .before .redirect-functions .ensures) (c .before .before .before .before .wide .result) (c .before .before .wide2 .result) (c .before .before .before .before .wide .ensures .0) (c .before .before .wide2 .ensures .0) (c .redirect-fn .last .0) (c .redirect-fn .ensures)
 

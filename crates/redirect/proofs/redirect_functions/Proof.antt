@@ -1,12 +1,9 @@
+-- `redirect::redirect_functions` meets its contract. Assumes nothing.
 use Prim.Native.Nat.{_-_}
 use Rattle.redirect.proofs.Turning.{Turning, turning-begin, turning-asks, turning-next, turning-done}
 use borrow.Author.Needs.{needs}
 use Rattle.redirect.proofs.redirect_functions.Statement.{statement}
 use Rattle.redirect.proofs.redirect_functions.Tie as tie
-use Rattle.redirect.proofs.redirect_functions.Reads as reads
-use Rattle.redirect.proofs.redirect_functions.Lts as lts
-use Rattle.redirect.proofs.redirect_one.Reads as redirect-one-reads
-use Rattle.redirect.proofs.wide.Reads as wide-reads
 
 abbrev Inv-loop : tie.InvT-loop
 Inv-loop words₀ tags n original replacement omit count j₀ words j = Turning words₀ tags n original replacement omit count words j
@@ -14,35 +11,27 @@ Inv-loop words₀ tags n original replacement omit count j₀ words j = Turning 
 abbrev μ-loop : tie.MeasureT-loop
 μ-loop words₀ tags n original replacement omit count j₀ words j = count - j
 
--- src/lib.rt:287:22
 element-copy-out-wide : tie.Need-element-copy-out-wide Inv-loop μ-loop
 element-copy-out-wide c = search needs
 
--- src/lib.rt:287:9
 wide-requires : tie.Need-wide-requires Inv-loop μ-loop
 wide-requires c κs = search needs
 
--- src/lib.rt:289:5
 loop-holds : tie.Need-loop-holds Inv-loop μ-loop
 loop-holds c = turning-begin (c .before .before .before .args .words .now) (c .before .before .before .args .tags .now) (c .before .before .before .args .n) (c .before .before .before .args .original) (c .before .before .before .args .replacement) (c .before .before .before .args .omit .now) (c .wide .result) (c .wide .ensures .0)
 
--- src/lib.rt:291:9
 add-j : tie.Need-add-j Inv-loop μ-loop
 add-j c = search needs
 
--- src/lib.rt:292:9
 redirect-one-requires : tie.Need-redirect-one-requires Inv-loop μ-loop
 redirect-one-requires c κs = turning-asks (c .before .before .before .before .before .before .args .words .now) (c .before .before .before .before .before .before .args .tags .now) (c .before .before .before .before .before .before .args .n) (c .before .before .before .before .before .before .args .original) (c .before .before .before .before .before .before .args .replacement) (c .before .before .before .before .before .before .args .omit .now) (c .before .before .before .before .before .before .pre) (c .before .before .before .wide .result) (c .before .before .loop .j) (c .before .before .loop .words) (c .before .before .loop .inv) (c .before .loop-test .taken)
 
--- src/lib.rt:289:5
 loop-less : tie.Need-loop-less Inv-loop μ-loop
 loop-less c = search needs
 
--- src/lib.rt:289:5
 loop-again : tie.Need-loop-again Inv-loop μ-loop
 loop-again c = turning-next (c .before .before .before .before .before .before .before .args .words .now) (c .before .before .before .before .before .before .before .args .tags .now) (c .before .before .before .before .before .before .before .args .n) (c .before .before .before .before .before .before .before .args .original) (c .before .before .before .before .before .before .before .args .replacement) (c .before .before .before .before .before .before .before .args .omit .now) (c .before .before .before .before .before .before .before .pre) (c .before .before .before .before .wide .result) (c .before .before .before .loop .j) (c .before .before .before .loop .words) (c .before .before .before .loop .inv) (c .before .before .loop-test .taken) (c .redirect-one .last .0) (c .redirect-one .ensures)
 
--- src/lib.rt:276:1
 returns : tie.Need-returns Inv-loop μ-loop
 returns c = turning-done (c .before .before .before .before .before .args .words .now) (c .before .before .before .before .before .args .tags .now) (c .before .before .before .before .before .args .n) (c .before .before .before .before .before .args .original) (c .before .before .before .before .before .args .replacement) (c .before .before .before .before .before .args .omit .now) (c .before .before .wide .result) (c .before .loop .j) (c .before .loop .words) (c .before .loop .inv) (c .loop-test .left)
 

@@ -1,3 +1,4 @@
+-- `redirect::redirect_one` meets its contract. Assumes nothing.
 use borrow.Author.Tests.{not-true, not-false}
 use native.Mathlib.Omega.{arith}
 use Rattle.redirect.proofs.Places.{start-in}
@@ -5,42 +6,28 @@ use Rattle.redirect.proofs.Turning.{one-stays, one-turns, one-asks}
 use borrow.Author.Needs.{needs}
 use Rattle.redirect.proofs.redirect_one.Statement.{statement}
 use Rattle.redirect.proofs.redirect_one.Tie as tie
-use Rattle.redirect.proofs.redirect_one.Reads as reads
-use Rattle.redirect.proofs.redirect_one.Lts as lts
-use Rattle.redirect.proofs.end_of.Reads as end-of-reads
-use Rattle.redirect.proofs.redirect_fn.Reads as redirect-fn-reads
-use Rattle.redirect.proofs.start_of.Reads as start-of-reads
-use Rattle.redirect.proofs.stays.Reads as stays-reads
 
--- src/lib.rt:268:9
 start-of-requires : tie.Need-start-of-requires
 start-of-requires c κs = search needs
 
--- src/lib.rt:269:37
 mul-stays : tie.Need-mul-stays
 mul-stays c = let h = start-in (c .before .before .before .pre .0 .taped) (c .before .before .before .args .j) (c .before .before .before .pre .1) in let e = c .start-of .ensures in record { fits = omega (arith, h, e) }
 
--- src/lib.rt:269:37
 element-copy-out-stays : tie.Need-element-copy-out-stays
 element-copy-out-stays c = let h = start-in (c .before .before .before .pre .0 .taped) (c .before .before .before .args .j) (c .before .before .before .pre .1) in let e = c .start-of .ensures in omega (arith, h, e)
 
--- src/lib.rt:269:9
 stays-requires : tie.Need-stays-requires
 stays-requires c κs = search needs
 
--- src/lib.rt:270:13
 end-of-requires : tie.Need-end-of-requires
 end-of-requires c κs = search needs
 
--- src/lib.rt:271:9
 redirect-fn-requires : tie.Need-redirect-fn-requires
 redirect-fn-requires c κs = one-asks (c .before .before .before .before .before .before .before .before .before .args .words .now) (c .before .before .before .before .before .before .before .before .before .args .tags .now) (c .before .before .before .before .before .before .before .before .before .args .n) (c .before .before .before .before .before .before .before .before .before .args .j) (c .before .before .before .before .before .before .before .before .before .pre .0) (c .before .before .before .before .before .before .before .before .before .pre .1) (c .before .before .before .before .before .before .start-of .result) (c .before .end-of .result) (c .before .before .before .before .before .before .start-of .ensures) (c .before .end-of .ensures)
 
--- src/lib.rt:255:1
 returns : tie.Need-returns
 returns c = one-turns (c .before .before .before .before .before .before .before .before .before .before .args .words .now) (c .before .before .before .before .before .before .before .before .before .before .args .tags .now) (c .before .before .before .before .before .before .before .before .before .before .args .n) (c .before .before .before .before .before .before .before .before .before .before .args .j) (c .before .before .before .before .before .before .before .before .before .before .pre .1) (c .before .before .before .before .before .before .before .before .before .before .args .original) (c .before .before .before .before .before .before .before .before .before .before .args .replacement) (c .before .before .before .before .before .before .before .before .before .before .args .omit .now) (c .before .before .before .before .before .before .before .start-of .result) (c .before .before .before .before .before .before .before .start-of .ensures) (c .before .before .before .before .before .stays .result) (c .before .before .before .before .before .stays .ensures) (c .before .before .before .before .before .before .before .before .before .before .pre .0) (not-true _ (c .before .before .before .before .if1 .taken)) (c .before .before .end-of .result) (c .before .before .end-of .ensures) (c .redirect-fn .last .0) (c .redirect-fn .ensures)
 
--- src/lib.rt:255:1
 returns-2 : tie.Need-returns-2
 returns-2 c = one-stays (c .before .before .before .before .before .before .args .words .now) (c .before .before .before .before .before .before .args .tags .now) (c .before .before .before .before .before .before .args .n) (c .before .before .before .before .before .before .args .j) (c .before .before .before .before .before .before .pre .1) (c .before .before .before .before .before .before .args .original) (c .before .before .before .before .before .before .args .replacement) (c .before .before .before .before .before .before .args .omit .now) (c .before .before .before .start-of .result) (c .before .before .before .start-of .ensures) (c .before .stays .result) (c .before .stays .ensures) (not-false _ (c .if1 .left))
 

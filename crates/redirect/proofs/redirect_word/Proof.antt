@@ -1,27 +1,21 @@
+-- `redirect::redirect_word` meets its contract. Assumes nothing.
 use Rattle.redirect.proofs.Leaves.{callee-is, callee-other, result-is, result-other, other-class}
 use borrow.Author.Needs.{needs}
 use Rattle.redirect.proofs.redirect_word.Statement.{statement}
 use Rattle.redirect.proofs.redirect_word.Tie as tie
-use Rattle.redirect.proofs.redirect_word.Reads as reads
-use Rattle.redirect.proofs.redirect_word.Lts as lts
 
--- src/lib.rt:212:13
 returns : tie.Need-returns
 returns c = search (callee-is, needs)
 
--- src/lib.rt:214:9
 returns-2 : tie.Need-returns-2
 returns-2 c = search (callee-other, needs)
 
--- src/lib.rt:218:13
 returns-3 : tie.Need-returns-3
 returns-3 c = search (result-is, needs)
 
--- src/lib.rt:207:1
 returns-4 : tie.Need-returns-4
 returns-4 c = search (result-other, needs)
 
--- src/lib.rt:207:1
 returns-5 : tie.Need-returns-5
 returns-5 c = search (other-class, needs)
 

@@ -1,29 +1,21 @@
+-- `redirect::redirect_words` meets its contract. Assumes nothing.
 use Rattle.redirect.proofs.Ending.{not-done, words-stay, words-turn}
 use borrow.Author.Needs.{needs}
 use Rattle.redirect.proofs.redirect_words.Statement.{statement}
 use Rattle.redirect.proofs.redirect_words.Tie as tie
-use Rattle.redirect.proofs.redirect_words.Reads as reads
-use Rattle.redirect.proofs.redirect_words.Lts as lts
-use Rattle.redirect.proofs.redirect_all.Reads as redirect-all-reads
-use Rattle.redirect.proofs.test.Reads as test-reads
 
--- src/lib.rt:345:9
 test-requires : tie.Need-test-requires
 test-requires c κs = search needs
 
--- src/lib.rt:346:26
 enum-known-r : tie.Need-enum-known-r
 enum-known-r c = search needs
 
--- src/lib.rt:347:9
 returns : tie.Need-returns
 returns c = words-stay (c .before .before .before .before .args .words .now) (c .before .before .before .before .args .tags .now) (c .before .before .before .before .args .n) (c .before .before .before .before .args .original) (c .before .before .before .before .args .replacement) (c .before .before .before .before .args .omit .now) (c .before .test .result) (c .before .test .ensures) (not-done (c .before .test .result) (c .match .keys2))
 
--- src/lib.rt:349:5
 redirect-all-requires : tie.Need-redirect-all-requires
 redirect-all-requires c κs = search needs
 
--- src/lib.rt:334:1
 returns-2 : tie.Need-returns-2
 returns-2 c = words-turn (c .before .before .before .before .before .before .before .before .args .words .now) (c .before .before .before .before .before .before .before .before .args .tags .now) (c .before .before .before .before .before .before .before .before .args .n) (c .before .before .before .before .before .before .before .before .args .original) (c .before .before .before .before .before .before .before .before .args .replacement) (c .before .before .before .before .before .before .before .before .args .omit .now) (c .before .before .before .before .before .test .result) (c .before .before .before .before .before .test .ensures) (c .before .before .before .before .before .before .before .before .pre) (c .before .before .before .r .given .0 .0) (c .before .before .before .r .given .0 .1 .0) (search needs) (c .redirect-all .last .0) (c .redirect-all .ensures)
 

@@ -1,69 +1,52 @@
+-- `redirect::results_agree` meets its contract. Assumes nothing.
 use Rattle.redirect.proofs.Finding.{differ-presence, both-none, type-a, type-b, types-decide}
 use Rattle.redirect.proofs.Leaves.{small-fits, small-fits-four}
 use borrow.Author.Needs.{needs}
 use Rattle.redirect.proofs.results_agree.Statement.{statement}
 use Rattle.redirect.proofs.results_agree.Tie as tie
-use Rattle.redirect.proofs.results_agree.Reads as reads
-use Rattle.redirect.proofs.results_agree.Lts as lts
-use Rattle.redirect.proofs.returns_at.Reads as returns-at-reads
 
--- src/lib.rt:172:9
 returns-at-requires : tie.Need-returns-at-requires
 returns-at-requires c κs = search needs
 
--- src/lib.rt:173:9
 returns-at-requires-2 : tie.Need-returns-at-requires-2
 returns-at-requires-2 c κs = search needs
 
--- src/lib.rt:174:16
 mul-some : tie.Need-mul-some
 mul-some c = search needs
 
--- src/lib.rt:174:16
 element-copy-out-some : tie.Need-element-copy-out-some
 element-copy-out-some c = search needs
 
--- src/lib.rt:175:16
 mul-if1 : tie.Need-mul-if1
 mul-if1 c = search needs
 
--- src/lib.rt:175:16
 element-copy-out-if1 : tie.Need-element-copy-out-if1
 element-copy-out-if1 c = search needs
 
--- src/lib.rt:176:9
 returns : tie.Need-returns
 returns c = search (differ-presence, needs)
 
--- src/lib.rt:179:9
 returns-2 : tie.Need-returns-2
 returns-2 c = search (both-none, needs)
 
--- src/lib.rt:181:11
 add-result : tie.Need-add-result
 add-result c = search needs
 
--- src/lib.rt:181:5
 mul-result : tie.Need-mul-result
 mul-result c = search needs
 
--- src/lib.rt:181:5
 element-copy-out-result : tie.Need-element-copy-out-result
 element-copy-out-result c = type-a (c .before .before .before .before .before .before .args .words .now) (c .before .before .before .before .before .before .args .tags .now) (c .before .before .before .before .before .before .args .n) (c .before .before .before .before .before .before .args .i) (c .before .before .before .before .before .before .args .k) (c .before .before .before .before .before .before .pre .0) (c .before .before .before .before .before .before .pre .1 .0) (c .before .before .before .before .before .before .pre .1 .1) (c .before .before .before .before .before .returns-at .result) (c .before .before .before .before .returns-at2 .result) (c .before .before .before .before .before .returns-at .ensures .0) (c .before .before .before .before .returns-at2 .ensures .0) (c .before .if1 .left) (c .if2 .left)
 
--- src/lib.rt:181:27
 add-result-2 : tie.Need-add-result-2
 add-result-2 c = search needs
 
--- src/lib.rt:181:21
 mul-result-2 : tie.Need-mul-result-2
 mul-result-2 c = search needs
 
--- src/lib.rt:181:21
 element-copy-out-result-2 : tie.Need-element-copy-out-result-2
 element-copy-out-result-2 c = type-b (c .before .before .before .before .before .before .before .args .words .now) (c .before .before .before .before .before .before .before .args .tags .now) (c .before .before .before .before .before .before .before .args .n) (c .before .before .before .before .before .before .before .args .i) (c .before .before .before .before .before .before .before .args .k) (c .before .before .before .before .before .before .before .pre .0) (c .before .before .before .before .before .before .before .pre .1 .0) (c .before .before .before .before .before .before .before .pre .1 .1) (c .before .before .before .before .before .before .returns-at .result) (c .before .before .before .before .before .returns-at2 .result) (c .before .before .before .before .before .before .returns-at .ensures .0) (c .before .before .before .before .before .returns-at2 .ensures .0) (c .before .before .if1 .left) (c .before .if2 .left)
 
--- src/lib.rt:167:1
 returns-3 : tie.Need-returns-3
 returns-3 c = search (types-decide, needs)
 

@@ -1,64 +1,47 @@
+-- `redirect::test` meets its contract. Assumes nothing.
 use mathlib.Core.Path.{sym, _∙_}
 use borrow.Author.Tests.{not-true, not-false}
 use Rattle.redirect.proofs.Testing.{found-in, test-outside, test-original, test-replacement, test-compared}
 use borrow.Author.Needs.{needs}
 use Rattle.redirect.proofs.test.Statement.{statement}
 use Rattle.redirect.proofs.test.Tie as tie
-use Rattle.redirect.proofs.test.Reads as reads
-use Rattle.redirect.proofs.test.Lts as lts
-use Rattle.redirect.proofs.compare.Reads as compare-reads
-use Rattle.redirect.proofs.find.Reads as find-reads
-use Rattle.redirect.proofs.inside.Reads as inside-reads
 
--- src/lib.rt:194:45
 element-copy-out-inside : tie.Need-element-copy-out-inside
 element-copy-out-inside c = search needs
 
--- src/lib.rt:194:9
 inside-requires : tie.Need-inside-requires
 inside-requires c κs = search needs
 
--- src/lib.rt:195:9
 returns : tie.Need-returns
 returns c = test-outside (c .before .before .before .before .args .words .now) (c .before .before .before .before .args .tags .now) (c .before .before .before .before .args .n) (c .before .before .before .before .args .original) (c .before .before .before .before .args .replacement) (c .before .before .before .before .args .omit .now) (c .before .inside .result) (c .before .inside .ensures) (not-true _ (c .if1 .taken))
 
--- src/lib.rt:197:24
 find-requires : tie.Need-find-requires
 find-requires c κs = search needs
 
--- src/lib.rt:197:19
 enum-known-a : tie.Need-enum-known-a
 enum-known-a c = search needs
 
--- src/lib.rt:198:9
 enum-told : tie.Need-enum-told
 enum-told c = search needs
 
--- src/lib.rt:198:9
 returns-2 : tie.Need-returns-2
 returns-2 c = test-original (c .before .before .before .before .before .before .before .args .words .now) (c .before .before .before .before .before .before .before .args .tags .now) (c .before .before .before .before .before .before .before .args .n) (c .before .before .before .before .before .before .before .args .original) (c .before .before .before .before .before .before .before .args .replacement) (c .before .before .before .before .before .before .before .args .omit .now) (c .before .before .before .before .inside .result) (c .before .before .before .before .inside .ensures) (not-false _ (c .before .before .before .if1 .left)) (c .before .before .find .result) (c .before .before .find .ensures) (search needs)
 
--- src/lib.rt:200:24
 find-requires-2 : tie.Need-find-requires-2
 find-requires-2 c κs = search needs
 
--- src/lib.rt:200:19
 enum-known-b : tie.Need-enum-known-b
 enum-known-b c = search needs
 
--- src/lib.rt:201:9
 enum-told-2 : tie.Need-enum-told-2
 enum-told-2 c = search needs
 
--- src/lib.rt:201:9
 returns-3 : tie.Need-returns-3
 returns-3 c = test-replacement (c .before .before .before .before .before .before .before .before .before .before .before .args .words .now) (c .before .before .before .before .before .before .before .before .before .before .before .args .tags .now) (c .before .before .before .before .before .before .before .before .before .before .before .args .n) (c .before .before .before .before .before .before .before .before .before .before .before .args .original) (c .before .before .before .before .before .before .before .before .before .before .before .args .replacement) (c .before .before .before .before .before .before .before .before .before .before .before .args .omit .now) (c .before .before .before .before .before .before .before .before .inside .result) (c .before .before .before .before .before .before .before .before .inside .ensures) (not-false _ (c .before .before .before .before .before .before .before .if1 .left)) (c .before .before .before .before .before .before .find .result) (c .before .before .before .before .before .before .find .ensures) (c .before .before .before .before .a .given .0 .0) (search needs) (c .before .before .find2 .result) (c .before .before .find2 .ensures) (search needs)
 
--- src/lib.rt:203:5
 compare-requires : tie.Need-compare-requires
 compare-requires c κs = (c .before .before .before .before .before .before .before .before .before .before .before .before .pre, (found-in (c .before .before .before .before .before .before .before .before .before .before .before .before .args .words .now) (c .before .before .before .before .before .before .before .before .before .before .before .before .args .tags .now) (c .before .before .before .before .before .before .before .before .before .before .before .before .args .n) (c .before .before .before .before .before .before .before .before .before .before .before .before .args .original) (c .before .before .before .before .before .before .before .before .before .before .before .before .pre) (c .before .before .before .before .before .before .before .find .result) (c .before .before .before .before .before .a .given .0 .0) (search needs) (c .before .before .before .before .before .before .before .find .ensures), found-in (c .before .before .before .before .before .before .before .before .before .before .before .before .args .words .now) (c .before .before .before .before .before .before .before .before .before .before .before .before .args .tags .now) (c .before .before .before .before .before .before .before .before .before .before .before .before .args .n) (c .before .before .before .before .before .before .before .before .before .before .before .before .args .replacement) (c .before .before .before .before .before .before .before .before .before .before .before .before .pre) (c .before .before .before .find2 .result) (c .before .b .given .0 .0) (search needs) (c .before .before .before .find2 .ensures)))
 
--- src/lib.rt:190:1
 returns-4 : tie.Need-returns-4
 returns-4 c = test-compared (c .before .before .before .before .before .before .before .before .before .before .before .before .before .args .words .now) (c .before .before .before .before .before .before .before .before .before .before .before .before .before .args .tags .now) (c .before .before .before .before .before .before .before .before .before .before .before .before .before .args .n) (c .before .before .before .before .before .before .before .before .before .before .before .before .before .args .original) (c .before .before .before .before .before .before .before .before .before .before .before .before .before .args .replacement) (c .before .before .before .before .before .before .before .before .before .before .before .before .before .args .omit .now) (c .before .before .before .before .before .before .before .before .before .before .inside .result) (c .before .before .before .before .before .before .before .before .before .before .inside .ensures) (not-false _ (c .before .before .before .before .before .before .before .before .before .if1 .left)) (c .before .before .before .before .before .before .before .before .find .result) (c .before .before .before .before .before .before .before .before .find .ensures) (c .before .before .before .before .before .before .a .given .0 .0) (search needs) (c .before .before .before .before .find2 .result) (c .before .before .before .before .find2 .ensures) (c .before .before .b .given .0 .0) (search needs) (c .compare .result) (c .compare .ensures)
 

@@ -1,3 +1,4 @@
+-- `scope::entries` meets its contract. Assumes nothing.
 use mathlib.Core.Path.{refl}
 use Prim.Native.Nat.{_-_}
 use borrow.Author.Needs.{needs}
@@ -8,12 +9,6 @@ use Rattle.scope.proofs.Scopes.{absurd-bool}
 use Rattle.scope.proofs.Images.{InEntries, entries-begin, entries-done, entries-stated, entries-over, entries-next, entries-small}
 use Rattle.scope.proofs.entries.Statement.{statement}
 use Rattle.scope.proofs.entries.Tie as tie
-use Rattle.scope.proofs.entries.Reads as reads
-use Rattle.scope.proofs.entries.Lts as lts
-use Rattle.numbers.proofs.record_at.Reads as record-at-reads
-use Rattle.numbers.proofs.record_end.Reads as record-end-reads
-use Rattle.scope.proofs.body.wide.Reads as wide-reads
-use Rattle.scope.proofs.function.Reads as function-reads
 
 abbrev Inv-loop : tie.InvT-loop
 Inv-loop words tags starts₀ list₀ until₀ n count j₀ starts list until j = InEntries words tags n j × Lent starts list until
@@ -21,51 +16,39 @@ Inv-loop words tags starts₀ list₀ until₀ n count j₀ starts list until j 
 abbrev μ-loop : tie.MeasureT-loop
 μ-loop words tags starts₀ list₀ until₀ n count j₀ starts list until j = count - j
 
--- src/lib.rt:113:22
 element-copy-out-wide : tie.Need-element-copy-out-wide Inv-loop μ-loop
 element-copy-out-wide c = search needs
 
--- src/lib.rt:113:9
 wide-requires : tie.Need-wide-requires Inv-loop μ-loop
 wide-requires c κs = search needs
 
--- src/lib.rt:115:5
 loop-holds : tie.Need-loop-holds Inv-loop μ-loop
 loop-holds c = (entries-begin _ _ _ (c .before .before .pre .1 .0), c .before .before .pre .1 .1)
 
--- src/lib.rt:117:9
 add-j : tie.Need-add-j Inv-loop μ-loop
 add-j c = search needs
 
--- src/lib.rt:118:13
 record-at-requires : tie.Need-record-at-requires Inv-loop μ-loop
 record-at-requires c κs = (c .before .before .before .before .pre .0, (search needs, entries-in _ _ _ (c .before .before .wide .ensures) (c .loop-test .taken)))
 
--- src/lib.rt:119:13
 record-end-requires : tie.Need-record-end-requires Inv-loop μ-loop
 record-end-requires c κs = (c .before .before .before .before .before .pre .0, (search needs, entries-in _ _ _ (c .before .before .before .wide .ensures) (c .before .loop-test .taken)))
 
--- src/lib.rt:120:60
 add-function : tie.Need-add-function Inv-loop μ-loop
 add-function c = let h = entries-small _ _ _ (c .before .before .before .before .before .before .before .before .before .pre .1 .0) _ _ (c .before .before .before .before .before .before .before .wide .ensures) (c .before .before .before .before .before .before .loop .inv .0) (c .before .before .before .before .before .loop-test .taken) _ _ (c .before .before .before .before .record-at .ensures) (c .before .before .before .record-end .ensures) (c .before .before .before .before .before .before .before .before .before .pre .0) in search needs
 
--- src/lib.rt:120:13
 function-requires : tie.Need-function-requires Inv-loop μ-loop
 function-requires c κs = (entries-stated _ _ _ (c .before .before .before .before .before .before .before .before .before .pre .1 .0) _ _ (c .before .before .before .before .before .before .before .wide .ensures) (c .before .before .before .before .before .before .loop .inv .0) (c .before .before .before .before .before .loop-test .taken) _ _ (c .before .before .before .before .record-at .ensures) (c .before .before .before .record-end .ensures) (c .before .before .before .before .before .before .before .before .before .pre .0), c .before .before .before .before .before .before .loop .inv .1)
 
--- src/lib.rt:121:13
 returns : tie.Need-returns Inv-loop μ-loop
 returns c = (entries-over _ _ _ (c .before .before .before .before .before .before .before .before .before .before .before .pre .1 .0) _ _ (c .before .before .before .before .before .before .before .before .before .wide .ensures) (c .before .before .before .before .before .before .before .before .loop .inv .0) (c .before .before .before .before .before .before .before .loop-test .taken) _ _ (c .before .before .before .before .before .before .record-at .ensures) (c .before .before .before .before .before .record-end .ensures) _ (c .before .function .ensures .0) (c .if1 .taken), λ h. absurd-bool h refl)
 
--- src/lib.rt:115:5
 loop-less : tie.Need-loop-less Inv-loop μ-loop
 loop-less c = search needs
 
--- src/lib.rt:115:5
 loop-again : tie.Need-loop-again Inv-loop μ-loop
 loop-again c = (entries-next _ _ _ (c .before .before .before .before .before .before .before .before .before .before .before .pre .1 .0) _ _ (c .before .before .before .before .before .before .before .before .before .wide .ensures) (c .before .before .before .before .before .before .before .before .loop .inv .0) (c .before .before .before .before .before .before .before .loop-test .taken) _ _ (c .before .before .before .before .before .before .record-at .ensures) (c .before .before .before .before .before .record-end .ensures) _ (c .before .function .ensures .0) (c .if1 .left), c .before .function .ensures .1 (not-false _ (c .if1 .left)))
 
--- src/lib.rt:99:1
 returns-2 : tie.Need-returns-2 Inv-loop μ-loop
 returns-2 c = (entries-done _ _ _ (c .before .before .before .before .pre .1 .0) _ _ (c .before .before .wide .ensures) (c .before .loop .inv .0) (c .loop-test .left), λ h. c .before .loop .inv .1)
 

@@ -1,3 +1,4 @@
+-- `scope::functions` meets its contract. Assumes nothing.
 use mathlib.Core.Path.{refl}
 use Prim.Native.Nat.{_-_}
 use borrow.Author.Needs.{needs}
@@ -8,12 +9,6 @@ use Rattle.scope.proofs.Scopes.{absurd-bool}
 use Rattle.scope.proofs.Images.{InFunctions, functions-begin, functions-done, functions-stated, functions-over, functions-next}
 use Rattle.scope.proofs.functions.Statement.{statement}
 use Rattle.scope.proofs.functions.Tie as tie
-use Rattle.scope.proofs.functions.Reads as reads
-use Rattle.scope.proofs.functions.Lts as lts
-use Rattle.numbers.proofs.record_at.Reads as record-at-reads
-use Rattle.numbers.proofs.record_end.Reads as record-end-reads
-use Rattle.scope.proofs.body.wide.Reads as wide-reads
-use Rattle.scope.proofs.function.Reads as function-reads
 
 abbrev Inv-loop : tie.InvT-loop
 Inv-loop words tags starts₀ list₀ until₀ n count j₀ starts list until j = InFunctions words tags n j × Lent starts list until
@@ -21,47 +16,36 @@ Inv-loop words tags starts₀ list₀ until₀ n count j₀ starts list until j 
 abbrev μ-loop : tie.MeasureT-loop
 μ-loop words tags starts₀ list₀ until₀ n count j₀ starts list until j = count - j
 
--- src/lib.rt:84:22
 element-copy-out-wide : tie.Need-element-copy-out-wide Inv-loop μ-loop
 element-copy-out-wide c = search needs
 
--- src/lib.rt:84:9
 wide-requires : tie.Need-wide-requires Inv-loop μ-loop
 wide-requires c κs = search needs
 
--- src/lib.rt:86:5
 loop-holds : tie.Need-loop-holds Inv-loop μ-loop
 loop-holds c = (functions-begin _ _ _ (c .before .before .pre .1 .0), c .before .before .pre .1 .1)
 
--- src/lib.rt:88:9
 add-j : tie.Need-add-j Inv-loop μ-loop
 add-j c = search needs
 
--- src/lib.rt:89:13
 record-at-requires : tie.Need-record-at-requires Inv-loop μ-loop
 record-at-requires c κs = (c .before .before .before .before .pre .0, (search needs, functions-in _ _ _ (c .before .before .wide .ensures) (c .loop-test .taken)))
 
--- src/lib.rt:90:13
 record-end-requires : tie.Need-record-end-requires Inv-loop μ-loop
 record-end-requires c κs = (c .before .before .before .before .before .pre .0, (search needs, functions-in _ _ _ (c .before .before .before .wide .ensures) (c .before .loop-test .taken)))
 
--- src/lib.rt:91:13
 function-requires : tie.Need-function-requires Inv-loop μ-loop
 function-requires c κs = (functions-stated _ _ _ (c .before .before .before .before .before .before .before .before .before .pre .1 .0) _ _ (c .before .before .before .before .before .before .before .wide .ensures) (c .before .before .before .before .before .before .loop .inv .0) (c .before .before .before .before .before .loop-test .taken) _ _ (c .before .before .before .before .record-at .ensures) (c .before .before .before .record-end .ensures) (c .before .before .before .before .before .before .before .before .before .pre .0), c .before .before .before .before .before .before .loop .inv .1)
 
--- src/lib.rt:92:13
 returns : tie.Need-returns Inv-loop μ-loop
 returns c = (functions-over _ _ _ (c .before .before .before .before .before .before .before .before .before .before .before .pre .1 .0) _ _ (c .before .before .before .before .before .before .before .before .before .wide .ensures) (c .before .before .before .before .before .before .before .before .loop .inv .0) (c .before .before .before .before .before .before .before .loop-test .taken) _ _ (c .before .before .before .before .before .before .record-at .ensures) (c .before .before .before .before .before .record-end .ensures) _ (c .before .function .ensures .0) (c .if1 .taken), λ h. absurd-bool h refl)
 
--- src/lib.rt:86:5
 loop-less : tie.Need-loop-less Inv-loop μ-loop
 loop-less c = search needs
 
--- src/lib.rt:86:5
 loop-again : tie.Need-loop-again Inv-loop μ-loop
 loop-again c = (functions-next _ _ _ (c .before .before .before .before .before .before .before .before .before .before .before .pre .1 .0) _ _ (c .before .before .before .before .before .before .before .before .before .wide .ensures) (c .before .before .before .before .before .before .before .before .loop .inv .0) (c .before .before .before .before .before .before .before .loop-test .taken) _ _ (c .before .before .before .before .before .before .record-at .ensures) (c .before .before .before .before .before .record-end .ensures) _ (c .before .function .ensures .0) (c .if1 .left), c .before .function .ensures .1 (not-false _ (c .if1 .left)))
 
--- src/lib.rt:70:1
 returns-2 : tie.Need-returns-2 Inv-loop μ-loop
 returns-2 c = (functions-done _ _ _ (c .before .before .before .before .pre .1 .0) _ _ (c .before .before .wide .ensures) (c .before .loop .inv .0) (c .loop-test .left), λ h. c .before .loop .inv .1)
 

@@ -1,26 +1,19 @@
+-- `scope::in_scope` meets its contract. Assumes nothing.
 use borrow.Author.Tests.{not-false}
 use Rattle.scope.proofs.Images.{image-functions, image-entries}
 use borrow.Author.Needs.{needs}
 use Rattle.scope.proofs.in_scope.Statement.{statement}
 use Rattle.scope.proofs.in_scope.Tie as tie
-use Rattle.scope.proofs.in_scope.Reads as reads
-use Rattle.scope.proofs.in_scope.Lts as lts
-use Rattle.scope.proofs.entries.Reads as entries-reads
-use Rattle.scope.proofs.functions.Reads as functions-reads
 
--- src/lib.rt:136:9
 functions-requires : tie.Need-functions-requires
 functions-requires c κs = search needs
 
--- src/lib.rt:137:9
 returns : tie.Need-returns
 returns c = image-functions _ _ _ (c .before .before .before .before .before .pre .1) _ (c .before .functions .ensures .0) (c .if1 .taken)
 
--- src/lib.rt:139:5
 entries-requires : tie.Need-entries-requires
 entries-requires c κs = (c .before .before .before .before .before .before .before .before .pre .0, (c .before .before .before .before .before .before .before .before .pre .1, c .before .before .before .before .functions .ensures .1 (not-false _ (c .before .before .before .if1 .left))))
 
--- src/lib.rt:128:1
 returns-2 : tie.Need-returns-2
 returns-2 c = image-entries _ _ _ (c .before .before .before .before .before .before .before .before .before .pre .1) _ (c .before .before .before .before .before .functions .ensures .0) (c .before .before .before .before .if1 .left) _ (c .entries .ensures .0)
 

@@ -1,3 +1,4 @@
+-- `image::record::+opened+part+row+stmt+times` meets its contract. Assumes nothing.
 use Prim.Native.Nat.{_*_, _+_, _-_}
 use native.Mathlib.Omega.{arith}
 use Rattle.image.proofs.Rows.{in-table}
@@ -74,7 +75,6 @@ times-at t = and 3 times-kinds.ps (is 3 times-kinds.ps μ-times t) times.Pre
 abbrev times-below : ℕ → In 3 times-kinds.ps
 times-below t = and 3 times-kinds.ps (falls 3 times-kinds.ps _<_ μ-times t) times.Pre
 
--- src/record.rt:204:9
 opened-returns : (t : ℕ) → opened-lts.Need-returns (
   narrow-reads.Asked,
   narrow-reads.Learnt,
@@ -85,7 +85,6 @@ opened-returns : (t : ℕ) → opened-lts.Need-returns (
 ) (opened-at t) opened.Post
 opened-returns t c = search (opened-short, needs)
 
--- src/record.rt:206:16
 opened-narrow-requires : (t : ℕ) → opened-lts.Need-narrow-requires (
   narrow-reads.Asked,
   narrow-reads.Learnt,
@@ -96,7 +95,6 @@ opened-narrow-requires : (t : ℕ) → opened-lts.Need-narrow-requires (
 ) (opened-at t) opened.Post
 opened-narrow-requires t c κs = search needs
 
--- src/record.rt:206:5
 opened-element-write-tags : (t : ℕ) → opened-lts.Need-element-write-tags (
   narrow-reads.Asked,
   narrow-reads.Learnt,
@@ -107,7 +105,6 @@ opened-element-write-tags : (t : ℕ) → opened-lts.Need-element-write-tags (
 ) (opened-at t) opened.Post
 opened-element-write-tags t c = search needs
 
--- src/record.rt:207:13
 opened-mul-w : (t : ℕ) → opened-lts.Need-mul-w (
   narrow-reads.Asked,
   narrow-reads.Learnt,
@@ -118,7 +115,6 @@ opened-mul-w : (t : ℕ) → opened-lts.Need-mul-w (
 ) (opened-at t) opened.Post
 opened-mul-w t c = search needs
 
--- src/record.rt:207:13
 opened-shared-slice-read-w : (t : ℕ) → opened-lts.Need-shared-slice-read-w (
   narrow-reads.Asked,
   narrow-reads.Learnt,
@@ -129,7 +125,6 @@ opened-shared-slice-read-w : (t : ℕ) → opened-lts.Need-shared-slice-read-w (
 ) (opened-at t) opened.Post
 opened-shared-slice-read-w t c = search needs
 
--- src/record.rt:208:9
 opened-brings-requires : (t : ℕ) → opened-lts.Need-brings-requires (
   narrow-reads.Asked,
   narrow-reads.Learnt,
@@ -140,7 +135,6 @@ opened-brings-requires : (t : ℕ) → opened-lts.Need-brings-requires (
 ) (opened-at t) opened.Post
 opened-brings-requires t c κs = search needs
 
--- src/record.rt:210:20
 opened-enum-known-more : (t : ℕ) → opened-lts.Need-enum-known-more (
   narrow-reads.Asked,
   narrow-reads.Learnt,
@@ -151,7 +145,6 @@ opened-enum-known-more : (t : ℕ) → opened-lts.Need-enum-known-more (
 ) (opened-at t) opened.Post
 opened-enum-known-more t c = search needs
 
--- src/record.rt:210:56
 opened-add-times : (t : ℕ) → opened-lts.Need-add-times (
   narrow-reads.Asked,
   narrow-reads.Learnt,
@@ -162,7 +155,6 @@ opened-add-times : (t : ℕ) → opened-lts.Need-add-times (
 ) (opened-at t) opened.Post
 opened-add-times t c = search needs
 
--- src/record.rt:210:30
 opened-times-requires : (t : ℕ) → opened-lts.Need-times-requires (
   narrow-reads.Asked,
   narrow-reads.Learnt,
@@ -173,7 +165,6 @@ opened-times-requires : (t : ℕ) → opened-lts.Need-times-requires (
 ) (opened-at t) opened.Post
 opened-times-requires t c κs = (search needs, (search needs, (search needs, (search needs, (search needs, search (opened-in, needs))))))
 
--- src/record.rt:211:23
 opened-enum-told : (t : ℕ) → opened-lts.Need-enum-told (
   narrow-reads.Asked,
   narrow-reads.Learnt,
@@ -184,7 +175,6 @@ opened-enum-told : (t : ℕ) → opened-lts.Need-enum-told (
 ) (opened-at t) opened.Post
 opened-enum-told t c = search needs
 
--- src/record.rt:212:26
 opened-enum-told-2 : (t : ℕ) → opened-lts.Need-enum-told-2 (
   narrow-reads.Asked,
   narrow-reads.Learnt,
@@ -195,7 +185,6 @@ opened-enum-told-2 : (t : ℕ) → opened-lts.Need-enum-told-2 (
 ) (opened-at t) opened.Post
 opened-enum-told-2 t c = search needs
 
--- src/record.rt:186:1
 opened-returns-2 : (t : ℕ) → opened-lts.Need-returns-2 (
   narrow-reads.Asked,
   narrow-reads.Learnt,
@@ -206,7 +195,6 @@ opened-returns-2 : (t : ℕ) → opened-lts.Need-returns-2 (
 ) (opened-at t) opened.Post
 opened-returns-2 t c = search (opened-rows, needs)
 
--- src/record.rt:186:1
 opened-returns-3 : (t : ℕ) → opened-lts.Need-returns-3 (
   narrow-reads.Asked,
   narrow-reads.Learnt,
@@ -217,7 +205,6 @@ opened-returns-3 : (t : ℕ) → opened-lts.Need-returns-3 (
 ) (opened-at t) opened.Post
 opened-returns-3 t c = search (opened-over, needs)
 
--- src/record.rt:186:1
 opened-returns-4 : (t : ℕ) → opened-lts.Need-returns-4 (
   narrow-reads.Asked,
   narrow-reads.Learnt,
@@ -228,7 +215,6 @@ opened-returns-4 : (t : ℕ) → opened-lts.Need-returns-4 (
 ) (opened-at t) opened.Post
 opened-returns-4 t c = search (opened-unknown, needs)
 
--- src/record.rt:260:9
 part-text-requires : (t : ℕ) → part-lts.Need-text-requires (
   text-reads.Asked,
   text-reads.Learnt,
@@ -241,7 +227,6 @@ part-text-requires : (t : ℕ) → part-lts.Need-text-requires (
 ) (part-at t) part.Post
 part-text-requires t c κs = search needs
 
--- src/record.rt:260:9
 part-returns : (t : ℕ) → part-lts.Need-returns (
   text-reads.Asked,
   text-reads.Learnt,
@@ -254,7 +239,6 @@ part-returns : (t : ℕ) → part-lts.Need-returns (
 ) (part-at t) part.Post
 part-returns t c = search (part-text, needs)
 
--- src/record.rt:263:9
 part-operands-requires : (t : ℕ) → part-lts.Need-operands-requires (
   text-reads.Asked,
   text-reads.Learnt,
@@ -267,7 +251,6 @@ part-operands-requires : (t : ℕ) → part-lts.Need-operands-requires (
 ) (part-at t) part.Post
 part-operands-requires t c κs = search needs
 
--- src/record.rt:263:9
 part-returns-2 : (t : ℕ) → part-lts.Need-returns-2 (
   text-reads.Asked,
   text-reads.Learnt,
@@ -280,7 +263,6 @@ part-returns-2 : (t : ℕ) → part-lts.Need-returns-2 (
 ) (part-at t) part.Post
 part-returns-2 t c = search (part-operands, needs)
 
--- src/record.rt:266:9
 part-stmt-requires : (t : ℕ) → part-lts.Need-stmt-requires (
   text-reads.Asked,
   text-reads.Learnt,
@@ -293,7 +275,6 @@ part-stmt-requires : (t : ℕ) → part-lts.Need-stmt-requires (
 ) (part-at t) part.Post
 part-stmt-requires t c κs = search needs
 
--- src/record.rt:266:9
 part-returns-3 : (t : ℕ) → part-lts.Need-returns-3 (
   text-reads.Asked,
   text-reads.Learnt,
@@ -306,7 +287,6 @@ part-returns-3 : (t : ℕ) → part-lts.Need-returns-3 (
 ) (part-at t) part.Post
 part-returns-3 t c = search (part-stmt, needs)
 
--- src/record.rt:270:13
 part-returns-4 : (t : ℕ) → part-lts.Need-returns-4 (
   text-reads.Asked,
   text-reads.Learnt,
@@ -319,7 +299,6 @@ part-returns-4 : (t : ℕ) → part-lts.Need-returns-4 (
 ) (part-at t) part.Post
 part-returns-4 t c = search (part-deep, needs)
 
--- src/record.rt:272:55
 part-sub-opened : (t : ℕ) → part-lts.Need-sub-opened (
   text-reads.Asked,
   text-reads.Learnt,
@@ -332,7 +311,6 @@ part-sub-opened : (t : ℕ) → part-lts.Need-sub-opened (
 ) (part-at t) part.Post
 part-sub-opened t c = search needs
 
--- src/record.rt:272:9
 part-opened-requires : (t : ℕ) → part-lts.Need-opened-requires (
   text-reads.Asked,
   text-reads.Learnt,
@@ -345,7 +323,6 @@ part-opened-requires : (t : ℕ) → part-lts.Need-opened-requires (
 ) (part-at t) part.Post
 part-opened-requires t c κs = (search needs, (search needs, (search needs, (search needs, (search needs, (search needs, search needs))))))
 
--- src/record.rt:272:9
 part-returns-5 : (t : ℕ) → part-lts.Need-returns-5 (
   text-reads.Asked,
   text-reads.Learnt,
@@ -358,7 +335,6 @@ part-returns-5 : (t : ℕ) → part-lts.Need-returns-5 (
 ) (part-at t) part.Post
 part-returns-5 t c = search (part-block, needs)
 
--- src/record.rt:274:5
 part-opened-requires-2 : (t : ℕ) → part-lts.Need-opened-requires-2 (
   text-reads.Asked,
   text-reads.Learnt,
@@ -371,7 +347,6 @@ part-opened-requires-2 : (t : ℕ) → part-lts.Need-opened-requires-2 (
 ) (part-at t) part.Post
 part-opened-requires-2 t c κs = (search needs, (search needs, (search needs, (search needs, (search needs, (search needs, search needs))))))
 
--- src/record.rt:243:1
 part-returns-6 : (t : ℕ) → part-lts.Need-returns-6 (
   text-reads.Asked,
   text-reads.Learnt,
@@ -390,7 +365,6 @@ row-Inv-loop words tags₀ table at end pc left i₀ p₀ tags i p = Rowing word
 abbrev row-μ-loop : row-lts.MeasureT-loop
 row-μ-loop words tags₀ table at end pc left i₀ p₀ tags i p = 397 - p
 
--- src/record.rt:296:5
 row-loop-holds : (t : ℕ) → row-lts.Need-loop-holds (
   narrow-reads.Asked,
   narrow-reads.Learnt,
@@ -399,7 +373,6 @@ row-loop-holds : (t : ℕ) → row-lts.Need-loop-holds (
 ) (row-at t) row.Post row-Inv-loop row-μ-loop
 row-loop-holds t c = search (row-begin, needs)
 
--- src/record.rt:297:17
 row-mul-s : (t : ℕ) → row-lts.Need-mul-s (
   narrow-reads.Asked,
   narrow-reads.Learnt,
@@ -408,7 +381,6 @@ row-mul-s : (t : ℕ) → row-lts.Need-mul-s (
 ) (row-at t) row.Post row-Inv-loop row-μ-loop
 row-mul-s t c = search needs
 
--- src/record.rt:297:17
 row-shared-slice-read-s : (t : ℕ) → row-lts.Need-shared-slice-read-s (
   narrow-reads.Asked,
   narrow-reads.Learnt,
@@ -417,7 +389,6 @@ row-shared-slice-read-s : (t : ℕ) → row-lts.Need-shared-slice-read-s (
 ) (row-at t) row.Post row-Inv-loop row-μ-loop
 row-shared-slice-read-s t c = in-table (c .before .before .before .before .args .table .now) (search needs) _ (omega (arith, c .before .loop .inv .in-rows))
 
--- src/record.rt:299:13
 row-returns : (t : ℕ) → row-lts.Need-returns (
   narrow-reads.Asked,
   narrow-reads.Learnt,
@@ -426,7 +397,6 @@ row-returns : (t : ℕ) → row-lts.Need-returns (
 ) (row-at t) row.Post row-Inv-loop row-μ-loop
 row-returns t c = search (row-done, needs)
 
--- src/record.rt:301:9
 row-add-p : (t : ℕ) → row-lts.Need-add-p (
   narrow-reads.Asked,
   narrow-reads.Learnt,
@@ -435,7 +405,6 @@ row-add-p : (t : ℕ) → row-lts.Need-add-p (
 ) (row-at t) row.Post row-Inv-loop row-μ-loop
 row-add-p t c = search needs
 
--- src/record.rt:304:17
 row-returns-2 : (t : ℕ) → row-lts.Need-returns-2 (
   narrow-reads.Asked,
   narrow-reads.Learnt,
@@ -444,7 +413,6 @@ row-returns-2 : (t : ℕ) → row-lts.Need-returns-2 (
 ) (row-at t) row.Post row-Inv-loop row-μ-loop
 row-returns-2 t c = search (row-short, needs)
 
--- src/record.rt:307:13
 row-add-i : (t : ℕ) → row-lts.Need-add-i (
   narrow-reads.Asked,
   narrow-reads.Learnt,
@@ -453,7 +421,6 @@ row-add-i : (t : ℕ) → row-lts.Need-add-i (
 ) (row-at t) row.Post row-Inv-loop row-μ-loop
 row-add-i t c = search needs
 
--- src/record.rt:308:23
 row-narrow-requires : (t : ℕ) → row-lts.Need-narrow-requires (
   narrow-reads.Asked,
   narrow-reads.Learnt,
@@ -462,7 +429,6 @@ row-narrow-requires : (t : ℕ) → row-lts.Need-narrow-requires (
 ) (row-at t) row.Post row-Inv-loop row-μ-loop
 row-narrow-requires t c κs = search (row-symbol, needs)
 
--- src/record.rt:308:13
 row-element-write-tags : (t : ℕ) → row-lts.Need-element-write-tags (
   narrow-reads.Asked,
   narrow-reads.Learnt,
@@ -471,7 +437,6 @@ row-element-write-tags : (t : ℕ) → row-lts.Need-element-write-tags (
 ) (row-at t) row.Post row-Inv-loop row-μ-loop
 row-element-write-tags t c = search needs
 
--- src/record.rt:296:5
 row-loop-less : (t : ℕ) → row-lts.Need-loop-less (
   narrow-reads.Asked,
   narrow-reads.Learnt,
@@ -480,7 +445,6 @@ row-loop-less : (t : ℕ) → row-lts.Need-loop-less (
 ) (row-at t) row.Post row-Inv-loop row-μ-loop
 row-loop-less t c = search needs
 
--- src/record.rt:296:5
 row-loop-again : (t : ℕ) → row-lts.Need-loop-again (
   narrow-reads.Asked,
   narrow-reads.Learnt,
@@ -489,7 +453,6 @@ row-loop-again : (t : ℕ) → row-lts.Need-loop-again (
 ) (row-at t) row.Post row-Inv-loop row-μ-loop
 row-loop-again t c = search (row-plain, needs)
 
--- src/record.rt:310:17
 row-part-requires : (t : ℕ) → row-lts.Need-part-requires (
   narrow-reads.Asked,
   narrow-reads.Learnt,
@@ -498,7 +461,6 @@ row-part-requires : (t : ℕ) → row-lts.Need-part-requires (
 ) (row-at t) row.Post row-Inv-loop row-μ-loop
 row-part-requires t c κs = (search needs, (search needs, (search needs, (search needs, (search needs, search (row-large, row-symbol, needs))))))
 
--- src/record.rt:312:30
 row-enum-known-r : (t : ℕ) → row-lts.Need-enum-known-r (
   narrow-reads.Asked,
   narrow-reads.Learnt,
@@ -507,7 +469,6 @@ row-enum-known-r : (t : ℕ) → row-lts.Need-enum-known-r (
 ) (row-at t) row.Post row-Inv-loop row-μ-loop
 row-enum-known-r t c = search needs
 
--- src/record.rt:296:5
 row-loop-less-2 : (t : ℕ) → row-lts.Need-loop-less-2 (
   narrow-reads.Asked,
   narrow-reads.Learnt,
@@ -516,7 +477,6 @@ row-loop-less-2 : (t : ℕ) → row-lts.Need-loop-less-2 (
 ) (row-at t) row.Post row-Inv-loop row-μ-loop
 row-loop-less-2 t c = search needs
 
--- src/record.rt:296:5
 row-loop-again-2 : (t : ℕ) → row-lts.Need-loop-again-2 (
   narrow-reads.Asked,
   narrow-reads.Learnt,
@@ -525,7 +485,6 @@ row-loop-again-2 : (t : ℕ) → row-lts.Need-loop-again-2 (
 ) (row-at t) row.Post row-Inv-loop row-μ-loop
 row-loop-again-2 t c = search (row-again, needs)
 
--- src/record.rt:316:21
 row-enum-told : (t : ℕ) → row-lts.Need-enum-told (
   narrow-reads.Asked,
   narrow-reads.Learnt,
@@ -534,7 +493,6 @@ row-enum-told : (t : ℕ) → row-lts.Need-enum-told (
 ) (row-at t) row.Post row-Inv-loop row-μ-loop
 row-enum-told t c = search needs
 
--- src/record.rt:316:21
 row-returns-3 : (t : ℕ) → row-lts.Need-returns-3 (
   narrow-reads.Asked,
   narrow-reads.Learnt,
@@ -543,7 +501,6 @@ row-returns-3 : (t : ℕ) → row-lts.Need-returns-3 (
 ) (row-at t) row.Post row-Inv-loop row-μ-loop
 row-returns-3 t c = search (row-misfit, needs)
 
--- src/record.rt:319:21
 row-enum-told-2 : (t : ℕ) → row-lts.Need-enum-told-2 (
   narrow-reads.Asked,
   narrow-reads.Learnt,
@@ -552,7 +509,6 @@ row-enum-told-2 : (t : ℕ) → row-lts.Need-enum-told-2 (
 ) (row-at t) row.Post row-Inv-loop row-μ-loop
 row-enum-told-2 t c = search needs
 
--- src/record.rt:319:21
 row-returns-4 : (t : ℕ) → row-lts.Need-returns-4 (
   narrow-reads.Asked,
   narrow-reads.Learnt,
@@ -561,7 +517,6 @@ row-returns-4 : (t : ℕ) → row-lts.Need-returns-4 (
 ) (row-at t) row.Post row-Inv-loop row-μ-loop
 row-returns-4 t c = search (row-strange, needs)
 
--- src/record.rt:225:9
 stmt-returns : (t : ℕ) → stmt-lts.Need-returns (
   wide-reads.Asked,
   wide-reads.Learnt,
@@ -570,7 +525,6 @@ stmt-returns : (t : ℕ) → stmt-lts.Need-returns (
 ) (stmt-at t) stmt.Post
 stmt-returns t c = search (stmt-short, needs)
 
--- src/record.rt:227:5
 stmt-element-write-tags : (t : ℕ) → stmt-lts.Need-element-write-tags (
   wide-reads.Asked,
   wide-reads.Learnt,
@@ -579,7 +533,6 @@ stmt-element-write-tags : (t : ℕ) → stmt-lts.Need-element-write-tags (
 ) (stmt-at t) stmt.Post
 stmt-element-write-tags t c = search needs
 
--- src/record.rt:228:18
 stmt-mul-wide : (t : ℕ) → stmt-lts.Need-mul-wide (
   wide-reads.Asked,
   wide-reads.Learnt,
@@ -588,7 +541,6 @@ stmt-mul-wide : (t : ℕ) → stmt-lts.Need-mul-wide (
 ) (stmt-at t) stmt.Post
 stmt-mul-wide t c = search needs
 
--- src/record.rt:228:18
 stmt-shared-slice-read-wide : (t : ℕ) → stmt-lts.Need-shared-slice-read-wide (
   wide-reads.Asked,
   wide-reads.Learnt,
@@ -597,7 +549,6 @@ stmt-shared-slice-read-wide : (t : ℕ) → stmt-lts.Need-shared-slice-read-wide
 ) (stmt-at t) stmt.Post
 stmt-shared-slice-read-wide t c = search needs
 
--- src/record.rt:228:9
 stmt-wide-requires : (t : ℕ) → stmt-lts.Need-wide-requires (
   wide-reads.Asked,
   wide-reads.Learnt,
@@ -606,7 +557,6 @@ stmt-wide-requires : (t : ℕ) → stmt-lts.Need-wide-requires (
 ) (stmt-at t) stmt.Post
 stmt-wide-requires t c κs = search needs
 
--- src/record.rt:229:37
 stmt-add-row : (t : ℕ) → stmt-lts.Need-add-row (
   wide-reads.Asked,
   wide-reads.Learnt,
@@ -615,7 +565,6 @@ stmt-add-row : (t : ℕ) → stmt-lts.Need-add-row (
 ) (stmt-at t) stmt.Post
 stmt-add-row t c = search needs
 
--- src/record.rt:229:9
 stmt-row-requires : (t : ℕ) → stmt-lts.Need-row-requires (
   wide-reads.Asked,
   wide-reads.Learnt,
@@ -624,7 +573,6 @@ stmt-row-requires : (t : ℕ) → stmt-lts.Need-row-requires (
 ) (stmt-at t) stmt.Post
 stmt-row-requires t c κs = (search needs, (search needs, (search needs, (search needs, (search needs, search needs)))))
 
--- src/record.rt:231:22
 stmt-enum-known-r : (t : ℕ) → stmt-lts.Need-enum-known-r (
   wide-reads.Asked,
   wide-reads.Learnt,
@@ -633,7 +581,6 @@ stmt-enum-known-r : (t : ℕ) → stmt-lts.Need-enum-known-r (
 ) (stmt-at t) stmt.Post
 stmt-enum-known-r t c = search needs
 
--- src/record.rt:232:16
 stmt-add-if2 : (t : ℕ) → stmt-lts.Need-add-if2 (
   wide-reads.Asked,
   wide-reads.Learnt,
@@ -642,7 +589,6 @@ stmt-add-if2 : (t : ℕ) → stmt-lts.Need-add-if2 (
 ) (stmt-at t) stmt.Post
 stmt-add-if2 t c = search needs
 
--- src/record.rt:233:17
 stmt-returns-2 : (t : ℕ) → stmt-lts.Need-returns-2 (
   wide-reads.Asked,
   wide-reads.Learnt,
@@ -651,7 +597,6 @@ stmt-returns-2 : (t : ℕ) → stmt-lts.Need-returns-2 (
 ) (stmt-at t) stmt.Post
 stmt-returns-2 t c = search (stmt-next, needs)
 
--- src/record.rt:237:27
 stmt-enum-told : (t : ℕ) → stmt-lts.Need-enum-told (
   wide-reads.Asked,
   wide-reads.Learnt,
@@ -660,7 +605,6 @@ stmt-enum-told : (t : ℕ) → stmt-lts.Need-enum-told (
 ) (stmt-at t) stmt.Post
 stmt-enum-told t c = search needs
 
--- src/record.rt:238:28
 stmt-enum-told-2 : (t : ℕ) → stmt-lts.Need-enum-told-2 (
   wide-reads.Asked,
   wide-reads.Learnt,
@@ -669,7 +613,6 @@ stmt-enum-told-2 : (t : ℕ) → stmt-lts.Need-enum-told-2 (
 ) (stmt-at t) stmt.Post
 stmt-enum-told-2 t c = search needs
 
--- src/record.rt:217:1
 stmt-returns-3 : (t : ℕ) → stmt-lts.Need-returns-3 (
   wide-reads.Asked,
   wide-reads.Learnt,
@@ -678,7 +621,6 @@ stmt-returns-3 : (t : ℕ) → stmt-lts.Need-returns-3 (
 ) (stmt-at t) stmt.Post
 stmt-returns-3 t c = search (stmt-wrong, needs)
 
--- src/record.rt:217:1
 stmt-returns-4 : (t : ℕ) → stmt-lts.Need-returns-4 (
   wide-reads.Asked,
   wide-reads.Learnt,
@@ -687,7 +629,6 @@ stmt-returns-4 : (t : ℕ) → stmt-lts.Need-returns-4 (
 ) (stmt-at t) stmt.Post
 stmt-returns-4 t c = search (stmt-misfit, needs)
 
--- src/record.rt:217:1
 stmt-returns-5 : (t : ℕ) → stmt-lts.Need-returns-5 (
   wide-reads.Asked,
   wide-reads.Learnt,
@@ -702,7 +643,6 @@ times-Inv-loop words tags₀ table at end pc count left n₀ i₀ tags n i = Tim
 abbrev times-μ-loop : times-lts.MeasureT-loop
 times-μ-loop words tags₀ table at end pc count left n₀ i₀ tags n i = n
 
--- src/record.rt:346:5
 times-loop-holds :
     (t : ℕ) →
     times-lts.Need-loop-holds
@@ -713,7 +653,6 @@ times-loop-holds :
     times-μ-loop
 times-loop-holds t c = search (times-begin, needs)
 
--- src/record.rt:347:13
 times-row-requires :
     (t : ℕ) →
     times-lts.Need-row-requires
@@ -724,7 +663,6 @@ times-row-requires :
     times-μ-loop
 times-row-requires t c κs = search needs
 
--- src/record.rt:349:26
 times-enum-known-r :
     (t : ℕ) →
     times-lts.Need-enum-known-r
@@ -735,7 +673,6 @@ times-enum-known-r :
     times-μ-loop
 times-enum-known-r t c = search needs
 
--- src/record.rt:353:17
 times-enum-told :
     (t : ℕ) →
     times-lts.Need-enum-told
@@ -746,7 +683,6 @@ times-enum-told :
     times-μ-loop
 times-enum-told t c = search needs
 
--- src/record.rt:353:17
 times-returns :
     (t : ℕ) →
     times-lts.Need-returns
@@ -757,7 +693,6 @@ times-returns :
     times-μ-loop
 times-returns t c = search (times-misfit, needs)
 
--- src/record.rt:356:17
 times-enum-told-2 :
     (t : ℕ) →
     times-lts.Need-enum-told-2
@@ -768,7 +703,6 @@ times-enum-told-2 :
     times-μ-loop
 times-enum-told-2 t c = search needs
 
--- src/record.rt:356:17
 times-returns-2 :
     (t : ℕ) →
     times-lts.Need-returns-2
@@ -779,7 +713,6 @@ times-returns-2 :
     times-μ-loop
 times-returns-2 t c = search (times-strange, needs)
 
--- src/record.rt:359:9
 times-sub-n :
     (t : ℕ) →
     times-lts.Need-sub-n
@@ -790,7 +723,6 @@ times-sub-n :
     times-μ-loop
 times-sub-n t c = search needs
 
--- src/record.rt:346:5
 times-loop-less :
     (t : ℕ) →
     times-lts.Need-loop-less
@@ -801,7 +733,6 @@ times-loop-less :
     times-μ-loop
 times-loop-less t c = search needs
 
--- src/record.rt:346:5
 times-loop-again :
     (t : ℕ) →
     times-lts.Need-loop-again
@@ -812,7 +743,6 @@ times-loop-again :
     times-μ-loop
 times-loop-again t c = search (times-next, needs)
 
--- src/record.rt:327:1
 times-returns-3 :
     (t : ℕ) →
     times-lts.Need-returns-3

@@ -1,99 +1,74 @@
+-- `image::record::brings` meets its contract. Assumes nothing.
 use mathlib.Core.Path.{refl}
 use native.Mathlib.Omega.{arith}
 use Rattle.image.proofs.Rows.{in-table, brings-over, brings-list, brings-block, brings-cases, brings-none, in-group, brings-row}
 use borrow.Author.Needs.{needs}
 use Rattle.image.proofs.record.brings.Statement.{statement}
 use Rattle.image.proofs.record.brings.Tie as tie
-use Rattle.image.proofs.record.brings.Reads as reads
-use Rattle.image.proofs.record.brings.Lts as lts
-use Rattle.image.proofs.record.place.Reads as place-reads
-use Rattle.image.proofs.record.wide.Reads as wide-reads
 
--- src/record.rt:162:28
 place-requires : tie.Need-place-requires
 place-requires c κs = search needs
 
--- src/record.rt:162:28
 sub-k : tie.Need-sub-k
 sub-k c = search needs
 
--- src/record.rt:162:23
 mul-k : tie.Need-mul-k
 mul-k c = search needs
 
--- src/record.rt:162:13
 add-k : tie.Need-add-k
 add-k c = search needs
 
--- src/record.rt:163:22
 mul-place : tie.Need-mul-place
 mul-place c = search needs
 
--- src/record.rt:163:22
 shared-slice-read-place : tie.Need-shared-slice-read-place
 shared-slice-read-place c = in-table (c .before .before .before .args .table .now) (c .before .before .before .pre .0) _ (omega (arith, c .before .place .ensures, c .before .before .before .pre .1 .0 .0, c .before .before .before .pre .1 .0 .1))
 
--- src/record.rt:163:9
 place-requires-2 : tie.Need-place-requires-2
 place-requires-2 c κs = search needs
 
--- src/record.rt:164:28
 add-place : tie.Need-add-place
 add-place c = search needs
 
--- src/record.rt:164:22
 mul-place-2 : tie.Need-mul-place-2
 mul-place-2 c = search needs
 
--- src/record.rt:164:22
 shared-slice-read-place-2 : tie.Need-shared-slice-read-place-2
 shared-slice-read-place-2 c = in-table (c .before .before .before .before .before .args .table .now) (c .before .before .before .before .before .pre .0) _ (omega (arith, c .before .before .before .place .ensures, c .before .before .before .before .before .pre .1 .0 .0, c .before .before .before .before .before .pre .1 .0 .1))
 
--- src/record.rt:164:9
 place-requires-3 : tie.Need-place-requires-3
 place-requires-3 c κs = search needs
 
--- src/record.rt:165:9
 wide-requires : tie.Need-wide-requires
 wide-requires c κs = search needs
 
--- src/record.rt:168:13
 returns : tie.Need-returns
 returns c = brings-over (c .before .before .before .before .before .before .before .before .before .args .table .now) (c .before .before .before .before .before .before .before .before .before .pre .0) (c .before .before .before .before .before .before .before .before .before .args .s) (c .before .before .before .before .before .before .before .before .before .args .w) (c .before .before .before .before .before .before .before .place .result) _ (c .before .before .before .before .before .place2 .result) (c .before .before .before .place3 .result) (c .before .before .wide .result) (c .before .before .before .before .before .before .before .before .before .pre .1 .0 .0) (c .before .before .before .before .before .before .before .before .before .pre .1 .0 .1) (c .before .before .before .before .before .before .before .place .ensures) refl (c .before .before .before .before .before .place2 .ensures) (c .before .before .before .place3 .ensures) (c .before .before .wide .ensures .0) (c .before .if1 .taken) (c .if2 .taken)
 
--- src/record.rt:170:9
 returns-2 : tie.Need-returns-2
 returns-2 c = brings-list (c .before .before .before .before .before .before .before .before .before .args .table .now) (c .before .before .before .before .before .before .before .before .before .pre .0) (c .before .before .before .before .before .before .before .before .before .args .s) (c .before .before .before .before .before .before .before .before .before .args .w) (c .before .before .before .before .before .before .before .place .result) _ (c .before .before .before .before .before .place2 .result) (c .before .before .before .place3 .result) (c .before .before .wide .result) (c .before .before .before .before .before .before .before .before .before .pre .1 .0 .0) (c .before .before .before .before .before .before .before .before .before .pre .1 .0 .1) (c .before .before .before .before .before .before .before .place .ensures) refl (c .before .before .before .before .before .place2 .ensures) (c .before .before .before .place3 .ensures) (c .before .before .wide .ensures .0) (c .before .if1 .taken) (c .if2 .left)
 
--- src/record.rt:173:9
 returns-3 : tie.Need-returns-3
 returns-3 c = brings-block (c .before .before .before .before .before .before .before .before .before .args .table .now) (c .before .before .before .before .before .before .before .before .before .pre .0) (c .before .before .before .before .before .before .before .before .before .args .s) (c .before .before .before .before .before .before .before .before .before .args .w) (c .before .before .before .before .before .before .before .place .result) _ (c .before .before .before .before .before .place2 .result) (c .before .before .before .place3 .result) (c .before .before .wide .result) (c .before .before .before .before .before .before .before .before .before .pre .1 .0 .0) (c .before .before .before .before .before .before .before .before .before .pre .1 .0 .1) (c .before .before .before .before .before .before .before .place .ensures) refl (c .before .before .before .before .before .place2 .ensures) (c .before .before .before .place3 .ensures) (c .before .before .wide .ensures .0) (c .if3 .taken)
 
--- src/record.rt:176:9
 returns-4 : tie.Need-returns-4
 returns-4 c = brings-cases (c .before .before .before .before .before .before .before .before .before .before .args .table .now) (c .before .before .before .before .before .before .before .before .before .before .pre .0) (c .before .before .before .before .before .before .before .before .before .before .args .s) (c .before .before .before .before .before .before .before .before .before .before .args .w) (c .before .before .before .before .before .before .before .before .place .result) _ (c .before .before .before .before .before .before .place2 .result) (c .before .before .before .before .place3 .result) (c .before .before .before .wide .result) (c .before .before .before .before .before .before .before .before .before .before .pre .1 .0 .0) (c .before .before .before .before .before .before .before .before .before .before .pre .1 .0 .1) (c .before .before .before .before .before .before .before .before .place .ensures) refl (c .before .before .before .before .before .before .place2 .ensures) (c .before .before .before .before .place3 .ensures) (c .before .before .before .wide .ensures .0) (c .if4 .taken)
 
--- src/record.rt:179:9
 returns-5 : tie.Need-returns-5
 returns-5 c = brings-none (c .before .before .before .before .before .before .before .before .before .before .before .args .table .now) (c .before .before .before .before .before .before .before .before .before .before .before .pre .0) (c .before .before .before .before .before .before .before .before .before .before .before .args .s) (c .before .before .before .before .before .before .before .before .before .before .before .args .w) (c .before .before .before .before .before .before .before .before .before .place .result) _ (c .before .before .before .before .before .before .before .place2 .result) (c .before .before .before .before .before .place3 .result) (c .before .before .before .before .wide .result) (c .before .before .before .before .before .before .before .before .before .before .before .pre .1 .0 .0) (c .before .before .before .before .before .before .before .before .before .before .before .pre .1 .0 .1) (c .before .before .before .before .before .before .before .before .before .place .ensures) refl (c .before .before .before .before .before .before .before .place2 .ensures) (c .before .before .before .before .before .place3 .ensures) (c .before .before .before .before .wide .ensures .0) (c .before .before .before .if1 .left) (c .before .before .if3 .left) (c .before .if4 .left) (c .before .before .before .before .before .before .before .before .before .before .before .pre .1 .1) (c .if5 .taken)
 
--- src/record.rt:181:26
 add-place-2 : tie.Need-add-place-2
 add-place-2 c = let h = in-group (c .before .before .before .before .before .before .before .before .before .before .before .args .table .now) (c .before .before .before .before .before .before .before .before .before .before .before .pre .0) (c .before .before .before .before .before .before .before .before .before .before .before .args .s) (c .before .before .before .before .before .before .before .before .before .before .before .args .w) (c .before .before .before .before .before .before .before .before .before .place .result) _ (c .before .before .before .before .before .before .before .place2 .result) (c .before .before .before .before .before .place3 .result) (c .before .before .before .before .wide .result) (c .before .before .before .before .before .before .before .before .before .before .before .pre .1 .0 .0) (c .before .before .before .before .before .before .before .before .before .before .before .pre .1 .0 .1) (c .before .before .before .before .before .before .before .before .before .place .ensures) refl (c .before .before .before .before .before .before .before .place2 .ensures) (c .before .before .before .before .before .place3 .ensures) (c .before .before .before .before .wide .ensures .0) (c .before .before .before .if1 .left) (c .before .before .if3 .left) (c .before .if4 .left) (c .before .before .before .before .before .before .before .before .before .before .before .pre .1 .1) (c .if5 .left) in omega (arith, h)
 
--- src/record.rt:181:20
 mul-place-3 : tie.Need-mul-place-3
 mul-place-3 c = let h = in-group (c .before .before .before .before .before .before .before .before .before .before .before .args .table .now) (c .before .before .before .before .before .before .before .before .before .before .before .pre .0) (c .before .before .before .before .before .before .before .before .before .before .before .args .s) (c .before .before .before .before .before .before .before .before .before .before .before .args .w) (c .before .before .before .before .before .before .before .before .before .place .result) _ (c .before .before .before .before .before .before .before .place2 .result) (c .before .before .before .before .before .place3 .result) (c .before .before .before .before .wide .result) (c .before .before .before .before .before .before .before .before .before .before .before .pre .1 .0 .0) (c .before .before .before .before .before .before .before .before .before .before .before .pre .1 .0 .1) (c .before .before .before .before .before .before .before .before .before .place .ensures) refl (c .before .before .before .before .before .before .before .place2 .ensures) (c .before .before .before .before .before .place3 .ensures) (c .before .before .before .before .wide .ensures .0) (c .before .before .before .if1 .left) (c .before .before .if3 .left) (c .before .if4 .left) (c .before .before .before .before .before .before .before .before .before .before .before .pre .1 .1) (c .if5 .left) in omega (arith, h)
 
--- src/record.rt:181:20
 shared-slice-read-place-3 : tie.Need-shared-slice-read-place-3
 shared-slice-read-place-3 c = in-table (c .before .before .before .before .before .before .before .before .before .before .before .before .args .table .now) (c .before .before .before .before .before .before .before .before .before .before .before .before .pre .0) _ (in-group (c .before .before .before .before .before .before .before .before .before .before .before .before .args .table .now) (c .before .before .before .before .before .before .before .before .before .before .before .before .pre .0) (c .before .before .before .before .before .before .before .before .before .before .before .before .args .s) (c .before .before .before .before .before .before .before .before .before .before .before .before .args .w) (c .before .before .before .before .before .before .before .before .before .before .place .result) _ (c .before .before .before .before .before .before .before .before .place2 .result) (c .before .before .before .before .before .before .place3 .result) (c .before .before .before .before .before .wide .result) (c .before .before .before .before .before .before .before .before .before .before .before .before .pre .1 .0 .0) (c .before .before .before .before .before .before .before .before .before .before .before .before .pre .1 .0 .1) (c .before .before .before .before .before .before .before .before .before .before .place .ensures) refl (c .before .before .before .before .before .before .before .before .place2 .ensures) (c .before .before .before .before .before .before .place3 .ensures) (c .before .before .before .before .before .wide .ensures .0) (c .before .before .before .before .if1 .left) (c .before .before .before .if3 .left) (c .before .before .if4 .left) (c .before .before .before .before .before .before .before .before .before .before .before .before .pre .1 .1) (c .before .if5 .left))
 
--- src/record.rt:181:9
 place-requires-4 : tie.Need-place-requires-4
 place-requires-4 c κs = search needs
 
--- src/record.rt:156:1
 returns-6 : tie.Need-returns-6
 returns-6 c = brings-row (c .before .before .before .before .before .before .before .before .before .before .before .before .before .args .table .now) (c .before .before .before .before .before .before .before .before .before .before .before .before .before .pre .0) (c .before .before .before .before .before .before .before .before .before .before .before .before .before .args .s) (c .before .before .before .before .before .before .before .before .before .before .before .before .before .args .w) (c .before .before .before .before .before .before .before .before .before .before .before .place .result) _ (c .before .before .before .before .before .before .before .before .before .place2 .result) (c .before .before .before .before .before .before .before .place3 .result) (c .before .before .before .before .before .before .wide .result) (c .before .before .before .before .before .before .before .before .before .before .before .before .before .pre .1 .0 .0) (c .before .before .before .before .before .before .before .before .before .before .before .before .before .pre .1 .0 .1) (c .before .before .before .before .before .before .before .before .before .before .before .place .ensures) refl (c .before .before .before .before .before .before .before .before .before .place2 .ensures) (c .before .before .before .before .before .before .before .place3 .ensures) (c .before .before .before .before .before .before .wide .ensures .0) (c .before .before .before .before .before .if1 .left) (c .before .before .before .before .if3 .left) (c .before .before .before .if4 .left) (c .before .before .before .before .before .before .before .before .before .before .before .before .before .pre .1 .1) (c .place4 .result) (c .place4 .ensures) (c .before .before .if5 .left)
 

@@ -1,36 +1,27 @@
+-- `image::record::operands` meets its contract. Assumes nothing.
 use Rattle.image.proofs.Walk.{run-misfit, operands-walk}
 use borrow.Author.Needs.{needs}
 use Rattle.image.proofs.record.operands.Statement.{statement}
 use Rattle.image.proofs.record.operands.Tie as tie
-use Rattle.image.proofs.record.operands.Reads as reads
-use Rattle.image.proofs.record.operands.Lts as lts
-use Rattle.image.proofs.record.fill.Reads as fill-reads
 
--- src/record.rt:148:9
 returns : tie.Need-returns
 returns c = search (run-misfit, needs)
 
--- src/record.rt:150:5
 element-write-tags : tie.Need-element-write-tags
 element-write-tags c = search needs
 
--- src/record.rt:151:13
 mul-n : tie.Need-mul-n
 mul-n c = search needs
 
--- src/record.rt:151:13
 shared-slice-read-n : tie.Need-shared-slice-read-n
 shared-slice-read-n c = search needs
 
--- src/record.rt:152:16
 add-fill : tie.Need-add-fill
 add-fill c = search needs
 
--- src/record.rt:152:5
 fill-requires : tie.Need-fill-requires
 fill-requires c κs = search needs
 
--- src/record.rt:141:1
 returns-2 : tie.Need-returns-2
 returns-2 c = search (operands-walk, needs)
 

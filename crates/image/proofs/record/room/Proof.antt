@@ -1,19 +1,15 @@
+-- `image::record::room` meets its contract. Assumes nothing.
 use Rattle.image.proofs.Walk.{room-one, room-two, room-three}
 use borrow.Author.Needs.{needs}
 use Rattle.image.proofs.record.room.Statement.{statement}
 use Rattle.image.proofs.record.room.Tie as tie
-use Rattle.image.proofs.record.room.Reads as reads
-use Rattle.image.proofs.record.room.Lts as lts
 
--- src/record.rt:72:9
 returns : tie.Need-returns
 returns c = search (room-one, needs)
 
--- src/record.rt:75:9
 returns-2 : tie.Need-returns-2
 returns-2 c = search (room-two, needs)
 
--- src/record.rt:67:1
 returns-3 : tie.Need-returns-3
 returns-3 c = search (room-three, needs)
 

@@ -1,36 +1,27 @@
+-- `image::section::end_at` meets its contract. Assumes nothing.
 use Rattle.image.proofs.Header.{end-at-last, end-at-next}
 use borrow.Author.Needs.{needs}
 use Rattle.image.proofs.section.end_at.Statement.{statement}
 use Rattle.image.proofs.section.end_at.Tie as tie
-use Rattle.image.proofs.section.end_at.Reads as reads
-use Rattle.image.proofs.section.end_at.Lts as lts
-use Rattle.image.proofs.record.wide.Reads as wide-reads
 
--- src/section.rt:197:9
 returns : tie.Need-returns
 returns c = let s = c .before .before in end-at-last (s .args .words .now) (s .args .total) (s .args .k) (s .pre .1 .0) (s .pre .1 .1 .0) (s .pre .1 .1 .1) (c .if1 .taken)
 
--- src/section.rt:199:20
 mul-wide : tie.Need-mul-wide
 mul-wide c = search needs
 
--- src/section.rt:199:16
 add-wide : tie.Need-add-wide
 add-wide c = search needs
 
--- src/section.rt:199:10
 mul-wide-2 : tie.Need-mul-wide-2
 mul-wide-2 c = search needs
 
--- src/section.rt:199:10
 shared-slice-read-wide : tie.Need-shared-slice-read-wide
 shared-slice-read-wide c = search needs
 
--- src/section.rt:199:5
 wide-requires : tie.Need-wide-requires
 wide-requires c κs = search needs
 
--- src/section.rt:189:1
 returns-2 : tie.Need-returns-2
 returns-2 c = let s = c .before .before .before .before in end-at-next (s .args .words .now) (s .args .total) (s .args .k) (c .wide .result) (s .pre .1 .0) (s .pre .1 .1 .0) (s .pre .0) (c .before .before .if1 .left) (c .wide .ensures .0) (c .wide .ensures .1)
 

@@ -1,44 +1,33 @@
+-- `image::section::end_of` meets its contract. Assumes nothing.
 use Rattle.image.proofs.Header.{end-of-some, end-of-none}
 use borrow.Author.Needs.{needs}
 use Rattle.image.proofs.section.end_of.Statement.{statement}
 use Rattle.image.proofs.section.end_of.Tie as tie
-use Rattle.image.proofs.section.end_of.Reads as reads
-use Rattle.image.proofs.section.end_of.Lts as lts
-use Rattle.image.proofs.record.wide.Reads as wide-reads
 
--- src/section.rt:29:8
 add-if1 : tie.Need-add-if1
 add-if1 c = search needs
 
--- src/section.rt:30:34
 add-wide : tie.Need-add-wide
 add-wide c = search needs
 
--- src/section.rt:30:34
 add-wide-2 : tie.Need-add-wide-2
 add-wide-2 c = search needs
 
--- src/section.rt:30:28
 mul-wide : tie.Need-mul-wide
 mul-wide c = search needs
 
--- src/section.rt:30:28
 shared-slice-read-wide : tie.Need-shared-slice-read-wide
 shared-slice-read-wide c = search needs
 
--- src/section.rt:30:23
 wide-requires : tie.Need-wide-requires
 wide-requires c κs = search needs
 
--- src/section.rt:30:16
 add-result : tie.Need-add-result
 add-result c = search needs
 
--- src/section.rt:30:9
 returns : tie.Need-returns
 returns c = let s = c .before .before .before .before in end-of-some (s .args .words .now) (s .args .base) (s .args .stop) (s .args .n) (s .args .j) (c .wide .result) (s .pre .0) (s .pre .1 .0) (s .pre .1 .1 .0) (s .pre .1 .1 .1) (c .before .before .if1 .taken) (c .wide .ensures .0) (c .wide .ensures .1)
 
--- src/section.rt:22:1
 returns-2 : tie.Need-returns-2
 returns-2 c = let s = c .before .before in end-of-none (s .args .words .now) (s .args .base) (s .args .stop) (s .args .n) (s .args .j) (s .pre .0) (s .pre .1 .0) (s .pre .1 .1 .0) (s .pre .1 .1 .1) (c .if1 .left)
 

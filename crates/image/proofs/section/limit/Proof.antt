@@ -1,19 +1,15 @@
+-- `image::section::limit` meets its contract. Assumes nothing.
 use Rattle.image.proofs.Header.{limit-six, limit-seven, limit-other}
 use borrow.Author.Needs.{needs}
 use Rattle.image.proofs.section.limit.Statement.{statement}
 use Rattle.image.proofs.section.limit.Tie as tie
-use Rattle.image.proofs.section.limit.Reads as reads
-use Rattle.image.proofs.section.limit.Lts as lts
 
--- src/section.rt:180:9
 returns : tie.Need-returns
 returns c = search (limit-six, needs)
 
--- src/section.rt:183:9
 returns-2 : tie.Need-returns-2
 returns-2 c = search (limit-seven, needs)
 
--- src/section.rt:175:1
 returns-3 : tie.Need-returns-3
 returns-3 c = search (limit-other, needs)
 

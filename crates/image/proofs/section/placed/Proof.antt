@@ -1,13 +1,9 @@
+-- `image::section::placed` meets its contract. Assumes nothing.
 use Prim.Native.Nat.{_-_}
 use Rattle.image.proofs.Header.{Placing, placed-begin, placed-start, placed-many, placed-back, placed-past, placed-next, placed-done}
 use borrow.Author.Needs.{needs}
 use Rattle.image.proofs.section.placed.Statement.{statement}
 use Rattle.image.proofs.section.placed.Tie as tie
-use Rattle.image.proofs.section.placed.Reads as reads
-use Rattle.image.proofs.section.placed.Lts as lts
-use Rattle.image.proofs.record.wide.Reads as wide-reads
-use Rattle.image.proofs.section.end_at.Reads as end-at-reads
-use Rattle.image.proofs.section.limit.Reads as limit-reads
 
 abbrev Inv-loop : tie.InvT-loop
 Inv-loop words total at₀ k₀ at k = Placing words total at k
@@ -15,83 +11,63 @@ Inv-loop words total at₀ k₀ at k = Placing words total at k
 abbrev μ-loop : tie.MeasureT-loop
 μ-loop words total at₀ k₀ at k = 9 - k
 
--- src/section.rt:211:5
 loop-holds : tie.Need-loop-holds Inv-loop μ-loop
 loop-holds c = search (placed-begin, needs)
 
--- src/section.rt:213:9
 add-k : tie.Need-add-k Inv-loop μ-loop
 add-k c = search needs
 
--- src/section.rt:215:36
 mul-wide : tie.Need-mul-wide Inv-loop μ-loop
 mul-wide c = search needs
 
--- src/section.rt:215:32
 add-wide : tie.Need-add-wide Inv-loop μ-loop
 add-wide c = search needs
 
--- src/section.rt:215:26
 mul-wide-2 : tie.Need-mul-wide-2 Inv-loop μ-loop
 mul-wide-2 c = search needs
 
--- src/section.rt:215:26
 shared-slice-read-wide : tie.Need-shared-slice-read-wide Inv-loop μ-loop
 shared-slice-read-wide c = search needs
 
--- src/section.rt:215:13
 wide-requires : tie.Need-wide-requires Inv-loop μ-loop
 wide-requires c κs = search needs
 
--- src/section.rt:216:9
 end-at-requires : tie.Need-end-at-requires Inv-loop μ-loop
 end-at-requires c κs = search needs
 
--- src/section.rt:218:13
 returns : tie.Need-returns Inv-loop μ-loop
 returns c = let s = c .before .before .before .before .before .before .before in let l = c .before .before .before .before .before in placed-start (s .args .words .now) (s .args .total) (s .pre .0) (s .pre .1 .0) (l .loop .at) (l .loop .k) (l .loop .inv) (c .before .before .before .before .loop-test .taken) (c .before .before .wide .result) (c .before .before .wide .ensures .0) (c .if1 .taken)
 
--- src/section.rt:220:12
 limit-requires : tie.Need-limit-requires Inv-loop μ-loop
 limit-requires c κs = search needs
 
--- src/section.rt:220:33
 mul-if2 : tie.Need-mul-if2 Inv-loop μ-loop
 mul-if2 c = search needs
 
--- src/section.rt:220:29
 add-if2 : tie.Need-add-if2 Inv-loop μ-loop
 add-if2 c = search needs
 
--- src/section.rt:220:23
 mul-if2-2 : tie.Need-mul-if2-2 Inv-loop μ-loop
 mul-if2-2 c = search needs
 
--- src/section.rt:220:23
 shared-slice-read-if2 : tie.Need-shared-slice-read-if2 Inv-loop μ-loop
 shared-slice-read-if2 c = search needs
 
--- src/section.rt:221:13
 returns-2 : tie.Need-returns-2 Inv-loop μ-loop
 returns-2 c = search (placed-many, needs)
 
--- src/section.rt:224:13
 returns-3 : tie.Need-returns-3 Inv-loop μ-loop
 returns-3 c = search (placed-back, needs)
 
--- src/section.rt:227:13
 returns-4 : tie.Need-returns-4 Inv-loop μ-loop
 returns-4 c = search (placed-past, needs)
 
--- src/section.rt:211:5
 loop-less : tie.Need-loop-less Inv-loop μ-loop
 loop-less c = search needs
 
--- src/section.rt:211:5
 loop-again : tie.Need-loop-again Inv-loop μ-loop
 loop-again c = search (placed-next, needs)
 
--- src/section.rt:203:1
 returns-5 : tie.Need-returns-5 Inv-loop μ-loop
 returns-5 c = search (placed-done, needs)
 

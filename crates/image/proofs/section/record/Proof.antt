@@ -1,52 +1,39 @@
+-- `image::section::record` meets its contract. Assumes nothing.
 use Rattle.image.proofs.Extents.{extent-start, extent-back, extent-past, record-fits, record-short, record-misfit, record-strange}
 use borrow.Author.Needs.{needs}
 use Rattle.image.proofs.section.record.Statement.{statement}
 use Rattle.image.proofs.section.record.Tie as tie
-use Rattle.image.proofs.section.record.Reads as reads
-use Rattle.image.proofs.section.record.Lts as lts
-use Rattle.image.proofs.record.row.Reads as row-reads
 
--- src/section.rt:54:9
 returns : tie.Need-returns
 returns c = search (extent-start, needs)
 
--- src/section.rt:57:9
 returns-2 : tie.Need-returns-2
 returns-2 c = search (extent-back, needs)
 
--- src/section.rt:60:9
 returns-3 : tie.Need-returns-3
 returns-3 c = search (extent-past, needs)
 
--- src/section.rt:62:9
 row-requires : tie.Need-row-requires
 row-requires c κs = (search needs, (search needs, (search needs, (search needs, search needs))))
 
--- src/section.rt:64:22
 enum-known-r : tie.Need-enum-known-r
 enum-known-r c = search needs
 
--- src/section.rt:66:17
 returns-4 : tie.Need-returns-4
 returns-4 c = search (record-fits, needs)
 
--- src/section.rt:70:27
 enum-told : tie.Need-enum-told
 enum-told c = search needs
 
--- src/section.rt:71:28
 enum-told-2 : tie.Need-enum-told-2
 enum-told-2 c = search needs
 
--- src/section.rt:36:1
 returns-5 : tie.Need-returns-5
 returns-5 c = search (record-short, needs)
 
--- src/section.rt:36:1
 returns-6 : tie.Need-returns-6
 returns-6 c = search (record-misfit, needs)
 
--- src/section.rt:36:1
 returns-7 : tie.Need-returns-7
 returns-7 c = search (record-strange, needs)
 

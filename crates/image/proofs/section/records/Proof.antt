@@ -1,13 +1,9 @@
+-- `image::section::records` meets its contract. Assumes nothing.
 use Prim.Native.Nat.{_-_}
 use Rattle.image.proofs.Extents.{Recording, records-begin, records-bad, records-fits, records-strange, records-short, records-odd, records-done}
 use borrow.Author.Needs.{needs}
 use Rattle.image.proofs.section.records.Statement.{statement}
 use Rattle.image.proofs.section.records.Tie as tie
-use Rattle.image.proofs.section.records.Reads as reads
-use Rattle.image.proofs.section.records.Lts as lts
-use Rattle.image.proofs.record.wide.Reads as wide-reads
-use Rattle.image.proofs.section.end_of.Reads as end-of-reads
-use Rattle.image.proofs.section.record.Reads as record-reads
 
 abbrev Inv-loop : tie.InvT-loop
 Inv-loop words tags₀ table base stop n pc at₀ j₀ odd₀ tags at j odd = Recording words tags₀ base stop n pc tags at j odd
@@ -15,86 +11,66 @@ Inv-loop words tags₀ table base stop n pc at₀ j₀ odd₀ tags at j odd = Re
 abbrev μ-loop : tie.MeasureT-loop
 μ-loop words tags₀ table base stop n pc at₀ j₀ odd₀ tags at j odd = n - j
 
--- src/section.rt:92:18
 add-at : tie.Need-add-at Inv-loop μ-loop
 add-at c = search needs
 
--- src/section.rt:95:5
 loop-holds : tie.Need-loop-holds Inv-loop μ-loop
 loop-holds c = search (records-begin, needs)
 
--- src/section.rt:98:39
 add-wide : tie.Need-add-wide Inv-loop μ-loop
 add-wide c = search needs
 
--- src/section.rt:98:33
 mul-wide : tie.Need-mul-wide Inv-loop μ-loop
 mul-wide c = search needs
 
--- src/section.rt:98:33
 shared-slice-read-wide : tie.Need-shared-slice-read-wide Inv-loop μ-loop
 shared-slice-read-wide c = search needs
 
--- src/section.rt:98:28
 wide-requires : tie.Need-wide-requires Inv-loop μ-loop
 wide-requires c κs = search needs
 
--- src/section.rt:98:21
 add-start : tie.Need-add-start Inv-loop μ-loop
 add-start c = search needs
 
--- src/section.rt:99:9
 end-of-requires : tie.Need-end-of-requires Inv-loop μ-loop
 end-of-requires c κs = (search needs, (search needs, (search needs, search needs)))
 
--- src/section.rt:100:9
 add-j : tie.Need-add-j Inv-loop μ-loop
 add-j c = search needs
 
--- src/section.rt:101:13
 record-requires : tie.Need-record-requires Inv-loop μ-loop
 record-requires c κs = (search needs, (search needs, (search needs, (search needs, search needs))))
 
 enum-told : tie.Need-enum-told Inv-loop μ-loop
 enum-told c = search needs
 
--- src/section.rt:95:5
 loop-less : tie.Need-loop-less Inv-loop μ-loop
 loop-less c = search needs
 
--- src/section.rt:95:5
 loop-again : tie.Need-loop-again Inv-loop μ-loop
 loop-again c = search (records-fits, needs)
 
--- src/section.rt:105:17
 enum-told-2 : tie.Need-enum-told-2 Inv-loop μ-loop
 enum-told-2 c = search needs
 
--- src/section.rt:95:5
 loop-less-2 : tie.Need-loop-less-2 Inv-loop μ-loop
 loop-less-2 c = search needs
 
--- src/section.rt:95:5
 loop-again-2 : tie.Need-loop-again-2 Inv-loop μ-loop
 loop-again-2 c = search (records-strange, needs)
 
--- src/section.rt:108:17
 enum-told-3 : tie.Need-enum-told-3 Inv-loop μ-loop
 enum-told-3 c = search needs
 
--- src/section.rt:108:17
 returns : tie.Need-returns Inv-loop μ-loop
 returns c = search (records-bad, needs)
 
--- src/section.rt:113:9
 returns-2 : tie.Need-returns-2 Inv-loop μ-loop
 returns-2 c = search (records-short, needs)
 
--- src/section.rt:116:9
 returns-3 : tie.Need-returns-3 Inv-loop μ-loop
 returns-3 c = search (records-odd, needs)
 
--- src/section.rt:76:1
 returns-4 : tie.Need-returns-4 Inv-loop μ-loop
 returns-4 c = search (records-done, needs)
 

@@ -1,3 +1,4 @@
+-- `image::section::sections` meets its contract. Assumes nothing.
 use native.Mathlib.Omega.{arith}
 use Prim.Native.Nat.{_-_}
 use Rattle.image.proofs.Rows.{in-table}
@@ -5,12 +6,6 @@ use Rattle.image.proofs.Sections.{Sectioning, sections-begin, sections-
 use borrow.Author.Needs.{needs}
 use Rattle.image.proofs.section.sections.Statement.{statement}
 use Rattle.image.proofs.section.sections.Tie as tie
-use Rattle.image.proofs.section.sections.Reads as reads
-use Rattle.image.proofs.section.sections.Lts as lts
-use Rattle.image.proofs.record.place.Reads as place-reads
-use Rattle.image.proofs.record.wide.Reads as wide-reads
-use Rattle.image.proofs.section.section.Reads as section-reads
-use Rattle.image.proofs.section.special.Reads as special-reads
 
 abbrev Inv-loop : tie.InvT-loop
 Inv-loop words tags₀ table total k₀ odd₀ tags k odd = Sectioning words tags₀ total tags k odd
@@ -18,162 +13,123 @@ Inv-loop words tags₀ table total k₀ odd₀ tags k odd = Sectioning words tag
 abbrev μ-loop : tie.MeasureT-loop
 μ-loop words tags₀ table total k₀ odd₀ tags k odd = 8 - k
 
--- src/section.rt:244:5
 loop-holds : tie.Need-loop-holds Inv-loop μ-loop
 loop-holds c = search (sections-begin, needs)
 
--- src/section.rt:246:9
 add-k : tie.Need-add-k Inv-loop μ-loop
 add-k c = search needs
 
--- src/section.rt:247:35
 mul-wide : tie.Need-mul-wide Inv-loop μ-loop
 mul-wide c = search needs
 
--- src/section.rt:247:31
 add-wide : tie.Need-add-wide Inv-loop μ-loop
 add-wide c = search needs
 
--- src/section.rt:247:25
 mul-wide-2 : tie.Need-mul-wide-2 Inv-loop μ-loop
 mul-wide-2 c = search needs
 
--- src/section.rt:247:25
 shared-slice-read-wide : tie.Need-shared-slice-read-wide Inv-loop μ-loop
 shared-slice-read-wide c = search needs
 
--- src/section.rt:247:13
 wide-requires : tie.Need-wide-requires Inv-loop μ-loop
 wide-requires c κs = search needs
 
--- src/section.rt:248:35
 mul-wide-3 : tie.Need-mul-wide-3 Inv-loop μ-loop
 mul-wide-3 c = search needs
 
--- src/section.rt:248:31
 add-wide-2 : tie.Need-add-wide-2 Inv-loop μ-loop
 add-wide-2 c = search needs
 
--- src/section.rt:248:25
 mul-wide-4 : tie.Need-mul-wide-4 Inv-loop μ-loop
 mul-wide-4 c = search needs
 
--- src/section.rt:248:25
 shared-slice-read-wide-2 : tie.Need-shared-slice-read-wide-2 Inv-loop μ-loop
 shared-slice-read-wide-2 c = search needs
 
--- src/section.rt:248:13
 wide-requires-2 : tie.Need-wide-requires-2 Inv-loop μ-loop
 wide-requires-2 c κs = search needs
 
--- src/section.rt:249:30
 add-place : tie.Need-add-place Inv-loop μ-loop
 add-place c = search needs
 
--- src/section.rt:249:24
 mul-place : tie.Need-mul-place Inv-loop μ-loop
 mul-place c = search needs
 
--- src/section.rt:249:24
 shared-slice-read-place : tie.Need-shared-slice-read-place Inv-loop μ-loop
 shared-slice-read-place c = in-table (c .before .before .before .before .before .before .before .before .before .args .table .now) (c .before .before .before .before .before .before .before .before .before .pre .1 .1 .1 .0) _ (omega (arith, c .before .before .before .before .before .loop-test .taken))
 
--- src/section.rt:249:13
 place-requires : tie.Need-place-requires Inv-loop μ-loop
 place-requires c κs = search needs
 
--- src/section.rt:250:67
 mul-section : tie.Need-mul-section Inv-loop μ-loop
 mul-section c = search needs
 
--- src/section.rt:250:63
 add-section : tie.Need-add-section Inv-loop μ-loop
 add-section c = search needs
 
--- src/section.rt:250:57
 mul-section-2 : tie.Need-mul-section-2 Inv-loop μ-loop
 mul-section-2 c = search needs
 
--- src/section.rt:250:57
 shared-slice-read-section : tie.Need-shared-slice-read-section Inv-loop μ-loop
 shared-slice-read-section c = search needs
 
--- src/section.rt:250:13
 section-requires : tie.Need-section-requires Inv-loop μ-loop
 section-requires c κs = (search (sections-forth, needs), (sections-within (c .before .before .before .before .before .before .before .before .before .before .before .before .args .words .now) (c .before .before .before .before .before .before .before .before .before .before .before .before .args .tags .now) (c .before .before .before .before .before .before .before .before .before .before .before .before .args .total) (c .before .before .before .before .before .before .before .before .before .before .before .before .pre .0) (c .before .before .before .before .before .before .before .before .before .before .before .before .pre .1 .0) (c .before .before .before .before .before .before .before .before .before .before .before .before .pre .1 .1 .1 .1) (c .before .before .before .before .before .before .before .before .before .loop .k) (c .before .before .before .before .before .before .before .before .loop-test .taken) (c .before .before .before .before .before .before .wide .result) (c .before .before .before .before .wide2 .result) (c .before .before .before .before .before .before .wide .ensures .0) (c .before .before .before .before .wide2 .ensures .0), (let h = sections-total (c .before .before .before .before .before .before .before .before .before .before .before .before .args .words .now) (c .before .before .before .before .before .before .before .before .before .before .before .before .args .tags .now) (c .before .before .before .before .before .before .before .before .before .before .before .before .args .total) (c .before .before .before .before .before .before .before .before .before .before .before .before .pre .0) (c .before .before .before .before .before .before .before .before .before .before .before .before .pre .1 .0) (c .before .before .before .before .before .before .before .before .before .before .before .before .pre .1 .1 .1 .1) (c .before .before .before .before .before .before .before .before .before .loop .k) (c .before .before .before .before .before .before .before .before .loop-test .taken) (c .before .before .before .before .before .before .wide .result) (c .before .before .before .before .wide2 .result) (c .before .before .before .before .before .before .wide .ensures .0) (c .before .before .before .before .wide2 .ensures .0) in omega (arith, h, c .before .before .before .before .before .before .before .before .before .before .before .before .pre .1 .1 .0), (search needs, search (sections-row, needs)))))
 
 enum-told : tie.Need-enum-told Inv-loop μ-loop
 enum-told c = search needs
 
--- src/section.rt:244:5
 loop-less : tie.Need-loop-less Inv-loop μ-loop
 loop-less c = search needs
 
--- src/section.rt:244:5
 loop-again : tie.Need-loop-again Inv-loop μ-loop
 loop-again c = search (sections-fits, needs)
 
--- src/section.rt:254:17
 enum-told-2 : tie.Need-enum-told-2 Inv-loop μ-loop
 enum-told-2 c = search needs
 
--- src/section.rt:244:5
 loop-less-2 : tie.Need-loop-less-2 Inv-loop μ-loop
 loop-less-2 c = search needs
 
--- src/section.rt:244:5
 loop-again-2 : tie.Need-loop-again-2 Inv-loop μ-loop
 loop-again-2 c = search (sections-strange, needs)
 
--- src/section.rt:257:17
 enum-told-3 : tie.Need-enum-told-3 Inv-loop μ-loop
 enum-told-3 c = search needs
 
--- src/section.rt:257:17
 returns : tie.Need-returns Inv-loop μ-loop
 returns c = search (sections-bad, needs)
 
--- src/section.rt:261:46
 shared-slice-read-wide-3 : tie.Need-shared-slice-read-wide-3 Inv-loop μ-loop
 shared-slice-read-wide-3 c = search needs
 
--- src/section.rt:261:41
 wide-requires-3 : tie.Need-wide-requires-3 Inv-loop μ-loop
 wide-requires-3 c κs = search needs
 
--- src/section.rt:261:65
 shared-slice-read-special : tie.Need-shared-slice-read-special Inv-loop μ-loop
 shared-slice-read-special c = search needs
 
--- src/section.rt:261:9
 special-requires : tie.Need-special-requires Inv-loop μ-loop
 special-requires c κs = (search (last-forth, needs), (search needs, (search needs, search needs)))
 
--- src/section.rt:264:16
 enum-told-4 : tie.Need-enum-told-4 Inv-loop μ-loop
 enum-told-4 c = search needs
 
--- src/section.rt:265:17
 returns-2 : tie.Need-returns-2 Inv-loop μ-loop
 returns-2 c = search (last-odd, needs)
 
--- src/section.rt:269:26
 enum-told-5 : tie.Need-enum-told-5 Inv-loop μ-loop
 enum-told-5 c = search needs
 
--- src/section.rt:270:22
 enum-told-6 : tie.Need-enum-told-6 Inv-loop μ-loop
 enum-told-6 c = search needs
 
--- src/section.rt:234:1
 returns-3 : tie.Need-returns-3 Inv-loop μ-loop
 returns-3 c = search (last-fits, needs)
 
--- src/section.rt:234:1
 returns-4 : tie.Need-returns-4 Inv-loop μ-loop
 returns-4 c = search (last-strange, needs)
 
--- src/section.rt:234:1
 returns-5 : tie.Need-returns-5 Inv-loop μ-loop
 returns-5 c = search (last-bad, needs)
 

@@ -1,65 +1,48 @@
+-- `image::section::special` meets its contract. Assumes nothing.
 use Rattle.image.proofs.Extents.{special-misfit, special-strange, special-within, special-fits, special-short, pairs-misfit, pairs-strange}
 use borrow.Author.Needs.{needs}
 use Rattle.image.proofs.section.special.Statement.{statement}
 use Rattle.image.proofs.section.special.Tie as tie
-use Rattle.image.proofs.section.special.Reads as reads
-use Rattle.image.proofs.section.special.Lts as lts
-use Rattle.image.proofs.record.row.Reads as row-reads
-use Rattle.image.proofs.record.times.Reads as times-reads
 
--- src/section.rt:154:9
 row-requires : tie.Need-row-requires
 row-requires c κs = (search needs, (search needs, (search needs, (search needs, search needs))))
 
--- src/section.rt:156:22
 enum-known-r : tie.Need-enum-known-r
 enum-known-r c = search needs
 
--- src/section.rt:157:17
 times-requires : tie.Need-times-requires
 times-requires c κs = (search (special-within, needs), (search needs, (search needs, (search needs, search needs))))
 
--- src/section.rt:159:30
 enum-known-q : tie.Need-enum-known-q
 enum-known-q c = search needs
 
--- src/section.rt:161:25
 returns : tie.Need-returns
 returns c = search (special-fits, needs)
 
--- src/section.rt:165:35
 enum-told : tie.Need-enum-told
 enum-told c = search needs
 
--- src/section.rt:166:36
 enum-told-2 : tie.Need-enum-told-2
 enum-told-2 c = search needs
 
--- src/section.rt:169:27
 enum-told-3 : tie.Need-enum-told-3
 enum-told-3 c = search needs
 
--- src/section.rt:170:28
 enum-told-4 : tie.Need-enum-told-4
 enum-told-4 c = search needs
 
--- src/section.rt:147:1
 returns-2 : tie.Need-returns-2
 returns-2 c = search (special-short, needs)
 
--- src/section.rt:147:1
 returns-3 : tie.Need-returns-3
 returns-3 c = search (pairs-misfit, needs)
 
--- src/section.rt:147:1
 returns-4 : tie.Need-returns-4
 returns-4 c = search (pairs-strange, needs)
 
--- src/section.rt:147:1
 returns-5 : tie.Need-returns-5
 returns-5 c = search (special-misfit, needs)
 
--- src/section.rt:147:1
 returns-6 : tie.Need-returns-6
 returns-6 c = search (special-strange, needs)
 

@@ -1,3 +1,4 @@
+-- `numbers::initial::initialised` meets its contract. Assumes nothing.
 use Prim.Native.Nat.{ℕ}
 use native.Mathlib.Omega.{arith}
 use lib.ListN.{replicate, length-replicate}
@@ -5,66 +6,46 @@ use Rattle.numbers.proofs.Reaching.{init-locals, init-exprs, init-after
 use borrow.Author.Needs.{needs}
 use Rattle.numbers.proofs.initial.initialised.Statement.{statement}
 use Rattle.numbers.proofs.initial.initialised.Tie as tie
-use Rattle.numbers.proofs.initial.initialised.Reads as reads
-use Rattle.numbers.proofs.initial.initialised.Lts as lts
-use Rattle.numbers.proofs.initial.places.Reads as places-reads
-use Rattle.numbers.proofs.initial.reach.Reads as reach-reads
-use Rattle.numbers.proofs.initial.roots.Reads as roots-reads
-use Rattle.numbers.proofs.range.wide.Reads as wide-reads
 
--- src/initial.rt:188:22
 mul-wide : tie.Need-mul-wide
 mul-wide c = omega (arith, init-locals _ _ _ _ _ (c .pre))
 
--- src/initial.rt:188:22
 element-copy-out-wide : tie.Need-element-copy-out-wide
 element-copy-out-wide c = init-locals _ _ _ _ _ (c .pre)
 
--- src/initial.rt:188:9
 wide-requires : tie.Need-wide-requires
 wide-requires c κs = search needs
 
--- src/initial.rt:189:18
 mul-wide-2 : tie.Need-mul-wide-2
 mul-wide-2 c = omega (arith, init-exprs _ _ _ _ _ (c .before .before .pre))
 
--- src/initial.rt:189:18
 element-copy-out-wide-2 : tie.Need-element-copy-out-wide-2
 element-copy-out-wide-2 c = init-exprs _ _ _ _ _ (c .before .before .pre)
 
--- src/initial.rt:189:9
 wide-requires-2 : tie.Need-wide-requires-2
 wide-requires-2 c κs = search needs
 
--- src/initial.rt:191:9
 returns : tie.Need-returns
 returns c = init-empty _ _ _ _ _ (c .before .before .before .before .before .pre) _ _ (c .before .before .before .wide .ensures) (c .before .wide2 .ensures) (c .if1 .taken)
 
--- src/initial.rt:195:28
 add-roots : tie.Need-add-roots
 add-roots c = omega (arith, init-locals _ _ _ _ _ (c .before .before .before .before .before .pre))
 
--- src/initial.rt:195:9
 roots-requires : tie.Need-roots-requires
 roots-requires c κs = (c .before .before .before .before .before .before .before .pre .lists .long .words-long, (init-count _ _ _ _ _ (c .before .before .before .before .before .before .before .pre) _ _ (c .before .before .before .before .before .wide .ensures) (c .before .before .before .wide2 .ensures), init-room _ _ _ _ _ (c .before .before .before .before .before .before .before .pre) _ _ (c .before .before .before .before .before .wide .ensures) (c .before .before .before .wide2 .ensures) (replicate 1024 0) (length-replicate {A = ℕ} 1024 0)))
 
--- src/initial.rt:197:9
 returns-2 : tie.Need-returns-2
 returns-2 c = init-none _ _ _ _ _ (c .before .before .before .before .before .before .before .before .before .pre) _ _ (c .before .before .before .before .before .before .before .wide .ensures) (c .before .before .before .before .before .wide2 .ensures) (replicate 1024 0) (length-replicate {A = ℕ} 1024 0) _ _ _ (c .before .roots .ensures) (c .if2 .taken)
 
--- src/initial.rt:200:18
 add-places : tie.Need-add-places
 add-places c = omega (arith, init-exprs _ _ _ _ _ (c .before .before .before .before .before .before .before .before .before .pre))
 
--- src/initial.rt:200:5
 places-requires : tie.Need-places-requires
 places-requires c κs = (c .before .before .before .before .before .before .before .before .before .before .pre .lists .long .tags-long, (init-after _ _ _ _ _ (c .before .before .before .before .before .before .before .before .before .before .pre), (init-end _ _ _ _ _ (c .before .before .before .before .before .before .before .before .before .before .pre), init-few _ _ _ _ _ (c .before .before .before .before .before .before .before .before .before .before .pre) _ _ (c .before .before .before .before .before .before .before .before .wide .ensures) (c .before .before .before .before .before .before .wide2 .ensures))))
 
--- src/initial.rt:201:5
 reach-requires : tie.Need-reach-requires
 reach-requires c κs = init-reach _ _ _ _ _ (c .before .before .before .before .before .before .before .before .before .before .before .before .before .before .pre) _ _ (c .before .before .before .before .before .before .before .before .before .before .before .before .wide .ensures) (c .before .before .before .before .before .before .before .before .before .before .wide2 .ensures) (replicate 1024 0) (length-replicate {A = ℕ} 1024 0) _ _ _ (c .before .before .before .before .before .before .roots .ensures) _ (c .before .before .before .places .ensures)
 
--- src/initial.rt:178:1
 returns-3 : tie.Need-returns-3
 returns-3 c = init-done _ _ _ _ _ (c .before .before .before .before .before .before .before .before .before .before .before .before .before .before .before .pre) _ _ (c .before .before .before .before .before .before .before .before .before .before .before .before .before .wide .ensures) (c .before .before .before .before .before .before .before .before .before .before .before .wide2 .ensures) (replicate 1024 0) (length-replicate {A = ℕ} 1024 0) _ _ _ (c .before .before .before .before .before .before .before .roots .ensures) _ (c .before .before .before .before .places .ensures) _ _ _ (c .reach .ensures)
 

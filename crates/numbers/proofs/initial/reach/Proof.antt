@@ -1,3 +1,4 @@
+-- `numbers::initial::reach` meets its contract. Assumes nothing.
 use native.Mathlib.Omega.{arith}
 use Prim.Native.Nat.{_+_}
 use Rattle.numbers.specs.Marks.{blank}
@@ -5,11 +6,6 @@ use Rattle.numbers.proofs.Reaching.{Going, reach-begin, reach-done, rea
 use borrow.Author.Needs.{needs}
 use Rattle.numbers.proofs.initial.reach.Statement.{statement}
 use Rattle.numbers.proofs.initial.reach.Tie as tie
-use Rattle.numbers.proofs.initial.reach.Reads as reads
-use Rattle.numbers.proofs.initial.reach.Lts as lts
-use Rattle.numbers.proofs.initial.constant.Reads as constant-reads
-use Rattle.numbers.proofs.initial.spread.Reads as spread-reads
-use Rattle.numbers.proofs.range.wide.Reads as wide-reads
 
 abbrev Inv-loop : tie.InvT-loop
 Inv-loop words tags starts marks₀ list₀ first e top₀ marks list top = Going words tags starts marks₀ list₀ first e marks list top
@@ -17,83 +13,63 @@ Inv-loop words tags starts marks₀ list₀ first e top₀ marks list top = Goin
 abbrev μ-loop : tie.MeasureT-loop
 μ-loop words tags starts marks₀ list₀ first e top₀ marks list top = top + blank e marks
 
--- src/initial.rt:140:5
 loop-holds : tie.Need-loop-holds Inv-loop μ-loop
 loop-holds c = reach-begin _ _ _ _ _ _ _
 
--- src/initial.rt:141:17
 sub-n : tie.Need-sub-n Inv-loop μ-loop
 sub-n c = search needs
 
--- src/initial.rt:142:22
 mul-wide : tie.Need-mul-wide Inv-loop μ-loop
 mul-wide c = omega (arith, reach-list _ _ _ _ _ _ _ _ _ _ (c .before .loop .inv) (c .before .before .pre) (c .loop-test .taken))
 
--- src/initial.rt:142:22
 element-copy-out-wide : tie.Need-element-copy-out-wide Inv-loop μ-loop
 element-copy-out-wide c = reach-list _ _ _ _ _ _ _ _ _ _ (c .before .loop .inv) (c .before .before .pre) (c .loop-test .taken)
 
--- src/initial.rt:142:13
 wide-requires : tie.Need-wide-requires Inv-loop μ-loop
 wide-requires c κs = search needs
 
--- src/initial.rt:143:23
 mul-wide-2 : tie.Need-mul-wide-2 Inv-loop μ-loop
 mul-wide-2 c = omega (arith, reach-below _ _ _ _ _ _ _ _ _ _ (c .before .before .before .loop .inv) (c .before .before .before .before .pre) (c .before .before .loop-test .taken) _ (c .wide .ensures), reach-few _ _ _ _ _ _ _ _ _ _ (c .before .before .before .loop .inv) (c .before .before .before .before .pre) (c .before .before .loop-test .taken) _ (c .wide .ensures))
 
--- src/initial.rt:143:23
 element-copy-out-wide-2 : tie.Need-element-copy-out-wide-2 Inv-loop μ-loop
 element-copy-out-wide-2 c = omega (arith, reach-below _ _ _ _ _ _ _ _ _ _ (c .before .before .before .loop .inv) (c .before .before .before .before .pre) (c .before .before .loop-test .taken) _ (c .wide .ensures), reach-few _ _ _ _ _ _ _ _ _ _ (c .before .before .before .loop .inv) (c .before .before .before .before .pre) (c .before .before .loop-test .taken) _ (c .wide .ensures))
 
--- src/initial.rt:143:13
 wide-requires-2 : tie.Need-wide-requires-2 Inv-loop μ-loop
 wide-requires-2 c κs = search needs
 
--- src/initial.rt:144:22
 mul-constant : tie.Need-mul-constant Inv-loop μ-loop
 mul-constant c = omega (arith, reach-at _ _ _ _ _ _ _ _ _ _ (c .before .before .before .before .before .loop .inv) (c .before .before .before .before .before .before .pre) (c .before .before .before .before .loop-test .taken) _ (c .before .before .wide .ensures) _ (c .wide2 .ensures))
 
--- src/initial.rt:144:22
 element-copy-out-constant : tie.Need-element-copy-out-constant Inv-loop μ-loop
 element-copy-out-constant c = reach-at _ _ _ _ _ _ _ _ _ _ (c .before .before .before .before .before .loop .inv) (c .before .before .before .before .before .before .pre) (c .before .before .before .before .loop-test .taken) _ (c .before .before .wide .ensures) _ (c .wide2 .ensures)
 
--- src/initial.rt:144:13
 constant-requires : tie.Need-constant-requires Inv-loop μ-loop
 constant-requires c κs = search needs
 
--- src/initial.rt:145:13
 returns : tie.Need-returns Inv-loop μ-loop
 returns c = reach-barred _ _ _ _ _ _ _ _ _ _ (c .before .before .before .before .before .before .before .before .loop .inv) (c .before .before .before .before .before .before .before .before .before .pre) (c .before .before .before .before .before .before .before .loop-test .taken) _ (c .before .before .before .before .before .wide .ensures) _ (c .before .before .before .wide2 .ensures) _ (c .before .constant .ensures) (c .if1 .taken)
 
--- src/initial.rt:147:30
 add-wide : tie.Need-add-wide Inv-loop μ-loop
 add-wide c = omega (arith, reach-below _ _ _ _ _ _ _ _ _ _ (c .before .before .before .before .before .before .before .before .loop .inv) (c .before .before .before .before .before .before .before .before .before .pre) (c .before .before .before .before .before .before .before .loop-test .taken) _ (c .before .before .before .before .before .wide .ensures), reach-few _ _ _ _ _ _ _ _ _ _ (c .before .before .before .before .before .before .before .before .loop .inv) (c .before .before .before .before .before .before .before .before .before .pre) (c .before .before .before .before .before .before .before .loop-test .taken) _ (c .before .before .before .before .before .wide .ensures))
 
--- src/initial.rt:147:23
 mul-wide-3 : tie.Need-mul-wide-3 Inv-loop μ-loop
 mul-wide-3 c = omega (arith, reach-below _ _ _ _ _ _ _ _ _ _ (c .before .before .before .before .before .before .before .before .loop .inv) (c .before .before .before .before .before .before .before .before .before .pre) (c .before .before .before .before .before .before .before .loop-test .taken) _ (c .before .before .before .before .before .wide .ensures), reach-few _ _ _ _ _ _ _ _ _ _ (c .before .before .before .before .before .before .before .before .loop .inv) (c .before .before .before .before .before .before .before .before .before .pre) (c .before .before .before .before .before .before .before .loop-test .taken) _ (c .before .before .before .before .before .wide .ensures))
 
--- src/initial.rt:147:23
 element-copy-out-wide-3 : tie.Need-element-copy-out-wide-3 Inv-loop μ-loop
 element-copy-out-wide-3 c = omega (arith, reach-below _ _ _ _ _ _ _ _ _ _ (c .before .before .before .before .before .before .before .before .loop .inv) (c .before .before .before .before .before .before .before .before .before .pre) (c .before .before .before .before .before .before .before .loop-test .taken) _ (c .before .before .before .before .before .wide .ensures), reach-few _ _ _ _ _ _ _ _ _ _ (c .before .before .before .before .before .before .before .before .loop .inv) (c .before .before .before .before .before .before .before .before .before .pre) (c .before .before .before .before .before .before .before .loop-test .taken) _ (c .before .before .before .before .before .wide .ensures))
 
--- src/initial.rt:147:13
 wide-requires-3 : tie.Need-wide-requires-3 Inv-loop μ-loop
 wide-requires-3 c κs = search needs
 
--- src/initial.rt:148:9
 spread-requires : tie.Need-spread-requires Inv-loop μ-loop
 spread-requires c κs = (reach-long _ _ _ _ _ _ _ _ _ _ (c .before .before .before .before .before .before .before .before .before .before .before .before .loop .inv) (c .before .before .before .before .before .before .before .before .before .before .before .before .before .pre) (c .before .before .before .before .before .before .before .before .before .before .before .loop-test .taken) _ (c .before .before .before .before .before .before .before .before .before .wide .ensures) _ (c .before .before .before .before .before .before .before .wide2 .ensures) _ (c .before .before .before .before .before .constant .ensures) (c .before .before .before .before .if1 .left) _ (c .before .before .wide3 .ensures), (reach-rising _ _ _ _ _ _ _ _ _ _ (c .before .before .before .before .before .before .before .before .before .before .before .before .loop .inv) (c .before .before .before .before .before .before .before .before .before .before .before .before .before .pre) (c .before .before .before .before .before .before .before .before .before .before .before .loop-test .taken) _ (c .before .before .before .before .before .before .before .before .before .wide .ensures) _ (c .before .before .before .before .before .before .before .wide2 .ensures) _ (c .before .before .before .before .before .constant .ensures) (c .before .before .before .before .if1 .left) _ (c .before .before .wide3 .ensures), (reach-small _ _ _ _ _ _ _ _ _ _ (c .before .before .before .before .before .before .before .before .before .before .before .before .loop .inv) (c .before .before .before .before .before .before .before .before .before .before .before .before .before .pre) (c .before .before .before .before .before .before .before .before .before .before .before .loop-test .taken) _ (c .before .before .before .before .before .before .before .before .before .wide .ensures) _ (c .before .before .before .before .before .before .before .wide2 .ensures) _ (c .before .before .before .before .before .constant .ensures) (c .before .before .before .before .if1 .left) _ (c .before .before .wide3 .ensures), reach-room _ _ _ _ _ _ _ _ _ _ (c .before .before .before .before .before .before .before .before .before .before .before .before .loop .inv) (c .before .before .before .before .before .before .before .before .before .before .before .before .before .pre) (c .before .before .before .before .before .before .before .before .before .before .before .loop-test .taken) _ (c .before .before .before .before .before .before .before .before .before .wide .ensures) _ (c .before .before .before .before .before .before .before .wide2 .ensures) _ (c .before .before .before .before .before .constant .ensures) (c .before .before .before .before .if1 .left) _ (c .before .before .wide3 .ensures))))
 
--- src/initial.rt:140:5
 loop-less : tie.Need-loop-less Inv-loop μ-loop
 loop-less c = reach-less _ _ _ _ _ _ _ _ _ _ (c .before .before .before .before .before .before .before .before .before .before .before .before .before .loop .inv) (c .before .before .before .before .before .before .before .before .before .before .before .before .before .before .pre) (c .before .before .before .before .before .before .before .before .before .before .before .before .loop-test .taken) _ (c .before .before .before .before .before .before .before .before .before .before .wide .ensures) _ (c .before .before .before .before .before .before .before .before .wide2 .ensures) _ (c .before .before .before .before .before .before .constant .ensures) (c .before .before .before .before .before .if1 .left) _ (c .before .before .before .wide3 .ensures) _ _ _ (c .spread .ensures)
 
--- src/initial.rt:140:5
 loop-again : tie.Need-loop-again Inv-loop μ-loop
 loop-again c = reach-next _ _ _ _ _ _ _ _ _ _ (c .before .before .before .before .before .before .before .before .before .before .before .before .before .loop .inv) (c .before .before .before .before .before .before .before .before .before .before .before .before .before .before .pre) (c .before .before .before .before .before .before .before .before .before .before .before .before .loop-test .taken) _ (c .before .before .before .before .before .before .before .before .before .before .wide .ensures) _ (c .before .before .before .before .before .before .before .before .wide2 .ensures) _ (c .before .before .before .before .before .before .constant .ensures) (c .before .before .before .before .before .if1 .left) _ (c .before .before .before .wide3 .ensures) _ _ _ (c .spread .ensures)
 
--- src/initial.rt:135:1
 returns-2 : tie.Need-returns-2 Inv-loop μ-loop
 returns-2 c = reach-done _ _ _ _ _ _ _ _ _ _ (c .before .loop .inv) (c .loop-test .left)
 

@@ -1,12 +1,9 @@
+-- `numbers::initial::spread` meets its contract. Assumes nothing.
 use Prim.Native.Nat.{_-_}
 use Rattle.numbers.proofs.Visiting.{Spreading, spread-begin, spread-next, spread-done}
 use borrow.Author.Needs.{needs}
 use Rattle.numbers.proofs.initial.spread.Statement.{statement}
 use Rattle.numbers.proofs.initial.spread.Tie as tie
-use Rattle.numbers.proofs.initial.spread.Reads as reads
-use Rattle.numbers.proofs.initial.spread.Lts as lts
-use Rattle.numbers.proofs.initial.operand.Reads as operand-reads
-use Rattle.numbers.proofs.initial.visit.Reads as visit-reads
 
 abbrev Inv-loop : tie.InvT-loop
 Inv-loop words tags at end marks₀ list₀ top e i₀ n₀ marks list i n = Spreading e words tags at end marks₀ list₀ top i marks list n
@@ -14,43 +11,33 @@ Inv-loop words tags at end marks₀ list₀ top e i₀ n₀ marks list i n = Spr
 abbrev μ-loop : tie.MeasureT-loop
 μ-loop words tags at end marks₀ list₀ top e i₀ n₀ marks list i n = end - i
 
--- src/initial.rt:105:5
 loop-holds : tie.Need-loop-holds Inv-loop μ-loop
 loop-holds c = search (spread-begin, needs)
 
--- src/initial.rt:107:9
 add-i : tie.Need-add-i Inv-loop μ-loop
 add-i c = search needs
 
--- src/initial.rt:108:25
 element-copy-out-operand : tie.Need-element-copy-out-operand Inv-loop μ-loop
 element-copy-out-operand c = search needs
 
--- src/initial.rt:108:34
 mul-operand : tie.Need-mul-operand Inv-loop μ-loop
 mul-operand c = search needs
 
--- src/initial.rt:108:34
 element-copy-out-operand-2 : tie.Need-element-copy-out-operand-2 Inv-loop μ-loop
 element-copy-out-operand-2 c = search needs
 
--- src/initial.rt:108:13
 operand-requires : tie.Need-operand-requires Inv-loop μ-loop
 operand-requires c κs = search needs
 
--- src/initial.rt:109:9
 visit-requires : tie.Need-visit-requires Inv-loop μ-loop
 visit-requires c κs = search needs
 
--- src/initial.rt:105:5
 loop-less : tie.Need-loop-less Inv-loop μ-loop
 loop-less c = search needs
 
--- src/initial.rt:105:5
 loop-again : tie.Need-loop-again Inv-loop μ-loop
 loop-again c = search (spread-next, needs)
 
--- src/initial.rt:97:1
 returns : tie.Need-returns Inv-loop μ-loop
 returns c = search (spread-done, needs)
 

@@ -1,60 +1,45 @@
+-- `numbers::initial::visit` meets its contract. Assumes nothing.
 use Rattle.numbers.proofs.Visiting.{visit-none, visit-out, visit-again, visit-room, visit-push}
 use borrow.Author.Needs.{needs}
 use Rattle.numbers.proofs.initial.visit.Statement.{statement}
 use Rattle.numbers.proofs.initial.visit.Tie as tie
-use Rattle.numbers.proofs.initial.visit.Reads as reads
-use Rattle.numbers.proofs.initial.visit.Lts as lts
-use Rattle.numbers.proofs.initial.short.Reads as short-reads
 
--- src/initial.rt:83:9
 returns : tie.Need-returns
 returns c = search (visit-none, needs)
 
--- src/initial.rt:86:9
 returns-2 : tie.Need-returns-2
 returns-2 c = search (visit-out, needs)
 
--- src/initial.rt:88:14
 sub-if3 : tie.Need-sub-if3
 sub-if3 c = search needs
 
--- src/initial.rt:88:8
 element-copy-out-if3 : tie.Need-element-copy-out-if3
 element-copy-out-if3 c = search needs
 
--- src/initial.rt:89:9
 returns-3 : tie.Need-returns-3
 returns-3 c = search (visit-again, needs)
 
--- src/initial.rt:91:11
 sub-marks : tie.Need-sub-marks
 sub-marks c = search needs
 
--- src/initial.rt:91:5
 element-write-marks : tie.Need-element-write-marks
 element-write-marks c = search needs
 
--- src/initial.rt:92:23
 sub-short : tie.Need-sub-short
 sub-short c = search needs
 
--- src/initial.rt:92:17
 short-requires : tie.Need-short-requires
 short-requires c κs = search needs
 
--- src/initial.rt:92:5
 mul-list : tie.Need-mul-list
 mul-list c = search needs
 
--- src/initial.rt:92:5
 element-write-list : tie.Need-element-write-list
 element-write-list c = search (visit-room, needs)
 
--- src/initial.rt:93:5
 add-result : tie.Need-add-result
 add-result c = search needs
 
--- src/initial.rt:78:1
 returns-4 : tie.Need-returns-4
 returns-4 c = search (visit-push, needs)
 

@@ -1,13 +1,9 @@
+-- `numbers::range::checked` meets its contract. Assumes nothing.
 use Prim.Native.Nat.{_-_}
 use Rattle.numbers.proofs.Ranging.{Leaves, checked-begin, checked-done, checked-over, checked-plain, checked-falls, checked-emit}
 use borrow.Author.Needs.{needs}
 use Rattle.numbers.proofs.range.checked.Statement.{statement}
 use Rattle.numbers.proofs.range.checked.Tie as tie
-use Rattle.numbers.proofs.range.checked.Reads as reads
-use Rattle.numbers.proofs.range.checked.Lts as lts
-use Rattle.numbers.proofs.range.far.Reads as far-reads
-use Rattle.numbers.proofs.range.rising.Reads as rising-reads
-use Rattle.numbers.proofs.range.slot.Reads as slot-reads
 
 abbrev Inv-loop : tie.InvT-loop
 Inv-loop words tags t at end i₀ i = Leaves words tags t at end i
@@ -15,71 +11,54 @@ Inv-loop words tags t at end i₀ i = Leaves words tags t at end i
 abbrev μ-loop : tie.MeasureT-loop
 μ-loop words tags t at end i₀ i = end - i
 
--- src/range.rt:381:5
 loop-holds : tie.Need-loop-holds Inv-loop μ-loop
 loop-holds c = search (checked-begin, needs)
 
--- src/range.rt:383:9
 add-i : tie.Need-add-i Inv-loop μ-loop
 add-i c = search needs
 
--- src/range.rt:384:22
 element-copy-out-slot : tie.Need-element-copy-out-slot Inv-loop μ-loop
 element-copy-out-slot c = search needs
 
--- src/range.rt:384:13
 slot-requires : tie.Need-slot-requires Inv-loop μ-loop
 slot-requires c κs = search needs
 
--- src/range.rt:385:12
 mul-if1 : tie.Need-mul-if1 Inv-loop μ-loop
 mul-if1 c = search needs
 
--- src/range.rt:385:12
 element-copy-out-if1 : tie.Need-element-copy-out-if1 Inv-loop μ-loop
 element-copy-out-if1 c = search needs
 
--- src/range.rt:385:24
 mul-far : tie.Need-mul-far Inv-loop μ-loop
 mul-far c = search needs
 
--- src/range.rt:385:24
 element-copy-out-far : tie.Need-element-copy-out-far Inv-loop μ-loop
 element-copy-out-far c = search needs
 
--- src/range.rt:385:20
 far-requires : tie.Need-far-requires Inv-loop μ-loop
 far-requires c κs = search needs
 
--- src/range.rt:386:13
 returns : tie.Need-returns Inv-loop μ-loop
 returns c = search (checked-over, needs)
 
--- src/range.rt:389:17
 rising-requires : tie.Need-rising-requires Inv-loop μ-loop
 rising-requires c κs = search needs
 
--- src/range.rt:390:17
 returns-2 : tie.Need-returns-2 Inv-loop μ-loop
 returns-2 c = search (checked-falls, needs)
 
--- src/range.rt:381:5
 loop-less : tie.Need-loop-less Inv-loop μ-loop
 loop-less c = search needs
 
--- src/range.rt:381:5
 loop-again : tie.Need-loop-again Inv-loop μ-loop
 loop-again c = search (checked-emit, needs)
 
--- src/range.rt:381:5
 loop-less-2 : tie.Need-loop-less-2 Inv-loop μ-loop
 loop-less-2 c = search needs
 
--- src/range.rt:381:5
 loop-again-2 : tie.Need-loop-again-2 Inv-loop μ-loop
 loop-again-2 c = search (checked-plain, needs)
 
--- src/range.rt:374:1
 returns-3 : tie.Need-returns-3 Inv-loop μ-loop
 returns-3 c = search (checked-done, needs)
 

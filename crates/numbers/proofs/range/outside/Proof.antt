@@ -1,172 +1,129 @@
+-- `numbers::range::outside` meets its contract. Assumes nothing.
 use Rattle.numbers.proofs.Ranging.{outside-is}
 use borrow.Author.Needs.{needs}
 use Rattle.numbers.proofs.range.outside.Statement.{statement}
 use Rattle.numbers.proofs.range.outside.Tie as tie
-use Rattle.numbers.proofs.range.outside.Reads as reads
-use Rattle.numbers.proofs.range.outside.Lts as lts
-use Rattle.numbers.proofs.range.far.Reads as far-reads
 
--- src/range.rt:66:21
 element-copy-out-far : tie.Need-element-copy-out-far
 element-copy-out-far c = search needs
 
--- src/range.rt:66:9
 far-requires : tie.Need-far-requires
 far-requires c κs = search needs
 
--- src/range.rt:67:21
 element-copy-out-far-2 : tie.Need-element-copy-out-far-2
 element-copy-out-far-2 c = search needs
 
--- src/range.rt:67:9
 far-requires-2 : tie.Need-far-requires-2
 far-requires-2 c κs = search needs
 
--- src/range.rt:68:21
 element-copy-out-far-3 : tie.Need-element-copy-out-far-3
 element-copy-out-far-3 c = search needs
 
--- src/range.rt:68:9
 far-requires-3 : tie.Need-far-requires-3
 far-requires-3 c κs = search needs
 
--- src/range.rt:69:25
 element-copy-out-far-4 : tie.Need-element-copy-out-far-4
 element-copy-out-far-4 c = search needs
 
--- src/range.rt:69:9
 far-requires-4 : tie.Need-far-requires-4
 far-requires-4 c κs = search needs
 
--- src/range.rt:70:13
 add-t : tie.Need-add-t
 add-t c = search needs
 
--- src/range.rt:70:5
 element-write-t : tie.Need-element-write-t
 element-write-t c = search needs
 
--- src/range.rt:71:5
 element-write-t-2 : tie.Need-element-write-t-2
 element-write-t-2 c = search needs
 
--- src/range.rt:72:13
 add-t-2 : tie.Need-add-t-2
 add-t-2 c = search needs
 
--- src/range.rt:72:5
 element-write-t-3 : tie.Need-element-write-t-3
 element-write-t-3 c = search needs
 
--- src/range.rt:73:17
 element-copy-out-far-5 : tie.Need-element-copy-out-far-5
 element-copy-out-far-5 c = search needs
 
--- src/range.rt:73:13
 far-requires-5 : tie.Need-far-requires-5
 far-requires-5 c κs = search needs
 
--- src/range.rt:73:5
 element-write-t-4 : tie.Need-element-write-t-4
 element-write-t-4 c = search needs
 
--- src/range.rt:74:17
 element-copy-out-far-6 : tie.Need-element-copy-out-far-6
 element-copy-out-far-6 c = search needs
 
--- src/range.rt:74:13
 far-requires-6 : tie.Need-far-requires-6
 far-requires-6 c κs = search needs
 
--- src/range.rt:74:5
 element-write-t-5 : tie.Need-element-write-t-5
 element-write-t-5 c = search needs
 
--- src/range.rt:75:17
 element-copy-out-far-7 : tie.Need-element-copy-out-far-7
 element-copy-out-far-7 c = search needs
 
--- src/range.rt:75:13
 far-requires-7 : tie.Need-far-requires-7
 far-requires-7 c κs = search needs
 
--- src/range.rt:75:5
 element-write-t-6 : tie.Need-element-write-t-6
 element-write-t-6 c = search needs
 
--- src/range.rt:76:5
 element-write-t-7 : tie.Need-element-write-t-7
 element-write-t-7 c = search needs
 
--- src/range.rt:77:13
 add-t-3 : tie.Need-add-t-3
 add-t-3 c = search needs
 
--- src/range.rt:77:5
 element-write-t-8 : tie.Need-element-write-t-8
 element-write-t-8 c = search needs
 
--- src/range.rt:78:5
 element-write-t-9 : tie.Need-element-write-t-9
 element-write-t-9 c = search needs
 
--- src/range.rt:79:5
 element-write-t-10 : tie.Need-element-write-t-10
 element-write-t-10 c = search needs
 
--- src/range.rt:80:5
 element-write-t-11 : tie.Need-element-write-t-11
 element-write-t-11 c = search needs
 
--- src/range.rt:81:13
 add-t-4 : tie.Need-add-t-4
 add-t-4 c = search needs
 
--- src/range.rt:81:5
 element-write-t-12 : tie.Need-element-write-t-12
 element-write-t-12 c = search needs
 
--- src/range.rt:82:5
 element-write-t-13 : tie.Need-element-write-t-13
 element-write-t-13 c = search needs
 
--- src/range.rt:83:5
 element-write-t-14 : tie.Need-element-write-t-14
 element-write-t-14 c = search needs
 
--- src/range.rt:84:13
 add-t-5 : tie.Need-add-t-5
 add-t-5 c = search needs
 
--- src/range.rt:84:5
 element-write-t-15 : tie.Need-element-write-t-15
 element-write-t-15 c = search needs
 
--- src/range.rt:85:5
 element-write-t-16 : tie.Need-element-write-t-16
 element-write-t-16 c = search needs
 
--- src/range.rt:86:14
 add-t-6 : tie.Need-add-t-6
 add-t-6 c = search needs
 
--- src/range.rt:86:5
 element-write-t-17 : tie.Need-element-write-t-17
 element-write-t-17 c = search needs
 
--- src/range.rt:87:5
 element-write-t-18 : tie.Need-element-write-t-18
 element-write-t-18 c = search needs
 
--- src/range.rt:88:14
 add-t-7 : tie.Need-add-t-7
 add-t-7 c = search needs
 
--- src/range.rt:88:5
 element-write-t-19 : tie.Need-element-write-t-19
 element-write-t-19 c = search needs
 
--- src/range.rt:62:1
 returns : tie.Need-returns
 returns c = search (outside-is, needs)
 

@@ -1,12 +1,9 @@
+-- `numbers::range::ranged` meets its contract. Assumes nothing.
 use Prim.Native.Nat.{_-_}
 use Rattle.numbers.proofs.Ranging.{Left, ranged-begin, ranged-done, ranged-over, ranged-next}
 use borrow.Author.Needs.{needs}
 use Rattle.numbers.proofs.range.ranged.Statement.{statement}
 use Rattle.numbers.proofs.range.ranged.Tie as tie
-use Rattle.numbers.proofs.range.ranged.Reads as reads
-use Rattle.numbers.proofs.range.ranged.Lts as lts
-use Rattle.numbers.proofs.range.far.Reads as far-reads
-use Rattle.numbers.proofs.range.slot.Reads as slot-reads
 
 abbrev Inv-loop : tie.InvT-loop
 Inv-loop words tags t at end i₀ i = Left words tags t at end i
@@ -14,55 +11,42 @@ Inv-loop words tags t at end i₀ i = Left words tags t at end i
 abbrev μ-loop : tie.MeasureT-loop
 μ-loop words tags t at end i₀ i = end - i
 
--- src/range.rt:114:5
 loop-holds : tie.Need-loop-holds Inv-loop μ-loop
 loop-holds c = search (ranged-begin, needs)
 
--- src/range.rt:116:9
 add-i : tie.Need-add-i Inv-loop μ-loop
 add-i c = search needs
 
--- src/range.rt:117:22
 element-copy-out-slot : tie.Need-element-copy-out-slot Inv-loop μ-loop
 element-copy-out-slot c = search needs
 
--- src/range.rt:117:13
 slot-requires : tie.Need-slot-requires Inv-loop μ-loop
 slot-requires c κs = search needs
 
--- src/range.rt:118:12
 mul-if1 : tie.Need-mul-if1 Inv-loop μ-loop
 mul-if1 c = search needs
 
--- src/range.rt:118:12
 element-copy-out-if1 : tie.Need-element-copy-out-if1 Inv-loop μ-loop
 element-copy-out-if1 c = search needs
 
--- src/range.rt:118:24
 mul-far : tie.Need-mul-far Inv-loop μ-loop
 mul-far c = search needs
 
--- src/range.rt:118:24
 element-copy-out-far : tie.Need-element-copy-out-far Inv-loop μ-loop
 element-copy-out-far c = search needs
 
--- src/range.rt:118:20
 far-requires : tie.Need-far-requires Inv-loop μ-loop
 far-requires c κs = search needs
 
--- src/range.rt:119:13
 returns : tie.Need-returns Inv-loop μ-loop
 returns c = search (ranged-over, needs)
 
--- src/range.rt:114:5
 loop-less : tie.Need-loop-less Inv-loop μ-loop
 loop-less c = search needs
 
--- src/range.rt:114:5
 loop-again : tie.Need-loop-again Inv-loop μ-loop
 loop-again c = search (ranged-next, needs)
 
--- src/range.rt:108:1
 returns-2 : tie.Need-returns-2 Inv-loop μ-loop
 returns-2 c = search (ranged-done, needs)
 

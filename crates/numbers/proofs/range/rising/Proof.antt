@@ -1,47 +1,36 @@
+-- `numbers::range::rising` meets its contract. Assumes nothing.
 use Rattle.numbers.proofs.Ranging.{rising-other, rising-last, rising-tested}
 use borrow.Author.Needs.{needs}
 use Rattle.numbers.proofs.range.rising.Statement.{statement}
 use Rattle.numbers.proofs.range.rising.Tie as tie
-use Rattle.numbers.proofs.range.rising.Reads as reads
-use Rattle.numbers.proofs.range.rising.Lts as lts
 
--- src/range.rt:131:8
 element-copy-out-if1 : tie.Need-element-copy-out-if1
 element-copy-out-if1 c = search needs
 
--- src/range.rt:132:9
 returns : tie.Need-returns
 returns c = search (rising-other, needs)
 
--- src/range.rt:134:15
 add-if2 : tie.Need-add-if2
 add-if2 c = search needs
 
--- src/range.rt:135:9
 returns-2 : tie.Need-returns-2
 returns-2 c = search (rising-last, needs)
 
--- src/range.rt:137:5
 mul-result : tie.Need-mul-result
 mul-result c = search needs
 
--- src/range.rt:137:5
 element-copy-out-result : tie.Need-element-copy-out-result
 element-copy-out-result c = search needs
 
--- src/range.rt:137:23
 add-result : tie.Need-add-result
 add-result c = search needs
 
--- src/range.rt:137:17
 mul-result-2 : tie.Need-mul-result-2
 mul-result-2 c = search needs
 
--- src/range.rt:137:17
 element-copy-out-result-2 : tie.Need-element-copy-out-result-2
 element-copy-out-result-2 c = search needs
 
--- src/range.rt:126:1
 returns-3 : tie.Need-returns-3
 returns-3 c = search (rising-tested, needs)
 

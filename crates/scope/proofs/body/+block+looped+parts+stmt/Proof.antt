@@ -1,3 +1,4 @@
+-- `scope::body::+block+looped+parts+stmt` meets its contract. Assumes nothing.
 use mathlib.Core.Bool.{true}
 use mathlib.Core.List.{[]}
 use Prim.Native.Nat.{_*_, _+_, _-_}
@@ -77,7 +78,6 @@ block-Inv-loop words tags starts initial until₀ count at fin keep breaks conti
 abbrev block-μ-loop : block-lts.MeasureT-loop
 block-μ-loop words tags starts initial until₀ count at fin keep breaks continues returns i₀ cut₀ until i cut = fin - i
 
--- src/body.rt:565:17
 block-add-i : (t : ℕ) → block-lts.Need-add-i (
   wide-reads.Asked,
   wide-reads.Learnt,
@@ -90,7 +90,6 @@ block-add-i : (t : ℕ) → block-lts.Need-add-i (
 ) (block-at t) block.Post block-Inv-loop block-μ-loop
 block-add-i t c = let h = skip-low _ _ _ _ _ (c .pre .1 .holds) in search needs
 
--- src/body.rt:567:5
 block-loop-holds : (t : ℕ) → block-lts.Need-loop-holds (
   wide-reads.Asked,
   wide-reads.Learnt,
@@ -103,7 +102,6 @@ block-loop-holds : (t : ℕ) → block-lts.Need-loop-holds (
 ) (block-at t) block.Post block-Inv-loop block-μ-loop
 block-loop-holds t c = block-begin _ _ _ _ _ _ _ _ _ _ (c .pre .1)
 
--- src/body.rt:569:22
 block-mul-wide : (t : ℕ) → block-lts.Need-mul-wide (
   wide-reads.Asked,
   wide-reads.Learnt,
@@ -116,7 +114,6 @@ block-mul-wide : (t : ℕ) → block-lts.Need-mul-wide (
 ) (block-at t) block.Post block-Inv-loop block-μ-loop
 block-mul-wide t c = let h = c .before .before .pre .1 .holds .within in search needs
 
--- src/body.rt:569:22
 block-element-copy-out-wide : (t : ℕ) → block-lts.Need-element-copy-out-wide (
   wide-reads.Asked,
   wide-reads.Learnt,
@@ -129,7 +126,6 @@ block-element-copy-out-wide : (t : ℕ) → block-lts.Need-element-copy-out-wide
 ) (block-at t) block.Post block-Inv-loop block-μ-loop
 block-element-copy-out-wide t c = let h = c .before .before .pre .1 .holds .within in search needs
 
--- src/body.rt:569:17
 block-wide-requires : (t : ℕ) → block-lts.Need-wide-requires (
   wide-reads.Asked,
   wide-reads.Learnt,
@@ -142,7 +138,6 @@ block-wide-requires : (t : ℕ) → block-lts.Need-wide-requires (
 ) (block-at t) block.Post block-Inv-loop block-μ-loop
 block-wide-requires t c κs = search needs
 
--- src/body.rt:569:13
 block-add-i-2 : (t : ℕ) → block-lts.Need-add-i-2 (
   wide-reads.Asked,
   wide-reads.Learnt,
@@ -155,7 +150,6 @@ block-add-i-2 : (t : ℕ) → block-lts.Need-add-i-2 (
 ) (block-at t) block.Post block-Inv-loop block-μ-loop
 block-add-i-2 t c = let h = c .before .before .before .before .pre .1 .holds .within in search needs
 
--- src/body.rt:570:13
 block-kept-requires : (t : ℕ) → block-lts.Need-kept-requires (
   wide-reads.Asked,
   wide-reads.Learnt,
@@ -168,7 +162,6 @@ block-kept-requires : (t : ℕ) → block-lts.Need-kept-requires (
 ) (block-at t) block.Post block-Inv-loop block-μ-loop
 block-kept-requires t c κs = search needs
 
--- src/body.rt:571:13
 block-stmt-requires : (t : ℕ) → block-lts.Need-stmt-requires (
   wide-reads.Asked,
   wide-reads.Learnt,
@@ -181,7 +174,6 @@ block-stmt-requires : (t : ℕ) → block-lts.Need-stmt-requires (
 ) (block-at t) block.Post block-Inv-loop block-μ-loop
 block-stmt-requires t c κs = let f = block-far _ _ _ _ _ _ _ _ _ _ (c .before .before .before .before .before .before .pre .1) _ _ _ (c .before .before .before .before .before .loop .inv) (c .before .before .before .before .loop-test .taken) _ (c .before .before .wide .ensures) in let p = c .before .before .before .before .before .loop .inv .past in let l = c .before .before .before .before .loop-test .taken in (search needs, block-stmt _ _ _ _ _ _ _ _ _ _ (c .before .before .before .before .before .before .pre .1) _ _ _ (c .before .before .before .before .before .loop .inv) (c .before .before .before .before .loop-test .taken) _ (c .before .before .wide .ensures) _ (c .before .kept .ensures))
 
--- src/body.rt:586:13
 block-returns : (t : ℕ) → block-lts.Need-returns (
   wide-reads.Asked,
   wide-reads.Learnt,
@@ -194,7 +186,6 @@ block-returns : (t : ℕ) → block-lts.Need-returns (
 ) (block-at t) block.Post block-Inv-loop block-μ-loop
 block-returns t c = block-wrong _ _ _ _ _ _ _ _ _ _ (c .before .before .before .before .before .before .before .before .pre .1) _ _ _ (c .before .before .before .before .before .before .before .loop .inv) (c .before .before .before .before .before .before .loop-test .taken) _ (c .before .before .before .before .wide .ensures) _ (c .before .before .before .kept .ensures) _ _ (c .before .stmt .ensures) (c .if1 .taken)
 
--- src/body.rt:588:9
 block-joined-requires : (t : ℕ) → block-lts.Need-joined-requires (
   wide-reads.Asked,
   wide-reads.Learnt,
@@ -207,7 +198,6 @@ block-joined-requires : (t : ℕ) → block-lts.Need-joined-requires (
 ) (block-at t) block.Post block-Inv-loop block-μ-loop
 block-joined-requires t c κs = search needs
 
--- src/body.rt:567:5
 block-loop-less : (t : ℕ) → block-lts.Need-loop-less (
   wide-reads.Asked,
   wide-reads.Learnt,
@@ -220,7 +210,6 @@ block-loop-less : (t : ℕ) → block-lts.Need-loop-less (
 ) (block-at t) block.Post block-Inv-loop block-μ-loop
 block-loop-less t c = let f = block-on _ _ _ _ _ _ _ _ _ _ (c .before .before .before .before .before .before .before .before .before .pre .1) _ _ _ (c .before .before .before .before .before .before .before .before .loop .inv) (c .before .before .before .before .before .before .before .loop-test .taken) _ (c .before .before .before .before .before .wide .ensures) in let l = c .before .before .before .before .before .before .before .loop-test .taken in search needs
 
--- src/body.rt:567:5
 block-loop-again : (t : ℕ) → block-lts.Need-loop-again (
   wide-reads.Asked,
   wide-reads.Learnt,
@@ -233,7 +222,6 @@ block-loop-again : (t : ℕ) → block-lts.Need-loop-again (
 ) (block-at t) block.Post block-Inv-loop block-μ-loop
 block-loop-again t c = block-next _ _ _ _ _ _ _ _ _ _ (c .before .before .before .before .before .before .before .before .before .pre .1) _ _ _ (c .before .before .before .before .before .before .before .before .loop .inv) (c .before .before .before .before .before .before .before .loop-test .taken) _ (c .before .before .before .before .before .wide .ensures) _ (c .before .before .before .before .kept .ensures) _ _ (c .before .before .stmt .ensures) (c .before .if1 .left) _ (c .joined .ensures)
 
--- src/body.rt:548:1
 block-returns-2 : (t : ℕ) → block-lts.Need-returns-2 (
   wide-reads.Asked,
   wide-reads.Learnt,
@@ -246,7 +234,6 @@ block-returns-2 : (t : ℕ) → block-lts.Need-returns-2 (
 ) (block-at t) block.Post block-Inv-loop block-μ-loop
 block-returns-2 t c = block-done _ _ _ _ _ _ _ _ _ _ (c .before .before .pre .1) _ _ _ (c .before .loop .inv) (c .loop-test .left)
 
--- src/body.rt:421:16
 looped-add-body : (t : ℕ) → looped-lts.Need-add-body (
   skip-reads.Asked,
   skip-reads.Learnt,
@@ -259,7 +246,6 @@ looped-add-body : (t : ℕ) → looped-lts.Need-add-body (
 ) (looped-at t) looped.Post
 looped-add-body t c = let h = loop-skip _ _ _ [] [] _ _ _ _ true (c .pre .1 .0) (c .pre .1 .1) in search needs
 
--- src/body.rt:422:9
 looped-skip-requires : (t : ℕ) → looped-lts.Need-skip-requires (
   skip-reads.Asked,
   skip-reads.Learnt,
@@ -272,7 +258,6 @@ looped-skip-requires : (t : ℕ) → looped-lts.Need-skip-requires (
 ) (looped-at t) looped.Post
 looped-skip-requires t c κs = loop-skip _ _ _ [] [] _ _ _ _ true (c .pre .1 .0) (c .pre .1 .1)
 
--- src/body.rt:423:9
 looped-block-requires : (t : ℕ) → looped-lts.Need-block-requires (
   skip-reads.Asked,
   skip-reads.Learnt,
@@ -285,7 +270,6 @@ looped-block-requires : (t : ℕ) → looped-lts.Need-block-requires (
 ) (looped-at t) looped.Post
 looped-block-requires t c κs = let m = loop-mid _ _ _ [] [] _ _ _ _ true (c .before .before .pre .1 .0) (c .before .before .pre .1 .1) _ (c .before .skip .ensures) in (search needs, loop-body _ _ _ [] [] _ _ _ _ true (c .before .before .pre .1 .0) (c .before .before .pre .1 .1) _ (c .before .skip .ensures))
 
--- src/body.rt:438:9
 looped-returns : (t : ℕ) → looped-lts.Need-returns (
   skip-reads.Asked,
   skip-reads.Learnt,
@@ -298,7 +282,6 @@ looped-returns : (t : ℕ) → looped-lts.Need-returns (
 ) (looped-at t) looped.Post
 looped-returns t c = loop-wrong _ _ _ _ _ _ _ _ _ _ (c .before .before .before .before .pre .1 .0) (c .before .before .before .before .pre .1 .1) _ (c .before .before .before .skip .ensures) _ _ (c .before .block .ensures) (c .if1 .taken)
 
--- src/body.rt:440:9
 looped-skip-requires-2 : (t : ℕ) → looped-lts.Need-skip-requires-2 (
   skip-reads.Asked,
   skip-reads.Learnt,
@@ -311,7 +294,6 @@ looped-skip-requires-2 : (t : ℕ) → looped-lts.Need-skip-requires-2 (
 ) (looped-at t) looped.Post
 looped-skip-requires-2 t c κs = loop-skip₂ _ _ _ [] [] _ _ _ _ true (c .before .before .before .before .pre .1 .0) (c .before .before .before .before .pre .1 .1) _ (c .before .before .before .skip .ensures)
 
--- src/body.rt:441:9
 looped-block-requires-2 : (t : ℕ) → looped-lts.Need-block-requires-2 (
   skip-reads.Asked,
   skip-reads.Learnt,
@@ -324,7 +306,6 @@ looped-block-requires-2 : (t : ℕ) → looped-lts.Need-block-requires-2 (
 ) (looped-at t) looped.Post
 looped-block-requires-2 t c κs = let m = loop-mid _ _ _ [] [] _ _ _ _ true (c .before .before .before .before .before .before .pre .1 .0) (c .before .before .before .before .before .before .pre .1 .1) _ (c .before .before .before .before .before .skip .ensures) in let n = loop-late _ _ _ _ _ _ _ _ _ _ (c .before .before .before .before .before .before .pre .1 .0) (c .before .before .before .before .before .before .pre .1 .1) _ (c .before .before .before .before .before .skip .ensures) _ _ (c .before .before .before .block .ensures) (c .before .before .if1 .left) _ (c .before .skip2 .ensures) in (search needs, loop-continuing _ _ _ _ _ _ _ _ _ _ (c .before .before .before .before .before .before .pre .1 .0) (c .before .before .before .before .before .before .pre .1 .1) _ (c .before .before .before .before .before .skip .ensures) _ _ (c .before .before .before .block .ensures) (c .before .before .if1 .left) _ (c .before .skip2 .ensures))
 
--- src/body.rt:456:9
 looped-returns-2 : (t : ℕ) → looped-lts.Need-returns-2 (
   skip-reads.Asked,
   skip-reads.Learnt,
@@ -337,7 +318,6 @@ looped-returns-2 : (t : ℕ) → looped-lts.Need-returns-2 (
 ) (looped-at t) looped.Post
 looped-returns-2 t c = loop-wrong₂ _ _ _ _ _ _ _ _ _ _ (c .before .before .before .before .before .before .before .before .pre .1 .0) (c .before .before .before .before .before .before .before .before .pre .1 .1) _ (c .before .before .before .before .before .before .before .skip .ensures) _ _ (c .before .before .before .before .before .block .ensures) (c .before .before .before .before .if1 .left) _ (c .before .before .before .skip2 .ensures) _ _ (c .before .block2 .ensures) (c .if2 .taken)
 
--- src/body.rt:458:11
 looped-read-requires : (t : ℕ) → looped-lts.Need-read-requires (
   skip-reads.Asked,
   skip-reads.Learnt,
@@ -350,7 +330,6 @@ looped-read-requires : (t : ℕ) → looped-lts.Need-read-requires (
 ) (looped-at t) looped.Post
 looped-read-requires t c κs = let n = loop-late _ _ _ _ _ _ _ _ _ _ (c .before .before .before .before .before .before .before .before .before .pre .1 .0) (c .before .before .before .before .before .before .before .before .before .pre .1 .1) _ (c .before .before .before .before .before .before .before .before .skip .ensures) _ _ (c .before .before .before .before .before .before .block .ensures) (c .before .before .before .before .before .if1 .left) _ (c .before .before .before .before .skip2 .ensures) in let h = c .before .before .before .before .before .before .before .before .before .pre .1 .0 .holds .within in (c .before .before .before .before .before .before .before .before .before .pre .1 .0 .exprs .placed, search needs)
 
--- src/body.rt:458:5
 looped-found-requires : (t : ℕ) → looped-lts.Need-found-requires (
   skip-reads.Asked,
   skip-reads.Learnt,
@@ -363,7 +342,6 @@ looped-found-requires : (t : ℕ) → looped-lts.Need-found-requires (
 ) (looped-at t) looped.Post
 looped-found-requires t c κs = search needs
 
--- src/body.rt:405:1
 looped-returns-3 : (t : ℕ) → looped-lts.Need-returns-3 (
   skip-reads.Asked,
   skip-reads.Learnt,
@@ -382,7 +360,6 @@ parts-Inv-loop words tags starts initial until₀ count at stop keep breaks cont
 abbrev parts-μ-loop : parts-lts.MeasureT-loop
 parts-μ-loop words tags starts initial until₀ count at stop keep breaks continues returns i₀ cut₀ until i cut = stop - i
 
--- src/body.rt:369:17
 parts-add-i : (t : ℕ) → parts-lts.Need-add-i (
   skip-reads.Asked,
   skip-reads.Learnt,
@@ -395,7 +372,6 @@ parts-add-i : (t : ℕ) → parts-lts.Need-add-i (
 ) (parts-at t) parts.Post parts-Inv-loop parts-μ-loop
 parts-add-i t c = let h = stmt-low _ _ _ [] [] _ _ _ _ (c .pre .1 .0) in let k = c .pre .1 .0 .holds .within in search needs
 
--- src/body.rt:371:5
 parts-loop-holds : (t : ℕ) → parts-lts.Need-loop-holds (
   skip-reads.Asked,
   skip-reads.Learnt,
@@ -408,7 +384,6 @@ parts-loop-holds : (t : ℕ) → parts-lts.Need-loop-holds (
 ) (parts-at t) parts.Post parts-Inv-loop parts-μ-loop
 parts-loop-holds t c = parts-begin _ _ _ _ _ _ _ _ _ _ (c .pre .1 .0) (c .pre .1 .1 .0 .0) (c .pre .1 .1 .0 .1) (c .pre .1 .1 .1)
 
--- src/body.rt:373:12
 parts-element-copy-out-if1 : (t : ℕ) → parts-lts.Need-element-copy-out-if1 (
   skip-reads.Asked,
   skip-reads.Learnt,
@@ -421,7 +396,6 @@ parts-element-copy-out-if1 : (t : ℕ) → parts-lts.Need-element-copy-out-if1 (
 ) (parts-at t) parts.Post parts-Inv-loop parts-μ-loop
 parts-element-copy-out-if1 t c = let h = c .before .before .pre .1 .0 .holds .within in search needs
 
--- src/body.rt:374:17
 parts-skip-requires : (t : ℕ) → parts-lts.Need-skip-requires (
   skip-reads.Asked,
   skip-reads.Learnt,
@@ -434,7 +408,6 @@ parts-skip-requires : (t : ℕ) → parts-lts.Need-skip-requires (
 ) (parts-at t) parts.Post parts-Inv-loop parts-μ-loop
 parts-skip-requires t c κs = parts-skip _ _ _ _ _ _ _ _ _ _ (c .before .before .before .before .pre .1 .0) _ _ _ (c .before .before .before .loop .inv) (c .before .before .loop-test .taken) (c .if1 .taken)
 
--- src/body.rt:376:17
 parts-block-requires : (t : ℕ) → parts-lts.Need-block-requires (
   skip-reads.Asked,
   skip-reads.Learnt,
@@ -447,7 +420,6 @@ parts-block-requires : (t : ℕ) → parts-lts.Need-block-requires (
 ) (parts-at t) parts.Post parts-Inv-loop parts-μ-loop
 parts-block-requires t c κs = let f = parts-far _ _ _ _ _ _ _ _ _ _ (c .before .before .before .before .before .before .pre .1 .0) _ _ _ (c .before .before .before .before .before .loop .inv) (c .before .before .before .before .loop-test .taken) (c .before .before .if1 .taken) _ (c .before .skip .ensures) in let o = parts-on _ _ _ _ _ _ _ _ _ _ (c .before .before .before .before .before .before .pre .1 .0) _ _ _ (c .before .before .before .before .before .loop .inv) (c .before .before .before .before .loop-test .taken) (c .before .before .if1 .taken) _ (c .before .skip .ensures) in let p = c .before .before .before .before .before .loop .inv .past in (search needs, parts-block _ _ _ _ _ _ _ _ _ _ (c .before .before .before .before .before .before .pre .1 .0) _ _ _ (c .before .before .before .before .before .loop .inv) (c .before .before .before .before .loop-test .taken) (c .before .before .if1 .taken) _ (c .before .skip .ensures))
 
--- src/body.rt:391:17
 parts-returns : (t : ℕ) → parts-lts.Need-returns (
   skip-reads.Asked,
   skip-reads.Learnt,
@@ -460,7 +432,6 @@ parts-returns : (t : ℕ) → parts-lts.Need-returns (
 ) (parts-at t) parts.Post parts-Inv-loop parts-μ-loop
 parts-returns t c = parts-wrong _ _ _ _ _ _ _ _ _ _ (c .before .before .before .before .before .before .before .before .pre .1 .0) _ _ _ (c .before .before .before .before .before .before .before .loop .inv) (c .before .before .before .before .before .before .loop-test .taken) (c .before .before .before .before .if1 .taken) _ (c .before .before .before .skip .ensures) _ _ (c .before .block .ensures) (c .if2 .taken)
 
--- src/body.rt:393:13
 parts-joined-requires : (t : ℕ) → parts-lts.Need-joined-requires (
   skip-reads.Asked,
   skip-reads.Learnt,
@@ -473,7 +444,6 @@ parts-joined-requires : (t : ℕ) → parts-lts.Need-joined-requires (
 ) (parts-at t) parts.Post parts-Inv-loop parts-μ-loop
 parts-joined-requires t c κs = search needs
 
--- src/body.rt:371:5
 parts-loop-less : (t : ℕ) → parts-lts.Need-loop-less (
   skip-reads.Asked,
   skip-reads.Learnt,
@@ -486,7 +456,6 @@ parts-loop-less : (t : ℕ) → parts-lts.Need-loop-less (
 ) (parts-at t) parts.Post parts-Inv-loop parts-μ-loop
 parts-loop-less t c = let f = parts-far _ _ _ _ _ _ _ _ _ _ (c .before .before .before .before .before .before .before .before .before .pre .1 .0) _ _ _ (c .before .before .before .before .before .before .before .before .loop .inv) (c .before .before .before .before .before .before .before .loop-test .taken) (c .before .before .before .before .before .if1 .taken) _ (c .before .before .before .before .skip .ensures) in let o = parts-on _ _ _ _ _ _ _ _ _ _ (c .before .before .before .before .before .before .before .before .before .pre .1 .0) _ _ _ (c .before .before .before .before .before .before .before .before .loop .inv) (c .before .before .before .before .before .before .before .loop-test .taken) (c .before .before .before .before .before .if1 .taken) _ (c .before .before .before .before .skip .ensures) in let l = c .before .before .before .before .before .before .before .loop-test .taken in search needs
 
--- src/body.rt:371:5
 parts-loop-again : (t : ℕ) → parts-lts.Need-loop-again (
   skip-reads.Asked,
   skip-reads.Learnt,
@@ -499,7 +468,6 @@ parts-loop-again : (t : ℕ) → parts-lts.Need-loop-again (
 ) (parts-at t) parts.Post parts-Inv-loop parts-μ-loop
 parts-loop-again t c = parts-next _ _ _ _ _ _ _ _ _ _ (c .before .before .before .before .before .before .before .before .before .pre .1 .0) _ _ _ (c .before .before .before .before .before .before .before .before .loop .inv) (c .before .before .before .before .before .before .before .loop-test .taken) (c .before .before .before .before .before .if1 .taken) _ (c .before .before .before .before .skip .ensures) _ _ (c .before .before .block .ensures) (c .before .if2 .left) _ (c .joined .ensures)
 
--- src/body.rt:395:17
 parts-add-i-2 : (t : ℕ) → parts-lts.Need-add-i-2 (
   skip-reads.Asked,
   skip-reads.Learnt,
@@ -512,7 +480,6 @@ parts-add-i-2 : (t : ℕ) → parts-lts.Need-add-i-2 (
 ) (parts-at t) parts.Post parts-Inv-loop parts-μ-loop
 parts-add-i-2 t c = let h = c .before .before .before .before .pre .1 .0 .holds .within in search needs
 
--- src/body.rt:396:17
 parts-read-requires : (t : ℕ) → parts-lts.Need-read-requires (
   skip-reads.Asked,
   skip-reads.Learnt,
@@ -525,7 +492,6 @@ parts-read-requires : (t : ℕ) → parts-lts.Need-read-requires (
 ) (parts-at t) parts.Post parts-Inv-loop parts-μ-loop
 parts-read-requires t c κs = let h = c .before .before .before .before .before .pre .1 .0 .holds .within in let l = c .before .before .before .loop-test .taken in (c .before .before .before .before .before .pre .1 .0 .exprs .placed, search needs)
 
--- src/body.rt:397:17
 parts-returns-2 : (t : ℕ) → parts-lts.Need-returns-2 (
   skip-reads.Asked,
   skip-reads.Learnt,
@@ -538,7 +504,6 @@ parts-returns-2 : (t : ℕ) → parts-lts.Need-returns-2 (
 ) (parts-at t) parts.Post parts-Inv-loop parts-μ-loop
 parts-returns-2 t c = word-wrong _ _ _ _ _ _ _ _ _ _ (c .before .before .before .before .before .before .before .pre .1 .0) _ _ _ (c .before .before .before .before .before .before .loop .inv) (c .before .before .before .before .before .loop-test .taken) (c .before .before .before .if1 .left) _ (c .before .read .ensures) (c .if3 .taken)
 
--- src/body.rt:371:5
 parts-loop-less-2 : (t : ℕ) → parts-lts.Need-loop-less-2 (
   skip-reads.Asked,
   skip-reads.Learnt,
@@ -551,7 +516,6 @@ parts-loop-less-2 : (t : ℕ) → parts-lts.Need-loop-less-2 (
 ) (parts-at t) parts.Post parts-Inv-loop parts-μ-loop
 parts-loop-less-2 t c = let l = c .before .before .before .before .before .loop-test .taken in search needs
 
--- src/body.rt:371:5
 parts-loop-again-2 : (t : ℕ) → parts-lts.Need-loop-again-2 (
   skip-reads.Asked,
   skip-reads.Learnt,
@@ -564,7 +528,6 @@ parts-loop-again-2 : (t : ℕ) → parts-lts.Need-loop-again-2 (
 ) (parts-at t) parts.Post parts-Inv-loop parts-μ-loop
 parts-loop-again-2 t c = word-next _ _ _ _ _ _ _ _ _ _ (c .before .before .before .before .before .before .before .pre .1 .0) _ _ _ (c .before .before .before .before .before .before .loop .inv) (c .before .before .before .before .before .loop-test .taken) (c .before .before .before .if1 .left) _ (c .before .read .ensures) (c .if3 .left)
 
--- src/body.rt:350:1
 parts-returns-3 : (t : ℕ) → parts-lts.Need-returns-3 (
   skip-reads.Asked,
   skip-reads.Learnt,
@@ -577,7 +540,6 @@ parts-returns-3 : (t : ℕ) → parts-lts.Need-returns-3 (
 ) (parts-at t) parts.Post parts-Inv-loop parts-μ-loop
 parts-returns-3 t c = parts-done _ _ _ _ _ _ _ _ _ _ (c .before .before .pre .1 .0) _ _ _ (c .before .loop .inv) (c .loop-test .left)
 
--- src/body.rt:479:19
 stmt-add-k : (t : ℕ) → stmt-lts.Need-add-k (
   emit-reads.Asked,
   emit-reads.Learnt,
@@ -592,7 +554,6 @@ stmt-add-k : (t : ℕ) → stmt-lts.Need-add-k (
 ) (stmt-at t) stmt.Post
 stmt-add-k t c = let h = stmt-low _ _ _ [] [] _ _ _ _ (c .pre .1) in let w = c .pre .1 .holds .within in search needs
 
--- src/body.rt:479:13
 stmt-mul-k : (t : ℕ) → stmt-lts.Need-mul-k (
   emit-reads.Asked,
   emit-reads.Learnt,
@@ -607,7 +568,6 @@ stmt-mul-k : (t : ℕ) → stmt-lts.Need-mul-k (
 ) (stmt-at t) stmt.Post
 stmt-mul-k t c = let h = stmt-low _ _ _ [] [] _ _ _ _ (c .pre .1) in let w = c .pre .1 .holds .within in search needs
 
--- src/body.rt:479:13
 stmt-element-copy-out-k : (t : ℕ) → stmt-lts.Need-element-copy-out-k (
   emit-reads.Asked,
   emit-reads.Learnt,
@@ -622,7 +582,6 @@ stmt-element-copy-out-k : (t : ℕ) → stmt-lts.Need-element-copy-out-k (
 ) (stmt-at t) stmt.Post
 stmt-element-copy-out-k t c = let h = stmt-low _ _ _ [] [] _ _ _ _ (c .pre .1) in let w = c .pre .1 .holds .within in search needs
 
--- src/body.rt:481:22
 stmt-emit-requires : (t : ℕ) → stmt-lts.Need-emit-requires (
   emit-reads.Asked,
   emit-reads.Learnt,
@@ -637,7 +596,6 @@ stmt-emit-requires : (t : ℕ) → stmt-lts.Need-emit-requires (
 ) (stmt-at t) stmt.Post
 stmt-emit-requires t c κs = (c .before .before .before .pre .1 .exprs, emit-asks _ _ _ [] [] _ _ _ _ (c .before .before .before .pre .1) (c .before .if1 .taken))
 
--- src/body.rt:481:9
 stmt-found-requires : (t : ℕ) → stmt-lts.Need-found-requires (
   emit-reads.Asked,
   emit-reads.Learnt,
@@ -652,7 +610,6 @@ stmt-found-requires : (t : ℕ) → stmt-lts.Need-found-requires (
 ) (stmt-at t) stmt.Post
 stmt-found-requires t c κs = search needs
 
--- src/body.rt:481:9
 stmt-returns : (t : ℕ) → stmt-lts.Need-returns (
   emit-reads.Asked,
   emit-reads.Learnt,
@@ -667,7 +624,6 @@ stmt-returns : (t : ℕ) → stmt-lts.Need-returns (
 ) (stmt-at t) stmt.Post
 stmt-returns t c = stmt-emit _ _ _ _ _ _ _ _ _ (c .before .before .before .before .before .pre .1) (c .before .before .before .if1 .taken) _ _ _ (c .before .emit .ensures) _ (c .found .ensures)
 
--- src/body.rt:484:9
 stmt-parts-requires : (t : ℕ) → stmt-lts.Need-parts-requires (
   emit-reads.Asked,
   emit-reads.Learnt,
@@ -682,7 +638,6 @@ stmt-parts-requires : (t : ℕ) → stmt-lts.Need-parts-requires (
 ) (stmt-at t) stmt.Post
 stmt-parts-requires t c κs = (search needs, (c .before .before .before .before .pre .1, ((search needs, search needs), λ e. absurd (omega (arith, c .before .if2 .taken, e)))))
 
--- src/body.rt:484:9
 stmt-returns-2 : (t : ℕ) → stmt-lts.Need-returns-2 (
   emit-reads.Asked,
   emit-reads.Learnt,
@@ -697,7 +652,6 @@ stmt-returns-2 : (t : ℕ) → stmt-lts.Need-returns-2 (
 ) (stmt-at t) stmt.Post
 stmt-returns-2 t c = c .parts .ensures
 
--- src/body.rt:500:9
 stmt-parts-requires-2 : (t : ℕ) → stmt-lts.Need-parts-requires-2 (
   emit-reads.Asked,
   emit-reads.Learnt,
@@ -712,7 +666,6 @@ stmt-parts-requires-2 : (t : ℕ) → stmt-lts.Need-parts-requires-2 (
 ) (stmt-at t) stmt.Post
 stmt-parts-requires-2 t c κs = (search needs, (c .before .before .before .before .before .pre .1, ((search needs, search needs), λ e. refl)))
 
--- src/body.rt:500:9
 stmt-returns-3 : (t : ℕ) → stmt-lts.Need-returns-3 (
   emit-reads.Asked,
   emit-reads.Learnt,
@@ -727,7 +680,6 @@ stmt-returns-3 : (t : ℕ) → stmt-lts.Need-returns-3 (
 ) (stmt-at t) stmt.Post
 stmt-returns-3 t c = stmt-switch _ _ _ _ _ _ _ _ _ (c .before .before .before .before .before .before .pre .1) (c .before .before .if3 .taken) _ _ _ _ _ (c .parts2 .ensures)
 
--- src/body.rt:516:9
 stmt-looped-requires : (t : ℕ) → stmt-lts.Need-looped-requires (
   emit-reads.Asked,
   emit-reads.Learnt,
@@ -742,7 +694,6 @@ stmt-looped-requires : (t : ℕ) → stmt-lts.Need-looped-requires (
 ) (stmt-at t) stmt.Post
 stmt-looped-requires t c κs = (search needs, (c .before .before .before .before .before .before .pre .1, c .before .if4 .taken))
 
--- src/body.rt:516:9
 stmt-returns-4 : (t : ℕ) → stmt-lts.Need-returns-4 (
   emit-reads.Asked,
   emit-reads.Learnt,
@@ -757,7 +708,6 @@ stmt-returns-4 : (t : ℕ) → stmt-lts.Need-returns-4 (
 ) (stmt-at t) stmt.Post
 stmt-returns-4 t c = c .looped .ensures _ _
 
--- src/body.rt:530:9
 stmt-found-requires-2 : (t : ℕ) → stmt-lts.Need-found-requires-2 (
   emit-reads.Asked,
   emit-reads.Learnt,
@@ -772,7 +722,6 @@ stmt-found-requires-2 : (t : ℕ) → stmt-lts.Need-found-requires-2 (
 ) (stmt-at t) stmt.Post
 stmt-found-requires-2 t c κs = search needs
 
--- src/body.rt:530:9
 stmt-returns-5 : (t : ℕ) → stmt-lts.Need-returns-5 (
   emit-reads.Asked,
   emit-reads.Learnt,
@@ -787,7 +736,6 @@ stmt-returns-5 : (t : ℕ) → stmt-lts.Need-returns-5 (
 ) (stmt-at t) stmt.Post
 stmt-returns-5 t c = stmt-break _ _ _ _ _ _ _ _ _ (c .before .before .before .before .before .before .before .pre .1) (c .before .if5 .taken) _ _ _ _ (c .found2 .ensures)
 
--- src/body.rt:534:13
 stmt-returns-6 : (t : ℕ) → stmt-lts.Need-returns-6 (
   emit-reads.Asked,
   emit-reads.Learnt,
@@ -802,7 +750,6 @@ stmt-returns-6 : (t : ℕ) → stmt-lts.Need-returns-6 (
 ) (stmt-at t) stmt.Post
 stmt-returns-6 t c = stmt-continue _ _ _ _ _ _ _ _ _ (c .before .before .before .before .before .before .before .before .pre .1) (c .before .if6 .taken) _ _ _ (c .if7 .taken)
 
--- src/body.rt:536:9
 stmt-returns-7 : (t : ℕ) → stmt-lts.Need-returns-7 (
   emit-reads.Asked,
   emit-reads.Learnt,
@@ -817,7 +764,6 @@ stmt-returns-7 : (t : ℕ) → stmt-lts.Need-returns-7 (
 ) (stmt-at t) stmt.Post
 stmt-returns-7 t c = stmt-no-continue _ _ _ _ _ _ _ _ _ (c .before .before .before .before .before .before .before .before .pre .1) (c .before .if6 .taken) _ _ _ (c .if7 .left)
 
--- src/body.rt:540:26
 stmt-simple-requires : (t : ℕ) → stmt-lts.Need-simple-requires (
   emit-reads.Asked,
   emit-reads.Learnt,
@@ -832,7 +778,6 @@ stmt-simple-requires : (t : ℕ) → stmt-lts.Need-simple-requires (
 ) (stmt-at t) stmt.Post
 stmt-simple-requires t c κs = (c .before .before .before .before .before .before .before .before .before .before .pre .1 .exprs, (c .before .before .before .before .before .before .before .before .before .before .pre .1 .keeps, (c .before .before .before .before .before .before .before .before .before .before .pre .1 .holds .within, stmt-low _ _ _ [] [] _ _ _ _ (c .before .before .before .before .before .before .before .before .before .before .pre .1))))
 
--- src/body.rt:540:13
 stmt-found-requires-3 : (t : ℕ) → stmt-lts.Need-found-requires-3 (
   emit-reads.Asked,
   emit-reads.Learnt,
@@ -847,7 +792,6 @@ stmt-found-requires-3 : (t : ℕ) → stmt-lts.Need-found-requires-3 (
 ) (stmt-at t) stmt.Post
 stmt-found-requires-3 t c κs = search needs
 
--- src/body.rt:540:13
 stmt-returns-8 : (t : ℕ) → stmt-lts.Need-returns-8 (
   emit-reads.Asked,
   emit-reads.Learnt,
@@ -862,7 +806,6 @@ stmt-returns-8 : (t : ℕ) → stmt-lts.Need-returns-8 (
 ) (stmt-at t) stmt.Post
 stmt-returns-8 t c = stmt-simple _ _ _ _ _ _ _ _ _ (c .before .before .before .before .before .before .before .before .before .before .before .before .pre .1) (omega (arith, c .before .before .before .before .if8 .taken)) _ _ _ _ _ (c .before .simple .ensures) _ (c .found3 .ensures) (λ e. c .before .before .before .if9 .taken)
 
--- src/body.rt:542:9
 stmt-returns-9 : (t : ℕ) → stmt-lts.Need-returns-9 (
   emit-reads.Asked,
   emit-reads.Learnt,
@@ -877,7 +820,6 @@ stmt-returns-9 : (t : ℕ) → stmt-lts.Need-returns-9 (
 ) (stmt-at t) stmt.Post
 stmt-returns-9 t c = stmt-no-return _ _ _ _ _ _ _ _ _ (c .before .before .before .before .before .before .before .before .before .pre .1) (omega (arith, c .before .if8 .taken)) _ _ _ (c .before .if8 .taken) (c .if9 .left)
 
--- src/body.rt:544:11
 stmt-simple-requires-2 : (t : ℕ) → stmt-lts.Need-simple-requires-2 (
   emit-reads.Asked,
   emit-reads.Learnt,
@@ -892,7 +834,6 @@ stmt-simple-requires-2 : (t : ℕ) → stmt-lts.Need-simple-requires-2 (
 ) (stmt-at t) stmt.Post
 stmt-simple-requires-2 t c κs = (c .before .before .before .before .before .before .before .before .before .pre .1 .exprs, (c .before .before .before .before .before .before .before .before .before .pre .1 .keeps, (c .before .before .before .before .before .before .before .before .before .pre .1 .holds .within, stmt-low _ _ _ [] [] _ _ _ _ (c .before .before .before .before .before .before .before .before .before .pre .1))))
 
--- src/body.rt:544:5
 stmt-found-requires-4 : (t : ℕ) → stmt-lts.Need-found-requires-4 (
   emit-reads.Asked,
   emit-reads.Learnt,
@@ -907,7 +848,6 @@ stmt-found-requires-4 : (t : ℕ) → stmt-lts.Need-found-requires-4 (
 ) (stmt-at t) stmt.Post
 stmt-found-requires-4 t c κs = search needs
 
--- src/body.rt:462:1
 stmt-returns-10 : (t : ℕ) → stmt-lts.Need-returns-10 (
   emit-reads.Asked,
   emit-reads.Learnt,

@@ -1,3 +1,4 @@
+-- `scope::body::clear` meets its contract. Assumes nothing.
 use native.Mathlib.Omega.{arith}
 use Prim.Native.Nat.{_-_, _≤_}
 use Rattle.scope.specs.Lasts.{Cleared}
@@ -5,8 +6,6 @@ use Rattle.scope.proofs.Bodies.{clear-begin, clear-next, clear-done}
 use borrow.Author.Needs.{needs}
 use Rattle.scope.proofs.body.clear.Statement.{statement}
 use Rattle.scope.proofs.body.clear.Tie as tie
-use Rattle.scope.proofs.body.clear.Reads as reads
-use Rattle.scope.proofs.body.clear.Lts as lts
 
 abbrev Inv-loop : tie.InvT-loop
 Inv-loop until₀ count i₀ until i = (i ≤ count) × Cleared until i
@@ -14,31 +13,24 @@ Inv-loop until₀ count i₀ until i = (i ≤ count) × Cleared until i
 abbrev μ-loop : tie.MeasureT-loop
 μ-loop until₀ count i₀ until i = count - i
 
--- src/body.rt:603:5
 loop-holds : tie.Need-loop-holds Inv-loop μ-loop
 loop-holds c = (search needs, search (clear-begin, needs))
 
--- src/body.rt:605:9
 add-i : tie.Need-add-i Inv-loop μ-loop
 add-i c = search needs
 
--- src/body.rt:606:9
 mul-until : tie.Need-mul-until Inv-loop μ-loop
 mul-until c = search needs
 
--- src/body.rt:606:9
 element-write-until : tie.Need-element-write-until Inv-loop μ-loop
 element-write-until c = search needs
 
--- src/body.rt:603:5
 loop-less : tie.Need-loop-less Inv-loop μ-loop
 loop-less c = search needs
 
--- src/body.rt:603:5
 loop-again : tie.Need-loop-again Inv-loop μ-loop
 loop-again c = (search needs, clear-next _ _ (c .before .loop .inv .1) (omega arith))
 
--- src/body.rt:597:1
 returns : tie.Need-returns Inv-loop μ-loop
 returns c = search (clear-done, needs)
 

@@ -1,15 +1,12 @@
+-- `scope::body::joined` meets its contract. Assumes nothing.
 use Rattle.scope.proofs.Leaves.{joined-cut, joined-rest}
 use borrow.Author.Needs.{needs}
 use Rattle.scope.proofs.body.joined.Statement.{statement}
 use Rattle.scope.proofs.body.joined.Tie as tie
-use Rattle.scope.proofs.body.joined.Reads as reads
-use Rattle.scope.proofs.body.joined.Lts as lts
 
--- src/body.rt:334:9
 returns : tie.Need-returns
 returns c = search (joined-cut, needs)
 
--- src/body.rt:330:1
 returns-2 : tie.Need-returns-2
 returns-2 c = search (joined-rest, needs)
 

@@ -1,15 +1,12 @@
+-- `scope::body::kept` meets its contract. Assumes nothing.
 use Rattle.scope.proofs.Leaves.{kept-cut, kept-rest}
 use borrow.Author.Needs.{needs}
 use Rattle.scope.proofs.body.kept.Statement.{statement}
 use Rattle.scope.proofs.body.kept.Tie as tie
-use Rattle.scope.proofs.body.kept.Reads as reads
-use Rattle.scope.proofs.body.kept.Lts as lts
 
--- src/body.rt:344:9
 returns : tie.Need-returns
 returns c = kept-cut _ _ _ (c .if1 .taken)
 
--- src/body.rt:340:1
 returns-2 : tie.Need-returns-2
 returns-2 c = kept-rest _ _ _ (c .if1 .left)
 

@@ -1,53 +1,39 @@
+-- `scope::body::read` meets its contract. Assumes nothing.
 use Rattle.scope.proofs.Leaves.{read-expr, read-none, read-some, read-other}
 use borrow.Author.Needs.{needs}
 use Rattle.scope.proofs.body.read.Statement.{statement}
 use Rattle.scope.proofs.body.read.Tie as tie
-use Rattle.scope.proofs.body.read.Reads as reads
-use Rattle.scope.proofs.body.read.Lts as lts
-use Rattle.scope.proofs.body.visible.Reads as visible-reads
-use Rattle.scope.proofs.body.wide.Reads as wide-reads
 
--- src/body.rt:92:13
 element-copy-out-s : tie.Need-element-copy-out-s
 element-copy-out-s c = search needs
 
--- src/body.rt:93:18
 mul-wide : tie.Need-mul-wide
 mul-wide c = search needs
 
--- src/body.rt:93:18
 element-copy-out-wide : tie.Need-element-copy-out-wide
 element-copy-out-wide c = search needs
 
--- src/body.rt:93:9
 wide-requires : tie.Need-wide-requires
 wide-requires c κs = search needs
 
--- src/body.rt:95:9
 visible-requires : tie.Need-visible-requires
 visible-requires c κs = search needs
 
--- src/body.rt:95:9
 returns : tie.Need-returns
 returns c = search (read-expr, needs)
 
--- src/body.rt:99:13
 returns-2 : tie.Need-returns-2
 returns-2 c = search (read-none, needs)
 
--- src/body.rt:101:57
 sub-visible : tie.Need-sub-visible
 sub-visible c = search needs
 
--- src/body.rt:101:9
 visible-requires-2 : tie.Need-visible-requires-2
 visible-requires-2 c κs = search needs
 
--- src/body.rt:101:9
 returns-3 : tie.Need-returns-3
 returns-3 c = search (read-some, needs)
 
--- src/body.rt:79:1
 returns-4 : tie.Need-returns-4
 returns-4 c = search (read-other, needs)
 

@@ -1,12 +1,10 @@
+-- `scope::body::reads` meets its contract. Assumes nothing.
 use Prim.Native.Nat.{_-_, _≤_}
 use Rattle.scope.specs.Lasts.{visibleAt}
 use Rattle.scope.proofs.Leaves.{Reading, reads-begin, reads-wrong, reads-next, reads-done}
 use borrow.Author.Needs.{needs}
 use Rattle.scope.proofs.body.reads.Statement.{statement}
 use Rattle.scope.proofs.body.reads.Tie as tie
-use Rattle.scope.proofs.body.reads.Reads as reads
-use Rattle.scope.proofs.body.reads.Lts as lts
-use Rattle.scope.proofs.body.read.Reads as read-reads
 
 abbrev Inv-loop : tie.InvT-loop
 Inv-loop words tags starts until count at from to i₀ i = Reading words tags from to (visibleAt words starts until count at) i
@@ -14,31 +12,24 @@ Inv-loop words tags starts until count at from to i₀ i = Reading words tags fr
 abbrev μ-loop : tie.MeasureT-loop
 μ-loop words tags starts until count at from to i₀ i = to - i
 
--- src/body.rt:122:5
 loop-holds : tie.Need-loop-holds Inv-loop μ-loop
 loop-holds c = search (reads-begin, needs)
 
--- src/body.rt:124:9
 add-i : tie.Need-add-i Inv-loop μ-loop
 add-i c = search needs
 
--- src/body.rt:125:13
 read-requires : tie.Need-read-requires Inv-loop μ-loop
 read-requires c κs = search needs
 
--- src/body.rt:126:13
 returns : tie.Need-returns Inv-loop μ-loop
 returns c = search (reads-wrong, needs)
 
--- src/body.rt:122:5
 loop-less : tie.Need-loop-less Inv-loop μ-loop
 loop-less c = search needs
 
--- src/body.rt:122:5
 loop-again : tie.Need-loop-again Inv-loop μ-loop
 loop-again c = search (reads-next, needs)
 
--- src/body.rt:107:1
 returns-2 : tie.Need-returns-2 Inv-loop μ-loop
 returns-2 c = search (reads-done, needs)
 

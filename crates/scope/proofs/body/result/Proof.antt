@@ -1,63 +1,47 @@
+-- `scope::body::result` meets its contract. Assumes nothing.
 use native.Mathlib.Omega.{arith}
 use Rattle.scope.proofs.Results.{result-in}
 use Rattle.scope.proofs.Results.{result-none, result-out, result-unfit, result-twice, result-fine}
 use borrow.Author.Needs.{needs}
 use Rattle.scope.proofs.body.result.Statement.{statement}
 use Rattle.scope.proofs.body.result.Tie as tie
-use Rattle.scope.proofs.body.result.Reads as reads
-use Rattle.scope.proofs.body.result.Lts as lts
-use Rattle.scope.proofs.body.result_fits.Reads as result-fits-reads
-use Rattle.scope.proofs.body.result_of.Reads as result-of-reads
 
--- src/body.rt:264:36
 add-result-of : tie.Need-add-result-of
 add-result-of c = search needs
 
--- src/body.rt:264:9
 result-of-requires : tie.Need-result-of-requires
 result-of-requires c κs = search needs
 
--- src/body.rt:266:9
 returns : tie.Need-returns
 returns c = search (result-none, needs)
 
--- src/body.rt:268:13
 sub-e : tie.Need-sub-e
 sub-e c = search needs
 
--- src/body.rt:270:9
 returns-2 : tie.Need-returns-2
 returns-2 c = search (result-out, needs)
 
--- src/body.rt:272:9
 result-fits-requires : tie.Need-result-fits-requires
 result-fits-requires c κs = let h = result-in _ _ _ _ _ (c .before .before .result-of .ensures) (c .before .if1 .left) in (c .before .before .before .pre .0, (omega (arith, c .before .before .before .pre .1 .1 .0), c .if2 .left))
 
--- src/body.rt:273:9
 returns-3 : tie.Need-returns-3
 returns-3 c = search (result-unfit, needs)
 
--- src/body.rt:275:8
 mul-if4 : tie.Need-mul-if4
 mul-if4 c = search needs
 
--- src/body.rt:275:8
 element-copy-out-if4 : tie.Need-element-copy-out-if4
 element-copy-out-if4 c = search needs
 
--- src/body.rt:276:9
 returns-4 : tie.Need-returns-4
 returns-4 c = search (result-twice, needs)
 
--- src/body.rt:278:5
 mul-until : tie.Need-mul-until
 mul-until c = search needs
 
--- src/body.rt:278:5
 element-write-until : tie.Need-element-write-until
 element-write-until c = search needs
 
--- src/body.rt:248:1
 returns-5 : tie.Need-returns-5
 returns-5 c = search (result-fine, needs)
 

@@ -1,78 +1,58 @@
+-- `scope::body::result_fits` meets its contract. Assumes nothing.
 use Rattle.scope.proofs.Leaves.{start-in}
 use Rattle.scope.proofs.Results.{function-in, fits-call, fits-no-call, fits-load, fits-atomic}
 use borrow.Author.Needs.{needs}
 use Rattle.scope.proofs.body.result_fits.Statement.{statement}
 use Rattle.scope.proofs.body.result_fits.Tie as tie
-use Rattle.scope.proofs.body.result_fits.Reads as reads
-use Rattle.scope.proofs.body.result_fits.Lts as lts
-use Rattle.scope.proofs.body.kind.Reads as kind-reads
-use Rattle.scope.proofs.body.wide.Reads as wide-reads
 
--- src/body.rt:232:9
 kind-requires : tie.Need-kind-requires
 kind-requires c κs = start-in _ _ _ (c .pre .0 .placed) (c .pre .1 .1)
 
--- src/body.rt:233:19
 add-s : tie.Need-add-s
 add-s c = search needs
 
--- src/body.rt:233:13
 mul-s : tie.Need-mul-s
 mul-s c = search needs
 
--- src/body.rt:233:13
 element-copy-out-s : tie.Need-element-copy-out-s
 element-copy-out-s c = search needs
 
--- src/body.rt:236:13
 returns : tie.Need-returns
 returns c = search (fits-no-call, needs)
 
--- src/body.rt:238:22
 mul-wide : tie.Need-mul-wide
 mul-wide c = search needs
 
--- src/body.rt:238:22
 element-copy-out-wide : tie.Need-element-copy-out-wide
 element-copy-out-wide c = search needs
 
--- src/body.rt:238:17
 wide-requires : tie.Need-wide-requires
 wide-requires c κs = search needs
 
--- src/body.rt:238:17
 add-p : tie.Need-add-p
 add-p c = search needs
 
--- src/body.rt:239:16
 mul-result : tie.Need-mul-result
 mul-result c = search needs
 
--- src/body.rt:239:16
 element-copy-out-result : tie.Need-element-copy-out-result
 element-copy-out-result c = search (function-in, needs)
 
--- src/body.rt:239:34
 add-result : tie.Need-add-result
 add-result c = search needs
 
--- src/body.rt:239:28
 mul-result-2 : tie.Need-mul-result-2
 mul-result-2 c = search needs
 
--- src/body.rt:239:28
 element-copy-out-result-2 : tie.Need-element-copy-out-result-2
 element-copy-out-result-2 c = search needs
 
--- src/body.rt:239:9
 returns-2 : tie.Need-returns-2
 returns-2 c = fits-call _ _ _ _ _ (c .before .before .before .before .before .before .before .before .pre .0) (c .before .before .before .before .before .before .before .before .pre .1 .1) _ (c .before .before .before .before .before .before .before .kind .ensures) _ _ (c .before .before .before .before .before .if1 .taken) (c .before .before .before .before .if2 .left) _ (c .before .before .wide .ensures)
 
--- src/body.rt:242:9
 returns-3 : tie.Need-returns-3
 returns-3 c = search (fits-load, needs)
 
--- src/body.rt:219:1
 returns-4 : tie.Need-returns-4
 returns-4 c = search (fits-atomic, needs)
 

@@ -1,11 +1,9 @@
+-- `scope::body::result_of` meets its contract. Assumes nothing.
 use Prim.Native.Nat.{_-_}
 use Rattle.scope.proofs.Leaves.{Looking, look-begin, look-result, look-optional, look-next, look-done}
 use borrow.Author.Needs.{needs}
 use Rattle.scope.proofs.body.result_of.Statement.{statement}
 use Rattle.scope.proofs.body.result_of.Tie as tie
-use Rattle.scope.proofs.body.result_of.Reads as reads
-use Rattle.scope.proofs.body.result_of.Lts as lts
-use Rattle.scope.proofs.body.wide.Reads as wide-reads
 
 abbrev Inv-loop : tie.InvT-loop
 Inv-loop words tags from to i₀ i = Looking words tags from to i
@@ -13,51 +11,39 @@ Inv-loop words tags from to i₀ i = Looking words tags from to i
 abbrev μ-loop : tie.MeasureT-loop
 μ-loop words tags from to i₀ i = to - i
 
--- src/body.rt:203:5
 loop-holds : tie.Need-loop-holds Inv-loop μ-loop
 loop-holds c = search (look-begin, needs)
 
--- src/body.rt:205:9
 add-i : tie.Need-add-i Inv-loop μ-loop
 add-i c = search needs
 
--- src/body.rt:206:17
 element-copy-out-s : tie.Need-element-copy-out-s Inv-loop μ-loop
 element-copy-out-s c = search needs
 
--- src/body.rt:207:22
 mul-wide : tie.Need-mul-wide Inv-loop μ-loop
 mul-wide c = search needs
 
--- src/body.rt:207:22
 element-copy-out-wide : tie.Need-element-copy-out-wide Inv-loop μ-loop
 element-copy-out-wide c = search needs
 
--- src/body.rt:207:13
 wide-requires : tie.Need-wide-requires Inv-loop μ-loop
 wide-requires c κs = search needs
 
--- src/body.rt:209:20
 add-result : tie.Need-add-result Inv-loop μ-loop
 add-result c = search needs
 
--- src/body.rt:209:13
 returns : tie.Need-returns Inv-loop μ-loop
 returns c = search (look-result, needs)
 
--- src/body.rt:212:13
 returns-2 : tie.Need-returns-2 Inv-loop μ-loop
 returns-2 c = search (look-optional, needs)
 
--- src/body.rt:203:5
 loop-less : tie.Need-loop-less Inv-loop μ-loop
 loop-less c = search needs
 
--- src/body.rt:203:5
 loop-again : tie.Need-loop-again Inv-loop μ-loop
 loop-again c = search (look-next, needs)
 
--- src/body.rt:198:1
 returns-3 : tie.Need-returns-3 Inv-loop μ-loop
 returns-3 c = search (look-done, needs)
 

@@ -1,3 +1,4 @@
+-- `scope::body::skip` meets its contract. Assumes nothing.
 use Prim.Native.Nat.{_-_, _+_}
 use native.Mathlib.Omega.{arith}
 use lib.ListN.{getD}
@@ -5,9 +6,6 @@ use Rattle.scope.proofs.Leaves.{Skipping, skip-begin, skip-in, skip-far
 use borrow.Author.Needs.{needs}
 use Rattle.scope.proofs.body.skip.Statement.{statement}
 use Rattle.scope.proofs.body.skip.Tie as tie
-use Rattle.scope.proofs.body.skip.Reads as reads
-use Rattle.scope.proofs.body.skip.Lts as lts
-use Rattle.scope.proofs.body.wide.Reads as wide-reads
 
 abbrev Inv-loop : tie.InvT-loop
 Inv-loop words at n₀ i₀ n i = Skipping words (getD words at 0) (at + 1) n i
@@ -15,51 +13,39 @@ Inv-loop words at n₀ i₀ n i = Skipping words (getD words at 0) (at + 1) n i
 abbrev μ-loop : tie.MeasureT-loop
 μ-loop words at n₀ i₀ n i = n
 
--- src/body.rt:311:17
 mul-n : tie.Need-mul-n Inv-loop μ-loop
 mul-n c = search needs
 
--- src/body.rt:311:17
 element-copy-out-n : tie.Need-element-copy-out-n Inv-loop μ-loop
 element-copy-out-n c = search needs
 
--- src/body.rt:312:17
 add-i : tie.Need-add-i Inv-loop μ-loop
 add-i c = search needs
 
--- src/body.rt:313:5
 loop-holds : tie.Need-loop-holds Inv-loop μ-loop
 loop-holds c = search (skip-begin, needs)
 
--- src/body.rt:314:9
 sub-n : tie.Need-sub-n Inv-loop μ-loop
 sub-n c = search needs
 
--- src/body.rt:315:19
 mul-wide : tie.Need-mul-wide Inv-loop μ-loop
 mul-wide c = let h = skip-in _ _ _ _ _ (c .before .loop .inv) (c .loop-test .taken) in search needs
 
--- src/body.rt:315:19
 element-copy-out-wide : tie.Need-element-copy-out-wide Inv-loop μ-loop
 element-copy-out-wide c = search (skip-in, needs)
 
--- src/body.rt:315:14
 wide-requires : tie.Need-wide-requires Inv-loop μ-loop
 wide-requires c κs = search needs
 
--- src/body.rt:315:9
 add-i-2 : tie.Need-add-i-2 Inv-loop μ-loop
 add-i-2 c = let h = skip-far _ _ _ _ _ (c .before .before .before .loop .inv) (c .before .before .loop-test .taken) in search needs
 
--- src/body.rt:313:5
 loop-less : tie.Need-loop-less Inv-loop μ-loop
 loop-less c = search needs
 
--- src/body.rt:313:5
 loop-again : tie.Need-loop-again Inv-loop μ-loop
 loop-again c = search (skip-next, needs)
 
--- src/body.rt:306:1
 returns : tie.Need-returns Inv-loop μ-loop
 returns c = search (skip-done, needs)
 

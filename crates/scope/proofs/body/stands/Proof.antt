@@ -1,19 +1,15 @@
+-- `scope::body::stands` meets its contract. Assumes nothing.
 use Rattle.scope.proofs.Leaves.{stands-low, stands-mid, stands-rest}
 use borrow.Author.Needs.{needs}
 use Rattle.scope.proofs.body.stands.Statement.{statement}
 use Rattle.scope.proofs.body.stands.Tie as tie
-use Rattle.scope.proofs.body.stands.Reads as reads
-use Rattle.scope.proofs.body.stands.Lts as lts
 
--- src/body.rt:26:9
 returns : tie.Need-returns
 returns c = search (stands-low, needs)
 
--- src/body.rt:29:9
 returns-2 : tie.Need-returns-2
 returns-2 c = search (stands-mid, needs)
 
--- src/body.rt:22:1
 returns-3 : tie.Need-returns-3
 returns-3 c = search (stands-rest, needs)
 
