@@ -1,8 +1,8 @@
 /* Wuldgisp: a proved linker for shader modules. The functions of libwuldgisp.a, which `rt staticlib wuldgisp` writes to target/staticlib.
  *
- * Every function returns for every input, reads nothing but the bytes that it is lent, and keeps nothing. A null pointer may be given only with
+ * Every function returns for every input, reads and writes nothing but what it is lent, and keeps nothing. A null pointer may be given only with
  * length 0. Several threads may call at the same time. The calls that were measured used at most
- * 108 KiB of stack (docs/PERFORMANCE.md).
+ * 129 KiB of stack (docs/PERFORMANCE.md).
  */
 #ifndef WULDGISP_H
 #define WULDGISP_H

@@ -47,6 +47,10 @@ pub fn worst() -> Vec<Case> {
             "names-512-last-byte".to_owned(),
             write(&Module { names: names_last_byte(512), ..Module::default() }),
         ),
+        (
+            "names-512-one-place".to_owned(),
+            write(&Module { names: names_one_place(512), ..Module::default() }),
+        ),
         ("expressions-1024".to_owned(), write(&one(chained_expressions(1024)))),
         ("expressions-1024-emits-1024".to_owned(), write(&one(emitted_one_by_one(1024)))),
         ("compose-of-all".to_owned(), write(&one(composed(14_000)))),
@@ -86,6 +90,16 @@ fn names_last_byte(count: usize) -> Vec<Name> {
         bytes
     };
     (0..count).map(|own| Name { at: 0, bytes: bytes(own) }).collect()
+}
+
+/// Names of equal length that the archive's test 5 has to compare by pairs: it hashes a name word by word, and the
+/// hashes of these have the same place among its 4,096 marks.
+fn names_one_place(count: usize) -> Vec<Name> {
+    let mix = |hash: u64, word: u32| (hash + u64::from(word)) * 2_654_435_769 / 1_048_576 % 16_777_216;
+    let before = [u32::from_le_bytes(*b"xxxx"); 28].into_iter().fold(mix(0, 116), mix);
+    let last = (0..=u32::MAX).filter(|word| mix(before, *word) % 4096 == 0);
+    let bytes = |word: u32| [[b'x'; 112].as_slice(), &word.to_le_bytes()].concat();
+    last.take(count).map(|word| Name { at: 0, bytes: bytes(word) }).collect()
 }
 
 fn leaf() -> Type {
