@@ -6,7 +6,7 @@
 
 use std::fmt::Write;
 
-use crate::fields::{self, Field, Row, SECTIONS, TYPE_KINDS};
+use crate::fields::{self, limit, Field, Row, SECTIONS, TYPE_KINDS};
 use crate::module::*;
 use crate::text::{quoted, spelled, PLACES};
 use crate::Refused;
@@ -27,7 +27,10 @@ pub fn listing(image: &[u8]) -> String {
 
 /// The answer of intake, and of a refused image where the rule failed.
 fn head(text: &mut String, image: &[u8]) {
-    let size = format!("{} bytes, {} words", image.len(), image.len() / 4);
+    let size = match image.len() {
+        bytes @ ..=limit::BYTES => format!("{bytes} bytes, {} words", bytes / 4),
+        _ => format!("more than {} bytes", limit::BYTES),
+    };
     match crate::intake(image) {
         Ok(()) => line(text, 0, &format!("image of {size}: accepted")),
         Err(refused) => {

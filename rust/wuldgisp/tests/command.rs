@@ -74,6 +74,16 @@ fn check_reads_standard_input_of_any_length() {
 }
 
 #[test]
+fn inspect_does_not_cut_what_is_too_long() {
+    let (status, out, _) = answer(&["inspect"], &vec![0; 100_000]);
+    assert_eq!(status, 1);
+    assert!(out.starts_with("image of more than 65536 bytes: refused 1\n"), "{out}");
+    let (status, out, err) = answer(&["inspect", "--text"], &vec![0; 65_537]);
+    let told = "wuldgisp: standard input: it is longer than an image may be, and has no text form\n";
+    assert_eq!((status, out.as_str(), err.as_str()), (2, "", told));
+}
+
+#[test]
 fn order_prints_as_document_01_does() {
     let (status, out, _) = answer(&["order"], &shade());
     assert_eq!((status, out.as_str()), (0, "functions 3\n0 1 tone\n1 2 fog\n2 0 shade\n"));

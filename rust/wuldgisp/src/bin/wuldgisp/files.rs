@@ -14,6 +14,11 @@ const TEXT: u64 = 16 << 20;
 /// From so many inputs on there is a progress line.
 const MANY: usize = 20;
 
+/// Whether an image was too long to be read whole.
+pub fn is_cut(image: &[u8]) -> bool {
+    image.len() as u64 == IMAGE
+}
+
 /// The exit status.
 #[derive(Clone, Copy, PartialEq, Eq, PartialOrd, Ord)]
 pub enum Status {

@@ -129,6 +129,9 @@ fn function_names(image: &[u8]) -> Vec<Vec<u8>> {
 /// A listing, or the text form.
 fn inspect(input: &Input, output: &mut Output, many: bool, text: bool) -> Answer {
     let image = input.image()?;
+    if text && files::is_cut(&image) {
+        return Err("it is longer than an image may be, and has no text form".to_owned());
+    }
     if many {
         output.line(&format!("== {input}"));
     }
