@@ -1,6 +1,7 @@
 // The callees of every table function, from words and tape: one pass over the words of each
 // function record, which marks each word of the class CALLEE. Then the order of output.
 use calls::Ordered;
+use words::wide;
 ghost use mathlib.Core.Path.{_≡_};
 ghost use Prim.Native.Nat.{suc, _+_, _^_, _≤_, _<_};
 ghost use lib.ListN.{length};
@@ -9,12 +10,6 @@ ghost use Rattle.model.specs.View.{recordAt, recordEnd};
 ghost use Rattle.model.specs.Taped.{Tape};
 ghost use Rattle.calls.specs.Marks.{NoCalls};
 ghost use Rattle.gather.specs.Gathering.{picked, calledBy, Markable, Framed, Known, Marks, Gathered, Listed};
-
-pub fn wide(x: u32) -> usize
-    ensures { λ r. ⌜ (r ≡ x) × (r < 2 ^ 32) ⌝ }
-{
-    x as usize
-}
 
 // Where record i of section k starts: at its offset from the start of the section.
 pub fn record_at(words: &[u32; 16384], k: usize, i: usize) -> usize

@@ -53,7 +53,7 @@ pub fn lay_out(image: &[u8], words: &mut [u32; 16384], tags: &mut [u8; 16384]) -
     if words::word_at(image, 0) != 1 {
         return Layout::Size;
     }
-    if 4 * record::wide(words::word_at(image, 4)) != n {
+    if 4 * words::wide(words::word_at(image, 4)) != n {
         return Layout::Size;
     }
     words::load(image, words);

@@ -2,6 +2,7 @@
 // (refusal 2) or a code that is none of the listed (refusal 3). The tape has the class of each word that was passed.
 use crate::table::KIND_ROW;
 use crate::table::SYMBOLS;
+use words::wide;
 ghost use mathlib.Core.Path.{_≡_};
 ghost use mathlib.Core.List.{[], _∷_};
 ghost use Prim.Native.Nat.{_+_, _*_, _%_, _^_, _≤_, _<_};
@@ -23,12 +24,6 @@ pub enum More {
     Rows(usize, u32),
     Over,
     Unknown,
-}
-
-pub fn wide(x: u32) -> usize
-    ensures { λ r. ⌜ (r ≡ x) × (r < 2 ^ 32) ⌝ }
-{
-    x as usize
 }
 
 pub fn place(x: u16) -> usize

@@ -70,7 +70,7 @@ fn put_name(words: &[u32; 16384], p: usize, out: &mut [u8; 65536], at: usize) ->
     requires { ⌜ Room (now words) p (now out) at ⌝ }
     ensures { λ r. ⌜ Puts (now (out .entry)) at (textAt (now (words .entry)) p) (now (out .exit)) r ⌝ }
 {
-    let n = gather::wide(words[p]);
+    let n = words::wide(words[p]);
     let mut i = 0;
     while i < n {
         let k = i;
@@ -99,7 +99,7 @@ pub fn line(
     let c = put_number(out, b, s);
     let d = put(out, c, 32);
     let f = gather::record_at(words, 6, s);
-    let w = gather::wide(words[f]);
+    let w = words::wide(words[f]);
     let p = gather::record_at(words, 0, w - 1);
     let e = put_name(words, p, out, d);
     put(out, e, 10)
@@ -134,7 +134,7 @@ pub fn print_order(
     while i < count {
         let k = i;
         i += 1;
-        print_line(words, tags, n, k, gather::wide(order[k]));
+        print_line(words, tags, n, k, words::wide(order[k]));
     }
 }
 
@@ -161,7 +161,7 @@ pub fn show(words: &[u32; 16384], tags: &[u8; 16384], n: usize)
     let answer = gather::order_of(words, tags, n, &mut order);
     match answer {
         Ordered::All => {
-            print_order(words, tags, n, &order, gather::wide(words[14]));
+            print_order(words, tags, n, &order, words::wide(words[14]));
         }
         Ordered::Ring(left) => {
             print_ring(left);

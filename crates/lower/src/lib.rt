@@ -1,5 +1,6 @@
 // Refusal 4 of document 01: a base, a member, an operand or an init that is not lower than what names it. Flat passes over the words and the
 // tape, linear in the words. `count` is how many records have begun, so the record that is being read has the number count - 1.
+use words::wide;
 ghost use mathlib.Core.Path.{_≡_};
 ghost use Prim.Native.Nat.{_+_, _*_, _^_, _<_};
 ghost use lib.ListN.{getD};
@@ -8,12 +9,6 @@ ghost use Rattle.model.specs.Taped.{Tape, Taped};
 ghost use Rattle.model.specs.Between.{between, Stretch};
 ghost use Rattle.model.specs.Lower.{lower as lowerOf};
 ghost use Rattle.lower.specs.Passes.{pass, typeNext, typeOk, exprNext, exprOk, wordAt, initOk, Reaches};
-
-fn wide(x: u32) -> usize
-    ensures { λ r. ⌜ (r ≡ x) × (r < 2 ^ 32) ⌝ }
-{
-    x as usize
-}
 
 // A type begins with its kind.
 fn type_next(s: u8, count: usize) -> usize

@@ -3,6 +3,7 @@
 // to the first: each leaves a mark by its hash, and only one whose mark may be there already is compared with all later ones, which is one or two of
 // 512 names whose hashes fall as if by chance. Names or keys that are made to leave their marks at one place are still compared by pairs. The worst
 // case is 512 names of equal length and one place that differ in their last words: 130,816 pairs of 30 words, about 2 ms.
+use words::wide;
 ghost use mathlib.Core.Path.{_≡_};
 ghost use Prim.Native.Nat.{_+_, _-_, _*_, _^_, _≤_, _<_};
 ghost use lib.ListN.{length};
@@ -15,12 +16,6 @@ ghost use Rattle.model.specs.Carry.{Each};
 ghost use Rattle.model.specs.Names.{present as presentOf, absent as absentOf, distinct as distinctOf, same as sameOf, unlike as unlikeOf, differ as differOf, named as namedOf, Numbered};
 ghost use Rattle.names.specs.Passes.{listing, placeOf, numberAt, Placed, nameAt, Spelled, unnamed as unnamedOf, NONE, marking, Small};
 ghost use Rattle.names.specs.Places.{mix as mixOf, hash as hashOf, itself, print as printOf, Leaves, Seen, New};
-
-fn wide(x: u32) -> usize
-    ensures { λ r. ⌜ (r ≡ x) × (r < 2 ^ 32) ⌝ }
-{
-    x as usize
-}
 
 // How many records section k has.
 fn count(words: &[u32; 16384], k: usize) -> usize

@@ -1,6 +1,6 @@
 // What the initialisers of a function's locals reach, along operands as they stand, lower or not: marks and a list of what is still to be visited, so
 // that each expression is visited once.
-use crate::range::wide;
+use words::wide;
 ghost use mathlib.Core.Path.{_≡_};
 ghost use mathlib.Core.List.{[]};
 ghost use Prim.Native.Nat.{_+_, _*_, _^_, _≤_, _<_};

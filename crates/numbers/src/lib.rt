@@ -12,7 +12,7 @@ use range::checked;
 use range::inside;
 use range::outside;
 use range::ranged;
-use range::wide;
+use words::wide;
 ghost use mathlib.Core.Path.{_≡_};
 ghost use Prim.Native.Nat.{suc, _<_};
 ghost use Rattle.model.specs.Module.{countAt, offsetAt};

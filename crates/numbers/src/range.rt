@@ -1,15 +1,10 @@
 // Numbers and codes in range: each word is compared with the bound of its class.
+use words::wide;
 ghost use mathlib.Core.Path.{_≡_};
 ghost use Prim.Native.Nat.{_+_, _^_, _≤_, _<_};
 ghost use lib.ListN.{getD};
 ghost use Rattle.model.specs.Numbers.{rising as risingOf};
 ghost use Rattle.numbers.specs.Ranges.{Long, between, table, codes, headed, Ranged, Checked, Owned};
-
-pub fn wide(x: u32) -> usize
-    ensures { λ r. ⌜ (r ≡ x) × (r < 2 ^ 32) ⌝ }
-{
-    x as usize
-}
 
 fn far(x: u32) -> u64
     ensures { λ r. ⌜ (r ≡ x) × (r < 2 ^ 32) ⌝ }

@@ -3,9 +3,10 @@
 // The tests read and change nothing; the pass after them goes once over the functions and the entry points.
 use calls::FunctionHandle;
 use words::store;
+use words::wide;
 ghost use mathlib.Core.Path.{_≡_};
 ghost use mathlib.Core.List.{_∷_, zipWith};
-ghost use Prim.Native.Nat.{suc, _*_, _^_, _≤_, _<_};
+ghost use Prim.Native.Nat.{suc, _*_, _≤_, _<_};
 ghost use lib.Dec.{eqb};
 ghost use lib.ListN.{length};
 ghost use lib.Seq.{slice, sets};
@@ -30,12 +31,6 @@ pub enum Redirected {
     NoReplacement,
     ArgumentsDiffer,
     ResultsDiffer,
-}
-
-fn wide(x: u32) -> usize
-    ensures { λ r. ⌜ (r ≡ x) × (r < 2 ^ 32) ⌝ }
-{
-    x as usize
 }
 
 // Whether an optional name is the name with a number.

@@ -1,11 +1,12 @@
 // Scope in one pass over a body. Beside each expression stands the word up to which it is in scope: 0 while it is not evaluated, and 1, which no
 // statement lies before, for an initialiser expression. What a block evaluates stays until the block's end, and what a Loop's body evaluates before
 // its first Continue, like what its continuing block evaluates, until the end of the Loop.
+use words::wide;
 ghost use mathlib.Core.Path.{_≡_};
 ghost use mathlib.Core.Bool.{Bool, true, false, _||_};
 ghost use mathlib.Core.List.{[], _∷_};
 ghost use mathlib.Core.Option.{some};
-ghost use Prim.Native.Nat.{ℕ, suc, _+_, _-_, _^_, _≤_, _<_};
+ghost use Prim.Native.Nat.{ℕ, suc, _+_, _-_, _≤_, _<_};
 ghost use lib.ListN.{length, getD};
 ghost use Rattle.model.specs.Tree.{wordOf};
 ghost use Rattle.model.specs.Operands.{operand, opsOf, resultOf, standingKind, emittedKind};
@@ -13,12 +14,6 @@ ghost use Rattle.model.specs.Scope.{inBody};
 ghost use Rattle.scope.specs.Fine.{fineB};
 ghost use Rattle.scope.specs.Tape.{between, blockOf, Steps, stepped, Placed, Exprs, exprsOf, marks};
 ghost use Rattle.scope.specs.Lasts.{Cleared, visibleAt, allSeen, fitsResult, placeOf, keptOf, told, StmtHere, BlockHere, FoundS, FoundB, FoundE, FoundR, FoundO, FoundL};
-
-pub fn wide(x: u32) -> usize
-    ensures { λ r. ⌜ (r ≡ x) × (r < 2 ^ 32) ⌝ }
-{
-    x as usize
-}
 
 // Kinds 0 to 3 and 9 to 11.
 fn stands(k: u32) -> bool

@@ -4,12 +4,12 @@
 pub mod body;
 
 use body::body;
-use body::wide;
 use numbers::initial::places;
 use numbers::initial::reach;
 use numbers::initial::roots;
 use numbers::record_at;
 use numbers::record_end;
+use words::wide;
 ghost use mathlib.Core.Path.{_≡_};
 ghost use mathlib.Core.Bool.{true};
 ghost use Rattle.model.specs.Taped.{Tape};

@@ -1,16 +1,23 @@
 // Bytes to words and back, little-endian, on lent slices.
 ghost use mathlib.Core.Path.{_≡_};
-ghost use Prim.Native.Nat.{_+_, _*_, _/_, _≤_, _<_};
+ghost use Prim.Native.Nat.{_+_, _*_, _/_, _^_, _≤_, _<_};
 ghost use lib.ListN.{length, take};
 ghost use lib.Seq.{sets};
 ghost use mathlib.Core.List.{[], _∷_};
 ghost use Rattle.words.specs.Words.{wordAt, wordsOf, bytesOf};
 
 // A byte as a word.
-fn wide(x: u8) -> u32
+fn byte(x: u8) -> u32
     ensures { λ r. ⌜ (r ≡ x) × (r < 256) ⌝ }
 {
     x as u32
+}
+
+// A word as a place.
+pub fn wide(x: u32) -> usize
+    ensures { λ r. ⌜ (r ≡ x) × (r < 2 ^ 32) ⌝ }
+{
+    x as usize
 }
 
 // The word of the four bytes from `at` on.
@@ -18,10 +25,10 @@ pub fn word_at(bytes: &[u8], at: usize) -> u32
     requires { ⌜ at + 4 ≤ length (now bytes) ⌝ }
     ensures { λ r. ⌜ r ≡ wordAt (now (bytes .entry)) at ⌝ }
 {
-    let a = wide(bytes[at]);
-    let b = wide(bytes[at + 1]);
-    let c = wide(bytes[at + 2]);
-    let d = wide(bytes[at + 3]);
+    let a = byte(bytes[at]);
+    let b = byte(bytes[at + 1]);
+    let c = byte(bytes[at + 2]);
+    let d = byte(bytes[at + 3]);
     a + 256 * (b + 256 * (c + 256 * d))
 }
 

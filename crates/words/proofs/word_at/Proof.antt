@@ -5,38 +5,38 @@ use Rattle.words.specs.Words.{wordOf, wordAt}
 use Rattle.words.proofs.word_at.Statement.{statement}
 use Rattle.words.proofs.word_at.Tie as tie
 
-shared-slice-read-wide : tie.Need-shared-slice-read-wide
-shared-slice-read-wide c = search needs
+shared-slice-read-byte : tie.Need-shared-slice-read-byte
+shared-slice-read-byte c = search needs
 
-wide-requires : tie.Need-wide-requires
-wide-requires c κs = search needs
+byte-requires : tie.Need-byte-requires
+byte-requires c κs = search needs
 
-add-wide : tie.Need-add-wide
-add-wide c = search needs
+add-byte : tie.Need-add-byte
+add-byte c = search needs
 
-shared-slice-read-wide-2 : tie.Need-shared-slice-read-wide-2
-shared-slice-read-wide-2 c = search needs
+shared-slice-read-byte-2 : tie.Need-shared-slice-read-byte-2
+shared-slice-read-byte-2 c = search needs
 
-wide-requires-2 : tie.Need-wide-requires-2
-wide-requires-2 c κs = search needs
+byte-requires-2 : tie.Need-byte-requires-2
+byte-requires-2 c κs = search needs
 
-add-wide-2 : tie.Need-add-wide-2
-add-wide-2 c = search needs
+add-byte-2 : tie.Need-add-byte-2
+add-byte-2 c = search needs
 
-shared-slice-read-wide-3 : tie.Need-shared-slice-read-wide-3
-shared-slice-read-wide-3 c = search needs
+shared-slice-read-byte-3 : tie.Need-shared-slice-read-byte-3
+shared-slice-read-byte-3 c = search needs
 
-wide-requires-3 : tie.Need-wide-requires-3
-wide-requires-3 c κs = search needs
+byte-requires-3 : tie.Need-byte-requires-3
+byte-requires-3 c κs = search needs
 
-add-wide-3 : tie.Need-add-wide-3
-add-wide-3 c = search needs
+add-byte-3 : tie.Need-add-byte-3
+add-byte-3 c = search needs
 
-shared-slice-read-wide-4 : tie.Need-shared-slice-read-wide-4
-shared-slice-read-wide-4 c = search needs
+shared-slice-read-byte-4 : tie.Need-shared-slice-read-byte-4
+shared-slice-read-byte-4 c = search needs
 
-wide-requires-4 : tie.Need-wide-requires-4
-wide-requires-4 c κs = search needs
+byte-requires-4 : tie.Need-byte-requires-4
+byte-requires-4 c κs = search needs
 
 mul-result : tie.Need-mul-result
 mul-result c = search needs
@@ -64,17 +64,17 @@ pub word-at-spec : {M : Type 1} → statement M
 word-at-spec =
     tie.close
     (tie.spec
-    shared-slice-read-wide
-    wide-requires
-    add-wide
-    shared-slice-read-wide-2
-    wide-requires-2
-    add-wide-2
-    shared-slice-read-wide-3
-    wide-requires-3
-    add-wide-3
-    shared-slice-read-wide-4
-    wide-requires-4
+    shared-slice-read-byte
+    byte-requires
+    add-byte
+    shared-slice-read-byte-2
+    byte-requires-2
+    add-byte-2
+    shared-slice-read-byte-3
+    byte-requires-3
+    add-byte-3
+    shared-slice-read-byte-4
+    byte-requires-4
     mul-result
     add-result
     mul-result-2

@@ -26,7 +26,7 @@ use Rattle.image.proofs.record.brings.Reads as brings-reads
 use Rattle.image.proofs.record.narrow.Reads as narrow-reads
 use Rattle.image.proofs.record.operands.Reads as operands-reads
 use Rattle.image.proofs.record.text.Reads as text-reads
-use Rattle.image.proofs.record.wide.Reads as wide-reads
+use Rattle.words.proofs.wide.Reads as wide-reads
 use Rattle.image.proofs.record.+opened+part+row+stmt+times.{statement}
 use Rattle.image.proofs.record.+opened+part+row+stmt+times.Tie.{close}
 

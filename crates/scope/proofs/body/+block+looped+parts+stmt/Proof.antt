@@ -32,7 +32,7 @@ use Rattle.scope.proofs.body.kept.Reads as kept-reads
 use Rattle.scope.proofs.body.read.Reads as read-reads
 use Rattle.scope.proofs.body.simple.Reads as simple-reads
 use Rattle.scope.proofs.body.skip.Reads as skip-reads
-use Rattle.scope.proofs.body.wide.Reads as wide-reads
+use Rattle.words.proofs.wide.Reads as wide-reads
 use Rattle.scope.proofs.body.+block+looped+parts+stmt.{statement}
 use Rattle.scope.proofs.body.+block+looped+parts+stmt.Tie.{close}
 
