@@ -1,17 +1,14 @@
 -- From intake's answer and the order of a module to the promise on all bytes. Assumes nothing.
-use mathlib.Core.Path.{_≡_, refl, sym, ap, ap₂, _∙_, subst}
+use mathlib.Core.Path.{_≡_, sym, ap, _∙_, subst}
 use mathlib.Core.Bool.{Bool, true}
 use mathlib.Core.List.{List, [], _∷_}
 use Prim.Native.Nat.{ℕ, suc, _+_, _*_, _≤_}
 use native.Mathlib.Omega.{arith}
 use lib.ListN.{length, take, length-take, length-drop}
 use lib.Seq.{sets}
-use Rattle.words.specs.Words.{wordsOf}
-use Rattle.model.specs.Outcome.{laid}
-use Rattle.model.specs.Module.{Module, read, countAt}
+use Rattle.model.specs.Module.{Module, countAt}
 use Rattle.model.specs.Taped.{Taped, Tape}
 use Rattle.model.specs.Numbers.{numbered}
-use Rattle.model.specs.Intake.{intakeOf}
 use Rattle.model.specs.Calls.{numbers, rounds, ordered, answer, order}
 use Rattle.model.specs.Callees.{calls, orderOf}
 use Rattle.laws.proofs.FunctionViews.{taped-functions}

@@ -1,16 +1,16 @@
 -- The cells of the class CALLEE in a function's cells are its callees. No row of the table has that class and no word brings it, so it stands only where a Call statement puts it. Assumes nothing.
-use mathlib.Core.Path.{_≡_, refl, sym, ap, ap₂, _∙_}
+use mathlib.Core.Path.{_≡_, refl, ap, ap₂, _∙_}
 use mathlib.Core.Bool.{Bool, true, false, cond, not, _&&_}
-use mathlib.Core.Option.{Option, none, some}
+use mathlib.Core.Option.{Option, some}
 use mathlib.Core.List.{List, [], _∷_, _++_, map, append-nil}
-use Prim.Native.Nat.{ℕ, zero, suc, _+_, _-_, _/_, _%_, _≤_, _<_}
+use Prim.Native.Nat.{ℕ, zero, suc, _+_, _-_, _/_, _%_}
 use native.Mathlib.Omega.{arith}
 use lib.Dec.{eqb, ltb, leb}
-use lib.ListN.{length, getD, getElem?, replicate}
+use lib.ListN.{getD, getElem?, replicate}
 use borrow.Author.Tests.{ne-eqb}
-use Rattle.model.specs.Outcome.{Cell, Cells, class, word}
-use Rattle.model.specs.Table.{Row, WORD, NAME, TYPE, CALLEE, EXPR, NAMED-EXPR, LOCAL-INIT, OPT-EXPR, OPT-RESULT, OPERANDS, ARGUMENTS, LOCALS, EXPRESSIONS, NAMED, TYPE-KIND, MEMBERS, PAD, TEXT, BLOCK, EXPR-KIND, VALUE, RETURNS, binding, spanned, types, expressions, levels, queries, values, atomics, results, Shape, sEmit, sBlock, sIf, sSwitch, sLoop, sBreak, sContinue, sReturn, sKill, sCall, sEffect, statements, functionHead, counted, limit, variants, More, brings, over, nothing, repeat, text, variant, more}
-use Rattle.model.specs.Tree.{Stmt, Form, Block, Cases, Case, Range, Function, wordOf, sizeB, sizeC, flatAll, flatList, flatX, flatS, flatF, flatB, flatK, flatC, flatBlock, flat}
+use Rattle.model.specs.Outcome.{Cells, class, word}
+use Rattle.model.specs.Table.{Row, WORD, NAME, TYPE, CALLEE, EXPR, NAMED-EXPR, LOCAL-INIT, OPT-EXPR, OPT-RESULT, OPERANDS, ARGUMENTS, LOCALS, EXPRESSIONS, NAMED, TYPE-KIND, MEMBERS, PAD, TEXT, BLOCK, EXPR-KIND, VALUE, binding, spanned, types, expressions, levels, queries, values, atomics, results, Shape, sEmit, sBlock, sIf, sSwitch, sLoop, sBreak, sContinue, sReturn, sKill, sCall, sEffect, statements, functionHead, counted, limit, variants, More, brings, over, nothing, repeat, text, variant, more}
+use Rattle.model.specs.Tree.{Stmt, Form, Block, Cases, Case, Range, Function, wordOf, sizeB, flatAll, flatList, flatX, flatS, flatF, flatB, flatK, flatC, flatBlock, flat}
 use Rattle.model.specs.Carry.{Lays, lays-none, lays-next, Each, each-none, each-next, OkS, OkF, OkB, OkBs, OkK, OkC, ok-stmt, ok-emit, ok-block, ok-branch, ok-switch, ok-loop, ok-break, ok-continue, ok-return, ok-kill, ok-call, ok-effect, ok-deeper, ok-end, ok-then, ok-case, ok-nomore, ok-also, WellFunction}
 use Rattle.model.specs.Callees.{calleesS, calleesF, calleesB, calleesK, calleesC, callees}
 use Rattle.laws.proofs.Lists.{and-true, and-split}

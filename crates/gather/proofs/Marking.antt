@@ -1,16 +1,16 @@
 -- Marking the callees between two places: what is left from a place on, marked too, is what is there from the start on. Assumes nothing.
-use mathlib.Core.Path.{_≡_, refl, sym, ap, ap₂, _∙_}
+use mathlib.Core.Path.{_≡_, refl, sym, ap, _∙_}
 use mathlib.Core.Bool.{Bool, true, false, cond, _&&_}
 use mathlib.Core.List.{List, [], _∷_}
-use Prim.Native.Nat.{ℕ, suc, _+_, _≤_, _<_}
+use Prim.Native.Nat.{ℕ, _+_, _≤_, _<_}
 use native.Mathlib.Numerals.{add-one}
 use native.Mathlib.Omega.{arith}
 use lib.Dec.{eqb}
 use lib.ListN.{length, getD}
-use lib.Seq.{slice, slice-empty, slice-cons}
+use lib.Seq.{slice-empty, slice-cons}
 use borrow.Author.Tests.{eq-eqb, ne-eqb}
 use Rattle.model.specs.Table.{CALLEE}
-use Rattle.model.specs.Carry.{Each, each-none, each-next}
+use Rattle.model.specs.Carry.{Each, each-next}
 use Rattle.model.specs.Calls.{any}
 use Rattle.calls.specs.Marks.{marked, SetCall}
 use Rattle.gather.specs.Gathering.{picks, picked, Markable, Marks}

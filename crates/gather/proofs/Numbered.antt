@@ -1,10 +1,9 @@
 -- Test 3 gives what gathering needs: where every number is in range, every callee of a table function is a table function. Assumes nothing.
-use mathlib.Core.Path.{_≡_, refl, sym, ap, _∙_, subst}
+use mathlib.Core.Path.{_≡_, refl, subst}
 use mathlib.Core.Bool.{Bool, true, false, cond, _&&_}
 use mathlib.Core.List.{List, [], _∷_}
 use Prim.Native.Nat.{ℕ, _<_}
 use lib.Dec.{eqb}
-use lib.ListN.{length}
 use borrow.Author.Tests.{eqb-true, ltb-true}
 use Rattle.model.specs.Outcome.{Cells, class, word}
 use Rattle.model.specs.Table.{CALLEE}
@@ -13,7 +12,7 @@ use Rattle.model.specs.Module.{Module}
 use Rattle.model.specs.Taped.{Taped}
 use Rattle.model.specs.Carry.{Each, each-none, each-next, WellFunction, WellFormed}
 use Rattle.model.specs.Initial.{initialised}
-use Rattle.model.specs.Numbers.{Bounds, caps, bound, below, within, ordered, every, outside, inside, sound, soundFunction, soundEntry, constantOnly, numbered}
+use Rattle.model.specs.Numbers.{Bounds, caps, bound, below, within, ordered, every, outside, inside, sound, soundFunction, constantOnly, numbered}
 use Rattle.model.specs.Callees.{callees, CalleesKnown}
 use Rattle.laws.proofs.Lists.{and-split}
 use Rattle.gather.specs.Gathering.{picks, Known}

@@ -2,9 +2,9 @@
 use mathlib.Core.Path.{_≡_, refl, ap, ap₂, _∙_}
 use mathlib.Core.Bool.{Bool, true, cond, not}
 use mathlib.Core.List.{List, [], _∷_}
-use Prim.Native.Nat.{ℕ, zero, suc, _+_, _<_}
+use Prim.Native.Nat.{ℕ, zero, suc, _<_}
 use native.Mathlib.Omega.{arith}
-use Rattle.model.specs.Calls.{In, here, later, numbers, any, keep, free, held, Rounds, round, rounds, answer, order}
+use Rattle.model.specs.Calls.{In, here, later, numbers, any, free, held, round, rounds, answer, order}
 use Rattle.calls.proofs.Lists.{numbers-in, keep-in, keep-ext}
 
 any-ext : (p q : ℕ → Bool) (is : List ℕ) → ((i : ℕ) → In i is → p i ≡ q i) → any is p ≡ any is q

@@ -6,22 +6,20 @@ use mathlib.Core.List.{List, [], _∷_, map}
 use Prim.Native.Nat.{ℕ, zero, suc, _+_, _≤_, _<_}
 use native.Mathlib.Omega.{arith}
 use lib.Dec.{eqb, ltb}
-use lib.ListN.{length, getElem?, take, drop, length-append, length-map}
-use borrow.Author.Tests.{eqb-true, eqb-false, eq-eqb, ne-eqb, ltb-true, ltb-false, lt-ltb, le-ltb}
-use Rattle.model.specs.Outcome.{Cells}
-use Rattle.model.specs.Tree.{Function, flat, flatAll}
-use Rattle.model.specs.Module.{Module, countAt, offsetAt, endAt, places, flatTable, sections, write}
+use lib.ListN.{length, getElem?, length-map}
+use borrow.Author.Tests.{eqb-true, eqb-false, ltb-true, ltb-false, lt-ltb, le-ltb}
+use Rattle.model.specs.Tree.{Function, flat}
+use Rattle.model.specs.Module.{Module, countAt, offsetAt, sections}
 use Rattle.model.specs.View.{recordAt, recordEnd}
 use Rattle.model.specs.Taped.{Taped, Tape}
 use Rattle.model.specs.Carry.{Each, each-none, each-next}
-use Rattle.model.specs.Calls.{any, order}
+use Rattle.model.specs.Calls.{any}
 use Rattle.model.specs.Callees.{callees, calleesAt, calls, orderOf}
 use Rattle.calls.specs.Marks.{marked, NoCalls}
-use Rattle.calls.specs.Placing.{Orders, shown}
+use Rattle.calls.specs.Placing.{Orders}
 use Rattle.calls.specs.declared.Ordered.{Ordered}
-use Rattle.laws.proofs.Sections.{length-places}
 use Rattle.laws.proofs.Views.{view-length, view-within}
-use Rattle.laws.proofs.FunctionViews.{Part, part-words, part-tags, taped-write, taped-length, taped-offset, taped-functions, taped-function}
+use Rattle.laws.proofs.FunctionViews.{part-words, part-tags, taped-write, taped-length, taped-offset, taped-functions, taped-function, table-least}
 use Rattle.gather.specs.Gathering.{picks, picked, calledBy, Markable, Spans, Framed, Known, Marks, Gathered, Listed}
 use Rattle.gather.proofs.Cells.{cells-function}
 use Rattle.gather.proofs.Marking.{among}
@@ -101,10 +99,6 @@ each-found (each-next p ps) (suc i) e = each-found ps i e
 wider : {a b : ℕ} → a ≤ b → {l : List ℕ} → Each (λ j. j < a) l → Each (λ j. j < b) l
 wider h each-none = each-none
 wider h (each-next {a = x} p ps) = each-next {a = x} (omega arith) (wider h ps)
-
-pub table-least : (rs : List Cells) → length rs ≤ length (flatTable rs)
-unfolding flatTable
-table-least rs = omega (arith, length-append (places (length rs) rs) (flatAll rs), length-places rs (length rs))
 
 module _ {words tags : List ℕ} {n : ℕ} {m : Module} (t : Taped words tags n m) where
   -- the callees of a record are those of the function

@@ -1,29 +1,29 @@
 -- The steps of laying out extents: one record, the records of a section, a section, the special types. What is left from here on is the whole. Assumes nothing.
-use mathlib.Core.Path.{_≡_, refl, sym, ap, _∙_, subst}
+use mathlib.Core.Path.{_≡_, refl, sym, ap, _∙_}
 use mathlib.Core.Bool.{Bool, true, false, _&&_}
-use mathlib.Core.List.{List, [], _∷_, _++_, map, append-nil, append-assoc}
-use Prim.Native.Nat.{ℕ, zero, suc, _+_, _-_, _*_, _^_, _≤_, _<_}
-use native.Mathlib.Nat.{le-refl, zero-add, add-zero}
-use native.Mathlib.Numerals.{add-one, sub-one}
+use mathlib.Core.List.{List, [], _∷_, _++_}
+use Prim.Native.Nat.{ℕ, zero, suc, _+_, _-_, _≤_, _<_}
+use native.Mathlib.Numerals.{add-one}
 use native.Mathlib.Omega.{arith}
 use lib.Dec.{eqb, leb}
-use lib.ListN.{length, getD, take, drop, replicate, length-take, length-map, length-append, length-replicate}
+use lib.ListN.{length, getD, take, drop, replicate, length-map, length-append, length-replicate}
 use lib.Seq.{slice, sets, slice-cons, slice-empty, length-slice, drop-drop, take-take}
 use borrow.Author.Tests.{eq-eqb, ne-eqb, le-leb, lt-leb, eqb-true, leb-true, leb-false}
-use Rattle.model.specs.Outcome.{Cell, Cells, class, word, Outcome, fits, misfit, unknown, Laid, laid, bad, strange, exact, both, mapL, mapO}
-use Rattle.model.specs.Table.{Row, PLACE}
+use Rattle.model.specs.Outcome.{Cells, class, Outcome, fits, misfit, unknown, Laid, laid, bad, strange, exact, both, mapL}
+use Rattle.model.specs.Table.{PLACE}
 use Rattle.model.specs.Tree.{flatAll, DEPTH}
 use Rattle.model.specs.Module.{next, records, table, raysRow, pairRow}
+use Rattle.laws.proofs.Lists.{bool-same, map-append}
 use Rattle.image.specs.Parts.{Reader, join, times, pieces}
-use Rattle.image.specs.Rows.{numbers, row, rowAt, ROWS}
+use Rattle.image.specs.Rows.{numbers, row, rowAt}
 use Rattle.image.specs.Walks.{Final, next as next-final, refused as refused-final, strange as strange-final, seen, final, Walks, filled, Fills}
-use Rattle.image.specs.Extents.{Classes, End, done, refused, odd, shown, ending, Covers, after, classes, extent, recordsLeft, tableClasses, tabled, specialOf, special}
+use Rattle.image.specs.Extents.{Classes, done, refused, odd, shown, ending, Covers, after, classes, extent, recordsLeft, tableClasses, tabled, specialOf, special}
 use Rattle.image.specs.declared.record.Walked.{Walked}
 use Rattle.image.specs.declared.record.Walked.the-variants.{Next, Misfit, Strange as WalkedStrange}
 use Rattle.image.specs.declared.section.Held.{Held}
 use Rattle.image.specs.declared.section.Held.the-variants.{Fits, Bad, Strange}
-use Rattle.image.proofs.Reading.{Reads, reads, no-fit, no-code, Reading, reads-pieces, reads-times, reads-join}
-use Rattle.image.proofs.Walk.{Onto, Taken, taken, sets-append, slice-none, chain-misfit, chain-strange, chain-next}
+use Rattle.image.proofs.Reading.{Reads, reads, Reading, reads-pieces, reads-times, reads-join}
+use Rattle.image.proofs.Walk.{Onto, Taken, taken, sets-append, chain-misfit, chain-strange, chain-next}
 
 -- ---- outcomes that a walk shows
 pub is-misfit : (tags : List ℕ) (i end : ℕ) (r : Walked) (tags₁ : List ℕ) (o : Outcome Cells) → Walks r tags₁ tags i end o → r ≡ Misfit → o ≡ misfit
@@ -230,22 +230,12 @@ module _ (p : Reader) (rd : Reading p) (words : List ℕ) (start at end stop : �
       filled-length (p (slice at end words)) (rd (slice at end words)) (b .forth) (b .within) cs (sym (extent-is p words words start at end stop (b .starts) (b .forth) (b .within)) ∙ q)
 
 -- ---- the records of a section
-bool-same : (a b : Bool) → (a ≡ true → b ≡ true) → (b ≡ true → a ≡ true) → a ≡ b
-bool-same true true f g = refl
-bool-same true false f g = sym (f refl)
-bool-same false true f g = g refl
-bool-same false false f g = refl
-
-classes-append : (cs ds : Cells) → classes (cs ++ ds) ≡ classes cs ++ classes ds
-classes-append [] ds = refl
-classes-append (c ∷ cs) ds = ap (class c ∷_) (classes-append cs ds)
-
 abbrev pub allClasses : List Cells → Classes
 allClasses rs = classes (flatAll rs)
 
 both-classes : (x : Laid Cells) (y : Laid (List Cells)) → mapL allClasses (both _∷_ x y) ≡ both _++_ (mapL classes x) (mapL allClasses y)
 unfolding mapL both flatAll
-both-classes (laid a) (laid b) = ap laid (classes-append a (flatAll b))
+both-classes (laid a) (laid b) = ap laid (map-append class a (flatAll b))
 both-classes (laid a) bad = refl
 both-classes (laid a) strange = refl
 both-classes bad (laid b) = refl

@@ -2,7 +2,7 @@
 use mathlib.Core.Path.{_≡_, refl, sym, ap, _∙_}
 use mathlib.Core.Bool.{Bool, true, false, _&&_}
 use mathlib.Core.List.{List, map}
-use Prim.Native.Nat.{ℕ, _*_, _/_, _≤_}
+use Prim.Native.Nat.{ℕ, _*_, _≤_}
 use native.Mathlib.Omega.{arith}
 use lib.Dec.{eqb, leb}
 use lib.ListN.{length, getD, take, drop, length-map}
@@ -15,8 +15,8 @@ use Rattle.model.specs.Module.{Module, read, write, flatModule, sized}
 use Rattle.model.specs.Taped.{Taped}
 use Rattle.laws.proofs.Modules.{read-write, read-well}
 use Rattle.laws.proofs.Views.{length-write}
-use Rattle.image.specs.Layout.{Answer, fits, size, misfit, unknown, shows, held, layoutOf, Lays}
-use Rattle.image.specs.declared.Layout.{Layout}
+use Rattle.laws.proofs.Lists.{and-first, and-second}
+use Rattle.image.specs.Layout.{Answer, fits, size, shows, held, layoutOf, Lays}
 use Rattle.image.specs.declared.Layout.the-variants.{Fits}
 
 -- the image is sized, and its words hold a module
@@ -27,14 +27,6 @@ pub record HoldsImage (bytes words tags : List ℕ) (n : ℕ) : Type 0 where
   pub long : n ≡ length (wordsOf bytes)
   pub taped : Taped words tags n module-of
 
-and-left : (a b : Bool) → (a && b) ≡ true → a ≡ true
-and-left true b e = refl
-and-left false b e = e
-
-and-right : (a b : Bool) → (a && b) ≡ true → b ≡ true
-and-right true b e = e
-and-right false b e = let z : _≡_ {A = ℕ} 0 1 = cc in absurd (omega arith)
-
 module _ (bytes words tags words₁ tags₁ : List ℕ) (n : ℕ) (words-long : length words ≡ 16384) (tags-long : length tags ≡ 16384) where
   module _ (s : sized (length bytes) (wordsOf bytes) ≡ true) (m : Module) (r : read (wordsOf bytes) ≡ laid m) (a : n ≡ length (wordsOf bytes)) (b : words₁ ≡ sets words 0 (wordsOf bytes)) (c : tags₁ ≡ sets tags 0 (map class (flatModule m))) where
     ws : List ℕ
@@ -42,21 +34,21 @@ module _ (bytes words tags words₁ tags₁ : List ℕ) (n : ℕ) (words-long : 
 
     s₂ : (leb (length bytes) 65536 && (eqb (getD ws 0 0) 1 && eqb (length bytes) (4 * getD ws 1 0))) ≡ true
     unfolding sized ws
-    s₂ = and-right (leb 80 (length bytes)) _ s
+    s₂ = and-second (leb 80 (length bytes)) _ s
 
     s₃ : (eqb (getD ws 0 0) 1 && eqb (length bytes) (4 * getD ws 1 0)) ≡ true
-    s₃ = and-right (leb (length bytes) 65536) _ s₂
+    s₃ = and-second (leb (length bytes) 65536) _ s₂
 
     few : length bytes ≤ 65536
-    few = leb-true (length bytes) 65536 (and-left (leb (length bytes) 65536) _ s₂)
+    few = leb-true (length bytes) 65536 (and-first (leb (length bytes) 65536) _ s₂)
 
     edition : getD (wordsOf bytes) 0 0 ≡ 1
     unfolding ws
-    edition = eqb-true (getD ws 0 0) 1 (and-left (eqb (getD ws 0 0) 1) _ s₃)
+    edition = eqb-true (getD ws 0 0) 1 (and-first (eqb (getD ws 0 0) 1) _ s₃)
 
     whole : length bytes ≡ 4 * getD (wordsOf bytes) 1 0
     unfolding ws
-    whole = eqb-true (length bytes) (4 * getD ws 1 0) (and-right (eqb (getD ws 0 0) 1) _ s₃)
+    whole = eqb-true (length bytes) (4 * getD ws 1 0) (and-second (eqb (getD ws 0 0) 1) _ s₃)
 
     total : getD (wordsOf bytes) 1 0 ≡ length (wordsOf bytes)
     total = omega (arith, whole, length-wordsOf bytes)

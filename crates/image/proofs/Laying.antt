@@ -1,22 +1,20 @@
 -- From bytes to words and tape: the public operation, case by case. Assumes nothing.
-use mathlib.Core.Path.{_≡_, refl, sym, ap, _∙_, subst}
+use mathlib.Core.Path.{_≡_, refl, sym, ap, _∙_}
 use mathlib.Core.Bool.{Bool, true, false, not}
-use mathlib.Core.List.{List, [], _∷_, _++_, map}
-use Prim.Native.Nat.{ℕ, zero, suc, _+_, _-_, _*_, _/_, _^_, _≤_, _<_}
-use native.Mathlib.Nat.{zero-add}
+use mathlib.Core.List.{List, map}
+use Prim.Native.Nat.{ℕ, _+_, _-_, _*_, _/_, _≤_, _<_}
 use native.Mathlib.Omega.{arith}
-use lib.Dec.{eqb, leb}
-use lib.ListN.{length, getD, take, drop, replicate, length-replicate, length-append}
+use lib.ListN.{length, getD, take, drop, replicate}
 use lib.Seq.{sets, length-sets, take-at, length-take-le}
 use borrow.Author.Tests.{eq-eqb, ne-eqb, le-leb, lt-leb}
 use Rattle.words.specs.Words.{wordsOf, wordAt}
 use Rattle.words.proofs.Laws.{length-wordsOf, word-is, sets-front}
 use Rattle.model.specs.Outcome.{class, Laid, laid, bad, strange, mapL}
 use Rattle.model.specs.Table.{PLACE}
-use Rattle.model.specs.Module.{Module, limits, placed, read, sections, bodies, flatModule, sized}
-use Rattle.image.specs.Walks.{Final, next as next-final, refused as refused-final, strange as strange-final, seen, filled, Fills}
-use Rattle.image.specs.Extents.{Classes, End, done, refused, odd, shown, ending, Covers, sectionsFrom, tableRows}
-use Rattle.image.specs.Layout.{Answer, fits, size, misfit, unknown, shows, held, layoutOf, Lays, layed, laying, Laying}
+use Rattle.model.specs.Module.{Module, limits, placed, read, flatModule, sized}
+use Rattle.image.specs.Walks.{next as next-final, seen, filled, Fills}
+use Rattle.image.specs.Extents.{done, shown, ending, Covers, sectionsFrom, tableRows}
+use Rattle.image.specs.Layout.{fits, shows, held, layoutOf, Lays, layed, laying, Laying}
 use Rattle.image.specs.declared.record.Walked.{Walked}
 use Rattle.image.specs.declared.record.Walked.the-variants.{Next, Misfit as WalkedMisfit, Strange as WalkedStrange}
 use Rattle.image.specs.declared.section.Held.{Held}

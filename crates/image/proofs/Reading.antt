@@ -1,12 +1,12 @@
 -- What is read are the words: the flat list's words and the rest are the words that stood there. Assumes nothing.
-use mathlib.Core.Path.{_≡_, refl, sym, ap, _∙_, subst}
+use mathlib.Core.Path.{_≡_, refl, sym, ap, _∙_}
 use mathlib.Core.Bool.{Bool, true, false}
 use mathlib.Core.Option.{Option, none, some}
-use mathlib.Core.List.{List, [], _∷_, _++_, map, append-nil, append-assoc}
-use Prim.Native.Nat.{ℕ, zero, suc, _+_, _≤_, _<_}
-use lib.Dec.{eqb, ltb, leb}
+use mathlib.Core.List.{List, [], _∷_, _++_, map, append-assoc}
+use Prim.Native.Nat.{ℕ, zero, suc, _+_}
+use lib.Dec.{eqb, ltb}
 use lib.ListN.{length, getElem?}
-use Rattle.model.specs.Outcome.{Cell, Cells, class, word, Outcome, fits, misfit, unknown, eat, mapO}
+use Rattle.model.specs.Outcome.{Cells, word, Outcome, fits, misfit, unknown, eat, mapO}
 use Rattle.model.specs.Table.{Row, VALUE, BLOCK, CASES, LENGTH, STMT-KIND, More, brings, over, nothing, more, follow, run}
 use Rattle.image.specs.Parts.{Reader, join, times, listOf, caseOf, part, parts, statementRows, chosen, kinded, check, statementOf, blockOf, readB, piece, pieces}
 use Rattle.image.proofs.Flat.{block-none, block-some}

@@ -1,8 +1,7 @@
 -- The code's table is the model's: its rows, where they start, and what a word brings. A table's rule is a test that is computed once over the whole table. Assumes nothing.
 use mathlib.Core.Path.{_≡_, refl, sym, ap, _∙_, subst}
-use mathlib.Core.Logic.{_⊎_, inl, inr}
 use mathlib.Core.Bool.{Bool, true, false}
-use mathlib.Core.Option.{Option, none, some}
+use mathlib.Core.Option.{none, some}
 use mathlib.Core.List.{List, [], _∷_, map}
 use Prim.Native.Nat.{ℕ, zero, suc, _+_, _*_, _-_, _≤_, _<_}
 use native.Mathlib.Nat.{le-of-suc-le-suc, not-suc-le-zero, add-zero, zero-add, add-suc, suc-add}
@@ -11,9 +10,9 @@ use native.Mathlib.Omega.{arith}
 use lib.Dec.{T, ltb, leb, eqb, ltb→lt, leb→le}
 use lib.ListN.{length, getD, drop, take, getElem?, length-map}
 use lib.Seq.{drop-cons, getD-drop, getD-take}
-use borrow.Author.Tests.{lt-ltb, le-ltb, eq-eqb, ne-eqb, le-leb, lt-leb}
-use Rattle.model.specs.Table.{Row, TYPE-KIND, BLOCK, CASES, LENGTH, STMT-KIND, limit, counted, variants, types, expressions, levels, queries, values, atomics, results, statements, functionHead, entryHead, nameRow, typeRow, constantRow, overrideRow, globalRow, expressionRow}
-use Rattle.image.specs.Parts.{caseRow, rowOf, rowAs, statementRows, Brings, rows, over, nothing, once, bringsOf, functionRow, entryRow}
+use borrow.Author.Tests.{lt-ltb, le-ltb, ne-eqb, le-leb, lt-leb}
+use Rattle.model.specs.Table.{Row, TYPE-KIND, BLOCK, CASES, LENGTH, limit, counted, variants, types, expressions, levels, queries, values, atomics, results, statements}
+use Rattle.image.specs.Parts.{caseRow, rowOf, rowAs, statementRows, rows, over, nothing, once, bringsOf}
 use Rattle.image.specs.Rows.{numbers, row, rowAt, ROWS}
 
 -- ---- a rule of a list, at each entry

@@ -2,39 +2,32 @@
 use mathlib.Core.Path.{_≡_, refl, sym, ap, _∙_, subst}
 use mathlib.Core.Bool.{Bool, true, false, _&&_}
 use mathlib.Core.List.{List, [], _∷_, _++_, map}
-use Prim.Native.Nat.{ℕ, zero, suc, _+_, _-_, _*_, _^_, _≤_, _<_}
+use Prim.Native.Nat.{ℕ, zero, suc, _+_, _-_, _*_, _≤_, _<_}
 use native.Mathlib.Nat.{le-refl, zero-add, add-zero, add-suc, suc-add}
 use native.Mathlib.Numerals.{add-one}
 use native.Mathlib.Omega.{arith}
 use lib.Dec.{eqb, leb}
-use lib.ListN.{length, getD, take, drop, replicate, length-map, length-append, length-replicate, length-take, length-drop}
-use lib.Seq.{slice, sets, length-slice, length-take-le, take-take, drop-cons}
-use borrow.Author.Tests.{eq-eqb, ne-eqb, le-leb, lt-leb, eqb-true, leb-true}
+use lib.ListN.{length, getD, take, drop, replicate, length-map, length-append, length-replicate}
+use lib.Seq.{slice, length-slice, length-take-le, take-take, drop-cons}
+use borrow.Author.Tests.{ne-eqb, eqb-true, leb-true}
 use Rattle.model.specs.Outcome.{Cells, class, word, Outcome, fits, misfit, unknown, Laid, laid, bad, strange, exact, both, mapL}
 use Rattle.model.specs.Table.{Row, PLACE, nameRow, typeRow, constantRow, overrideRow, globalRow, expressionRow, functionHead, entryHead}
 use Rattle.model.specs.Tree.{flatAll, DEPTH}
 use Rattle.model.specs.Module.{table, raysRow, pairRow, places, flatTable, limits, countAt, offsetAt, endAt, placed, section}
-use Rattle.image.specs.Parts.{Reader, pieces, functionRow, entryRow}
+use Rattle.laws.proofs.Lists.{and-first, and-second}
+use Rattle.image.specs.Parts.{pieces, functionRow, entryRow}
 use Rattle.image.specs.Rows.{numbers, row, rowAt, ROWS}
-use Rattle.image.specs.Extents.{Classes, End, done, refused, odd, shown, ending, Covers, after, classes, tableClasses, tabled, specialOf, special, sectionsFrom, tableRows}
+use Rattle.image.specs.Extents.{Classes, done, refused, odd, shown, ending, Covers, after, classes, tableClasses, tabled, specialOf, special, sectionsFrom, tableRows}
 use Rattle.image.specs.declared.section.Held.{Held}
 use Rattle.image.specs.declared.section.Held.the-variants.{Fits, Bad, Strange}
-use Rattle.laws.proofs.Readers.{Good, good, good-misfit, good-unknown, Took, Takes}
-use Rattle.laws.proofs.Tables.{Fine, laid-of, TableTook, table-took}
+use Rattle.laws.proofs.Readers.{Good, good, good-misfit, good-unknown, Took}
+use Rattle.laws.proofs.Tables.{laid-of, table-took}
 use Rattle.laws.proofs.Sections.{length-places}
-use Rattle.image.proofs.Reading.{Reads, reads, no-fit, no-code, Reading, reads-pieces, reads-times, reads-join}
+use Rattle.image.proofs.Reading.{Reads, reads, no-fit, no-code, reads-pieces, reads-times, reads-join}
 use Rattle.image.proofs.Header.{count-is, offset-is, end-last, end-next}
 use Rattle.image.proofs.Extents.{then-bad, then-strange, then-fits, after-bad}
 
 -- ---- sections in place
-and-left : (a b : Bool) → (a && b) ≡ true → a ≡ true
-and-left true b e = refl
-and-left false b e = e
-
-and-right : (a b : Bool) → (a && b) ≡ true → b ≡ true
-and-right true b e = e
-and-right false b e = let z : _≡_ {A = ℕ} 0 1 = cc in absurd (omega arith)
-
 pub record InPlace (ws : List ℕ) (k : ℕ) : Type 0 where
   pub forth : offsetAt k ws ≤ endAt k ws
   pub within : endAt k ws ≤ length ws
@@ -45,21 +38,21 @@ in-place [] j at ws h i l = absurd (omega arith)
 in-place (m ∷ ms) j at ws h i l = go i l (in-place ms (suc j) (endAt j ws) ws rest)
   where
     b : (leb (countAt j ws) m && (leb at (endAt j ws) && (leb (endAt j ws) (length ws) && placed ms (suc j) (endAt j ws) ws))) ≡ true
-    b = and-right (eqb (offsetAt j ws) at) _ h
+    b = and-second (eqb (offsetAt j ws) at) _ h
 
     c : (leb at (endAt j ws) && (leb (endAt j ws) (length ws) && placed ms (suc j) (endAt j ws) ws)) ≡ true
-    c = and-right (leb (countAt j ws) m) _ b
+    c = and-second (leb (countAt j ws) m) _ b
 
     d : (leb (endAt j ws) (length ws) && placed ms (suc j) (endAt j ws) ws) ≡ true
-    d = and-right (leb at (endAt j ws)) _ c
+    d = and-second (leb at (endAt j ws)) _ c
 
     rest : placed ms (suc j) (endAt j ws) ws ≡ true
-    rest = and-right (leb (endAt j ws) (length ws)) _ d
+    rest = and-second (leb (endAt j ws) (length ws)) _ d
 
     here : InPlace ws j
     here = record {
-      forth = omega (arith, eqb-true (offsetAt j ws) at (and-left (eqb (offsetAt j ws) at) _ h), leb-true at (endAt j ws) (and-left (leb at (endAt j ws)) _ c));
-      within = leb-true (endAt j ws) (length ws) (and-left (leb (endAt j ws) (length ws)) _ d);
+      forth = omega (arith, eqb-true (offsetAt j ws) at (and-first (eqb (offsetAt j ws) at) _ h), leb-true at (endAt j ws) (and-first (leb at (endAt j ws)) _ c));
+      within = leb-true (endAt j ws) (length ws) (and-first (leb (endAt j ws) (length ws)) _ d);
     }
 
     go : (i : ℕ) → i < length (m ∷ ms) → ((i : ℕ) → i < length ms → InPlace ws (suc j + i)) → InPlace ws (j + i)
@@ -175,7 +168,7 @@ module _ (words tags₀ : List ℕ) (total : ℕ) (large : 20 ≤ total) (enough
 
   first-at : offsetAt 0 (take total words) ≡ 20
   unfolding placed limits
-  first-at = eqb-true (offsetAt 0 (take total words)) 20 (and-left (eqb (offsetAt 0 (take total words)) 20) _ in-order)
+  first-at = eqb-true (offsetAt 0 (take total words)) 20 (and-first (eqb (offsetAt 0 (take total words)) 20) _ in-order)
 
   onward : (k : ℕ) → k < 8 → endAt k (take total words) ≡ offsetAt (suc k) (take total words)
   unfolding endAt

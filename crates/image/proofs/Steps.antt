@@ -1,29 +1,28 @@
 -- The steps of the record walk: one lemma for each return, each turn of a loop and each call. Assumes nothing.
-use mathlib.Core.Path.{_≡_, refl, sym, ap, _∙_, subst}
+use mathlib.Core.Path.{_≡_, refl, sym, ap, _∙_}
 use mathlib.Core.Bool.{Bool, true, false}
-use mathlib.Core.Option.{Option, none, some}
-use mathlib.Core.List.{List, [], _∷_, _++_, map}
-use Prim.Native.Nat.{ℕ, zero, suc, _+_, _-_, _≤_, _<_}
+use mathlib.Core.List.{List, [], _∷_, map}
+use Prim.Native.Nat.{ℕ, suc, _+_, _-_, _≤_, _<_}
 use native.Mathlib.Nat.{le-refl}
-use native.Mathlib.Numerals.{add-one, sub-one}
+use native.Mathlib.Numerals.{add-one}
 use native.Mathlib.Omega.{arith}
-use lib.Dec.{eqb, ltb, leb}
-use lib.ListN.{length, getD, set, length-set}
+use lib.Dec.{eqb, ltb}
+use lib.ListN.{length, getD, set}
 use lib.Seq.{slice, sets, slice-cons, length-slice}
 use borrow.Author.Tests.{eq-eqb, ne-eqb, ltb-true, ltb-false, eqb-true}
-use Rattle.model.specs.Outcome.{Cell, Cells, class, Outcome, fits, misfit, unknown, eat, mapO}
-use Rattle.model.specs.Table.{Row, PAD, TEXT, OPERANDS, BLOCK, CASES, LENGTH, STMT-KIND, run}
-use Rattle.image.specs.Parts.{Reader, join, times, check, statementOf, readB, piece, pieces, Brings, rows, over, nothing, bringsOf, brought, opening}
+use Rattle.model.specs.Outcome.{Cells, class, Outcome, fits, misfit, unknown, mapO}
+use Rattle.model.specs.Table.{Row, PAD, LENGTH, STMT-KIND, run}
+use Rattle.image.specs.Parts.{join, times, check, statementOf, readB, piece, pieces, Brings, rows, over, nothing, bringsOf, brought, opening}
 use Rattle.image.specs.Rows.{numbers, row, rowAt, ROWS, MoreIs}
-use Rattle.image.specs.Walks.{Final, next, refused, strange, seen, final, Walks}
+use Rattle.image.specs.Walks.{next, refused, strange, seen, final, Walks}
 use Rattle.image.specs.declared.record.Walked.{Walked}
 use Rattle.image.specs.declared.record.Walked.the-variants.{Next, Misfit, Strange}
 use Rattle.image.specs.declared.record.More.{More}
 use Rattle.image.specs.declared.record.More.the-variants.{Rows, Over, Unknown}
 use Rattle.image.proofs.Flat.{piece-field, piece-length, piece-list, piece-variant, piece-cases, piece-stmt-kind, piece-block, piece-block-none, statement-kind, run-word}
-use Rattle.image.proofs.Reading.{Reads, Reading, reads-piece, reads-pieces}
+use Rattle.image.proofs.Reading.{Reads, reads-piece, reads-pieces}
 use Rattle.image.proofs.Rows.{ended, further, row-next, symbol, large}
-use Rattle.image.proofs.Walk.{Onto, Taken, taken, chain-misfit, chain-strange, chain-next, final-word, eat-none, eat-some, run-short, run-brings, told}
+use Rattle.image.proofs.Walk.{Taken, taken, chain-misfit, chain-strange, chain-next, final-word, eat-none, eat-some, run-short, told}
 
 -- ---- tests
 below : (a b : ℕ) → ltb a b ≡ true → a < b

@@ -1,23 +1,25 @@
 -- What is left to do from where a walk stands is the whole. Assumes nothing.
-use mathlib.Core.Path.{_≡_, refl, sym, ap, _∙_, subst}
+use mathlib.Core.Path.{_≡_, refl, sym, ap, _∙_}
 use mathlib.Core.Bool.{Bool, true, false}
 use mathlib.Core.List.{List, [], _∷_, _++_, map, append-nil}
 use Prim.Native.Nat.{ℕ, zero, suc, _+_, _-_, _/_, _%_, _^_, _≤_, _<_}
 use native.Mathlib.Nat.{le-refl, add-zero, add-suc, suc-add}
-use native.Mathlib.Numerals.{add-one, sub-one}
+use native.Mathlib.Numerals.{add-one}
 use native.Mathlib.Omega.{arith}
 use lib.Dec.{eqb, ltb, leb}
-use lib.ListN.{length, getD, set, drop, take, replicate, length-set, length-append, length-map, length-take, drop-of-length-le}
-use lib.Seq.{slice, sets, slice-cons, drop-drop, length-sets, length-slice, drop-append-seam}
+use lib.ListN.{length, getD, set, drop, take, replicate, length-append, length-map}
+use lib.Seq.{slice, sets, slice-cons, drop-drop, length-slice, drop-append-seam}
 use borrow.Author.Tests.{le-leb, lt-leb, leb-true, leb-false, lt-ltb, le-ltb, eq-eqb, ne-eqb}
-use Rattle.model.specs.Outcome.{Cell, Cells, class, word, Outcome, fits, misfit, unknown, eat, mapO}
-use Rattle.model.specs.Table.{Row, WORD, EXPR, PAD, TEXT, OPERANDS, More, brings, over, nothing, repeat, text, more, follow, run}
-use Rattle.image.specs.Parts.{Reader, join, times}
+use Rattle.model.specs.Outcome.{Cells, class, word, Outcome, fits, misfit, unknown, eat, mapO}
+use Rattle.model.specs.Table.{Row, WORD, EXPR, PAD, TEXT, OPERANDS, brings, over, repeat, text, more, follow, run}
+use Rattle.laws.proofs.Betweens.{slice-none}
+use Rattle.laws.proofs.Lists.{map-append}
+use Rattle.image.specs.Parts.{Reader, join}
 use Rattle.image.specs.Walks.{Final, next, refused, strange, seen, final, Walks, filled, Fills}
 use Rattle.image.specs.declared.record.Walked.{Walked}
 use Rattle.image.specs.declared.record.Walked.the-variants.{Next, Misfit, Strange}
 use Rattle.image.proofs.Flat.{run-none, run-append, plain-more}
-use Rattle.image.proofs.Reading.{Reads, reads, no-fit, no-code, Reading, reads-run}
+use Rattle.image.proofs.Reading.{Reads, reads, reads-run}
 
 -- ---- filling
 pub record Filling (tags₀ : List ℕ) (at stop c : ℕ) (tags : List ℕ) (i : ℕ) : Type 0 where
@@ -59,13 +61,6 @@ pub sets-append : (xs l : List ℕ) (i : ℕ) (ys : List ℕ) → sets l i (xs +
 sets-append [] l i ys = ap (λ k. sets l k ys) (sym (add-zero i))
 sets-append (x ∷ xs) l i ys = sets-append xs (set l i x) (suc i) ys ∙ ap (λ k. sets (sets (set l i x) (suc i) xs) k ys) (suc-add i (length xs) ∙ sym (add-suc i (length xs)))
 
-classes-append : (cs ds : Cells) → map class (cs ++ ds) ≡ map class cs ++ map class ds
-classes-append [] ds = refl
-classes-append (c ∷ cs) ds = ap (class c ∷_) (classes-append cs ds)
-
-pub slice-none : (i end : ℕ) (l : List ℕ) → end ≤ i → slice i end l ≡ []
-slice-none i end l h = drop-of-length-le (take end l) {i = i} (omega (arith, length-take end l))
-
 -- ---- outcomes, seen from where they start
 pub final-word : (tags : List ℕ) (i end s w : ℕ) (o : Outcome Cells) → final tags i end (mapO ((s, w) ∷_) o) ≡ final (set tags i s) (i + 1) end o
 unfolding final mapO
@@ -76,7 +71,7 @@ final-word tags i end s w unknown = refl
 final-after : (tags : List ℕ) (i end : ℕ) (cs : Cells) (o : Outcome Cells) → final tags i end (mapO (cs ++_) o) ≡ final (sets tags i (map class cs)) (i + length cs) end o
 unfolding final mapO
 final-after tags i end cs (fits ds rest) =
-    ap (next (end - length rest)) (ap (sets tags i) (classes-append cs ds) ∙ sets-append (map class cs) tags i (map class ds) ∙ ap (λ k. sets (sets tags i (map class cs)) (i + k) (map class ds)) (length-map cs class))
+    ap (next (end - length rest)) (ap (sets tags i) (map-append class cs ds) ∙ sets-append (map class cs) tags i (map class ds) ∙ ap (λ k. sets (sets tags i (map class cs)) (i + k) (map class ds)) (length-map cs class))
 final-after tags i end cs misfit = refl
 final-after tags i end cs unknown = refl
 

@@ -1,22 +1,23 @@
 -- The sections as the code lays them out are the model's `read`: the same status, and where all is laid the classes of the module's cells. Assumes nothing.
-use mathlib.Core.Path.{_≡_, refl, sym, ap, _∙_, subst}
+use mathlib.Core.Path.{_≡_, refl, sym, ap, _∙_}
 use mathlib.Core.Bool.{Bool, true, false, _&&_}
-use mathlib.Core.List.{List, [], _∷_, _++_, map, append-nil, append-assoc}
-use Prim.Native.Nat.{ℕ, zero, suc, _+_, _-_, _≤_, _<_}
+use mathlib.Core.List.{List, [], _∷_, _++_, map, append-nil}
+use Prim.Native.Nat.{ℕ, suc, _+_, _-_}
 use native.Mathlib.Omega.{arith}
 use lib.Dec.{eqb, leb}
 use lib.ListN.{length, take, drop, replicate, length-map}
-use Rattle.model.specs.Outcome.{Cell, Cells, class, word, Outcome, fits, misfit, unknown, _⟫_, mapO, Laid, laid, bad, strange, exact, both, mapL}
+use Rattle.model.specs.Outcome.{Cells, class, Outcome, fits, misfit, unknown, mapO, Laid, laid, bad, strange, exact, both, mapL}
 use Rattle.model.specs.Table.{Row, BLOCK, PLACE, nameRow, typeRow, constantRow, overrideRow, globalRow, expressionRow, functionHead, entryHead, run}
 use Rattle.model.specs.Tree.{Function, Entry, flat, flatEntry, flatAll, rows, functionAt, entryAt, DEPTH}
 use Rattle.model.specs.Module.{Special, Module, next, records, table, raysRow, pairRow, specialAt, countAt, limits, placed, HEADER, section, tableAt, by, _⊛_, moduleOf, read, places, flatTable, flatSpecial, Section, sections, pairsFrom, bodies, flatModule}
-use Rattle.laws.proofs.Readers.{Took, Takes, run-took, function-took, entry-took}
-use Rattle.laws.proofs.Tables.{laid-of, TableTook, table-took}
+use Rattle.laws.proofs.Readers.{Takes, run-took, function-took, entry-took}
+use Rattle.laws.proofs.Tables.{laid-of, table-took}
 use Rattle.laws.proofs.Modules.{ReadsAs, read-parts}
-use Rattle.image.specs.Parts.{Reader, join, times, parts, readB, pieces, functionRow, entryRow}
+use Rattle.laws.proofs.Lists.{map-append}
+use Rattle.image.specs.Parts.{Reader, join, times, pieces, functionRow, entryRow}
 use Rattle.image.specs.Extents.{Classes, classes, tableClasses, tabled, specialOf, special, sectionsFrom, tableRows}
-use Rattle.image.proofs.Flat.{map-map, map-same, bare, Chain, step-cells, last, bind-fits, times-same, join-same, rows-counted, countedR, with, below?, run-pieces, parts-pieces, function-flat, entry-flat}
-use Rattle.image.proofs.Sections.{LaidAs, laid-as}
+use Rattle.image.proofs.Flat.{map-map, bare, step-cells, bind-fits, times-same, join-same, rows-counted, countedR, with, below?, run-pieces, parts-pieces, function-flat, entry-flat}
+use Rattle.image.proofs.Sections.{laid-as}
 
 -- ---- the status of what is laid
 pub data Status : Type 0 where
@@ -120,10 +121,6 @@ module _ {A : Type 0} (p : List ℕ → Outcome A) (f : A → Cells) (q : Reader
       go false = refl
 
 -- ---- classes
-classes-append : (cs ds : Cells) → classes (cs ++ ds) ≡ classes cs ++ classes ds
-classes-append [] ds = refl
-classes-append (c ∷ cs) ds = ap (class c ∷_) (classes-append cs ds)
-
 place-classes : (rs : List Cells) (at : ℕ) → classes (places at rs) ≡ replicate (length rs) PLACE
 unfolding places
 place-classes [] at = refl
@@ -131,7 +128,7 @@ place-classes (r ∷ rs) at = ap (PLACE ∷_) (place-classes rs (at + length r))
 
 table-classes : (rs : List Cells) → classes (flatTable rs) ≡ tableClasses (length rs) rs
 unfolding flatTable
-table-classes rs = classes-append (places (length rs) rs) (flatAll rs) ∙ ap (_++ classes (flatAll rs)) (place-classes rs (length rs))
+table-classes rs = map-append class (places (length rs) rs) (flatAll rs) ∙ ap (_++ classes (flatAll rs)) (place-classes rs (length rs))
 
 -- ---- one section: trees of A, flat by f, in a table by the row r
 module _ {A : Type 0} {good : A → Type 0} (p : List ℕ → Outcome A) (f : A → Cells) (r : Row) (takes : Takes good f p) (same : (ws : List ℕ) → mapO f (p ws) ≡ pieces DEPTH r ws) (n : ℕ) (ws : List ℕ) where
@@ -288,7 +285,7 @@ module _ (ws : List ℕ) where
   -- where all is laid, the classes are the module's
   bodies-classes : (m : Module) → classes (bodies (sections m)) ≡ classes (flatTable (m .names)) ++ (classes (flatTable (m .types)) ++ (classes (flatTable (m .constants)) ++ (classes (flatTable (m .overrides)) ++ (classes (flatTable (m .globals)) ++ (classes (flatTable (m .exprs)) ++ (classes (flatTable (map flat (m .functions))) ++ (classes (flatTable (map flatEntry (m .entries))) ++ classes (flatSpecial (m .special)))))))))
   unfolding sections bodies
-  bodies-classes m = simp (classes-append, append-nil)
+  bodies-classes m = simp (map-append class, append-nil)
 
   sections-laid : (m : Module) → ReadsAs ws m → sectionsFrom tableRows 0 ws ≡ laid (classes (bodies (sections m)))
   unfolding sectionsFrom tableRows both mapL
@@ -328,7 +325,7 @@ eighteen-is m = refl
 
 pub module-classes : (m : Module) → classes (flatModule m) ≡ replicate 20 PLACE ++ classes (bodies (sections m))
 unfolding flatModule
-module-classes m = ap (λ l. PLACE ∷ PLACE ∷ l) (classes-append (pairsFrom HEADER (sections m)) (bodies (sections m)) ∙ ap (_++ classes (bodies (sections m))) (pairs-classes (sections m) HEADER ∙ eighteen m))
+module-classes m = ap (λ l. PLACE ∷ PLACE ∷ l) (map-append class (pairsFrom HEADER (sections m)) (bodies (sections m)) ∙ ap (_++ classes (bodies (sections m))) (pairs-classes (sections m) HEADER ∙ eighteen m))
   where
     eighteen : (m : Module) → replicate (length (sections m) + length (sections m)) PLACE ≡ replicate 18 PLACE
     eighteen m = eighteen-is m

@@ -2,11 +2,11 @@
 use mathlib.Core.Path.{_≡_}
 use mathlib.Core.Bool.{Bool, true, false, _&&_}
 use mathlib.Core.List.{List, [], _∷_, _++_, map}
-use Prim.Native.Nat.{ℕ, zero, suc, _+_, _-_}
+use Prim.Native.Nat.{ℕ, suc, _+_, _-_}
 use lib.Dec.{eqb, leb}
-use lib.ListN.{length, take, drop, replicate}
+use lib.ListN.{take, replicate}
 use lib.Seq.{sets, slice}
-use Rattle.model.specs.Outcome.{Cells, class, Outcome, Laid, laid, bad, strange, exact, both, mapL}
+use Rattle.model.specs.Outcome.{Cells, class, Laid, laid, bad, strange, exact, both, mapL}
 use Rattle.model.specs.Table.{Row, PLACE, nameRow, typeRow, constantRow, overrideRow, globalRow, expressionRow}
 use Rattle.model.specs.Tree.{flatAll, DEPTH}
 use Rattle.model.specs.Module.{records, table, raysRow, pairRow, countAt, section}

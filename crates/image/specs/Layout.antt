@@ -1,6 +1,6 @@
 -- What laying out an image answers and leaves: the definition for every slice of bytes. Of a refused image words and tape are free.
 use mathlib.Core.Path.{_≡_}
-use mathlib.Core.Bool.{Bool, true, false}
+use mathlib.Core.Bool.{true, false}
 use mathlib.Core.List.{List, map}
 use Prim.Native.Nat.{ℕ}
 use lib.ListN.{length}

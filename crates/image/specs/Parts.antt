@@ -1,13 +1,13 @@
 -- The reader of records seen flat, as rows of pieces, each of which is one word and what it brings: what the code does. proofs/Flat.antt proves it equal to the model's reader of trees.
-use mathlib.Core.Bool.{Bool, true, false}
+use mathlib.Core.Bool.{true, false}
 use mathlib.Core.Option.{Option, none, some}
 use mathlib.Core.List.{List, [], _∷_, _++_, map}
 use Prim.Native.Nat.{ℕ, zero, suc}
 use lib.Dec.{eqb, ltb, leb}
 use lib.ListN.{length, getElem?}
-use Rattle.model.specs.Outcome.{Cell, Cells, Outcome, fits, misfit, unknown, eat, mapO}
+use Rattle.model.specs.Outcome.{Cells, Outcome, fits, misfit, unknown, eat, mapO}
 use Rattle.model.specs.Table.{Row, SPAN, UPTO, EXPR, OPT-EXPR, FROM, TO, CALLEE, OPERANDS, OPT-RESULT, VALUE, ARGUMENTS, LOCALS, EXPRESSIONS, NAMED, RETURNS, TYPE-KIND, BLOCK, CASES, LENGTH, STMT-KIND, Shape, sEmit, sBlock, sIf, sSwitch, sLoop, sBreak, sContinue, sReturn, sKill, sCall, sEffect, statements, functionHead, entryHead, counted, limit, variants, run}
-use Rattle.model.specs.Tree.{flatBlock, blockAt, DEPTH}
+use Rattle.model.specs.Tree.{flatBlock, blockAt}
 
 abbrev pub Reader : Type 0
 Reader = List ℕ → Outcome Cells

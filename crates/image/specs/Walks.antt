@@ -1,12 +1,12 @@
 -- What a walk over words leaves: its answer and, where they fit, the tape. Of a refused walk the tape is free.
 use mathlib.Core.Path.{_≡_}
-use mathlib.Core.Bool.{Bool, true, false}
-use mathlib.Core.List.{List, [], _∷_, map}
-use Prim.Native.Nat.{ℕ, zero, suc, _+_, _-_}
-use lib.Dec.{eqb, leb}
+use mathlib.Core.Bool.{true, false}
+use mathlib.Core.List.{List, map}
+use Prim.Native.Nat.{ℕ, _+_, _-_}
+use lib.Dec.{leb}
 use lib.ListN.{length, replicate}
 use lib.Seq.{sets}
-use Rattle.model.specs.Outcome.{Cell, Cells, class, Outcome, fits, misfit, unknown}
+use Rattle.model.specs.Outcome.{Cells, class, Outcome, fits, misfit, unknown}
 use Rattle.image.specs.declared.record.Walked.{Walked}
 use Rattle.image.specs.declared.record.Walked.the-variants.{Next, Misfit, Strange}
 

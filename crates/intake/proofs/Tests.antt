@@ -16,11 +16,11 @@ use Rattle.model.specs.Scope.{inScope}
 use Rattle.model.specs.Intake.{tested, verdict, intakeOf, Passes}
 use Rattle.numbers.specs.Ranges.{Says}
 use Rattle.scope.specs.Functions.{Numbered as ScopeNumbered}
-use Rattle.image.specs.Layout.{Lays, Answer, fits, size, misfit, unknown, shows, held, layoutOf}
+use Rattle.image.specs.Layout.{Lays, size, misfit, unknown, shows, held, layoutOf}
 use Rattle.image.specs.declared.Layout.{Layout}
 use Rattle.image.specs.declared.Layout.the-variants.{Fits, Size as LaidSize, Misfit as LaidMisfit, Strange}
 use Rattle.image.proofs.Held.{HoldsImage, holds}
-use Rattle.intake.specs.Taken.{numberOf, Tested, Accepts, Takes, Answers}
+use Rattle.intake.specs.Taken.{numberOf, Tested, Takes, Answers}
 use Rattle.intake.specs.declared.Taken.{Taken}
 use Rattle.intake.specs.declared.Taken.the-variants.{Accepted, Size, Misfit, Number, Order, Name, Scope}
 use Rattle.intake.proofs.Few.{numbers-few}

@@ -20,7 +20,7 @@ unfolding beside
 beside-cells [] = refl
 beside-cells (c ∷ cs) = ap (c ∷_) (beside-cells cs)
 
-pub slice-none : (i end : ℕ) (l : List ℕ) → end ≤ i → slice i end l ≡ []
+pub slice-none : {A : Type 0} (i end : ℕ) (l : List A) → end ≤ i → slice i end l ≡ []
 slice-none i end l h = drop-of-length-le (take end l) {i = i} (omega (arith, length-take end l))
 
 pub between-none : (tags words : List ℕ) (i end : ℕ) → end ≤ i → between tags words i end ≡ []

@@ -210,7 +210,7 @@ result-one no-result z = absurd (omega arith)
 result-one (some-result e) z = refl
 
 -- ---- the shape of an expression record
-split-or : {A : Type 0} (a b : Bool) → a || b ≡ true → (a ≡ true → A) → (b ≡ true → A) → A
+pub split-or : {A : Type 0} (a b : Bool) → a || b ≡ true → (a ≡ true → A) → (b ≡ true → A) → A
 split-or true b h f g = f refl
 split-or false b h f g = g h
 
@@ -294,7 +294,7 @@ rows-at [] k h e = let z : _≡_ {A = ℕ} 0 1 = cc in absurd (omega arith)
 rows-at (x ∷ l) zero {r} h e = let q : x ≡ r = cc in rw q at (and-split (fields? x) (rows? l) h .0)
 rows-at (x ∷ l) (suc k) h e = rows-at l k (and-split (fields? x) (rows? l) h .1) e
 
-variant-brings : (o : Option Row) {xs : Row} → variant o ≡ brings xs → o ≡ some xs
+pub variant-brings : (o : Option Row) {xs : Row} → variant o ≡ brings xs → o ≡ some xs
 unfolding variant
 variant-brings none e = cc
 variant-brings (some r) e = cc
@@ -646,7 +646,7 @@ looked-at [] j d h = absurd (omega arith)
 looked-at (x ∷ l) zero d h = refl
 looked-at (x ∷ l) (suc j) d h = looked-at l j d (omega arith)
 
-looked-each : {A : Type 0} {P : A → Type 0} {l : List A} → Each P l → (j : ℕ) {x : A} → getElem? l j ≡ some x → P x
+pub looked-each : {A : Type 0} {P : A → Type 0} {l : List A} → Each P l → (j : ℕ) {x : A} → getElem? l j ≡ some x → P x
 looked-each {P} {l} ps j {x} e = rw (looked-getD l j x e) at (each-at ps j x (looked-length l j e))
 
 entry-classes : {x : Entry} → WellEntry x → map class (x .head) ≡ NAME ∷ binding []
@@ -656,7 +656,7 @@ entry-classes w = plain-classes (w .head-ok) refl
 entry-long : {x : Entry} → WellEntry x → length (x .head) ≡ 7
 entry-long {x} w = sym (length-map (x .head) class) ∙ ap length (entry-classes w)
 
-table-least : (rs : List Cells) → length rs ≤ length (flatTable rs)
+pub table-least : (rs : List Cells) → length rs ≤ length (flatTable rs)
 unfolding flatTable
 table-least rs = omega (arith, length-append (places (length rs) rs) (flatAll rs), length-places rs (length rs))
 

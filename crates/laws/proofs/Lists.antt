@@ -1,5 +1,5 @@
 -- Lists, words of cells, and optional numbers: what every law of the image uses.
-use mathlib.Core.Path.{_≡_, refl, ap, _∙_}
+use mathlib.Core.Path.{_≡_, refl, sym, ap, _∙_}
 use mathlib.Core.Bool.{Bool, true, false, _&&_}
 use mathlib.Core.List.{List, [], _∷_, _++_, map}
 use mathlib.Core.Option.{Option, none, some}
@@ -49,6 +49,18 @@ and-true e f = rw (e, f)
 pub and-split : (a b : Bool) → a && b ≡ true → (a ≡ true) × (b ≡ true)
 and-split true b e = (refl, e)
 and-split false b e = let z : _≡_ {A = ℕ} 0 1 = cc in absurd (omega arith)
+
+pub and-first : (a b : Bool) → a && b ≡ true → a ≡ true
+and-first a b e = and-split a b e .0
+
+pub and-second : (a b : Bool) → a && b ≡ true → b ≡ true
+and-second a b e = and-split a b e .1
+
+-- tests that are passed together are one
+pub bool-same : (a b : Bool) → (a ≡ true → b ≡ true) → (b ≡ true → a ≡ true) → a ≡ b
+bool-same true b f g = sym (f refl)
+bool-same false true f g = g refl
+bool-same false false f g = refl
 
 pub and-assoc : (a b c : Bool) → (a && b) && c ≡ a && (b && c)
 and-assoc true b c = refl

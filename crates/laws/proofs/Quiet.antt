@@ -1,7 +1,7 @@
 -- Which classes stand where: behind the kind of a type, in the head, the arguments, the result, the locals and the body of a function there is no kind of a type or an expression, and nothing of the named expressions. What a flat pass asks of the cells that it goes over.
 use mathlib.Core.Path.{_≡_, refl}
 use mathlib.Core.Bool.{Bool, true, false, _&&_, _||_, not}
-use mathlib.Core.Option.{Option, none, some}
+use mathlib.Core.Option.{some}
 use mathlib.Core.List.{List, [], _∷_, _++_, map, append-nil}
 use Prim.Native.Nat.{ℕ, zero, suc, _+_}
 use native.Mathlib.Omega.{arith}
@@ -9,13 +9,13 @@ use lib.Dec.{eqb, ltb, leb}
 use lib.ListN.{length, getElem?}
 use borrow.Author.Tests.{eqb-true, ltb-true, ne-eqb, not-true}
 use Rattle.model.specs.Outcome.{Cell, Cells, class}
-use Rattle.model.specs.Table.{Row, SPAN, UPTO, NAME, EXPR, NAMED-EXPR, PAD, MEMBERS, ARGUMENTS, LOCALS, NAMED, TYPE-KIND, EXPR-KIND, VALUE, ATOMIC, RETURNS, Shape, sEmit, sBlock, sIf, sSwitch, sLoop, sBreak, sContinue, sReturn, sKill, sCall, sEffect, types, values, atomics, results, statements, typeRow, functionHead, entryHead, counted, limit, variants, brings, over, repeat, variant, more}
+use Rattle.model.specs.Table.{Row, SPAN, UPTO, NAME, EXPR, NAMED-EXPR, PAD, MEMBERS, ARGUMENTS, LOCALS, NAMED, TYPE-KIND, EXPR-KIND, VALUE, ATOMIC, RETURNS, Shape, sEmit, sBlock, sIf, sSwitch, sLoop, sBreak, sContinue, sReturn, sKill, sCall, sEffect, types, values, atomics, results, statements, typeRow, functionHead, entryHead, counted, limit, variants, brings, over, repeat, more}
 use Rattle.model.specs.Tree.{Stmt, Form, Block, Cases, Case, Range, Function, Entry, flatAll, flatList, flatX, flatS, flatF, flatB, flatK, flatC, flatBlock}
 use Rattle.model.specs.Carry.{Lays, lays-none, lays-next, Each, each-none, each-next, OkS, OkF, OkB, OkBs, OkK, OkC, ok-stmt, ok-emit, ok-block, ok-branch, ok-switch, ok-loop, ok-break, ok-continue, ok-return, ok-kill, ok-call, ok-effect, ok-deeper, ok-end, ok-then, ok-case, ok-nomore, ok-also, WellFunction, WellEntry}
 use Rattle.model.specs.Module.{places}
 use Rattle.laws.proofs.Lists.{and-true, and-split}
 use Rattle.laws.proofs.Plain.{plain?, plain-more}
-use Rattle.laws.proofs.FunctionViews.{among}
+use Rattle.laws.proofs.FunctionViews.{among, split-or, variant-brings}
 
 -- ---- every element of two lists
 pub each-append : {A : Type 0} {P : A → Type 0} {xs ys : List A} → Each P xs → Each P ys → Each P (xs ++ ys)
@@ -73,16 +73,12 @@ rows? : List Row → Bool
 rows? [] = true
 rows? (r ∷ rs) = inners? r && rows? rs
 
-either : {A : Type 0} (a b : Bool) → a || b ≡ true → (a ≡ true → A) → (b ≡ true → A) → A
-either true b h f g = f refl
-either false b h f g = g h
-
 one-of : {A : Type 0} (s : ℕ) → among s (MEMBERS ∷ VALUE ∷ ATOMIC ∷ RETURNS ∷ []) ≡ true → (s ≡ MEMBERS → A) → (s ≡ VALUE → A) → (s ≡ ATOMIC → A) → (s ≡ RETURNS → A) → A
 one-of s h f g k l =
-    either (eqb s MEMBERS) (among s (VALUE ∷ ATOMIC ∷ RETURNS ∷ [])) h (λ e. f (eqb-true s MEMBERS e)) λ h.
-    either (eqb s VALUE) (among s (ATOMIC ∷ RETURNS ∷ [])) h (λ e. g (eqb-true s VALUE e)) λ h.
-    either (eqb s ATOMIC) (among s (RETURNS ∷ [])) h (λ e. k (eqb-true s ATOMIC e)) λ h.
-    either (eqb s RETURNS) false h (λ e. l (eqb-true s RETURNS e)) λ h.
+    split-or (eqb s MEMBERS) (among s (VALUE ∷ ATOMIC ∷ RETURNS ∷ [])) h (λ e. f (eqb-true s MEMBERS e)) λ h.
+    split-or (eqb s VALUE) (among s (ATOMIC ∷ RETURNS ∷ [])) h (λ e. g (eqb-true s VALUE e)) λ h.
+    split-or (eqb s ATOMIC) (among s (RETURNS ∷ [])) h (λ e. k (eqb-true s ATOMIC e)) λ h.
+    split-or (eqb s RETURNS) false h (λ e. l (eqb-true s RETURNS e)) λ h.
     let z : _≡_ {A = ℕ} 0 1 = cc in absurd (omega arith)
 
 not-among : (a b c d : Bool) → a ≡ false → b ≡ false → c ≡ false → d ≡ false → not (a || (b || (c || (d || false)))) ≡ true
@@ -91,7 +87,7 @@ not-among a b c d e f g h = rw (e, f, g, h)
 inner-quiet : (s w : ℕ) → inner? s ≡ true → Quiet (s, w)
 unfolding inner? quiet?
 inner-quiet s w h =
-    either (ltb s PAD && not (eqb s NAMED-EXPR)) (among s (MEMBERS ∷ VALUE ∷ ATOMIC ∷ RETURNS ∷ [])) h
+    split-or (ltb s PAD && not (eqb s NAMED-EXPR)) (among s (MEMBERS ∷ VALUE ∷ ATOMIC ∷ RETURNS ∷ [])) h
     (λ a.
     let b = and-split (ltb s PAD) (not (eqb s NAMED-EXPR)) a in
     let l = ltb-true s PAD (b .0) in
@@ -113,11 +109,6 @@ unfolding rows?
 rows-at [] k h e = let z : _≡_ {A = ℕ} 0 1 = cc in absurd (omega arith)
 rows-at (x ∷ l) zero {r} h e = let q : x ≡ r = cc in rw q at (and-split (inners? x) (rows? l) h .0)
 rows-at (x ∷ l) (suc k) h e = rows-at l k (and-split (inners? x) (rows? l) h .1) e
-
-pub variant-brings : (o : Option Row) {xs : Row} → variant o ≡ brings xs → o ≡ some xs
-unfolding variant
-variant-brings none e = cc
-variant-brings (some r) e = cc
 
 -- the tests of the table
 types-inner : rows? types ≡ true
@@ -159,7 +150,7 @@ at-returns w xs e = rows-at results w results-inner (variant-brings (getElem? re
 inner-more : (s w : ℕ) (xs : Row) → inner? s ≡ true → more s w ≡ brings xs → inners? xs ≡ true
 unfolding inners? inner?
 inner-more s w xs h e =
-    either (ltb s PAD && not (eqb s NAMED-EXPR)) (among s (MEMBERS ∷ VALUE ∷ ATOMIC ∷ RETURNS ∷ [])) h
+    split-or (ltb s PAD && not (eqb s NAMED-EXPR)) (among s (MEMBERS ∷ VALUE ∷ ATOMIC ∷ RETURNS ∷ [])) h
     (λ a. let n : xs ≡ [] = cc (plain-more s w (and-split (ltb s PAD) (not (eqb s NAMED-EXPR)) a .0)) in rw n refl)
     λ a. one-of s a (λ q. at-members w xs (rw q at e)) (λ q. at-value w xs (rw q at e)) (λ q. at-atomic w xs (rw q at e)) λ q. at-returns w xs (rw q at e)
 

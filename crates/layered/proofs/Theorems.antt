@@ -2,40 +2,32 @@
 -- `redirect_function`. Assumes nothing but, where it says so, that bytes are below 256.
 use mathlib.Core.Path.{_≡_, refl, sym, ap, ap₂, _∙_, subst}
 use mathlib.Core.Bool.{Bool, true, false}
-use mathlib.Core.List.{List, [], _∷_, map}
-use Prim.Native.Nat.{ℕ, zero, suc, _+_, _*_, _^_, _<_, _≤_}
+use mathlib.Core.List.{List, map}
+use Prim.Native.Nat.{ℕ, zero, suc, _*_, _^_, _<_}
 use native.Mathlib.Omega.{arith}
-use lib.ListN.{length, getD}
+use lib.ListN.{length}
 use Rattle.words.specs.Words.{AllBelow, wordsOf, bytesOf}
 use Rattle.words.proofs.Laws.{length-bytesOf, bytes-of-words, words-of-bytes, words-below}
 use Rattle.model.specs.Outcome.{Cells, word, Laid, laid, bad, strange}
-use Rattle.model.specs.Module.{Module, read, flatModule, write, sized}
+use Rattle.model.specs.Module.{Module, read, write, sized}
 use Rattle.model.specs.Carry.{WellFormed}
-use Rattle.model.specs.Intake.{tested, verdict, intakeOf, Passes}
-use Rattle.model.specs.Redirect.{redirect, Answer, redirected, outside, noOriginal, noReplacement, argumentsDiffer, resultsDiffer, redirectFunction}
+use Rattle.model.specs.Intake.{verdict, intakeOf, Passes}
+use Rattle.model.specs.Redirect.{redirect, redirected, redirectFunction}
 use Rattle.laws.proofs.Modules.{read-well}
 use Rattle.intake.proofs.Tests.{passes}
 use Rattle.redirect.specs.Claims.{Differs, differs-none, differs-same, differs-call, differs-result}
-use Rattle.redirect.specs.Passes.{Told, both, refused, told, imageAfter}
+use Rattle.redirect.specs.Passes.{both, refused, imageAfter}
 use Rattle.redirect.proofs.Ending.{answered}
 use Rattle.redirect.proofs.Finding.{find-in}
 use Rattle.redirect.proofs.Theorems.{nothing-else, accepted, as-long, redirected-intake, redirected-itself}
+use Rattle.redirect.proofs.Storing.{image-stays}
 use Rattle.layered.specs.Images.{ofModule, afterIntake, redirectImage}
 use Rattle.layered.proofs.Sizes.{image-long, image-written}
 
 -- ---- A REFUSAL KEEPS EVERY BYTE
-answer-keeps : (image : List ℕ) (x : Answer) (k : ℕ) → told x ≡ refused k → imageAfter image x ≡ image
-unfolding told imageAfter
-answer-keeps image (redirected a b m) k e = let z : _≡_ {A = ℕ} 0 1 = cc in absurd (omega arith)
-answer-keeps image outside k e = refl
-answer-keeps image noOriginal k e = refl
-answer-keeps image noReplacement k e = refl
-answer-keeps image argumentsDiffer k e = refl
-answer-keeps image resultsDiffer k e = refl
-
 module-keeps : (image : List ℕ) (o p : ℕ) (omit : List ℕ) (k : ℕ) (x : Laid Module) → ofModule image o p omit x .0 ≡ refused k → ofModule image o p omit x .1 ≡ image
 unfolding ofModule
-module-keeps image o p omit k (laid m) e = answer-keeps image (redirectFunction m o p omit) k e
+module-keeps image o p omit k (laid m) e = image-stays image (redirectFunction m o p omit) k e
 module-keeps image o p omit k bad e = refl
 module-keeps image o p omit k strange e = refl
 

@@ -1,19 +1,19 @@
 -- A line: the pieces that are put one behind the other are its bytes. Assumes nothing.
-use mathlib.Core.Path.{_≡_, refl, sym, ap, _∙_}
+use mathlib.Core.Path.{_≡_, sym, ap, _∙_}
 use mathlib.Core.Bool.{Bool, true, false, cond}
 use mathlib.Core.List.{List, [], _∷_, _++_, append-assoc}
-use Prim.Native.Nat.{ℕ, _+_, _*_, _-_, _/_, _%_, _≤_, _<_}
+use Prim.Native.Nat.{ℕ, _+_, _-_, _/_, _%_, _≤_, _<_}
 use native.Mathlib.Omega.{arith}
 use lib.Dec.{ltb}
-use lib.ListN.{length, getD, take, length-append}
+use lib.ListN.{length, getD}
 use lib.Seq.{length-take-le}
-use Rattle.model.specs.Module.{Module, countAt, offsetAt}
+use Rattle.model.specs.Module.{countAt, offsetAt}
 use Rattle.model.specs.View.{recordAt}
-use Rattle.model.specs.Taped.{Taped, Tape}
+use Rattle.model.specs.Taped.{Tape}
 use Rattle.gather.proofs.Whole.{few}
-use Rattle.listing.specs.Lines.{decimal, nameOf, lineOf, Naming, textAt, Puts, Room, Readable, Lines}
+use Rattle.listing.specs.Lines.{decimal, lineOf, Naming, textAt, Puts, Room, Readable, Lines}
 use Rattle.listing.proofs.Bytes.{puts-both, puts-long, puts-front, text-long}
-use Rattle.listing.proofs.Names.{readable, text-of}
+use Rattle.listing.proofs.Names.{text-of}
 
 pub decimal-long : (x : ℕ) → length (decimal x) ≤ 3
 unfolding decimal

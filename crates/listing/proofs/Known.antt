@@ -1,18 +1,18 @@
 -- Tests 3 and 5 give what lines need: every table function has a name, and it is in the table of names. Assumes nothing.
-use mathlib.Core.Path.{_≡_, refl, sym, ap, _∙_, subst}
-use mathlib.Core.Bool.{Bool, true, false, not, _&&_}
-use mathlib.Core.List.{List, [], _∷_, _++_, append-assoc}
+use mathlib.Core.Path.{_≡_, refl, subst}
+use mathlib.Core.Bool.{true, not, _&&_}
+use mathlib.Core.List.{List, _++_, append-assoc}
 use Prim.Native.Nat.{ℕ, suc, _≤_, _<_}
 use native.Mathlib.Omega.{arith}
 use lib.Dec.{eqb}
-use lib.ListN.{length, getD}
+use lib.ListN.{getD}
 use borrow.Author.Tests.{ltb-true, eqb-false, not-true}
 use Rattle.model.specs.Outcome.{Cells, word}
 use Rattle.model.specs.Table.{NAME, ARGUMENTS, LOCALS, EXPRESSIONS, NAMED, functionHead}
 use Rattle.model.specs.Tree.{Function, flatList, flatBlock, flat}
 use Rattle.model.specs.Module.{Module}
 use Rattle.model.specs.Taped.{Taped}
-use Rattle.model.specs.Carry.{Lays, lays-none, lays-next, Each, each-none, each-next, WellFunction, WellFormed}
+use Rattle.model.specs.Carry.{Lays, lays-next, Each, each-none, each-next, WellFunction, WellFormed}
 use Rattle.model.specs.Initial.{initialised}
 use Rattle.model.specs.Numbers.{Bounds, caps, bound, below, within, ordered, every, outside, inside, sound, soundFunction, numbered}
 use Rattle.model.specs.Names.{field, present, functionNames, named}
@@ -20,7 +20,8 @@ use Rattle.laws.proofs.Lists.{and-split}
 use Rattle.laws.proofs.Tapes.{taped-same}
 use Rattle.gather.specs.Gathering.{Known}
 use Rattle.gather.proofs.Numbered.{functions-sound, passed-known}
-use Rattle.listing.specs.Lines.{nameWord, NamesKnown, Naming, Passed}
+use Rattle.model.specs.Redirect.{nameWord}
+use Rattle.listing.specs.Lines.{NamesKnown, Naming, Passed}
 
 -- ---- in the table
 head-below : (b : Bounds) (h rest : Cells) → Lays functionHead h → within b (h ++ rest) ≡ true → word (getD h 0 (0, 0)) ≤ b .names

@@ -2,29 +2,30 @@
 use mathlib.Core.Path.{_≡_, refl, sym, ap, ap₂, _∙_}
 use mathlib.Core.Bool.{Bool, true, false, _&&_}
 use mathlib.Core.Option.{some}
-use mathlib.Core.List.{List, [], _∷_, _++_, map, append-nil, append-assoc}
-use Prim.Native.Nat.{ℕ, zero, suc, _+_, _*_, _-_, _/_, _%_, _^_, _≤_, _<_}
+use mathlib.Core.List.{List, [], _∷_, _++_, map, append-nil}
+use Prim.Native.Nat.{ℕ, zero, suc, _+_, _*_, _-_, _/_, _%_, _≤_, _<_}
 use native.Mathlib.Nat.{div-add-mod', mod-lt, zero-lt-suc}
 use native.Mathlib.Omega.{arith}
 use lib.Dec.{eqb, ltb}
 use lib.ListN.{length, getD, getElem?, take, drop, replicate, length-append, length-map, length-replicate, take-append-drop}
 use lib.Seq.{slice, length-take-le, take-append-le, drop-append-le}
-use borrow.Author.Tests.{eqb-true, eqb-false, lt-ltb}
+use borrow.Author.Tests.{eqb-true, lt-ltb}
 use Rattle.model.specs.Outcome.{Cells, class, word}
-use Rattle.model.specs.Table.{Row, WORD, PLACE, PAD, TEXT, nameRow, text, More, brings, over, more}
-use Rattle.model.specs.Tree.{Function, flat}
-use Rattle.model.specs.Module.{Module, countAt, offsetAt, HEADER, sections, flatModule, write}
-use Rattle.model.specs.View.{recordAt, recordEnd}
+use Rattle.model.specs.Table.{Row, WORD, PAD, TEXT, nameRow, text, More, brings, over, more}
+use Rattle.model.specs.Tree.{Function}
+use Rattle.model.specs.Module.{Module, countAt, offsetAt, HEADER, sections, flatModule}
+use Rattle.model.specs.View.{recordAt}
 use Rattle.model.specs.FunctionView.{argumentsAt}
 use Rattle.model.specs.Taped.{Taped, Tape}
-use Rattle.model.specs.Carry.{Lays, lays-none, lays-next, Each, WellFunction}
-use Rattle.laws.proofs.Lists.{and-true, and-split}
-use Rattle.laws.proofs.Views.{looked-getD, looked-length, view-length, view-within, view-first, sees-name}
-use Rattle.laws.proofs.FunctionViews.{Part, Stands, part-end, part-right, part-word, part-words, Parts, parts, head-classes, taped-held, taped-write, taped-length, taped-offset, taped-functions, taped-function, taped-part}
+use Rattle.model.specs.Carry.{Lays, lays-none, lays-next}
+use Rattle.laws.proofs.Lists.{and-split}
+use Rattle.laws.proofs.Views.{looked-getD, view-length, view-within, view-first, sees-name}
+use Rattle.laws.proofs.FunctionViews.{Part, part-end, part-right, part-word, part-words, parts, head-classes, taped-held, taped-write, taped-length, taped-offset, taped-functions, taped-function, taped-part, table-least}
 use Rattle.words.specs.Words.{bytesOf}
 use Rattle.words.proofs.Laws.{length-bytesOf}
-use Rattle.gather.proofs.Whole.{found, each-found, table-least, offsets}
-use Rattle.listing.specs.Lines.{nameText, nameWord, nameIn, nameOf, NamesKnown, Naming, textAt, Readable}
+use Rattle.gather.proofs.Whole.{found, each-found, offsets}
+use Rattle.model.specs.Redirect.{nameWord}
+use Rattle.listing.specs.Lines.{nameText, nameIn, nameOf, NamesKnown, Naming, textAt, Readable}
 
 -- ---- the shape of a name's record
 short? : Row → Bool

@@ -1,7 +1,7 @@
 -- The order of a module's functions can be printed: its numbers are those of table functions. Assumes nothing.
-use mathlib.Core.Path.{_≡_, refl, sym, ap, _∙_}
+use mathlib.Core.Path.{_≡_, refl, sym, _∙_}
 use mathlib.Core.Logic.{_⊎_, inl, inr, ⊎-elim}
-use mathlib.Core.Bool.{Bool, true}
+use mathlib.Core.Bool.{Bool}
 use mathlib.Core.List.{List, [], _∷_}
 use Prim.Native.Nat.{ℕ, zero, suc, _≤_, _<_}
 use native.Mathlib.Omega.{arith}
@@ -9,9 +9,9 @@ use lib.Dec.{eqb, ltb}
 use lib.ListN.{length, getD, take, List·getD-eq-default}
 use lib.Seq.{getD-take}
 use borrow.Author.Tests.{eq-eqb, ltb-true, ltb-false}
-use Rattle.model.specs.Module.{Module, countAt}
-use Rattle.model.specs.Taped.{Taped, Tape}
-use Rattle.model.specs.Calls.{In, here, later, keep, times, ordered, order}
+use Rattle.model.specs.Module.{countAt}
+use Rattle.model.specs.Taped.{Tape}
+use Rattle.model.specs.Calls.{In, here, later, ordered, order}
 use Rattle.model.specs.Callees.{calls, orderOf}
 use Rattle.calls.specs.Placing.{shown}
 use Rattle.calls.specs.declared.Ordered.{Ordered}

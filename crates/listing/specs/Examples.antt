@@ -1,14 +1,13 @@
 -- Lines by example, computed. Assumes nothing.
 use mathlib.Core.Path.{_≡_, refl}
-use mathlib.Core.List.{List, [], _∷_}
-use mathlib.Core.Option.{none}
+use mathlib.Core.List.{[], _∷_}
 use Prim.Native.Nat.{ℕ}
-use Rattle.model.specs.Outcome.{Cells}
 use Rattle.model.specs.Table.{WORD, SPAN, UPTO, NAME, PAD, TEXT}
 use Rattle.model.specs.Tree.{Function, end}
 use Rattle.model.specs.Module.{Module}
 use Rattle.words.specs.Words.{bytesOf}
-use Rattle.listing.specs.Lines.{decimal, nameText, nameWord, nameIn, nameOf, lineOf}
+use Rattle.model.specs.Redirect.{nameWord}
+use Rattle.listing.specs.Lines.{decimal, nameText, nameIn, nameOf, lineOf}
 
 abbrev function : ℕ → Function
 function w = record { head = (NAME, w) ∷ (SPAN, 0) ∷ (UPTO, 0) ∷ []; arguments = []; result = []; locals = []; exprs = []; named = []; body = end }

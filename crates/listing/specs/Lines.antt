@@ -4,7 +4,7 @@ use mathlib.Core.Path.{_≡_}
 use mathlib.Core.Bool.{true, cond}
 use mathlib.Core.Option.{Option, none, some}
 use mathlib.Core.List.{List, [], _∷_, _++_, map}
-use Prim.Native.Nat.{ℕ, zero, suc, _+_, _*_, _-_, _/_, _%_, _≤_, _<_}
+use Prim.Native.Nat.{ℕ, _+_, _*_, _-_, _/_, _%_, _≤_, _<_}
 use lib.Dec.{ltb}
 use lib.ListN.{length, getD, getElem?, take, drop}
 use lib.Seq.{sets}
@@ -17,6 +17,7 @@ use Rattle.model.specs.Carry.{Each}
 use Rattle.model.specs.Numbers.{numbered}
 use Rattle.model.specs.Names.{named}
 use Rattle.words.specs.Words.{bytesOf}
+use Rattle.model.specs.Redirect.{nameWord}
 
 -- ---- bytes
 -- the decimal digits of a number below 1,000
@@ -29,10 +30,6 @@ decimal x =
 unfoldable pub nameText : Cells → List ℕ
 nameText [] = []
 nameText (c ∷ cs) = take (word c) (bytesOf (map word cs))
-
--- "an optional number is 0 for none, else the number plus 1; a name is optional in this form"
-unfoldable pub nameWord : Function → ℕ
-nameWord f = word (getD (f .head) 0 (0, 0))
 
 -- the name of table function s
 unfoldable pub nameIn : List Cells → Option Function → List ℕ

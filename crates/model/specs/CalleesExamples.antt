@@ -1,14 +1,14 @@
 -- Callees and orders by example, computed: document 01's P5, P6, P9 and P12 as modules, and Calls in every place of a body. Assumes nothing.
 use mathlib.Core.Path.{_≡_, refl}
-use mathlib.Core.Bool.{true, false}
+use mathlib.Core.Bool.{false}
 use mathlib.Core.List.{List, [], _∷_}
 use mathlib.Core.Option.{none, some}
 use Prim.Native.Nat.{ℕ}
 use Rattle.model.specs.Table.{VALUE}
-use Rattle.model.specs.Tree.{Stmt, block, branch, switch, loop, break, continue, return, call, end, _then_, nomore, _also_, case, Range, Function}
+use Rattle.model.specs.Tree.{Stmt, block, branch, switch, loop, break, return, call, end, _then_, nomore, _also_, case, Range, Function}
 use Rattle.model.specs.Module.{Module}
 use Rattle.model.specs.Calls.{numbers, any, keep, free, held, round, rounds, ordered, ring, answer, order}
-use Rattle.model.specs.Callees.{calleesS, calleesB, callees, calleesAt, calls, orderOf}
+use Rattle.model.specs.Callees.{calleesS, callees, calleesAt, calls, orderOf}
 use Rattle.model.specs.SampleBodies.{literal, called, does, evals, function}
 
 -- a Call of f, without operands or result

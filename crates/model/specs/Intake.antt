@@ -1,6 +1,6 @@
 -- Intake: the six tests in sequence, and the number of the first that fails. Document 01, "Turned back by input": "Each is tested over the whole image before the next."
 use mathlib.Core.Path.{_≡_}
-use mathlib.Core.Bool.{Bool, true, false}
+use mathlib.Core.Bool.{true, false}
 use mathlib.Core.List.{List}
 use Prim.Native.Nat.{ℕ}
 use Rattle.model.specs.Outcome.{Laid, laid, bad, strange}

@@ -1,11 +1,11 @@
 -- The image as a whole: header, sections, tables of records, and the tree of a module. Document 01, "The image"; refusals 1 and 2.
 use mathlib.Core.Bool.{Bool, true, false, _&&_}
 use mathlib.Core.List.{List, [], _∷_, _++_, map}
-use Prim.Native.Nat.{ℕ, zero, suc, _+_, _*_, _-_}
+use Prim.Native.Nat.{ℕ, suc, _+_, _*_, _-_}
 use lib.Dec.{eqb, leb}
 use lib.ListN.{length, getD, take, drop}
 use lib.Seq.{slice}
-use Rattle.model.specs.Outcome.{Cell, Cells, word, Outcome, fits, misfit, unknown, _⟫_, Laid, laid, bad, strange, exact, both, mapL}
+use Rattle.model.specs.Outcome.{Cells, word, Outcome, fits, _⟫_, Laid, laid, bad, exact, both, mapL}
 use Rattle.model.specs.Table.{Row, OPT-TYPE, KEY, TYPE, PLACE, nameRow, typeRow, constantRow, overrideRow, globalRow, expressionRow, run}
 use Rattle.model.specs.Tree.{Function, Entry, flat, flatEntry, flatAll, rows, functionAt, entryAt}
 

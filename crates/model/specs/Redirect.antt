@@ -6,7 +6,7 @@ use mathlib.Core.Option.{Option, none, some}
 use Prim.Native.Nat.{ℕ, zero, suc}
 use lib.Dec.{eqb, ltb}
 use lib.ListN.{length, getD}
-use Rattle.model.specs.Outcome.{Cells, word}
+use Rattle.model.specs.Outcome.{word}
 use Rattle.model.specs.Table.{FUNCTION, CALLEE}
 use Rattle.model.specs.Tree.{Function, Entry, end}
 use Rattle.model.specs.Module.{Module}

@@ -1,18 +1,15 @@
 -- Redirecting by example: where calls stay and where they change, and each refusal. One table, one theorem; P7 and P8 are in Marked.antt.
 use mathlib.Core.Path.{_≡_, refl}
-use mathlib.Core.Bool.{Bool, true, false, _&&_, _||_, cond, not}
-use mathlib.Core.List.{List, [], _∷_, _++_, map}
-use mathlib.Core.Option.{Option, none, some}
+use mathlib.Core.List.{List, [], _∷_, map}
+use mathlib.Core.Option.{none, some}
 use Prim.Native.Nat.{ℕ, suc}
-use lib.Dec.{eqb}
-use lib.ListN.{length, getD}
-use Rattle.model.specs.Outcome.{Cells, class, word}
-use Rattle.model.specs.Table.{WORD, SPAN, UPTO, NAME, TYPE, CALLEE, FUNCTION, OPT-TYPE, PAD, TEXT, RETURNS, binding}
+use Rattle.model.specs.Outcome.{Cells}
+use Rattle.model.specs.Table.{WORD, SPAN, UPTO, NAME, TYPE, OPT-TYPE, PAD, TEXT, RETURNS}
 use Rattle.model.specs.Tree.{Block, call, end, _then_, Range, Function, Entry, optOf, wordOf, kindOf, sizeB, sizeC, flatAll, flatList, flatX, flatS, flatBlock, flat}
 use Rattle.model.specs.Module.{Module}
 use Rattle.model.specs.Carry.{carryCell, carryOpt, carryRange, carryS, carryFunction, carryEntry}
 use Rattle.model.specs.SampleBodies.{does, called}
-use Rattle.model.specs.Redirect.{nameWord, find, omitted, allBelow, argumentTypes, agree, typeBehind, resultType, same, redirecting, redirectFn, redirectEntry, stays, redirectFns, withFunctions, withEntries, redirect, Answer, redirected, outside, noOriginal, noReplacement, argumentsDiffer, resultsDiffer, refusal, nothing, function, compared, withReplacement, withOriginal, redirectFunction}
+use Rattle.model.specs.Redirect.{nameWord, find, omitted, allBelow, argumentTypes, agree, typeBehind, resultType, same, redirecting, redirectFn, redirectEntry, stays, redirectFns, withFunctions, withEntries, redirect, redirected, refusal, nothing, function, compared, withReplacement, withOriginal, redirectFunction}
 
 -- a function by its name number, argument types, result, expressions and body
 abbrev pub made : ℕ → List ℕ → Cells → List Cells → Block Range → Function

@@ -1,12 +1,12 @@
 -- The classes of words and the one field table. A symbol stands for one word and for what that word brings; its class is the symbol itself.
 -- Document 01, "Types, constants, overrides, globals", "Expressions", "Statements", "Functions and entry points".
-use mathlib.Core.Bool.{Bool, true, false}
+use mathlib.Core.Bool.{true, false}
 use mathlib.Core.List.{List, [], _∷_, _++_}
 use mathlib.Core.Option.{Option, none, some}
 use Prim.Native.Nat.{ℕ, zero, suc, _+_, _-_, _/_, _%_, _^_}
 use lib.Dec.{eqb, ltb, leb}
 use lib.ListN.{getElem?, getD, replicate}
-use Rattle.model.specs.Outcome.{Cell, Cells, Outcome, fits, misfit, unknown, mapO}
+use Rattle.model.specs.Outcome.{Cells, Outcome, fits, misfit, unknown, mapO}
 
 -- ---- classes 1 to 79: a code below the class
 -- ---- plain classes: one word

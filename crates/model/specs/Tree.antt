@@ -1,12 +1,12 @@
 -- The syntax tree of functions, its flat list of cells, and how it is read. The tree holds nothing that can be computed: counts, lengths and kinds come from `flat`.
 -- Document 01, "Statements" and "Functions and entry points".
-use mathlib.Core.Bool.{Bool, true, false}
+use mathlib.Core.Bool.{true, false}
 use mathlib.Core.List.{List, [], _∷_, _++_, map}
 use mathlib.Core.Option.{Option, none, some}
 use Prim.Native.Nat.{ℕ, zero, suc}
 use lib.Dec.{eqb, leb}
 use lib.ListN.{length, getElem?}
-use Rattle.model.specs.Outcome.{Cell, Cells, word, Outcome, fits, misfit, unknown, _⟫_, eat, mapO}
+use Rattle.model.specs.Outcome.{Cells, Outcome, fits, misfit, unknown, _⟫_, eat}
 use Rattle.model.specs.Table.{Row, SPAN, UPTO, CALLEE, EXPR, OPT-EXPR, FROM, TO, OPT-RESULT, OPERANDS, ARGUMENTS, LOCALS, EXPRESSIONS, NAMED, VALUE, RETURNS, BLOCK, CASES, LENGTH, STMT-KIND, Shape, sEmit, sBlock, sIf, sSwitch, sLoop, sBreak, sContinue, sReturn, sKill, sCall, sEffect, statements, counted, limit, functionHead, entryHead, run}
 
 -- ---- the tree; E is what an Emit holds: a range in an image, the list of what it evaluates in a walk

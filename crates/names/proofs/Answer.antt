@@ -15,13 +15,13 @@ use Rattle.model.specs.Module.{Module, countAt, offsetAt, flatModule, write}
 use Rattle.model.specs.View.{tables, recordAt}
 use Rattle.model.specs.Taped.{Taped}
 use Rattle.model.specs.Between.{between}
-use Rattle.model.specs.Carry.{Lays, lays-next, Each, each-none, each-next}
+use Rattle.model.specs.Carry.{Lays, lays-next, Each}
 use Rattle.model.specs.Names.{field, present, distinct, differ, functionsNamed, entriesNamed, functionNames, entryNames, named, NumbersFew, Numbered}
 use Rattle.laws.proofs.Plain.{plain?}
 use Rattle.laws.proofs.Quiet.{Plainly, plain-none, plain-next, plainly}
 use Rattle.laws.proofs.Views.{sees-name, sees-pair, sees-special}
 use Rattle.laws.proofs.Tapes.{taped-same}
-use Rattle.laws.proofs.FunctionViews.{Part, part-end, part-word, part-words, parts, taped-held, taped-length, taped-count, taped-offset, taped-functions, taped-entries, taped-part, taped-function, taped-entry-head}
+use Rattle.laws.proofs.FunctionViews.{Part, part-end, part-word, part-words, parts, taped-held, taped-length, taped-count, taped-offset, taped-functions, taped-entries, taped-part, taped-function, taped-entry-head, looked-each}
 use Rattle.laws.proofs.Betweens.{table-between, table-count, record-offset, record-part}
 use Rattle.names.specs.Passes.{listing, placeOf, numberAt, Placed, nameAt, Spelled, NONE, marking, Small}
 use Rattle.names.proofs.Marks.{functions-are, entries-are, functions-small, entries-small}
@@ -70,11 +70,6 @@ name-words : {r : Cells} → Lays nameRow r → 0 < length r
 unfolding nameRow
 name-words (lays-next e l) = omega arith
 
-each-looked : {A : Type 0} {P : A → Type 0} {l : List A} → Each P l → (j : ℕ) {x : A} → getElem? l j ≡ some x → P x
-each-looked each-none j e = let z : _≡_ {A = ℕ} 0 1 = cc in absurd (omega arith)
-each-looked {P} (each-next {a} p ps) zero {x} e = let q : a ≡ x = cc in subst P q p
-each-looked (each-next p ps) (suc j) e = each-looked ps j e
-
 some-at : {A : Type 0} (l : List A) (j : ℕ) → j < length l → (x : A) × (getElem? l j ≡ some x)
 some-at [] j h = absurd (omega arith)
 some-at (x ∷ l) zero h = (x, refl)
@@ -108,7 +103,7 @@ module _ {words tags : List ℕ} {n : ℕ} {m : Module} (t : Taped words tags n 
   -- ---- entry points
   entry-head-first : (j : ℕ) (p : Entry) → getElem? (m .entries) j ≡ some p → First NAME (p .head)
   unfolding entryHead plain?
-  entry-head-first j p e = entry-first (plainly (each-looked (t .well .entries-ok .each) j e .head-ok) refl)
+  entry-head-first j p e = entry-first (plainly (looked-each (t .well .entries-ok .each) j e .head-ok) refl)
 
   entry-number : (j : ℕ) (p : Entry) → getElem? (m .entries) j ≡ some p → numberAt words 7 j ≡ field NAME (p .head)
   unfolding numberAt placeOf
@@ -122,7 +117,7 @@ module _ {words tags : List ℕ} {n : ℕ} {m : Module} (t : Taped words tags n 
   -- ---- keys
   pair-first : (j : ℕ) (p : Cells) → getElem? (m .special .pairs) j ≡ some p → First KEY p × (length p ≡ 2)
   unfolding plain?
-  pair-first j p e = key-first (plainly (each-looked (t .well .pairs-ok .each) j e) refl)
+  pair-first j p e = key-first (plainly (looked-each (t .well .pairs-ok .each) j e) refl)
 
   pair-part : (j : ℕ) (p : Cells) → getElem? (m .special .pairs) j ≡ some p → Part (flatModule m) (offsetAt 8 words + 3 + 2 * j) (offsetAt 8 words + 5 + 2 * j) p
   pair-part j p e =
@@ -178,7 +173,7 @@ module _ {words tags : List ℕ} {n : ℕ} {m : Module} (t : Taped words tags n 
   placed-names =
       placed-at 0 (omega arith) λ j i.
       let x = some-at (m .names) j (omega (arith, table-count t 0 (omega arith))) in
-      starts-in (taped-part t (omega arith) (sees-name m refl j (x .0) (x .1))) (name-words (each-looked (t .well .names-ok .each) j (x .1)))
+      starts-in (taped-part t (omega arith) (sees-name m refl j (x .0) (x .1))) (name-words (looked-each (t .well .names-ok .each) j (x .1)))
 
   placed-pairs : Placed words 8
   unfolding placeOf

@@ -7,18 +7,16 @@ use Prim.Native.Nat.{ℕ, zero, suc, _+_, _^_, _≤_, _<_}
 use native.Mathlib.Numerals.{add-one}
 use native.Mathlib.Omega.{arith}
 use lib.Dec.{ltb, leb}
-use lib.ListN.{getD, set, take, length-take, drop-of-length-le}
-use lib.Seq.{slice, slice-cons}
+use lib.ListN.{getD, set}
+use lib.Seq.{slice-cons}
 use borrow.Author.Tests.{lt-ltb, le-ltb, eq-eqb, ne-eqb, not-true, not-false}
 use Rattle.model.specs.Outcome.{Cells}
 use Rattle.model.specs.Module.{countAt}
 use Rattle.model.specs.Numbers.{Bounds, caps, bound, below, within, rising, ordered}
+use Rattle.laws.proofs.Betweens.{slice-none}
 use Rattle.numbers.specs.Ranges.{Long, paired, between, cap, upTo, table, codes, headed, owned, Ranged, Checked, Owned}
 
 -- ---- the cells between two places
-slice-none : (i end : ℕ) (l : List ℕ) → end ≤ i → slice i end l ≡ []
-slice-none i end l h = drop-of-length-le (take end l) {i = i} (omega (arith, length-take end l))
-
 pub between-none : (words tags : List ℕ) (i end : ℕ) → end ≤ i → between words tags i end ≡ []
 unfolding between paired
 between-none words tags i end h = rw (slice-none i end tags h)

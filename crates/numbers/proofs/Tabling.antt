@@ -5,7 +5,7 @@ use mathlib.Core.List.{List, [], _∷_, _++_, map}
 use Prim.Native.Nat.{ℕ, suc, _+_, _*_, _^_, _≤_, _<_}
 use native.Mathlib.Numerals.{add-one}
 use native.Mathlib.Omega.{arith}
-use lib.ListN.{length, getD, drop, length-append}
+use lib.ListN.{length, getD, drop}
 use lib.Seq.{drop-cons, drop-length}
 use borrow.Author.Tests.{eq-eqb, ne-eqb, not-true, not-false}
 use Rattle.model.specs.Outcome.{Cells, class, word}
@@ -16,9 +16,8 @@ use Rattle.model.specs.View.{tables, recordAt, recordEnd}
 use Rattle.model.specs.Taped.{Taped, Tape}
 use Rattle.model.specs.Operands.{kind, constantKind}
 use Rattle.model.specs.Numbers.{Bounds, caps, bound, below, within, every, outside, constantOnly}
-use Rattle.laws.proofs.Sections.{length-places}
 use Rattle.laws.proofs.Views.{length-write, view-rising, view-next, view-within, view-last, view-section, view-table, view-records, sees-names, sees-types, sees-constants, sees-overrides, sees-globals, sees-exprs, sees-functions, sees-special, sees-expr}
-use Rattle.laws.proofs.FunctionViews.{Held, Part, part-words, part-tags, part-word, part-end, each-at, Expression, expression-first, expression-kind, each-expression, looked-at, taped-write, taped-held, taped-count, taped-offset, taped-part}
+use Rattle.laws.proofs.FunctionViews.{Held, Part, part-words, part-tags, part-word, part-end, each-at, Expression, expression-first, expression-kind, each-expression, looked-at, taped-write, taped-held, taped-count, taped-offset, taped-part, table-least}
 use Rattle.numbers.specs.Ranges.{Long, paired, between, table, headed, Ranged, Says, Tabled, tablesFine, kindsFine}
 
 -- ---- the cells between two places are the part that stands there
@@ -54,10 +53,6 @@ within-all b (r ∷ rs) = within-append b r (flatAll rs) ∙ ap (within b r &&_)
 pub within-table : (b : Bounds) (rs : List Cells) → within b (flatTable rs) ≡ every (within b) rs
 unfolding flatTable
 within-table b rs = within-append b (places (length rs) rs) (flatAll rs) ∙ rw (within-places b rs (length rs)) (within-all b rs)
-
-table-least : (rs : List Cells) → length rs ≤ length (flatTable rs)
-unfolding flatTable
-table-least rs = omega (arith, length-append (places (length rs) rs) (flatAll rs), length-places rs (length rs))
 
 -- ---- the sections
 module _ {words tags : List ℕ} {n : ℕ} {m : Module} (t : Taped words tags n m) where

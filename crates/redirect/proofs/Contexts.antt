@@ -1,9 +1,9 @@
 -- What stands around a function, and around the section of entry points, in the cells of a module: cells before and cells behind, which are the same for every function of the same length in its place. So to replace a function is to replace its cells where they stand. Assumes nothing.
 use mathlib.Core.Path.{_≡_, refl, sym, ap, ap₂, _∙_}
 use mathlib.Core.List.{List, [], _∷_, _++_, map, append-assoc}
-use Prim.Native.Nat.{ℕ, zero, suc, _+_, _≤_, _<_}
+use Prim.Native.Nat.{ℕ, zero, suc, _+_, _<_}
 use native.Mathlib.Omega.{arith}
-use lib.ListN.{length, getD, take, drop, set, length-append, length-map, length-set, length-take}
+use lib.ListN.{length, getD, take, drop, set, length-append, length-map, length-set}
 use lib.Seq.{set-getD}
 use Rattle.model.specs.Outcome.{Cells}
 use Rattle.model.specs.Table.{PLACE}
@@ -11,7 +11,7 @@ use Rattle.model.specs.Tree.{Function, Entry, flat, flatEntry, flatAll}
 use Rattle.model.specs.Module.{Module, offsetAt, HEADER, places, flatTable, Section, sections, pairsFrom, bodies, flatModule, write}
 use Rattle.model.specs.View.{tables, recordAt}
 use Rattle.model.specs.Redirect.{withFunctions, withEntries, nothing, function}
-use Rattle.laws.proofs.Sections.{startOf, start-zero, cellsOf, length-places, length-pairs}
+use Rattle.laws.proofs.Sections.{startOf, cellsOf, length-places, length-pairs}
 use Rattle.laws.proofs.Views.{offset-start, at-start}
 
 -- ---- one run of many replaced
@@ -123,7 +123,7 @@ map-set g [] k x = refl
 map-set g (y ∷ l) zero x = refl
 map-set g (y ∷ l) (suc k) x = ap (g y ∷_) (map-set g l k x)
 
-map-at : {A B : Type 0} (g : A → B) (l : List A) (k : ℕ) (a : A) (b : B) → k < length l → getD (map g l) k b ≡ g (getD l k a)
+pub map-at : {A B : Type 0} (g : A → B) (l : List A) (k : ℕ) (a : A) (b : B) → k < length l → getD (map g l) k b ≡ g (getD l k a)
 map-at g [] k a b h = absurd (omega arith)
 map-at g (x ∷ l) zero a b h = refl
 map-at g (x ∷ l) (suc k) a b h = map-at g l k a b (omega arith)

@@ -1,18 +1,17 @@
 -- What redirecting leaves: well-formed modules, cells that differ in Calls and CallResults alone, and nothing at all where the original replaces itself. Assumes nothing.
 use mathlib.Core.Path.{_≡_, refl, sym, ap, ap₂, _∙_}
 use mathlib.Core.Bool.{Bool, true, false, _||_}
-use mathlib.Core.Option.{Option, none, some}
-use mathlib.Core.List.{List, [], _∷_, _++_, map, append-nil}
-use Prim.Native.Nat.{ℕ, zero, suc, _+_}
+use mathlib.Core.List.{List, [], _∷_, _++_, map}
+use Prim.Native.Nat.{ℕ, suc, _+_}
 use native.Mathlib.Omega.{arith}
 use lib.Dec.{eqb}
-use lib.ListN.{length, getD, length-map, length-append}
-use borrow.Author.Tests.{eqb-true, eqb-false, eq-eqb, ne-eqb}
+use lib.ListN.{length, length-map}
+use borrow.Author.Tests.{eqb-true}
 use Rattle.model.specs.Outcome.{Cell, Cells, word, fits}
 use Rattle.model.specs.Table.{PLACE, CALLEE, FUNCTION}
 use Rattle.model.specs.Tree.{Function, Entry, flat, flatEntry, flatAll, functionAt, entryAt}
 use Rattle.model.specs.Module.{Module, places, flatTable, flatModule}
-use Rattle.model.specs.Carry.{carryCell, carryCells, carryFunction, carryEntry, Each, each-none, each-next, WellFunction, WellEntry, WellFormed}
+use Rattle.model.specs.Carry.{carryCell, carryCells, Each, each-none, each-next, WellFunction, WellEntry, WellFormed}
 use Rattle.model.specs.Redirect.{nameWord, redirecting, redirectFn, redirectEntry, stays, redirectFns, withFunctions, withEntries, redirect}
 use Rattle.laws.proofs.Writing.{write-function, write-entry}
 use Rattle.laws.proofs.Carries.{flat-carry-function, flat-carry-entry, carry-well-function, carry-well-entry}

@@ -3,7 +3,7 @@ use mathlib.Core.Path.{_≡_, refl, sym, ap, ap₂, _∙_}
 use mathlib.Core.Bool.{Bool, true, false}
 use mathlib.Core.Option.{Option, none, some}
 use mathlib.Core.List.{List, [], _∷_, _++_}
-use Prim.Native.Nat.{ℕ, suc, _+_, _≤_}
+use Prim.Native.Nat.{ℕ, _+_}
 use native.Mathlib.Omega.{arith}
 use lib.ListN.{length, take, drop, take-append-drop}
 use lib.Seq.{sets, length-take-le}
@@ -13,7 +13,7 @@ use Rattle.model.specs.Module.{Module, write}
 use Rattle.model.specs.Taped.{Taped, Tape}
 use Rattle.model.specs.Redirect.{find, allBelow, argumentTypes, agree, resultType, same, redirect, Answer, redirected, outside, noOriginal, noReplacement, argumentsDiffer, resultsDiffer, after, function, compared, withReplacement, withOriginal, redirectFunction}
 use Rattle.laws.proofs.FunctionViews.{taped-write}
-use Rattle.redirect.specs.Passes.{Told, both, refused, shown, told, Tests, Turns, redirectedBy, Redirects}
+use Rattle.redirect.specs.Passes.{both, refused, shown, told, Tests, Turns, redirectedBy, Redirects}
 use Rattle.redirect.specs.declared.Redirected.{Redirected}
 use Rattle.redirect.specs.declared.Redirected.the-variants.{Done, Outside, NoOriginal, NoReplacement, ArgumentsDiffer, ResultsDiffer}
 use Rattle.redirect.proofs.Redirected.{the-type}

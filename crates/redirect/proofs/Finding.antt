@@ -1,15 +1,15 @@
 -- Finding a function by its name, and comparing two functions. Assumes nothing.
 use mathlib.Core.Path.{_≡_, refl, sym, ap, ap₂, _∙_}
 use mathlib.Core.Bool.{Bool, true, false, _&&_}
-use mathlib.Core.Option.{Option, none, some}
-use mathlib.Core.List.{List, [], _∷_, map}
+use mathlib.Core.Option.{none, some}
+use mathlib.Core.List.{List, [], _∷_}
 use Prim.Native.Nat.{ℕ, zero, suc, _+_, _*_, _-_, _≤_, _<_}
 use native.Mathlib.Numerals.{add-one}
 use native.Mathlib.Omega.{arith}
 use lib.Dec.{eqb}
 use lib.ListN.{length, getD, drop}
 use lib.Seq.{drop-cons}
-use borrow.Author.Tests.{eqb-true, eq-eqb, ne-eqb}
+use borrow.Author.Tests.{eq-eqb, ne-eqb}
 use mir.Val.{Fits}
 use mir.Syntax.{w32, w64}
 use Rattle.model.specs.Tree.{Function}
@@ -19,10 +19,8 @@ use Rattle.model.specs.FunctionView.{returnsAt}
 use Rattle.model.specs.Taped.{Taped, Tape}
 use Rattle.model.specs.Redirect.{nameWord, find, argumentTypes, agree, resultType, same, nothing, function, compared}
 use Rattle.redirect.specs.Passes.{foundAt, shown, told, Finds, Agrees, Returns, Compares}
-use Rattle.redirect.specs.declared.Found.{Found}
 use Rattle.redirect.specs.declared.Found.the-variants.{At, Nothing}
 use Rattle.redirect.specs.declared.Redirected.the-variants.{Done, ArgumentsDiffer, ResultsDiffer}
-use Rattle.redirect.proofs.Leaves.{drop-all}
 use Rattle.redirect.proofs.Places.{many, few, start-in, name-is, count-in, types-many, type-in, type-is, result-in, result-type-in, result-few, result-none, result-some}
 use Rattle.calls.specs.declared.FunctionHandle.{FunctionHandle}
 

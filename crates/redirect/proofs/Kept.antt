@@ -1,13 +1,12 @@
 -- Tests 4 and 5 and what initialisers reach: what looks at neither Calls nor CallResults stays the same. Assumes nothing.
-use mathlib.Core.Path.{_≡_, refl, sym, ap, ap₂, _∙_}
+use mathlib.Core.Path.{_≡_, refl, ap, ap₂, _∙_}
 use mathlib.Core.Bool.{Bool, true, false, _&&_, not}
-use mathlib.Core.Option.{Option, none, some}
+use mathlib.Core.Option.{some}
 use mathlib.Core.List.{List, [], _∷_, _++_, map}
 use Prim.Native.Nat.{ℕ, zero, suc}
-use native.Mathlib.Omega.{arith}
-use lib.Dec.{eqb, ltb}
+use lib.Dec.{eqb}
 use lib.ListN.{length, getD, replicate, length-map}
-use Rattle.model.specs.Outcome.{Cells, class, word}
+use Rattle.model.specs.Outcome.{Cells}
 use Rattle.model.specs.Table.{NAME, NAMED-EXPR, CALLEE, FUNCTION, RESULT, OPT-RESULT, LOCAL-INIT}
 use Rattle.model.specs.Tree.{Function, Entry, optOf}
 use Rattle.model.specs.Module.{Module}
@@ -15,7 +14,7 @@ use Rattle.model.specs.Carry.{carryCell, carryCells, carryFunction, carryEntry}
 use Rattle.model.specs.Operands.{optional, operand, opsOf, resultOf, functionOf, kind, ops, kindAt, standing, standingKind, constantKind}
 use Rattle.model.specs.Initial.{Marks, initsOf, roots, mark, unmarked, readBy, close, reachedMarks, moving, initials, constantAt, initialised}
 use Rattle.model.specs.Lower.{below, operandsLower, functionsLower, entriesLower, lower}
-use Rattle.model.specs.Names.{field, present, distinct, expressionsNamed, functionsNamed, entriesNamed, functionNames, entryNames, named}
+use Rattle.model.specs.Names.{field, expressionsNamed, functionsNamed, entriesNamed, functionNames, entryNames, named}
 use Rattle.model.specs.Redirect.{nameWord, redirecting, redirectFn, redirectEntry, stays, redirectFns, withFunctions, withEntries, redirect}
 use Rattle.redirect.proofs.Differing.{by-class}
 

@@ -1,5 +1,5 @@
 -- Names, lists of names, and one word. Assumes nothing.
-use mathlib.Core.Path.{_≡_, refl, sym, ap, ap₂, _∙_}
+use mathlib.Core.Path.{_≡_, refl, sym, _∙_}
 use mathlib.Core.Bool.{Bool, true, false, _&&_, _||_}
 use mathlib.Core.List.{List, [], _∷_}
 use Prim.Native.Nat.{ℕ, zero, suc, _+_, _*_, _-_, _≤_, _<_}
@@ -7,11 +7,10 @@ use native.Mathlib.Numerals.{add-one}
 use native.Mathlib.Omega.{arith}
 use lib.Dec.{eqb, ltb}
 use lib.ListN.{length, getD, drop}
-use lib.Seq.{drop-cons, drop-length}
+use lib.Seq.{drop-cons}
 use mir.Val.{Fits}
 use mir.Syntax.{w64}
 use borrow.Author.Tests.{eqb-true, eqb-false, eq-eqb, ne-eqb, lt-ltb, le-ltb}
-use Rattle.model.specs.Table.{CALLEE, FUNCTION}
 use Rattle.model.specs.Redirect.{omitted, allBelow, redirecting, stays}
 
 -- ---- is_named

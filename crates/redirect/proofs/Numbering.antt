@@ -1,25 +1,25 @@
 -- Test 3: the replacement is a table function, so every number stays in range; and no Emit's start stands in front of a Call's or a CallResult's function. Assumes nothing.
 use mathlib.Core.Path.{_≡_, refl, sym, ap, ap₂, _∙_}
 use mathlib.Core.Bool.{Bool, true, false, _&&_, _||_, not}
-use mathlib.Core.Option.{Option, none, some}
+use mathlib.Core.Option.{some}
 use mathlib.Core.List.{List, [], _∷_, _++_, map}
 use Prim.Native.Nat.{ℕ, zero, suc, _<_}
 use native.Mathlib.Omega.{arith}
 use lib.Dec.{eqb, ltb, leb}
 use lib.ListN.{length, getElem?, length-map}
 use borrow.Author.Tests.{eqb-true, lt-ltb}
-use Rattle.model.specs.Outcome.{Cell, Cells, class, word}
-use Rattle.model.specs.Table.{Row, WORD, SPAN, UPTO, CALLEE, FUNCTION, EXPR, OPT-EXPR, FROM, TO, OPT-RESULT, PAD, OPERANDS, ARGUMENTS, LOCALS, EXPRESSIONS, NAMED, VALUE, ATOMIC, RETURNS, BLOCK, CASES, LENGTH, STMT-KIND, EXPR-KIND, binding, Shape, sEmit, sBlock, sIf, sSwitch, sLoop, sBreak, sContinue, sReturn, sKill, sCall, sEffect, values, atomics, results, statements, functionHead, entryHead, counted, variants, repeat, brings, variant, more}
-use Rattle.model.specs.Tree.{Stmt, Form, Block, Cases, Case, stmt, emit, block, branch, switch, loop, break, continue, return, kill, call, effect, end, _then_, nomore, _also_, case, Range, Function, Entry, flatS, flatF, flatB, flatK, flatC, flatX, flatAll, flatList, flatBlock, flat, flatEntry}
+use Rattle.model.specs.Outcome.{Cell, Cells, class}
+use Rattle.model.specs.Table.{Row, EXPR, FROM, TO, PAD, VALUE, ATOMIC, RETURNS, Shape, sEmit, sBlock, sIf, sSwitch, sLoop, sBreak, sContinue, sReturn, sKill, sCall, sEffect, values, atomics, results, statements, functionHead, entryHead, counted, variants, brings, more}
+use Rattle.model.specs.Tree.{Stmt, Form, Block, Cases, Case, _then_, _also_, Range, Function, Entry, flatS, flatF, flatB, flatK, flatC, flatX, flatAll, flatList, flatBlock, flat, flatEntry}
 use Rattle.model.specs.Module.{Module}
 use Rattle.model.specs.Carry.{carryCell, carryCells, carryFunction, carryEntry, Lays, lays-none, lays-next, Each, each-none, each-next, OkS, OkF, OkB, OkBs, OkK, OkC, ok-stmt, ok-emit, ok-block, ok-branch, ok-switch, ok-loop, ok-break, ok-continue, ok-return, ok-kill, ok-call, ok-effect, ok-deeper, ok-end, ok-then, ok-case, ok-nomore, ok-also, WellFunction, WellEntry, WellFormed}
 use Rattle.model.specs.Initial.{initialised}
 use Rattle.model.specs.Numbers.{Bounds, bound, caps, below, within, rising, ordered, every, outside, inside, sound, soundFunction, soundEntry, constantOnly, numbered}
 use Rattle.model.specs.Redirect.{nameWord, redirecting, redirectFn, redirectEntry, stays, redirectFns, withFunctions, withEntries, redirect}
 use Rattle.laws.proofs.Lists.{and-true, and-split}
-use Rattle.laws.proofs.Plain.{plain?, plain-more, plain-classes}
+use Rattle.laws.proofs.Plain.{plain-more}
 use Rattle.laws.proofs.Carries.{flat-carry-function, flat-carry-entry}
-use Rattle.laws.proofs.FunctionViews.{Field, field?, field-not, Expression, expression, each-expression}
+use Rattle.laws.proofs.FunctionViews.{Field, field-not, Expression, expression, each-expression, variant-brings}
 use Rattle.redirect.proofs.Turning.{redirecting-keeps}
 use Rattle.redirect.proofs.Differing.{by-class, by-word, fns-long}
 use Rattle.redirect.proofs.Kept.{turn, pick, initialised-kept}
@@ -104,11 +104,6 @@ unfolding rows?
 rows-at [] k h e = let z : _≡_ {A = ℕ} 0 1 = cc in absurd (omega arith)
 rows-at (x ∷ l) zero {r} h e = let q : x ≡ r = cc in rw q at (and-split (calms? x) (rows? l) h .0)
 rows-at (x ∷ l) (suc k) h e = rows-at l k (and-split (calms? x) (rows? l) h .1) e
-
-variant-brings : (o : Option Row) {xs : Row} → variant o ≡ brings xs → o ≡ some xs
-unfolding variant
-variant-brings none e = cc
-variant-brings (some r) e = cc
 
 at-atomic : (w : ℕ) (xs : Row) → more ATOMIC w ≡ brings xs → calms? xs ≡ true
 unfolding more variants rows? calms? calm? atomics

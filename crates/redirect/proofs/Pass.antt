@@ -1,27 +1,13 @@
 -- The flat pass: what is left to rewrite from word i on is the whole. Assumes nothing.
-use mathlib.Core.Path.{_≡_, refl, sym, ap, _∙_}
-use mathlib.Core.List.{List, [], _∷_, zipWith}
-use Prim.Native.Nat.{ℕ, zero, suc, _+_, _≤_, _<_}
+use mathlib.Core.Path.{_≡_, refl, ap, _∙_}
+use mathlib.Core.List.{List, zipWith}
+use Prim.Native.Nat.{ℕ, suc, _+_, _≤_, _<_}
 use native.Mathlib.Numerals.{add-one}
 use native.Mathlib.Nat.{le-refl}
 use native.Mathlib.Omega.{arith}
 use lib.ListN.{length, getD, set, take, drop, length-set}
 use lib.Seq.{slice, sets, slice-cons, take-set-lt, drop-set-lt}
-
-slice-none : {A : Type 0} (i end : ℕ) (l : List A) → end ≤ i → slice i end l ≡ []
-slice-none i zero [] h = none i
-  where
-    none : {A : Type 0} (i : ℕ) → _≡_ {A = List A} (drop i []) []
-    none zero = refl
-    none (suc i) = refl
-slice-none i zero (x ∷ l) h = none i
-  where
-    none : {A : Type 0} (i : ℕ) → _≡_ {A = List A} (drop i []) []
-    none zero = refl
-    none (suc i) = refl
-slice-none zero (suc end) l h = absurd (omega arith)
-slice-none (suc i) (suc end) [] h = refl
-slice-none (suc i) (suc end) (x ∷ l) h = slice-none i end l (omega arith)
+use Rattle.laws.proofs.Betweens.{slice-none}
 
 slice-set : (i end : ℕ) (l : List ℕ) (v : ℕ) → i < end → slice (suc i) end (set l i v) ≡ slice (suc i) end l
 slice-set i end l v h = ap (drop (suc i)) (take-set-lt end l i v h) ∙ drop-set-lt (suc i) (take end l) i v (le-refl (suc i))

@@ -1,31 +1,24 @@
 -- Where functions stand, and what their words say: starts and ends, names, argument types and result types. Assumes nothing.
-use mathlib.Core.Path.{_≡_, refl, sym, ap, ap₂, _∙_}
-use mathlib.Core.Bool.{Bool, true, false, _&&_}
-use mathlib.Core.Option.{Option, none, some}
-use mathlib.Core.List.{List, [], _∷_, map}
-use Prim.Native.Nat.{ℕ, zero, suc, _+_, _*_, _-_, _^_, _≤_, _<_}
+use mathlib.Core.Path.{_≡_, sym, ap, ap₂, _∙_}
+use mathlib.Core.Bool.{false}
+use mathlib.Core.Option.{none, some}
+use mathlib.Core.List.{List, []}
+use Prim.Native.Nat.{ℕ, suc, _+_, _*_, _-_, _≤_, _<_}
 use native.Mathlib.Numerals.{add-one}
 use native.Mathlib.Omega.{arith}
 use lib.Dec.{eqb}
-use lib.ListN.{length, getD, getElem?, drop, length-map}
-use lib.Seq.{drop-cons}
-use borrow.Author.Tests.{eqb-true, eq-eqb, ne-eqb}
+use lib.ListN.{length, getD, length-map}
+use borrow.Author.Tests.{eq-eqb, ne-eqb}
 use mir.Val.{Fits}
-use mir.Syntax.{w32, w64}
+use mir.Syntax.{w64}
 use Rattle.model.specs.Outcome.{class, word}
-use Rattle.model.specs.Table.{RETURNS, TYPE}
-use Rattle.model.specs.Tree.{Function}
-use Rattle.model.specs.Module.{Module, countAt, offsetAt, endAt, flatModule, write}
+use Rattle.model.specs.Module.{Module, countAt, offsetAt, endAt, flatModule}
 use Rattle.model.specs.View.{recordAt, recordEnd}
 use Rattle.model.specs.FunctionView.{argumentAt, returnsAt, localsAt}
 use Rattle.model.specs.Taped.{Taped, Tape}
 use Rattle.model.specs.Redirect.{nameWord, argumentTypes, typeBehind, resultType, nothing, function}
-use Rattle.laws.proofs.FunctionViews.{Part, part-end, part-word, Stands, Parts, parts, head-classes, arguments-count, argument-part, argument-type, returns-word, returns-bound, returns-zero, returns-one, looked-at, taped-length, taped-count, taped-offset, taped-functions, taped-function, offset-inside}
-
-at-map : {A B : Type 0} (g : A → B) (l : List A) (k : ℕ) (a : A) (b : B) → k < length l → getD (map g l) k b ≡ g (getD l k a)
-at-map g [] k a b h = absurd (omega arith)
-at-map g (x ∷ l) zero a b h = refl
-at-map g (x ∷ l) (suc k) a b h = at-map g l k a b (omega arith)
+use Rattle.laws.proofs.FunctionViews.{part-word, Stands, parts, head-classes, arguments-count, argument-part, argument-type, returns-bound, returns-zero, returns-one, looked-at, taped-length, taped-count, taped-offset, taped-functions, taped-function, offset-inside}
+use Rattle.redirect.proofs.Contexts.{map-at}
 
 -- ---- a function of a module that words and tape hold
 module _ {words tags : List ℕ} {n : ℕ} {m : Module} (t : Taped words tags n m) where
@@ -79,7 +72,7 @@ module _ {words tags : List ℕ} {n : ℕ} {m : Module} (t : Taped words tags n 
       unfolding argumentTypes
       type-is =
           let z : recordAt 6 j words + 5 + 8 * i ≡ argumentAt (recordAt 6 j words) i + 1 = omega arith in
-          ap (λ p. getD words p 0) z ∙ argument-type standing i given ∙ sym (at-map (λ a. word (getD a 1 (0, 0))) (function m j .arguments) i [] 0 given)
+          ap (λ p. getD words p 0) z ∙ argument-type standing i given ∙ sym (map-at (λ a. word (getD a 1 (0, 0))) (function m j .arguments) i [] 0 given)
 
     -- its result
     pub result-in : returnsAt (recordAt 6 j words) words < 16384

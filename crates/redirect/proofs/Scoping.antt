@@ -1,24 +1,22 @@
 -- Test 6: a redirected body, as scope and walks see it, is the body with the functions of its Calls changed, and every rule of the Scope paragraph holds of it again: a Call's result is a CallResult of the same function, since both change together. Assumes nothing.
-use mathlib.Core.Path.{_≡_, refl, sym, ap, ap₂, _∙_}
+use mathlib.Core.Path.{_≡_, refl, ap, ap₂, _∙_}
 use mathlib.Core.Bool.{Bool, true, false, _&&_, _||_}
 use mathlib.Core.Option.{Option, none, some}
 use mathlib.Core.List.{List, [], _∷_, _++_, map}
-use Prim.Native.Nat.{ℕ, zero, suc, _-_}
-use native.Mathlib.Omega.{arith}
+use Prim.Native.Nat.{ℕ, suc, _-_}
 use lib.Dec.{eqb}
 use lib.ListN.{getD}
-use borrow.Author.Tests.{eqb-true, eqb-false, eq-eqb, ne-eqb}
-use Rattle.model.specs.Outcome.{Cells, class, word}
+use borrow.Author.Tests.{eqb-true, eq-eqb}
+use Rattle.model.specs.Outcome.{Cells}
 use Rattle.model.specs.Table.{CALLEE, FUNCTION, EXPR, OPT-EXPR, OPT-RESULT}
-use Rattle.model.specs.Tree.{Stmt, stmt, Form, emit, block, branch, switch, loop, break, continue, return, kill, call, effect, Block, end, _then_, Case, case, Cases, nomore, _also_, Range, Function, Entry, optOf, wordOf}
+use Rattle.model.specs.Tree.{Stmt, stmt, Form, emit, block, branch, switch, loop, break, continue, return, kill, call, effect, Block, end, _then_, Case, case, Cases, nomore, _also_, Range, Function, Entry, optOf}
 use Rattle.model.specs.Module.{Module}
 use Rattle.model.specs.Carry.{carryCell, carryCells, carryOpt, carryRange, carryS, carryF, carryB, carryK, carryC, carryFunction, carryEntry}
 use Rattle.model.specs.Operands.{opsOf, resultOf, functionOf, emittedKind, ops, kindAt, standing}
 use Rattle.model.specs.Initial.{marked, initials}
-use Rattle.model.specs.Scope.{XStmt, XForm, XBlock, XCase, XCases, live, inRange, expandS, expandF, expand, expandK, expandC, Place, inBody, inSwitch, inLoop, inContinuing, shapeS, shapeF, shapeB, shapeK, shapeC, emitted, isOf, callResult, effectResult, kindsS, kindsF, kindsB, kindsK, kindsC, evalsOpt, evalsS, evalsF, evalsB, evalsK, evalsC, distinct, addE, addOpt, addF, addS, topB, holdsS, holdsF, holdsB, holdsK, holdsC, contB, vis, allVis, optVis, okE, okS, okF, okB, okK, okC, allOf, seen, scopedAs, scoped, allScoped, entriesScoped, inScope}
+use Rattle.model.specs.Scope.{XStmt, XForm, XBlock, XCase, XCases, expandS, expandF, expand, expandK, expandC, Place, inBody, inSwitch, inLoop, inContinuing, shapeS, shapeF, shapeB, shapeK, shapeC, emitted, isOf, callResult, effectResult, kindsS, kindsF, kindsB, kindsK, kindsC, evalsOpt, evalsS, evalsF, evalsB, evalsK, evalsC, distinct, addOpt, addF, addS, topB, holdsS, holdsF, holdsB, holdsK, holdsC, contB, vis, allVis, optVis, okE, okS, okF, okB, okK, okC, allOf, seen, scopedAs, scoped, allScoped, entriesScoped, inScope}
 use Rattle.model.specs.Redirect.{nameWord, redirecting, redirectFn, redirectEntry, stays, redirectFns, withFunctions, withEntries, redirect}
 use Rattle.laws.proofs.Lists.{opt-of, and-true, and-split}
-use Rattle.redirect.proofs.Differing.{by-class, by-word}
 use Rattle.redirect.proofs.Kept.{turn, pick, ops-kept, result-kept, kindAt-kept, opsAt-kept, functionAt-is, standing-kept, initials-kept}
 
 module _ (a b : ℕ) where

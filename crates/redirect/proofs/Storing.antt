@@ -1,7 +1,7 @@
 -- The bytes of the image behind its words. Assumes nothing.
-use mathlib.Core.Path.{_≡_, refl, sym, ap, ap₂, _∙_}
-use mathlib.Core.List.{List, [], _∷_, _++_, append-nil}
-use Prim.Native.Nat.{ℕ, _+_, _*_, _≤_}
+use mathlib.Core.Path.{_≡_, refl, sym, ap, _∙_}
+use mathlib.Core.List.{List, [], append-nil}
+use Prim.Native.Nat.{ℕ, _*_, _≤_}
 use native.Mathlib.Omega.{arith}
 use lib.ListN.{length, take, drop, take-append-drop}
 use lib.Seq.{sets, length-sets, length-take-le, take-at}
@@ -11,7 +11,7 @@ use Rattle.model.specs.Redirect.{redirect, Answer, redirected, outside, noOrigi
 use Rattle.laws.proofs.FunctionViews.{taped-write}
 use Rattle.words.specs.Words.{bytesOf}
 use Rattle.words.proofs.Laws.{length-bytesOf}
-use Rattle.redirect.specs.Passes.{both, refused, shown, told, Redirects, imageAfter, Stores}
+use Rattle.redirect.specs.Passes.{both, refused, told, Redirects, imageAfter, Stores}
 use Rattle.redirect.specs.declared.Redirected.{Redirected}
 use Rattle.redirect.proofs.Turning.{sets-middle}
 use Rattle.redirect.proofs.Ending.{Redirecting, answered, Refused, refuses-by, Accepted, accepts}
@@ -34,7 +34,7 @@ sets-all : (vs l : List ℕ) → length vs ≡ length l → sets l 0 vs ≡ vs
 sets-all vs l e = ap (λ x. sets x 0 vs) (sym (append-nil l)) ∙ sets-middle [] vs l [] e ∙ append-nil vs
 
 -- ---- the image that an answer leaves
-image-stays : (image : List ℕ) (x : Answer) (k : ℕ) → told x ≡ refused k → imageAfter image x ≡ image
+pub image-stays : (image : List ℕ) (x : Answer) (k : ℕ) → told x ≡ refused k → imageAfter image x ≡ image
 unfolding imageAfter told
 image-stays image (redirected a b m) k e = let z : _≡_ {A = ℕ} 0 1 = cc in absurd (omega arith)
 image-stays image outside k e = refl

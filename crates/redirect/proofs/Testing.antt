@@ -1,14 +1,13 @@
 -- The tests in sequence. Assumes nothing.
 use mathlib.Core.Path.{_≡_, refl, sym, ap, _∙_}
 use mathlib.Core.Bool.{Bool, true, false}
-use mathlib.Core.Option.{Option, none, some}
-use mathlib.Core.List.{List, [], _∷_}
-use Prim.Native.Nat.{ℕ, _+_, _<_}
+use mathlib.Core.List.{List, _∷_}
+use Prim.Native.Nat.{ℕ, _<_}
 use native.Mathlib.Omega.{arith}
 use lib.ListN.{length, getD}
 use Rattle.model.specs.Module.{Module, countAt}
 use Rattle.model.specs.Taped.{Taped, Tape}
-use Rattle.model.specs.Redirect.{find, allBelow, withReplacement, withOriginal, redirectFunction}
+use Rattle.model.specs.Redirect.{allBelow, withReplacement, withOriginal, redirectFunction}
 use Rattle.laws.proofs.Views.{sees-names}
 use Rattle.laws.proofs.FunctionViews.{taped-count}
 use Rattle.redirect.specs.Passes.{foundAt, shown, told, Finds, Compares, Tests}

@@ -2,27 +2,23 @@
 use mathlib.Core.Path.{_≡_, refl, sym, ap, ap₂, _∙_}
 use mathlib.Core.Bool.{Bool, true, false, _&&_}
 use mathlib.Core.Option.{Option, none, some}
-use mathlib.Core.List.{List, [], _∷_, map}
+use mathlib.Core.List.{List, [], _∷_}
 use Prim.Native.Nat.{ℕ, zero, suc, _+_, _*_, _<_}
 use native.Mathlib.Omega.{arith}
 use lib.Dec.{eqb, leb}
-use lib.ListN.{length, getD, getElem?}
-use Rattle.model.specs.Outcome.{Cells, laid}
-use Rattle.model.specs.Tree.{Function, Entry, flat}
+use lib.ListN.{length, getElem?}
+use Rattle.model.specs.Outcome.{laid}
+use Rattle.model.specs.Tree.{Function, flat}
 use Rattle.model.specs.Module.{Module, read, flatModule, write, sized}
 use Rattle.model.specs.Carry.{carryCells, WellFunction, WellFormed}
-use Rattle.model.specs.Lower.{lower}
-use Rattle.model.specs.Names.{named}
-use Rattle.model.specs.Numbers.{numbered}
-use Rattle.model.specs.Scope.{inScope}
 use Rattle.model.specs.Intake.{tested, verdict, intakeOf, Passes}
 use Rattle.model.specs.Walk.{walk}
-use Rattle.model.specs.Redirect.{nameWord, find, allBelow, argumentTypes, agree, resultType, same, redirecting, redirectFn, redirectEntry, stays, redirectFns, withFunctions, withEntries, redirect, Answer, redirected, outside, noOriginal, noReplacement, argumentsDiffer, resultsDiffer, function, compared, withReplacement, withOriginal, redirectFunction}
+use Rattle.model.specs.Redirect.{nameWord, find, allBelow, argumentTypes, agree, resultType, same, redirecting, redirectFn, stays, redirectFns, withFunctions, withEntries, redirect, redirected, outside, noReplacement, argumentsDiffer, resultsDiffer, function, compared, withReplacement, withOriginal, redirectFunction}
 use Rattle.laws.proofs.Carries.{flat-carry-function}
 use Rattle.laws.proofs.Modules.{write-read}
-use Rattle.laws.proofs.Views.{length-write, view-edition, view-total, looked-getD}
+use Rattle.laws.proofs.Views.{length-write, view-edition, view-total}
 use Rattle.redirect.specs.Claims.{Differs}
-use Rattle.redirect.specs.Passes.{turned, told, both}
+use Rattle.redirect.specs.Passes.{turned, told}
 use Rattle.redirect.proofs.Turning.{redirecting-keeps}
 use Rattle.redirect.proofs.Finding.{find-in}
 use Rattle.redirect.proofs.Ending.{answered}

@@ -5,26 +5,25 @@ use mathlib.Core.List.{List, [], _∷_, _++_, map, zipWith, append-assoc}
 use Prim.Native.Nat.{ℕ, zero, suc, _+_, _≤_, _<_}
 use native.Mathlib.Numerals.{add-one}
 use native.Mathlib.Omega.{arith}
-use lib.Dec.{eqb}
-use lib.ListN.{length, getD, take, drop, set, length-append, length-map, length-set, take-append-drop}
+use lib.ListN.{length, getD, take, drop, set, length-map, length-set, take-append-drop}
 use lib.Seq.{slice, sets, length-sets, set-getD, take-at, drop-at}
-use borrow.Author.Tests.{eqb-true, eq-eqb, ne-eqb}
+use borrow.Author.Tests.{ne-eqb}
 use Rattle.model.specs.Outcome.{Cells, class, word}
-use Rattle.model.specs.Table.{PLACE, CALLEE, FUNCTION}
+use Rattle.model.specs.Table.{CALLEE, FUNCTION}
 use Rattle.model.specs.Tree.{Function, Entry, flat, flatEntry}
-use Rattle.model.specs.Module.{Module, countAt, offsetAt, endAt, flatTable, sections, flatModule, write}
+use Rattle.model.specs.Module.{Module, countAt, offsetAt, flatTable, sections, flatModule, write}
 use Rattle.model.specs.View.{recordAt, recordEnd}
-use Rattle.model.specs.Carry.{Keeps, carryCell, carryCells, carryFunction, carryEntry, Each, each-none, each-next, WellFunction, WellEntry, Tabled, WellFormed}
+use Rattle.model.specs.Carry.{Keeps, carryCell, carryCells, carryEntry, Each, each-none, each-next, WellFunction, WellEntry, WellFormed}
 use Rattle.model.specs.Taped.{Taped, Tape}
-use Rattle.model.specs.Redirect.{nameWord, redirecting, redirectFn, redirectEntry, stays, redirectFns, withFunctions, withEntries, redirect, Answer, redirected, outside, noOriginal, noReplacement, argumentsDiffer, resultsDiffer, after, nothing, function, redirectFunction}
+use Rattle.model.specs.Redirect.{nameWord, redirecting, redirectFn, redirectEntry, stays, redirectFns, withFunctions, withEntries, redirect, nothing, function}
 use Rattle.laws.proofs.Lists.{map-append, map-map, map-same}
 use Rattle.laws.proofs.Carries.{carried-classes, carried-words, flat-carry-function, flat-carry-entry, flat-carry-table, carry-well-function, carry-well-entry}
 use Rattle.laws.proofs.Sections.{slice-middle}
-use Rattle.laws.proofs.Views.{length-write, sees-entries, view-length, sectionOf, view-next, view-within}
-use Rattle.laws.proofs.FunctionViews.{looked-at, taped-write, taped-offset, taped-record, taped-record-end, taped-count, part-end, part-words, part-tags}
+use Rattle.laws.proofs.Views.{length-write, view-length, view-next, view-within}
+use Rattle.laws.proofs.FunctionViews.{taped-write, taped-offset, taped-record, taped-count, part-end}
 use Rattle.redirect.specs.Passes.{Turns, turned, turnOne, turnAll, redirectedBy}
 use Rattle.redirect.proofs.Contexts.{function-before, function-behind, function-in, function-here, function-long, entries-before, entries-behind, entries-in, entries-long}
-use Rattle.redirect.proofs.Places.{many, standing, end-in, start-in, name-is}
+use Rattle.redirect.proofs.Places.{many, standing, end-in, name-is}
 
 -- ---- the map keeps counts, lengths, kinds and offsets
 pub redirecting-keeps : (a b : ℕ) → Keeps (redirecting a b)

@@ -2,14 +2,14 @@
 use mathlib.Core.Path.{_≡_}
 use mathlib.Core.Bool.{Bool, true, false}
 use mathlib.Core.Option.{Option, none, some}
-use mathlib.Core.List.{List, [], _∷_}
-use Prim.Native.Nat.{ℕ, zero, suc, _<_}
-use lib.ListN.{getD, drop, set}
+use mathlib.Core.List.{List}
+use Prim.Native.Nat.{ℕ}
+use lib.ListN.{drop, set}
 use lib.Seq.{sets}
 use Rattle.model.specs.Tree.{Function}
-use Rattle.model.specs.Module.{Module, countAt, write}
+use Rattle.model.specs.Module.{Module, write}
 use Rattle.model.specs.Taped.{Taped}
-use Rattle.model.specs.Redirect.{nameWord, find, argumentTypes, agree, resultType, same as sameType, redirectFn, stays, redirectFns, withFunctions, redirect, Answer, redirected, outside, noOriginal, noReplacement, argumentsDiffer, resultsDiffer, after, nothing, function, compared, redirectFunction}
+use Rattle.model.specs.Redirect.{nameWord, find, argumentTypes, agree, resultType, same as sameType, redirectFn, stays, redirectFns, withFunctions, redirect, Answer, redirected, outside, noOriginal, noReplacement, argumentsDiffer, resultsDiffer, after, function, compared, redirectFunction}
 use Rattle.words.specs.Words.{bytesOf}
 use Rattle.redirect.specs.declared.Found.{Found}
 use Rattle.redirect.specs.declared.Found.the-variants.{At, Nothing}

@@ -1,24 +1,21 @@
 -- A block, statement by statement: what is left from here is the whole. Assumes nothing.
 use mathlib.Core.Path.{_≡_, refl, sym, ap, _∙_, subst}
-use mathlib.Core.Logic.{_⊎_, inl, inr, ⊎-elim}
-use mathlib.Core.Bool.{Bool, true, false, _&&_, _||_, not}
-use mathlib.Core.List.{List, [], _∷_, _++_}
-use mathlib.Core.Option.{Option, none, some}
-use Prim.Native.Nat.{ℕ, zero, suc, _+_, _-_, _^_, _≤_, _<_}
-use native.Mathlib.Numerals.{add-one}
+use mathlib.Core.Logic.{_⊎_, inl, inr}
+use mathlib.Core.Bool.{Bool, true, false, _||_}
+use mathlib.Core.List.{List, []}
+use Prim.Native.Nat.{ℕ, _+_, _-_, _^_, _≤_, _<_}
 use native.Mathlib.Omega.{arith}
-use lib.Dec.{eqb, ltb, leb}
 use lib.ListN.{length, getD, length-append}
-use Rattle.model.specs.Outcome.{Cell, Cells}
-use Rattle.model.specs.Tree.{Stmt, stmt, Form, emit, block, branch, switch, loop, break, continue, return, kill, call, effect, Block, end, _then_, Range, flatS, flatB, flatBlock, DEPTH}
-use Rattle.model.specs.Carry.{OkS, OkB, OkBs}
-use Rattle.model.specs.Scope.{Place, XBlock, XStmt, expandS, expandF, expand, evalsS, evalsB, has, addE, addS, addF, topB, holdsS, holdsF, holdsB, contB}
+use Rattle.model.specs.Outcome.{Cells}
+use Rattle.model.specs.Tree.{Stmt, stmt, Form, emit, block, branch, switch, loop, break, continue, return, kill, call, effect, Block, end, _then_, Range, flatS, flatB}
+use Rattle.model.specs.Carry.{OkBs}
+use Rattle.model.specs.Scope.{Place, XBlock, expandS, expandF, expand, evalsS, evalsB, has, addE, addS, addF, holdsS, holdsF, holdsB, contB}
 use Rattle.scope.specs.Fine.{keepAll, doneB, doneS, fineS, fineB}
-use Rattle.scope.specs.Tape.{cellsFrom, between, blockOf, stmtOf, HoldsB, HoldsS, Ends, exprsOf, Exprs, marks}
+use Rattle.scope.specs.Tape.{blockOf, HoldsS, exprsOf, marks}
 use Rattle.scope.specs.Lasts.{Scope, Kept, told, Finds, keptOf, StmtHere, BlockHere, FindsS, FindsB, FoundS, FoundB}
 use Rattle.scope.proofs.Restated.{addE-append}
-use Rattle.scope.proofs.Scopes.{either, which, absurd-bool, scope-on, scope-less, kept-all, kept-more, kept-then}
-use Rattle.scope.proofs.Trees.{Runs, runs-word, runs-split, runs-between, between-runs, up-s, up-b, down-b, down-bs, block-is, stmt-is, block-held, stmt-held, ends-in, stmt-long, stmt-length, block-body, block-long}
+use Rattle.scope.proofs.Scopes.{either, absurd-bool, scope-on, scope-less, kept-all, kept-more, kept-then}
+use Rattle.scope.proofs.Trees.{Runs, runs-split, between-runs, up-s, down-b, down-bs, stmt-is, stmt-held, ends-in, stmt-long, stmt-length, block-body, block-long}
 
 -- ---- answers
 pub told-yes : (ok h : Bool) (r : ℕ) → r ≡ told ok h → (r ≡ 0 → ⊥) → ok ≡ true
@@ -170,7 +167,7 @@ aside : Bool → List ℕ → List ℕ → List ℕ
 aside true κ ρ = κ
 aside false κ ρ = ρ
 
-or-assoc : (a b c : Bool) → ((a || b) || c) ≡ (a || (b || c))
+pub or-assoc : (a b c : Bool) → ((a || b) || c) ≡ (a || (b || c))
 or-assoc true b c = refl
 or-assoc false b c = refl
 

@@ -2,31 +2,29 @@
 use mathlib.Core.Path.{_≡_, refl, sym, ap, _∙_, subst}
 use mathlib.Core.Bool.{Bool, true, false, _&&_, not}
 use mathlib.Core.List.{List, [], _∷_}
-use mathlib.Core.Option.{Option, none, some}
-use Prim.Native.Nat.{ℕ, zero, suc, _+_, _-_, _^_, _≤_, _<_}
+use Prim.Native.Nat.{ℕ, zero, suc, _+_, _-_, _≤_, _<_}
 use native.Mathlib.Numerals.{add-one}
 use native.Mathlib.Omega.{arith}
-use lib.Dec.{eqb, ltb}
-use lib.ListN.{length, getD, drop, getElem?}
+use lib.Dec.{ltb}
+use lib.ListN.{length, getD, drop}
 use lib.Seq.{drop-cons, drop-length}
 use borrow.Author.Tests.{ltb-true, ltb-false, not-true, not-false}
-use Rattle.model.specs.Outcome.{Cell, Cells, class, word}
+use Rattle.model.specs.Outcome.{Cells, class, word}
 use Rattle.model.specs.Table.{TO}
 use Rattle.model.specs.Tree.{Function, Entry, flat, flatEntry}
 use Rattle.model.specs.Module.{Module, countAt}
 use Rattle.model.specs.View.{recordAt, recordEnd}
 use Rattle.model.specs.Taped.{Tape, Taped}
 use Rattle.model.specs.Initial.{initialised}
-use Rattle.model.specs.Numbers.{Bounds, caps, bound, below, within, ordered, every, outside, inside, sound, numbered}
+use Rattle.model.specs.Numbers.{Bounds, caps, bound, below, within, ordered, every, outside, inside, sound}
 use Rattle.model.specs.Scope.{scoped, allScoped, entriesScoped, inScope}
-use Rattle.laws.proofs.FunctionViews.{Part, part-end, looked-at}
+use Rattle.laws.proofs.FunctionViews.{part-end, looked-at}
 use Rattle.numbers.specs.Ranges.{Says, Frame, tablesFine, kindsFine, functionsFine, entriesFine}
 use Rattle.numbers.proofs.Framing.{Word, noFunction, noEntry, Framing, framing-functions, framing-entries, functions-in, entries-in, numbered-is}
-use Rattle.scope.specs.Tape.{Ends}
+use Rattle.laws.proofs.Lists.{and-split}
 use Rattle.scope.specs.Functions.{Stated, Scoped, Numbered, functionsScoped, entryPointsScoped}
-use Rattle.scope.proofs.Scopes.{absurd-bool}
-use Rattle.scope.proofs.Trees.{Runs, runs-word, ends-in}
-use Rattle.scope.proofs.Whole.{and-split, part-runs}
+use Rattle.scope.proofs.Trees.{Runs, runs-word}
+use Rattle.scope.proofs.Whole.{part-runs}
 
 -- ---- numbers in range: an Emit ends at most at the number of expressions
 to-bound : (b : Bounds) (w : ℕ) → below (bound b TO) w ≡ true → w ≤ b .exprs

@@ -1,19 +1,19 @@
 -- The functions without calls of one another: kinds, reads, results, and the way through a block. What is left to do from where a loop stands is the whole. Assumes nothing.
 use mathlib.Core.Path.{_≡_, refl, sym, ap, _∙_}
-use mathlib.Core.Bool.{Bool, true, false, _&&_, _||_, not, false≢true}
+use mathlib.Core.Bool.{Bool, true, false, _&&_, _||_, not}
 use mathlib.Core.List.{List, [], _∷_, _++_}
-use mathlib.Core.Option.{Option, none, some}
+use mathlib.Core.Option.{none, some}
 use Prim.Native.Nat.{ℕ, zero, suc, _+_, _-_, _^_, _≤_, _<_}
 use native.Mathlib.Nat.{le-refl}
 use native.Mathlib.Numerals.{add-one}
 use native.Mathlib.Omega.{arith}
 use lib.Dec.{eqb, ltb, leb}
-use lib.ListN.{length, getD}
-use borrow.Author.Tests.{eq-eqb, ne-eqb, lt-ltb, le-ltb, le-leb, lt-leb, leb-true, leb-false, eqb-true, not-true, not-false}
-use Rattle.model.specs.Outcome.{Cell, Cells}
+use lib.ListN.{getD}
+use borrow.Author.Tests.{eq-eqb, ne-eqb, lt-ltb, le-ltb, le-leb, lt-leb, leb-true, leb-false, not-true, not-false}
+use Rattle.model.specs.Outcome.{Cells}
 use Rattle.model.specs.Tree.{optOf, wordOf}
 use Rattle.model.specs.Operands.{optional, operand, opsOf, resultOf, standingKind, resultKind, emittedKind}
-use Rattle.scope.specs.Tape.{cellsFrom, between, Steps, steps-none, steps-next, stepped, Placed}
+use Rattle.scope.specs.Tape.{cellsFrom, between, Steps, steps-next, stepped, Placed}
 use Rattle.scope.specs.Lasts.{told, visibleAt, allSeen, keptOf}
 
 -- ---- kinds

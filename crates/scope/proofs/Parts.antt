@@ -3,28 +3,27 @@ use mathlib.Core.Path.{_≡_, refl, sym, ap, _∙_, subst}
 use mathlib.Core.Logic.{_⊎_, inl, inr, ⊎-elim}
 use mathlib.Core.Bool.{Bool, true, false, _&&_, _||_, not}
 use mathlib.Core.List.{List, [], _∷_, _++_, append-nil, append-assoc}
-use mathlib.Core.Option.{Option, none, some}
-use Prim.Native.Nat.{ℕ, zero, suc, _+_, _-_, _^_, _≤_, _<_}
+use mathlib.Core.Option.{some}
+use Prim.Native.Nat.{ℕ, zero, suc, _+_, _-_, _≤_, _<_}
 use native.Mathlib.Numerals.{add-one}
 use native.Mathlib.Omega.{arith}
-use lib.Dec.{eqb, ltb, leb}
 use lib.ListN.{length, getD, length-append, getElem?}
 use borrow.Author.Tests.{not-true, not-false}
 use Rattle.model.specs.Outcome.{Cell, Cells, class, word}
-use Rattle.model.specs.Table.{Row, EXPR, OPT-EXPR, WORD, VALUE, BLOCK, CASES, values, variants, variant, More, brings, more, statements, sCall, sEffect}
-use Rattle.model.specs.Tree.{Stmt, stmt, Form, emit, block, branch, switch, loop, break, continue, return, kill, call, effect, Block, end, _then_, Case, case, Cases, nomore, _also_, Range, kindOf, sizeB, sizeC, flatS, flatF, flatB, flatK, flatC, flatBlock, DEPTH}
-use Rattle.model.specs.Carry.{Lays, lays-none, lays-next, Each, each-none, each-next, OkS, OkF, OkB, OkBs, OkK, OkC, ok-stmt, ok-emit, ok-block, ok-branch, ok-switch, ok-loop, ok-break, ok-continue, ok-return, ok-kill, ok-call, ok-effect, ok-deeper, ok-end, ok-then, ok-case, ok-nomore, ok-also}
+use Rattle.model.specs.Table.{Row, EXPR, OPT-EXPR, WORD, VALUE, BLOCK, CASES, values, variants, variant, brings, more, statements, sCall, sEffect}
+use Rattle.model.specs.Tree.{Stmt, stmt, Form, emit, block, branch, switch, loop, break, continue, return, kill, call, effect, Block, _then_, case, Cases, nomore, _also_, Range, kindOf, sizeB, sizeC, flatS, flatF, flatB, flatC, flatBlock, DEPTH}
+use Rattle.model.specs.Carry.{Lays, lays-none, lays-next, Each, each-none, each-next, OkS, OkF, OkB, OkC, ok-stmt, ok-block, ok-branch, ok-switch, ok-effect, ok-case, ok-also}
 use Rattle.model.specs.Operands.{operand, standing}
-use Rattle.model.specs.Scope.{Place, inSwitch, expandS, expandF, expand, expandK, expandC, evalsS, evalsF, evalsB, evalsK, evalsC, has, addE, addS, addF, holdsS, holdsF, holdsB, holdsK, holdsC, contB, vis, allVis}
+use Rattle.model.specs.Scope.{Place, inSwitch, expandS, expandF, expand, expandK, expandC, evalsS, evalsF, evalsB, evalsK, evalsC, addE, addS, addF, holdsS, holdsF, holdsB, holdsK, holdsC, contB, vis, allVis}
 use Rattle.scope.specs.Fine.{keepAll, doneB, doneS, doneK, doneC, fineS, fineF, fineB, fineK, fineC}
-use Rattle.scope.specs.Tape.{cellsFrom, between, blockOf, stmtOf, HoldsB, HoldsS, Ends, exprsOf, Exprs, Steps, stepped, marks}
-use Rattle.scope.specs.Lasts.{Scope, Kept, told, Finds, visibleAt, allSeen, placeOf, StmtHere, BlockHere, FindsS, FindsB, FoundS, FoundB}
-use Rattle.scope.proofs.Restated.{addE-append, and-false}
+use Rattle.scope.specs.Tape.{stmtOf, HoldsB, HoldsS, exprsOf, Steps, stepped, marks}
+use Rattle.scope.specs.Lasts.{Scope, Kept, told, visibleAt, allSeen, placeOf, StmtHere, BlockHere, FindsS, FindsB, FoundS, FoundB}
+use Rattle.scope.proofs.Restated.{addE-append}
 use Rattle.scope.proofs.Leaves.{operand-expr, operand-other}
-use Rattle.scope.proofs.Scopes.{absurd-bool, seen-is, scope-on, scope-less, kept-all, kept-more, kept-then}
-use Rattle.scope.proofs.Results.{lays-done, brings-one, plain}
-use Rattle.scope.proofs.Trees.{Runs, runs-word, runs-split, runs-between, between-runs, up-s, up-b, down-b, down-bs, block-is, stmt-is, block-held, stmt-held, ends-in, block-tag, skip-low, skip-ok, skip-is}
-use Rattle.scope.proofs.Blocks.{told-yes, told-no, finds-none, leave}
+use Rattle.scope.proofs.Scopes.{seen-is, scope-on, scope-less, kept-all, kept-more, kept-then}
+use Rattle.scope.proofs.Results.{brings-one, plain}
+use Rattle.scope.proofs.Trees.{Runs, runs-word, runs-split, runs-between, between-runs, block-is, block-held, ends-in, skip-low, skip-ok, skip-is}
+use Rattle.scope.proofs.Blocks.{told-yes, told-no, finds-none, leave, or-assoc}
 
 -- ---- words and blocks
 pub data Parts : Type 0 where
@@ -413,10 +412,6 @@ nil-done δ = refl
 nil-holds : (dr : ℕ → Bool) (h : Bool) → (h || holdsP dr nothing) ≡ h
 unfolding holdsP
 nil-holds dr h = or-false h
-
-or-assoc : (a b c : Bool) → ((a || b) || c) ≡ (a || (b || c))
-or-assoc true b c = refl
-or-assoc false b c = refl
 
 module _ (ws ts st ini u₀ : List ℕ) (count at stop keep : ℕ) (p : Place) (here : StmtHere ws ts st count at stop keep) where
   abbrev S : Stmt Range

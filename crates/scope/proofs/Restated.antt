@@ -1,15 +1,15 @@
 -- The test in the order of the text is the model's: `fineB` of a body is `scopedAs`. The model's four tests (shape, kinds, once, reads) are each true exactly if all their parts are, so either side is taken apart and put together again. Assumes nothing.
 use mathlib.Core.Path.{_≡_, refl, sym, ap, _∙_}
-use mathlib.Core.Bool.{Bool, true, false, _&&_, _||_, not, false≢true}
+use mathlib.Core.Bool.{Bool, true, false, _&&_, _||_, not}
 use mathlib.Core.List.{List, [], _∷_, _++_}
-use mathlib.Core.Option.{Option, none, some}
-use Prim.Native.Nat.{ℕ, zero, suc}
+use Prim.Native.Nat.{ℕ}
 use lib.Dec.{eqb}
 use borrow.Author.Tests.{eqb-true, eq-eqb}
-use Rattle.model.specs.Outcome.{Cell, Cells}
+use Rattle.model.specs.Outcome.{Cells}
 use Rattle.model.specs.Tree.{Stmt, stmt, Form, emit, block, branch, switch, loop, break, continue, return, kill, call, effect, Block, end, _then_, Case, case, Cases, nomore, _also_, Range}
 use Rattle.model.specs.Operands.{opsOf, resultOf, emittedKind, ops, kindAt, standing}
 use Rattle.model.specs.Scope.{Place, inBody, inSwitch, inLoop, inContinuing, inRange, live, expandS, expandF, expand, expandK, expandC, shapeS, shapeF, shapeB, shapeK, shapeC, emitted, callResult, effectResult, kindsS, kindsF, kindsB, kindsK, kindsC, evalsS, evalsF, evalsB, evalsK, evalsC, evalsOpt, has, distinct, addE, addS, topB, contB, vis, allVis, optVis, okE, okS, okF, okB, okK, okC, scopedAs}
+use Rattle.laws.proofs.Lists.{bool-same}
 use Rattle.scope.specs.Fine.{keepAll, doneB, doneS, doneK, doneC, fresh, nextE, oneE, fineE, fineS, fineF, fineB, fineK, fineC}
 
 -- ---- tests
@@ -89,13 +89,8 @@ not-or : (a b : Bool) → not (a || b) ≡ (not a && not b)
 not-or true b = refl
 not-or false b = refl
 
-pub same : (a b : Bool) → (a ≡ true → b ≡ true) → (b ≡ true → a ≡ true) → a ≡ b
-same true b f g = sym (f refl)
-same false true f g = g refl
-same false false f g = refl
-
 eqb-sym : (a b : ℕ) → eqb a b ≡ eqb b a
-eqb-sym a b = same (eqb a b) (eqb b a) (λ h. eq-eqb b a (sym (eqb-true a b h))) (λ h. eq-eqb a b (sym (eqb-true b a h)))
+eqb-sym a b = bool-same (eqb a b) (eqb b a) (λ h. eq-eqb b a (sym (eqb-true a b h))) (λ h. eq-eqb a b (sym (eqb-true b a h)))
 
 -- none of the list is one of δ
 apart : List ℕ → List ℕ → Bool

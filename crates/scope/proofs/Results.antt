@@ -1,26 +1,23 @@
 -- The result of a statement, and statements without blocks. Assumes nothing.
-use mathlib.Core.Path.{_≡_, refl, sym, ap, _∙_, subst}
-use mathlib.Core.Bool.{Bool, true, false, _&&_, _||_, not}
+use mathlib.Core.Path.{_≡_, refl, sym, ap, _∙_}
+use mathlib.Core.Bool.{Bool, true, false, not}
 use mathlib.Core.List.{List, [], _∷_, _++_}
 use mathlib.Core.Option.{Option, none, some}
 use Prim.Native.Nat.{ℕ, zero, suc, _+_, _-_, _^_, _≤_, _<_}
-use native.Mathlib.Numerals.{add-one}
 use native.Mathlib.Omega.{arith}
-use lib.Dec.{eqb, ltb, leb}
-use lib.ListN.{length, getD, set, getElem?}
+use lib.Dec.{eqb, ltb}
+use lib.ListN.{getD, set}
 use borrow.Author.Tests.{eq-eqb, ne-eqb, lt-ltb, le-ltb, ltb-true, ltb-false, not-true, not-false}
-use Rattle.model.specs.Outcome.{Cell, Cells, class, word}
+use Rattle.model.specs.Outcome.{Cell, Cells, word}
 use Rattle.model.specs.Table.{Row, EXPR-KIND, FUNCTION, expressionRow, expressions, variants, variant, More, brings, more}
 use Rattle.model.specs.Carry.{Lays, lays-none, lays-next}
 use Rattle.model.specs.Tree.{wordOf}
 use Rattle.model.specs.Operands.{opsOf, resultOf, functionOf, kindAt, standing}
-use Rattle.model.specs.Scope.{has, addE, addOpt, evalsOpt, isOf, callResult, effectResult, allVis}
+use Rattle.model.specs.Scope.{addE, addOpt, evalsOpt, isOf, callResult, effectResult, allVis}
 use Rattle.scope.specs.Fine.{fresh}
-use Rattle.scope.specs.Tape.{cellsFrom, between, recordOf, exprsOf, Placed, Exprs}
-use Rattle.scope.specs.Lasts.{Scope, Kept, Tells, visibleAt, allSeen, fitsResult, resultIn, FoundO, FoundL}
-use Rattle.scope.proofs.Restated.{and-false}
-use Rattle.scope.proofs.Leaves.{start-in}
-use Rattle.scope.proofs.Scopes.{expr-in, kind-tag, kind-in, kind-out, record-begins, seen-is, kept-all, kept-set, kept-then, scope-add, tells-false}
+use Rattle.scope.specs.Tape.{cellsFrom, between, exprsOf, Exprs}
+use Rattle.scope.specs.Lasts.{Scope, visibleAt, allSeen, fitsResult, resultIn, FoundO, FoundL}
+use Rattle.scope.proofs.Scopes.{expr-in, kind-tag, kind-in, kind-out, record-begins, seen-is, kept-all, kept-set, scope-add, tells-false}
 
 -- ---- a CallResult: kind, span, function
 pub record Called (cs : Cells) : Type 0 where

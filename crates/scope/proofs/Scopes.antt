@@ -1,27 +1,25 @@
 -- The words up to which expressions last, and the scope that they mean: how they answer a read, and how an evaluation changes them. Assumes nothing.
 use mathlib.Core.Path.{_≡_, refl, sym, ap, _∙_, subst}
-use mathlib.Core.Logic.{_⊎_, inl, inr, ⊎-elim}
+use mathlib.Core.Logic.{_⊎_, inl, inr}
 use mathlib.Core.Bool.{Bool, true, false, _&&_, _||_, not, false≢true}
-use mathlib.Core.List.{List, [], _∷_, _++_}
-use mathlib.Core.Option.{Option, none, some}
+use mathlib.Core.List.{List, [], _∷_}
 use Prim.Native.Nat.{ℕ, zero, suc, _+_, _-_, _^_, _≤_, _<_}
-use native.Mathlib.Nat.{le-refl}
 use native.Mathlib.Numerals.{add-one}
 use native.Mathlib.Omega.{arith}
-use lib.Dec.{eqb, ltb, leb}
+use lib.Dec.{eqb, ltb}
 use lib.ListN.{length, getD, set, length-set}
 use lib.Seq.{getD-set-same, getD-set-other}
 use borrow.Author.Tests.{eq-eqb, ne-eqb, lt-ltb, le-ltb, eqb-true, eqb-false, ltb-true, ltb-false, not-true, not-false}
-use Rattle.model.specs.Outcome.{Cell, Cells, class, word}
-use Rattle.model.specs.Table.{Row, EXPR-KIND, expressionRow, brings, more}
-use Rattle.model.specs.Carry.{Lays, lays-none, lays-next}
+use Rattle.model.specs.Outcome.{Cells}
+use Rattle.model.specs.Table.{Row, EXPR-KIND, expressionRow}
+use Rattle.model.specs.Carry.{Lays, lays-next}
 use Rattle.model.specs.Operands.{opsOf, kind, standingKind, kindAt, standing, ops, emittedKind}
 use Rattle.model.specs.Scope.{has, vis, allVis, addE, live, upFrom, inRange}
 use Rattle.scope.specs.Fine.{oneE, nextE, fineE}
-use Rattle.scope.specs.Tape.{cellsFrom, between, recordOf, tableFrom, exprsOf, Placed, Exprs, marks}
+use Rattle.scope.specs.Tape.{cellsFrom, between, recordOf, tableFrom, exprsOf, Exprs, marks}
 use Rattle.scope.specs.Lasts.{Scope, Kept, Tells, visibleAt, allSeen, FoundE, FoundR}
-use Rattle.scope.proofs.Restated.{and-false, live-drop, live-keep, next-drop, next-keep}
-use Rattle.scope.proofs.Leaves.{cells-next, start-in}
+use Rattle.scope.proofs.Restated.{live-drop, live-keep, next-drop, next-keep}
+use Rattle.scope.proofs.Leaves.{cells-next}
 
 -- ---- either equal or not
 pub either : (x e : ℕ) → (x ≡ e) ⊎ (x ≡ e → ⊥)

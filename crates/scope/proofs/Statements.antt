@@ -1,35 +1,28 @@
 -- A Loop, and the statements by kind. Assumes nothing.
 use mathlib.Core.Path.{_≡_, refl, sym, ap, _∙_, subst}
-use mathlib.Core.Logic.{_⊎_, inl, inr, ⊎-elim}
-use mathlib.Core.Bool.{Bool, true, false, _&&_, _||_, not}
-use mathlib.Core.List.{List, [], _∷_, _++_, map, append-nil, append-assoc}
+use mathlib.Core.Bool.{Bool, true, false, _&&_, _||_}
+use mathlib.Core.List.{List, [], _∷_, _++_, map}
 use mathlib.Core.Option.{Option, none, some}
-use Prim.Native.Nat.{ℕ, zero, suc, _+_, _-_, _^_, _≤_, _<_}
-use native.Mathlib.Numerals.{add-one}
+use Prim.Native.Nat.{ℕ, suc, _+_, _-_, _≤_, _<_}
 use native.Mathlib.Omega.{arith}
-use lib.Dec.{eqb, ltb, leb}
 use lib.ListN.{length, getD, length-append}
-use borrow.Author.Tests.{eq-eqb, ne-eqb, not-true, not-false}
-use Rattle.model.specs.Outcome.{Cell, Cells, class, word}
-use Rattle.model.specs.Table.{EXPR, OPT-EXPR, OPT-RESULT, CALLEE, OPERANDS, FROM, TO, BLOCK}
-use Rattle.model.specs.Tree.{Stmt, stmt, Form, emit, block, branch, switch, loop, break, continue, return, kill, call, effect, Block, end, _then_, Case, case, Cases, nomore, _also_, Range, optOf, wordOf, kindOf, sizeB, flatS, flatF, flatB, flatX, flatBlock, DEPTH}
-use Rattle.model.specs.Carry.{OkS, OkF, OkB, ok-stmt, ok-emit, ok-block, ok-branch, ok-switch, ok-loop, ok-break, ok-continue, ok-return, ok-kill, ok-call, ok-effect}
+use borrow.Author.Tests.{ne-eqb}
+use Rattle.model.specs.Outcome.{Cells, word}
+use Rattle.model.specs.Table.{EXPR, OPT-EXPR, OPT-RESULT, CALLEE, FROM, TO}
+use Rattle.model.specs.Tree.{Stmt, stmt, Form, emit, block, branch, switch, loop, break, continue, return, kill, call, effect, Block, end, _then_, Case, case, Cases, nomore, _also_, Range, optOf, wordOf, kindOf, flatF, flatX, flatBlock, DEPTH}
+use Rattle.model.specs.Carry.{OkF, ok-loop}
 use Rattle.model.specs.Operands.{optional, operand, opsOf, resultOf, standing}
-use Rattle.model.specs.Scope.{Place, XBlock, inSwitch, inLoop, inContinuing, inRange, live, expandS, expandF, expand, expandK, expandC, callResult, effectResult, evalsOpt, evalsS, evalsF, evalsB, has, addE, addOpt, addS, addF, topB, holdsS, holdsF, holdsB, holdsK, holdsC, contB, vis, allVis, optVis}
-use Rattle.scope.specs.Fine.{keepAll, doneB, doneS, doneK, fresh, fineE, fineS, fineF, fineB, fineK, fineC}
-use Rattle.scope.specs.Tape.{cellsFrom, between, blockOf, stmtOf, HoldsB, HoldsS, Ends, exprsOf, Exprs, Steps, stepped, marks}
-use Rattle.scope.specs.Lasts.{Scope, Kept, told, Finds, Tells, visibleAt, allSeen, fitsResult, placeOf, rangeOf, resultIn, resultOk, StmtHere, BlockHere, FindsS, FindsB, FoundS, FoundB, FoundR, FoundL}
-use Rattle.scope.proofs.Restated.{addE-append, and-false, live-all}
-use Rattle.scope.proofs.Leaves.{operand-expr, operand-optional, operand-other}
+use Rattle.model.specs.Scope.{Place, XBlock, inSwitch, inLoop, inContinuing, inRange, expandS, expandF, expand, expandK, expandC, effectResult, evalsOpt, evalsS, evalsF, evalsB, addE, addOpt, addS, addF, topB, holdsS, holdsF, holdsB, holdsK, holdsC, contB, vis, allVis, optVis}
+use Rattle.laws.proofs.Lists.{and-split}
+use Rattle.scope.specs.Fine.{keepAll, doneB, doneS, doneK, fresh, fineS, fineF, fineB, fineK, fineC}
+use Rattle.scope.specs.Tape.{between, stmtOf, HoldsB, HoldsS, exprsOf, Steps, stepped, marks}
+use Rattle.scope.specs.Lasts.{Scope, Kept, told, Finds, visibleAt, allSeen, fitsResult, placeOf, rangeOf, StmtHere, BlockHere, FindsS, FindsB, FoundS, FoundB, FoundR, FoundL}
+use Rattle.scope.proofs.Restated.{addE-append, live-all}
+use Rattle.scope.proofs.Leaves.{operand-optional}
 use Rattle.scope.proofs.Scopes.{absurd-bool, seen-is, scope-on, scope-less, kept-all, kept-more, kept-then}
-use Rattle.scope.proofs.Results.{fits-none}
-use Rattle.scope.proofs.Trees.{Runs, runs-word, runs-split, runs-between, between-runs, block-is, stmt-is, block-held, ends-in, skip-low, skip-ok, skip-is}
+use Rattle.scope.proofs.Trees.{Runs, runs-word, runs-split, between-runs, block-is, block-held, ends-in, skip-low, skip-ok, skip-is}
 use Rattle.scope.proofs.Blocks.{told-yes, told-no, finds-none, leave}
 use Rattle.scope.proofs.Parts.{effect-kind, Header, header}
-
-and-split : (a b : Bool) → (a && b) ≡ true → (a ≡ true) × (b ≡ true)
-and-split true b h = (refl, h)
-and-split false b h = absurd-bool h refl
 
 -- ---- where no Continue may stand there is none
 module _ (xs : List Cells) (dr : ℕ → Bool) where

@@ -1,15 +1,14 @@
 -- Trees in words and tape: a run of cells splits where the cells do, the tree is what the words are read as, and the lengths of statements lead through a block. Assumes nothing.
-use mathlib.Core.Path.{_≡_, refl, sym, ap, _∙_, subst}
-use mathlib.Core.Bool.{Bool, true, false}
+use mathlib.Core.Path.{_≡_, refl, sym, ap, _∙_}
 use mathlib.Core.List.{List, [], _∷_, _++_, map, append-nil}
-use Prim.Native.Nat.{ℕ, zero, suc, _+_, _-_, _≤_, _<_}
-use native.Mathlib.Nat.{add-zero, add-suc, suc-add}
+use Prim.Native.Nat.{ℕ, suc, _+_, _-_, _≤_, _<_}
+use native.Mathlib.Nat.{add-zero}
 use native.Mathlib.Numerals.{add-one}
 use native.Mathlib.Omega.{arith}
 use lib.ListN.{length, getD, length-append}
-use Rattle.model.specs.Outcome.{Cell, Cells, class, word, Outcome, fits}
-use Rattle.model.specs.Table.{BLOCK, LENGTH, STMT-KIND}
-use Rattle.model.specs.Tree.{Stmt, stmt, Form, emit, block, branch, switch, loop, break, continue, return, kill, call, effect, Block, end, _then_, Case, case, Cases, nomore, _also_, Range, kindOf, sizeB, flatS, flatF, flatB, flatBlock, statement, blockAt, DEPTH}
+use Rattle.model.specs.Outcome.{Cell, Cells, class, word}
+use Rattle.model.specs.Table.{BLOCK}
+use Rattle.model.specs.Tree.{Stmt, stmt, Form, kill, Block, end, _then_, Case, Cases, _also_, Range, sizeB, flatS, flatB, flatBlock, statement, blockAt, DEPTH}
 use Rattle.model.specs.Carry.{OkS, OkF, OkB, OkBs, OkK, OkC, ok-stmt, ok-emit, ok-block, ok-branch, ok-switch, ok-loop, ok-break, ok-continue, ok-return, ok-kill, ok-call, ok-effect, ok-deeper, ok-end, ok-then, ok-case, ok-nomore, ok-also}
 use Rattle.laws.proofs.Writing.{write-s, write-b}
 use Rattle.scope.specs.Tape.{cellsFrom, between, got, blockOf, stmtOf, HoldsB, HoldsS, Ends, Steps, steps-none, steps-next, stepped}

@@ -1,34 +1,33 @@
 -- A function record: where its expressions start, what its initialisers reach and where its body stands are what the pass over the body asks for, and what it answers is the model's test. Assumes nothing.
-use mathlib.Core.Path.{_≡_, refl, sym, ap, _∙_, subst, fun-ext}
-use mathlib.Core.Bool.{Bool, true, false, _&&_, not, false≢true}
-use mathlib.Core.List.{List, [], _∷_, _++_}
+use mathlib.Core.Path.{_≡_, refl, sym, ap, _∙_, fun-ext}
+use mathlib.Core.Bool.{Bool, true, _&&_, not}
+use mathlib.Core.List.{List, [], _∷_}
 use Prim.Native.Nat.{ℕ, zero, suc, _+_, _*_, _-_, _^_, _≤_, _<_}
 use native.Mathlib.Numerals.{add-one}
 use native.Mathlib.Omega.{arith}
 use lib.Dec.{eqb, ltb}
 use lib.ListN.{length, getD, drop, replicate}
 use lib.Seq.{slice, sets, length-sets, ext-getD}
-use borrow.Author.Tests.{eq-eqb, ne-eqb, lt-ltb, ltb-true, ltb-false, not-true, not-false}
-use Rattle.model.specs.Outcome.{Cell, Cells, class, word}
-use Rattle.model.specs.Table.{EXPR-KIND, EXPRESSIONS, TO, counted, expressionRow, limit}
-use Rattle.model.specs.Tree.{Function, Block, Range, flatAll, flatBlock, DEPTH}
-use Rattle.model.specs.Carry.{Lays}
-use Rattle.model.specs.FunctionView.{expressionsAt}
-use Rattle.model.specs.Operands.{kind, standingKind, standing}
-use Rattle.model.specs.Initial.{Marks, Reached, marked, moving, initials, initial, reachedMarks, initialised}
+use borrow.Author.Tests.{ne-eqb, lt-ltb, not-true}
+use Rattle.model.specs.Outcome.{Cells, class, word}
+use Rattle.model.specs.Table.{counted, expressionRow}
+use Rattle.model.specs.Tree.{Function, flatAll, flatBlock}
+use Rattle.model.specs.Operands.{standing}
+use Rattle.model.specs.Initial.{Marks, marked, moving, initials, initial, reachedMarks, initialised}
 use Rattle.model.specs.Reached.{initial-is, initial-all}
-use Rattle.model.specs.Scope.{inBody, expand, allOf, seen, scopedAs, scoped}
-use Rattle.laws.proofs.Sections.{startOf, start-end, start-step}
-use Rattle.laws.proofs.FunctionViews.{Held, Part, part-end, part-right, part-word, part-tag, Stands, namedAt, bodyAt, each-at, Expression, expression-first, expr-part, expr-shape, exprs-all, named-count, parts, stands-end}
-use Rattle.numbers.specs.Ranges.{Lists, Listed, Frame, Framed}
-use Rattle.numbers.specs.Marks.{finds, on, inits, Visits, Room, Work, Starting, Reaching, Reaches}
-use Rattle.numbers.proofs.Reaching.{all, starting, begun, many-is, many-few, end-in, exprs-in}
+use Rattle.model.specs.Scope.{inBody, allOf, seen, scoped}
+use Rattle.laws.proofs.Sections.{startOf, start-end}
+use Rattle.laws.proofs.FunctionViews.{Held, Part, part-end, part-right, part-word, part-tag, namedAt, bodyAt, each-at, expression-first, expr-part, expr-shape, named-count, parts, stands-end}
+use Rattle.numbers.specs.Ranges.{Lists, Listed, Framed}
+use Rattle.numbers.specs.Marks.{finds, on, inits, Visits, Work, Starting, Reaching, Reaches}
+use Rattle.numbers.proofs.Reaching.{all, starting, begun, many-is, many-few, end-in}
 use Rattle.numbers.proofs.Framing.{Word, lists-are}
-use Rattle.scope.specs.Fine.{keepAll, fineB}
+use Rattle.laws.proofs.Lists.{and-split, bool-same}
+use Rattle.scope.specs.Fine.{fineB}
 use Rattle.scope.specs.Tape.{cellsFrom, between, blockOf, HoldsB, Ends, recordOf, tableFrom, exprsOf, Placed, Exprs, marks}
 use Rattle.scope.specs.Lasts.{BlockHere}
 use Rattle.scope.specs.Functions.{Lent, Known, Tested, Stated, Scoped}
-use Rattle.scope.proofs.Restated.{same, restated}
+use Rattle.scope.proofs.Restated.{restated}
 use Rattle.scope.proofs.Scopes.{absurd-bool, expr-in}
 use Rattle.scope.proofs.Trees.{Runs, between-runs, block-is, block-held, ends-in}
 
@@ -68,10 +67,6 @@ on-is m y = go (getD m y 0)
     go : (v : ℕ) → ltb 0 v ≡ not (eqb v 0)
     go zero = refl
     go (suc v) = lt-ltb 0 (suc v) (omega arith) ∙ sym (ap not (ne-eqb (suc v) 0 (λ q. omega arith)))
-
-pub and-split : (a b : Bool) → (a && b) ≡ true → (a ≡ true) × (b ≡ true)
-and-split true b h = (refl, h)
-and-split false b h = absurd-bool h refl
 
 -- ---- a function whose expressions start at the words st
 module _ {ws ts : List ℕ} {locals exprs end e : ℕ} {st : List ℕ} (f : Function) (ls : Lists ws ts locals exprs end f) (e-is : e ≡ getD ws exprs 0) (sg : Starting f e (exprs + 1) st) where
@@ -135,7 +130,7 @@ module _ {ws ts : List ℕ} {locals exprs end e : ℕ} {st : List ℕ} (f : Func
       module _ (m l : List ℕ) (w : Work f e m l 0) where
         marks-are : (y : ℕ) → marks ws ts st e m y ≡ marked (initials f) y
         unfolding marks initial initials
-        marks-are y = rw exprs-are (same (not (eqb (getD m y 0) 0) && not (standing (f .exprs) y)) (marked (initials f) y) forth back)
+        marks-are y = rw exprs-are (bool-same (not (eqb (getD m y 0) 0) && not (standing (f .exprs) y)) (marked (initials f) y) forth back)
           where
             forth : (not (eqb (getD m y 0) 0) && not (standing (f .exprs) y)) ≡ true → marked (initials f) y ≡ true
             forth h =

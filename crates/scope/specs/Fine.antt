@@ -1,12 +1,11 @@
 -- Test 6 in the order of the text: one structural function over the body as stored, which threads what is in scope (ρ) and what was evaluated (δ). proofs/Restated.antt proves it equal to the model's `scopedAs`.
 use mathlib.Core.Bool.{Bool, true, false, _&&_, _||_, not}
-use mathlib.Core.List.{List, [], _∷_, _++_}
-use mathlib.Core.Option.{Option, none, some}
-use Prim.Native.Nat.{ℕ, zero, suc}
-use Rattle.model.specs.Outcome.{Cell, Cells}
+use mathlib.Core.List.{List, [], _∷_}
+use Prim.Native.Nat.{ℕ}
+use Rattle.model.specs.Outcome.{Cells}
 use Rattle.model.specs.Tree.{Stmt, stmt, Form, emit, block, branch, switch, loop, break, continue, return, kill, call, effect, Block, end, _then_, Case, case, Cases, nomore, _also_, Range}
 use Rattle.model.specs.Operands.{opsOf, resultOf, emittedKind, ops, kindAt, standing}
-use Rattle.model.specs.Scope.{Place, inBody, inSwitch, inLoop, inContinuing, inRange, live, expandS, expandF, expand, expandK, expandC, callResult, effectResult, evalsS, evalsB, evalsK, evalsC, evalsOpt, has, addE, addS, addF, topB, holdsS, holdsB, contB, vis, allVis, optVis}
+use Rattle.model.specs.Scope.{Place, inSwitch, inLoop, inContinuing, inRange, expandS, expand, expandK, expandC, callResult, effectResult, evalsS, evalsB, evalsK, evalsC, evalsOpt, has, addE, addS, topB, contB, vis, allVis, optVis}
 
 -- nothing is dropped
 abbrev pub keepAll : ℕ → Bool

@@ -3,10 +3,10 @@ use mathlib.Core.Path.{_≡_}
 use mathlib.Core.Bool.{Bool, true, false, _&&_}
 use mathlib.Core.List.{List, [], _∷_}
 use mathlib.Core.Option.{Option}
-use Prim.Native.Nat.{ℕ, zero, suc, _+_, _≤_, _<_}
+use Prim.Native.Nat.{ℕ, _+_, _≤_, _<_}
 use lib.Dec.{eqb, ltb}
 use lib.ListN.{length, getD}
-use Rattle.model.specs.Tree.{Stmt, Block, Range, flatS}
+use Rattle.model.specs.Tree.{Stmt, Block, Range}
 use Rattle.model.specs.Outcome.{Cells}
 use Rattle.model.specs.Operands.{opsOf, resultOf, standingKind, standing}
 use Rattle.model.specs.Scope.{Place, expandS, expand, inRange, live, has, addE, addS, holdsS, holdsB, contB, addOpt, evalsOpt, callResult, effectResult, allVis}

@@ -5,7 +5,7 @@ use mathlib.Core.List.{List, [], _∷_, map}
 use Prim.Native.Nat.{ℕ, zero, suc, _+_, _-_, _≤_, _<_}
 use lib.Dec.{eqb}
 use lib.ListN.{length, getD}
-use Rattle.model.specs.Outcome.{Cell, Cells, word, Outcome, fits, misfit, unknown}
+use Rattle.model.specs.Outcome.{Cells, word, Outcome, fits, misfit, unknown}
 use Rattle.model.specs.Table.{expressionRow, TO}
 use Rattle.model.specs.Tree.{Stmt, stmt, kill, Block, end, Range, flatS, flatBlock, statement, blockAt, DEPTH}
 use Rattle.model.specs.Operands.{standing}

@@ -1,7 +1,6 @@
 -- Words and bytes worked by hand.
 use mathlib.Core.Path.{_≡_, refl}
-use mathlib.Core.List.{List, [], _∷_}
-use Prim.Native.Nat.{ℕ}
+use mathlib.Core.List.{[], _∷_}
 use Rattle.words.specs.Words.{wordOf, wordsOf, bytesOf, wordAt}
 
 one-word : wordsOf (1 ∷ 2 ∷ 3 ∷ 4 ∷ []) ≡ 67305985 ∷ []

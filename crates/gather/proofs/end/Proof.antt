@@ -1,5 +1,4 @@
 -- `gather::end` meets its contract: the last record ends with its section, every other where the next one starts. Assumes nothing.
-use native.Mathlib.Omega.{arith}
 use borrow.Author.Needs.{needs}
 use Rattle.model.specs.Module.{countAt}
 use Rattle.gather.proofs.Places.{end-last, end-next}

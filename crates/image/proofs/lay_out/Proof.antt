@@ -1,5 +1,5 @@
 -- `image::lay_out` meets its contract. Assumes nothing.
-use Rattle.image.proofs.Laying.{size-short, size-long, size-edition, size-total, loaded-large, loaded-enough, laid-out}
+use Rattle.image.proofs.Laying.{size-short, size-long, size-edition, size-total, laid-out}
 use borrow.Author.Needs.{needs}
 use Rattle.image.proofs.lay_out.Statement.{statement}
 use Rattle.image.proofs.lay_out.Tie as tie

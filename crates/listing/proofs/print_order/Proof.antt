@@ -1,5 +1,4 @@
 -- `listing::print_order` meets its contract: each number of the order is that of a table function. Assumes nothing.
-use mathlib.Core.Path.{sym, subst}
 use native.Mathlib.Omega.{arith}
 use Prim.Native.Nat.{_≤_, _-_}
 use borrow.Author.Needs.{needs}

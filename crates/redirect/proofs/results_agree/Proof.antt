@@ -1,6 +1,5 @@
 -- `redirect::results_agree` meets its contract. Assumes nothing.
 use Rattle.redirect.proofs.Finding.{differ-presence, both-none, type-a, type-b, types-decide}
-use Rattle.redirect.proofs.Leaves.{small-fits, small-fits-four}
 use borrow.Author.Needs.{needs}
 use Rattle.redirect.proofs.results_agree.Statement.{statement}
 use Rattle.redirect.proofs.results_agree.Tie as tie

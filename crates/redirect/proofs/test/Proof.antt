@@ -1,5 +1,4 @@
 -- `redirect::test` meets its contract. Assumes nothing.
-use mathlib.Core.Path.{sym, _∙_}
 use borrow.Author.Tests.{not-true, not-false}
 use Rattle.redirect.proofs.Testing.{found-in, test-outside, test-original, test-replacement, test-compared}
 use borrow.Author.Needs.{needs}

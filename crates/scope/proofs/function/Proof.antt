@@ -1,5 +1,5 @@
 -- `scope::function` meets its contract. Assumes nothing.
-use Rattle.numbers.proofs.Framing.{function-arguments, function-result, function-locals, function-exprs}
+use Rattle.numbers.proofs.Framing.{function-arguments, function-result, function-locals}
 use Rattle.scope.proofs.Whole.{stated-framed, stated-known, stated-scoped}
 use borrow.Author.Needs.{needs}
 use Rattle.scope.proofs.function.Statement.{statement}

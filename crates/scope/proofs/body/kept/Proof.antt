@@ -1,6 +1,5 @@
 -- `scope::body::kept` meets its contract. Assumes nothing.
 use Rattle.scope.proofs.Leaves.{kept-cut, kept-rest}
-use borrow.Author.Needs.{needs}
 use Rattle.scope.proofs.body.kept.Statement.{statement}
 use Rattle.scope.proofs.body.kept.Tie as tie
 

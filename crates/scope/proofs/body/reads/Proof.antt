@@ -1,5 +1,5 @@
 -- `scope::body::reads` meets its contract. Assumes nothing.
-use Prim.Native.Nat.{_-_, _≤_}
+use Prim.Native.Nat.{_-_}
 use Rattle.scope.specs.Lasts.{visibleAt}
 use Rattle.scope.proofs.Leaves.{Reading, reads-begin, reads-wrong, reads-next, reads-done}
 use borrow.Author.Needs.{needs}

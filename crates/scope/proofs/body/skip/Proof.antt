@@ -1,6 +1,5 @@
 -- `scope::body::skip` meets its contract. Assumes nothing.
 use Prim.Native.Nat.{_-_, _+_}
-use native.Mathlib.Omega.{arith}
 use lib.ListN.{getD}
 use Rattle.scope.proofs.Leaves.{Skipping, skip-begin, skip-in, skip-far, skip-next, skip-done}
 use borrow.Author.Needs.{needs}
