@@ -3,7 +3,7 @@
 use calls::Ordered;
 use words::wide;
 ghost use mathlib.Core.Path.{_≡_};
-ghost use Prim.Native.Nat.{suc, _+_, _^_, _≤_, _<_};
+ghost use Prim.Native.Nat.{_+_, _^_, _≤_, _<_};
 ghost use lib.ListN.{length};
 ghost use Rattle.model.specs.Module.{countAt, offsetAt};
 ghost use Rattle.model.specs.View.{recordAt, recordEnd};

@@ -5,7 +5,6 @@ pub mod table;
 
 use section::Held;
 use table::TABLE;
-ghost use mathlib.Core.Path.{_≡_};
 ghost use Prim.Native.Nat.{_≤_};
 ghost use lib.ListN.{length, take};
 ghost use Rattle.image.specs.Layout.{Lays, Laying};

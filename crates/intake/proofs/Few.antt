@@ -1,7 +1,7 @@
 -- Test 3 gives what test 5 needs: a named number is the number of an expression of its function, so it is below their limit. Assumes nothing.
 use mathlib.Core.Path.{_≡_, refl, sym, ap, _∙_, subst}
 use mathlib.Core.Bool.{Bool, true, false, _&&_}
-use mathlib.Core.List.{List, [], _∷_, _++_, append-assoc}
+use mathlib.Core.List.{List, [], _∷_, _++_}
 use Prim.Native.Nat.{ℕ, _≤_, _<_}
 use native.Mathlib.Omega.{arith}
 use lib.Dec.{eqb}
@@ -16,6 +16,7 @@ use Rattle.model.specs.Initial.{initialised}
 use Rattle.model.specs.Numbers.{Bounds, caps, bound, below, within, ordered, every, outside, inside, sound, soundFunction, soundEntry, constantOnly, numbered}
 use Rattle.model.specs.Names.{field, Few, NumbersFew}
 use Rattle.laws.proofs.Lists.{and-split}
+use Rattle.laws.proofs.Writing.{flat-right}
 
 within-split : (b : Bounds) (xs ys : Cells) → within b (xs ++ ys) ≡ true → (within b xs ≡ true) × (within b ys ≡ true)
 unfolding within
@@ -51,10 +52,6 @@ rows-below b (r ∷ rs) few h = let a = within-split b r (flatAll rs) h in each-
 
 tail-of : (b : Bounds) (xs ys : Cells) → within b (xs ++ ys) ≡ true → within b ys ≡ true
 tail-of b xs ys h = within-split b xs ys h .1
-
-flat-right : (f : Function) → flat f ≡ f .head ++ (flatList ARGUMENTS (f .arguments) ++ (f .result ++ (flatList LOCALS (f .locals) ++ (flatList EXPRESSIONS (f .exprs) ++ (flatList NAMED (f .named) ++ flatBlock (f .body))))))
-unfolding flat
-flat-right f = simp append-assoc
 
 few-in : (b : Bounds) (f : Function) → WellFunction f → within (inside b f) (flat f) ≡ true → Few f
 unfolding flatList inside within limit

@@ -1,6 +1,6 @@
 -- What is written is read: the words of a well-formed tree, with any words behind them, are read as that tree, and those words are left.
 use mathlib.Core.Path.{_≡_, refl, ap, _∙_}
-use mathlib.Core.List.{List, [], _∷_, _++_, map}
+use mathlib.Core.List.{List, [], _∷_, _++_, map, append-assoc}
 use Prim.Native.Nat.{ℕ, suc}
 use lib.Dec.{leb}
 use lib.ListN.{length, getElem?}
@@ -112,3 +112,8 @@ write-entry e w rest = rw (words-append (e .head) (flat (e .function)) rest, wri
 pub write-special : (s : Special) → Lays raysRow (s .rays) → Each (Lays pairRow) (s .pairs) → (rest : List ℕ) → specialAt (length (s .pairs)) (map word (flatSpecial s) ++ rest) ≡ fits s rest
 unfolding specialAt flatSpecial _⟫_
 write-special s r ps rest = rw (words-append (s .rays) (flatAll (s .pairs)) rest, write-run r, write-rows ps rest)
+
+-- ---- a function's cells, part by part
+pub flat-right : (f : Function) → flat f ≡ f .head ++ (flatList ARGUMENTS (f .arguments) ++ (f .result ++ (flatList LOCALS (f .locals) ++ (flatList EXPRESSIONS (f .exprs) ++ (flatList NAMED (f .named) ++ flatBlock (f .body))))))
+unfolding flat
+flat-right f = simp append-assoc

@@ -1,7 +1,7 @@
 -- Tests 3 and 5 give what lines need: every table function has a name, and it is in the table of names. Assumes nothing.
 use mathlib.Core.Path.{_≡_, refl, subst}
 use mathlib.Core.Bool.{true, not, _&&_}
-use mathlib.Core.List.{List, _++_, append-assoc}
+use mathlib.Core.List.{List, _++_}
 use Prim.Native.Nat.{ℕ, suc, _≤_, _<_}
 use native.Mathlib.Omega.{arith}
 use lib.Dec.{eqb}
@@ -21,6 +21,7 @@ use Rattle.laws.proofs.Tapes.{taped-same}
 use Rattle.gather.specs.Gathering.{Known}
 use Rattle.gather.proofs.Numbered.{functions-sound, passed-known}
 use Rattle.model.specs.Redirect.{nameWord}
+use Rattle.laws.proofs.Writing.{flat-right}
 use Rattle.listing.specs.Lines.{NamesKnown, Naming, Passed}
 
 -- ---- in the table
@@ -30,15 +31,11 @@ head-below b h rest (lays-next {w} {cs} e l) k =
     let a : w < suc (b .names) = ltb-true w (suc (b .names)) (and-split (below (bound b NAME) w) (within b (cs ++ rest)) k .0) in
     omega arith
 
-head-first : (f : Function) → flat f ≡ f .head ++ (flatList ARGUMENTS (f .arguments) ++ (f .result ++ (flatList LOCALS (f .locals) ++ (flatList EXPRESSIONS (f .exprs) ++ (flatList NAMED (f .named) ++ flatBlock (f .body))))))
-unfolding flat
-head-first f = simp append-assoc
-
 sound-name : (b : Bounds) (f : Function) → WellFunction f → soundFunction b f ≡ true → nameWord f ≤ b .names
 unfolding sound inside nameWord
 sound-name b f w h =
     head-below (inside b f) (f .head) (flatList ARGUMENTS (f .arguments) ++ (f .result ++ (flatList LOCALS (f .locals) ++ (flatList EXPRESSIONS (f .exprs) ++ (flatList NAMED (f .named) ++ flatBlock (f .body)))))) (w .head-ok)
-    (subst (λ c. within (inside b f) c ≡ true) (head-first f) (and-split (within (inside b f) (flat f)) (ordered (flat f) && initialised f) h .0))
+    (subst (λ c. within (inside b f) c ≡ true) (flat-right f) (and-split (within (inside b f) (flat f)) (ordered (flat f) && initialised f) h .0))
 
 -- ---- present
 head-field : {h : Cells} → Lays functionHead h → field NAME h ≡ word (getD h 0 (0, 0))

@@ -3,7 +3,6 @@
 use words::wide;
 ghost use mathlib.Core.Path.{_≡_};
 ghost use Prim.Native.Nat.{_+_, _*_, _^_, _<_};
-ghost use lib.ListN.{getD};
 ghost use Rattle.model.specs.Module.{Module, countAt};
 ghost use Rattle.model.specs.Taped.{Tape, Taped};
 ghost use Rattle.model.specs.Between.{between, Stretch};

@@ -11,6 +11,7 @@ pub mod Operands
 pub mod Lower
 pub mod Names
 pub mod Initial
+pub mod Members
 pub mod Reached
 pub mod Numbers
 pub mod Scope

@@ -3,7 +3,7 @@
 use mathlib.Core.Path.{_≡_, refl, ap, sym, _∙_, subst}
 use mathlib.Core.Logic.{_⊎_, inl, inr, ⊎-elim}
 use mathlib.Core.Bool.{Bool, true, false, _&&_, not, false≢true}
-use mathlib.Core.List.{List, [], _∷_, _++_}
+use mathlib.Core.List.{List, [], _∷_}
 use Prim.Native.Nat.{ℕ, zero, suc, _<_, _≤_}
 use native.Mathlib.Omega.{arith}
 use lib.Dec.{eqb, ltb}
@@ -13,6 +13,7 @@ use Rattle.model.specs.Outcome.{Cells}
 use Rattle.model.specs.Tree.{Function}
 use Rattle.model.specs.Operands.{opsOf, ops, kind, constantKind, kindAt, standing}
 use Rattle.model.specs.Initial.{Mem, here, there, root, step, Reached, roots, Marks, marked, mark, unmarked, readBy, close, reachedMarks, reached, moving, initials, initial, constantAt, initialised}
+use Rattle.model.specs.Members.{no-mem, mem-left, mem-right, mem-cases}
 
 -- ---- tests
 by : (P : Type 0) (b : Bool) → (b ≡ true → P) → (b ≡ false → P) → P
@@ -26,23 +27,6 @@ and-true false b h = absurd (false≢true h)
 not-true : (b : Bool) → not b ≡ true → b ≡ false
 not-true true h = absurd (false≢true h)
 not-true false h = refl
-
--- ---- membership
-no-mem : {x : ℕ} → Mem x [] → ⊥
-no-mem = elim [ ]
-
-mem-left : {x : ℕ} {xs : List ℕ} (ys : List ℕ) → Mem x xs → Mem x (xs ++ ys)
-mem-left ys here = here
-mem-left ys (there m) = there (mem-left ys m)
-
-mem-right : {x : ℕ} (xs : List ℕ) {ys : List ℕ} → Mem x ys → Mem x (xs ++ ys)
-mem-right [] m = m
-mem-right (x ∷ xs) m = there (mem-right xs m)
-
-mem-cases : {x : ℕ} (xs ys : List ℕ) → Mem x (xs ++ ys) → Mem x xs ⊎ Mem x ys
-mem-cases [] ys m = inr m
-mem-cases (x ∷ xs) ys here = inl here
-mem-cases (x ∷ xs) ys (there m) = ⊎-elim (λ p. inl (there p)) inr (mem-cases xs ys m)
 
 -- ---- one mark
 set-from : (m : Marks) (e x : ℕ) → marked (set m e true) x ≡ true → (marked m x ≡ true) ⊎ (x ≡ e)

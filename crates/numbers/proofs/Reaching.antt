@@ -22,9 +22,10 @@ use Rattle.model.specs.Reached.{initialised-is, initialised-all}
 use Rattle.laws.proofs.Plain.{plain?, plain-classes}
 use Rattle.laws.proofs.Sections.{startOf}
 use Rattle.laws.proofs.FunctionViews.{Held, Part, part-end, part-left, part-right, part-word, part-tag, field?, field-not, Expression, expression-first, expression-class, expression-field, list-all, locals-count, exprs-count, exprs-all, exprs-shapes, expr-part, expr-kind, named-class, stands-end, parts}
+use Rattle.model.specs.Members.{no-mem, mem-left, mem-right, mem-cases}
 use Rattle.numbers.specs.Ranges.{Long, between, Lists, Listed, Initialised}
 use Rattle.numbers.specs.Marks.{finds, on, blank, inits, Visits, Room, Done, Work, Starting, Reaching, Reaches}
-use Rattle.numbers.proofs.Visiting.{no-mem, mem-left, mem-right, mem-cases, mem-one, visits-none, room-after}
+use Rattle.numbers.proofs.Visiting.{mem-one, visits-none, room-after}
 use Rattle.numbers.proofs.Tabling.{part-between}
 
 -- ---- the last of the list

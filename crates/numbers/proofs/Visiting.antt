@@ -12,6 +12,7 @@ use lib.Seq.{slice, sets, slice-cons, slice-empty, take-suc-set, getD-set-same, 
 use borrow.Author.Tests.{lt-ltb, eq-eqb, ne-eqb, le-leb, lt-leb, eqb-true, eqb-false}
 use Rattle.model.specs.Operands.{constantKind, optional, operand, opsOf}
 use Rattle.model.specs.Initial.{Mem, here, there}
+use Rattle.model.specs.Members.{no-mem, mem-left, mem-right, mem-cases}
 use Rattle.numbers.specs.Ranges.{Long, between}
 use Rattle.numbers.specs.Marks.{finds, reads, on, blank, inits, Visits, Room}
 use Rattle.numbers.proofs.Ranging.{between-none, between-cons}
@@ -65,22 +66,6 @@ operand-front s w xs = go (eqb s 93) (eqb s 94)
     go false false = refl
 
 -- ---- membership
-pub no-mem : {x : ℕ} → Mem x [] → ⊥
-no-mem = elim [ ]
-
-pub mem-left : {x : ℕ} {xs : List ℕ} (ys : List ℕ) → Mem x xs → Mem x (xs ++ ys)
-mem-left ys here = here
-mem-left ys (there m) = there (mem-left ys m)
-
-pub mem-right : {x : ℕ} (xs : List ℕ) {ys : List ℕ} → Mem x ys → Mem x (xs ++ ys)
-mem-right [] m = m
-mem-right (x ∷ xs) m = there (mem-right xs m)
-
-pub mem-cases : {x : ℕ} (xs ys : List ℕ) → Mem x (xs ++ ys) → Mem x xs ⊎ Mem x ys
-mem-cases [] ys m = inr m
-mem-cases (x ∷ xs) ys here = inl here
-mem-cases (x ∷ xs) ys (there m) = ⊎-elim (λ p. inl (there p)) inr (mem-cases xs ys m)
-
 pub mem-one : {x y : ℕ} → Mem x (y ∷ []) → x ≡ y
 mem-one here = refl
 mem-one (there m) = absurd (no-mem m)

@@ -4,9 +4,9 @@
 use words::wide;
 ghost use mathlib.Core.Path.{_≡_};
 ghost use mathlib.Core.Bool.{Bool, true, false, _||_};
-ghost use mathlib.Core.List.{[], _∷_};
+ghost use mathlib.Core.List.{[]};
 ghost use mathlib.Core.Option.{some};
-ghost use Prim.Native.Nat.{ℕ, suc, _+_, _-_, _≤_, _<_};
+ghost use Prim.Native.Nat.{_+_, _-_, _≤_, _<_};
 ghost use lib.ListN.{length, getD};
 ghost use Rattle.model.specs.Tree.{wordOf};
 ghost use Rattle.model.specs.Operands.{operand, opsOf, resultOf, standingKind, emittedKind};

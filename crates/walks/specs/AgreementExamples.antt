@@ -16,7 +16,8 @@ use Rattle.model.specs.Operands.{optional, operand, opsOf, kind, standingKind, 
 use Rattle.model.specs.Initial.{here, there, initsOf, roots, marked, mark, unmarked, readBy, close, reachedMarks, moving, initials, initial, constantAt, initialised}
 use Rattle.model.specs.Scope.{upFrom, inRange, live, expandS, shapeS, emitted, kindsS, evalsS, has, distinct, addE, addF, addS, vis, allVis, okE, okS, allOf, seen, scopedAs, scoped}
 use Rattle.model.specs.SampleBodies.{record-of, literal, negate, splat, add, evals, local, function}
-use Rattle.walks.specs.Members.{no-mem, Each, each-none, each-cons}
+use Rattle.model.specs.Members.{no-mem}
+use Rattle.walks.specs.Members.{Each, each-none, each-cons}
 use Rattle.walks.specs.Agreement.{Maps, carriers, through, carried, textOf, plain, Alike, start, upto, text, field, AlikeR, over, next, carryCells, carryS, mentionsE, mentionsS, mentioned, Agrees, Agreement}
 use Rattle.walks.specs.AgreementProof.{nameless, alike-carried}
 use Rattle.walks.specs.Theorems.{agrees-kind}
