@@ -1,4 +1,4 @@
--- Redirecting on any bytes: what is answered, and what the image holds afterwards. Document 01: "a refusal returns its number alone; image, output and derived module stay".
+-- Redirecting on any bytes: what is answered, and what the image holds afterwards. Document 01: "A refusal returns its number alone (12 adds its count); image, output, derived module, set source and maps stay."
 -- Assumes nothing: these are definitions.
 use mathlib.Core.Path.{_≡_}
 use mathlib.Core.List.{List}

@@ -18,7 +18,7 @@ ghost use Rattle.numbers.specs.Ranges.{Says};
 ghost use Rattle.scope.specs.Functions.{Lent, Known, Tested, Stated, Scoped, Numbered, functionsScoped, entryPointsScoped};
 
 // Is the body of a function in scope? Its lists of locals and expressions have their numbers at the words `locals` and `exprs`.
-pub fn scoped(
+fn scoped(
     words: &[u32; 16384],
     tags: &[u8; 16384],
     starts: &mut [u32; 1025],
