@@ -11,8 +11,8 @@ use Rattle.model.specs.Taped.{Taped, Tape}
 use Rattle.model.specs.Numbers.{numbered}
 use Rattle.model.specs.Calls.{numbers, rounds, ordered, answer, order}
 use Rattle.model.specs.Callees.{calls, orderOf}
-use Rattle.laws.proofs.FunctionViews.{taped-functions}
-use Rattle.laws.proofs.Tapes.{taped-same}
+use Rattle.laws.specs.FunctionViews.{taped-functions}
+use Rattle.laws.specs.Tapes.{taped-same}
 use Rattle.calls.specs.Placing.{shown}
 use Rattle.calls.specs.declared.Ordered.{Ordered}
 use Rattle.calls.specs.declared.Ordered.the-variants.{All, Ring}

@@ -14,7 +14,7 @@ use Rattle.model.specs.Carry.{Each, each-none, each-next, WellFunction, WellFor
 use Rattle.model.specs.Initial.{initialised}
 use Rattle.model.specs.Numbers.{Bounds, caps, bound, below, within, ordered, every, outside, inside, sound, soundFunction, constantOnly, numbered}
 use Rattle.model.specs.Callees.{callees, CalleesKnown}
-use Rattle.laws.proofs.Lists.{and-split}
+use Rattle.laws.specs.Lists.{and-split}
 use Rattle.gather.specs.Gathering.{picks, Known}
 use Rattle.gather.proofs.Cells.{calleesIn, cells-function}
 

@@ -13,7 +13,7 @@ use Rattle.model.specs.Outcome.{Cells, class, Outcome, fits, misfit, unknown, L
 use Rattle.model.specs.Table.{PLACE}
 use Rattle.model.specs.Tree.{flatAll, DEPTH}
 use Rattle.model.specs.Module.{next, records, table, raysRow, pairRow}
-use Rattle.laws.proofs.Lists.{bool-same, map-append}
+use Rattle.laws.specs.Lists.{bool-same, map-append}
 use Rattle.image.specs.Parts.{Reader, join, times, pieces}
 use Rattle.image.specs.Rows.{numbers, row, rowAt}
 use Rattle.image.specs.Walks.{Final, next as next-final, refused as refused-final, strange as strange-final, seen, final, Walks, filled, Fills}

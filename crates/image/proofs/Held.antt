@@ -13,9 +13,9 @@ use Rattle.words.proofs.Laws.{length-wordsOf, sets-front}
 use Rattle.model.specs.Outcome.{class, Laid, laid, bad, strange}
 use Rattle.model.specs.Module.{Module, read, write, flatModule, sized}
 use Rattle.model.specs.Taped.{Taped}
-use Rattle.laws.proofs.Modules.{read-write, read-well}
-use Rattle.laws.proofs.Views.{length-write}
-use Rattle.laws.proofs.Lists.{and-first, and-second}
+use Rattle.laws.specs.Modules.{read-write, read-well}
+use Rattle.laws.specs.Views.{length-write}
+use Rattle.laws.specs.Lists.{and-first, and-second}
 use Rattle.image.specs.Layout.{Answer, fits, size, shows, held, layoutOf, Lays}
 use Rattle.image.specs.declared.Layout.the-variants.{Fits}
 

@@ -12,8 +12,8 @@ use lib.Seq.{slice, sets, slice-cons, drop-drop, length-slice, drop-append-seam}
 use borrow.Author.Tests.{le-leb, lt-leb, leb-true, leb-false, lt-ltb, le-ltb, eq-eqb, ne-eqb}
 use Rattle.model.specs.Outcome.{Cells, class, word, Outcome, fits, misfit, unknown, eat, mapO}
 use Rattle.model.specs.Table.{Row, WORD, EXPR, PAD, TEXT, OPERANDS, brings, over, repeat, text, more, follow, run}
-use Rattle.laws.proofs.Betweens.{slice-none}
-use Rattle.laws.proofs.Lists.{map-append}
+use Rattle.laws.specs.Betweens.{slice-none}
+use Rattle.laws.specs.Lists.{map-append}
 use Rattle.image.specs.Parts.{Reader, join}
 use Rattle.image.specs.Walks.{Final, next, refused, strange, seen, final, Walks, filled, Fills}
 use Rattle.image.specs.declared.record.Walked.{Walked}

@@ -10,10 +10,10 @@ use Rattle.model.specs.Outcome.{Cells, class, Outcome, fits, misfit, unknown, m
 use Rattle.model.specs.Table.{Row, BLOCK, PLACE, nameRow, typeRow, constantRow, overrideRow, globalRow, expressionRow, functionHead, entryHead, run}
 use Rattle.model.specs.Tree.{Function, Entry, flat, flatEntry, flatAll, rows, functionAt, entryAt, DEPTH}
 use Rattle.model.specs.Module.{Special, Module, next, records, table, raysRow, pairRow, specialAt, countAt, limits, placed, HEADER, section, tableAt, by, _⊛_, moduleOf, read, places, flatTable, flatSpecial, Section, sections, pairsFrom, bodies, flatModule}
-use Rattle.laws.proofs.Readers.{Takes, run-took, function-took, entry-took}
-use Rattle.laws.proofs.Tables.{laid-of, table-took}
-use Rattle.laws.proofs.Modules.{ReadsAs, read-parts}
-use Rattle.laws.proofs.Lists.{map-append}
+use Rattle.laws.specs.Readers.{Takes, run-took, function-took, entry-took}
+use Rattle.laws.specs.Tables.{laid-of, table-took}
+use Rattle.laws.specs.Modules.{ReadsAs, read-parts}
+use Rattle.laws.specs.Lists.{map-append}
 use Rattle.image.specs.Parts.{Reader, join, times, pieces, functionRow, entryRow}
 use Rattle.image.specs.Extents.{Classes, classes, tableClasses, tabled, specialOf, special, sectionsFrom, tableRows}
 use Rattle.image.proofs.Flat.{map-map, bare, step-cells, bind-fits, times-same, join-same, rows-counted, countedR, with, below?, run-pieces, parts-pieces, function-flat, entry-flat}

@@ -12,7 +12,7 @@ use Rattle.model.specs.Module.{Module, read}
 use Rattle.model.specs.Taped.{Tape}
 use Rattle.model.specs.Intake.{intakeOf}
 use Rattle.model.specs.Redirect.{Answer, redirected, outside, noOriginal, noReplacement, argumentsDiffer, resultsDiffer, redirectFunction}
-use Rattle.laws.proofs.Modules.{read-well}
+use Rattle.laws.specs.Modules.{read-well}
 use Rattle.intake.specs.Taken.{numberOf, Accepts, Takes}
 use Rattle.intake.specs.declared.Taken.{Taken}
 use Rattle.intake.specs.declared.Taken.the-variants.{Accepted}

@@ -11,8 +11,8 @@ use Rattle.words.specs.Words.{wordsOf}
 use Rattle.words.proofs.Laws.{length-wordsOf}
 use Rattle.model.specs.Outcome.{laid}
 use Rattle.model.specs.Module.{Module, read, write, sized}
-use Rattle.laws.proofs.Lists.{and-split}
-use Rattle.laws.proofs.Modules.{read-write}
+use Rattle.laws.specs.Lists.{and-split}
+use Rattle.laws.specs.Modules.{read-write}
 
 module _ (image : List ℕ) (s : sized (length image) (wordsOf image) ≡ true) where
   ends : (eqb (getD (wordsOf image) 0 0) 1 ≡ true) × (eqb (length image) (4 * getD (wordsOf image) 1 0) ≡ true)

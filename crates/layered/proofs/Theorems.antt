@@ -13,7 +13,7 @@ use Rattle.model.specs.Module.{Module, read, write, sized}
 use Rattle.model.specs.Carry.{WellFormed}
 use Rattle.model.specs.Intake.{verdict, intakeOf, Passes}
 use Rattle.model.specs.Redirect.{redirect, redirected, redirectFunction}
-use Rattle.laws.proofs.Modules.{read-well}
+use Rattle.laws.specs.Modules.{read-well}
 use Rattle.intake.proofs.Tests.{passes}
 use Rattle.redirect.specs.Claims.{Differs, differs-none, differs-same, differs-call, differs-result}
 use Rattle.redirect.specs.Passes.{both, refused, imageAfter}

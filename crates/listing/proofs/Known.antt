@@ -16,12 +16,12 @@ use Rattle.model.specs.Carry.{Lays, lays-next, Each, each-none, each-next, Well
 use Rattle.model.specs.Initial.{initialised}
 use Rattle.model.specs.Numbers.{Bounds, caps, bound, below, within, ordered, every, outside, inside, sound, soundFunction, numbered}
 use Rattle.model.specs.Names.{field, present, functionNames, named}
-use Rattle.laws.proofs.Lists.{and-split}
-use Rattle.laws.proofs.Tapes.{taped-same}
+use Rattle.laws.specs.Lists.{and-split}
+use Rattle.laws.specs.Tapes.{taped-same}
 use Rattle.gather.specs.Gathering.{Known}
 use Rattle.gather.proofs.Numbered.{functions-sound, passed-known}
 use Rattle.model.specs.Redirect.{nameWord}
-use Rattle.laws.proofs.Writing.{flat-right}
+use Rattle.laws.specs.Writing.{flat-right}
 use Rattle.listing.specs.Lines.{NamesKnown, Naming, Passed}
 
 -- ---- in the table

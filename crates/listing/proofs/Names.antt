@@ -18,9 +18,9 @@ use Rattle.model.specs.View.{recordAt}
 use Rattle.model.specs.FunctionView.{argumentsAt}
 use Rattle.model.specs.Taped.{Taped, Tape}
 use Rattle.model.specs.Carry.{Lays, lays-none, lays-next}
-use Rattle.laws.proofs.Lists.{and-split}
-use Rattle.laws.proofs.Views.{looked-getD, view-length, view-within, view-first, sees-name}
-use Rattle.laws.proofs.FunctionViews.{Part, part-end, part-right, part-word, part-words, parts, head-classes, taped-held, taped-write, taped-length, taped-offset, taped-functions, taped-function, taped-part, table-least}
+use Rattle.laws.specs.Lists.{and-split}
+use Rattle.laws.specs.Views.{looked-getD, view-length, view-within, view-first, sees-name}
+use Rattle.laws.specs.FunctionViews.{Part, part-end, part-right, part-word, part-words, parts, head-classes, taped-held, taped-write, taped-length, taped-offset, taped-functions, taped-function, taped-part, table-least}
 use Rattle.words.specs.Words.{bytesOf}
 use Rattle.words.proofs.Laws.{length-bytesOf}
 use Rattle.gather.proofs.Whole.{found, each-found, offsets}

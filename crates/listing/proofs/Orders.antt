@@ -18,7 +18,7 @@ use Rattle.calls.specs.declared.Ordered.{Ordered}
 use Rattle.calls.specs.declared.Ordered.the-variants.{All}
 use Rattle.calls.proofs.Lists.{either, in-keep}
 use Rattle.calls.proofs.Theorems.{claims}
-use Rattle.laws.proofs.FunctionViews.{taped-functions}
+use Rattle.laws.specs.FunctionViews.{taped-functions}
 use Rattle.gather.specs.Gathering.{Listed}
 use Rattle.gather.proofs.Whole.{few}
 use Rattle.listing.specs.Lines.{Printable}

@@ -15,11 +15,11 @@ use Rattle.model.specs.Taped.{Tape, Taped}
 use Rattle.model.specs.Between.{between}
 use Rattle.model.specs.Operands.{optional}
 use Rattle.model.specs.Lower.{below, typesLower, operandsLower, functionsLower, entriesLower, initOf, initsLower, lower}
-use Rattle.laws.proofs.Lists.{and-right}
-use Rattle.laws.proofs.Plain.{plain?}
-use Rattle.laws.proofs.Quiet.{Plainly, plain-none, plain-next, plainly}
-use Rattle.laws.proofs.FunctionViews.{each-at, part-end, part-word, taped-held, taped-length}
-use Rattle.laws.proofs.Betweens.{table-between, table-count, record-offset, record-part}
+use Rattle.laws.specs.Lists.{and-right}
+use Rattle.laws.specs.Plain.{plain?}
+use Rattle.laws.specs.Quiet.{Plainly, plain-none, plain-next, plainly}
+use Rattle.laws.specs.FunctionViews.{each-at, part-end, part-word, taped-held, taped-length}
+use Rattle.laws.specs.Betweens.{table-between, table-count, record-offset, record-part}
 use Rattle.lower.specs.Passes.{pass, typeNext, typeOk, exprNext, exprOk, wordAt, initOk, Reaches}
 use Rattle.lower.proofs.Sections.{types-are, exprs-are, functions-are, entries-are, inits-are}
 

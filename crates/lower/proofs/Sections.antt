@@ -12,9 +12,9 @@ use Rattle.model.specs.Module.{countAt, places, flatTable}
 use Rattle.model.specs.Carry.{Lays, Each, each-none, each-next, WellFunction, WellEntry}
 use Rattle.model.specs.Operands.{optional, operand, opsOf}
 use Rattle.model.specs.Lower.{below, basesOf, typesLower, operandsLower, functionsLower, entriesLower, initOf, initsOf, initsLower}
-use Rattle.laws.proofs.Lists.{and-assoc, and-right}
-use Rattle.laws.proofs.FunctionViews.{Field, field?, field-not, Expression, expression, expression-shape}
-use Rattle.laws.proofs.Quiet.{each-append, each-map, Quiet, quiet-type-kind, quiet-expr-kind, Typed, typed, type-shape, before, before-quiet, body-quiet, entry-quiet, Plainly, plain-none, plain-next, named-shape}
+use Rattle.laws.specs.Lists.{and-assoc, and-right}
+use Rattle.laws.specs.FunctionViews.{Field, field?, field-not, Expression, expression, expression-shape}
+use Rattle.laws.specs.Quiet.{each-append, each-map, Quiet, quiet-type-kind, quiet-expr-kind, Typed, typed, type-shape, before, before-quiet, body-quiet, entry-quiet, Plainly, plain-none, plain-next, named-shape}
 use Rattle.lower.specs.Passes.{pass, typeNext, typeOk, exprNext, exprOk, wordAt, initOk}
 
 -- ---- runs of cells one behind the other

@@ -12,7 +12,7 @@ use Rattle.model.specs.Table.{TYPE, CONSTANT, OVERRIDE, EXPR, OPT-EXPR, NAMED, 
 use Rattle.model.specs.Module.{countAt, offsetAt}
 use Rattle.model.specs.View.{recordAt}
 use Rattle.model.specs.Between.{between, Stretch}
-use Rattle.laws.proofs.Betweens.{between-none, between-next}
+use Rattle.laws.specs.Betweens.{between-none, between-next}
 use Rattle.lower.specs.Passes.{pass, typeNext, typeOk, exprNext, exprOk, wordAt, initOk, Reaches}
 
 -- ---- counts and tests

@@ -17,12 +17,12 @@ use Rattle.model.specs.Taped.{Taped}
 use Rattle.model.specs.Between.{between}
 use Rattle.model.specs.Carry.{Lays, lays-next, Each}
 use Rattle.model.specs.Names.{field, present, distinct, differ, functionsNamed, entriesNamed, functionNames, entryNames, named, NumbersFew, Numbered}
-use Rattle.laws.proofs.Plain.{plain?}
-use Rattle.laws.proofs.Quiet.{Plainly, plain-none, plain-next, plainly}
-use Rattle.laws.proofs.Views.{sees-name, sees-pair, sees-special}
-use Rattle.laws.proofs.Tapes.{taped-same}
-use Rattle.laws.proofs.FunctionViews.{Part, part-end, part-word, part-words, parts, taped-held, taped-length, taped-count, taped-offset, taped-functions, taped-entries, taped-part, taped-function, taped-entry-head, looked-each}
-use Rattle.laws.proofs.Betweens.{table-between, table-count, record-offset, record-part}
+use Rattle.laws.specs.Plain.{plain?}
+use Rattle.laws.specs.Quiet.{Plainly, plain-none, plain-next, plainly}
+use Rattle.laws.specs.Views.{sees-name, sees-pair, sees-special}
+use Rattle.laws.specs.Tapes.{taped-same}
+use Rattle.laws.specs.FunctionViews.{Part, part-end, part-word, part-words, parts, taped-held, taped-length, taped-count, taped-offset, taped-functions, taped-entries, taped-part, taped-function, taped-entry-head, looked-each}
+use Rattle.laws.specs.Betweens.{table-between, table-count, record-offset, record-part}
 use Rattle.names.specs.Passes.{listing, placeOf, numberAt, Placed, nameAt, Spelled, NONE, marking, Small}
 use Rattle.names.proofs.Marks.{functions-are, entries-are, functions-small, entries-small}
 

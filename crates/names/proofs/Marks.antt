@@ -14,9 +14,9 @@ use Rattle.model.specs.Tree.{Function, Entry, flat, flatEntry, flatAll, flatLis
 use Rattle.model.specs.Module.{flatTable}
 use Rattle.model.specs.Carry.{Lays, Each, each-none, each-next, WellFunction, WellEntry}
 use Rattle.model.specs.Names.{field, present, absent, distinct, expressionsNamed, functionsNamed, entriesNamed, Few}
-use Rattle.laws.proofs.Lists.{and-assoc, and-right}
-use Rattle.laws.proofs.FunctionViews.{Field, field-not, Expression, expression, expression-shape}
-use Rattle.laws.proofs.Quiet.{each-append, each-map, Quiet, quiet-named-expr, quiet-named, Plainly, plain-none, plain-next, named-shape, before-quiet, body-quiet, entry-quiet, places-quiet}
+use Rattle.laws.specs.Lists.{and-assoc, and-right}
+use Rattle.laws.specs.FunctionViews.{Field, field-not, Expression, expression, expression-shape}
+use Rattle.laws.specs.Quiet.{each-append, each-map, Quiet, quiet-named-expr, quiet-named, Plainly, plain-none, plain-next, named-shape, before-quiet, body-quiet, entry-quiet, places-quiet}
 use Rattle.names.specs.Passes.{unnamed, NONE, marking, Small}
 
 -- ---- marks

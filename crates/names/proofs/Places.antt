@@ -12,9 +12,9 @@ use lib.Seq.{slice, slice-cons, getD-set-same, getD-set-other}
 use borrow.Author.Tests.{eqb-true, eqb-false, eq-eqb, ne-eqb, not-true, not-false}
 use Rattle.model.specs.Carry.{Each, each-none, each-next}
 use Rattle.model.specs.Names.{absent, distinct, same, unlike, differ}
-use Rattle.laws.proofs.Lists.{and-split}
-use Rattle.laws.proofs.Betweens.{slice-none}
-use Rattle.laws.proofs.Quiet.{each-map}
+use Rattle.laws.specs.Lists.{and-split}
+use Rattle.laws.specs.Betweens.{slice-none}
+use Rattle.laws.specs.Quiet.{each-map}
 use Rattle.names.specs.Passes.{listing}
 use Rattle.names.specs.Places.{mix, mixed, hash, print, SEVERAL, shows, stands, Leaves, Seen, New}
 

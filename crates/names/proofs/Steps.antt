@@ -15,7 +15,7 @@ use Rattle.model.specs.View.{recordAt, recordEnd}
 use Rattle.model.specs.Between.{between, Stretch}
 use Rattle.model.specs.Carry.{Each, each-next}
 use Rattle.model.specs.Names.{present, absent, same, unlike}
-use Rattle.laws.proofs.Betweens.{between-none, between-next, slice-none}
+use Rattle.laws.specs.Betweens.{between-none, between-next, slice-none}
 use Rattle.names.specs.Passes.{listing, placeOf, numberAt, Placed, nameAt, Spelled, unnamed, NONE, marking, Small}
 
 -- ---- places

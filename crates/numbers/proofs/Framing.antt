@@ -17,8 +17,8 @@ use Rattle.model.specs.FunctionView.{returnsAt, localsAt, expressionsAt}
 use Rattle.model.specs.Taped.{Taped, Tape}
 use Rattle.model.specs.Initial.{initialised}
 use Rattle.model.specs.Numbers.{Bounds, within, ordered, every, outside, inside, sound, soundFunction, soundEntry, constantOnly, numbered}
-use Rattle.laws.proofs.Views.{sees-entry}
-use Rattle.laws.proofs.FunctionViews.{arguments-count, locals-count, exprs-count, stands-end, looked-at, taped-part, taped-function, taped-entry, taped-functions, taped-entries}
+use Rattle.laws.specs.Views.{sees-entry}
+use Rattle.laws.specs.FunctionViews.{arguments-count, locals-count, exprs-count, stands-end, looked-at, taped-part, taped-function, taped-entry, taped-functions, taped-entries}
 use Rattle.numbers.specs.Ranges.{Long, table, headed, owned, Checked, Owned, Says, Tabled, Frame, Framed, Sound, Loose, Loosely, Lists, Listed, Initialised, tablesFine, kindsFine, functionsFine, entriesFine}
 use Rattle.numbers.proofs.Tabling.{and-next, part-between, taped-long, cells-few, headed-is}
 

@@ -13,7 +13,7 @@ use borrow.Author.Tests.{lt-ltb, le-ltb, eq-eqb, ne-eqb, not-true, not-false}
 use Rattle.model.specs.Outcome.{Cells}
 use Rattle.model.specs.Module.{countAt}
 use Rattle.model.specs.Numbers.{Bounds, caps, bound, below, within, rising, ordered}
-use Rattle.laws.proofs.Betweens.{slice-none}
+use Rattle.laws.specs.Betweens.{slice-none}
 use Rattle.numbers.specs.Ranges.{Long, paired, between, cap, upTo, table, codes, headed, owned, Ranged, Checked, Owned}
 
 -- ---- the cells between two places

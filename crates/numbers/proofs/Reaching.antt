@@ -19,9 +19,9 @@ use Rattle.model.specs.FunctionView.{localsAt, expressionsAt}
 use Rattle.model.specs.Operands.{constantKind, optional, opsOf, ops, kindAt}
 use Rattle.model.specs.Initial.{Mem, here, root, step, Reached, initsOf, roots, initialised}
 use Rattle.model.specs.Reached.{initialised-is, initialised-all}
-use Rattle.laws.proofs.Plain.{plain?, plain-classes}
-use Rattle.laws.proofs.Sections.{startOf}
-use Rattle.laws.proofs.FunctionViews.{Held, Part, part-end, part-left, part-right, part-word, part-tag, field?, field-not, Expression, expression-first, expression-class, expression-field, list-all, locals-count, exprs-count, exprs-all, exprs-shapes, expr-part, expr-kind, named-class, stands-end, parts}
+use Rattle.laws.specs.Plain.{plain?, plain-classes}
+use Rattle.laws.specs.Sections.{startOf}
+use Rattle.laws.specs.FunctionViews.{Held, Part, part-end, part-left, part-right, part-word, part-tag, field?, field-not, Expression, expression-first, expression-class, expression-field, list-all, locals-count, exprs-count, exprs-all, exprs-shapes, expr-part, expr-kind, named-class, stands-end, parts}
 use Rattle.model.specs.Members.{no-mem, mem-left, mem-right, mem-cases}
 use Rattle.numbers.specs.Ranges.{Long, between, Lists, Listed, Initialised}
 use Rattle.numbers.specs.Marks.{finds, on, blank, inits, Visits, Room, Done, Work, Starting, Reaching, Reaches}
@@ -148,7 +148,7 @@ module _ (words tags starts m₀ l₀ : List ℕ) (t₀ e : ℕ) where
             long-part = expression-first (each-shape x number)
               where
                 each-shape : (x : ℕ) → x < length (f .exprs) → Expression (getD (f .exprs) x [])
-                each-shape x n = Rattle.laws.proofs.FunctionViews.each-at (exprs-shapes (ls .own)) x [] n
+                each-shape x n = Rattle.laws.specs.FunctionViews.each-at (exprs-shapes (ls .own)) x [] n
 
           pub reach-at : at < 16384
           reach-at =

@@ -16,8 +16,8 @@ use Rattle.model.specs.View.{tables, recordAt, recordEnd}
 use Rattle.model.specs.Taped.{Taped, Tape}
 use Rattle.model.specs.Operands.{kind, constantKind}
 use Rattle.model.specs.Numbers.{Bounds, caps, bound, below, within, every, outside, constantOnly}
-use Rattle.laws.proofs.Views.{length-write, view-rising, view-next, view-within, view-last, view-section, view-table, view-records, sees-names, sees-types, sees-constants, sees-overrides, sees-globals, sees-exprs, sees-functions, sees-special, sees-expr}
-use Rattle.laws.proofs.FunctionViews.{Held, Part, part-words, part-tags, part-word, part-end, each-at, Expression, expression-first, expression-kind, each-expression, looked-at, taped-write, taped-held, taped-count, taped-offset, taped-part, table-least}
+use Rattle.laws.specs.Views.{length-write, view-rising, view-next, view-within, view-last, view-section, view-table, view-records, sees-names, sees-types, sees-constants, sees-overrides, sees-globals, sees-exprs, sees-functions, sees-special, sees-expr}
+use Rattle.laws.specs.FunctionViews.{Held, Part, part-words, part-tags, part-word, part-end, each-at, Expression, expression-first, expression-kind, each-expression, looked-at, taped-write, taped-held, taped-count, taped-offset, taped-part, table-least}
 use Rattle.numbers.specs.Ranges.{Long, paired, between, table, headed, Ranged, Says, Tabled, tablesFine, kindsFine}
 
 -- ---- the cells between two places are the part that stands there

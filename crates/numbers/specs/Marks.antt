@@ -11,7 +11,7 @@ use Rattle.model.specs.Table.{EXPR, OPT-EXPR, NAMED, EXPR-KIND}
 use Rattle.model.specs.Tree.{Function}
 use Rattle.model.specs.Operands.{optional, ops, kindAt, constantKind}
 use Rattle.model.specs.Initial.{Mem, Reached, roots, initialised}
-use Rattle.laws.proofs.Sections.{startOf}
+use Rattle.laws.specs.Sections.{startOf}
 use Rattle.numbers.specs.Ranges.{Lists}
 
 -- ---- where records start: the places of kinds, up to the count of named expressions and with it

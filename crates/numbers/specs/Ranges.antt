@@ -13,7 +13,7 @@ use Rattle.model.specs.Taped.{Taped}
 use Rattle.model.specs.FunctionView.{localsAt, expressionsAt}
 use Rattle.model.specs.Initial.{initialised}
 use Rattle.model.specs.Numbers.{Bounds, bound, within, ordered, every, outside, inside, sound, soundFunction, soundEntry, constantOnly}
-use Rattle.laws.proofs.FunctionViews.{Part, Stands}
+use Rattle.laws.specs.FunctionViews.{Part, Stands}
 
 -- ---- words and tape, which are lent as arrays
 pub record Long (words tags : List ℕ) : Type 0 where

@@ -11,8 +11,8 @@ use Rattle.model.specs.Tree.{Function, Entry, flat, flatEntry, flatAll}
 use Rattle.model.specs.Module.{Module, offsetAt, HEADER, places, flatTable, Section, sections, pairsFrom, bodies, flatModule, write}
 use Rattle.model.specs.View.{tables, recordAt}
 use Rattle.model.specs.Redirect.{withFunctions, withEntries, nothing, function}
-use Rattle.laws.proofs.Sections.{startOf, cellsOf, length-places, length-pairs}
-use Rattle.laws.proofs.Views.{offset-start, at-start}
+use Rattle.laws.specs.Sections.{startOf, cellsOf, length-places, length-pairs}
+use Rattle.laws.specs.Views.{offset-start, at-start}
 
 -- ---- one run of many replaced
 flat-set : (rs : List Cells) (k : ℕ) (r : Cells) → k < length rs → flatAll (set rs k r) ≡ flatAll (take k rs) ++ (r ++ flatAll (drop (suc k) rs))

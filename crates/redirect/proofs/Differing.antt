@@ -13,8 +13,8 @@ use Rattle.model.specs.Tree.{Function, Entry, flat, flatEntry, flatAll, functio
 use Rattle.model.specs.Module.{Module, places, flatTable, flatModule}
 use Rattle.model.specs.Carry.{carryCell, carryCells, Each, each-none, each-next, WellFunction, WellEntry, WellFormed}
 use Rattle.model.specs.Redirect.{nameWord, redirecting, redirectFn, redirectEntry, stays, redirectFns, withFunctions, withEntries, redirect}
-use Rattle.laws.proofs.Writing.{write-function, write-entry}
-use Rattle.laws.proofs.Carries.{flat-carry-function, flat-carry-entry, carry-well-function, carry-well-entry}
+use Rattle.laws.specs.Writing.{write-function, write-entry}
+use Rattle.laws.specs.Carries.{flat-carry-function, flat-carry-entry, carry-well-function, carry-well-entry}
 use Rattle.redirect.specs.Claims.{Differs, differs-none, differs-same, differs-call, differs-result}
 use Rattle.redirect.proofs.Turning.{redirecting-keeps, well-functions, well-entries}
 use Rattle.redirect.proofs.Contexts.{functions-before, functions-behind, functions-in, entries-before, entries-behind, entries-in}

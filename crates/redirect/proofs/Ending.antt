@@ -12,7 +12,7 @@ use types.Run.{OneOf, miss}
 use Rattle.model.specs.Module.{Module, write}
 use Rattle.model.specs.Taped.{Taped, Tape}
 use Rattle.model.specs.Redirect.{find, allBelow, argumentTypes, agree, resultType, same, redirect, Answer, redirected, outside, noOriginal, noReplacement, argumentsDiffer, resultsDiffer, after, function, compared, withReplacement, withOriginal, redirectFunction}
-use Rattle.laws.proofs.FunctionViews.{taped-write}
+use Rattle.laws.specs.FunctionViews.{taped-write}
 use Rattle.redirect.specs.Passes.{both, refused, shown, told, Tests, Turns, redirectedBy, Redirects}
 use Rattle.redirect.specs.declared.Redirected.{Redirected}
 use Rattle.redirect.specs.declared.Redirected.the-variants.{Done, Outside, NoOriginal, NoReplacement, ArgumentsDiffer, ResultsDiffer}

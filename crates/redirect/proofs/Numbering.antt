@@ -16,10 +16,10 @@ use Rattle.model.specs.Carry.{carryCell, carryCells, carryFunction, carryEntry,
 use Rattle.model.specs.Initial.{initialised}
 use Rattle.model.specs.Numbers.{Bounds, bound, caps, below, within, rising, ordered, every, outside, inside, sound, soundFunction, soundEntry, constantOnly, numbered}
 use Rattle.model.specs.Redirect.{nameWord, redirecting, redirectFn, redirectEntry, stays, redirectFns, withFunctions, withEntries, redirect}
-use Rattle.laws.proofs.Lists.{and-true, and-split}
-use Rattle.laws.proofs.Plain.{plain-more}
-use Rattle.laws.proofs.Carries.{flat-carry-function, flat-carry-entry}
-use Rattle.laws.proofs.FunctionViews.{Field, field-not, Expression, expression, each-expression, variant-brings}
+use Rattle.laws.specs.Lists.{and-true, and-split}
+use Rattle.laws.specs.Plain.{plain-more}
+use Rattle.laws.specs.Carries.{flat-carry-function, flat-carry-entry}
+use Rattle.laws.specs.FunctionViews.{Field, field-not, Expression, expression, each-expression, variant-brings}
 use Rattle.redirect.proofs.Turning.{redirecting-keeps}
 use Rattle.redirect.proofs.Differing.{by-class, by-word, fns-long}
 use Rattle.redirect.proofs.Kept.{turn, pick, initialised-kept}

@@ -7,7 +7,7 @@ use native.Mathlib.Nat.{le-refl}
 use native.Mathlib.Omega.{arith}
 use lib.ListN.{length, getD, set, take, drop, length-set}
 use lib.Seq.{slice, sets, slice-cons, take-set-lt, drop-set-lt}
-use Rattle.laws.proofs.Betweens.{slice-none}
+use Rattle.laws.specs.Betweens.{slice-none}
 
 slice-set : (i end : ℕ) (l : List ℕ) (v : ℕ) → i < end → slice (suc i) end (set l i v) ≡ slice (suc i) end l
 slice-set i end l v h = ap (drop (suc i)) (take-set-lt end l i v h) ∙ drop-set-lt (suc i) (take end l) i v (le-refl (suc i))

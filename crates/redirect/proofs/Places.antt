@@ -17,7 +17,7 @@ use Rattle.model.specs.View.{recordAt, recordEnd}
 use Rattle.model.specs.FunctionView.{argumentAt, returnsAt, localsAt}
 use Rattle.model.specs.Taped.{Taped, Tape}
 use Rattle.model.specs.Redirect.{nameWord, argumentTypes, typeBehind, resultType, nothing, function}
-use Rattle.laws.proofs.FunctionViews.{part-word, Stands, parts, head-classes, arguments-count, argument-part, argument-type, returns-bound, returns-zero, returns-one, looked-at, taped-length, taped-count, taped-offset, taped-functions, taped-function, offset-inside}
+use Rattle.laws.specs.FunctionViews.{part-word, Stands, parts, head-classes, arguments-count, argument-part, argument-type, returns-bound, returns-zero, returns-one, looked-at, taped-length, taped-count, taped-offset, taped-functions, taped-function, offset-inside}
 use Rattle.redirect.proofs.Contexts.{map-at}
 
 -- ---- a function of a module that words and tape hold

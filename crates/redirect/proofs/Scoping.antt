@@ -16,7 +16,7 @@ use Rattle.model.specs.Operands.{opsOf, resultOf, functionOf, emittedKind, ops,
 use Rattle.model.specs.Initial.{marked, initials}
 use Rattle.model.specs.Scope.{XStmt, XForm, XBlock, XCase, XCases, expandS, expandF, expand, expandK, expandC, Place, inBody, inSwitch, inLoop, inContinuing, shapeS, shapeF, shapeB, shapeK, shapeC, emitted, isOf, callResult, effectResult, kindsS, kindsF, kindsB, kindsK, kindsC, evalsOpt, evalsS, evalsF, evalsB, evalsK, evalsC, distinct, addOpt, addF, addS, topB, holdsS, holdsF, holdsB, holdsK, holdsC, contB, vis, allVis, optVis, okE, okS, okF, okB, okK, okC, allOf, seen, scopedAs, scoped, allScoped, entriesScoped, inScope}
 use Rattle.model.specs.Redirect.{nameWord, redirecting, redirectFn, redirectEntry, stays, redirectFns, withFunctions, withEntries, redirect}
-use Rattle.laws.proofs.Lists.{opt-of, and-true, and-split}
+use Rattle.laws.specs.Lists.{opt-of, and-true, and-split}
 use Rattle.redirect.proofs.Kept.{turn, pick, ops-kept, result-kept, kindAt-kept, opsAt-kept, functionAt-is, standing-kept, initials-kept}
 
 module _ (a b : ℕ) where

@@ -8,7 +8,7 @@ use lib.Seq.{sets, length-sets, length-take-le, take-at}
 use Rattle.model.specs.Module.{Module, write}
 use Rattle.model.specs.Taped.{Taped, Tape}
 use Rattle.model.specs.Redirect.{redirect, Answer, redirected, outside, noOriginal, noReplacement, argumentsDiffer, resultsDiffer, after, redirectFunction}
-use Rattle.laws.proofs.FunctionViews.{taped-write}
+use Rattle.laws.specs.FunctionViews.{taped-write}
 use Rattle.words.specs.Words.{bytesOf}
 use Rattle.words.proofs.Laws.{length-bytesOf}
 use Rattle.redirect.specs.Passes.{both, refused, told, Redirects, imageAfter, Stores}

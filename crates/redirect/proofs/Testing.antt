@@ -8,8 +8,8 @@ use lib.ListN.{length, getD}
 use Rattle.model.specs.Module.{Module, countAt}
 use Rattle.model.specs.Taped.{Taped, Tape}
 use Rattle.model.specs.Redirect.{allBelow, withReplacement, withOriginal, redirectFunction}
-use Rattle.laws.proofs.Views.{sees-names}
-use Rattle.laws.proofs.FunctionViews.{taped-count}
+use Rattle.laws.specs.Views.{sees-names}
+use Rattle.laws.specs.FunctionViews.{taped-count}
 use Rattle.redirect.specs.Passes.{foundAt, shown, told, Finds, Compares, Tests}
 use Rattle.redirect.specs.declared.Found.{Found}
 use Rattle.redirect.specs.declared.Found.the-variants.{At, Nothing}

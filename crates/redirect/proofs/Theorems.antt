@@ -14,9 +14,9 @@ use Rattle.model.specs.Carry.{carryCells, WellFunction, WellFormed}
 use Rattle.model.specs.Intake.{tested, verdict, intakeOf, Passes}
 use Rattle.model.specs.Walk.{walk}
 use Rattle.model.specs.Redirect.{nameWord, find, allBelow, argumentTypes, agree, resultType, same, redirecting, redirectFn, stays, redirectFns, withFunctions, withEntries, redirect, redirected, outside, noReplacement, argumentsDiffer, resultsDiffer, function, compared, withReplacement, withOriginal, redirectFunction}
-use Rattle.laws.proofs.Carries.{flat-carry-function}
-use Rattle.laws.proofs.Modules.{write-read}
-use Rattle.laws.proofs.Views.{length-write, view-edition, view-total}
+use Rattle.laws.specs.Carries.{flat-carry-function}
+use Rattle.laws.specs.Modules.{write-read}
+use Rattle.laws.specs.Views.{length-write, view-edition, view-total}
 use Rattle.redirect.specs.Claims.{Differs}
 use Rattle.redirect.specs.Passes.{turned, told}
 use Rattle.redirect.proofs.Turning.{redirecting-keeps}

@@ -16,11 +16,11 @@ use Rattle.model.specs.View.{recordAt, recordEnd}
 use Rattle.model.specs.Carry.{Keeps, carryCell, carryCells, carryEntry, Each, each-none, each-next, WellFunction, WellEntry, WellFormed}
 use Rattle.model.specs.Taped.{Taped, Tape}
 use Rattle.model.specs.Redirect.{nameWord, redirecting, redirectFn, redirectEntry, stays, redirectFns, withFunctions, withEntries, redirect, nothing, function}
-use Rattle.laws.proofs.Lists.{map-append, map-map, map-same}
-use Rattle.laws.proofs.Carries.{carried-classes, carried-words, flat-carry-function, flat-carry-entry, flat-carry-table, carry-well-function, carry-well-entry}
-use Rattle.laws.proofs.Sections.{slice-middle}
-use Rattle.laws.proofs.Views.{length-write, view-length, view-next, view-within}
-use Rattle.laws.proofs.FunctionViews.{taped-write, taped-offset, taped-record, taped-count, part-end}
+use Rattle.laws.specs.Lists.{map-append, map-map, map-same}
+use Rattle.laws.specs.Carries.{carried-classes, carried-words, flat-carry-function, flat-carry-entry, flat-carry-table, carry-well-function, carry-well-entry}
+use Rattle.laws.specs.Sections.{slice-middle}
+use Rattle.laws.specs.Views.{length-write, view-length, view-next, view-within}
+use Rattle.laws.specs.FunctionViews.{taped-write, taped-offset, taped-record, taped-count, part-end}
 use Rattle.redirect.specs.Passes.{Turns, turned, turnOne, turnAll, redirectedBy}
 use Rattle.redirect.proofs.Contexts.{function-before, function-behind, function-in, function-here, function-long, entries-before, entries-behind, entries-in, entries-long}
 use Rattle.redirect.proofs.Places.{many, standing, end-in, name-is}

@@ -18,10 +18,10 @@ use Rattle.model.specs.Taped.{Tape, Taped}
 use Rattle.model.specs.Initial.{initialised}
 use Rattle.model.specs.Numbers.{Bounds, caps, bound, below, within, ordered, every, outside, inside, sound}
 use Rattle.model.specs.Scope.{scoped, allScoped, entriesScoped, inScope}
-use Rattle.laws.proofs.FunctionViews.{part-end, looked-at}
+use Rattle.laws.specs.FunctionViews.{part-end, looked-at}
 use Rattle.numbers.specs.Ranges.{Says, Frame, tablesFine, kindsFine, functionsFine, entriesFine}
 use Rattle.numbers.proofs.Framing.{Word, noFunction, noEntry, Framing, framing-functions, framing-entries, functions-in, entries-in, numbered-is}
-use Rattle.laws.proofs.Lists.{and-split}
+use Rattle.laws.specs.Lists.{and-split}
 use Rattle.scope.specs.Functions.{Stated, Scoped, Numbered, functionsScoped, entryPointsScoped}
 use Rattle.scope.proofs.Trees.{Runs, runs-word}
 use Rattle.scope.proofs.Whole.{part-runs}

@@ -9,7 +9,7 @@ use Rattle.model.specs.Outcome.{Cells}
 use Rattle.model.specs.Tree.{Stmt, stmt, Form, emit, block, branch, switch, loop, break, continue, return, kill, call, effect, Block, end, _then_, Case, case, Cases, nomore, _also_, Range}
 use Rattle.model.specs.Operands.{opsOf, resultOf, emittedKind, ops, kindAt, standing}
 use Rattle.model.specs.Scope.{Place, inBody, inSwitch, inLoop, inContinuing, inRange, live, expandS, expandF, expand, expandK, expandC, shapeS, shapeF, shapeB, shapeK, shapeC, emitted, callResult, effectResult, kindsS, kindsF, kindsB, kindsK, kindsC, evalsS, evalsF, evalsB, evalsK, evalsC, evalsOpt, has, distinct, addE, addS, topB, contB, vis, allVis, optVis, okE, okS, okF, okB, okK, okC, scopedAs}
-use Rattle.laws.proofs.Lists.{bool-same}
+use Rattle.laws.specs.Lists.{bool-same}
 use Rattle.scope.specs.Fine.{keepAll, doneB, doneS, doneK, doneC, fresh, nextE, oneE, fineE, fineS, fineF, fineB, fineK, fineC}
 
 -- ---- tests

@@ -13,7 +13,7 @@ use Rattle.model.specs.Tree.{Stmt, stmt, Form, emit, block, branch, switch, loo
 use Rattle.model.specs.Carry.{OkF, ok-loop}
 use Rattle.model.specs.Operands.{optional, operand, opsOf, resultOf, standing}
 use Rattle.model.specs.Scope.{Place, XBlock, inSwitch, inLoop, inContinuing, inRange, expandS, expandF, expand, expandK, expandC, effectResult, evalsOpt, evalsS, evalsF, evalsB, addE, addOpt, addS, addF, topB, holdsS, holdsF, holdsB, holdsK, holdsC, contB, vis, allVis, optVis}
-use Rattle.laws.proofs.Lists.{and-split}
+use Rattle.laws.specs.Lists.{and-split}
 use Rattle.scope.specs.Fine.{keepAll, doneB, doneS, doneK, fresh, fineS, fineF, fineB, fineK, fineC}
 use Rattle.scope.specs.Tape.{between, stmtOf, HoldsB, HoldsS, exprsOf, Steps, stepped, marks}
 use Rattle.scope.specs.Lasts.{Scope, Kept, told, Finds, visibleAt, allSeen, fitsResult, placeOf, rangeOf, StmtHere, BlockHere, FindsS, FindsB, FoundS, FoundB, FoundR, FoundL}

@@ -10,7 +10,7 @@ use Rattle.model.specs.Outcome.{Cell, Cells, class, word}
 use Rattle.model.specs.Table.{BLOCK}
 use Rattle.model.specs.Tree.{Stmt, stmt, Form, kill, Block, end, _then_, Case, Cases, _also_, Range, sizeB, flatS, flatB, flatBlock, statement, blockAt, DEPTH}
 use Rattle.model.specs.Carry.{OkS, OkF, OkB, OkBs, OkK, OkC, ok-stmt, ok-emit, ok-block, ok-branch, ok-switch, ok-loop, ok-break, ok-continue, ok-return, ok-kill, ok-call, ok-effect, ok-deeper, ok-end, ok-then, ok-case, ok-nomore, ok-also}
-use Rattle.laws.proofs.Writing.{write-s, write-b}
+use Rattle.laws.specs.Writing.{write-s, write-b}
 use Rattle.scope.specs.Tape.{cellsFrom, between, got, blockOf, stmtOf, HoldsB, HoldsS, Ends, Steps, steps-none, steps-next, stepped}
 
 -- ---- runs

@@ -16,13 +16,13 @@ use Rattle.model.specs.Operands.{standing}
 use Rattle.model.specs.Initial.{Marks, marked, moving, initials, initial, reachedMarks, initialised}
 use Rattle.model.specs.Reached.{initial-is, initial-all}
 use Rattle.model.specs.Scope.{inBody, allOf, seen, scoped}
-use Rattle.laws.proofs.Sections.{startOf, start-end}
-use Rattle.laws.proofs.FunctionViews.{Held, Part, part-end, part-right, part-word, part-tag, namedAt, bodyAt, each-at, expression-first, expr-part, expr-shape, named-count, parts, stands-end}
+use Rattle.laws.specs.Sections.{startOf, start-end}
+use Rattle.laws.specs.FunctionViews.{Held, Part, part-end, part-right, part-word, part-tag, namedAt, bodyAt, each-at, expression-first, expr-part, expr-shape, named-count, parts, stands-end}
 use Rattle.numbers.specs.Ranges.{Lists, Listed, Framed}
 use Rattle.numbers.specs.Marks.{finds, on, inits, Visits, Work, Starting, Reaching, Reaches}
 use Rattle.numbers.proofs.Reaching.{all, starting, begun, many-is, many-few, end-in}
 use Rattle.numbers.proofs.Framing.{Word, lists-are}
-use Rattle.laws.proofs.Lists.{and-split, bool-same}
+use Rattle.laws.specs.Lists.{and-split, bool-same}
 use Rattle.scope.specs.Fine.{fineB}
 use Rattle.scope.specs.Tape.{cellsFrom, between, blockOf, HoldsB, Ends, recordOf, tableFrom, exprsOf, Placed, Exprs, marks}
 use Rattle.scope.specs.Lasts.{BlockHere}

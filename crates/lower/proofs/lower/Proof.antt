@@ -1,7 +1,7 @@
 -- `lower::lower` meets its contract: the pass over each section is the definition on that table, and the first that fails decides.
 use native.Mathlib.Omega.{arith}
 use mathlib.Core.Path.{_∙_}
-use Rattle.laws.proofs.Betweens.{header-stretch}
+use Rattle.laws.specs.Betweens.{header-stretch}
 use Rattle.lower.proofs.Answer.{types-answer, exprs-answer, inits-answer, functions-answer, entries-answer, reach, types-fail, exprs-fail, inits-fail, functions-fail, last}
 use borrow.Author.Needs.{needs}
 use Rattle.lower.proofs.lower.Statement.{statement}

@@ -1,6 +1,6 @@
 -- `names::named` meets its contract: each pass is the definition on its table, and the first that fails decides.
 use native.Mathlib.Omega.{arith}
-use Rattle.laws.proofs.Betweens.{header-stretch}
+use Rattle.laws.specs.Betweens.{header-stretch}
 use Rattle.names.proofs.Answer.{functions-placed, entries-placed, pairs-placed, spelled, few-functions, few-entries, functions-present, entries-present, functions-named, entries-named, names-differ, functions-distinct, keys-distinct, fail-1, fail-2, fail-3, fail-4, fail-5, fail-6, last}
 use borrow.Author.Needs.{needs}
 use Rattle.names.proofs.named.Statement.{statement}
