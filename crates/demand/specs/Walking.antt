@@ -67,7 +67,7 @@ unfolding memosOf appendAll
 memos-at [] vs i m s ms (once-next h o) l = memos-other vs m _ _ i h ∙ getD-set-same ms i _ [] l
 memos-at (x ∷ us) vs i m s ms (once-next h o) l = memos-at us vs i m (append 0 m (follow 0 m) x s) _ o (rw (length-set ms x (final 0 m (follow 0 m) (functionAt m x) s .memo)) l)
 
-map-at : {A B : Type 0} (f : A → B) (l : List A) (i : ℕ) (x : A) → getElem? l i ≡ some x → getElem? (map f l) i ≡ some (f x)
+pub map-at : {A B : Type 0} (f : A → B) (l : List A) (i : ℕ) (x : A) → getElem? l i ≡ some x → getElem? (map f l) i ≡ some (f x)
 map-at f [] i x e = let z : _≡_ {A = ℕ} 0 1 = cc in absurd (omega arith)
 map-at f (y ∷ l) zero x e = let q : y ≡ x = cc in rw q
 map-at f (y ∷ l) (suc i) x e = map-at f l i x e
@@ -284,6 +284,8 @@ module _ (m : Module) (well : WellFormed m) (ok : Passes m) where
       pub is : getElem? (entriesMade es 0 m s) p ≡ some (entryMade 0 m E state)
       pub memo : getD (memosIn es m s) p [] ≡ Fin E state .memo
       pub keeps : Keeps (Fin E state .out) (enterAll es 0 m s)
+      -- with its name
+      pub head-keeps : Keeps (entered 0 m E state .out) (enterAll es 0 m s)
 
     turn : (es : List Entry) → ((E : Entry) → Among E es → Sound m E) → every (soundEntry (outside m)) es ≡ true → (s : St) → Going m z s → (p : ℕ) (E : Entry) → getElem? es p ≡ some E → Turn es s p E
     unfolding entriesMade memosIn enterAll every Stays
@@ -298,10 +300,11 @@ module _ (m : Module) (well : WellFormed m) (ok : Passes m) where
           is = refl;
           memo = unfold entered in each-memo (refs (E .head)) (Fin E s);
           keeps = enter-all-kept m (ok .numbers) (stays-keeping (Fin E s .out)) es v (entered 0 m E s .out) (head-stays E k s g) .1;
+          head-keeps = enter-all-kept m (ok .numbers) (stays-keeping (entered 0 m E s .out)) es v (entered 0 m E s .out) (head-stays E k s g .0, keeps-self (entered 0 m E s .out)) .1;
         })
     turn (D ∷ es) h v s g (suc p) E q =
         let t = turn es (λ C k. h C (later k)) (and-split (soundEntry (outside m) D) _ v .1) (entered 0 m D s .out) (entry-going m well ok os e D (h D first) s g) p E q in
-        record { state = t .state; sound = t .sound; going = t .going; is = t .is; memo = t .memo; keeps = t .keeps }
+        record { state = t .state; sound = t .sound; going = t .going; is = t .is; memo = t .memo; keeps = t .keeps; head-keeps = t .head-keeps }
 
     pub the-turn : (p : ℕ) (E : Entry) → getElem? (m .entries) p ≡ some E → Turn (m .entries) z p E
     the-turn p E q = turn (m .entries) (entry-sound m well ok os e) (specials-in m (ok .numbers) .2) z (at-end m well ok os e) p E q
