@@ -1,4 +1,4 @@
--- A RECORD CARRIED AGREES, as agreement in full has it: what is left open needs this of each record, with the maps in the end (`Becomes`).
+-- A RECORD CARRIED AGREES, as agreement in full has it, if the maps in the end say of each number that it refers to where it went (`Becomes`).
 use mathlib.Core.Path.{_≡_, refl, sym, ap, _∙_}
 use mathlib.Core.Bool.{true}
 use mathlib.Core.List.{List, [], _∷_}
@@ -8,7 +8,7 @@ use borrow.Author.Tests.{eq-eqb}
 use Rattle.model.specs.Outcome.{Cells, class, word}
 use Rattle.model.specs.Module.{Module}
 use Rattle.model.specs.Carry.{carryCell, carryCells}
-use Rattle.model.specs.References.{Place, Target, copied, start, upto, ref, opt, target, Node, refOf, refs, carryW, through}
+use Rattle.model.specs.References.{Target, copied, start, upto, ref, opt, target, Node, refOf, refs, carryW, through}
 use Rattle.model.specs.Agreement.{Mapping, becomes, agreesW, agreesR}
 use Rattle.laws.specs.Lists.{and-true}
 use Rattle.imports.specs.RecordLaws.{All, Went, bareW, bare, rest-of}

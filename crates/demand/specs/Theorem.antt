@@ -1,27 +1,24 @@
 -- DEMAND 3, from what is left open.
-use mathlib.Core.Path.{_≡_, refl, sym, ap, _∙_}
-use mathlib.Core.Bool.{true, false}
-use mathlib.Core.List.{List, [], _∷_, _++_, map, append-nil}
+use mathlib.Core.Path.{_≡_, refl, ap, _∙_}
+use mathlib.Core.Bool.{true}
+use mathlib.Core.List.{List, []}
 use mathlib.Core.Option.{some}
-use Prim.Native.Nat.{ℕ, suc, _*_, _≤_}
+use Prim.Native.Nat.{ℕ, suc, _*_}
 use native.Mathlib.Omega.{arith}
 use lib.ListN.{length, getD, getElem?, length-map}
-use Rattle.model.specs.Outcome.{laid}
 use Rattle.model.specs.Tree.{Function, Entry, flatAll}
-use Rattle.model.specs.Module.{Module, flatSpecial, read, write}
+use Rattle.model.specs.Module.{Module, flatSpecial}
 use Rattle.walks.specs.WholeLaws.{closed-records, agrees-append, agrees-flat}
 use Rattle.model.specs.Carry.{carry, carryFunction, WellFormed}
-use Rattle.model.specs.Intake.{Passes, intakeOf}
+use Rattle.model.specs.Intake.{Passes}
 use Rattle.model.specs.Scope.{scoped, allScoped, inScope}
 use Rattle.model.specs.Calls.{ordered}
 use Rattle.model.specs.Callees.{calls, orderOf}
-use Rattle.model.specs.Bodies.{enterAll, entriesMade}
+use Rattle.model.specs.Bodies.{keepNames, enterAll, entriesMade}
 use Rattle.model.specs.Finish.{renumber, appearing, withNames, namedBy, gathered, finished}
 use Rattle.model.specs.Session.{withEntries}
-use Rattle.model.specs.Link.{linkBy, linked, link}
+use Rattle.model.specs.Link.{linkBy}
 use Rattle.model.specs.LinkMaps.{linkMaps}
-use Rattle.model.specs.Tables.{Tab, names, exprs, isT, at, tables, recAt, mapAt}
-use Rattle.model.specs.Bodies.{keepNames}
 use Rattle.model.specs.Agreement.{Mapping, bodyOf, agreesR, agreesL, agreesN, stands, Holds, as-function, as-entry, Agreement}
 use Rattle.model.specs.Agreement as Whole
 use Rattle.calls.proofs.Theorems.{each-once, callees-first}
@@ -31,20 +28,19 @@ use Rattle.walks.specs.WholeWords.{made}
 use Rattle.walks.specs.Theorems.{carries, carries-sound}
 use Rattle.walks.specs.Tests.{and-l, and-r}
 use Rattle.walks.specs.FunctionProof.{scoped-at, entry-at}
-use Rattle.finishing.specs.Fresh.{stateAt, stays-small}
-use Rattle.finishing.specs.Size.{source-small}
-use Rattle.finishing.specs.Images.{image-read}
-use Rattle.finishing.specs.Finished.{finished-parts}
-use Rattle.finishing.specs.Linking.{Tests, intake-passes}
+use Rattle.finishing.specs.Fresh.{stateAt}
+use Rattle.finishing.specs.Linking.{intake-passes}
 use Rattle.finishing.specs.Whole.{session-links, linked-length, linked-read, linked-intake}
 use Rattle.demand.specs.Demand.{Linking, Walks, Output, Demand3}
 use Rattle.demand.specs.Exactly.{linked-as, link-exactly, placed, order-length}
 use Rattle.demand.specs.Order.{functions-made, all-entries}
 use Rattle.demand.specs.Places.{both-length}
 use Rattle.demand.specs.Tested.{tests}
+use Rattle.demand.specs.Records.{records-agree, rays-agree, pairs-agree}
+use Rattle.demand.specs.Heads.{heads-agree}
 use Rattle.demand.specs.Walking.{Apart, at-in, end-going, all-agree, function-agrees, function-apart, place-is, places-once, places-onto, the-turn, entry-apart, entries-count, entry-agrees}
 
--- ---- WHAT IS LEFT OPEN, of agreement in full: that the cells of the derived records agree with those of their sources, word by word. (That walks agree, that no two expressions share a record but those that may, and where functions and entry points stand, is proved.)
+-- ---- WHAT IS LEFT OPEN, of agreement in full: that the cells of the derived functions agree with those of their sources, word by word. (That walks agree, that no two expressions share a record but those that may, where functions and entry points stand, and that records of tables, heads of entry points and special types agree, is proved.)
 -- the cells of a function, `Agrees` of the crate model but for `apart`
 pub record SameCells (M M′ : Module) (μ : Mapping) (o : List ℕ) (F F′ : Function) : Type 0 where
   pub head : agreesR M M′ μ o (F .head) (F′ .head) ≡ true
@@ -56,14 +52,8 @@ pub record SameCells (M M′ : Module) (μ : Mapping) (o : List ℕ) (F F′ : F
   pub named : agreesN M M′ μ o (keepNames (F .named) o []) (F′ .named) ≡ true
 
 pub record Open (m : Module) (os : List ℕ) : Type 0 where
-  -- the tables' records that are mapped: all that are reached are among them (`closed-records`)
-  pub records : (t : Tab) (n k : ℕ) → isT t names ≡ false → mapAt (linkMaps os m .inTables) t n ≡ suc k → stands m (linkBy os m) (linkMaps os m) (linkMaps os m .inTables .ofExprs) (at t (tables (linkBy os m))) (suc k) (recAt (tables m) t n) ≡ true
   pub functions : (i : ℕ) (F F′ : Function) → getElem? (m .functions) i ≡ some F → getElem? (linkBy os m .functions) (made (linkMaps os m) .function i) ≡ some F′ → SameCells m (linkBy os m) (linkMaps os m) (getD (linkMaps os m .inFunctions) i []) F F′
   pub entries : (i : ℕ) (E E′ : Entry) → getElem? (m .entries) i ≡ some E → getElem? (linkBy os m .entries) i ≡ some E′ → SameCells m (linkBy os m) (linkMaps os m) (getD (linkMaps os m .inEntries) i []) (E .function) (E′ .function)
-  pub heads : (i : ℕ) (E E′ : Entry) → getElem? (m .entries) i ≡ some E → getElem? (linkBy os m .entries) i ≡ some E′ → agreesR m (linkBy os m) (linkMaps os m) (linkMaps os m .inTables .ofExprs) (E .head) (E′ .head) ≡ true
-  -- the special types
-  pub rays : agreesR m (linkBy os m) (linkMaps os m) (linkMaps os m .inTables .ofExprs) (m .special .rays) (linkBy os m .special .rays) ≡ true
-  pub pairs : agreesL m (linkBy os m) (linkMaps os m) (linkMaps os m .inTables .ofExprs) (m .special .pairs) (linkBy os m .special .pairs) ≡ true
 
 same-agrees : (M M′ : Module) (μ : Mapping) (o : List ℕ) (F F′ : Function) → SameCells M M′ μ o F F′ → Apart o F → Whole.Agrees M M′ μ o F F′
 same-agrees M M′ μ o F F′ c a = record { head = c .head; arguments = c .arguments; result = c .result; locals = c .locals; body = c .body; kept = c .kept; named = c .named; apart = a }
@@ -108,20 +98,20 @@ module _ (ws : List ℕ) (room : ℕ) (m : Module) (l : Linking ws room m) where
     held p o F (as-function i G q) = let a = agrees-function p i G q in (a .0, a .2)
     held p o F (as-entry i E q) = let a = agrees-entry p i E q in (a .0 .function, a .2)
 
-    special : Open m os → agreesR m (linkBy os m) (linkMaps os m) (linkMaps os m .inTables .ofExprs) (flatSpecial (m .special)) (flatSpecial (linkBy os m .special)) ≡ true
+    special : agreesR m (linkBy os m) (linkMaps os m) (linkMaps os m .inTables .ofExprs) (flatSpecial (m .special)) (flatSpecial (linkBy os m .special)) ≡ true
     unfolding flatSpecial
-    special o = agrees-append m (linkBy os m) (linkMaps os m) (linkMaps os m .inTables .ofExprs) (m .special .rays) (linkBy os m .special .rays) (flatAll (m .special .pairs)) (flatAll (linkBy os m .special .pairs)) (o .rays) (agrees-flat m (linkBy os m) (linkMaps os m) (linkMaps os m .inTables .ofExprs) (m .special .pairs) (linkBy os m .special .pairs) (o .pairs))
+    special = agrees-append m (linkBy os m) (linkMaps os m) (linkMaps os m .inTables .ofExprs) (m .special .rays) (linkBy os m .special .rays) (flatAll (m .special .pairs)) (flatAll (linkBy os m .special .pairs)) (rays-agree m well ok os e) (agrees-flat m (linkBy os m) (linkMaps os m) (linkMaps os m .inTables .ofExprs) (m .special .pairs) (linkBy os m .special .pairs) (pairs-agree m well ok os e))
 
     agreement : Open m os → Agreement m (linkBy os m) (linkMaps os m)
     agreement o = record {
-      records = closed-records m (linkBy os m) (linkMaps os m) (record { in-tables = o .records; held = held o; special = special o });
+      records = closed-records m (linkBy os m) (linkMaps os m) (record { in-tables = records-agree m well ok os e; held = held o; special = special });
       functions = λ i F q. let a = agrees-function o i F q in (made (linkMaps os m) .function i, a .0, place-is m well ok os e i (at-in (m .functions) i F q), a .1, a .2);
       once = places-once m well ok os e;
       onto = λ j h. places-onto m well ok os e j (rw (order-length m os e, ← count) h);
-      entries = λ i E q. let a = agrees-entry o i E q in (a .0, a .1, o .heads i E (a .0) q (a .1), a .2);
+      entries = λ i E q. let a = agrees-entry o i E q in (a .0, a .1, heads-agree m well ok os e i E q (a .0) (a .1), a .2);
       no-entry-added = entries-count m well ok os e;
-      rays = o .rays;
-      pairs = o .pairs;
+      rays = rays-agree m well ok os e;
+      pairs = pairs-agree m well ok os e;
     }
 
     output : Open m os → Output ws room m os
