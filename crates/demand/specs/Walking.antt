@@ -77,7 +77,7 @@ at-in [] i F e = let z : _≡_ {A = ℕ} 0 1 = cc in absurd (omega arith)
 at-in (y ∷ l) zero F e = omega arith
 at-in (y ∷ l) (suc i) F e = let r = at-in l i F e in omega arith
 
-at-is-in : (l : List Function) (i : ℕ) (F : Function) → getElem? l i ≡ some F → getD l i nothing ≡ F
+pub at-is-in : (l : List Function) (i : ℕ) (F : Function) → getElem? l i ≡ some F → getD l i nothing ≡ F
 at-is-in [] i F e = let z : _≡_ {A = ℕ} 0 1 = cc in absurd (omega arith)
 at-is-in (y ∷ l) zero F e = cc
 at-is-in (y ∷ l) (suc i) F e = at-is-in l i F e
@@ -146,7 +146,7 @@ module _ (m : Module) (well : WellFormed m) (ok : Passes m) where
       l : i < length (m .functions)
       l = low m os e i (rw q (in-right us here-in))
 
-      going : Going m a (fin .out)
+      pub going : Going m a (fin .out)
       going = ends m well ok os e us vs i q (good-at m well ok os e us (i ∷ vs) q)
 
       pub keeps-end : Keeps (fin .out) end
@@ -313,7 +313,7 @@ module _ (m : Module) (well : WellFormed m) (ok : Passes m) where
       abbrev fin′ : Making
       fin′ = Fin E (t .state)
 
-      body-going : Going m z (fin′ .out)
+      pub body-going : Going m z (fin′ .out)
       body-going = Theorems.out-good m well (ok .numbers) (ok .lowers) 0 (follow 0 m) (Any m well ok os e) (Going m z) (any-follows m well ok os e) (E .function) (t .sound .pass) (calls-any m well ok os e E (t .sound) (t .state) (t .going)) (t .state) (t .going)
 
       entry-map : μ .inEntry p ≡ place (fin′ .memo)
@@ -336,7 +336,7 @@ module _ (m : Module) (well : WellFormed m) (ok : Passes m) where
         of-own = λ n h. refl;
       }
 
-      entry-well : WellFunction (localized 0 m (follow 0 m) (E .function) (t .state))
+      pub entry-well : WellFunction (localized 0 m (follow 0 m) (E .function) (t .state))
       unfolding entryMade
       entry-well = entry-made m well ok os e E (t .sound) (t .state) (t .going) .well .function-ok
 
