@@ -1,13 +1,13 @@
 -- EVERY FUNCTION and every entry point of the linked module has the cells of its source (`SameCells`): in output order each is imported in a state of the session, which goes on to the end.
-use mathlib.Core.Path.{_≡_, refl, sym, ap, _∙_}
-use mathlib.Core.List.{List, [], _∷_, _++_, map, append-nil}
+use mathlib.Core.Path.{_≡_, sym, ap, _∙_}
+use mathlib.Core.List.{List, [], _∷_, _++_, append-nil}
 use mathlib.Core.Option.{some}
 use Prim.Native.Nat.{ℕ, zero, suc, pred}
 use native.Mathlib.Omega.{arith}
 use lib.ListN.{getD, getElem?}
 use Rattle.model.specs.Tree.{Function, Entry, flat, flatEntry}
 use Rattle.model.specs.Module.{Module}
-use Rattle.model.specs.Carry.{carryFunction, carryEntry, carry, Each, each-none, each-next, WellFunction, WellFormed}
+use Rattle.model.specs.Carry.{carryFunction, carryEntry, carry, Each, each-none, each-next, WellFormed}
 use Rattle.model.specs.Intake.{Passes}
 use Rattle.model.specs.Calls.{ordered}
 use Rattle.model.specs.Callees.{callees, orderOf}

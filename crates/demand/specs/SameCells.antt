@@ -3,23 +3,23 @@
 use mathlib.Core.Path.{_≡_, refl, sym, ap, ap₂, _∙_}
 use mathlib.Core.Bool.{true}
 use mathlib.Core.List.{List, [], _∷_, _++_, map}
-use Prim.Native.Nat.{ℕ, zero, suc, _<_, pred}
+use Prim.Native.Nat.{ℕ, suc, _<_, pred}
 use native.Mathlib.Omega.{arith}
 use lib.ListN.{length, getD, length-map, List·getD-map}
 use lib.Dec.{eqb}
 use borrow.Author.Tests.{eq-eqb, lt-ltb}
-use Rattle.model.specs.Outcome.{Cells, class, word}
+use Rattle.model.specs.Outcome.{Cells}
 use Rattle.model.specs.Table.{NAME, NAMED-EXPR}
 use Rattle.model.specs.Tree.{Block, Range, Function, flat, flatAll, flatBlock}
 use Rattle.model.specs.Module.{Module}
 use Rattle.model.specs.Carry.{carryCell, carryCells, carryFunction, Each, each-none, each-next, WellFunction, WellFormed}
 use Rattle.model.specs.Intake.{Passes}
-use Rattle.model.specs.Initial.{Mem, Marks, marked, initials, initial}
+use Rattle.model.specs.Initial.{Marks, marked, initial}
 use Rattle.model.specs.Names.{field}
 use Rattle.model.specs.Calls.{ordered}
 use Rattle.model.specs.Callees.{callees, orderOf}
-use Rattle.model.specs.Tables.{names, tables}
-use Rattle.model.specs.References.{Place, table, own, function, Target, opt, target, targets, Node, node, refOf, refs, carryW, through}
+use Rattle.model.specs.Tables.{names}
+use Rattle.model.specs.References.{Place, table, own, function, opt, target, targets, Node, node, refs, through}
 use Rattle.model.specs.Imports.{St}
 use Rattle.model.specs.Bodies.{known, Making, went, carried, keepNames, nameCells, namedRows, keptNames, declarations, declared, derived, final, localized, follow}
 use Rattle.model.specs.Finish.{renumber}
@@ -28,7 +28,7 @@ use Rattle.model.specs.LinkMaps.{linkMaps}
 use Rattle.model.specs.Agreement.{Mapping, becomes, agreesW, agreesR, agreesL, agreesN, stands, opened, bodyOf}
 use Rattle.laws.specs.Lists.{and-true}
 use Rattle.walks.specs.Agreement.{mentioned}
-use Rattle.imports.specs.RecordLaws.{All as AllN, all-map as alln-map, rest-of, Has as HasN, bare}
+use Rattle.imports.specs.RecordLaws.{All as AllN, all-map as alln-map, rest-of, Has as HasN}
 use Rattle.imports.specs.Trace.{Keeps}
 use Rattle.bodies.specs.Context.{Inside, InN}
 use Rattle.bodies.specs.Lists.{All, all-map, all-both}
