@@ -33,7 +33,7 @@ abbrev pub InC : List ℕ → Cells → Type 0
 InC ls [] = Unit {0}
 InC ls (c ∷ cs) = (among (class c) ls ≡ true) × InC ls cs
 
-among-elim : (P : ℕ → Type 0) (ls : List ℕ) → All P ls → (s : ℕ) → among s ls ≡ true → P s
+pub among-elim : (P : ℕ → Type 0) (ls : List ℕ) → All P ls → (s : ℕ) → among s ls ≡ true → P s
 among-elim P [] a s h = let z : _≡_ {A = ℕ} 0 1 = cc in absurd (omega arith)
 among-elim P (x ∷ xs) a s h = split-or (eqb s x) (among s xs) h (λ e. rw (eqb-true s x e) (a .0)) (among-elim P xs (a .1) s)
 

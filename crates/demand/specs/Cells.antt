@@ -1,4 +1,4 @@
--- A RECORD CARRIED AGREES, as agreement in full has it: what is left open needs this of each record, with the maps in the end (`Becomes`).
+-- A RECORD CARRIED AGREES, as agreement in full has it, if the maps in the end say of each number that it refers to where it went (`Becomes`).
 use mathlib.Core.Path.{_≡_, refl, sym, ap, _∙_}
 use mathlib.Core.Bool.{true}
 use mathlib.Core.List.{List, [], _∷_}
@@ -8,7 +8,7 @@ use borrow.Author.Tests.{eq-eqb}
 use Rattle.model.specs.Outcome.{Cells, class, word}
 use Rattle.model.specs.Module.{Module}
 use Rattle.model.specs.Carry.{carryCell, carryCells}
-use Rattle.model.specs.References.{Place, Target, copied, start, upto, ref, opt, target, Node, refOf, refs, carryW, through}
+use Rattle.model.specs.References.{Target, copied, start, upto, ref, opt, target, Node, refOf, refs, carryW, through}
 use Rattle.model.specs.Agreement.{Mapping, becomes, agreesW, agreesR}
 use Rattle.laws.specs.Lists.{and-true}
 use Rattle.imports.specs.RecordLaws.{All, Went, bareW, bare, rest-of}
@@ -18,7 +18,7 @@ module _ (M M′ : Module) (μ : Mapping) (o : List ℕ) (w : Went) where
   abbrev pub Becomes : Node → Type 0
   Becomes j = (0 < w (j .place) (j .num)) × (becomes M M′ μ o (j .place) (j .num) (pred (w (j .place) (j .num))) ≡ true)
 
-  word-agrees : (t : Target) (v : ℕ) (rest : List Node) → All Becomes (refOf t v rest) → agreesW M M′ μ o t v (carryW w t v) ≡ true
+  pub word-agrees : (t : Target) (v : ℕ) (rest : List Node) → All Becomes (refOf t v rest) → agreesW M M′ μ o t v (carryW w t v) ≡ true
   unfolding refOf agreesW carryW
   word-agrees copied v rest a = eq-eqb v v refl
   word-agrees start v rest a = refl
@@ -31,7 +31,7 @@ module _ (M M′ : Module) (μ : Mapping) (o : List ℕ) (w : Went) where
       go zero h b = absurd (omega arith)
       go (suc x) h b = b
 
-  bare-agrees : (t : Target) (v x y : ℕ) → bareW t x ≡ bareW t y → agreesW M M′ μ o t v x ≡ agreesW M M′ μ o t v y
+  pub bare-agrees : (t : Target) (v x y : ℕ) → bareW t x ≡ bareW t y → agreesW M M′ μ o t v x ≡ agreesW M M′ μ o t v y
   unfolding bareW agreesW
   bare-agrees copied v x y e = rw e
   bare-agrees start v x y e = refl

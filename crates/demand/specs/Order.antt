@@ -161,7 +161,7 @@ module _ (m : Module) (well : WellFormed m) (ok : Passes m) (os : List ℕ) (e :
   Any j = j < length (m .functions)
 
   -- in the end every function is known
-  known-at : (j : ℕ) (s : St) → Any j → Known.Follows (tables m) last s → 0 < known m s j
+  pub known-at : (j : ℕ) (s : St) → Any j → Known.Follows (tables m) last s → 0 < known m s j
   known-at j s h f =
       let g : In j os = in-times m well (ok .numbers) (ok .lowers) (ok .names) os e os j (omega (arith, each-once (length (m .functions)) (calls m) os (unfold orderOf in e) j h)) in
       bears-kept m well (ok .numbers) (ok .lowers) 0 j f (all-known m well (ok .numbers) (ok .lowers) (ok .names) os e fresh j g) .found

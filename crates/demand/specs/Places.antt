@@ -70,7 +70,7 @@ append-functions m i s e = ap (_++ (localized 0 m (follow 0 m) (functionAt m i) 
 
 -- ---- names
 -- records that are alike, of which one has no span, have the same words
-alike-words : (d r : Cells) → Copied r → alike d r ≡ true → map word d ≡ map word r
+pub alike-words : (d r : Cells) → Copied r → alike d r ≡ true → map word d ≡ map word r
 unfolding alike alikeC
 alike-words [] [] k h = refl
 alike-words [] (c ∷ cs) k h = absurd (false≢true h)
@@ -91,7 +91,7 @@ alike-words (b ∷ ds) (c ∷ cs) (each-next k ks) h = go (eqb (class b) (class 
     go true false false false e f u v h ih = absurd (false≢true h)
     go false q x y e f u v h ih = absurd (false≢true h)
 
-seat-alike : (ds : List Cells) (r : Cells) → seat ds r < length ds → alike (getD ds (seat ds r) []) r ≡ true
+pub seat-alike : (ds : List Cells) (r : Cells) → seat ds r < length ds → alike (getD ds (seat ds r) []) r ≡ true
 unfolding seat
 seat-alike [] r h = absurd (omega arith)
 seat-alike (d ∷ ds) r h = go (alike d r) refl h (seat-alike ds r)
@@ -100,7 +100,7 @@ seat-alike (d ∷ ds) r h = go (alike d r) refl h (seat-alike ds r)
     go true e h ih = e
     go false e h ih = ih (omega arith)
 
-same-self : (l : List ℕ) → same l l ≡ true
+pub same-self : (l : List ℕ) → same l l ≡ true
 unfolding same
 same-self [] = refl
 same-self (x ∷ l) = rw (eq-eqb x x refl) (same-self l)

@@ -187,7 +187,7 @@ module _ (m : Module) (well : WellFormed m) (ok : Passes m) (os : List ℕ) (e :
   functions-fit : Both (λ i f. Fit f) os (z .functions)
   functions-fit = functions-both m well ok os e (λ i f. Fit f) os [] (rw (append-nil os)) (λ us vs i q. let a = again m well ok os e us vs i q (good-at m well ok os e us (i ∷ vs) q) in record { names = function-named us vs i q; lowers = a .four; scope = a .six })
 
-  head-low : (E : Entry) → Sound m E → (n : ℕ) → field NAME (E .head) ≡ suc n → n < count (tables m) names
+  pub head-low : (E : Entry) → Sound m E → (n : ℕ) → field NAME (E .head) ≡ suc n → n < count (tables m) names
   unfolding field inside outside count tables at
   head-low E k n q = at-head (entry-head (k .laid)) (within-low (inside (outside m) (E .function)) (E .head) (head-within m well ok os e E k)) q
     where

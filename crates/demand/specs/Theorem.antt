@@ -1,28 +1,25 @@
--- DEMAND 3, from what is left open.
-use mathlib.Core.Path.{_≡_, refl, sym, ap, _∙_}
-use mathlib.Core.Bool.{true, false}
-use mathlib.Core.List.{List, [], _∷_, _++_, map, append-nil}
+-- DEMAND 3, proved: the theorem `demand3` has no premise but that of `Linking`.
+use mathlib.Core.Path.{_≡_, refl, ap, _∙_}
+use mathlib.Core.Bool.{true}
+use mathlib.Core.List.{List, []}
 use mathlib.Core.Option.{some}
-use Prim.Native.Nat.{ℕ, suc, _*_, _≤_}
+use Prim.Native.Nat.{ℕ, _*_}
 use native.Mathlib.Omega.{arith}
 use lib.ListN.{length, getD, getElem?, length-map}
-use Rattle.model.specs.Outcome.{laid}
 use Rattle.model.specs.Tree.{Function, Entry, flatAll}
-use Rattle.model.specs.Module.{Module, flatSpecial, read, write}
+use Rattle.model.specs.Module.{Module, flatSpecial}
 use Rattle.walks.specs.WholeLaws.{closed-records, agrees-append, agrees-flat}
 use Rattle.model.specs.Carry.{carry, carryFunction, WellFormed}
-use Rattle.model.specs.Intake.{Passes, intakeOf}
+use Rattle.model.specs.Intake.{Passes}
 use Rattle.model.specs.Scope.{scoped, allScoped, inScope}
 use Rattle.model.specs.Calls.{ordered}
 use Rattle.model.specs.Callees.{calls, orderOf}
 use Rattle.model.specs.Bodies.{enterAll, entriesMade}
 use Rattle.model.specs.Finish.{renumber, appearing, withNames, namedBy, gathered, finished}
 use Rattle.model.specs.Session.{withEntries}
-use Rattle.model.specs.Link.{linkBy, linked, link}
+use Rattle.model.specs.Link.{linkBy}
 use Rattle.model.specs.LinkMaps.{linkMaps}
-use Rattle.model.specs.Tables.{Tab, names, exprs, isT, at, tables, recAt, mapAt}
-use Rattle.model.specs.Bodies.{keepNames}
-use Rattle.model.specs.Agreement.{Mapping, bodyOf, agreesR, agreesL, agreesN, stands, Holds, as-function, as-entry, Agreement}
+use Rattle.model.specs.Agreement.{Mapping, agreesR, Holds, as-function, as-entry, Agreement}
 use Rattle.model.specs.Agreement as Whole
 use Rattle.calls.proofs.Theorems.{each-once, callees-first}
 use Rattle.laws.specs.Modules.{read-well}
@@ -31,40 +28,21 @@ use Rattle.walks.specs.WholeWords.{made}
 use Rattle.walks.specs.Theorems.{carries, carries-sound}
 use Rattle.walks.specs.Tests.{and-l, and-r}
 use Rattle.walks.specs.FunctionProof.{scoped-at, entry-at}
-use Rattle.finishing.specs.Fresh.{stateAt, stays-small}
-use Rattle.finishing.specs.Size.{source-small}
-use Rattle.finishing.specs.Images.{image-read}
-use Rattle.finishing.specs.Finished.{finished-parts}
-use Rattle.finishing.specs.Linking.{Tests, intake-passes}
+use Rattle.finishing.specs.Fresh.{stateAt}
+use Rattle.finishing.specs.Linking.{intake-passes}
 use Rattle.finishing.specs.Whole.{session-links, linked-length, linked-read, linked-intake}
 use Rattle.demand.specs.Demand.{Linking, Walks, Output, Demand3}
 use Rattle.demand.specs.Exactly.{linked-as, link-exactly, placed, order-length}
 use Rattle.demand.specs.Order.{functions-made, all-entries}
 use Rattle.demand.specs.Places.{both-length}
 use Rattle.demand.specs.Tested.{tests}
+use Rattle.demand.specs.Records.{records-agree, rays-agree, pairs-agree}
+use Rattle.demand.specs.Heads.{heads-agree}
+use Rattle.demand.specs.SameCells.{SameCells}
+use Rattle.demand.specs.Functions.{functions-same, entries-same}
 use Rattle.demand.specs.Walking.{Apart, at-in, end-going, all-agree, function-agrees, function-apart, place-is, places-once, places-onto, the-turn, entry-apart, entries-count, entry-agrees}
 
--- ---- WHAT IS LEFT OPEN, of agreement in full: that the cells of the derived records agree with those of their sources, word by word. (That walks agree, that no two expressions share a record but those that may, and where functions and entry points stand, is proved.)
--- the cells of a function, `Agrees` of the crate model but for `apart`
-pub record SameCells (M M′ : Module) (μ : Mapping) (o : List ℕ) (F F′ : Function) : Type 0 where
-  pub head : agreesR M M′ μ o (F .head) (F′ .head) ≡ true
-  pub arguments : agreesL M M′ μ o (F .arguments) (F′ .arguments) ≡ true
-  pub result : agreesR M M′ μ o (F .result) (F′ .result) ≡ true
-  pub locals : agreesL M M′ μ o (F .locals) (F′ .locals) ≡ true
-  pub body : agreesR M M′ μ o (bodyOf F) (bodyOf F′) ≡ true
-  pub kept : (e k : ℕ) → getD o e 0 ≡ suc k → stands M M′ μ o (F′ .exprs) (suc k) (getD (F .exprs) e []) ≡ true
-  pub named : agreesN M M′ μ o (keepNames (F .named) o []) (F′ .named) ≡ true
-
-pub record Open (m : Module) (os : List ℕ) : Type 0 where
-  -- the tables' records that are mapped: all that are reached are among them (`closed-records`)
-  pub records : (t : Tab) (n k : ℕ) → isT t names ≡ false → mapAt (linkMaps os m .inTables) t n ≡ suc k → stands m (linkBy os m) (linkMaps os m) (linkMaps os m .inTables .ofExprs) (at t (tables (linkBy os m))) (suc k) (recAt (tables m) t n) ≡ true
-  pub functions : (i : ℕ) (F F′ : Function) → getElem? (m .functions) i ≡ some F → getElem? (linkBy os m .functions) (made (linkMaps os m) .function i) ≡ some F′ → SameCells m (linkBy os m) (linkMaps os m) (getD (linkMaps os m .inFunctions) i []) F F′
-  pub entries : (i : ℕ) (E E′ : Entry) → getElem? (m .entries) i ≡ some E → getElem? (linkBy os m .entries) i ≡ some E′ → SameCells m (linkBy os m) (linkMaps os m) (getD (linkMaps os m .inEntries) i []) (E .function) (E′ .function)
-  pub heads : (i : ℕ) (E E′ : Entry) → getElem? (m .entries) i ≡ some E → getElem? (linkBy os m .entries) i ≡ some E′ → agreesR m (linkBy os m) (linkMaps os m) (linkMaps os m .inTables .ofExprs) (E .head) (E′ .head) ≡ true
-  -- the special types
-  pub rays : agreesR m (linkBy os m) (linkMaps os m) (linkMaps os m .inTables .ofExprs) (m .special .rays) (linkBy os m .special .rays) ≡ true
-  pub pairs : agreesL m (linkBy os m) (linkMaps os m) (linkMaps os m .inTables .ofExprs) (m .special .pairs) (linkBy os m .special .pairs) ≡ true
-
+-- cells and what may share a record make agreement in full
 same-agrees : (M M′ : Module) (μ : Mapping) (o : List ℕ) (F F′ : Function) → SameCells M M′ μ o F F′ → Apart o F → Whole.Agrees M M′ μ o F F′
 same-agrees M M′ μ o F F′ c a = record { head = c .head; arguments = c .arguments; result = c .result; locals = c .locals; body = c .body; kept = c .kept; named = c .named; apart = a }
 
@@ -98,34 +76,34 @@ module _ (ws : List ℕ) (room : ℕ) (m : Module) (l : Linking ws room m) where
         linked-count : length (linkBy os m .functions) ≡ length (enterAll (m .entries) 0 m (stateAt m os) .functions)
         linked-count = unfold linkBy withEntries finished namedBy withNames carry gathered in length-map (enterAll (m .entries) 0 m (stateAt m os) .functions) (carryFunction (renumber (appearing (gathered (enterAll (m .entries) 0 m (stateAt m os)) (entriesMade (m .entries) 0 m (stateAt m os))))))
 
-    agrees-function : Open m os → (i : ℕ) (F : Function) → getElem? (m .functions) i ≡ some F → (F′ : Function) × (getElem? (linkBy os m .functions) (made (linkMaps os m) .function i) ≡ some F′) × Whole.Agrees m (linkBy os m) (linkMaps os m) (getD (linkMaps os m .inFunctions) i []) F F′
-    agrees-function o i F q = let a = function-agrees m well ok os e i F q in (a .0, a .1, same-agrees m (linkBy os m) (linkMaps os m) (getD (linkMaps os m .inFunctions) i []) F (a .0) (o .functions i F (a .0) q (a .1)) (function-apart m well ok os e i F q))
+    agrees-function : (i : ℕ) (F : Function) → getElem? (m .functions) i ≡ some F → (F′ : Function) × (getElem? (linkBy os m .functions) (made (linkMaps os m) .function i) ≡ some F′) × Whole.Agrees m (linkBy os m) (linkMaps os m) (getD (linkMaps os m .inFunctions) i []) F F′
+    agrees-function i F q = let a = function-agrees m well ok os e i F q in (a .0, a .1, same-agrees m (linkBy os m) (linkMaps os m) (getD (linkMaps os m .inFunctions) i []) F (a .0) (functions-same m well ok os e i F (a .0) q (a .1)) (function-apart m well ok os e i F q))
 
-    agrees-entry : Open m os → (i : ℕ) (E : Entry) → getElem? (m .entries) i ≡ some E → (E′ : Entry) × (getElem? (linkBy os m .entries) i ≡ some E′) × Whole.Agrees m (linkBy os m) (linkMaps os m) (getD (linkMaps os m .inEntries) i []) (E .function) (E′ .function)
-    agrees-entry o i E q = let a = entry-agrees m well ok os e i E q in (a .0, a .1, same-agrees m (linkBy os m) (linkMaps os m) (getD (linkMaps os m .inEntries) i []) (E .function) (a .0 .function) (o .entries i E (a .0) q (a .1)) (entry-apart m well ok os e i E (the-turn m well ok os e i E q)))
+    agrees-entry : (i : ℕ) (E : Entry) → getElem? (m .entries) i ≡ some E → (E′ : Entry) × (getElem? (linkBy os m .entries) i ≡ some E′) × Whole.Agrees m (linkBy os m) (linkMaps os m) (getD (linkMaps os m .inEntries) i []) (E .function) (E′ .function)
+    agrees-entry i E q = let a = entry-agrees m well ok os e i E q in (a .0, a .1, same-agrees m (linkBy os m) (linkMaps os m) (getD (linkMaps os m .inEntries) i []) (E .function) (a .0 .function) (entries-same m well ok os e i E (a .0) q (a .1)) (entry-apart m well ok os e i E (the-turn m well ok os e i E q)))
 
-    held : Open m os → (o : List ℕ) (F : Function) → Holds m (linkBy os m) (linkMaps os m) o F → (F′ : Function) × Whole.Agrees m (linkBy os m) (linkMaps os m) o F F′
-    held p o F (as-function i G q) = let a = agrees-function p i G q in (a .0, a .2)
-    held p o F (as-entry i E q) = let a = agrees-entry p i E q in (a .0 .function, a .2)
+    held : (o : List ℕ) (F : Function) → Holds m (linkBy os m) (linkMaps os m) o F → (F′ : Function) × Whole.Agrees m (linkBy os m) (linkMaps os m) o F F′
+    held o F (as-function i G q) = let a = agrees-function i G q in (a .0, a .2)
+    held o F (as-entry i E q) = let a = agrees-entry i E q in (a .0 .function, a .2)
 
-    special : Open m os → agreesR m (linkBy os m) (linkMaps os m) (linkMaps os m .inTables .ofExprs) (flatSpecial (m .special)) (flatSpecial (linkBy os m .special)) ≡ true
+    special : agreesR m (linkBy os m) (linkMaps os m) (linkMaps os m .inTables .ofExprs) (flatSpecial (m .special)) (flatSpecial (linkBy os m .special)) ≡ true
     unfolding flatSpecial
-    special o = agrees-append m (linkBy os m) (linkMaps os m) (linkMaps os m .inTables .ofExprs) (m .special .rays) (linkBy os m .special .rays) (flatAll (m .special .pairs)) (flatAll (linkBy os m .special .pairs)) (o .rays) (agrees-flat m (linkBy os m) (linkMaps os m) (linkMaps os m .inTables .ofExprs) (m .special .pairs) (linkBy os m .special .pairs) (o .pairs))
+    special = agrees-append m (linkBy os m) (linkMaps os m) (linkMaps os m .inTables .ofExprs) (m .special .rays) (linkBy os m .special .rays) (flatAll (m .special .pairs)) (flatAll (linkBy os m .special .pairs)) (rays-agree m well ok os e) (agrees-flat m (linkBy os m) (linkMaps os m) (linkMaps os m .inTables .ofExprs) (m .special .pairs) (linkBy os m .special .pairs) (pairs-agree m well ok os e))
 
-    agreement : Open m os → Agreement m (linkBy os m) (linkMaps os m)
-    agreement o = record {
-      records = closed-records m (linkBy os m) (linkMaps os m) (record { in-tables = o .records; held = held o; special = special o });
-      functions = λ i F q. let a = agrees-function o i F q in (made (linkMaps os m) .function i, a .0, place-is m well ok os e i (at-in (m .functions) i F q), a .1, a .2);
+    agreement : Agreement m (linkBy os m) (linkMaps os m)
+    agreement = record {
+      records = closed-records m (linkBy os m) (linkMaps os m) (record { in-tables = records-agree m well ok os e; held = held; special = special });
+      functions = λ i F q. let a = agrees-function i F q in (made (linkMaps os m) .function i, a .0, place-is m well ok os e i (at-in (m .functions) i F q), a .1, a .2);
       once = places-once m well ok os e;
       onto = λ j h. places-onto m well ok os e j (rw (order-length m os e, ← count) h);
-      entries = λ i E q. let a = agrees-entry o i E q in (a .0, a .1, o .heads i E (a .0) q (a .1), a .2);
+      entries = λ i E q. let a = agrees-entry i E q in (a .0, a .1, heads-agree m well ok os e i E q (a .0) (a .1), a .2);
       no-entry-added = entries-count m well ok os e;
-      rays = o .rays;
-      pairs = o .pairs;
+      rays = rays-agree m well ok os e;
+      pairs = pairs-agree m well ok os e;
     }
 
-    output : Open m os → Output ws room m os
-    output o = record {
+    output : Output ws room m os
+    output = record {
       session = session-links (4 * length ws) ws room m os (l .passes) (l .reads) refl (l .roomy) e (functions-made m well ok os e) (all-entries m well ok os e);
       intake = linked-intake (4 * length ws) ws room m os (l .passes) (l .reads) refl (l .roomy) e (functions-made m well ok os e) (all-entries m well ok os e) (tests m well ok os e);
       shorter = omega (arith, linked-length (4 * length ws) ws room m os (l .passes) (l .reads) refl (l .roomy) e (functions-made m well ok os e) (all-entries m well ok os e));
@@ -134,11 +112,11 @@ module _ (ws : List ℕ) (room : ℕ) (m : Module) (l : Linking ws room m) where
       once = each-once (length (m .functions)) (calls m) os (unfold orderOf in e);
       places = placed m os e;
       callees-first = callees-first (length (m .functions)) (calls m) os (unfold orderOf in e);
-      agree = agreement o;
+      agree = agreement;
       functions = walks-functions;
       entries = walks-entries;
     }
 
   -- THE THEOREM
-  pub demand3 : ((os : List ℕ) → orderOf m ≡ ordered os → Open m os) → Demand3 ws room m
-  demand3 o = record { exactly = link-exactly ws room m l; output = λ vs q. let a = linked-as ws room m l vs q in (a .0, a .1, a .2, output (a .0) (a .1) (o (a .0) (a .1))) }
+  pub demand3 : Demand3 ws room m
+  demand3 = record { exactly = link-exactly ws room m l; output = λ vs q. let a = linked-as ws room m l vs q in (a .0, a .1, a .2, output (a .0) (a .1)) }

@@ -67,7 +67,7 @@ unfolding memosOf appendAll
 memos-at [] vs i m s ms (once-next h o) l = memos-other vs m _ _ i h ∙ getD-set-same ms i _ [] l
 memos-at (x ∷ us) vs i m s ms (once-next h o) l = memos-at us vs i m (append 0 m (follow 0 m) x s) _ o (rw (length-set ms x (final 0 m (follow 0 m) (functionAt m x) s .memo)) l)
 
-map-at : {A B : Type 0} (f : A → B) (l : List A) (i : ℕ) (x : A) → getElem? l i ≡ some x → getElem? (map f l) i ≡ some (f x)
+pub map-at : {A B : Type 0} (f : A → B) (l : List A) (i : ℕ) (x : A) → getElem? l i ≡ some x → getElem? (map f l) i ≡ some (f x)
 map-at f [] i x e = let z : _≡_ {A = ℕ} 0 1 = cc in absurd (omega arith)
 map-at f (y ∷ l) zero x e = let q : y ≡ x = cc in rw q
 map-at f (y ∷ l) (suc i) x e = map-at f l i x e
@@ -77,7 +77,7 @@ at-in [] i F e = let z : _≡_ {A = ℕ} 0 1 = cc in absurd (omega arith)
 at-in (y ∷ l) zero F e = omega arith
 at-in (y ∷ l) (suc i) F e = let r = at-in l i F e in omega arith
 
-at-is-in : (l : List Function) (i : ℕ) (F : Function) → getElem? l i ≡ some F → getD l i nothing ≡ F
+pub at-is-in : (l : List Function) (i : ℕ) (F : Function) → getElem? l i ≡ some F → getD l i nothing ≡ F
 at-is-in [] i F e = let z : _≡_ {A = ℕ} 0 1 = cc in absurd (omega arith)
 at-is-in (y ∷ l) zero F e = cc
 at-is-in (y ∷ l) (suc i) F e = at-is-in l i F e
@@ -146,7 +146,7 @@ module _ (m : Module) (well : WellFormed m) (ok : Passes m) where
       l : i < length (m .functions)
       l = low m os e i (rw q (in-right us here-in))
 
-      going : Going m a (fin .out)
+      pub going : Going m a (fin .out)
       going = ends m well ok os e us vs i q (good-at m well ok os e us (i ∷ vs) q)
 
       pub keeps-end : Keeps (fin .out) end
@@ -284,6 +284,8 @@ module _ (m : Module) (well : WellFormed m) (ok : Passes m) where
       pub is : getElem? (entriesMade es 0 m s) p ≡ some (entryMade 0 m E state)
       pub memo : getD (memosIn es m s) p [] ≡ Fin E state .memo
       pub keeps : Keeps (Fin E state .out) (enterAll es 0 m s)
+      -- with its name
+      pub head-keeps : Keeps (entered 0 m E state .out) (enterAll es 0 m s)
 
     turn : (es : List Entry) → ((E : Entry) → Among E es → Sound m E) → every (soundEntry (outside m)) es ≡ true → (s : St) → Going m z s → (p : ℕ) (E : Entry) → getElem? es p ≡ some E → Turn es s p E
     unfolding entriesMade memosIn enterAll every Stays
@@ -298,10 +300,11 @@ module _ (m : Module) (well : WellFormed m) (ok : Passes m) where
           is = refl;
           memo = unfold entered in each-memo (refs (E .head)) (Fin E s);
           keeps = enter-all-kept m (ok .numbers) (stays-keeping (Fin E s .out)) es v (entered 0 m E s .out) (head-stays E k s g) .1;
+          head-keeps = enter-all-kept m (ok .numbers) (stays-keeping (entered 0 m E s .out)) es v (entered 0 m E s .out) (head-stays E k s g .0, keeps-self (entered 0 m E s .out)) .1;
         })
     turn (D ∷ es) h v s g (suc p) E q =
         let t = turn es (λ C k. h C (later k)) (and-split (soundEntry (outside m) D) _ v .1) (entered 0 m D s .out) (entry-going m well ok os e D (h D first) s g) p E q in
-        record { state = t .state; sound = t .sound; going = t .going; is = t .is; memo = t .memo; keeps = t .keeps }
+        record { state = t .state; sound = t .sound; going = t .going; is = t .is; memo = t .memo; keeps = t .keeps; head-keeps = t .head-keeps }
 
     pub the-turn : (p : ℕ) (E : Entry) → getElem? (m .entries) p ≡ some E → Turn (m .entries) z p E
     the-turn p E q = turn (m .entries) (entry-sound m well ok os e) (specials-in m (ok .numbers) .2) z (at-end m well ok os e) p E q
@@ -310,7 +313,7 @@ module _ (m : Module) (well : WellFormed m) (ok : Passes m) where
       abbrev fin′ : Making
       fin′ = Fin E (t .state)
 
-      body-going : Going m z (fin′ .out)
+      pub body-going : Going m z (fin′ .out)
       body-going = Theorems.out-good m well (ok .numbers) (ok .lowers) 0 (follow 0 m) (Any m well ok os e) (Going m z) (any-follows m well ok os e) (E .function) (t .sound .pass) (calls-any m well ok os e E (t .sound) (t .state) (t .going)) (t .state) (t .going)
 
       entry-map : μ .inEntry p ≡ place (fin′ .memo)
@@ -333,7 +336,7 @@ module _ (m : Module) (well : WellFormed m) (ok : Passes m) where
         of-own = λ n h. refl;
       }
 
-      entry-well : WellFunction (localized 0 m (follow 0 m) (E .function) (t .state))
+      pub entry-well : WellFunction (localized 0 m (follow 0 m) (E .function) (t .state))
       unfolding entryMade
       entry-well = entry-made m well ok os e E (t .sound) (t .state) (t .going) .well .function-ok
 

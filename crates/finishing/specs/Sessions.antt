@@ -75,7 +75,7 @@ module _ (m : Module) (three : numbered m ≡ true) where
       let j = and-split (within (outside m) (m .special .rays)) _ (i .1) in
       (j .0, j .1, i .0)
 
-  pair-in : {r : Cells} → Plainly (KEY ∷ TYPE ∷ []) r → within (outside m) r ≡ true → field TYPE r < count (tables m) types
+  pub pair-in : {r : Cells} → Plainly (KEY ∷ TYPE ∷ []) r → within (outside m) r ≡ true → field TYPE r < count (tables m) types
   unfolding within bound caps under outside count tables at field
   pair-in (plain-next {w = x} (plain-next {w = y} plain-none)) h = ltb-true y (length (m .types)) (and-split (ltb y (length (m .types))) true h .0)
 

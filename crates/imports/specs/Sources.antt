@@ -43,7 +43,7 @@ unfolding withSpecial Sized Inside Distinct
 special-kept T p s k = record { base = record { sized = k .base .sized; inside = k .base .inside; wf = k .base .wf; distinct = k .base .distinct }; fit = k .fit }
 
 -- imports leave the special types
-trace-special : (o : ℕ) (T : Tables) {a b : St} → Trace o T a b → b .special ≡ a .special
+pub trace-special : (o : ℕ) (T : Tables) {a b : St} → Trace o T a b → b .special ≡ a .special
 unfolding commit settle
 trace-special o T = keep-rule₂ (λ s r. r .special ≡ s .special) (λ s. refl) (λ a b c p q. q ∙ p) (λ s t n r. refl)
 
