@@ -2,19 +2,18 @@
 use mathlib.Core.Path.{_≡_, sym, ap, _∙_}
 use mathlib.Core.List.{List, [], _∷_, _++_, append-nil}
 use mathlib.Core.Option.{some}
-use Prim.Native.Nat.{ℕ, zero, suc, pred}
-use native.Mathlib.Omega.{arith}
+use Prim.Native.Nat.{ℕ, pred}
 use lib.ListN.{getD, getElem?}
 use Rattle.model.specs.Tree.{Function, Entry, flat, flatEntry}
 use Rattle.model.specs.Module.{Module}
-use Rattle.model.specs.Carry.{carryFunction, carryEntry, carry, Each, each-none, each-next, WellFormed}
+use Rattle.model.specs.Carry.{carryFunction, carryEntry, Each, WellFormed}
 use Rattle.model.specs.Intake.{Passes}
 use Rattle.model.specs.Calls.{ordered}
 use Rattle.model.specs.Callees.{callees, orderOf}
 use Rattle.model.specs.Redirect.{function as functionAt}
 use Rattle.model.specs.Imports.{St}
-use Rattle.model.specs.Bodies.{Making, final, localized, follow, entryMade, entriesMade}
-use Rattle.model.specs.Finish.{renumber, withNames, namedBy, gathered}
+use Rattle.model.specs.Bodies.{Making, final, localized, follow, entryMade}
+use Rattle.model.specs.Finish.{renumber, gathered}
 use Rattle.model.specs.Link.{linkBy}
 use Rattle.model.specs.LinkMaps.{linkMaps}
 use Rattle.model.specs.Agreement.{Mapping}
@@ -22,20 +21,15 @@ use Rattle.walks.specs.WholeWords.{made}
 use Rattle.bodies.specs.Lists.{all-map}
 use Rattle.finishing.specs.Fresh.{stateAt}
 use Rattle.finishing.specs.Finished.{Seen}
-use Rattle.finishing.specs.Numbering.{Cellwise}
-use Rattle.finishing.specs.Cellwise.{cellwise, each-both}
+use Rattle.finishing.specs.Cellwise.{each-both}
 use Rattle.demand.specs.Exactly.{placed}
 use Rattle.demand.specs.Function.{Going, Called, pass, calls-all, callee-known, follows, start}
 use Rattle.demand.specs.Order.{good-at, functions-made, last, Any, known-at, any-follows, calls-any}
 use Rattle.demand.specs.Places.{Both, both-at, functions-both, known-place}
-use Rattle.demand.specs.Walking.{map-at, at-in, at-is-in, end, end-going, keeps-end, memo-is, going, place-of, Turn, the-turn, body-going, entry-well}
-use Rattle.demand.specs.NameTexts.{whole, ns, linked-is, appearing-seen}
+use Rattle.laws.specs.FunctionViews.{looked-each}
+use Rattle.demand.specs.Walking.{at-in, at-is-in, end, end-going, keeps-end, memo-is, going, place-of, Turn, the-turn, body-going, entry-well, linked-function, linked-entry}
+use Rattle.demand.specs.NameTexts.{ns, whole-seen}
 use Rattle.demand.specs.SameCells.{SameCells, Lasts, same-cells}
-
-each-elem : {A : Type 0} {P : A → Type 0} {l : List A} → Each P l → (p : ℕ) (x : A) → getElem? l p ≡ some x → P x
-each-elem each-none p x q = let z : _≡_ {A = ℕ} 0 1 = cc in absurd (omega arith)
-each-elem {P = P} (each-next {a = y} h hs) zero x q = let r : y ≡ x = cc in rw r at h
-each-elem (each-next h hs) (suc p) x q = each-elem hs p x q
 
 module _ (m : Module) (well : WellFormed m) (ok : Passes m) (os : List ℕ) (e : orderOf m ≡ ordered os) where
   abbrev m′ : Module
@@ -50,13 +44,9 @@ module _ (m : Module) (well : WellFormed m) (ok : Passes m) (os : List ℕ) (e :
   abbrev z : St
   z = last m well ok os e
 
-  -- every name of what is derived appears
-  all-seen : Cellwise (Seen names′) (whole m well ok os e)
-  all-seen = cellwise (whole m well ok os e) (appearing-seen (whole m well ok os e))
-
   seen-at : (p : ℕ) (f : Function) → getElem? (end m well ok os e .functions) p ≡ some f → Each (Seen names′) (flat f)
   unfolding gathered
-  seen-at p f g = each-elem (all-seen .in-functions) p f g
+  seen-at p f g = looked-each (whole-seen m well ok os e .in-functions) p g
 
   -- ---- functions
   -- when its turn comes
@@ -84,9 +74,6 @@ module _ (m : Module) (well : WellFormed m) (ok : Passes m) (os : List ℕ) (e :
   all-same : Both R os (z .functions)
   all-same = functions-both m well ok os e R os [] (rw (append-nil os)) (λ us vs i q v. rw (memo-is m well ok os e us vs i q) (same-cells m well ok os e (Called m well ok os e i) (Going m (stateAt m us)) (follows m well ok os e us vs i q) (functionAt m i) (pass m well ok os e us vs i q) (calls-all m well ok os e us vs i q) (stateAt m us) (start m well ok os e us vs i q (good-at m well ok os e us (i ∷ vs) q)) (lasts us vs i q) (functions-made m well ok os e us vs i q .well) v))
 
-  linked-at : (p : ℕ) (f : Function) → getElem? (end m well ok os e .functions) p ≡ some f → getElem? (m′ .functions) p ≡ some (carryFunction (renumber names′) f)
-  linked-at p f g = rw (linked-is m well ok os e) (unfold namedBy withNames carry gathered in map-at (carryFunction (renumber names′)) (end m well ok os e .functions) p f g)
-
   -- FUNCTIONS
   pub functions-same : (i : ℕ) (F F′ : Function) → getElem? (m .functions) i ≡ some F → getElem? (m′ .functions) (made μ .function i) ≡ some F′ → SameCells m m′ μ (getD (linkMaps os m .inFunctions) i []) F F′
   functions-same i F F′ q r =
@@ -95,7 +82,7 @@ module _ (m : Module) (well : WellFormed m) (ok : Passes m) (os : List ℕ) (e :
       let f : functionAt m i ≡ F = (unfold functionAt in at-is-in (m .functions) i F q) in
       let k : made μ .function i ≡ p .0 = (unfold made in ap pred (placed m os e (p .0) i (p .1))) in
       let g : getElem? (end m well ok os e .functions) (p .0) ≡ some (b .0) = rw (end-going m well ok os e .same) (b .1) in
-      let h : getElem? (m′ .functions) (made μ .function i) ≡ some (carryFunction (renumber names′) (b .0)) = rw k (linked-at (p .0) (b .0) g) in
+      let h : getElem? (m′ .functions) (made μ .function i) ≡ some (carryFunction (renumber names′) (b .0)) = rw k (linked-function m well ok os e (p .0) (b .0) g) in
       let same : carryFunction (renumber names′) (b .0) ≡ F′ = cc in
       rw (← same) (rw f at (b .2 (seen-at (p .0) (b .0) g)))
 
@@ -112,19 +99,17 @@ module _ (m : Module) (well : WellFormed m) (ok : Passes m) (os : List ℕ) (e :
     }
 
     entry-seen : Each (Seen names′) (flat (localized 0 m (follow 0 m) (E .function) (t .state)))
-    entry-seen = unfold flatEntry entryMade in each-both (entryMade 0 m E (t .state) .head) (each-elem (all-seen .in-entries) p (entryMade 0 m E (t .state)) (unfold gathered in t .is)) .1
+    unfolding flatEntry entryMade gathered
+    entry-seen = each-both (entryMade 0 m E (t .state) .head) (looked-each (whole-seen m well ok os e .in-entries) p (t .is)) .1
 
     entry-same : SameCells m m′ μ (getD (linkMaps os m .inEntries) p []) (E .function) (carryFunction (renumber names′) (localized 0 m (follow 0 m) (E .function) (t .state)))
     unfolding linkMaps
     entry-same = rw (t .memo) (same-cells m well ok os e (Any m well ok os e) (Going m z) (any-follows m well ok os e) (E .function) (t .sound .pass) (calls-any m well ok os e E (t .sound) (t .state) (t .going)) (t .state) (t .going) entry-lasts (entry-well m well ok os e p E t) entry-seen)
 
-  linked-entry : (p : ℕ) (f : Entry) → getElem? (entriesMade (m .entries) 0 m z) p ≡ some f → getElem? (m′ .entries) p ≡ some (carryEntry (renumber names′) f)
-  linked-entry p f g = rw (linked-is m well ok os e) (unfold namedBy withNames carry gathered in map-at (carryEntry (renumber names′)) (entriesMade (m .entries) 0 m z) p f g)
-
   -- ENTRY POINTS
   pub entries-same : (i : ℕ) (E E′ : Entry) → getElem? (m .entries) i ≡ some E → getElem? (m′ .entries) i ≡ some E′ → SameCells m m′ μ (getD (linkMaps os m .inEntries) i []) (E .function) (E′ .function)
   entries-same i E E′ q r =
       let t = the-turn m well ok os e i E q in
-      let h : getElem? (m′ .entries) i ≡ some (carryEntry (renumber names′) (entryMade 0 m E (t .state))) = linked-entry i (entryMade 0 m E (t .state)) (t .is) in
+      let h : getElem? (m′ .entries) i ≡ some (carryEntry (renumber names′) (entryMade 0 m E (t .state))) = linked-entry m well ok os e i (entryMade 0 m E (t .state)) (t .is) in
       let same : carryEntry (renumber names′) (entryMade 0 m E (t .state)) ≡ E′ = cc in
       rw (← same) (unfold carryEntry entryMade in entry-same i E t)

@@ -9,7 +9,7 @@ use Rattle.model.specs.Outcome.{Cells}
 use Rattle.model.specs.Table.{NAME}
 use Rattle.model.specs.Tree.{Entry, flatEntry}
 use Rattle.model.specs.Module.{Module}
-use Rattle.model.specs.Carry.{carryCells, carryEntry, carry, Each, WellFormed}
+use Rattle.model.specs.Carry.{carryCells, carryEntry, Each, WellFormed}
 use Rattle.model.specs.Intake.{Passes}
 use Rattle.model.specs.Calls.{ordered}
 use Rattle.model.specs.Callees.{orderOf}
@@ -17,9 +17,8 @@ use Rattle.model.specs.Names.{field}
 use Rattle.model.specs.Tables.{names, tables, mapAt}
 use Rattle.model.specs.References.{table, opt, target, targets, refOf, refs, each, through}
 use Rattle.model.specs.Imports.{importT}
-use Rattle.model.specs.Bodies.{Making, bring, went, carried, step, final, follow, entered, entryMade, entriesMade}
-use Rattle.model.specs.Finish.{renumber, withNames, namedBy, gathered, finished}
-use Rattle.model.specs.Session.{withEntries}
+use Rattle.model.specs.Bodies.{Making, bring, went, carried, step, final, follow, entered, entryMade}
+use Rattle.model.specs.Finish.{renumber, gathered}
 use Rattle.model.specs.Link.{linkBy}
 use Rattle.model.specs.LinkMaps.{linkMaps}
 use Rattle.model.specs.Agreement.{agreesR}
@@ -30,7 +29,7 @@ use Rattle.imports.specs.Imported.{import-kept}
 use Rattle.finishing.specs.Cellwise.{each-both}
 use Rattle.finishing.specs.Finished.{Seen}
 use Rattle.demand.specs.Order.{last, Head, headed, entry-head}
-use Rattle.demand.specs.Walking.{end, map-at, body-good, Turn, the-turn}
+use Rattle.demand.specs.Walking.{end, body-good, Turn, the-turn, linked-entry}
 use Rattle.demand.specs.Tested.{head-low}
 use Rattle.demand.specs.NameTexts.{ns, whole-seen, wentTo, Leads, carried-agrees}
 
@@ -69,11 +68,7 @@ module _ (m : Module) (well : WellFormed m) (ok : Passes m) (os : List ℕ) (e :
     made-agrees : agreesR m (linkBy os m) (linkMaps os m) global (E .head) (carryCells (renumber (ns m well ok os e)) (carried 0 m ent (E .head))) ≡ true
     made-agrees = carried-agrees m well ok os e global (went m ent) (E .head) (carried 0 m ent (E .head)) head-led (unfold carried in bare-shift (carryCells (through (went m ent)) (E .head)) 0 false) head-seen
 
-    linked-entry : getElem? (linkBy os m .entries) p ≡ some (carryEntry (renumber (ns m well ok os e)) (entryMade 0 m E (turn .state)))
-    unfolding linkBy withEntries finished namedBy withNames carry gathered
-    linked-entry = map-at (carryEntry (renumber (ns m well ok os e))) (entriesMade (m .entries) 0 m (last m well ok os e)) p (entryMade 0 m E (turn .state)) (turn .is)
-
     pub heads-agree : (E′ : Entry) → getElem? (linkBy os m .entries) p ≡ some E′ → agreesR m (linkBy os m) (linkMaps os m) global (E .head) (E′ .head) ≡ true
     heads-agree E′ r =
-        let i : carryEntry (renumber (ns m well ok os e)) (entryMade 0 m E (turn .state)) ≡ E′ = (let l = linked-entry in cc) in
+        let i : carryEntry (renumber (ns m well ok os e)) (entryMade 0 m E (turn .state)) ≡ E′ = (let l = linked-entry m well ok os e p (entryMade 0 m E (turn .state)) (turn .is) in cc) in
         rw (← i) (unfold carryEntry entryMade in made-agrees)

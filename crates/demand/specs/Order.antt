@@ -1,31 +1,30 @@
 -- IN OUTPUT ORDER: every state is one that imports may start from, so what is to be shown of each function (`Made`) holds. The same of entry points.
 use mathlib.Core.Path.{_≡_, refl, sym, ap, _∙_}
-use mathlib.Core.Bool.{Bool, true, false, _&&_}
+use mathlib.Core.Bool.{Bool, true, _&&_}
 use mathlib.Core.List.{List, [], _∷_, _++_, append-assoc, append-nil}
 use mathlib.Core.Option.{some}
-use Prim.Native.Nat.{ℕ, zero, suc, _+_, _<_, _≤_, pred}
+use Prim.Native.Nat.{ℕ, zero, suc, _+_, _<_, _≤_}
 use native.Mathlib.Nat.{le-refl, le-trans, le-of-suc-le-suc}
 use native.Mathlib.Omega.{arith}
-use lib.Dec.{eqb, ltb}
-use lib.ListN.{length, getD, getElem?, length-append}
+use lib.ListN.{length, getElem?, length-append}
 use borrow.Author.Tests.{lt-ltb}
-use Rattle.model.specs.Outcome.{Cells, class, word}
-use Rattle.model.specs.Table.{WORD, NAME, SPAN, UPTO, FROM, functionHead, entryHead, binding}
+use Rattle.model.specs.Outcome.{Cells}
+use Rattle.model.specs.Table.{WORD, NAME, SPAN, UPTO, functionHead, entryHead, binding}
 use Rattle.model.specs.Tree.{Function, Entry, flat, flatEntry}
 use Rattle.model.specs.Module.{Module}
-use Rattle.model.specs.Carry.{carryCell, Each, each-none, each-next, WellFunction, WellEntry, WellFormed}
-use Rattle.model.specs.Numbers.{Bounds, caps, bound, below as under, within, rising, ordered as rises, every, outside, inside, sound, soundFunction, soundEntry, numbered}
+use Rattle.model.specs.Carry.{carryCell, Each, each-next, WellFunction, WellEntry, WellFormed}
+use Rattle.model.specs.Numbers.{Bounds, caps, bound, below as under, within, rising, ordered as rises, every, outside, inside, sound, soundFunction, soundEntry}
 use Rattle.model.specs.Initial.{initialised}
 use Rattle.model.specs.Agreement.{Among, first, later}
 use Rattle.model.specs.Intake.{Passes}
-use Rattle.model.specs.Calls.{In, here, ordered}
+use Rattle.model.specs.Calls.{In, ordered}
 use Rattle.model.specs.Callees.{callees, calls, orderOf}
-use Rattle.model.specs.Redirect.{nothing, nameWord, function as functionAt}
-use Rattle.model.specs.Tables.{Tab, names, at, Tables, tables, count, mapAt}
-use Rattle.model.specs.References.{Place, table, own, function, Target, opt, target, targets, refs, through, carryW, shift, moved, undefinedAt, firstWord}
+use Rattle.model.specs.Redirect.{nameWord, function as functionAt}
+use Rattle.model.specs.Tables.{Tab, names, at, tables, count, mapAt}
+use Rattle.model.specs.References.{function, target, targets, refs, through, carryW, shift, moved}
 use Rattle.model.specs.Imports.{St, importT, fresh}
 use Rattle.model.specs.Special.{sourced}
-use Rattle.model.specs.Bodies.{known, Making, went, carried, step, final, localized, appended, append, follow, entered, entryMade, enterAll, entriesMade}
+use Rattle.model.specs.Bodies.{known, Making, went, carried, final, localized, appended, append, follow, entered, entryMade}
 use Rattle.model.specs.Finish.{gathered}
 use Rattle.model.specs.Link.{appendAll}
 use Rattle.gather.proofs.Cells.{cells-function}
@@ -33,7 +32,6 @@ use Rattle.calls.proofs.Theorems.{each-once}
 use Rattle.laws.specs.Lists.{and-true, and-split}
 use Rattle.laws.specs.Plain.{plain?}
 use Rattle.laws.specs.Quiet.{Plainly, plain-none, plain-next, plainly}
-use Rattle.imports.specs.RecordLaws.{length-shift, length-carry}
 use Rattle.imports.specs.Functions.{cells-in, within-append}
 use Rattle.imports.specs.Theorems.{Inside}
 use Rattle.bodies.specs.Context.{Grown, grown-refl, grown-trans}
@@ -44,7 +42,7 @@ use Rattle.bodies.specs.Lawful as Lawful
 use Rattle.bodies.specs.Source.{entry-passes, good-start}
 use Rattle.bodies.specs.Theorems as Theorems
 use Rattle.finishing.specs.Cellwise.{each-first, function-cells}
-use Rattle.finishing.specs.Finished.{Low, within-low, each-at}
+use Rattle.finishing.specs.Finished.{Low, within-low}
 use Rattle.finishing.specs.Fresh.{stateAt}
 use Rattle.finishing.specs.Known as Known
 use Rattle.finishing.specs.Sessions.{specials-in}

@@ -1,10 +1,10 @@
 -- PLACES: the derived functions stand in output order, each bears the name of its source and no other does; so the function that `known` finds is the one at its place.
 use mathlib.Core.Path.{_≡_, refl, sym, ap, _∙_}
-use mathlib.Core.Bool.{Bool, true, false, _&&_, _||_, not, false≢true}
-use mathlib.Core.Logic.{_⊎_, inl, inr, ⊎-elim}
+use mathlib.Core.Bool.{Bool, true, false, _||_, not, false≢true}
+use mathlib.Core.Logic.{_⊎_, inl, inr}
 use mathlib.Core.List.{List, [], _∷_, _++_, map, append-assoc, append-nil}
 use mathlib.Core.Option.{some}
-use Prim.Native.Nat.{ℕ, zero, suc, _+_, _<_, _≤_, pred}
+use Prim.Native.Nat.{ℕ, zero, suc, _+_, _<_, pred}
 use native.Mathlib.Omega.{arith}
 use native.Mathlib.Decide.{ℕ-discrete}
 use lib.Dec.{eqb}
@@ -14,15 +14,15 @@ use Rattle.model.specs.Outcome.{Cells, class, word}
 use Rattle.model.specs.Table.{SPAN, UPTO, NAME}
 use Rattle.model.specs.Tree.{Function}
 use Rattle.model.specs.Module.{Module}
-use Rattle.model.specs.Carry.{Each, each-none, each-next, WellFormed}
+use Rattle.model.specs.Carry.{each-next, WellFormed}
 use Rattle.model.specs.Intake.{Passes}
 use Rattle.model.specs.Initial.{Mem, here, there}
 use Rattle.model.specs.Members.{no-mem, mem-left}
 use Rattle.model.specs.Names.{field, absent, distinct, same, differ, functionNames, named, present, entryNames, functionsNamed, entriesNamed}
-use Rattle.model.specs.Calls.{In, here as here-in, ordered}
+use Rattle.model.specs.Calls.{here as here-in, ordered}
 use Rattle.model.specs.Callees.{orderOf}
 use Rattle.model.specs.Redirect.{nothing, nameWord, function as functionAt}
-use Rattle.model.specs.Tables.{names, at, Tables, tables, recAt, count, mapAt}
+use Rattle.model.specs.Tables.{names, at, tables, recAt}
 use Rattle.model.specs.References.{copied, target, targets, alikeC, alike, seat}
 use Rattle.model.specs.Imports.{St, fresh}
 use Rattle.model.specs.Special.{sourced}
@@ -30,7 +30,7 @@ use Rattle.model.specs.Bodies.{lastOf, known, final, localized, appended, appen
 use Rattle.model.specs.Link.{appendAll}
 use Rattle.laws.specs.Lists.{and-split}
 use Rattle.calls.proofs.Lists.{in-right}
-use Rattle.finishing.specs.Firsts.{either, Once, once-none, once-next}
+use Rattle.finishing.specs.Firsts.{Once, once-none, once-next}
 use Rattle.finishing.specs.Finished.{differ-at, names-differ, each-at}
 use Rattle.finishing.specs.Fresh.{stateAt}
 use Rattle.finishing.specs.Ringless.{low}
@@ -38,8 +38,7 @@ use Rattle.finishing.specs.Known.{nameTable, Copied, name-copied}
 use Rattle.finishing.specs.Known as Known
 use Rattle.finishing.specs.Output.{Headed, headed, imported-name, imported-follows, follows-keeping, all-follow, source-follows}
 use Rattle.finishing.specs.Counting.{appendAll-snoc, none-functions, order-once}
-use Rattle.demand.specs.Function.{Going, ends}
-use Rattle.demand.specs.Order.{good-at, functions-made}
+use Rattle.demand.specs.Order.{functions-made}
 
 -- ---- two lists, side by side
 pub data Both (R : ℕ → Function → Type 0) : List ℕ → List Function → Type 0 where

@@ -1,15 +1,14 @@
 -- TESTS 4, 5 AND 6 of the derived functions and entry points.
 use mathlib.Core.Path.{_≡_, refl, sym, ap, _∙_}
 use mathlib.Core.Bool.{Bool, true, false, _&&_, not, false≢true}
-use mathlib.Core.Logic.{_⊎_, inl, inr}
 use mathlib.Core.List.{List, [], _∷_, _++_, map, append-nil}
 use mathlib.Core.Option.{some}
 use Prim.Native.Nat.{ℕ, zero, suc, _<_, pred}
 use native.Mathlib.Omega.{arith}
 use lib.Dec.{eqb}
 use lib.ListN.{length, getD, getElem?}
-use borrow.Author.Tests.{eqb-true, eqb-false, eq-eqb, ne-eqb, not-true}
-use Rattle.model.specs.Outcome.{Cells, class, word}
+use borrow.Author.Tests.{eqb-true, ne-eqb, not-true}
+use Rattle.model.specs.Outcome.{Cells, word}
 use Rattle.model.specs.Table.{NAME, SPAN, UPTO, NAMED-EXPR, functionHead}
 use Rattle.model.specs.Tree.{Function, Entry}
 use Rattle.model.specs.Module.{Module}
@@ -17,9 +16,9 @@ use Rattle.model.specs.Carry.{carryCell, Each, WellFunction, WellFormed}
 use Rattle.model.specs.Intake.{Passes}
 use Rattle.model.specs.Initial.{Mem, here, there}
 use Rattle.model.specs.Lower.{operandsLower, functionsLower, entriesLower}
-use Rattle.model.specs.Names.{field, present, absent, distinct, expressionsNamed, functionsNamed, entriesNamed, functionNames, entryNames, differ, named}
+use Rattle.model.specs.Names.{field, present, absent, distinct, expressionsNamed, functionsNamed, entriesNamed, functionNames, entryNames, named}
 use Rattle.model.specs.Scope.{scoped, allScoped, entriesScoped, inScope}
-use Rattle.model.specs.Calls.{In, ordered}
+use Rattle.model.specs.Calls.{ordered}
 use Rattle.model.specs.Callees.{orderOf}
 use Rattle.model.specs.Redirect.{nameWord, function as functionAt}
 use Rattle.model.specs.Tables.{names, at, tables, count, mapAt}
@@ -27,16 +26,16 @@ use Rattle.model.specs.Numbers.{outside, inside}
 use Rattle.imports.specs.Imported.{import-kept}
 use Rattle.finishing.specs.Cellwise.{each-first}
 use Rattle.finishing.specs.Finished.{Low, within-low}
-use Rattle.model.specs.References.{Place, table, Target, opt, target, targets, Node, node, refOf, refs, each, carryW, through, moved, shift, seat}
+use Rattle.model.specs.References.{Place, table, opt, target, targets, node, refOf, refs, each, carryW, through, moved, shift, seat}
 use Rattle.model.specs.Imports.{St, importT}
-use Rattle.model.specs.Bodies.{Making, carried, bring, step, went, putName, nameIf, keepNames, nameCells, namedRows, keptNames, final, derived, localized, follow, entered, entryMade, enterAll, entriesMade}
+use Rattle.model.specs.Bodies.{Making, carried, bring, step, went, putName, nameIf, keepNames, nameCells, namedRows, keptNames, final, derived, localized, follow, entered, entryMade, entriesMade}
 use Rattle.model.specs.Finish.{gathered}
 use Rattle.model.specs.Agreement.{Among, first, later}
 use Rattle.laws.specs.Lists.{and-true, and-split}
 use Rattle.laws.specs.Plain.{plain?}
 use Rattle.laws.specs.Quiet.{Plainly, plainly}
 use Rattle.imports.specs.RecordLaws.{All as AllN, Has as HasN}
-use Rattle.finishing.specs.Firsts.{either, Once, once-none, once-next}
+use Rattle.finishing.specs.Firsts.{Once, once-next}
 use Rattle.finishing.specs.Fresh.{stateAt}
 use Rattle.finishing.specs.Known.{nameTable}
 use Rattle.finishing.specs.Known as Known
@@ -45,7 +44,7 @@ use Rattle.finishing.specs.Linking.{Tests}
 use Rattle.finishing.specs.Counting.{order-once}
 use Rattle.bodies.specs.Theorems as Theorems
 use Rattle.demand.specs.Function.{Going, Called, at-i, pass, calls-all, follows, start, again}
-use Rattle.demand.specs.Order.{good-at, functions-made, last, Any, any-follows, at-end, Head, headed, entry-head, Sound, calls-any, entry-going, entry-sound, entry-made, again as entry-again}
+use Rattle.demand.specs.Order.{good-at, functions-made, last, Any, any-follows, at-end, Head, headed, entry-head, Sound, calls-any, entry-going, entry-sound, again as entry-again}
 use Rattle.demand.specs.Places.{Both, both-none, both-next, functions-both, goes-on, Bearing, bearing, nameOf, name-once}
 use Rattle.demand.specs.Walking.{end, end-going, head-within, body-good}
 

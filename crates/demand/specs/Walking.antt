@@ -1,13 +1,12 @@
 -- WALKS: the maps of link are those of every import where it has mapped, since what is mapped stays mapped; so every function and every entry point of the linked module agrees with its source, as walks need it.
 use mathlib.Core.Path.{_≡_, refl, sym, ap, _∙_}
-use mathlib.Core.Bool.{Bool, true}
-use mathlib.Core.List.{List, [], _∷_, _++_, map, append-assoc, append-nil}
-use mathlib.Core.Option.{Option, none, some}
-use Prim.Native.Nat.{ℕ, zero, suc, _+_, _<_, _≤_, pred}
+use mathlib.Core.Bool.{true}
+use mathlib.Core.List.{List, [], _∷_, _++_, map, append-nil}
+use mathlib.Core.Option.{some}
+use Prim.Native.Nat.{ℕ, zero, suc, _+_, _<_, pred}
 use native.Mathlib.Omega.{arith}
-use lib.ListN.{length, getD, set, getElem?, replicate, length-replicate, length-set, length-map}
+use lib.ListN.{length, getD, getElem?, replicate, length-replicate, length-set, length-map}
 use lib.Seq.{getD-set-same, getD-set-other}
-use Rattle.model.specs.Outcome.{Cells}
 use Rattle.model.specs.Tree.{Function, Entry, flat, flatEntry}
 use Rattle.model.specs.Module.{Module}
 use Rattle.model.specs.Carry.{carryFunction, carryEntry, carry, WellFunction, WellFormed}
@@ -21,15 +20,15 @@ use Rattle.model.specs.Scope.{seen}
 use Rattle.model.specs.Calls.{In, here as here-in, later as later-in, ordered}
 use Rattle.model.specs.Callees.{calls, orderOf}
 use Rattle.model.specs.Redirect.{nothing, function as functionAt}
-use Rattle.model.specs.Tables.{Tab, types, constants, overrides, globals, exprs, tables, count, mapAt}
+use Rattle.model.specs.Tables.{types, constants, overrides, globals, exprs, tables}
 use Rattle.model.specs.References.{Place, table, own, function, Node, refs, each}
 use Rattle.model.specs.Imports.{St, importT, fresh}
 use Rattle.model.specs.Special.{sourced}
-use Rattle.model.specs.Bodies.{known, Making, bring, went, step, final, localized, appended, append, follow, entered, entryMade, enterAll, entriesMade}
+use Rattle.model.specs.Bodies.{Making, bring, went, step, final, localized, appended, append, follow, entered, entryMade, enterAll, entriesMade}
 use Rattle.model.specs.Finish.{renumber, withNames, namedBy, appearing, gathered, finished}
 use Rattle.model.specs.Session.{withEntries}
 use Rattle.model.specs.Link.{appendAll, linkBy}
-use Rattle.model.specs.LinkMaps.{placesOf, memosOf, memosIn, linkMaps}
+use Rattle.model.specs.LinkMaps.{memosOf, memosIn, linkMaps}
 use Rattle.model.specs.Agreement.{MayShare, Among, first, later}
 use mathlib.Core.Logic.{_⊎_}
 use Rattle.walks.specs.Agreement.{Maps, Agrees}
@@ -45,7 +44,7 @@ use Rattle.bodies.specs.Theorems as Theorems
 use Rattle.finishing.specs.Touching.{Only, same-b}
 use Rattle.finishing.specs.Kept.{exprs-same, initials-kept}
 use Rattle.finishing.specs.Finished.{renumber-only}
-use Rattle.finishing.specs.Firsts.{Once, once-none, once-next}
+use Rattle.finishing.specs.Firsts.{Once, once-next}
 use Rattle.finishing.specs.Fresh.{stateAt}
 use Rattle.finishing.specs.Ringless.{low}
 use Rattle.finishing.specs.Sessions.{Keeping, specials-in, follow-kept, functions-kept, enter-all-kept, entries-kept}
@@ -67,7 +66,7 @@ unfolding memosOf appendAll
 memos-at [] vs i m s ms (once-next h o) l = memos-other vs m _ _ i h ∙ getD-set-same ms i _ [] l
 memos-at (x ∷ us) vs i m s ms (once-next h o) l = memos-at us vs i m (append 0 m (follow 0 m) x s) _ o (rw (length-set ms x (final 0 m (follow 0 m) (functionAt m x) s .memo)) l)
 
-pub map-at : {A B : Type 0} (f : A → B) (l : List A) (i : ℕ) (x : A) → getElem? l i ≡ some x → getElem? (map f l) i ≡ some (f x)
+map-at : {A B : Type 0} (f : A → B) (l : List A) (i : ℕ) (x : A) → getElem? l i ≡ some x → getElem? (map f l) i ≡ some (f x)
 map-at f [] i x e = let z : _≡_ {A = ℕ} 0 1 = cc in absurd (omega arith)
 map-at f (y ∷ l) zero x e = let q : y ≡ x = cc in rw q
 map-at f (y ∷ l) (suc i) x e = map-at f l i x e
@@ -235,6 +234,15 @@ module _ (m : Module) (well : WellFormed m) (ok : Passes m) where
     unfolding linkBy withEntries finished namedBy withNames carry gathered
     entries-count = length-map (entriesMade (m .entries) 0 m z) (carryEntry (renumber (appearing (gathered end (entriesMade (m .entries) 0 m z))))) ∙ entries-length (m .entries) z
 
+    -- a derived function and a derived entry point in the linked module: their names are numbered anew
+    pub linked-function : (p : ℕ) (f : Function) → getElem? (end .functions) p ≡ some f → getElem? (m′ .functions) p ≡ some (carryFunction (renumber (appearing (gathered end (entriesMade (m .entries) 0 m z)))) f)
+    unfolding linkBy withEntries finished namedBy withNames carry gathered
+    linked-function p f g = map-at (carryFunction (renumber (appearing (gathered end (entriesMade (m .entries) 0 m z))))) (end .functions) p f g
+
+    pub linked-entry : (p : ℕ) (f : Entry) → getElem? (entriesMade (m .entries) 0 m z) p ≡ some f → getElem? (m′ .entries) p ≡ some (carryEntry (renumber (appearing (gathered end (entriesMade (m .entries) 0 m z)))) f)
+    unfolding linkBy withEntries finished namedBy withNames carry gathered
+    linked-entry p f g = map-at (carryEntry (renumber (appearing (gathered end (entriesMade (m .entries) 0 m z))))) (entriesMade (m .entries) 0 m z) p f g
+
     pub function-agrees : (i : ℕ) (F : Function) → getElem? (m .functions) i ≡ some F → (F″ : Function) × (getElem? (m′ .functions) (μ .function i) ≡ some F″) × Agrees m m′ μ F F″ (μ .inFunction i)
     function-agrees i F q =
         let l = at-in (m .functions) i F q in
@@ -245,10 +253,7 @@ module _ (m : Module) (well : WellFormed m) (ok : Passes m) where
         let ns : List ℕ = appearing (gathered end es) in
         let k : μ .function i ≡ p .0 = (unfold made in ap pred (placed m os e (p .0) i (p .1))) in
         let g : getElem? (end .functions) (p .0) ≡ some (b .0) = rw (end-going .same) (b .1) in
-        (carryFunction (renumber ns) (b .0), rw k (linked-at (p .0) (b .0) g), renamed-agrees (renumber-only ns) m m′ μ F (b .0) (μ .inFunction i) (b .2 .1) (rw f at (b .2 .0)))
-      where
-        linked-at : (p : ℕ) (f : Function) → getElem? (end .functions) p ≡ some f → getElem? (m′ .functions) p ≡ some (carryFunction (renumber (appearing (gathered end (entriesMade (m .entries) 0 m z)))) f)
-        linked-at p f g = unfold linkBy withEntries finished namedBy withNames carry gathered in map-at (carryFunction (renumber (appearing (gathered end (entriesMade (m .entries) 0 m z))))) (end .functions) p f g
+        (carryFunction (renumber ns) (b .0), rw k (linked-function (p .0) (b .0) g), renamed-agrees (renumber-only ns) m m′ μ F (b .0) (μ .inFunction i) (b .2 .1) (rw f at (b .2 .0)))
 
     -- ---- entry points
     abbrev Fin : Entry → St → Making
@@ -349,8 +354,5 @@ module _ (m : Module) (well : WellFormed m) (ok : Passes m) where
         let ns : List ℕ = appearing (gathered end (entriesMade (m .entries) 0 m z)) in
         (carryEntry (renumber ns) (entryMade 0 m E (t .state)), linked-entry p (entryMade 0 m E (t .state)) (t .is), carried-agrees t)
       where
-        linked-entry : (p : ℕ) (f : Entry) → getElem? (entriesMade (m .entries) 0 m z) p ≡ some f → getElem? (m′ .entries) p ≡ some (carryEntry (renumber (appearing (gathered end (entriesMade (m .entries) 0 m z)))) f)
-        linked-entry p f g = unfold linkBy withEntries finished namedBy withNames carry gathered in map-at (carryEntry (renumber (appearing (gathered end (entriesMade (m .entries) 0 m z))))) (entriesMade (m .entries) 0 m z) p f g
-
         carried-agrees : (t : Turn (m .entries) z p E) → Agrees m m′ μ (E .function) (carryEntry (renumber (appearing (gathered end (entriesMade (m .entries) 0 m z)))) (entryMade 0 m E (t .state)) .function) (μ .inEntry p)
         carried-agrees t = unfold carryEntry entryMade in renamed-agrees (renumber-only (appearing (gathered end (entriesMade (m .entries) 0 m z)))) m m′ μ (E .function) (localized 0 m (follow 0 m) (E .function) (t .state)) (μ .inEntry p) (entry-well p E t) (entry-agrees-at p E t)
