@@ -3,7 +3,7 @@
 //! Setting tests 1 to 6 and 21; an import 20, 13, 22, 21; finishing 20, 22, 21, 7. What may still be refused is done
 //! on a copy of the derived module, which is taken over when it is not; so a refusal leaves everything as it was.
 
-use std::collections::BTreeMap;
+use std::collections::{BTreeMap, BTreeSet};
 
 use crate::derive::{Derived, Source};
 use crate::intake::admit;
@@ -166,12 +166,12 @@ impl Session {
         let mut met = BTreeMap::new();
         let mut waiting: Vec<u32> = functions.into_iter().filter(unknown).collect();
         while let Some(function) = waiting.pop() {
-            if !met.contains_key(&function) {
-                let callees = source.callees[function as usize].iter().copied().filter(unknown);
-                let callees: std::collections::BTreeSet<u32> = callees.collect();
+            met.entry(function).or_insert_with(|| {
+                let all = source.callees[function as usize].iter().copied();
+                let callees: BTreeSet<u32> = all.filter(unknown).collect();
                 waiting.extend(&callees);
-                met.insert(function, callees);
-            }
+                callees
+            });
         }
         let rule = "no chain of calls through functions of unknown names comes back to one of them";
         rounds(met.into_iter().collect()).map(|_| ()).map_err(|_| Refused::of(22, rule))
