@@ -71,7 +71,7 @@ pub fn worst() -> Vec<Case> {
     ]
 }
 
-fn word(value: usize) -> Word {
+pub(crate) fn word(value: usize) -> Word {
     (value as u32).into()
 }
 
@@ -102,25 +102,36 @@ fn names_one_place(count: usize) -> Vec<Name> {
     last.take(count).map(|word| Name { at: 0, bytes: bytes(word) }).collect()
 }
 
-fn leaf() -> Type {
-    let inner = Inner::Leaf { leaf: word(0), copied: Binding::default() };
-    Type { name: word(0), span: Span::default(), inner }
+pub(crate) fn leaf() -> Type {
+    leaf_of(0)
+}
+
+/// Leaves of different numbers are different types.
+pub(crate) fn leaf_of(own: usize) -> Type {
+    let mut copied = Binding::default();
+    copied[0] = word(own);
+    Type { name: word(0), span: Span::default(), inner: Inner::Leaf { leaf: word(0), copied } }
+}
+
+/// A struct of these members.
+pub(crate) fn of_members(members: Vec<Member>) -> Type {
+    Type { name: word(0), span: Span::default(), inner: Inner::Struct { size: word(0), members } }
 }
 
 /// A module with one name, one type and one global expression.
-fn base() -> Module {
+pub(crate) fn base() -> Module {
     Module { names: names(1), types: vec![leaf()], expressions: vec![literal(0)], ..Module::default() }
 }
 
-fn constant() -> Constant {
+pub(crate) fn constant() -> Constant {
     Constant { name: word(0), span: Span::default(), ty: word(0), init: word(0) }
 }
 
-fn override_record() -> Override {
+pub(crate) fn override_record() -> Override {
     Override { name: word(0), span: Span::default(), id: word(0), ty: word(0), init: word(1) }
 }
 
-fn global() -> Global {
+pub(crate) fn global() -> Global {
     Global {
         name: word(0),
         span: Span::default(),
@@ -132,11 +143,11 @@ fn global() -> Global {
     }
 }
 
-fn of_kind(kind: u32, values: Vec<Value>) -> Expression {
+pub(crate) fn of_kind(kind: u32, values: Vec<Value>) -> Expression {
     Expression { kind: kind.into(), span: Span::default(), values }
 }
 
-fn literal(low: usize) -> Expression {
+pub(crate) fn literal(low: usize) -> Expression {
     of_kind(expression::LITERAL, vec![Value::One(word(3)), Value::One(word(low)), Value::One(word(0))])
 }
 
@@ -154,20 +165,20 @@ fn local(init: usize) -> Local {
 }
 
 /// A function that bears name 0.
-fn named() -> Function {
+pub(crate) fn named() -> Function {
     Function { name: word(1), ..Function::default() }
 }
 
 /// A module of one function.
-fn one(function: Function) -> Module {
+pub(crate) fn one(function: Function) -> Module {
     Module { functions: vec![function], ..base() }
 }
 
-fn made(kind: u32, body: Body) -> Statement {
+pub(crate) fn made(kind: u32, body: Body) -> Statement {
     Statement { at: 0, kind: kind.into(), span: Span::default(), body }
 }
 
-fn emit(start: usize, end: usize) -> Statement {
+pub(crate) fn emit(start: usize, end: usize) -> Statement {
     made(statement::EMIT, Body::Emit { start: word(start), end: word(end) })
 }
 
@@ -177,7 +188,7 @@ fn call(callee: usize) -> Statement {
 }
 
 /// So many functions, each with the calls that it is given.
-fn functions(count: usize, callees: impl Fn(usize) -> Vec<usize>) -> Module {
+pub(crate) fn functions(count: usize, callees: impl Fn(usize) -> Vec<usize>) -> Module {
     let function = |own| Function {
         name: word(own + 1),
         body: callees(own).into_iter().map(call).collect(),
@@ -223,9 +234,7 @@ fn pairs(count: usize) -> Module {
 
 fn members(count: usize) -> Module {
     let member = Member { name: word(0), ty: word(0), offset: word(0), binding: Binding::default() };
-    let inner = Inner::Struct { size: word(0), members: vec![member; count] };
-    let record = Type { name: word(0), span: Span::default(), inner };
-    Module { types: vec![leaf(), record], ..Module::default() }
+    Module { types: vec![leaf(), of_members(vec![member; count])], ..Module::default() }
 }
 
 fn named_expressions(count: usize) -> Module {
@@ -251,10 +260,13 @@ fn nested_loops(depth: usize) -> Block {
     vec![made(statement::LOOP, body)]
 }
 
+pub(crate) fn barrier() -> Statement {
+    made(9, Body::Plain(vec![Value::One(word(0))]))
+}
+
 /// A module of exactly so many words: one function of barriers, filled up by names.
 fn of_words(total: usize) -> Module {
-    let barrier = made(9, Body::Plain(vec![Value::One(word(0))]));
-    let mut module = one(Function { body: vec![barrier; (total - 100) / 5], ..named() });
+    let mut module = one(Function { body: vec![barrier(); (total - 100) / 5], ..named() });
     let have = write(&module).len() / 4;
     // A further name takes its offset, its length and its bytes.
     module.names.push(Name { at: 0, bytes: vec![b'f'; 4 * (total - have - 2)] });
@@ -281,7 +293,7 @@ fn composed(count: usize) -> Function {
 }
 
 /// Locals that all have the end of one long chain as their initialiser.
-fn initialised_locals(locals: usize, expressions: usize) -> Function {
+pub(crate) fn initialised_locals(locals: usize, expressions: usize) -> Function {
     let chain = chained_expressions(expressions);
     Function { locals: vec![local(expressions); locals], body: Vec::new(), ..chain }
 }

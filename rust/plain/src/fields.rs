@@ -374,8 +374,10 @@ pub mod expression {
     pub const LITERAL: u32 = 0;
     pub const CONSTANT: u32 = 1;
     pub const OVERRIDE: u32 = 2;
+    pub const ZERO_VALUE: u32 = 3;
     pub const COMPOSE: u32 = 4;
     pub const SPLAT: u32 = 7;
+    pub const GLOBAL_VARIABLE: u32 = 10;
     pub const UNARY: u32 = 16;
     pub const CALL_RESULT: u32 = 23;
     pub const ATOMIC_RESULT: u32 = 24;

@@ -20,10 +20,16 @@
 
 pub mod bodies;
 pub mod cases;
+mod derive;
 pub mod fields;
+pub mod fill;
+mod finish;
 pub mod generate;
+pub mod generate_session;
 mod intake;
+pub mod link;
 pub mod listing;
+mod localize;
 pub mod module;
 pub mod mutate;
 mod order;
@@ -32,10 +38,16 @@ pub mod random;
 mod read;
 mod redirect;
 mod scope;
+pub mod session;
+pub mod steps;
 pub mod text;
+pub mod twins;
+pub mod walk;
 mod write;
 
+pub use derive::{Map, Maps};
 pub use intake::{admit, intake};
+pub use link::link;
 pub use module::Module;
 pub use order::{order, order_of};
 pub use parse::{assemble, TextError};

@@ -16,19 +16,22 @@ pub fn order(image: &[u8]) -> Result<Vec<u32>, Refused> {
 
 /// The same for a module that intake admitted.
 pub fn order_of(module: &Module) -> Result<Vec<u32>, Refused> {
+    let waiting = module.functions.iter().map(|function| callees(&function.body)).enumerate();
+    rounds(waiting.map(|(own, callees)| (own as u32, callees)).collect()).map_err(|left| {
+        let rule = "no chain of calls reaches a ring";
+        Refused { left, ..Refused::of(12, rule) }
+    })
+}
+
+/// Functions and their callees, in rounds: the functions in the order in which they are placed, or the count of
+/// those that no round places.
+pub(crate) fn rounds(mut waiting: Vec<(u32, BTreeSet<u32>)>) -> Result<Vec<u32>, u32> {
     let mut order = Vec::new();
-    let mut waiting: Vec<(u32, BTreeSet<u32>)> = module
-        .functions
-        .iter()
-        .enumerate()
-        .map(|(own, function)| (own as u32, callees(&function.body)))
-        .collect();
     while !waiting.is_empty() {
         let (ready, rest): (Vec<_>, Vec<_>) =
             waiting.into_iter().partition(|(_, callees)| callees.is_empty());
         if ready.is_empty() {
-            let rule = "no chain of calls reaches a ring";
-            return Err(Refused { left: rest.len() as u32, ..Refused::of(12, rule) });
+            return Err(rest.len() as u32);
         }
         waiting = rest;
         for (own, _) in ready {
@@ -42,7 +45,7 @@ pub fn order_of(module: &Module) -> Result<Vec<u32>, Refused> {
 }
 
 /// The functions that a body calls, in reach or not.
-fn callees(body: &Block) -> BTreeSet<u32> {
+pub(crate) fn callees(body: &Block) -> BTreeSet<u32> {
     let mut callees = BTreeSet::new();
     each_statement(body, &mut |statement| callees.extend(statement.callee().map(|word| word.value)));
     callees

@@ -64,7 +64,7 @@ fn name(name: &Name, out: &mut Words) {
     out.extend(crate::words(&padded));
 }
 
-fn ty(ty: &Type, out: &mut Words) {
+pub(crate) fn ty(ty: &Type, out: &mut Words) {
     put(out, &[ty.name]);
     put(out, &ty.span);
     out.push(ty.inner.kind());
@@ -91,19 +91,19 @@ fn member(member: &Member, out: &mut Words) {
     put(out, &member.binding);
 }
 
-fn constant(constant: &Constant, out: &mut Words) {
+pub(crate) fn constant(constant: &Constant, out: &mut Words) {
     put(out, &[constant.name]);
     put(out, &constant.span);
     put(out, &[constant.ty, constant.init]);
 }
 
-fn override_record(record: &Override, out: &mut Words) {
+pub(crate) fn override_record(record: &Override, out: &mut Words) {
     put(out, &[record.name]);
     put(out, &record.span);
     put(out, &[record.id, record.ty, record.init]);
 }
 
-fn global(global: &Global, out: &mut Words) {
+pub(crate) fn global(global: &Global, out: &mut Words) {
     put(out, &[global.name]);
     put(out, &global.span);
     put(out, &global.space);
@@ -111,7 +111,7 @@ fn global(global: &Global, out: &mut Words) {
     put(out, &[global.ty, global.init, global.decorations]);
 }
 
-fn expression(expression: &Expression, out: &mut Words) {
+pub(crate) fn expression(expression: &Expression, out: &mut Words) {
     put(out, &[expression.kind]);
     put(out, &expression.span);
     values(&expression.values, out);
