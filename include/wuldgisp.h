@@ -1,14 +1,20 @@
 /* Wuldgisp: a proved linker for shader modules. The functions of libwuldgisp.a, which `rt staticlib wuldgisp` writes to target/staticlib.
  *
  * Every function returns for every input, reads and writes nothing but what it is lent, and keeps nothing. A null pointer may be given only with
- * length 0. Several threads may call at the same time. The calls that were measured used at most
- * 129 KiB of stack (docs/PERFORMANCE.md).
+ * length 0. Several threads may call at the same time.
+ *
+ * Stack: give a thread that calls at least WULDGISP_STACK bytes. Every call that was measured ran in a thread of 132 KiB (docs/PERFORMANCE.md).
+ *
+ * docs/RULES.md has the rules behind every refusal, and docs/IMAGE.md the image word by word.
  */
 #ifndef WULDGISP_H
 #define WULDGISP_H
 
 #include <stddef.h>
 #include <stdint.h>
+
+/* The stack that a calling thread should have at least: 256 KiB. */
+#define WULDGISP_STACK 262144
 
 #ifdef __cplusplus
 extern "C" {
@@ -17,7 +23,7 @@ extern "C" {
 /* Intake: is this an image that the linker takes?
  *
  * image, image_len: the bytes of a module image; they are only read.
- * Answers 0 if it is accepted, else the number of the first test that fails, each made over the whole image before the next:
+ * Answers 0 if it is accepted, else the number of the first test that fails, each made over the whole image before the next (rule T1):
  *   1  size, edition or total: from 80 to 65,536 bytes, edition 1, four times word 1 long
  *   2  layout, padding or a limit
  *   3  a number or a code out of range, or a kind barred from its place

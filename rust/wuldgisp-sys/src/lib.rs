@@ -6,6 +6,9 @@
 //! The build script finds the archive and links it. A crate that depends on this one directly is told its folder
 //! as `DEP_WULDGISP_FOLDER`.
 
+/// The stack that a calling thread should have at least, in bytes.
+pub const WULDGISP_STACK: usize = 262144;
+
 extern "C" {
     pub fn wuldgisp_intake(image: *const u8, image_len: usize) -> u32;
     pub fn wuldgisp_order(image: *const u8, image_len: usize, order: *mut u32, order_len: usize) -> u64;

@@ -83,6 +83,13 @@ fn declarations_are_the_headers() {
 }
 
 #[test]
+fn the_stack_is_the_headers() {
+    let header = Path::new(env!("CARGO_MANIFEST_DIR")).join("../../include/wuldgisp.h");
+    let define = format!("#define WULDGISP_STACK {}\n", wuldgisp_sys::WULDGISP_STACK);
+    assert!(std::fs::read_to_string(header).unwrap().contains(&define), "no {define}");
+}
+
+#[test]
 fn both_spellings_are_read() {
     let c = "#include <stdint.h>\n/* two\nlines */ uint32_t f(const uint8_t *a, size_t b); // more\nuint64_t\n g(uint8_t* a, uint32_t b);";
     let rust = "extern \"C\" {\n pub fn f(a: *const u8, b: usize) -> u32;\n /// g\n pub fn g(\n a: *mut u8,\n b: u32,\n ) -> u64;\n}";

@@ -6,7 +6,8 @@
 //! repository has the rules that the answers follow, and `docs/IMAGE.md` the image word by word.
 //!
 //! [`Image`] reads names and looks functions up by name; [`redirect_by_name`] redirects by name. With the feature
-//! `place` there is `place`, which says where in an image a rule is broken. A call needs at most 256 KiB of stack.
+//! `place` there is `place`, which says where in an image a rule is broken. A thread that calls should have a stack of
+//! at least [`STACK`] bytes.
 //!
 //! ```
 //! // fog and tone; shade calls fog, and fog calls tone.
@@ -39,6 +40,9 @@ pub use image::Image;
 #[cfg(feature = "place")]
 pub use place::{place, Place};
 pub use refusal::Refusal;
+
+/// The stack that a calling thread should have at least, in bytes. Threads of Rust's library have more by themselves.
+pub const STACK: usize = wuldgisp_sys::WULDGISP_STACK;
 
 /// The most functions of an image, and so the longest order.
 const FUNCTIONS: usize = 256;
