@@ -23,7 +23,7 @@ extern "C" {
 /* Intake: is this an image that the linker takes?
  *
  * image, image_len: the bytes of a module image; they are only read.
- * Answers 0 if it is accepted, else the number of the first test that fails, each made over the whole image before the next (rule T1):
+ * Answers 0 if it is accepted, else the number of the first test that fails, each made over the whole image before the next (docs/RULES.md, 6):
  *   1  size, edition or total: from 80 to 65,536 bytes, edition 1, four times word 1 long
  *   2  layout, padding or a limit
  *   3  a number or a code out of range, or a kind barred from its place
@@ -33,7 +33,7 @@ extern "C" {
  */
 uint32_t wuldgisp_intake(const uint8_t *image, size_t image_len);
 
-/* Order: the functions of an image, callees first, by rank and then by source number.
+/* Order: the functions of an image, callees first, by rank and then by source number (docs/RULES.md, 9).
  *
  * image, image_len: the bytes of a module image; they are only read.
  * order, order_len: room for source numbers. Of an image that is accepted the function that comes out as number i has the source number order[i],
@@ -44,7 +44,7 @@ uint32_t wuldgisp_intake(const uint8_t *image, size_t image_len);
  */
 uint64_t wuldgisp_order(const uint8_t *image, size_t image_len, uint32_t *order, size_t order_len);
 
-/* Redirect: calls of one function become calls of another, in the image itself.
+/* Redirect: calls of one function become calls of another, in the image itself (docs/RULES.md, 10).
  *
  * image, image_len: the bytes of a module image. Where the call is accepted, Call statements and CallResult expressions that name the original name
  *   the replacement, everywhere but in the replacement and in the omitted functions; entry points always change. Where it is refused, no byte changes.

@@ -47,7 +47,7 @@ pub const STACK: usize = wuldgisp_sys::WULDGISP_STACK;
 /// The most functions of an image, and so the longest order.
 const FUNCTIONS: usize = 256;
 
-/// Whether an image is accepted: the tests 1 to 6 (`docs/RULES.md`, R1 to R6).
+/// Whether an image is accepted: the tests 1 to 6 (`docs/RULES.md`, 6.1 to 6.6).
 ///
 /// ```
 /// use wuldgisp::Refusal;
