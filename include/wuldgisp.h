@@ -1,14 +1,20 @@
 /* Wuldgisp: a proved linker for shader modules. The functions of libwuldgisp.a, which `rt staticlib wuldgisp` writes to target/staticlib.
  *
  * Every function returns for every input, reads and writes nothing but what it is lent, and keeps nothing. A null pointer may be given only with
- * length 0. Several threads may call at the same time. The calls that were measured used at most
- * 129 KiB of stack (docs/PERFORMANCE.md).
+ * length 0. Several threads may call at the same time.
+ *
+ * Stack: give a thread that calls at least WULDGISP_STACK bytes. Every call that was measured ran in a thread of 132 KiB (docs/PERFORMANCE.md).
+ *
+ * docs/RULES.md has the rules behind every refusal, and docs/IMAGE.md the image word by word.
  */
 #ifndef WULDGISP_H
 #define WULDGISP_H
 
 #include <stddef.h>
 #include <stdint.h>
+
+/* The stack that a calling thread should have at least: 256 KiB. */
+#define WULDGISP_STACK 262144
 
 #ifdef __cplusplus
 extern "C" {
@@ -17,7 +23,7 @@ extern "C" {
 /* Intake: is this an image that the linker takes?
  *
  * image, image_len: the bytes of a module image; they are only read.
- * Answers 0 if it is accepted, else the number of the first test that fails, each made over the whole image before the next:
+ * Answers 0 if it is accepted, else the number of the first test that fails, each made over the whole image before the next (docs/RULES.md, 6):
  *   1  size, edition or total: from 80 to 65,536 bytes, edition 1, four times word 1 long
  *   2  layout, padding or a limit
  *   3  a number or a code out of range, or a kind barred from its place
@@ -27,7 +33,7 @@ extern "C" {
  */
 uint32_t wuldgisp_intake(const uint8_t *image, size_t image_len);
 
-/* Order: the functions of an image, callees first, by rank and then by source number.
+/* Order: the functions of an image, callees first, by rank and then by source number (docs/RULES.md, 9).
  *
  * image, image_len: the bytes of a module image; they are only read.
  * order, order_len: room for source numbers. Of an image that is accepted the function that comes out as number i has the source number order[i],
@@ -38,7 +44,7 @@ uint32_t wuldgisp_intake(const uint8_t *image, size_t image_len);
  */
 uint64_t wuldgisp_order(const uint8_t *image, size_t image_len, uint32_t *order, size_t order_len);
 
-/* Redirect: calls of one function become calls of another, in the image itself.
+/* Redirect: calls of one function become calls of another, in the image itself (docs/RULES.md, 10).
  *
  * image, image_len: the bytes of a module image. Where the call is accepted, Call statements and CallResult expressions that name the original name
  *   the replacement, everywhere but in the replacement and in the omitted functions; entry points always change. Where it is refused, no byte changes.

@@ -1,5 +1,6 @@
 #!/usr/bin/env bash
-# Replays the vectors through the programs order and redirect_image and compares all that they write, byte for byte. Wants them in target/bin.
+# Replays the vectors through the programs and compares all that they write, byte for byte; then gives them input that cannot be read and output that
+# cannot be written. Wants the programs in target/bin.
 set -euo pipefail
 cd "$(dirname "$0")/.."
 
@@ -14,6 +15,21 @@ for expected in vectors/*.order; do
 done
 echo "$orders orders agree"
 
+checks=0
+while IFS='|' read -r name answer _; do
+  target/bin/check_image < "vectors/$name.img" > "$work/out" 2> "$work/err"
+  if [ "$answer" = ok ]; then
+    echo accepted | cmp - "$work/out"
+    cmp "$work/err" /dev/null
+  else
+    echo "$answer" | cmp - "$work/out"
+    grep -q "^check_image: $answer: ." "$work/err"
+    [ "$(wc -l < "$work/err")" = 1 ]
+  fi
+  checks=$((checks + 1))
+done < <(tr '\t' '|' < vectors/expected.tsv)
+echo "$checks checks agree, and every refusal is said on standard error too"
+
 # redirect_image with these arguments on an image; what it writes goes to $work/out and $work/err
 redirect() {
   local image=$1
@@ -24,7 +40,7 @@ redirect() {
 # it wrote nothing but one line that begins with these words
 told() {
   if [ -s "$work/out" ] || [ "$(wc -l < "$work/err")" != 1 ] || [[ "$(cat "$work/err")" != "$1"* ]]; then
-    echo "redirect_image: expected nothing but the line '$1..', and got:" >&2
+    echo "expected nothing but the line '$1..', and got:" >&2
     cat "$work/err" >&2
     exit 1
   fi
@@ -57,3 +73,23 @@ redirect /dev/null 0 1 && told "redirect_image: refused 1: "
 head -c 70000 /dev/zero > "$work/long"
 redirect "$work/long" 0 1 && told "redirect_image: refused 1: "
 echo "wrong arguments are told in one line"
+
+for program in check_image redirect_image replay; do
+  case $program in
+    redirect_image) words=(0 1) ;;
+    *) words=() ;;
+  esac
+  # replay reads packed vectors, of which there may be none
+  if [ $program = replay ]; then image=/dev/null; fi
+  run() { target/bin/$program "${words[@]}"; }
+  run < . > "$work/out" 2> "$work/err"
+  told "$program: standard input: Is a directory"
+  run <&- > "$work/out" 2> "$work/err"
+  told "$program: standard input: Bad file descriptor"
+  : > "$work/out"
+  run < "$image" > /dev/full 2> "$work/err"
+  told "$program: standard output: No space left on device"
+  run < "$image" >&- 2> "$work/err"
+  told "$program: standard output: Bad file descriptor"
+done
+echo "a failed read and a failed write are told in one line each"

@@ -1,6 +1,5 @@
-// Reads an image on standard input and says what intake answers: `accepted`, or `refused` and the number. Input longer than an image may be is
-// refused 1 and not cut: the buffer holds one byte more.
-use libc::STDIN_FILENO;
+// Reads an image on standard input and says what intake answers: `accepted`, or `refused` and the number, which standard error is told too, with its
+// sentence. Input longer than an image may be is refused 1 and not cut: the buffer holds one byte more.
 use libc::STDOUT_FILENO;
 ghost use mathlib.Core.Path.{_≡_};
 ghost use lib.ListN.{length};
@@ -11,14 +10,26 @@ fn buffer() -> [u8; 65537]
     [0; 65537]
 }
 
+// The line of a refusal; whether it was written.
+fn print_refused(k: u32) -> bool {
+    if !io::write_all(STDOUT_FILENO, b"refused ") {
+        return false;
+    }
+    if !io::print_decimal(STDOUT_FILENO, k as u64) {
+        return false;
+    }
+    io::write_all(STDOUT_FILENO, b"\n")
+}
+
 fn say(answer: u32) {
     if answer == 0 {
-        io::write_all(STDOUT_FILENO, b"accepted\n");
+        streams::write(b"check_image", b"accepted\n");
         return;
     }
-    io::write_all(STDOUT_FILENO, b"refused ");
-    io::print_decimal(STDOUT_FILENO, answer as u64);
-    io::write_all(STDOUT_FILENO, b"\n");
+    if !print_refused(answer) {
+        streams::unwritten(b"check_image");
+    }
+    streams::refused(b"check_image", answer);
 }
 
 // The answer for the first n bytes.
@@ -30,6 +41,10 @@ fn check(bytes: &[u8], n: usize) {
 
 fn main() {
     let mut bytes = buffer();
-    let n = io::read_full(STDIN_FILENO, &mut bytes);
-    check(&bytes, n);
+    let input = streams::read(&mut bytes);
+    if input.failed {
+        streams::unread(b"check_image");
+        return;
+    }
+    check(&bytes, input.count);
 }

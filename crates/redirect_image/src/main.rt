@@ -1,9 +1,7 @@
 // Reads an image on standard input, redirects calls in it, and writes it to standard output. The arguments are numbers of names: the original's, the
-// replacement's, and those of omitted functions. A refusal or a wrong argument is one line on standard error, and nothing is written.
+// replacement's, and those of omitted functions. A refusal, a wrong argument or a failed read is one line on standard error, and nothing is written.
 use layered::Answer;
 use libc::STDERR_FILENO;
-use libc::STDIN_FILENO;
-use libc::STDOUT_FILENO;
 ghost use mathlib.Core.Path.{_≡_};
 ghost use Prim.Native.Nat.{_≤_, _<_};
 ghost use lib.ListN.{length};
@@ -86,50 +84,15 @@ fn wrong(i: usize) {
     say(b" is no number of a name\n");
 }
 
-// What a number of document 01 means.
-fn meaning(k: u32) {
-    if k == 1 {
-        say(b": the size, the edition or the total of words is wrong\n");
-    } else if k == 2 {
-        say(b": the layout or the padding is wrong, or a limit is passed\n");
-    } else if k == 3 {
-        say(b": a number or a code is out of range, or a kind stands where it is barred\n");
-    } else if k == 4 {
-        say(b": a reference is not to a lower number\n");
-    } else if k == 5 {
-        say(b": a name is missing, or names, named numbers or special keys are equal\n");
-    } else if k == 6 {
-        say(b": a rule of scope is broken\n");
-    } else if k == 8 {
-        say(b": no function bears the original's name\n");
-    } else if k == 9 {
-        say(b": no function bears the replacement's name\n");
-    } else if k == 10 {
-        say(b": the original and the replacement have other argument types\n");
-    } else if k == 11 {
-        say(b": the original and the replacement have other result types\n");
-    } else {
-        say(b": a number given by the caller lies outside its table\n");
-    }
-}
-
-fn refused(k: u32) {
-    say(b"redirect_image: refused ");
-    io::print_decimal(STDERR_FILENO, k as u64);
-    meaning(k);
-}
-
 // The first n bytes, redirected.
 fn redirect(image: &mut [u8], n: usize, original: u32, replacement: u32, omit: &[u32]) {
     if n <= image.len() {
         match layered::redirect_function(&mut image[..n], original, replacement, omit) {
             Answer::Done(_, _) => {
-                if !io::write_all(STDOUT_FILENO, &image[..n]) {
-                    os::fail(b"redirect_image: standard output");
-                }
+                streams::write(b"redirect_image", &image[..n]);
             }
             Answer::Refused(k) => {
-                refused(k);
+                streams::refused(b"redirect_image", k);
             }
         }
     }
@@ -164,8 +127,18 @@ fn run(original: u32, replacement: u32, count: usize)
         return;
     }
     let mut image = buffer();
-    let n = io::read_full(STDIN_FILENO, &mut image);
-    redirect(&mut image, n, original, replacement, &omit[..count]);
+    let input = streams::read(&mut image);
+    if input.failed {
+        streams::unread(b"redirect_image");
+        return;
+    }
+    redirect(
+        &mut image,
+        input.count,
+        original,
+        replacement,
+        &omit[..count],
+    );
 }
 
 fn main() {

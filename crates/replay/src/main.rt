@@ -1,6 +1,6 @@
 // Replays reference vectors: standard input holds them one after the other, each as the number that intake answers (0 for accepted), the length
 // of the image and its bytes. A vector that is answered otherwise is named by its place; the last line says how many agree.
-use libc::STDIN_FILENO;
+use libc::STDERR_FILENO;
 use libc::STDOUT_FILENO;
 ghost use mathlib.Core.Path.{_≡_};
 ghost use lib.ListN.{length};
@@ -9,12 +9,16 @@ ghost use lib.ListN.{length};
 enum Found {
     Vector(u32, usize),
     End,
+    Failed,
 }
 
 fn head() -> Found {
     let mut bytes = [0u8; 8];
-    let got = io::read_full(STDIN_FILENO, &mut bytes);
-    if got < 8 {
+    let input = streams::read(&mut bytes);
+    if input.failed {
+        return Found::Failed;
+    }
+    if input.count < 8 {
         return Found::End;
     }
     let want = words::word_at(&bytes, 0);
@@ -24,8 +28,8 @@ fn head() -> Found {
 
 // Reads an image that is as long as the slice, and compares intake's answer.
 fn one(bytes: &mut [u8], want: u32) -> bool {
-    let got = io::read_full(STDIN_FILENO, bytes);
-    if got < bytes.len() {
+    let input = streams::read(bytes);
+    if input.count < bytes.len() {
         return false;
     }
     intake::intake(bytes) == want
@@ -50,9 +54,27 @@ fn agrees(want: u32, n: usize) -> bool {
     part(&mut bytes, want, n)
 }
 
-fn report(number: u64, text: &[u8]) {
-    io::print_decimal(STDOUT_FILENO, number);
-    io::write_all(STDOUT_FILENO, text);
+// A number and a text on standard output; whether they were written.
+fn report(number: u64, text: &[u8]) -> bool {
+    if !io::print_decimal(STDOUT_FILENO, number) {
+        return false;
+    }
+    io::write_all(STDOUT_FILENO, text)
+}
+
+// Names a vector that is answered otherwise, on standard error too.
+fn differs(number: u64) -> bool {
+    io::write_all(STDERR_FILENO, b"replay: vector ");
+    io::print_decimal(STDERR_FILENO, number);
+    io::write_all(STDERR_FILENO, b" differs\n");
+    report(number, b" differs\n")
+}
+
+fn last_line(all: u64, good: u64) -> bool {
+    if !report(all, b" vectors, ") {
+        return false;
+    }
+    report(good, b" agree\n")
 }
 
 fn main() {
@@ -65,13 +87,19 @@ fn main() {
                 all += 1;
                 if agrees(want, n) {
                     good += 1;
-                } else {
-                    report(all, b" differs\n");
+                } else if !differs(all) {
+                    streams::unwritten(b"replay");
+                    return;
                 }
             }
             Found::End => {
-                report(all, b" vectors, ");
-                report(good, b" agree\n");
+                if !last_line(all, good) {
+                    streams::unwritten(b"replay");
+                }
+                return;
+            }
+            Found::Failed => {
+                streams::unread(b"replay");
                 return;
             }
         }

@@ -50,7 +50,7 @@ const fn row(name: &'static str, fields: &'static [(&'static str, Field)]) -> Ro
     Row { name, fields }
 }
 
-/// Limits of document 01.
+/// The limits of an image.
 pub mod limit {
     /// Bytes of an image.
     pub const BYTES: usize = 65_536;
@@ -84,7 +84,48 @@ pub const SECTIONS: [&str; 9] = [
 pub const TYPE_KINDS: [&str; 5] = ["leaf", "pointer", "struct", "array", "binding_array"];
 
 /// A leaf's number is below this.
-pub const LEAVES: u32 = 9;
+pub const LEAVES: u32 = LEAF_TYPES.len() as u32;
+
+/// The leaf types, in the order of naga's `TypeInner`.
+pub const LEAF_TYPES: &[&str] = &[
+    "Scalar",
+    "Vector",
+    "Matrix",
+    "Atomic",
+    "ValuePointer",
+    "Image",
+    "Sampler",
+    "AccelerationStructure",
+    "RayQuery",
+];
+
+/// What the copied words of each leaf type mean to whoever writes and lists images; nothing tests them. Words behind
+/// the last that is named are 0.
+pub const LEAF_WORDS: [&[(&str, Field)]; LEAF_TYPES.len()] = [
+    &[KIND, WIDTH],
+    &[("size", Field::Code(VECTOR_SIZE)), KIND, WIDTH],
+    &[("columns", Field::Code(VECTOR_SIZE)), ("rows", Field::Code(VECTOR_SIZE)), KIND, WIDTH],
+    &[KIND, WIDTH],
+    &[("size", Field::Code(OPTIONAL_SIZE)), KIND, WIDTH, ("space", Field::Copied), ("access", Field::Copied)],
+    &[
+        ("dim", Field::Code(DIMENSION)),
+        ("arrayed", Field::Code(BOOL)),
+        ("class", Field::Variant(IMAGE_CLASS)),
+    ],
+    &[("comparison", Field::Code(BOOL))],
+    &[("vertex_return", Field::Code(BOOL))],
+    &[("vertex_return", Field::Code(BOOL))],
+];
+const KIND: (&str, Field) = ("kind", Field::Code(SCALAR));
+const WIDTH: (&str, Field) = ("width", Field::Copied);
+const OPTIONAL_SIZE: &[&str] = &["none", "Bi", "Tri", "Quad"];
+const DIMENSION: &[&str] = &["D1", "D2", "D3", "Cube"];
+const IMAGE_CLASS: &[Row] = &[
+    row("Sampled", &[KIND, ("multi", Field::Code(BOOL))]),
+    row("Depth", &[("multi", Field::Code(BOOL))]),
+    row("Storage", &[("format", Field::Copied), ("access", Field::Copied)]),
+    row("External", &[]),
+];
 
 const BOOL: &[&str] = &["no", "yes"];
 const COMPONENT: &[&str] = &["X", "Y", "Z", "W"];

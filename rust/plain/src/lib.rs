@@ -35,8 +35,10 @@ pub mod mutate;
 mod order;
 mod parse;
 pub mod random;
+pub mod raw;
 mod read;
 mod redirect;
+mod rings;
 mod scope;
 pub mod session;
 pub mod steps;
@@ -51,8 +53,9 @@ pub use link::link;
 pub use module::Module;
 pub use order::{order, order_of};
 pub use parse::{assemble, TextError};
-pub use read::read;
+pub use read::{laid_out, read};
 pub use redirect::redirect;
+pub use rings::{rings, Rings};
 pub use write::write;
 
 /// Why an image or a call was turned back: document 01's number, the rule in words, and where it was found.

@@ -1,39 +1,60 @@
-//! A listing of an image for people: tables, functions, expressions and the tree of statements, with names in
-//! place of numbers where there are names; and for a refused image the number, the rule and the place.
+//! A listing of an image for people: tables, functions, expressions and the tree of statements. What is referred to
+//! is shown by its number, and the name that it bears beside it; a literal by its value beside its bits.
 //!
 //! It is written for reading, not for reading back (that is the [text form](crate::text)), and it lists what it
-//! can of an image that is refused: all of it when the layout is sound.
+//! can of an image that is refused: all of it when the layout is sound, else what was laid out before the fault.
 
 use std::fmt::Write;
 
-use crate::fields::{self, limit, Field, Row, SECTIONS, TYPE_KINDS};
+use crate::fields::{self, expression, limit, Field, Row, LEAF_TYPES, LEAF_WORDS, SECTIONS, TYPE_KINDS};
 use crate::module::*;
+use crate::raw;
 use crate::text::{quoted, spelled, PLACES};
-use crate::Refused;
+use crate::{Refused, Rings};
+
+/// What a listing shows beyond the rest.
+#[derive(Clone, Copy, Debug, Default)]
+pub struct Options {
+    /// Spans that are not undefined.
+    pub spans: bool,
+}
 
 /// The listing of any bytes.
 pub fn listing(image: &[u8]) -> String {
+    listing_with(image, Options::default())
+}
+
+/// The same with options.
+pub fn listing_with(image: &[u8], options: Options) -> String {
     let mut text = String::new();
-    head(&mut text, image);
-    if let Ok(module) = crate::read(image) {
-        let mut listing = Listing { module: &module, text: &mut text };
-        listing.module();
-        if crate::intake(image).is_ok() {
-            listing.order();
-        }
+    let refused = crate::intake(image).err();
+    head(&mut text, image, refused);
+    if refused.is_some_and(|refused| refused.number == 1) {
+        return text;
+    }
+    let whole = crate::read(image).is_ok();
+    if !whole {
+        line(&mut text, 0, "laid out before the fault:");
+    }
+    let module = crate::laid_out(image);
+    let counts = raw::sections(&crate::words(image)).iter().map(|section| section.count).collect();
+    let mut listing = Listing { module: &module, counts, options, text: &mut text };
+    listing.module(whole);
+    if refused.is_none() {
+        listing.order();
     }
     text
 }
 
 /// The answer of intake, and of a refused image where the rule failed.
-fn head(text: &mut String, image: &[u8]) {
+fn head(text: &mut String, image: &[u8], refused: Option<Refused>) {
     let size = match image.len() {
         bytes @ ..=limit::BYTES => format!("{bytes} bytes, {} words", bytes / 4),
         _ => format!("more than {} bytes", limit::BYTES),
     };
-    match crate::intake(image) {
-        Ok(()) => line(text, 0, &format!("image of {size}: accepted")),
-        Err(refused) => {
+    match refused {
+        None => line(text, 0, &format!("image of {size}: accepted")),
+        Some(refused) => {
             line(text, 0, &format!("image of {size}: refused {}", refused.number));
             line(text, 1, &format!("rule: {}", refused.rule));
             place(text, image, refused);
@@ -50,8 +71,8 @@ fn place(text: &mut String, image: &[u8], refused: Refused) {
         None => "behind the end".to_owned(),
     };
     line(text, 1, &format!("found at word {at}, byte {}: {value}", 4 * at));
-    if let Some(section) = section_of(&words, at) {
-        line(text, 1, &format!("in: {section}"));
+    if let Some(holder) = holder(image, at) {
+        line(text, 1, &format!("in: {holder}"));
     }
     let from = at.saturating_sub(4);
     let around = words.iter().enumerate().skip(from).take(9);
@@ -60,21 +81,38 @@ fn place(text: &mut String, image: &[u8], refused: Refused) {
     line(text, 1, &format!("words from {from}: {}", around.join(" ")));
 }
 
-/// The section and the record that hold a word, as far as the offsets tell.
-fn section_of(words: &[u32], at: usize) -> Option<String> {
+/// What holds a word: a section by its name, and the record where it is in one.
+#[derive(Clone, Copy, Debug, PartialEq, Eq)]
+pub struct Holder {
+    pub section: &'static str,
+    /// The record, and the word where it starts.
+    pub record: Option<usize>,
+    pub start: usize,
+}
+
+impl std::fmt::Display for Holder {
+    fn fmt(&self, f: &mut std::fmt::Formatter) -> std::fmt::Result {
+        match self.record {
+            Some(record) => {
+                write!(f, "{}, record {record}, which starts at word {}", self.section, self.start)
+            }
+            None => write!(f, "{}", self.section),
+        }
+    }
+}
+
+/// What holds a word, as far as header and offsets tell.
+pub fn holder(image: &[u8], at: usize) -> Option<Holder> {
+    let words = crate::words(image);
     if at < 20 {
-        return Some("the header".to_owned());
+        return Some(Holder { section: "the header", record: None, start: 0 });
     }
-    let starts = |k: &usize| words.get(3 + 2 * k).is_some_and(|offset| *offset as usize <= at);
-    let k = (0..SECTIONS.len()).rev().find(starts)?;
-    let (count, offset) = (words[2 + 2 * k] as usize, words[3 + 2 * k] as usize);
-    let record = |own: &usize| {
-        words.get(offset + own).is_some_and(|start| (*start as usize).saturating_add(offset) <= at)
-    };
-    match (0..count.min(512)).rev().find(record) {
-        Some(own) if k < 8 => Some(format!("{}, record {own}", SECTIONS[k])),
-        _ => Some(SECTIONS[k].to_owned()),
-    }
+    let sections = raw::sections(&words);
+    let section = sections.iter().rfind(|section| section.start <= at)?;
+    let records = section.records(&words);
+    let record = records.iter().rposition(|(start, _)| *start <= at);
+    let start = record.map_or(section.start, |record| records[record].0);
+    Some(Holder { section: section.name, record, start })
 }
 
 fn line(text: &mut String, depth: usize, what: &str) {
@@ -93,6 +131,9 @@ pub fn shown(bytes: &[u8]) -> String {
 /// The listing of a module, which need not be one that intake accepts.
 struct Listing<'a> {
     module: &'a Module,
+    /// The counts of the header, by section.
+    counts: Vec<u32>,
+    options: Options,
     text: &'a mut String,
 }
 
@@ -106,74 +147,89 @@ impl<'a> Listing<'a> {
         let number = word.optional()?;
         match self.module.names.get(number as usize) {
             Some(name) => Some(shown(&name.bytes)),
-            None => Some(format!("name {number} that is not there")),
+            None => Some(format!("(name {number}, not there)")),
         }
     }
 
-    /// A record by its name, or else by its table and number.
-    fn by_name(&self, table: &str, number: u32, name: Option<Word>) -> String {
-        match name {
-            None => format!("{table} {number} that is not there"),
-            Some(word) => self.name(word).unwrap_or(format!("{table} {number}")),
+    /// A number, and behind it the name of the record that it stands for.
+    fn numbered(&self, number: u32, name: Option<Word>) -> String {
+        match name.map(|word| self.name(word)) {
+            None => format!("{number} (not there)"),
+            Some(None) => number.to_string(),
+            Some(Some(name)) => format!("{number} {name}"),
         }
     }
 
     fn ty(&self, word: Word) -> String {
         let record = self.module.types.get(word.value as usize);
-        self.by_name("type", word.value, record.map(|record| record.name))
+        self.numbered(word.value, record.map(|record| record.name))
     }
 
-    fn function(&self, word: Word) -> String {
-        let record = self.module.functions.get(word.value as usize);
-        self.by_name("function", word.value, record.map(|record| record.name))
+    fn function(&self, number: u32) -> String {
+        let record = self.module.functions.get(number as usize);
+        self.numbered(number, record.map(|record| record.name))
+    }
+
+    /// Functions by number and name.
+    fn functions(&self, numbers: &[u32]) -> Vec<String> {
+        numbers.iter().map(|number| self.function(*number)).collect()
     }
 
     /// A section's title with its count; an empty section is told too.
-    fn title<T>(&mut self, what: &str, records: &'a [T]) -> std::iter::Enumerate<std::slice::Iter<'a, T>> {
-        self.line(0, &format!("{what}: {}", records.len()));
+    fn title<T>(&mut self, k: usize, records: &'a [T]) -> std::iter::Enumerate<std::slice::Iter<'a, T>> {
+        let (listed, all) = (records.len(), self.counts[k] as usize);
+        let of = if listed == all { String::new() } else { format!(" of {all}") };
+        self.line(0, &format!("{}: {listed}{of}", SECTIONS[k]));
         records.iter().enumerate()
     }
 
-    fn module(&mut self) {
+    /// A span that is wanted and not undefined.
+    fn span(&self, span: &Span) -> String {
+        match self.options.spans && span.iter().any(|word| word.value != 0) {
+            true => format!(", span {}..{}", span[0].value, span[1].value),
+            false => String::new(),
+        }
+    }
+
+    fn module(&mut self, whole: bool) {
         let module = self.module;
-        for (own, name) in self.title("names", &module.names) {
+        for (own, name) in self.title(0, &module.names) {
             self.line(1, &format!("{own} {}", quoted(&name.bytes)));
         }
-        for (own, record) in self.title("types", &module.types) {
+        for (own, record) in self.title(1, &module.types) {
             self.type_record(own, record);
         }
-        for (own, record) in self.title("constants", &module.constants) {
-            let ty = self.ty(record.ty);
-            let what =
-                format!("{}: {ty} = global expression {}", self.own(own, record.name), record.init.value);
-            self.line(1, &what);
+        for (own, record) in self.title(2, &module.constants) {
+            let (ty, span) = (self.ty(record.ty), self.span(&record.span));
+            let own = self.own(own, record.name);
+            self.line(1, &format!("{own}: type {ty} = global expression {}{span}", record.init.value));
         }
-        for (own, record) in self.title("overrides", &module.overrides) {
+        for (own, record) in self.title(3, &module.overrides) {
             let (ty, init) = (self.ty(record.ty), initialiser(record.init, "global expression "));
-            let what = format!("{}: {ty}, id word {}{init}", self.own(own, record.name), record.id.value);
-            self.line(1, &what);
+            let (own, id, span) = (self.own(own, record.name), record.id.value, self.span(&record.span));
+            self.line(1, &format!("{own}: type {ty}, id word {id}{init}{span}"));
         }
-        for (own, record) in self.title("globals", &module.globals) {
+        for (own, record) in self.title(4, &module.globals) {
             let (ty, init) = (self.ty(record.ty), initialiser(record.init, "global expression "));
             let (space, binding) = (copied(&record.space), copied(&record.binding));
-            let what = format!(
-                "{}: {ty}, space {space}, binding {binding}, decorations {}{init}",
-                self.own(own, record.name),
-                record.decorations.value
-            );
-            self.line(1, &what);
+            let (own, decorations) = (self.own(own, record.name), record.decorations.value);
+            let span = self.span(&record.span);
+            let what = format!("space {space}, binding {binding}, decorations {decorations}{init}{span}");
+            self.line(1, &format!("{own}: type {ty}, {what}"));
         }
-        for (own, record) in self.title("global expressions", &module.expressions) {
-            let what = format!("{own} {}", self.row(&Function::default(), record.row(), &record.values));
-            self.line(1, &what);
+        for (own, record) in self.title(5, &module.expressions) {
+            let what = self.expression_record(&Function::default(), record);
+            self.line(1, &format!("#{own} = {what}"));
         }
-        for (own, function) in self.title("functions", &module.functions) {
+        for (own, function) in self.title(6, &module.functions) {
             self.function_record(&format!("function {own}"), function);
         }
-        for (own, entry) in self.title("entry points", &module.entry_points) {
+        for (own, entry) in self.title(7, &module.entry_points) {
             self.entry_point(own, entry);
         }
-        self.special();
+        if whole {
+            self.special();
+        }
     }
 
     /// A record's number and its name.
@@ -187,21 +243,24 @@ impl<'a> Listing<'a> {
     fn type_record(&mut self, own: usize, record: &Type) {
         let kind = TYPE_KINDS[record.inner.kind() as usize];
         let what = match &record.inner {
-            Inner::Leaf { leaf, copied: words } => format!("{} {}", leaf.value, copied(words)),
-            Inner::Pointer { base, space } => format!("to {}, space {}", self.ty(*base), copied(space)),
+            Inner::Leaf { leaf, copied: words } => leaf_words(*leaf, words),
+            Inner::Pointer { base, space } => format!("to type {}, space {}", self.ty(*base), copied(space)),
             Inner::Struct { size, members } => format!("of {} members, span {}", members.len(), size.value),
             Inner::Array { base, size, stride } => {
                 let size = if size.value == 0 { "any number".to_owned() } else { size.value.to_string() };
-                format!("of {size} of {}, stride {}", self.ty(*base), stride.value)
+                format!("of {size} of type {}, stride {}", self.ty(*base), stride.value)
             }
-            Inner::BindingArray { base, size } => format!("of {}, size word {}", self.ty(*base), size.value),
+            Inner::BindingArray { base, size } => {
+                format!("of type {}, size word {}", self.ty(*base), size.value)
+            }
         };
-        self.line(1, &format!("{}: {kind} {what}", self.own(own, record.name)));
+        let span = self.span(&record.span);
+        self.line(1, &format!("{}: {kind} {what}{span}", self.own(own, record.name)));
         if let Inner::Struct { members, .. } = &record.inner {
             for (own, member) in members.iter().enumerate() {
                 let binding = binding(&member.binding);
                 let what = format!(
-                    "{}: {}, offset {}{binding}",
+                    "{}: type {}, offset {}{binding}",
                     self.own(own, member.name),
                     self.ty(member.ty),
                     member.offset.value
@@ -212,33 +271,30 @@ impl<'a> Listing<'a> {
     }
 
     fn function_record(&mut self, title: &str, function: &Function) {
-        let arguments: Vec<String> = function
-            .arguments
-            .iter()
-            .enumerate()
-            .map(|(own, argument)| {
-                format!("{}: {}", argument_name(self, function, own), self.ty(argument.ty))
-            })
-            .collect();
+        let argument = |(own, argument): (usize, &Argument)| {
+            format!("{}: type {}", self.own(own, argument.name), self.ty(argument.ty))
+        };
+        let arguments: Vec<String> = function.arguments.iter().enumerate().map(argument).collect();
         let result = match &function.result {
-            Some(result) => format!(" -> {}", self.ty(result.ty)),
+            Some(result) => format!(" -> type {}", self.ty(result.ty)),
             None => String::new(),
         };
         let name = self.name(function.name).unwrap_or("(unnamed)".to_owned());
-        self.line(1, &format!("{title}: {name}({}){result}", arguments.join(", ")));
+        let span = self.span(&function.span);
+        self.line(1, &format!("{title} {name}({}){result}{span}", arguments.join(", ")));
         if !function.locals.is_empty() {
             self.line(2, &format!("locals: {}", function.locals.len()));
         }
         for (own, local) in function.locals.iter().enumerate() {
-            let init = initialiser(local.init, "#");
-            self.line(3, &format!("{}: {}{init}", self.own(own, local.name), self.ty(local.ty)));
+            let (init, span) = (initialiser(local.init, "#"), self.span(&local.span));
+            self.line(3, &format!("{}: type {}{init}{span}", self.own(own, local.name), self.ty(local.ty)));
         }
         if !function.expressions.is_empty() {
             self.line(2, &format!("expressions: {}", function.expressions.len()));
         }
         for (own, record) in function.expressions.iter().enumerate() {
             let shown = self.expression(function, own as u32);
-            self.line(3, &format!("{shown} = {}", self.row(function, record.row(), &record.values)));
+            self.line(3, &format!("{shown} = {}", self.expression_record(function, record)));
         }
         self.line(2, "body:");
         self.block(function, &function.body, 3);
@@ -247,11 +303,19 @@ impl<'a> Listing<'a> {
     /// An expression by its number, and its name where it has one.
     fn expression(&self, function: &Function, number: u32) -> String {
         let named = function.named.iter().find(|named| named.expression.value == number);
-        let name =
-            named.and_then(|named| self.name(named.name)).map_or(String::new(), |name| format!(" {name}"));
-        match (number as usize) < function.expressions.len() {
-            true => format!("#{number}{name}"),
-            false => format!("#{number} that is not there"),
+        let name = named.map_or(Word::default(), |named| named.name);
+        let there = (number as usize) < function.expressions.len();
+        format!("#{}", self.numbered(number, there.then_some(name)))
+    }
+
+    /// An expression's kind and fields; a literal by its value and its bits.
+    fn expression_record(&self, function: &Function, record: &Expression) -> String {
+        let span = self.span(&record.span);
+        match (record.kind.value, record.values.as_slice()) {
+            (expression::LITERAL, [Value::One(code), Value::One(low), Value::One(high)]) => {
+                format!("Literal {}{span}", literal_record(*code, *low, *high))
+            }
+            _ => format!("{}{span}", self.row(function, record.row(), &record.values)),
         }
     }
 
@@ -265,26 +329,26 @@ impl<'a> Listing<'a> {
     }
 
     fn value(&self, function: &Function, field: Field, value: &Value) -> String {
+        let module = self.module;
+        let name_of = |name: Option<&Word>, word: &Word| self.numbered(word.value, name.copied());
         match (field, value) {
             (Field::Type, Value::One(word)) => self.ty(*word),
-            (Field::Function, Value::One(word)) => self.function(*word),
+            (Field::Function, Value::One(word)) => self.function(word.value),
             (Field::Constant, Value::One(word)) => {
-                let record = self.module.constants.get(word.value as usize);
-                self.by_name("constant", word.value, record.map(|record| record.name))
+                name_of(module.constants.get(word.value as usize).map(|record| &record.name), word)
             }
             (Field::Override, Value::One(word)) => {
-                let record = self.module.overrides.get(word.value as usize);
-                self.by_name("override", word.value, record.map(|record| record.name))
+                name_of(module.overrides.get(word.value as usize).map(|record| &record.name), word)
             }
             (Field::Global, Value::One(word)) => {
-                let record = self.module.globals.get(word.value as usize);
-                self.by_name("global", word.value, record.map(|record| record.name))
+                name_of(module.globals.get(word.value as usize).map(|record| &record.name), word)
             }
             (Field::Local, Value::One(word)) => {
-                let record = function.locals.get(word.value as usize);
-                self.by_name("local", word.value, record.map(|record| record.name))
+                name_of(function.locals.get(word.value as usize).map(|record| &record.name), word)
             }
-            (Field::Argument, Value::One(word)) => argument_name(self, function, word.value as usize),
+            (Field::Argument, Value::One(word)) => {
+                name_of(function.arguments.get(word.value as usize).map(|record| &record.name), word)
+            }
             (Field::Operand | Field::Result, Value::One(word)) => self.operand(function, word.value),
             (Field::OptionalOperand | Field::OptionalResult, Value::One(word)) => {
                 word.optional().map_or("none".to_owned(), |number| self.operand(function, number))
@@ -330,26 +394,29 @@ impl<'a> Listing<'a> {
     }
 
     fn statement(&mut self, function: &Function, statement: &Statement, depth: usize) {
+        let span = self.span(&statement.span);
         match &statement.body {
-            Body::Emit { start, end } => self.line(depth, &format!("Emit {}..{}", start.value, end.value)),
+            Body::Emit { start, end } => {
+                self.line(depth, &format!("Emit {}..{}{span}", start.value, end.value))
+            }
             Body::Block(block) => {
-                self.line(depth, "Block");
+                self.line(depth, &format!("Block{span}"));
                 self.block(function, block, depth + 1);
             }
             Body::If { condition, accept, reject } => {
-                self.line(depth, &format!("If {}", self.operand(function, condition.value)));
+                self.line(depth, &format!("If {}{span}", self.operand(function, condition.value)));
                 self.block(function, accept, depth + 1);
                 self.line(depth, "else");
                 self.block(function, reject, depth + 1);
             }
             Body::Switch { selector, cases } => {
-                self.line(depth, &format!("Switch {}", self.operand(function, selector.value)));
+                self.line(depth, &format!("Switch {}{span}", self.operand(function, selector.value)));
                 for case in cases {
                     self.case(function, case, depth + 1);
                 }
             }
             Body::Loop { body, continuing, break_if } => {
-                self.line(depth, "Loop");
+                self.line(depth, &format!("Loop{span}"));
                 self.block(function, body, depth + 1);
                 self.line(depth, "continuing");
                 self.block(function, continuing, depth + 1);
@@ -359,7 +426,7 @@ impl<'a> Listing<'a> {
             }
             Body::Plain(values) => {
                 let what = self.row(function, statement.row(), values);
-                self.line(depth, &what);
+                self.line(depth, &format!("{what}{span}"));
             }
         }
     }
@@ -385,34 +452,119 @@ impl<'a> Listing<'a> {
         self.line(0, &format!("special types, pairs: {}", special.pairs.len()));
         for (key, place) in PLACES.iter().zip(special.places) {
             if let Some(value) = place.optional() {
-                self.line(1, &format!("{key}: {}", self.ty(Word { at: place.at, value })));
+                self.line(1, &format!("{key}: type {}", self.ty(Word { at: place.at, value })));
             }
         }
         for (key, ty) in &special.pairs {
-            self.line(1, &format!("key {}: {}", key.value, self.ty(*ty)));
+            self.line(1, &format!("key {}: type {}", key.value, self.ty(*ty)));
         }
     }
 
-    /// The order of functions when linked, or what keeps it from being.
+    /// The order of functions when linked, or the functions that a ring keeps from having one.
     fn order(&mut self) {
+        if let Some(rings) = crate::rings(self.module) {
+            self.line(0, &format!("order when linked: refused 12 left {}", rings.left.len()));
+            for told in rings_told(self.module, &rings) {
+                self.line(1, &told);
+            }
+            return;
+        }
         match crate::order_of(self.module) {
-            Ok(order) if order.is_empty() => (),
-            Ok(order) => {
-                let names: Vec<String> = order.iter().map(|own| self.function((*own).into())).collect();
-                self.line(0, &format!("order when linked: {}", names.join(", ")));
+            Ok(order) if !order.is_empty() => {
+                self.line(0, &format!("order when linked: {}", self.functions(&order).join(", ")));
             }
-            Err(refused) => {
-                let what = format!("order when linked: refused 12, {} functions reach a ring", refused.left);
-                self.line(0, &what);
-            }
+            _ => (),
         }
     }
 }
 
-/// An argument by its name, or else by its number.
-fn argument_name(listing: &Listing, function: &Function, own: usize) -> String {
-    let record = function.arguments.get(own);
-    listing.by_name("argument", own as u32, record.map(|record| record.name))
+/// The functions that a ring leaves without an order, and one ring, in a line each.
+pub fn rings_told(module: &Module, rings: &Rings) -> [String; 2] {
+    let listing =
+        Listing { module, counts: Vec::new(), options: Options::default(), text: &mut String::new() };
+    let mut ring = listing.functions(&rings.ring);
+    ring.push(ring[0].clone());
+    [format!("left: {}", listing.functions(&rings.left).join(", ")), format!("a ring: {}", ring.join(" -> "))]
+}
+
+/// A leaf type by its name, and its copied words by theirs.
+fn leaf_words(leaf: Word, words: &[Word]) -> String {
+    let number = leaf.value as usize;
+    let Some(name) = LEAF_TYPES.get(number) else {
+        return format!("{number} (not there) {}", copied(words));
+    };
+    let mut rest = words;
+    let mut text = (*name).to_owned();
+    leaf_fields(&mut text, LEAF_WORDS[number], &mut rest);
+    if rest.iter().any(|word| word.value != 0) {
+        write!(text, " and {}", copied(rest)).expect("a string takes all");
+    }
+    text
+}
+
+/// Fields of a leaf from the words that are left. A class that is none leaves the words behind it unnamed.
+fn leaf_fields(text: &mut String, fields: &[(&str, Field)], rest: &mut &[Word]) {
+    for (key, field) in fields {
+        let Some((word, behind)) = rest.split_first() else { return };
+        *rest = behind;
+        let value = Value::One(*word);
+        match field {
+            Field::Variant(rows) => {
+                let row = rows.get(word.value as usize);
+                let name = row.map_or(word.value.to_string(), |row| row.name.to_owned());
+                write!(text, " {key}={name}").expect("a string takes all");
+                leaf_fields(text, row.map_or(&[], |row| row.fields), rest);
+            }
+            _ => write!(text, " {key}={}", spelled(*field, &value)).expect("a string takes all"),
+        }
+    }
+}
+
+/// A literal's code, its value, and its bits.
+fn literal_record(code: Word, low: Word, high: Word) -> String {
+    let bits = u64::from(high.value) << 32 | u64::from(low.value);
+    let [(_, codes), ..] = fields::EXPRESSIONS[expression::LITERAL as usize].fields else {
+        unreachable!("a literal has a code")
+    };
+    let name = spelled(*codes, &Value::One(code));
+    match literal(code.value, bits) {
+        Some(value) => format!("{name} {value} (bits 0x{bits:x})"),
+        None => format!("{name} of no value (bits 0x{bits:x})"),
+    }
+}
+
+/// The value of a literal as WGSL and naga write it (1.0f, 3u), where its bits have one.
+pub fn literal(code: u32, bits: u64) -> Option<String> {
+    let narrow = u32::try_from(bits).ok();
+    Some(match code {
+        0 => format!("{:?}lf", f64::from_bits(bits)),
+        1 => format!("{:?}f", f32::from_bits(narrow?)),
+        2 => format!("{:?}h", half(u16::try_from(bits).ok()?)),
+        3 => format!("{}u", narrow?),
+        4 => format!("{}i", narrow? as i32),
+        5 => format!("{bits}lu"),
+        6 => format!("{}li", bits as i64),
+        7 => match bits {
+            0 => "false".to_owned(),
+            1 => "true".to_owned(),
+            _ => return None,
+        },
+        8 => (bits as i64).to_string(),
+        9 => format!("{:?}", f64::from_bits(bits)),
+        _ => return None,
+    })
+}
+
+/// A half-precision number, which every f32 holds exactly.
+fn half(bits: u16) -> f32 {
+    let sign = if bits >> 15 == 0 { 1.0 } else { -1.0 };
+    let (exponent, fraction) = (i32::from(bits >> 10 & 31), f32::from(bits & 1023));
+    sign * match exponent {
+        0 => fraction * 2f32.powi(-24),
+        31 if fraction == 0.0 => f32::INFINITY,
+        31 => f32::NAN,
+        _ => (1024.0 + fraction) * 2f32.powi(exponent - 25),
+    }
 }
 
 fn copied(words: &[Word]) -> String {

@@ -2,23 +2,26 @@
 //!
 //! The text is cut into tokens, and the tokens are read from left to right by the same rows that wrote them.
 //! Keys stand in their order; one that was left out stands for 0. A text that is not of the form is told with
-//! its line.
+//! its line and column, what was found there and what was expected. `docs/TEXT.md` has the grammar.
 
-use crate::fields::{Field, Row, CASE_VALUES, EXPRESSIONS, STATEMENTS, TYPE_KINDS};
+use crate::fields::{Field, Row, CASE_VALUES, EXPRESSIONS, LEAF_TYPES, STATEMENTS, TYPE_KINDS};
 use crate::module::*;
-use crate::text::{BYTES, PLACES, TEXT};
+use crate::text::{BYTES, PLACES, SECTION_KEYS, TEXT};
 use crate::write::write;
 
-/// A text that is not of the form: the line, counted from 1, and what was wanted there.
+/// A text that is not of the form: where, and what is wrong there.
 #[derive(Clone, Debug, PartialEq, Eq)]
 pub struct TextError {
+    /// Counted from 1.
     pub line: usize,
-    pub wanted: String,
+    /// Counted from 1, in characters.
+    pub column: usize,
+    pub message: String,
 }
 
 impl std::fmt::Display for TextError {
     fn fmt(&self, f: &mut std::fmt::Formatter) -> std::fmt::Result {
-        write!(f, "line {}: {}", self.line, self.wanted)
+        write!(f, "line {}, column {}: {}", self.line, self.column, self.message)
     }
 }
 
@@ -31,23 +34,30 @@ type Parsed<T> = Result<T, TextError>;
 /// ```
 /// let image = plain::assemble("wuldgisp-text 1\nspecial_types { }\n").unwrap();
 /// assert_eq!(plain::intake(&image), Ok(()));
-/// assert_eq!(plain::assemble("wuldgisp-text 1\nnames { tone }\n").unwrap_err().line, 2);
+/// let error = plain::assemble("wuldgisp-text 1\nnames { tone }\n").unwrap_err();
+/// assert_eq!((error.line, error.column), (2, 9));
 /// ```
 pub fn assemble(text: &str) -> Parsed<Vec<u8>> {
     let mut tokens = tokens(text)?;
     tokens.reverse();
-    let last = text.lines().count().max(1);
-    let mut parser = Parser { tokens, last, depth: 0 };
+    let mut parser = Parser { tokens, end: end(text), depth: 0 };
     if parser.take_word(BYTES) {
         return parser.bytes();
     }
     if !parser.take_word(TEXT) {
-        return Err(parser.wants(&format!("the heading {TEXT} 1 or {BYTES}")));
+        return Err(parser.expects(&format!("the heading {TEXT} 1 or {BYTES}")));
     }
-    if parser.number()? != 1 {
-        return Err(parser.wants("edition 1 of the text form"));
-    }
+    parser.edition()?;
     Ok(write(&parser.module()?))
+}
+
+/// A place in the text: line and column.
+type Place = (usize, usize);
+
+/// The place behind the last character.
+fn end(text: &str) -> Place {
+    let line = text.lines().count().max(1);
+    (line, text.lines().last().map_or(0, |line| line.chars().count()) + 1)
 }
 
 /// A piece of the text.
@@ -61,8 +71,8 @@ enum Token {
     Mark(char),
 }
 
-/// The tokens, each with its line.
-fn tokens(text: &str) -> Parsed<Vec<(usize, Token)>> {
+/// The tokens, each with its place.
+fn tokens(text: &str) -> Parsed<Vec<(Place, Token)>> {
     let mut tokens = Vec::new();
     for (number, line) in text.lines().enumerate() {
         line_tokens(number + 1, line, &mut tokens)?;
@@ -70,52 +80,63 @@ fn tokens(text: &str) -> Parsed<Vec<(usize, Token)>> {
     Ok(tokens)
 }
 
-fn line_tokens(number: usize, line: &str, tokens: &mut Vec<(usize, Token)>) -> Parsed<()> {
-    let mut rest = line;
+fn line_tokens(number: usize, line: &str, tokens: &mut Vec<(Place, Token)>) -> Parsed<()> {
+    let (mut rest, mut column) = (line, 1);
     while let Some(first) = rest.chars().next() {
+        let (place, from) = ((number, column), rest);
         match first {
             '#' => return Ok(()),
             '"' => {
-                let (bytes, behind) = quoted(number, &rest[1..])?;
-                tokens.push((number, Token::Quoted(bytes)));
+                let (bytes, behind) = quoted(place, rest)?;
+                tokens.push((place, Token::Quoted(bytes)));
                 rest = behind;
             }
             '=' | '[' | ']' | '{' | '}' | '(' | ')' => {
-                tokens.push((number, Token::Mark(first)));
+                tokens.push((place, Token::Mark(first)));
                 rest = &rest[1..];
             }
             _ if first.is_whitespace() => rest = &rest[first.len_utf8()..],
             _ => {
                 let ends = |c: char| c.is_whitespace() || "#\"=[]{}()".contains(c);
                 let end = rest.find(ends).unwrap_or(rest.len());
-                tokens.push((number, Token::Word(rest[..end].to_owned())));
+                tokens.push((place, Token::Word(rest[..end].to_owned())));
                 rest = &rest[end..];
             }
         }
+        column += from[..from.len() - rest.len()].chars().count();
     }
     Ok(())
 }
 
-/// A string behind its first quote: its bytes, and what stands behind it.
-fn quoted(line: usize, text: &str) -> Parsed<(Vec<u8>, &str)> {
-    let error = |wanted: &str| TextError { line, wanted: wanted.to_owned() };
+/// A string from its first quote on: its bytes, and what stands behind it.
+fn quoted((line, column): Place, text: &str) -> Parsed<(Vec<u8>, &str)> {
+    let error = |rest: &[u8], message: &str| {
+        let before = String::from_utf8_lossy(&text.as_bytes()[..text.len() - rest.len()]).chars().count();
+        TextError { line, column: column + before, message: message.to_owned() }
+    };
     let mut bytes = Vec::new();
-    let mut rest = text.as_bytes();
+    let mut rest = &text.as_bytes()[1..];
     loop {
         match rest {
-            [] => return Err(error("a string ends with a quote on its line")),
+            [] => {
+                return Err(error(rest, "expected a quote that ends the string, found the end of the line"))
+            }
             [b'"', ..] => return Ok((bytes, &text[text.len() - rest.len() + 1..])),
             [b'\\', b'x', high, low, ..] => {
-                let digit =
-                    |byte: u8| (byte as char).to_digit(16).ok_or(error("two hexadecimal digits behind \\x"));
-                bytes.push((16 * digit(*high)? + digit(*low)?) as u8);
+                let digit = |byte: u8| (byte as char).to_digit(16);
+                let (Some(high), Some(low)) = (digit(*high), digit(*low)) else {
+                    return Err(error(rest, "expected two hexadecimal digits behind \\x"));
+                };
+                bytes.push((16 * high + low) as u8);
                 rest = &rest[4..];
             }
             [b'\\', byte @ (b'"' | b'\\'), ..] => {
                 bytes.push(*byte);
                 rest = &rest[2..];
             }
-            [b'\\', ..] => return Err(error("\\x and two digits, \\\" or \\\\ in a string")),
+            [b'\\', ..] => {
+                return Err(error(rest, "expected \\x and two digits, \\\" or \\\\ behind a backslash"))
+            }
             [byte, ..] => {
                 bytes.push(*byte);
                 rest = &rest[1..];
@@ -126,8 +147,8 @@ fn quoted(line: usize, text: &str) -> Parsed<(Vec<u8>, &str)> {
 
 /// The tokens that are left, the next one last.
 struct Parser {
-    tokens: Vec<(usize, Token)>,
-    last: usize,
+    tokens: Vec<(Place, Token)>,
+    end: Place,
     /// Blocks around the next token.
     depth: usize,
 }
@@ -140,15 +161,55 @@ impl Parser {
         self.tokens.last().map(|(_, token)| token)
     }
 
-    fn wants(&self, wanted: &str) -> TextError {
-        let line = self.tokens.last().map_or(self.last, |(line, _)| *line);
-        let found = match self.peek() {
-            Some(Token::Word(word)) => format!("'{word}'"),
+    /// An error at the next token.
+    fn error(&self, message: String) -> TextError {
+        let (line, column) = self.tokens.last().map_or(self.end, |(place, _)| *place);
+        TextError { line, column, message }
+    }
+
+    /// The next token, as a message shows it.
+    fn found(&self) -> String {
+        match self.peek() {
+            Some(Token::Word(word)) => format!("'{}'", word.escape_debug()),
             Some(Token::Mark(mark)) => format!("'{mark}'"),
-            Some(Token::Quoted(_)) => "a string".to_owned(),
-            None => "the end".to_owned(),
-        };
-        TextError { line, wanted: format!("wanted {wanted}, found {found}") }
+            Some(Token::Quoted(bytes)) => format!("the string {}", crate::text::quoted(bytes)),
+            None => "the end of the text".to_owned(),
+        }
+    }
+
+    /// The error that something else was expected than the next token.
+    fn expects(&self, expected: &str) -> TextError {
+        self.error(format!("expected {expected}, found {}", self.found()))
+    }
+
+    /// The edition behind the heading.
+    fn edition(&mut self) -> Parsed<()> {
+        match self.peek() {
+            Some(Token::Word(word)) if word == "1" => {
+                self.tokens.pop();
+                Ok(())
+            }
+            Some(Token::Word(word)) if word.parse::<u64>().is_ok() => {
+                Err(self.error(format!("edition {word} of the text form is not known: expected edition 1")))
+            }
+            _ => Err(self.expects("the edition of the text form, 1")),
+        }
+    }
+
+    /// The error that no section is next that may stand there.
+    fn no_section(&self) -> TextError {
+        let keys = SECTION_KEYS.join(", ");
+        match self.peek() {
+            Some(Token::Word(word)) if SECTION_KEYS.contains(&word.as_str()) => {
+                self.error(format!("section {word} is out of its place: the order is {keys}"))
+            }
+            Some(Token::Word(word)) => self.error(format!(
+                "there is no section '{}': expected one of {keys}, in this order",
+                word.escape_debug()
+            )),
+            None => self.error(format!("the text ends before its last section, {}", SECTION_KEYS[8])),
+            _ => self.expects(&format!("one of the sections {keys}")),
+        }
     }
 
     /// Takes this word if it is next.
@@ -171,24 +232,24 @@ impl Parser {
     fn mark(&mut self, mark: char) -> Parsed<()> {
         match self.take_mark(mark) {
             true => Ok(()),
-            false => Err(self.wants(&format!("'{mark}'"))),
+            false => Err(self.expects(&format!("'{mark}'"))),
         }
     }
 
-    fn word(&mut self, wanted: &str) -> Parsed<String> {
+    fn word(&mut self, expected: &str) -> Parsed<String> {
         match self.peek().cloned() {
             Some(Token::Word(word)) => {
                 self.tokens.pop();
                 Ok(word)
             }
-            _ => Err(self.wants(wanted)),
+            _ => Err(self.expects(expected)),
         }
     }
 
     /// A number of 32 bits, decimal or behind 0x hexadecimal.
     fn number(&mut self) -> Parsed<u32> {
-        let wanted = "a number below 4294967296";
-        let Some(Token::Word(word)) = self.peek() else { return Err(self.wants(wanted)) };
+        let expected = "a number below 4294967296";
+        let Some(Token::Word(word)) = self.peek() else { return Err(self.expects(expected)) };
         let (digits, radix) = match word.strip_prefix("0x") {
             Some(digits) => (digits, 16),
             None => (word.as_str(), 10),
@@ -196,7 +257,7 @@ impl Parser {
         // The library's reading would take a sign too.
         let unsigned = !digits.starts_with('+');
         let number = u32::from_str_radix(digits, radix).ok().filter(|_| unsigned);
-        let number = number.ok_or(self.wants(wanted))?;
+        let number = number.ok_or(self.expects(expected))?;
         self.tokens.pop();
         Ok(number)
     }
@@ -213,7 +274,7 @@ impl Parser {
     fn key(&mut self, key: &str) -> Parsed<()> {
         match self.take_key(key)? {
             true => Ok(()),
-            false => Err(self.wants(&format!("{key}="))),
+            false => Err(self.expects(&format!("{key}="))),
         }
     }
 
@@ -236,7 +297,7 @@ impl Parser {
         if self.take_word("none") {
             return Ok(0.into());
         }
-        let error = self.wants("a number below 4294967295");
+        let error = self.expects("a number below 4294967295");
         Ok(self.number()?.checked_add(1).ok_or(error)?.into())
     }
 
@@ -245,7 +306,7 @@ impl Parser {
         if !self.take_key(key)? {
             return Ok([Word::default(); N]);
         }
-        let error = self.wants(&format!("a list of {N} words"));
+        let error = self.expects(&format!("a list of {N} words"));
         self.list()?.try_into().map_err(|_| error)
     }
 
@@ -298,7 +359,7 @@ impl Parser {
     fn head(&mut self, word: &str) -> Parsed<()> {
         match self.take_word(word) {
             true => Ok(()),
-            false => Err(self.wants(word)),
+            false => Err(self.expects(word)),
         }
     }
 
@@ -306,7 +367,7 @@ impl Parser {
     fn bytes(&mut self) -> Parsed<Vec<u8>> {
         let mut bytes = Vec::new();
         while !self.tokens.is_empty() {
-            let error = self.wants("pairs of hexadecimal digits");
+            let error = self.expects("pairs of hexadecimal digits");
             let group = self.word("pairs of hexadecimal digits")?;
             if group.len() % 2 != 0 || !group.bytes().all(|byte| byte.is_ascii_hexdigit()) {
                 return Err(error);
@@ -319,20 +380,24 @@ impl Parser {
     }
 
     fn module(&mut self) -> Parsed<Module> {
+        let key = SECTION_KEYS;
         let module = Module {
-            names: self.section("names", Self::name_record)?,
-            types: self.section("types", Self::ty)?,
-            constants: self.section("constants", Self::constant)?,
-            overrides: self.section("overrides", Self::override_record)?,
-            globals: self.section("globals", Self::global)?,
-            expressions: self.section("global_expressions", Self::expression)?,
-            functions: self.section("functions", Self::function)?,
-            entry_points: self.section("entry_points", Self::entry_point)?,
+            names: self.section(key[0], Self::name_record)?,
+            types: self.section(key[1], Self::ty)?,
+            constants: self.section(key[2], Self::constant)?,
+            overrides: self.section(key[3], Self::override_record)?,
+            globals: self.section(key[4], Self::global)?,
+            expressions: self.section(key[5], Self::expression)?,
+            functions: self.section(key[6], Self::function)?,
+            entry_points: self.section(key[7], Self::entry_point)?,
             special: self.special()?,
         };
         match self.tokens.is_empty() {
             true => Ok(module),
-            false => Err(self.wants("the next section in its order, or the end")),
+            false => {
+                let found = self.found();
+                Err(self.error(format!("found {found} behind {}, which is the last section", key[8])))
+            }
         }
     }
 
@@ -342,20 +407,21 @@ impl Parser {
                 self.tokens.pop();
                 Ok(Name { at: 0, bytes })
             }
-            _ => Err(self.wants("a name between quotes")),
+            _ => Err(self.expects("a name between quotes")),
         }
     }
 
     fn ty(&mut self) -> Parsed<Type> {
-        let error = self.wants("a kind of type");
-        let kind = self.word("a kind of type")?;
+        let expected = format!("a kind of type, {}", one_of(&TYPE_KINDS));
+        let error = self.expects(&expected);
+        let kind = self.word(&expected)?;
         let kind = TYPE_KINDS.iter().position(|name| *name == kind).ok_or(error)?;
         Ok(Type { name: self.name()?, span: self.span()?, inner: self.inner(kind)? })
     }
 
     fn inner(&mut self, kind: usize) -> Parsed<Inner> {
         Ok(match kind {
-            0 => Inner::Leaf { leaf: self.field("leaf")?, copied: self.copied("copied")? },
+            0 => Inner::Leaf { leaf: self.code_field("leaf", LEAF_TYPES)?, copied: self.copied("copied")? },
             1 => Inner::Pointer { base: self.field("base")?, space: self.copied("space")? },
             2 => Inner::Struct { size: self.field("size")?, members: self.braced(Self::member)? },
             3 => Inner::Array {
@@ -412,9 +478,9 @@ impl Parser {
     }
 
     /// A kind's number by its row's name.
-    fn kind(&mut self, rows: &[Row], wanted: &str) -> Parsed<u32> {
-        let error = self.wants(wanted);
-        let name = self.word(wanted)?;
+    fn kind(&mut self, rows: &[Row], expected: &str) -> Parsed<u32> {
+        let error = self.expects(expected);
+        let name = self.word(expected)?;
         let own = rows.iter().position(|row| row.name == name).ok_or(error)?;
         Ok(own as u32)
     }
@@ -459,12 +525,19 @@ impl Parser {
                 return Ok((own as u32).into());
             }
         }
-        let error = self.wants("one of the code's names, or a number");
+        let error = self.expects(&format!("{} or a number", one_of(names)));
         Ok(self.number().map_err(|_| error)?.into())
     }
 
+    /// `key=code`.
+    fn code_field(&mut self, key: &str, names: &[&str]) -> Parsed<Word> {
+        self.key(key)?;
+        self.code(names)
+    }
+
     fn variant(&mut self, rows: &[Row]) -> Parsed<Value> {
-        let code = self.kind(rows, "one of the variant's names")?;
+        let names: Vec<&str> = rows.iter().map(|row| row.name).collect();
+        let code = self.kind(rows, &one_of(&names))?;
         let row = &rows[code as usize];
         let mut values = Vec::new();
         if !row.fields.is_empty() {
@@ -528,7 +601,7 @@ impl Parser {
     /// A block. Texts may pass the image's limit of depth, so that it can be tested, but not by far.
     fn block(&mut self) -> Parsed<Block> {
         if self.depth == DEEPEST {
-            return Err(self.wants(&format!("blocks nested {DEEPEST} deep at most")));
+            return Err(self.expects(&format!("blocks nested {DEEPEST} deep at most")));
         }
         self.depth += 1;
         let block = self.braced(Self::statement);
@@ -589,7 +662,9 @@ impl Parser {
 
     fn special(&mut self) -> Parsed<Special> {
         let mut special = Special::default();
-        self.head("special_types")?;
+        if !self.take_word(SECTION_KEYS[8]) {
+            return Err(self.no_section());
+        }
         self.mark('{')?;
         for (key, place) in PLACES.iter().zip(&mut special.places) {
             *place = self.optional(key)?;
@@ -598,5 +673,13 @@ impl Parser {
             self.while_word("pair", |parser| Ok((parser.field("key")?, parser.field("type")?)))?;
         self.mark('}')?;
         Ok(special)
+    }
+}
+
+/// Names to choose from, all of them where they are few.
+fn one_of(names: &[&str]) -> String {
+    match names.len() {
+        ..=18 => format!("one of {}", names.join(" ")),
+        many => format!("one of the {many} names from {} to {}", names[0], names[many - 1]),
     }
 }

@@ -22,6 +22,47 @@ pub fn read(image: &[u8]) -> Read<Module> {
     tables(&words, &sections)
 }
 
+/// What of an image is laid out before the first word that fits no layout: whole records, section by section. Of an
+/// image that can be read this is all of it.
+pub fn laid_out(image: &[u8]) -> Module {
+    let mut module = Module::default();
+    // Which word it is, and why, is told by `read`.
+    let _ = lay_out(image, &mut module);
+    module
+}
+
+fn lay_out(image: &[u8], module: &mut Module) -> Read<()> {
+    test_1(image)?;
+    let words = words(image);
+    let sections = sections(&words)?;
+    part(&words, &sections[0], &mut module.names, name)?;
+    part(&words, &sections[1], &mut module.types, ty)?;
+    part(&words, &sections[2], &mut module.constants, constant)?;
+    part(&words, &sections[3], &mut module.overrides, override_record)?;
+    part(&words, &sections[4], &mut module.globals, global)?;
+    part(&words, &sections[5], &mut module.expressions, expression)?;
+    part(&words, &sections[6], &mut module.functions, function)?;
+    part(&words, &sections[7], &mut module.entry_points, entry_point)?;
+    module.special = special(&words, &sections[8])?;
+    Ok(())
+}
+
+/// The records of one table, as far as they fit.
+fn part<T>(
+    words: &[u32],
+    section: &Section,
+    records: &mut Vec<T>,
+    record: impl Fn(&mut Cursor) -> Read<T>,
+) -> Read<()> {
+    for (at, end) in extents(words, section)? {
+        let mut cursor = Cursor { words, at, end };
+        let value = record(&mut cursor)?;
+        cursor.done()?;
+        records.push(value);
+    }
+    Ok(())
+}
+
 /// Test 1: size, edition and total.
 fn test_1(image: &[u8]) -> Read<()> {
     if image.len() < 4 * HEADER {

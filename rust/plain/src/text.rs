@@ -12,7 +12,7 @@
 //! functions {
 //!   function name=0 {  # 0 "tone"
 //!     expressions {
-//!       Literal code=F32 low=0 high=0  # 0
+//!       Literal code=F32 low=1065353216 high=0  # 0 = 1.0f
 //!       Unary op=Negate expr=0  # 1
 //!     }
 //!     body {
@@ -30,13 +30,25 @@
 
 use std::fmt::Write;
 
-use crate::fields::{Field, Row, TYPE_KINDS};
+use crate::fields::{expression, Field, Row, LEAF_TYPES, TYPE_KINDS};
 use crate::module::*;
 
 /// The heading of the text form.
 pub const TEXT: &str = "wuldgisp-text";
 /// The heading of the form for any bytes.
 pub const BYTES: &str = "wuldgisp-bytes";
+/// The keys of the sections, in their order.
+pub const SECTION_KEYS: [&str; 9] = [
+    "names",
+    "types",
+    "constants",
+    "overrides",
+    "globals",
+    "global_expressions",
+    "functions",
+    "entry_points",
+    "special_types",
+];
 /// The keys of the three special types that have a place of their own.
 pub const PLACES: [&str; 3] = ["ray_desc", "ray_intersection", "ray_vertex_return"];
 
@@ -63,13 +75,14 @@ pub fn bytes_text(image: &[u8]) -> String {
 pub fn module_text(module: &Module) -> String {
     let mut out = Out { module, text: format!("{TEXT} 1\n"), depth: 0 };
     out.names();
-    out.section("types", &module.types, Out::ty);
-    out.section("constants", &module.constants, Out::constant);
-    out.section("overrides", &module.overrides, Out::override_record);
-    out.section("globals", &module.globals, Out::global);
-    out.section("global_expressions", &module.expressions, Out::global_expression);
-    out.section("functions", &module.functions, Out::function);
-    out.section("entry_points", &module.entry_points, Out::entry_point);
+    let key = SECTION_KEYS;
+    out.section(key[1], &module.types, Out::ty);
+    out.section(key[2], &module.constants, Out::constant);
+    out.section(key[3], &module.overrides, Out::override_record);
+    out.section(key[4], &module.globals, Out::global);
+    out.section(key[5], &module.expressions, Out::global_expression);
+    out.section(key[6], &module.functions, Out::function);
+    out.section(key[7], &module.entry_points, Out::entry_point);
     out.special();
     out.text
 }
@@ -172,6 +185,17 @@ pub(crate) fn spelled(field: Field, value: &Value) -> String {
     }
 }
 
+/// What a literal's bits mean, for a comment.
+fn literal_value(record: &Expression) -> String {
+    let value = match (record.kind.value, record.values.as_slice()) {
+        (expression::LITERAL, [Value::One(code), Value::One(low), Value::One(high)]) => {
+            crate::listing::literal(code.value, u64::from(high.value) << 32 | u64::from(low.value))
+        }
+        _ => None,
+    };
+    value.map_or(String::new(), |value| format!(" = {value}"))
+}
+
 /// The text so far, and how deep its braces are.
 struct Out<'a> {
     module: &'a Module,
@@ -229,7 +253,7 @@ impl Out<'_> {
 
     fn names(&mut self) {
         let names = &self.module.names;
-        self.section("names", names, |out, own, name| {
+        self.section(SECTION_KEYS[0], names, |out, own, name| {
             out.line(&format!("{}  # {own}", quoted(&name.bytes)));
         });
     }
@@ -238,7 +262,8 @@ impl Out<'_> {
         let head = Line::new(TYPE_KINDS[ty.inner.kind() as usize]).name(ty.name).span(&ty.span);
         match &ty.inner {
             Inner::Leaf { leaf, copied } => {
-                self.defined(head.number("leaf", *leaf).copied("copied", copied), own, ty.name)
+                let leaf = spelled(Field::Code(LEAF_TYPES), &Value::One(*leaf));
+                self.defined(Line(format!("{} leaf={leaf}", head.0)).copied("copied", copied), own, ty.name)
             }
             Inner::Pointer { base, space } => {
                 self.defined(head.number("base", *base).copied("space", space), own, ty.name)
@@ -287,7 +312,8 @@ impl Out<'_> {
     fn expression(&mut self, own: usize, record: &Expression, name: Word) {
         let row = record.row();
         let line = Line::new(row.name).span(&record.span).values(row, &record.values);
-        self.defined(line, own, name);
+        let (comment, value) = (self.comment(own, name), literal_value(record));
+        self.line(&format!("{}{comment}{value}", line.0));
     }
 
     fn function(&mut self, own: usize, function: &Function) {
@@ -330,7 +356,7 @@ impl Out<'_> {
 
     fn special(&mut self) {
         let special = &self.module.special;
-        self.open("special_types");
+        self.open(SECTION_KEYS[8]);
         for (key, place) in PLACES.iter().zip(special.places) {
             if let Some(number) = place.optional() {
                 self.line(&format!("{key}={number}"));

@@ -2,7 +2,12 @@
 //!
 //! The functions here are thin: they lend their slices to the C functions of `libwuldgisp.a` and give the answers
 //! a type. What the answers are is said, and proved, where the archive is made; an image is at most 65,536 bytes
-//! of little-endian words, and every byte slice, of any length and content, has an answer.
+//! of little-endian words, and every byte slice, of any length and content, has an answer. `docs/RULES.md` of the
+//! repository has the rules that the answers follow, and `docs/IMAGE.md` the image word by word.
+//!
+//! [`Image`] reads names and looks functions up by name; [`redirect_by_name`] redirects by name. With the feature
+//! `place` there is `place`, which says where in an image a rule is broken. A thread that calls should have a stack of
+//! at least [`STACK`] bytes.
 //!
 //! ```
 //! // fog and tone; shade calls fog, and fog calls tone.
@@ -19,22 +24,30 @@
 //! wuldgisp::intake(&image)?;
 //! assert_eq!(wuldgisp::order(&image)?, [1, 2, 0]);
 //!
-//! // Name 2 is fog, name 1 is tone: calls of fog become calls of tone.
-//! let redirected = wuldgisp::redirect(&mut image, 2, 1, &[])?;
+//! // Calls of fog become calls of tone.
+//! let redirected = wuldgisp::redirect_by_name(&mut image, "fog", "tone", &[])?;
 //! assert_eq!((redirected.original, redirected.replacement), (2, 1));
 //! assert_eq!(wuldgisp::order(&image)?, [1, 0, 2]);
 //! # Ok::<(), Box<dyn std::error::Error>>(())
 //! ```
 
-mod archive;
+mod image;
+#[cfg(feature = "place")]
+mod place;
 mod refusal;
 
+pub use image::Image;
+#[cfg(feature = "place")]
+pub use place::{place, Place};
 pub use refusal::Refusal;
+
+/// The stack that a calling thread should have at least, in bytes. Threads of Rust's library have more by themselves.
+pub const STACK: usize = wuldgisp_sys::WULDGISP_STACK;
 
 /// The most functions of an image, and so the longest order.
 const FUNCTIONS: usize = 256;
 
-/// Whether an image is accepted: document 01's tests 1 to 6.
+/// Whether an image is accepted: the tests 1 to 6 (`docs/RULES.md`, 6.1 to 6.6).
 ///
 /// ```
 /// use wuldgisp::Refusal;
@@ -46,7 +59,7 @@ const FUNCTIONS: usize = 256;
 /// ```
 pub fn intake(image: &[u8]) -> Result<(), Refusal> {
     // SAFETY: the pointer and the length are those of a slice that is only read and outlives the call.
-    let answer = unsafe { archive::wuldgisp_intake(image.as_ptr(), image.len()) };
+    let answer = unsafe { wuldgisp_sys::wuldgisp_intake(image.as_ptr(), image.len()) };
     accepted(answer.into()).map(|_| ())
 }
 
@@ -69,7 +82,7 @@ pub fn order(image: &[u8]) -> Result<Vec<u32>, Refusal> {
     // SAFETY: both pointers and lengths are those of slices that outlive the call; the image is only read, and the
     // order, which is written, is lent by no one else.
     let answer =
-        unsafe { archive::wuldgisp_order(image.as_ptr(), image.len(), order.as_mut_ptr(), order.len()) };
+        unsafe { wuldgisp_sys::wuldgisp_order(image.as_ptr(), image.len(), order.as_mut_ptr(), order.len()) };
     let count = accepted(answer)? as usize;
     Ok(order[..count].to_vec())
 }
@@ -103,7 +116,7 @@ pub fn redirect(
     // SAFETY: both pointers and lengths are those of slices that outlive the call; the image, which is written, is
     // lent by no one else, and the omitted names are only read.
     let answer = unsafe {
-        archive::wuldgisp_redirect(
+        wuldgisp_sys::wuldgisp_redirect(
             image.as_mut_ptr(),
             image.len(),
             original,
@@ -114,6 +127,31 @@ pub fn redirect(
     };
     let both = accepted(answer)?;
     Ok(Redirected { original: both % 65_536, replacement: both / 65_536 })
+}
+
+/// The same with functions given by their names. An original or a replacement that no function bears is refused by
+/// 8 or 9, whether it is among the names of the image or not; an omitted name that no function bears is passed over.
+///
+/// ```
+/// use wuldgisp::Refusal;
+///
+/// let mut image = plain::assemble("wuldgisp-text 1 names { \"tone\" } special_types { }")?;
+/// let refusal = wuldgisp::redirect_by_name(&mut image, "tone", "fog", &["mist"]).unwrap_err();
+/// assert_eq!(refusal, Refusal::OriginalNotFound);
+/// # Ok::<(), plain::TextError>(())
+/// ```
+pub fn redirect_by_name<N: AsRef<[u8]> + ?Sized>(
+    image: &mut [u8],
+    original: &N,
+    replacement: &N,
+    omit: &[&N],
+) -> Result<Redirected, Refusal> {
+    let read = Image::new(image)?;
+    let bears = |name: &&N| read.function(name).and_then(|_| read.name_number(name));
+    let original = bears(&original).ok_or(Refusal::OriginalNotFound)?;
+    let replacement = bears(&replacement).ok_or(Refusal::ReplacementNotFound)?;
+    let omit: Vec<u32> = omit.iter().filter_map(bears).collect();
+    redirect(image, original, replacement, &omit)
 }
 
 /// The value of an accepted answer, or the refusal.

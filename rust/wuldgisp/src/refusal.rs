@@ -1,11 +1,12 @@
-//! Document 01's refusals as a type.
+//! The refusals as a type.
 
 use std::fmt;
 
 /// Why an image or a call was turned back.
 ///
-/// Each stands for one of document 01's numbers, which are tested in this sequence: 1 to 6 over the whole image,
-/// then 13, 8, 9, 10, 11 for redirecting, or 12 for the order.
+/// Each stands for one of the numbers of `docs/RULES.md`, which are tested in this sequence: 1 to 6 over the whole
+/// image, then 13, 8, 9, 10, 11 for redirecting, or 12 for the order. Where in an image a rule is broken is said by
+/// `place`, with the feature of that name.
 #[derive(Clone, Copy, Debug, PartialEq, Eq, Hash)]
 #[non_exhaustive]
 pub enum Refusal {
@@ -36,7 +37,7 @@ pub enum Refusal {
     },
     /// 13: a number given by the caller lies outside its table.
     NumberGiven,
-    /// A number that document 01 does not list for these functions. The archive's contract excludes it.
+    /// A number that no rule gives these functions. The archive's contract excludes it.
     Unlisted(u32),
 }
 
@@ -62,7 +63,7 @@ impl Refusal {
         })
     }
 
-    /// Document 01's number.
+    /// Its number, as the archive answers it.
     pub fn number(self) -> u32 {
         match self {
             Refusal::Size => 1,

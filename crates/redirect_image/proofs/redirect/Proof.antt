@@ -17,23 +17,23 @@ redirect-function-requires c κs = search needs
 enum-told : tie.Need-enum-told
 enum-told c = search needs
 
-slice-reshare-prefix-write-all : tie.Need-slice-reshare-prefix-write-all
-slice-reshare-prefix-write-all c = search needs
+slice-aggregate-write : tie.Need-slice-aggregate-write
+slice-aggregate-write c = search needs
 
-slice-aggregate-write-all : tie.Need-slice-aggregate-write-all
-slice-aggregate-write-all c = sym (length-take-le _ _ (search needs))
+slice-reshare-prefix-write : tie.Need-slice-reshare-prefix-write
+slice-reshare-prefix-write c = search needs
 
-write-all-requires : tie.Need-write-all-requires
-write-all-requires c κs = search needs
+slice-aggregate-write-2 : tie.Need-slice-aggregate-write-2
+slice-aggregate-write-2 c = sym (length-take-le _ _ (search needs))
 
-slice-aggregate-fail : tie.Need-slice-aggregate-fail
-slice-aggregate-fail c = search needs
-
-fail-requires : tie.Need-fail-requires
-fail-requires c κs = search needs
+write-requires : tie.Need-write-requires
+write-requires c κs = search needs
 
 enum-known-k : tie.Need-enum-known-k
 enum-known-k c = search needs
+
+slice-aggregate-refused : tie.Need-slice-aggregate-refused
+slice-aggregate-refused c = search needs
 
 refused-requires : tie.Need-refused-requires
 refused-requires c κs = search needs
@@ -50,14 +50,8 @@ same-length-2 c = search needs
 returns-2 : tie.Need-returns-2
 returns-2 c = search needs
 
-same-length-3 : tie.Need-same-length-3
-same-length-3 c = search needs
-
 returns-3 : tie.Need-returns-3
 returns-3 c = search needs
-
-returns-4 : tie.Need-returns-4
-returns-4 c = search needs
 
 pub redirect-spec : {M : Type 1} → statement M
 redirect-spec =
@@ -67,17 +61,15 @@ redirect-spec =
     slice-aggregate-redirect-function
     redirect-function-requires
     enum-told
-    slice-reshare-prefix-write-all
-    slice-aggregate-write-all
-    write-all-requires
-    slice-aggregate-fail
-    fail-requires
+    slice-aggregate-write
+    slice-reshare-prefix-write
+    slice-aggregate-write-2
+    write-requires
     enum-known-k
+    slice-aggregate-refused
     refused-requires
     same-length
     returns
     same-length-2
     returns-2
-    same-length-3
-    returns-3
-    returns-4)
+    returns-3)

@@ -20,11 +20,20 @@ returns c = search needs
 buffer-requires : tie.Need-buffer-requires
 buffer-requires c κs = search needs
 
-slice-aggregate-read-full : tie.Need-slice-aggregate-read-full
-slice-aggregate-read-full c = search needs
+slice-aggregate-read : tie.Need-slice-aggregate-read
+slice-aggregate-read c = search needs
 
-read-full-requires : tie.Need-read-full-requires
-read-full-requires c κs = search needs
+read-requires : tie.Need-read-requires
+read-requires c κs = search needs
+
+slice-aggregate-unread : tie.Need-slice-aggregate-unread
+slice-aggregate-unread c = search needs
+
+unread-requires : tie.Need-unread-requires
+unread-requires c κs = search needs
+
+returns-2 : tie.Need-returns-2
+returns-2 c = search needs
 
 slice-aggregate-redirect : tie.Need-slice-aggregate-redirect
 slice-aggregate-redirect c = search needs
@@ -38,8 +47,8 @@ slice-aggregate-redirect-2 c = sym (length-take-le _ _ (search needs))
 redirect-requires : tie.Need-redirect-requires
 redirect-requires c κs = search needs
 
-returns-2 : tie.Need-returns-2
-returns-2 c = search needs
+returns-3 : tie.Need-returns-3
+returns-3 c = search needs
 
 pub run-spec : {M : Type 1} → statement M
 run-spec =
@@ -50,10 +59,13 @@ run-spec =
     wrong-requires
     returns
     buffer-requires
-    slice-aggregate-read-full
-    read-full-requires
+    slice-aggregate-read
+    read-requires
+    slice-aggregate-unread
+    unread-requires
+    returns-2
     slice-aggregate-redirect
     array-share-prefix-omit
     slice-aggregate-redirect-2
     redirect-requires
-    returns-2)
+    returns-3)

@@ -34,11 +34,17 @@ loop-less c = search needs
 loop-again : tie.Need-loop-again Inv-loop μ-loop
 loop-again c = search needs
 
-slice-aggregate-report : tie.Need-slice-aggregate-report Inv-loop μ-loop
-slice-aggregate-report c = search needs
+differs-requires : tie.Need-differs-requires Inv-loop μ-loop
+differs-requires c κs = search needs
 
-report-requires : tie.Need-report-requires Inv-loop μ-loop
-report-requires c κs = search needs
+slice-aggregate-unwritten : tie.Need-slice-aggregate-unwritten Inv-loop μ-loop
+slice-aggregate-unwritten c = search needs
+
+unwritten-requires : tie.Need-unwritten-requires Inv-loop μ-loop
+unwritten-requires c κs = search needs
+
+returns : tie.Need-returns Inv-loop μ-loop
+returns c = search needs
 
 loop-less-2 : tie.Need-loop-less-2 Inv-loop μ-loop
 loop-less-2 c = search needs
@@ -49,23 +55,35 @@ loop-again-2 c = search needs
 enum-told : tie.Need-enum-told Inv-loop μ-loop
 enum-told c = search needs
 
-slice-aggregate-report-2 : tie.Need-slice-aggregate-report-2 Inv-loop μ-loop
-slice-aggregate-report-2 c = search needs
+last-line-requires : tie.Need-last-line-requires Inv-loop μ-loop
+last-line-requires c κs = search needs
 
-report-requires-2 : tie.Need-report-requires-2 Inv-loop μ-loop
-report-requires-2 c κs = search needs
+slice-aggregate-unwritten-2 : tie.Need-slice-aggregate-unwritten-2 Inv-loop μ-loop
+slice-aggregate-unwritten-2 c = search needs
 
-slice-aggregate-report-3 : tie.Need-slice-aggregate-report-3 Inv-loop μ-loop
-slice-aggregate-report-3 c = search needs
-
-report-requires-3 : tie.Need-report-requires-3 Inv-loop μ-loop
-report-requires-3 c κs = search needs
-
-returns : tie.Need-returns Inv-loop μ-loop
-returns c = search needs
+unwritten-requires-2 : tie.Need-unwritten-requires-2 Inv-loop μ-loop
+unwritten-requires-2 c κs = search needs
 
 returns-2 : tie.Need-returns-2 Inv-loop μ-loop
 returns-2 c = search needs
+
+returns-3 : tie.Need-returns-3 Inv-loop μ-loop
+returns-3 c = search needs
+
+enum-told-2 : tie.Need-enum-told-2 Inv-loop μ-loop
+enum-told-2 c = search needs
+
+slice-aggregate-unread : tie.Need-slice-aggregate-unread Inv-loop μ-loop
+slice-aggregate-unread c = search needs
+
+unread-requires : tie.Need-unread-requires Inv-loop μ-loop
+unread-requires c κs = search needs
+
+returns-4 : tie.Need-returns-4 Inv-loop μ-loop
+returns-4 c = search needs
+
+returns-5 : tie.Need-returns-5 Inv-loop μ-loop
+returns-5 c = search needs
 
 pub main-spec : {M : Type 1} → statement M
 main-spec =
@@ -81,14 +99,20 @@ main-spec =
     add-good
     loop-less
     loop-again
-    slice-aggregate-report
-    report-requires
+    differs-requires
+    slice-aggregate-unwritten
+    unwritten-requires
+    returns
     loop-less-2
     loop-again-2
     enum-told
-    slice-aggregate-report-2
-    report-requires-2
-    slice-aggregate-report-3
-    report-requires-3
-    returns
-    returns-2)
+    last-line-requires
+    slice-aggregate-unwritten-2
+    unwritten-requires-2
+    returns-2
+    returns-3
+    enum-told-2
+    slice-aggregate-unread
+    unread-requires
+    returns-4
+    returns-5)

@@ -1,7 +1,13 @@
 //! The C functions of the proved archive, as `include/wuldgisp.h` declares them.
 //!
 //! Nothing checks such a declaration against the archive, so they stand in this file alone, and a test compares
-//! this file with the header. Each answers its refusal in the low half of its number, 0 for accepted.
+//! this file with the header, which says what each takes and answers. The crate `wuldgisp` is the safe wrapper.
+//!
+//! The build script finds the archive and links it. A crate that depends on this one directly is told its folder
+//! as `DEP_WULDGISP_FOLDER`.
+
+/// The stack that a calling thread should have at least, in bytes.
+pub const WULDGISP_STACK: usize = 262144;
 
 extern "C" {
     pub fn wuldgisp_intake(image: *const u8, image_len: usize) -> u32;

@@ -14,7 +14,7 @@ use plain::random::Random;
 use plain::{bodies, bytes, cases, mutate, words};
 
 const HELP: &str = "\
-differential: compares the proved archive with the plain reading of document 01
+differential: compares the proved archive with the plain reading of docs/RULES.md
 
   differential [--seed N] [--count N] [--short] [--keep FOLDER]
 

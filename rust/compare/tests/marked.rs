@@ -1,4 +1,4 @@
-//! Document 01's marked cases P5 to P12, in the text form, asked of the archive and of the plain reading.
+//! The marked cases P5 to P12 of `docs/RULES.md`, in the text form, asked of the archive and of the plain reading.
 //!
 //! P1 to P4 speak of spans that a session maps, and of P10 and P11 only intake is asked here: how expressions are
 //! numbered anew is link's.

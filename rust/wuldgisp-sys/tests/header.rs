@@ -1,4 +1,4 @@
-//! The declarations in `src/archive.rs` are those of `include/wuldgisp.h`: names, arguments and types.
+//! The declarations in `src/lib.rs` are those of `include/wuldgisp.h`: names, arguments and types.
 //!
 //! Both files are brought to one spelling, the Rust one, and compared as sets. WULDGISP_HEADER names another
 //! header.
@@ -76,10 +76,17 @@ fn declarations_are_the_headers() {
     let header = header.unwrap_or(package.join("../../include/wuldgisp.h"));
     let header_text =
         std::fs::read_to_string(&header).unwrap_or_else(|error| panic!("include/wuldgisp.h: {error}"));
-    let rust_text = std::fs::read_to_string(package.join("src/archive.rs")).unwrap();
+    let rust_text = std::fs::read_to_string(package.join("src/lib.rs")).unwrap();
     let rust = of_rust(&rust_text);
     assert!(!rust.is_empty());
     assert_eq!(rust, of_header(&header_text));
+}
+
+#[test]
+fn the_stack_is_the_headers() {
+    let header = Path::new(env!("CARGO_MANIFEST_DIR")).join("../../include/wuldgisp.h");
+    let define = format!("#define WULDGISP_STACK {}\n", wuldgisp_sys::WULDGISP_STACK);
+    assert!(std::fs::read_to_string(header).unwrap().contains(&define), "no {define}");
 }
 
 #[test]

@@ -1,0 +1,162 @@
+//! The table of commands. What is understood, what is run, what `--help` prints and what `docs/COMMANDS.md` says all
+//! come from here, so that a command is added in one place.
+
+use crate::arguments::Given;
+use crate::files::Output;
+use crate::{assemble, check, inspect, order, redirect, Answer, Input};
+
+/// One command.
+pub struct Command {
+    pub name: &'static str,
+    /// What stands behind the name.
+    pub usage: &'static str,
+    /// What it does, in a line.
+    pub summary: &'static str,
+    /// The rest of its help, a paragraph to a string.
+    pub about: &'static [&'static str],
+    pub options: &'static [Opt],
+    /// How many inputs it takes.
+    pub inputs: fn(&Given) -> Inputs,
+    /// What it does to one of its inputs, of which there may be many.
+    pub run: fn(given: &Given, input: &Input, many: bool, output: &mut Output) -> Answer,
+}
+
+/// An option of a command.
+pub struct Opt {
+    pub long: &'static str,
+    pub short: Option<&'static str>,
+    /// What the word behind it is, where it wants one.
+    pub value: Option<&'static str>,
+    /// Whether it may be given more than once.
+    pub many: bool,
+    pub about: &'static str,
+}
+
+/// The inputs that a command takes.
+#[derive(Clone, Copy, PartialEq, Eq)]
+pub enum Inputs {
+    /// One file or standard input.
+    One,
+    /// Files, folders and standard input.
+    Many,
+    /// Files and folders.
+    Files,
+}
+
+/// An option without a word behind it.
+const fn flag(long: &'static str, about: &'static str) -> Opt {
+    Opt { long, short: None, value: None, many: false, about }
+}
+
+const QUIET: Opt = Opt {
+    long: "--quiet",
+    short: Some("-q"),
+    value: None,
+    many: false,
+    about: "print no answers: the exit status tells; misuse is still told",
+};
+const JSON: Opt = flag("--json", "a JSON object on a line for each image");
+const OUTPUT: Opt = Opt {
+    long: "--output",
+    short: Some("-o"),
+    value: Some("FILE"),
+    many: false,
+    about: "write the image to FILE, in one stroke, instead of standard output",
+};
+
+/// An option with a name behind it.
+const fn name(long: &'static str, many: bool, about: &'static str) -> Opt {
+    Opt { long, short: None, value: Some("NAME"), many, about }
+}
+
+/// Options of every command.
+pub const COMMON: &[Opt] =
+    &[QUIET, Opt { long: "--help", short: Some("-h"), value: None, many: false, about: "print this help" }];
+
+/// The commands.
+pub const COMMANDS: &[Command] = &[
+    Command {
+        name: "check",
+        usage: "[--rings] [--json] [FILE...]",
+        summary: "a line for each image: accepted, or refused with its number, the rule and the word",
+        about: &[
+            "The number is that of the first of the tests 1 to 6 that fails (docs/RULES.md). Behind it stand its \
+             sentence, the word of the image that breaks a rule, and the rule.",
+            "A JSON object has `file`, `accepted` and, where it is false, `refusal`, `sentence`, `rule`, `word`, \
+             `section` and `record`; with a ring `left`, `functions_left` and `ring`.",
+        ],
+        options: &[flag("--rings", "refuse a ring of calls too, by 12, and name the functions left and one ring"), JSON],
+        inputs: |_| Inputs::Many,
+        run: check::run,
+    },
+    Command {
+        name: "order",
+        usage: "[--json] [FILE...]",
+        summary: "the functions in output order, callees first; of many images a line each",
+        about: &[
+            "For one image: the count, then for each function a line with its new number, its source number and its \
+             name. A refusal is `refused 5`, or `refused 12 left 2` for a ring of calls; standard error is told its \
+             sentence, the functions left and one ring.",
+            "A name with control characters, or that is no UTF-8, stands between quotes with its bytes as \\xNN.",
+            "A JSON object has `file`, `accepted` and `functions`, a list of `new`, `source` and `name`, or the \
+             members of a refusal as check has them.",
+        ],
+        options: &[JSON],
+        inputs: |_| Inputs::Many,
+        run: order::run,
+    },
+    Command {
+        name: "redirect",
+        usage: "--original NAME --replacement NAME [--omit NAME]... [--output FILE | --in-place] [FILE...]",
+        summary: "calls of the original become calls of the replacement, in the image itself",
+        about: &[
+            "The image goes to standard output, to --output, or with --in-place back to each file. The replacement \
+             and the omitted functions keep their calls; entry points never do. Where it is refused nothing is written.",
+            "A NAME is a name of the image, or @ and its number.",
+        ],
+        options: &[
+            name("--original", false, "the function whose calls are redirected"),
+            name("--replacement", false, "the function that is called instead"),
+            name("--omit", true, "a function that keeps its calls"),
+            OUTPUT,
+            flag("--in-place", "write each image back to its file, in one stroke"),
+        ],
+        inputs: |given| if given.has("--in-place") { Inputs::Files } else { Inputs::One },
+        run: redirect::run,
+    },
+    Command {
+        name: "inspect",
+        usage: "[--spans] [--text | --raw | --json] [FILE...]",
+        summary: "a listing for people; or the text form, the raw words, or JSON",
+        about: &[
+            "A listing shows all that the image holds, what is referred to by number and name, literals by value and \
+             bits. Of an image that is refused it shows the rule and the word, and what was laid out before the fault.",
+            "The text form is read back by assemble, byte for byte (docs/TEXT.md).",
+        ],
+        options: &[
+            flag("--spans", "show spans too"),
+            flag("--text", "the text form of one image"),
+            flag("--raw", "header, sections and records word by word, with nothing read into them"),
+            JSON,
+        ],
+        inputs: |given| if given.has("--text") { Inputs::One } else { Inputs::Many },
+        run: inspect::run,
+    },
+    Command {
+        name: "assemble",
+        usage: "[--output FILE] [FILE]",
+        summary: "the image of a text form",
+        about: &[
+            "The image is written even where intake refuses it; that is then told on standard error, and the exit \
+             status is 1. A text that is not of the form is told with line and column (docs/TEXT.md).",
+        ],
+        options: &[OUTPUT],
+        inputs: |_| Inputs::One,
+        run: assemble::run,
+    },
+];
+
+/// A command by its name.
+pub fn command(name: &str) -> Option<&'static Command> {
+    COMMANDS.iter().find(|command| command.name == name)
+}
