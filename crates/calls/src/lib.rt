@@ -2,6 +2,7 @@
 // or the count of the functions from which a chain of calls reaches a ring. Callees and waiting
 // functions are sets of 256 marks, four 64-bit words each. Functions are placed in rounds, as
 // Redirector::into_module does: a round places those that call none that was waiting when it began.
+use handles::FunctionHandle;
 ghost use mathlib.Core.Path.{_≡_};
 ghost use mathlib.Core.Bool.{true, false};
 ghost use Prim.Native.Nat.{_≤_, _<_};
@@ -9,9 +10,6 @@ ghost use lib.ListN.{length};
 ghost use Rattle.model.specs.Calls.{any};
 ghost use Rattle.calls.specs.Marks.{bit, onesOf, meets, holds, marked, members, PutBit, PutMark, SetCall, NoCalls, Firsts};
 ghost use Rattle.calls.specs.Placing.{Placeable, Placed, Orders};
-
-// A function's number in its table.
-pub struct FunctionHandle(pub u32);
 
 // All functions have their place; or so many are left waiting for a ring.
 pub enum Ordered {

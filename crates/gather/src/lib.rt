@@ -1,35 +1,19 @@
 // The callees of every table function, from words and tape: one pass over the words of each
 // function record, which marks each word of the class CALLEE. Then the order of output.
 use calls::Ordered;
+use classes::CALLEE;
+use views::FUNCTIONS;
+use views::count;
+use views::end_of;
+use views::start_of;
 use words::wide;
 ghost use mathlib.Core.Path.{_≡_};
-ghost use Prim.Native.Nat.{_+_, _^_, _≤_, _<_};
+ghost use Prim.Native.Nat.{_<_};
 ghost use lib.ListN.{length};
-ghost use Rattle.model.specs.Module.{countAt, offsetAt};
-ghost use Rattle.model.specs.View.{recordAt, recordEnd};
+ghost use Rattle.model.specs.Module.{countAt};
 ghost use Rattle.model.specs.Taped.{Tape};
 ghost use Rattle.calls.specs.Marks.{NoCalls};
 ghost use Rattle.gather.specs.Gathering.{picked, calledBy, Markable, Framed, Known, Marks, Gathered, Listed};
-
-// Where record i of section k starts: at its offset from the start of the section.
-pub fn record_at(words: &[u32; 16384], k: usize, i: usize) -> usize
-    requires { ⌜ (length (now words) ≡ 16384) × (k < 8) × (offsetAt k (now words) + i < 16384) ⌝ }
-    ensures { λ r. ⌜ (r ≡ recordAt k i (now (words .entry))) × (r < 2 ^ 33) ⌝ }
-{
-    let base = wide(words[3 + 2 * k]);
-    base + wide(words[base + i])
-}
-
-// Where function i ends: where the next one starts, the last where the entry points start.
-fn end(words: &[u32; 16384], i: usize) -> usize
-    requires { ⌜ (length (now words) ≡ 16384) × (i < countAt 6 (now words)) × (offsetAt 6 (now words) + countAt 6 (now words) ≤ 16384) ⌝ }
-    ensures { λ r. ⌜ r ≡ recordEnd 6 i (now (words .entry)) ⌝ }
-{
-    if i + 1 == wide(words[14]) {
-        return wide(words[17]);
-    }
-    record_at(words, 6, i + 1)
-}
 
 // Function i calls what the words from `at` to `end` call.
 fn scan(
@@ -47,7 +31,7 @@ fn scan(
     while j < end {
         let k = j;
         j += 1;
-        if tags[k] == 92 {
+        if tags[k] == CALLEE {
             calls::mark(callees, i, wide(words[k]));
         }
     }
@@ -59,8 +43,8 @@ fn function(words: &[u32; 16384], tags: &[u8; 16384], i: usize, callees: &mut [u
     requires { ⌜ (i < countAt 6 (now words)) × (length (now callees) ≡ 1024) ⌝ }
     ensures { λ _. ⌜ Marks (now (callees .entry)) i (calledBy (now (words .entry)) (now (tags .entry)) i) (now (callees .exit)) ⌝ }
 {
-    let from = record_at(words, 6, i);
-    let to = end(words, i);
+    let from = start_of(words, FUNCTIONS, i);
+    let to = end_of(words, FUNCTIONS, i);
     scan(words, tags, from, to, i, callees);
 }
 
@@ -71,7 +55,7 @@ pub fn gather(words: &[u32; 16384], tags: &[u8; 16384], n: usize, callees: &mut 
     requires { ⌜ NoCalls (now callees) ⌝ }
     ensures { λ _. ⌜ Gathered (now (words .entry)) (now (tags .entry)) n (now (callees .exit)) ⌝ }
 {
-    let count = wide(words[14]);
+    let count = count(words, FUNCTIONS);
     let mut i = 0;
     while i < count {
         let f = i;
@@ -89,5 +73,5 @@ pub fn order_of(words: &[u32; 16384], tags: &[u8; 16384], n: usize, out: &mut [u
 {
     let mut callees = calls::clear();
     gather(words, tags, n, &mut callees);
-    calls::order(&callees, wide(words[14]), out)
+    calls::order(&callees, count(words, FUNCTIONS), out)
 }

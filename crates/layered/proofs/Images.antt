@@ -22,7 +22,7 @@ use Rattle.redirect.specs.declared.Redirected.{Redirected}
 use Rattle.redirect.specs.declared.Redirected.the-variants.{Done, Outside, NoOriginal, NoReplacement, ArgumentsDiffer, ResultsDiffer}
 use Rattle.redirect.proofs.Finding.{find-in}
 use Rattle.redirect.proofs.Theorems.{accepted}
-use Rattle.calls.specs.declared.FunctionHandle.{FunctionHandle}
+use Rattle.handles.specs.declared.FunctionHandle.{FunctionHandle}
 use Rattle.layered.specs.Images.{ofModule, afterIntake, redirectImage, shown, after, Redirects, packed, Small, small-both, small-refused, Answers}
 use Rattle.layered.specs.declared.Answer as declared
 use Rattle.layered.specs.declared.Answer.the-variants.{Done as Told-done, Refused}

@@ -1,5 +1,5 @@
 // Layered's first half on any bytes: redirect_function of redirect.rs, in the image itself. Intake comes first; a refusal leaves every byte.
-use calls::FunctionHandle;
+use handles::FunctionHandle;
 use intake::Taken;
 use redirect::Redirected;
 ghost use mathlib.Core.Path.{_≡_};

@@ -98,9 +98,9 @@ pub fn line(
     let b = put(out, a, 32);
     let c = put_number(out, b, s);
     let d = put(out, c, 32);
-    let f = gather::record_at(words, 6, s);
+    let f = views::start_of(words, 6, s);
     let w = words::wide(words[f]);
-    let p = gather::record_at(words, 0, w - 1);
+    let p = views::start_of(words, 0, w - 1);
     let e = put_name(words, p, out, d);
     put(out, e, 10)
 }
@@ -161,7 +161,13 @@ pub fn show(words: &[u32; 16384], tags: &[u8; 16384], n: usize)
     let answer = gather::order_of(words, tags, n, &mut order);
     match answer {
         Ordered::All => {
-            print_order(words, tags, n, &order, words::wide(words[14]));
+            print_order(
+                words,
+                tags,
+                n,
+                &order,
+                views::count(words, views::FUNCTIONS),
+            );
         }
         Ordered::Ring(left) => {
             print_ring(left);

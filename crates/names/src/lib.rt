@@ -93,7 +93,7 @@ fn print(h: usize) -> u8
 }
 
 // Whether the hash h has surely not left its mark at a place; it leaves it. No mark is 0, and where prints differ the mark is 255.
-fn mark(seen: &mut [u8], at: usize, h: usize) -> bool
+pub fn mark(seen: &mut [u8], at: usize, h: usize) -> bool
     requires { ⌜ at < length (now seen) ⌝ }
     ensures { λ r. ⌜ Leaves (now (seen .entry)) at h (now (seen .exit)) r ⌝ }
 {
@@ -212,7 +212,7 @@ fn unlike(words: &[u32; 16384], from: usize, a: usize, n: usize) -> bool
 }
 
 // The hash of a name whose words so far have the hash h, and whose next word is w.
-fn mix(h: usize, w: u32) -> usize
+pub fn mix(h: usize, w: u32) -> usize
     requires { ⌜ h < 2 ^ 24 ⌝ }
     ensures { λ r. ⌜ (r ≡ mixOf h w) × (r < 2 ^ 24) ⌝ }
 {

@@ -97,19 +97,8 @@ module _ {words tags : List ℕ} {n : ℕ} {m : Module} (t : Taped words tags n 
       let g = taped-count t 6 (omega arith) ∙ sees-functions m refl .count in
       rw (a, b, c, d, e, f, g)
 
-  offset-in : (k j : ℕ) → k < 8 → j < countAt k words → offsetAt k words + j < 16384
-  offset-in k j h i =
-      omega (arith, part-end (section-part k h), section-part k h .within, table-least (getD (tables m) k []), view-records m k h, taped-count t k (omega arith), cells-few)
-
 -- ---- one section
 module _ (words tags : List ℕ) (n : ℕ) (tape : Tape words tags n) (k : ℕ) (h : k < 8) where
-  pub record-inside : (j at : ℕ) → j < countAt k words → (at ≡ getD words (3 + 2 * k) 0) × (at < 2 ^ 32) → at + j < 16384
-  unfolding offsetAt
-  record-inside j at i is = rw (is .0) (offset-in (tape .taped) k j h i)
-
-  pub record-few : (j : ℕ) → j < countAt k words → j < 16384
-  record-few j i = omega (arith, offset-in (tape .taped) k j h i)
-
   module _ (a e : ℕ) (a-is : (a ≡ getD words (3 + 2 * k) 0) × (a < 2 ^ 32)) (e-is : (e ≡ getD words (5 + 2 * k) 0) × (e < 2 ^ 32)) where
     start-at : a ≡ offsetAt k words
     unfolding offsetAt
@@ -127,28 +116,6 @@ module _ (words tags : List ℕ) (n : ℕ) (tape : Tape words tags n) (k : ℕ) 
 
     pub table-ranged : (r : Bool) (t : List ℕ) → Ranged r words tags t a e → Ranged r words tags t (offsetAt k words) (offsetAt (suc k) words)
     table-ranged r t got = rw (start-at, end-at) at got
-
-  -- where a record starts, and where it ends
-  pub record-is : (j at v : ℕ) → (at ≡ getD words (3 + 2 * k) 0) × (at < 2 ^ 32) → (v ≡ getD words (at + j) 0) × (v < 2 ^ 32) → at + v ≡ recordAt k j words
-  unfolding recordAt offsetAt
-  record-is j at v is vs = ap₂ _+_ (is .0) (vs .0 ∙ ap (λ o. getD words (o + j) 0) (is .0))
-
-  pub record-last : (j count v : ℕ) → (count ≡ getD words (2 + 2 * k) 0) × (count < 2 ^ 32) → j + 1 ≡ count → (v ≡ getD words (5 + 2 * k) 0) × (v < 2 ^ 32) → v ≡ recordEnd k j words
-  unfolding recordEnd countAt endAt offsetAt
-  record-last j count v is q vs =
-      let z : 5 + 2 * k ≡ 3 + 2 * suc k = omega arith in
-      let u : suc j ≡ getD words (2 + 2 * k) 0 = omega arith in
-      rw (recordEnd, eq-eqb (suc j) (getD words (2 + 2 * k) 0) u, endAt, ne-eqb k 8 (λ e. omega arith)) (vs .0 ∙ ap (λ i. getD words i 0) z)
-
-  pub record-more : (j count : ℕ) → j < countAt k words → (count ≡ getD words (2 + 2 * k) 0) × (count < 2 ^ 32) → (j + 1 ≡ count → ⊥) → j + 1 < countAt k words
-  unfolding countAt
-  record-more j count i is q = omega (arith, is .0)
-
-  pub record-onward : (j count v : ℕ) → (count ≡ getD words (2 + 2 * k) 0) × (count < 2 ^ 32) → (j + 1 ≡ count → ⊥) → v ≡ recordAt k (j + 1) words → v ≡ recordEnd k j words
-  unfolding recordEnd countAt
-  record-onward j count v is q vs =
-      let u : suc j ≡ getD words (2 + 2 * k) 0 → ⊥ = λ e. q (omega arith) in
-      rw (recordEnd, ne-eqb (suc j) (getD words (2 + 2 * k) 0) u) (rw (add-one j) at vs)
 
 -- ---- the tables, one after the other
 abbrev pub At : List ℕ → List ℕ → List ℕ → ℕ → Bool → Type 0

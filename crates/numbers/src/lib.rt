@@ -12,11 +12,12 @@ use range::checked;
 use range::inside;
 use range::outside;
 use range::ranged;
+use views::record_at;
+use views::record_end;
 use words::wide;
 ghost use mathlib.Core.Path.{_≡_};
 ghost use Prim.Native.Nat.{suc, _<_};
-ghost use Rattle.model.specs.Module.{countAt, offsetAt};
-ghost use Rattle.model.specs.View.{recordAt, recordEnd};
+ghost use Rattle.model.specs.Module.{offsetAt};
 ghost use Rattle.model.specs.Taped.{Tape};
 ghost use Rattle.model.specs.Numbers.{numbered as numberedOf};
 ghost use Rattle.numbers.specs.Ranges.{Ranged, Says, Tabled, Framed, Sound, Loosely, tablesFine, kindsFine, functionsFine, entriesFine};
@@ -54,31 +55,6 @@ fn tables(words: &[u32; 16384], tags: &[u8; 16384], n: usize, t: &[u64; 256]) ->
     }
     let at = wide(words[19]);
     ranged(words, tags, t, at, n)
-}
-
-// Where record j of section k starts.
-pub fn record_at(words: &[u32; 16384], tags: &[u8; 16384], n: usize, k: usize, j: usize) -> usize
-    requires { ⌜ Tape (now words) (now tags) n ⌝ }
-    requires { ⌜ k < 8 ⌝ }
-    requires { ⌜ j < countAt k (now words) ⌝ }
-    ensures { λ r. ⌜ r ≡ recordAt k j (now (words .entry)) ⌝ }
-{
-    let at = wide(words[3 + 2 * k]);
-    at + wide(words[at + j])
-}
-
-// Where it ends: where the next one starts, or where the section ends.
-pub fn record_end(words: &[u32; 16384], tags: &[u8; 16384], n: usize, k: usize, j: usize) -> usize
-    requires { ⌜ Tape (now words) (now tags) n ⌝ }
-    requires { ⌜ k < 8 ⌝ }
-    requires { ⌜ j < countAt k (now words) ⌝ }
-    ensures { λ r. ⌜ r ≡ recordEnd k j (now (words .entry)) ⌝ }
-{
-    let count = wide(words[2 + 2 * k]);
-    if j + 1 == count {
-        return wide(words[5 + 2 * k]);
-    }
-    record_at(words, tags, n, k, j + 1)
 }
 
 // The kinds of global expressions.

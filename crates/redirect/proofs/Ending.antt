@@ -18,7 +18,7 @@ use Rattle.redirect.specs.declared.Redirected.{Redirected}
 use Rattle.redirect.specs.declared.Redirected.the-variants.{Done, Outside, NoOriginal, NoReplacement, ArgumentsDiffer, ResultsDiffer}
 use Rattle.redirect.proofs.Redirected.{the-type}
 use Rattle.redirect.proofs.Turning.{sets-middle}
-use Rattle.calls.specs.declared.FunctionHandle.{FunctionHandle}
+use Rattle.handles.specs.declared.FunctionHandle.{FunctionHandle}
 
 -- ---- an answer that tells both functions is the redirected module; one that is refused leaves the module
 pub record Redirecting (m : Module) (a b : ℕ) (omit : List ℕ) (x : Answer) : Type 0 where

@@ -22,7 +22,7 @@ use Rattle.redirect.specs.Passes.{foundAt, shown, told, Finds, Agrees, R
 use Rattle.redirect.specs.declared.Found.the-variants.{At, Nothing}
 use Rattle.redirect.specs.declared.Redirected.the-variants.{Done, ArgumentsDiffer, ResultsDiffer}
 use Rattle.redirect.proofs.Places.{many, few, start-in, name-is, count-in, types-many, type-in, type-is, result-in, result-type-in, result-few, result-none, result-some}
-use Rattle.calls.specs.declared.FunctionHandle.{FunctionHandle}
+use Rattle.handles.specs.declared.FunctionHandle.{FunctionHandle}
 
 drop-whole : {A : Type 0} (l : List A) (i : ℕ) → length l ≤ i → drop i l ≡ []
 drop-whole [] zero h = refl

@@ -17,7 +17,7 @@ use Rattle.redirect.specs.declared.Redirected.{Redirected}
 use Rattle.redirect.specs.declared.Redirected.the-variants.{Outside, NoOriginal, NoReplacement}
 use Rattle.redirect.proofs.Places.{many}
 use Rattle.redirect.proofs.Finding.{find-in}
-use Rattle.calls.specs.declared.FunctionHandle.{FunctionHandle}
+use Rattle.handles.specs.declared.FunctionHandle.{FunctionHandle}
 
 names-many : {words tags : List ℕ} {n : ℕ} {m : Module} → Taped words tags n m → getD words 2 0 ≡ length (m .names)
 unfolding countAt

@@ -1,7 +1,7 @@
 // Redirecting over the words and the tape of an image that passed intake: redirect_function of redirect.rs. Functions are found by name number,
 // their argument and result types are compared, and the numbers of Calls and CallResults that name the original name the replacement.
 // The tests read and change nothing; the pass after them goes once over the functions and the entry points.
-use calls::FunctionHandle;
+use handles::FunctionHandle;
 use words::store;
 use words::wide;
 ghost use mathlib.Core.Path.{_≡_};

@@ -1,7 +1,6 @@
 -- `gather::order_of` meets its contract: the order looks only at calls between functions, and those are the module's. Assumes nothing.
 use native.Mathlib.Omega.{arith}
 use borrow.Author.Needs.{needs}
-use Rattle.model.specs.Module.{countAt}
 use Rattle.gather.proofs.Whole.{framed, lists}
 use Rattle.gather.proofs.order_of.Statement.{statement}
 use Rattle.gather.proofs.order_of.Tie as tie
@@ -12,19 +11,14 @@ clear-requires c κs = search needs
 gather-requires : tie.Need-gather-requires
 gather-requires c κs = search needs
 
-element-copy-out-wide : tie.Need-element-copy-out-wide
-element-copy-out-wide c = search needs
-
-wide-requires : tie.Need-wide-requires
-wide-requires c κs = search needs
+count-requires : tie.Need-count-requires
+count-requires c κs = search needs
 
 order-requires : tie.Need-order-requires
-unfolding countAt
-order-requires c κs = let f = framed (c .before .before .before .before .before .before .before .pre .0) (c .before .before .before .before .before .before .before .pre .1 .0) in (omega (arith, f .few, c .before .wide .ensures .0), c .before .before .before .before .before .before .before .pre .1 .1)
+order-requires c κs = let f = framed (c .before .before .before .before .before .before .pre .0) (c .before .before .before .before .before .before .pre .1 .0) in (omega (arith, f .few, c .before .count .ensures .0), c .before .before .before .before .before .before .pre .1 .1)
 
 returns : tie.Need-returns
-unfolding countAt
-returns c = lists (c .before .before .wide .ensures .0) (c .before .before .before .before .before .gather .ensures) (c .order .ensures)
+returns c = lists (c .before .before .count .ensures .0) (c .before .before .before .before .gather .ensures) (c .order .ensures)
 
 pub order-of-spec : {M : Type 1} → statement M
 order-of-spec =
@@ -32,7 +26,6 @@ order-of-spec =
     (tie.spec
     clear-requires
     gather-requires
-    element-copy-out-wide
-    wide-requires
+    count-requires
     order-requires
     returns)

@@ -4,7 +4,6 @@ use Prim.Native.Nat.{ℕ}
 use borrow.Author.Needs.{needs}
 use Rattle.listing.proofs.Known.{passed-callees, passed-naming}
 use Rattle.listing.proofs.Orders.{printable-of}
-use Rattle.model.specs.Module.{countAt}
 use Rattle.listing.proofs.show.Statement.{statement}
 use Rattle.listing.proofs.show.Tie as tie
 
@@ -14,15 +13,11 @@ order-of-requires c κs = let p = c .before .pre in (p .0, (passed-callees (p .1
 enum-told : tie.Need-enum-told
 enum-told c = search needs
 
-element-copy-out-wide : tie.Need-element-copy-out-wide
-element-copy-out-wide c = search needs
-
-wide-requires : tie.Need-wide-requires
-wide-requires c κs = search needs
+count-requires : tie.Need-count-requires
+count-requires c κs = search needs
 
 print-order-requires : tie.Need-print-order-requires
-unfolding countAt
-print-order-requires c κs = let p = c .before .before .before .before .before .before .before .pre in (p .0, (passed-naming (p .1), printable-of (p .0) (c .before .before .before .enum-told .given .1) (c .before .before .before .before .before .order-of .ensures) (c .wide .ensures .0)))
+print-order-requires c κs = let p = c .before .before .before .before .before .before .pre in (p .0, (passed-naming (p .1), printable-of (p .0) (c .before .before .enum-told .given .1) (c .before .before .before .before .order-of .ensures) (c .count .ensures .0)))
 
 enum-known-answer : tie.Need-enum-known-answer
 enum-known-answer c = search needs
@@ -42,8 +37,7 @@ show-spec =
     (tie.spec
     order-of-requires
     enum-told
-    element-copy-out-wide
-    wide-requires
+    count-requires
     print-order-requires
     enum-known-answer
     print-ring-requires

@@ -1,0 +1,764 @@
+-- The arrays as the model's state: one map more, one record more, and what settling a record does. Assumes nothing.
+use mathlib.Core.Path.{_≡_, refl, sym, ap, ap₂, _∙_}
+use mathlib.Core.Logic.{_⊎_, inl, inr, ⊎-elim}
+use mathlib.Core.Bool.{Bool, true, false, cond, false≢true}
+use mathlib.Core.List.{List, [], _∷_, _++_, map}
+use Prim.Native.Nat.{ℕ, zero, suc, _+_, _-_, _*_, _%_, _≤_, _<_, pred}
+use native.Mathlib.Nat.{not-suc-le-zero, le-refl}
+use native.Mathlib.Numerals.{add-one}
+use native.Mathlib.Omega.{arith}
+use lib.Dec.{eqb}
+use lib.ListN.{length, getD, set, take, drop, length-append, length-set, length-map}
+use lib.Seq.{slice, sets, sets-eq, length-sets, take-suc-set, take-set-le, take-set-lt, getD-set-same, getD-set-other, length-take-le, getD-take, take-take, take-at, drop-at}
+use borrow.Author.Tests.{eqb-true, eqb-false, not-true}
+use Rattle.model.specs.Outcome.{Cells, class, word}
+use Rattle.model.specs.Module.{Special, countAt}
+use Rattle.model.specs.Between.{beside, between, Stretch}
+use Rattle.model.specs.Carry.{carryCell, carryCells}
+use Rattle.model.specs.Tables.{Tab, names, types, constants, overrides, globals, exprs, Six, codeT, isT, at, upd, six, Tables, count, Maps}
+use Rattle.model.specs.References.{Place, table, target, targets, through, carryW, firstWord, undefinedAt, moved, shift, alike, seat, merged}
+use Rattle.model.specs.Tree.{Function, flat, flatEntry}
+use Rattle.model.specs.Table.{NAME}
+use Rattle.model.specs.Carry.{Each, each-none, each-next}
+use Rattle.model.specs.Imports.{St, settle}
+use Rattle.imports.specs.RecordLaws.{bare, alike-is, alike-self, bare-shift, length-shift, length-carry}
+use Rattle.imports.specs.TableLaws.{Tab-dec, at-same, at-other, upd-at, at-six}
+use Rattle.laws.specs.Lists.{bool-same}
+use Rattle.laws.specs.Betweens.{beside-cells}
+use Rattle.names.specs.Places.{mixed, stands, Leaves}
+use Rattle.laws.specs.Quiet.{each-map}
+use Rattle.state.specs.Refers.{codeP, tabOf, wentR}
+use Rattle.state.specs.Flats.{functionOf, entryOf, pairsAt, specialOf}
+use Rattle.state.specs.Marks.{MARKS, hashR, Marked}
+use Rattle.state.specs.Held.{row, cell, put, recAt, recsAt, tableOf, recsOf, functionsOf, entriesOf, mapsOf, stOf, sizeR, sizeS, sizesOf, wordsOf, Over, long, many, Named, Nameless, Kept, Same, Marks, Beside, Lands, Sought, Written, carriedBy}
+use Rattle.state.specs.declared.Ends.{Ends}
+use Rattle.state.proofs.Passes.{length-between}
+
+-- ---- tables by their codes
+pub code-tab : (t : ℕ) → t < 6 → codeT (tabOf t) ≡ t
+unfolding tabOf codeT
+code-tab zero h = refl
+code-tab (suc zero) h = refl
+code-tab (suc (suc zero)) h = refl
+code-tab (suc (suc (suc zero))) h = refl
+code-tab (suc (suc (suc (suc zero)))) h = refl
+code-tab (suc (suc (suc (suc (suc zero))))) h = refl
+code-tab (suc (suc (suc (suc (suc (suc t)))))) h = absurd (omega arith)
+
+pub tab-code : (t : Tab) → tabOf (codeT t) ≡ t
+unfolding tabOf codeT
+tab-code names = refl
+tab-code types = refl
+tab-code constants = refl
+tab-code overrides = refl
+tab-code globals = refl
+tab-code exprs = refl
+
+pub code-low : (t : Tab) → codeT t < 6
+unfolding codeT
+code-low names = omega arith
+code-low types = omega arith
+code-low constants = omega arith
+code-low overrides = omega arith
+code-low globals = omega arith
+code-low exprs = omega arith
+
+code-other : (t : ℕ) (u : Tab) → (tabOf t ≡ u → ⊥) → codeT u ≡ t → ⊥
+code-other t u ne e = ne (rw (← e) (tab-code u))
+
+pub six-ext : {A : Type 0} (a b : Six A) → ((u : Tab) → at u a ≡ at u b) → a ≡ b
+unfolding at
+six-ext a b h i = record { ofNames = h names i; ofTypes = h types i; ofConstants = h constants i; ofOverrides = h overrides i; ofGlobals = h globals i; ofExprs = h exprs i }
+
+pub same-or : (a b : ℕ) → (a ≡ b) ⊎ (a ≡ b → ⊥)
+same-or a b = go (eqb a b) refl
+  where
+    go : (x : Bool) → eqb a b ≡ x → (a ≡ b) ⊎ (a ≡ b → ⊥)
+    go true q = inl (eqb-true a b q)
+    go false q = inr (eqb-false a b q)
+
+-- ---- an array of arrays
+pub cell-same : (m : List (List ℕ)) (t i v : ℕ) → t < length m → i < length (row m t) → cell (put m t i v) t i ≡ v
+cell-same m t i v ht hi = rw (getD-set-same m t (set (getD m t []) i v) [] ht) (getD-set-same (getD m t []) i v 0 hi)
+
+pub cell-column : (m : List (List ℕ)) (t i j v : ℕ) → t < length m → (j ≡ i → ⊥) → cell (put m t i v) t j ≡ cell m t j
+cell-column m t i j v ht ne = rw (getD-set-same m t (set (getD m t []) i v) [] ht) (getD-set-other (getD m t []) i j v 0 ne)
+
+pub row-other : (m : List (List ℕ)) (t u i v : ℕ) → (u ≡ t → ⊥) → row (put m t i v) u ≡ row m u
+row-other m t u i v ne = getD-set-other m t u (set (getD m t []) i v) [] ne
+
+pub put-row : (m : List (List ℕ)) (t u i v : ℕ) → t < length m → length (row (put m t i v) u) ≡ length (row m u)
+put-row m t u i v ht = ⊎-elim (λ (e : u ≡ t). rw (e, getD-set-same m t (set (getD m t []) i v) [] ht) (length-set (getD m t []) i v)) (λ (ne : u ≡ t → ⊥). ap length (row-other m t u i v ne)) (same-or u t)
+
+-- ---- one map more
+pub maps-put : (words : List ℕ) (maps : List (List ℕ)) (t k v : ℕ) → t < 6 → length maps ≡ 6 → k < countAt t words
+    → upd (tabOf t) (set (at (tabOf t) (mapsOf words maps)) k v) (mapsOf words maps) ≡ mapsOf words (put maps t k v)
+unfolding mapsOf
+maps-put words maps t k v ht hm hk = six-ext _ _ (λ u. go u (Tab-dec (tabOf t) u))
+  where
+    f : List (List ℕ) → Tab → List ℕ
+    f m u = take (countAt (codeT u) words) (getD m (codeT u) [])
+
+    here : set (take (countAt (codeT (tabOf t)) words) (getD maps (codeT (tabOf t)) [])) k v ≡ take (countAt (codeT (tabOf t)) words) (getD (put maps t k v) (codeT (tabOf t)) [])
+    here = rw (code-tab t ht, getD-set-same maps t (set (getD maps t []) k v) [] (omega arith)) (sym (take-set-lt (countAt t words) (getD maps t []) k v hk))
+
+    go : (u : Tab) → Dec (tabOf t ≡ u) → at u (upd (tabOf t) (set (at (tabOf t) (six (λ t. take (countAt (codeT t) words) (getD maps (codeT t) [])))) k v) (six (λ t. take (countAt (codeT t) words) (getD maps (codeT t) [])))) ≡ at u (six (λ u. take (countAt (codeT u) words) (getD (put maps t k v) (codeT u) [])))
+    go u (yes p) =
+        rw (← p, at-same (tabOf t) (set (at (tabOf t) (six (λ t. take (countAt (codeT t) words) (getD maps (codeT t) [])))) k v) (six (λ t. take (countAt (codeT t) words) (getD maps (codeT t) []))), at-six (tabOf t) (λ t. take (countAt (codeT t) words) (getD maps (codeT t) [])), at-six (tabOf t) (λ u. take (countAt (codeT u) words) (getD (put maps t k v) (codeT u) []))) here
+    go u (no ne) =
+        rw (at-other (tabOf t) u (set (at (tabOf t) (six (λ t. take (countAt (codeT t) words) (getD maps (codeT t) [])))) k v) (six (λ t. take (countAt (codeT t) words) (getD maps (codeT t) []))) ne, at-six u (λ t. take (countAt (codeT t) words) (getD maps (codeT t) [])), at-six u (λ u. take (countAt (codeT u) words) (getD (put maps t k v) (codeT u) [])), row-other maps t (codeT u) k v (code-other t u ne))
+
+-- ---- the log below its end
+take-less : (m n : ℕ) (a b : List ℕ) → m ≤ n → take n a ≡ take n b → take m a ≡ take m b
+take-less m n a b h e = sym (take-take m n a h) ∙ ap (take m) e ∙ take-take m n b h
+
+pub same-refl : (used : ℕ) (log tags : List ℕ) → Same used log tags log tags
+same-refl used log tags = record { words-same = refl; tags-same = refl }
+
+pub same-then : (u v : ℕ) (log tags log′ tags′ log″ tags″ : List ℕ) → u ≤ v → Same u log tags log′ tags′ → Same v log′ tags′ log″ tags″ → Same u log tags log″ tags″
+same-then u v log tags log′ tags′ log″ tags″ h a b = record {
+  words-same = take-less u v log″ log′ h (b .words-same) ∙ a .words-same;
+  tags-same = take-less u v tags″ tags′ h (b .tags-same) ∙ a .tags-same;
+}
+
+module _ (used : ℕ) (log tags log′ tags′ : List ℕ) (F : Same used log tags log′ tags′) where
+  pub get-same : (s : ℕ) → s < used → getD log′ s 0 ≡ getD log s 0
+  get-same s h = sym (getD-take used log′ s 0 h) ∙ ap (λ (l : List ℕ). getD l s 0) (F .words-same) ∙ getD-take used log s 0 h
+
+  pub rec-same : (s : ℕ) → s + suc (getD log s 0) ≤ used → recAt log′ tags′ s ≡ recAt log tags s
+  unfolding recAt between
+  rec-same s h =
+      let g : getD log′ s 0 ≡ getD log s 0 = get-same s (omega arith) in
+      let a = take-less (suc s + getD log s 0) used log′ log (omega arith) (F .words-same) in
+      let b = take-less (suc s + getD log s 0) used tags′ tags (omega arith) (F .tags-same) in
+      rw (g, a, b)
+
+  pub recs-same : (ss : List ℕ) → ((k : ℕ) → k < length ss → getD ss k 0 + suc (getD log (getD ss k 0) 0) ≤ used) → recsAt log′ tags′ ss ≡ recsAt log tags ss
+  unfolding recsAt
+  recs-same [] h = refl
+  recs-same (s ∷ ss) h = rw (rec-same s (h 0 (omega arith)), recs-same ss (λ k l. h (suc k) (omega arith)))
+
+pub short : (n : ℕ) (ss : List ℕ) (k : ℕ) → k < length (take n ss) → k < n
+short zero ss k h = h
+short (suc n) [] k h = absurd (not-suc-le-zero h)
+short (suc n) (x ∷ ss) zero h = omega arith
+short (suc n) (x ∷ ss) (suc k) h = let r = short n ss k (omega arith) in omega arith
+
+pub recs-append : (log tags ss : List ℕ) (s : ℕ) → recsAt log tags (ss ++ (s ∷ [])) ≡ recsAt log tags ss ++ (recAt log tags s ∷ [])
+unfolding recsAt
+recs-append log tags [] s = refl
+recs-append log tags (x ∷ ss) s = ap (λ (l : List Cells). recAt log tags x ∷ l) (recs-append log tags ss s)
+
+pub recs-long : (log tags ss : List ℕ) → length (recsAt log tags ss) ≡ length ss
+unfolding recsAt
+recs-long log tags [] = refl
+recs-long log tags (s ∷ ss) = ap suc (recs-long log tags ss)
+
+-- ---- sizes
+pub sizeR-append : (cs : List Cells) (c : Cells) → sizeR (cs ++ (c ∷ [])) ≡ sizeR cs + suc (length c)
+unfolding sizeR
+sizeR-append [] c = omega arith
+sizeR-append (d ∷ ds) c = let h = sizeR-append ds c in omega arith
+
+-- a table replaced by another
+pub size-upd : (t : Tab) (xs : List Cells) (T : Tables) → sizeS (upd t xs T) + sizeR (at t T) ≡ sizeS T + sizeR xs
+unfolding sizeS upd at isT codeT
+size-upd names xs T = omega arith
+size-upd types xs T = omega arith
+size-upd constants xs T = omega arith
+size-upd overrides xs T = omega arith
+size-upd globals xs T = omega arith
+size-upd exprs xs T = omega arith
+
+pub size-append : (t : Tab) (c : Cells) (T : Tables) → sizeS (upd t (at t T ++ (c ∷ [])) T) ≡ sizeS T + suc (length c)
+size-append t c T = let a = size-upd t (at t T ++ (c ∷ [])) T in let b = sizeR-append (at t T) c in omega arith
+
+-- ---- merging
+pub seat-low : (ds : List Cells) (c : Cells) → seat ds c ≤ length ds
+unfolding seat
+seat-low [] c = omega arith
+seat-low (d ∷ ds) c = go (alike d c) (seat-low ds c)
+  where
+    go : (b : Bool) → seat ds c ≤ length ds → elim b [ true ↦ 0 | false ↦ suc (seat ds c) ] ≤ suc (length ds)
+    go true h = omega arith
+    go false h = omega arith
+
+pub merged-old : (ds : List Cells) (c : Cells) → seat ds c < length ds → merged ds c ≡ ds
+unfolding seat merged
+merged-old [] c h = absurd (not-suc-le-zero h)
+merged-old (d ∷ ds) c h = go (alike d c) h (merged-old ds c)
+  where
+    go : (b : Bool) → elim b [ true ↦ 0 | false ↦ suc (seat ds c) ] < suc (length ds) → (seat ds c < length ds → merged ds c ≡ ds) → elim b [ true ↦ d ∷ ds | false ↦ d ∷ merged ds c ] ≡ d ∷ ds
+    go true l ih = refl
+    go false l ih = ap (d ∷_) (ih (omega arith))
+
+pub merged-new : (ds : List Cells) (c : Cells) → length ds ≤ seat ds c → merged ds c ≡ ds ++ (c ∷ [])
+unfolding seat merged
+merged-new [] c h = refl
+merged-new (d ∷ ds) c h = go (alike d c) h (merged-new ds c)
+  where
+    go : (b : Bool) → suc (length ds) ≤ elim b [ true ↦ 0 | false ↦ suc (seat ds c) ] → (length ds ≤ seat ds c → merged ds c ≡ ds ++ (c ∷ [])) → elim b [ true ↦ d ∷ ds | false ↦ d ∷ merged ds c ] ≡ d ∷ (ds ++ (c ∷ []))
+    go true l ih = absurd (omega arith)
+    go false l ih = ap (d ∷_) (ih (omega arith))
+
+-- spans do not count
+alike-shift : (d c : Cells) (o : ℕ) (u : Bool) → alike d (shift c o u) ≡ alike d c
+alike-shift d c o u =
+    bool-same (alike d (shift c o u)) (alike d c)
+    (λ e. alike-self d c (alike-is d (shift c o u) e ∙ bare-shift c o u))
+    (λ e. alike-self d (shift c o u) (alike-is d c e ∙ sym (bare-shift c o u)))
+
+pub seat-shift : (ds : List Cells) (c : Cells) (o : ℕ) (u : Bool) → seat ds (shift c o u) ≡ seat ds c
+unfolding seat
+seat-shift [] c o u = refl
+seat-shift (d ∷ ds) c o u = ap₂ (λ (b : Bool) (n : ℕ). elim b [ true ↦ 0 | false ↦ suc n ]) (alike-shift d c o u) (seat-shift ds c o u)
+
+-- ---- what is written behind the end
+take-sets : (vs l : List ℕ) (n i : ℕ) → n ≤ i → take n (sets l i vs) ≡ take n l
+take-sets [] l n i h = refl
+take-sets (v ∷ vs) l n i h = take-sets vs (set l i v) n (suc i) (omega arith) ∙ take-set-le n l i v h
+
+getD-sets : (vs l : List ℕ) (j i : ℕ) → j < i → getD (sets l i vs) j 0 ≡ getD l j 0
+getD-sets [] l j i h = refl
+getD-sets (v ∷ vs) l j i h = getD-sets vs (set l i v) j (suc i) (omega arith) ∙ getD-set-other l i j v 0 (λ e. omega arith)
+
+slice-sets : (vs l : List ℕ) (i : ℕ) → i + length vs ≤ length l → slice i (i + length vs) (sets l i vs) ≡ vs
+slice-sets vs l i h =
+    let a = length-take-le i l (omega arith) in
+    let b = length-append (take i l) vs in
+    rw (sets-eq vs l i h, take-at (take i l ++ vs) (drop (i + length vs) l) (i + length vs) (omega arith), drop-at (take i l) vs i a)
+
+module _ (log tags log′ tags′ : List ℕ) (used : ℕ) (c : Cells) (hl : length log ≡ 16384) (hl′ : length tags ≡ 16384) (fits : used + suc (length c) ≤ 16384) (v : ℕ) (hv : v ≡ length c)
+    (W : Written c (used + 1) (set log used v) tags log′ tags′) where
+  pub wrote-same : Same used log tags log′ tags′
+  wrote-same = record {
+    words-same = ap (take used) (W .words-are) ∙ take-sets (map word c) (set log used v) used (used + 1) (omega arith) ∙ take-set-le used log used v (le-refl used);
+    tags-same = ap (take used) (W .tags-are) ∙ take-sets (map class c) tags used (used + 1) (omega arith);
+  }
+
+  pub wrote-log : length log′ ≡ 16384
+  wrote-log = ap length (W .words-are) ∙ length-sets (set log used v) (used + 1) (map word c) ∙ length-set log used v ∙ hl
+
+  pub wrote-tags : length tags′ ≡ 16384
+  wrote-tags = ap length (W .tags-are) ∙ length-sets tags (used + 1) (map class c) ∙ hl′
+
+  pub wrote-head : getD log′ used 0 ≡ length c
+  wrote-head = ap (λ (l : List ℕ). getD l used 0) (W .words-are) ∙ getD-sets (map word c) (set log used v) used (used + 1) (omega arith) ∙ getD-set-same log used v 0 (omega arith) ∙ hv
+
+  pub wrote-rec : recAt log′ tags′ used ≡ c
+  unfolding recAt between
+  wrote-rec =
+      let a = length-map c word in
+      let b = length-map c class in
+      let l = length-set log used v in
+      let p : slice (suc used) (suc used + length (map word c)) (sets (set log used v) (suc used) (map word c)) ≡ map word c = slice-sets (map word c) (set log used v) (suc used) (omega arith) in
+      let q : slice (suc used) (suc used + length (map class c)) (sets tags (suc used) (map class c)) ≡ map class c = slice-sets (map class c) tags (suc used) (omega arith) in
+      let x : log′ ≡ sets (set log used v) (suc used) (map word c) = rw (add-one used) at (W .words-are) in
+      let y : tags′ ≡ sets tags (suc used) (map class c) = rw (add-one used) at (W .tags-are) in
+      rw (wrote-head) (ap₂ beside (rw (y, ← b) q) (rw (x, ← a) p) ∙ beside-cells c)
+
+-- ---- names, marks
+named-more : {m n : ℕ} → m ≤ n → {cs : Cells} → Named m cs → Named n cs
+named-more h = each-map (λ c f e. let g = f e in omega arith)
+
+-- marks that stand, of a record and of one that equals it
+pub marks-refl : (marks : List ℕ) → length marks ≡ MARKS → Marks marks marks
+marks-refl marks h = record { marks-long = h; others = λ p g u. u }
+
+pub marks-then : (a b c : List ℕ) → Marks a b → Marks b c → Marks a c
+marks-then a b c x y = record { marks-long = y .marks-long; others = λ p g u. y .others p g (x .others p g u) }
+
+hash-alike : (t : ℕ) (a b : Cells) → bare a ≡ bare b → hashR t a ≡ hashR t b
+unfolding hashR
+hash-alike t a b e = ap (λ (cs : Cells). mixed (map word cs) t) e
+
+-- one whose mark does not stand is none of them
+pub unmarked-new : (marks : List ℕ) (t : ℕ) (ds : List Cells) (c : Cells) → ((k : ℕ) → k < length ds → Marked marks t (getD ds k [])) → stands marks (hashR t c % MARKS) (hashR t c) ≡ false → seat ds c ≡ length ds
+unfolding seat
+unmarked-new marks t [] c m h = refl
+unmarked-new marks t (d ∷ ds) c m h = go (alike d c) refl (unmarked-new marks t ds c (λ k l. m (suc k) (omega arith)) h)
+  where
+    go : (b : Bool) → alike d c ≡ b → seat ds c ≡ length ds → elim b [ true ↦ 0 | false ↦ suc (seat ds c) ] ≡ suc (length ds)
+    go true e r = let q = hash-alike t d c (alike-is d c e) in absurd (false≢true (sym h ∙ rw q at (m 0 (omega arith))))
+    go false e r = ap suc r
+
+pub pairs-long : (ws : List ℕ) (n i : ℕ) → length (pairsAt ws i n) ≡ n
+unfolding pairsAt
+pairs-long ws zero i = refl
+pairs-long ws (suc n) i = ap suc (pairs-long ws n (2 + i))
+
+-- ---- a kept state
+module _ (log tags : List ℕ) (starts maps : List (List ℕ)) (marks : List ℕ) (e : Ends) (K : Kept log tags starts maps marks e) where
+  pub table-long : (t : ℕ) → t < 8 → length (tableOf log tags starts (e .counts) t) ≡ getD (e .counts) t 0
+  table-long t ht =
+      let r = K .rows t ht in
+      let f = K .few t ht in
+      recs-long log tags (take (getD (e .counts) t 0) (row starts t)) ∙ length-take-le (getD (e .counts) t 0) (row starts t) (omega arith)
+
+  recs-at : (ss : List ℕ) (k : ℕ) → k < length ss → getD (recsAt log tags ss) k [] ≡ recAt log tags (getD ss k 0)
+  unfolding recsAt
+  recs-at [] k h = absurd (omega arith)
+  recs-at (s ∷ ss) zero h = refl
+  recs-at (s ∷ ss) (suc k) h = recs-at ss k (omega arith)
+
+  pub table-at : (t k : ℕ) → t < 8 → k < getD (e .counts) t 0 → getD (tableOf log tags starts (e .counts) t) k [] ≡ recAt log tags (cell starts t k)
+  table-at t k ht hk =
+      let r = K .rows t ht in
+      let f = K .few t ht in
+      let l = length-take-le (getD (e .counts) t 0) (row starts t) (omega arith) in
+      recs-at (take (getD (e .counts) t 0) (row starts t)) k (omega arith) ∙ rw (getD-take (getD (e .counts) t 0) (row starts t) k 0 hk)
+
+  module _ (t : ℕ) (ht : t < 6) where
+    pub tab-is : at (tabOf t) (recsOf log tags starts (e .counts)) ≡ tableOf log tags starts (e .counts) t
+    unfolding recsOf
+    tab-is = at-six (tabOf t) (λ t. tableOf log tags starts (e .counts) (codeT t)) ∙ rw (code-tab t ht)
+
+    pub tab-long : length (at (tabOf t) (recsOf log tags starts (e .counts))) ≡ getD (e .counts) t 0
+    tab-long = ap length tab-is ∙ table-long t (omega arith)
+
+    pub tab-new : (c : Cells) → stands marks (hashR t c % MARKS) (hashR t c) ≡ false → getD (e .counts) t 0 ≡ seat (tableOf log tags starts (e .counts) t) c
+    tab-new c h =
+        let l = table-long t (omega arith) in
+        sym (unmarked-new marks t (tableOf log tags starts (e .counts) t) c (λ k q. rw (table-at t k (omega arith) (omega arith)) (K .marked t k ht (omega arith))) h ∙ l)
+
+    -- its mark is left, and only where it may have been there the table is searched
+    module _ (c : Cells) (h : ℕ) (hh : h ≡ hashR t c) (marks′ : List ℕ) (b : Bool) (L : Leaves marks (h % MARKS) h marks′ b) where
+      left-marks : Marks marks marks′
+      left-marks = record { marks-long = L .long ∙ K .marks-long; others = L .others }
+
+      pub sought-old : (r : ℕ) → r ≡ seat (tableOf log tags starts (e .counts) t) c → Sought (tableOf log tags starts (e .counts) t) t c marks marks′ r
+      sought-old r q = record { is = q; own = rw (← hh) (L .own); stay = left-marks }
+
+      pub sought-new : b ≡ true → Sought (tableOf log tags starts (e .counts) t) t c marks marks′ (getD (e .counts) t 0)
+      sought-new q = sought-old (getD (e .counts) t 0) (tab-new c (rw (← hh) (not-true (stands marks (h % MARKS) h) (sym (L .answer) ∙ q))))
+
+  -- the words of the rows are those of the tables, functions and entry points
+  pub sizes-are : sizesOf log tags starts (e .counts) 8 ≡ sizeS (recsOf log tags starts (e .counts)) + (sizeR (tableOf log tags starts (e .counts) 6) + sizeR (tableOf log tags starts (e .counts) 7))
+  unfolding sizesOf sizeS recsOf six codeT
+  sizes-are = omega arith
+
+  pub words-are : (words special : List ℕ) → wordsOf (stOf words log tags starts maps special e) + sizeR (tableOf log tags starts (e .counts) 7) ≡ 23 + 2 * e .pairs + e .used
+  unfolding wordsOf stOf specialOf
+  words-are words special =
+      let p = pairs-long special (e .pairs) 3 in
+      let s = sizes-are in
+      let f = ap sizeR (K .flats) in
+      let u = K .size in
+      omega arith
+
+-- ---- what lies behind the end is free
+module _ (log tags log′ tags′ : List ℕ) (starts maps : List (List ℕ)) (marks marks′ : List ℕ) (e : Ends) (K : Kept log tags starts maps marks e) (F : Same (e .used) log tags log′ tags′) (hl : length log′ ≡ 16384) (hl′ : length tags′ ≡ 16384) (M : Marks marks marks′) where
+  pub table-stays : (u : ℕ) → u < 8 → tableOf log′ tags′ starts (e .counts) u ≡ tableOf log tags starts (e .counts) u
+  table-stays u hu = recs-same (e .used) log tags log′ tags′ F (take (getD (e .counts) u 0) (row starts u))
+      (λ k l. rw (getD-take (getD (e .counts) u 0) (row starts u) k 0 (short (getD (e .counts) u 0) (row starts u) k l)) (K .within u k hu (short (getD (e .counts) u 0) (row starts u) k l)))
+
+  rec-stays : (t k : ℕ) → t < 8 → k < getD (e .counts) t 0 → recAt log′ tags′ (cell starts t k) ≡ recAt log tags (cell starts t k)
+  rec-stays t k ht hk = rec-same (e .used) log tags log′ tags′ F (cell starts t k) (K .within t k ht hk)
+
+  recs-stay : recsOf log′ tags′ starts (e .counts) ≡ recsOf log tags starts (e .counts)
+  unfolding recsOf
+  recs-stay = six-ext _ _ (λ u. at-six u (λ t. tableOf log′ tags′ starts (e .counts) (codeT t)) ∙ table-stays (codeT u) (omega (arith, code-low u)) ∙ sym (at-six u (λ t. tableOf log tags starts (e .counts) (codeT t))))
+
+  sizes-stay : (m : ℕ) → m ≤ 8 → sizesOf log′ tags′ starts (e .counts) m ≡ sizesOf log tags starts (e .counts) m
+  unfolding sizesOf
+  sizes-stay zero h = refl
+  sizes-stay (suc m) h = ap₂ _+_ (sizes-stay m (omega arith)) (ap sizeR (table-stays m (omega arith)))
+
+  pub st-stays : (words special : List ℕ) → stOf words log′ tags′ starts maps special e ≡ stOf words log tags starts maps special e
+  unfolding stOf functionsOf
+  st-stays words special = rw (recs-stay, table-stays 6 (omega arith))
+
+  pub kept-stays : Kept log′ tags′ starts maps marks′ e
+  unfolding functionsOf entriesOf
+  kept-stays = record {
+    room = K .room;
+    few = K .few;
+    few-functions = K .few-functions;
+    few-entries = K .few-entries;
+    few-pairs = K .few-pairs;
+    log-long = hl;
+    tags-long = hl′;
+    marks-long = M .marks-long;
+    starts-eight = K .starts-eight;
+    maps-six = K .maps-six;
+    counts-eight = K .counts-eight;
+    rows = K .rows;
+    rows′ = K .rows′;
+    within = λ t k ht hk. let w = K .within t k ht hk in rw (get-same (e .used) log tags log′ tags′ F (cell starts t k) (omega arith)) w;
+    size = sizes-stay 8 (omega arith) ∙ K .size;
+    flats = rw (table-stays 6 (omega arith)) (K .flats);
+    flats′ = rw (table-stays 7 (omega arith)) (K .flats′);
+    named = λ t k ht hk. rw (rec-stays t k ht hk) (K .named t k ht hk);
+    plain = λ k hk. rw (rec-stays 0 k (omega arith) hk) (K .plain k hk);
+    mapped = K .mapped;
+    marked = λ t k ht hk. rw (rec-stays t k (omega arith) hk) (M .others _ _ (K .marked t k ht hk));
+  }
+
+-- ---- one number is mapped to a record
+pub kept-point : (log tags : List ℕ) (starts maps : List (List ℕ)) (marks : List ℕ) (e : Ends) → Kept log tags starts maps marks e → (t i v : ℕ) → t < 6 → i < 512 → v ≤ getD (e .counts) t 0 → Kept log tags starts (put maps t i v) marks e
+kept-point log tags starts maps marks e K t i v ht hi hv =
+    let a = K .maps-six in
+    record {
+      room = K .room;
+      few = K .few;
+      few-functions = K .few-functions;
+      few-entries = K .few-entries;
+      few-pairs = K .few-pairs;
+      log-long = K .log-long;
+      tags-long = K .tags-long;
+      marks-long = K .marks-long;
+      starts-eight = K .starts-eight;
+      maps-six = length-set maps t _ ∙ K .maps-six;
+      counts-eight = K .counts-eight;
+      rows = K .rows;
+      rows′ = λ u hu. put-row maps t u i v (omega arith) ∙ K .rows′ u hu;
+      within = K .within;
+      size = K .size;
+      flats = K .flats;
+      flats′ = K .flats′;
+      named = K .named;
+      plain = K .plain;
+      mapped = point;
+      marked = K .marked;
+    }
+  where
+    point : (u k : ℕ) → u < 6 → cell (put maps t i v) u k ≤ getD (e .counts) u 0
+    point u k hu =
+        let a = K .maps-six in
+        let r = K .rows′ t ht in
+        ⊎-elim
+        (λ (q : u ≡ t). ⊎-elim
+        (λ (ki : k ≡ i). rw (q, ki, cell-same maps t i v (omega arith) (omega arith)) hv)
+        (λ (ne : k ≡ i → ⊥). rw (q, cell-column maps t i k v (omega arith) ne) (K .mapped t k ht))
+        (same-or k i))
+        (λ (ne : u ≡ t → ⊥). rw (row-other maps t u i v ne) (K .mapped u k hu))
+        (same-or u t)
+
+-- ---- one record more, in any row
+-- what a record has to be to stand in row t
+pub record Joins (t n names : ℕ) (c : Cells) (marks : List ℕ) : Type 0 where
+  pub few : n < 512
+  pub few-functions : t ≡ 6 → n < 256
+  pub few-entries : t ≡ 7 → n < 16
+  pub named : Named names c
+  pub plain : t ≡ 0 → Nameless c
+  pub marked : t < 6 → Marked marks t c
+  pub flats : t ≡ 6 → flat (functionOf c) ≡ c
+  pub flats′ : t ≡ 7 → flatEntry (entryOf c) ≡ c
+
+map-append : {A B : Type 0} (f : A → B) (xs : List A) (x : A) → map f (xs ++ (x ∷ [])) ≡ map f xs ++ (f x ∷ [])
+map-append f [] x = refl
+map-append f (y ∷ ys) x = ap (f y ∷_) (map-append f ys x)
+
+module _ (log tags log′ tags′ : List ℕ) (starts maps : List (List ℕ)) (marks marks′ : List ℕ) (e : Ends) (K : Kept log tags starts maps marks e) (F : Same (e .used) log tags log′ tags′) (hl : length log′ ≡ 16384) (hl′ : length tags′ ≡ 16384) (M : Marks marks marks′)
+    (t : ℕ) (ht : t < 8) (c : Cells) (rec : recAt log′ tags′ (e .used) ≡ c) (head : getD log′ (e .used) 0 ≡ length c) (fits : 23 + 2 * e .pairs + (e .used + suc (length c)) ≤ 16384) (few : getD (e .counts) t 0 < 512) where
+  abbrev n : ℕ
+  n = getD (e .counts) t 0
+
+  abbrev starts⁺ : List (List ℕ)
+  starts⁺ = put starts t (getD (e .counts) t 0) (e .used)
+
+  abbrev counts⁺ : List ℕ
+  counts⁺ = set (e .counts) t (getD (e .counts) t 0 + 1)
+
+  abbrev E : Ends
+  E = record { full = false; used = e .used + suc (length c); counts = set (e .counts) t (getD (e .counts) t 0 + 1); pairs = e .pairs; et = e .et; bt = e .bt }
+
+  stays : (u : ℕ) → u < 8 → tableOf log′ tags′ starts (e .counts) u ≡ tableOf log tags starts (e .counts) u
+  stays u hu = table-stays log tags log′ tags′ starts maps marks marks′ e K F hl hl′ M u hu
+
+  pub table-more : tableOf log′ tags′ starts⁺ counts⁺ t ≡ tableOf log tags starts (e .counts) t ++ (c ∷ [])
+  table-more =
+      let a = K .starts-eight in
+      let b = K .counts-eight in
+      let r = K .rows t ht in
+      rw (getD-set-same (e .counts) t (n + 1) 0 (omega arith), getD-set-same starts t (set (getD starts t []) n (e .used)) [] (omega arith), add-one n, take-suc-set (getD starts t []) n (e .used) (omega arith), recs-append log′ tags′ (take n (row starts t)) (e .used), rec, stays t ht)
+
+  pub table-same : (u : ℕ) → u < 8 → (u ≡ t → ⊥) → tableOf log′ tags′ starts⁺ counts⁺ u ≡ tableOf log tags starts (e .counts) u
+  table-same u hu ne = rw (getD-set-other (e .counts) t u (n + 1) 0 ne, row-other starts t u n (e .used) ne, stays u hu)
+
+  pub recs-are : t < 6 → upd (tabOf t) (at (tabOf t) (recsOf log tags starts (e .counts)) ++ (c ∷ [])) (recsOf log tags starts (e .counts)) ≡ recsOf log′ tags′ starts⁺ counts⁺
+  unfolding recsOf
+  recs-are h6 = six-ext _ _ (λ u. go u (Tab-dec (tabOf t) u))
+    where
+      T : Tables
+      T = recsOf log tags starts (e .counts)
+
+      old : Tab → List Cells
+      old u = tableOf log tags starts (e .counts) (codeT u)
+
+      new : Tab → List Cells
+      new u = tableOf log′ tags′ starts⁺ counts⁺ (codeT u)
+
+      here : tableOf log tags starts (e .counts) t ++ (c ∷ []) ≡ tableOf log′ tags′ starts⁺ counts⁺ (codeT (tabOf t))
+      here = rw (code-tab t h6) (sym table-more)
+
+      go : (u : Tab) → Dec (tabOf t ≡ u) → at u (upd (tabOf t) (at (tabOf t) (recsOf log tags starts (e .counts)) ++ (c ∷ [])) (recsOf log tags starts (e .counts))) ≡ at u (six (λ u. tableOf log′ tags′ starts⁺ counts⁺ (codeT u)))
+      go u (yes p) = rw (← p, at-same (tabOf t) (at (tabOf t) (recsOf log tags starts (e .counts)) ++ (c ∷ [])) (recsOf log tags starts (e .counts)), at-six (tabOf t) (λ u. tableOf log′ tags′ starts⁺ counts⁺ (codeT u)), tab-is log tags starts maps marks e K t h6) here
+      go u (no ne) = at-other (tabOf t) u (at (tabOf t) (recsOf log tags starts (e .counts)) ++ (c ∷ [])) (recsOf log tags starts (e .counts)) ne ∙ at-six u (λ t. tableOf log tags starts (e .counts) (codeT t)) ∙ sym (at-six u (λ u. tableOf log′ tags′ starts⁺ counts⁺ (codeT u)) ∙ table-same (codeT u) (omega (arith, code-low u)) (code-other t u ne))
+
+  sizes-same : (m : ℕ) → m ≤ t → sizesOf log′ tags′ starts⁺ counts⁺ m ≡ sizesOf log tags starts (e .counts) m
+  unfolding sizesOf
+  sizes-same zero h = refl
+  sizes-same (suc m) h = ap₂ _+_ (sizes-same m (omega arith)) (ap sizeR (table-same m (omega arith) (λ q. omega arith)))
+
+  sizes-more : (m : ℕ) → t < m → m ≤ 8 → sizesOf log′ tags′ starts⁺ counts⁺ m ≡ sizesOf log tags starts (e .counts) m + suc (length c)
+  unfolding sizesOf
+  sizes-more zero h l = absurd (omega arith)
+  sizes-more (suc m) h l = ⊎-elim
+      (λ (q : m ≡ t). let a = sizes-same t (omega arith) in let b = ap sizeR table-more ∙ sizeR-append (tableOf log tags starts (e .counts) t) c in rw q (omega arith))
+      (λ (ne : m ≡ t → ⊥). let a = sizes-more m (omega arith) (omega arith) in let b = ap sizeR (table-same m (omega arith) ne) in omega arith)
+      (same-or m t)
+
+  module _ (J : Joins t (getD (e .counts) t 0) (getD (e .counts) 0 0) c marks′) where
+    count-up : (u : ℕ) → u < 8 → getD (e .counts) u 0 ≤ getD counts⁺ u 0
+    count-up u hu =
+        let b = K .counts-eight in
+        ⊎-elim (λ (q : u ≡ t). rw (q, getD-set-same (e .counts) t (n + 1) 0 (omega arith)) (omega arith)) (λ (ne : u ≡ t → ⊥). rw (getD-set-other (e .counts) t u (n + 1) 0 ne) (le-refl _)) (same-or u t)
+
+    -- below a bound
+    count-low : (u m : ℕ) → u < 8 → (u ≡ t → n < m) → getD (e .counts) u 0 ≤ m → getD counts⁺ u 0 ≤ m
+    count-low u m hu h l =
+        let b = K .counts-eight in
+        ⊎-elim (λ (q : u ≡ t). let z = h q in rw (q, getD-set-same (e .counts) t (n + 1) 0 (omega arith)) (omega arith)) (λ (ne : u ≡ t → ⊥). rw (getD-set-other (e .counts) t u (n + 1) 0 ne) l) (same-or u t)
+
+    -- of each record: an old one, or the new one
+    each-rec : (P : ℕ → ℕ → ℕ → Type 0) → ((u k : ℕ) → u < 8 → k < getD (e .counts) u 0 → P u k (cell starts u k)) → P t n (e .used) → (u k : ℕ) → u < 8 → k < getD counts⁺ u 0 → P u k (cell starts⁺ u k)
+    each-rec P old new u k hu hk =
+        let a = K .starts-eight in
+        let b = K .counts-eight in
+        let r = K .rows t ht in
+        ⊎-elim
+        (λ (q : u ≡ t). let hk′ : k < n + 1 = rw (q, getD-set-same (e .counts) t (n + 1) 0 (omega arith)) at hk in
+        ⊎-elim
+        (λ (kn : k ≡ n). rw (q, kn, cell-same starts t n (e .used) (omega arith) (omega arith)) new)
+        (λ (ne : k ≡ n → ⊥). rw (q, cell-column starts t n k (e .used) (omega arith) ne) (old t k ht (omega arith)))
+        (same-or k n))
+        (λ (ne : u ≡ t → ⊥). rw (row-other starts t u n (e .used) ne) (old u k hu (rw (getD-set-other (e .counts) t u (n + 1) 0 ne) at hk)))
+        (same-or u t)
+
+    rec-old : (u k : ℕ) → u < 8 → k < getD (e .counts) u 0 → recAt log′ tags′ (cell starts u k) ≡ recAt log tags (cell starts u k)
+    rec-old u k hu hk = rec-same (e .used) log tags log′ tags′ F (cell starts u k) (K .within u k hu hk)
+
+    flats-new : map flat (map functionOf (tableOf log′ tags′ starts⁺ counts⁺ 6)) ≡ tableOf log′ tags′ starts⁺ counts⁺ 6
+    unfolding functionsOf
+    flats-new = ⊎-elim
+        (λ (q : 6 ≡ t). rw (q, table-more, map-append functionOf (tableOf log tags starts (e .counts) t) c, map-append flat (map functionOf (tableOf log tags starts (e .counts) t)) (functionOf c), J .flats (sym q)) (rw (← q) (ap (λ (l : List Cells). l ++ (c ∷ [])) (K .flats))))
+        (λ (ne : 6 ≡ t → ⊥). rw (table-same 6 (omega arith) ne) (K .flats))
+        (same-or 6 t)
+
+    flats-new′ : map flatEntry (map entryOf (tableOf log′ tags′ starts⁺ counts⁺ 7)) ≡ tableOf log′ tags′ starts⁺ counts⁺ 7
+    unfolding entriesOf
+    flats-new′ = ⊎-elim
+        (λ (q : 7 ≡ t). rw (q, table-more, map-append entryOf (tableOf log tags starts (e .counts) t) c, map-append flatEntry (map entryOf (tableOf log tags starts (e .counts) t)) (entryOf c), J .flats′ (sym q)) (rw (← q) (ap (λ (l : List Cells). l ++ (c ∷ [])) (K .flats′))))
+        (λ (ne : 7 ≡ t → ⊥). rw (table-same 7 (omega arith) ne) (K .flats′))
+        (same-or 7 t)
+
+    pub kept-more : Kept log′ tags′ starts⁺ maps marks′ E
+    unfolding functionsOf entriesOf
+    kept-more =
+        let a = K .starts-eight in
+        let s = K .size in
+        let z = sizes-more 8 ht (omega arith) in
+        record {
+          room = fits;
+          few = λ u hu. count-low u 512 hu (λ q. J .few) (K .few u hu);
+          few-functions = count-low 6 256 (omega arith) (λ q. J .few-functions (sym q)) (K .few-functions);
+          few-entries = count-low 7 16 (omega arith) (λ q. J .few-entries (sym q)) (K .few-entries);
+          few-pairs = K .few-pairs;
+          log-long = hl;
+          tags-long = hl′;
+          marks-long = M .marks-long;
+          starts-eight = length-set starts t _ ∙ K .starts-eight;
+          maps-six = K .maps-six;
+          counts-eight = length-set (e .counts) t _ ∙ K .counts-eight;
+          rows = λ u hu. put-row starts t u n (e .used) (omega arith) ∙ K .rows u hu;
+          rows′ = K .rows′;
+          within = each-rec (λ u k s. s + suc (getD log′ s 0) ≤ e .used + suc (length c)) (λ u k hu hk. let w = K .within u k hu hk in let g = get-same (e .used) log tags log′ tags′ F (cell starts u k) (omega arith) in omega arith) (omega arith);
+          size = z ∙ rw s refl;
+          flats = flats-new;
+          flats′ = flats-new′;
+          named = each-rec (λ u k s. Named (getD counts⁺ 0 0) (recAt log′ tags′ s)) (λ u k hu hk. rw (rec-old u k hu hk) (named-more (count-up 0 (omega arith)) (K .named u k hu hk))) (rw rec (named-more (count-up 0 (omega arith)) (J .named)));
+          plain = λ k hk. each-rec (λ u k s. u ≡ 0 → Nameless (recAt log′ tags′ s)) (λ u k hu hk q. rw (rec-old u k hu hk, q) (K .plain k (rw q at hk))) (λ q. rw rec (J .plain q)) 0 k (omega arith) hk refl;
+          mapped = λ u k hu. let m = K .mapped u k hu in let g = count-up u (omega arith) in omega arith;
+          marked = λ u k hu hk. each-rec (λ u k s. u < 6 → Marked marks′ u (recAt log′ tags′ s)) (λ u k hu hk h6. rw (rec-old u k hu hk) (M .others _ _ (K .marked u k h6 hk))) (λ h6. rw rec (J .marked h6)) u k (omega arith) hk hu;
+        }
+
+-- ---- what a record becomes has the names that were mapped
+by-name : (maps : List (List ℕ)) (n : ℕ) → ((k : ℕ) → cell maps 0 k ≤ n) → (w : ℕ) → through (wentR maps) NAME w ≤ n
+unfolding through target targets carryW wentR codeP codeT
+by-name maps n h zero = omega arith
+by-name maps n h (suc w) = h w
+
+carried-named : (maps : List (List ℕ)) (n : ℕ) → ((k : ℕ) → cell maps 0 k ≤ n) → (cs : Cells) → Named n (carryCells (through (wentR maps)) cs)
+unfolding carryCell
+carried-named maps n h [] = each-none
+carried-named maps n h ((s, w) ∷ cs) = each-next one (carried-named maps n h cs)
+  where
+    one : s ≡ NAME → through (wentR maps) s w ≤ n
+    one e = rw e (by-name maps n h w)
+
+moved-name : (w o : ℕ) (u : Bool) → moved (target NAME) w o u ≡ w
+unfolding moved target targets
+moved-name w o u = refl
+
+shift-named : (n : ℕ) {cs : Cells} → Named n cs → (o : ℕ) (u : Bool) → Named n (shift cs o u)
+unfolding shift
+shift-named n each-none o u = each-none
+shift-named n (each-next {a = c} {l = cs} f q) o u =
+    each-next {a = (class c, moved (target (class c)) (word c) o (undefinedAt (target (class c)) (word c) (firstWord cs) u))} (λ e. rw (e, moved-name (word c) o (undefinedAt (target NAME) (word c) (firstWord cs) u)) (f e)) (shift-named n q o (undefinedAt (target (class c)) (word c) (firstWord cs) u))
+
+shift-nameless : {cs : Cells} → Nameless cs → (o : ℕ) (u : Bool) → Nameless (shift cs o u)
+unfolding shift
+shift-nameless each-none o u = each-none
+shift-nameless (each-next {a = c} {l = cs} f q) o u = each-next f (shift-nameless q o (undefinedAt (target (class c)) (word c) (firstWord cs) u))
+
+carried-nameless : (m : ℕ → ℕ → ℕ) {cs : Cells} → Nameless cs → Nameless (carryCells m cs)
+unfolding carryCell
+carried-nameless m each-none = each-none
+carried-nameless m (each-next f q) = each-next f (carried-nameless m q)
+
+hash-shift : (t : ℕ) (c : Cells) (o : ℕ) (u : Bool) → hashR t (shift c o u) ≡ hashR t c
+hash-shift t c o u = hash-alike t (shift c o u) c (bare-shift c o u)
+
+-- ---- settling
+module _ (words tags₀ log tags : List ℕ) (starts maps : List (List ℕ)) (marks marks′ : List ℕ) (e : Ends) (nf : e .full ≡ false) (K : Kept log tags starts maps marks e) (t k at₀ end o : ℕ) (ht : t < 6) (hk : k < countAt t words) (hk′ : k < 512) (st : Stretch words tags₀ at₀ end)
+    (pl : t ≡ 0 → Nameless (between tags₀ words at₀ end)) (j : ℕ) (So : Sought (tableOf log tags starts (e .counts) t) t (carriedBy (wentR maps) tags₀ words at₀ end) marks marks′ j) where
+  abbrev C : Cells
+  C = shift (carriedBy (wentR maps) tags₀ words at₀ end) o false
+
+  abbrev T : Tables
+  T = recsOf log tags starts (e .counts)
+
+  abbrev S : List ℕ → St
+  S special = stOf words log tags starts maps special e
+
+  pub c-long : length C ≡ end - at₀
+  unfolding carriedBy
+  c-long =
+      length-shift (carriedBy (wentR maps) tags₀ words at₀ end) o false ∙ length-carry (through (wentR maps)) (between tags₀ words at₀ end) ∙ length-between tags₀ words at₀ end (st .in-tags) (st .in-words)
+
+  seat-is : seat (at (tabOf t) (recsOf log tags starts (e .counts))) C ≡ j
+  seat-is = seat-shift (at (tabOf t) (recsOf log tags starts (e .counts))) (carriedBy (wentR maps) tags₀ words at₀ end) o false ∙ rw (tab-is log tags starts maps marks e K t ht) (sym (So .is))
+
+  kept-marks : Kept log tags starts maps marks′ e
+  kept-marks = kept-stays log tags log tags starts maps marks marks′ e K (same-refl (e .used) log tags) (K .log-long) (K .tags-long) (So .stay)
+
+  same-beside : Beside starts starts e e
+  same-beside = record { functions-same = (refl, refl); entries-same = (refl, refl); pairs-same = refl; tops-same = (refl, refl) }
+
+  pub settle-old : j < getD (e .counts) t 0 → Lands words (settle (tabOf t) k C) log tags starts maps marks e e log tags starts (put maps t k (j + 1)) marks′
+  unfolding settle stOf
+  settle-old h =
+      let l = tab-long log tags starts maps marks e K t ht in
+      let s = seat-is in
+      let m = merged-old (at (tabOf t) (recsOf log tags starts (e .counts))) C (omega arith) in
+      record {
+        over = λ q. absurd (false≢true (sym nf ∙ q));
+        is = λ q special. st-is (rw m (upd-at (tabOf t) (recsOf log tags starts (e .counts)))) (rw (s, ← add-one j) (maps-put words maps t k (j + 1) ht (K .maps-six) hk));
+        kept = λ q. kept-point log tags starts maps marks′ e kept-marks t k (j + 1) ht hk′ (omega arith);
+        beside = λ q. same-beside;
+        more = λ q. le-refl _;
+        below = same-refl (e .used) log tags;
+        log-long = K .log-long;
+        tags-long = K .tags-long;
+        marks-stay = So .stay;
+      }
+    where
+      st-is : {R R′ : Tables} {M M′ : Maps} {fs : List Function} {sp : Special} → R ≡ R′ → M ≡ M′ → _≡_ {A = St} (record { recs = R; maps = M; functions = fs; special = sp }) (record { recs = R′; maps = M′; functions = fs; special = sp })
+      st-is {fs} {sp} a b = ap₂ (λ (r : Tables) (m : Maps). record { recs = r; maps = m; functions = fs; special = sp }) a b
+
+  module _ (h : getD (e .counts) t 0 ≤ j) where
+    new-is : merged (at (tabOf t) (recsOf log tags starts (e .counts))) C ≡ at (tabOf t) (recsOf log tags starts (e .counts)) ++ (C ∷ [])
+    new-is = let l = tab-long log tags starts maps marks e K t ht in let s = seat-is in merged-new (at (tabOf t) (recsOf log tags starts (e .counts))) C (omega arith)
+
+    full-lands : (r : Ends) → r .full ≡ true → ((special : List ℕ) → Over (sizeR (tableOf log tags starts (e .counts) 7)) (settle (tabOf t) k C (S special))) → Lands words (settle (tabOf t) k C) log tags starts maps marks e r log tags starts maps marks′
+    full-lands r q x = record { over = λ _. x; is = λ z. absurd (false≢true (sym z ∙ q)); kept = λ z. absurd (false≢true (sym z ∙ q)); beside = λ z. absurd (false≢true (sym z ∙ q)); more = λ z. absurd (false≢true (sym z ∙ q)); below = same-refl (e .used) log tags; log-long = K .log-long; tags-long = K .tags-long; marks-stay = So .stay }
+
+    pub settle-many : getD (e .counts) t 0 ≡ 512 → (r : Ends) → r .full ≡ true → Lands words (settle (tabOf t) k C) log tags starts maps marks e r log tags starts maps marks′
+    unfolding settle stOf count
+    settle-many q r f =
+        let l = tab-long log tags starts maps marks e K t ht in
+        full-lands r f
+        (λ special. many (tabOf t)
+        (rw (at-same (tabOf t) (merged (at (tabOf t) (recsOf log tags starts (e .counts))) C) (recsOf log tags starts (e .counts)), new-is, length-append (at (tabOf t) (recsOf log tags starts (e .counts))) (C ∷ [])) (omega arith)))
+
+    pub settle-long : (room : ℕ) → room + (23 + 2 * e .pairs + e .used) ≡ 16384 → room < 1 + (end - at₀) → (r : Ends) → r .full ≡ true → Lands words (settle (tabOf t) k C) log tags starts maps marks e r log tags starts maps marks′
+    unfolding settle stOf wordsOf
+    settle-long room hr q r f =
+        let c = c-long in
+        full-lands r f (λ special.
+        let w = words-are log tags starts maps marks e K words special in
+        long (rw (new-is, size-append (tabOf t) C (recsOf log tags starts (e .counts))) (omega arith)))
+
+    module _ (ne : getD (e .counts) t 0 ≡ 512 → ⊥) (room : ℕ) (hr : room + (23 + 2 * e .pairs + e .used) ≡ 16384) (q : 1 + (end - at₀) ≤ room) (log′ tags′ : List ℕ) (W : Written C (e .used + 1) (set log (e .used) (end - at₀)) tags log′ tags′) where
+      fits : 23 + 2 * e .pairs + (e .used + suc (length C)) ≤ 16384
+      fits = let c = c-long in omega arith
+
+      wf : e .used + suc (length C) ≤ 16384
+      wf = let z = fits in omega arith
+
+      F : Same (e .used) log tags log′ tags′
+      F = wrote-same log tags log′ tags′ (e .used) C (K .log-long) (K .tags-long) wf (end - at₀) (sym c-long) W
+
+      g : length log′ ≡ 16384
+      g = wrote-log log tags log′ tags′ (e .used) C (K .log-long) (K .tags-long) wf (end - at₀) (sym c-long) W
+
+      g′ : length tags′ ≡ 16384
+      g′ = wrote-tags log tags log′ tags′ (e .used) C (K .log-long) (K .tags-long) wf (end - at₀) (sym c-long) W
+
+      rc : recAt log′ tags′ (e .used) ≡ C
+      rc = wrote-rec log tags log′ tags′ (e .used) C (K .log-long) (K .tags-long) wf (end - at₀) (sym c-long) W
+
+      hd : getD log′ (e .used) 0 ≡ length C
+      hd = wrote-head log tags log′ tags′ (e .used) C (K .log-long) (K .tags-long) wf (end - at₀) (sym c-long) W
+
+      few : getD (e .counts) t 0 < 512
+      few = let f = K .few t (omega arith) in omega arith
+
+      joins : Joins t (getD (e .counts) t 0) (getD (e .counts) 0 0) C marks′
+      unfolding carriedBy
+      joins = record {
+        few = few;
+        few-functions = λ x. absurd (omega arith);
+        few-entries = λ x. absurd (omega arith);
+        named = shift-named _ (carried-named maps (getD (e .counts) 0 0) (λ k. K .mapped 0 k (omega arith)) (between tags₀ words at₀ end)) o false;
+        plain = λ x. shift-nameless (carried-nameless (through (wentR maps)) (pl x)) o false;
+        marked = λ x. rw (hash-shift t (carriedBy (wentR maps) tags₀ words at₀ end) o false) (So .own);
+        flats = λ x. absurd (omega arith);
+        flats′ = λ x. absurd (omega arith);
+      }
+
+      pub settle-new : (r : Ends) → r ≡ record { full = false; used = e .used + (1 + (end - at₀)); counts = set (e .counts) t (getD (e .counts) t 0 + 1); pairs = e .pairs; et = e .et; bt = e .bt }
+          → Lands words (settle (tabOf t) k C) log tags starts maps marks e r log′ tags′ (put starts t (getD (e .counts) t 0) (e .used)) (put maps t k (getD (e .counts) t 0 + 1)) marks′
+      unfolding settle stOf functionsOf
+      settle-new r er =
+          let c = c-long in
+          let l = tab-long log tags starts maps marks e K t ht in
+          let sl = seat-low (at (tabOf t) (recsOf log tags starts (e .counts))) C in
+          let s = seat-is in
+          let x : 1 + (end - at₀) ≡ suc (length C) = omega arith in
+          let jn : j ≡ getD (e .counts) t 0 = omega arith in
+          let b = K .counts-eight in
+          let ce = getD-set-same (e .counts) t (getD (e .counts) t 0 + 1) 0 (omega arith) in
+          let er′ : r ≡ record { full = false; used = e .used + suc (length C); counts = set (e .counts) t (getD (e .counts) t 0 + 1); pairs = e .pairs; et = e .et; bt = e .bt } = rw x at er in
+          rw er′
+          (record {
+            over = λ y. absurd (false≢true y);
+            is = λ y special. st-is (rw new-is (recs-are log tags log′ tags′ starts maps marks marks′ e K F g g′ (So .stay) t (omega arith) C rc hd fits few ht)) (rw (s, jn, ← add-one (getD (e .counts) t 0)) (maps-put words maps t k (getD (e .counts) t 0 + 1) ht (K .maps-six) hk)) (ap (map functionOf) (sym (table-same log tags log′ tags′ starts maps marks marks′ e K F g g′ (So .stay) t (omega arith) C rc hd fits few 6 (omega arith) (λ z. omega arith))));
+            kept = λ y. kept-point log′ tags′ (put starts t (getD (e .counts) t 0) (e .used)) maps marks′ _ (kept-more log tags log′ tags′ starts maps marks marks′ e K F g g′ (So .stay) t (omega arith) C rc hd fits few joins) t k (getD (e .counts) t 0 + 1) ht hk′ (rw ce (le-refl _));
+            beside = λ y. record {
+              functions-same = (row-other starts t 6 (getD (e .counts) t 0) (e .used) (λ z. omega arith), getD-set-other (e .counts) t 6 (getD (e .counts) t 0 + 1) 0 (λ z. omega arith));
+              entries-same = (row-other starts t 7 (getD (e .counts) t 0) (e .used) (λ z. omega arith), getD-set-other (e .counts) t 7 (getD (e .counts) t 0 + 1) 0 (λ z. omega arith));
+              pairs-same = refl;
+              tops-same = (refl, refl);
+            };
+            more = λ y. omega arith;
+            below = F;
+            log-long = g;
+            tags-long = g′;
+            marks-stay = So .stay;
+          })
+        where
+          st-is : {R R′ : Tables} {M M′ : Maps} {fs fs′ : List Function} {sp : Special} → R ≡ R′ → M ≡ M′ → fs ≡ fs′ → _≡_ {A = St} (record { recs = R; maps = M; functions = fs; special = sp }) (record { recs = R′; maps = M′; functions = fs′; special = sp })
+          st-is {fs} {fs′} {sp} a b c i = record { recs = a i; maps = b i; functions = c i; special = sp }

@@ -1,0 +1,700 @@
+// The state of a session, in arrays that the caller lends: a log of derived words and their classes, where each record starts in it, where the numbers of
+// the source went, marks of the records that are there; the counts go by value. A record is a count and that many words. What an import makes is compared
+// with the records of its table, spans apart, before anything is written; only where its mark may be there is the table searched.
+use names::mark;
+use names::mix;
+use std::num::wrapping_add_u32;
+use words::wide;
+ghost use mathlib.Core.Path.{_≡_};
+ghost use mathlib.Core.Bool.{true, false};
+ghost use mathlib.Core.List.{[], _∷_};
+ghost use Prim.Native.Nat.{ℕ, suc, _+_, _-_, _*_, _^_, _≤_, _<_};
+ghost use lib.ListN.{length, getD, take, set, replicate};
+ghost use Rattle.model.specs.Module.{countAt};
+ghost use Rattle.model.specs.Between.{between};
+ghost use Rattle.model.specs.References.{target, refOf, refs, through, undefinedAt, firstWord, moved as movedOf, shift, alikeC, alike as alikeOf, seat};
+ghost use Rattle.model.specs.Imports.{settle as settled};
+ghost use Rattle.imports.specs.RecordLaws.{All, bareW};
+ghost use Rattle.state.specs.Refers.{kindOf, kindBytes, tabOf, wentR, Small};
+ghost use Rattle.state.specs.Marks.{MARKS, hashR};
+ghost use Rattle.state.specs.Held.{row, cell, recAt, recsAt, Kept, Lands, Readable, Sought, Written, Nameless, carriedBy};
+
+// Words of the log, records of each table, pairs of special types, and the tops of the stacks of functions in progress; or that something did not fit.
+pub struct Ends {
+    pub full: bool,
+    pub used: usize,
+    pub counts: [usize; 8],
+    pub pairs: usize,
+    pub et: usize,
+    pub bt: usize,
+}
+
+// Nothing yet.
+pub fn nothing() -> Ends
+    ensures { λ r. ⌜ r ≡ record { full = false; used = 0; counts = replicate 8 0; pairs = 0; et = 0; bt = 0 } ⌝ }
+{
+    Ends {
+        full: false,
+        used: 0,
+        counts: [0; 8],
+        pairs: 0,
+        et: 0,
+        bt: 0,
+    }
+}
+
+// Nothing is mapped.
+pub fn forget(maps: &mut [[u32; 512]; 6])
+    ensures { λ _. ⌜ now (maps .exit) ≡ replicate 6 (replicate 512 0) ⌝ }
+{
+    *maps = [[0; 512]; 6];
+}
+
+// The same ends, full.
+pub fn refuse(e: Ends) -> Ends
+    ensures { λ r. ⌜ r .full ≡ true ⌝ }
+{
+    let c = e.counts;
+    Ends {
+        full: true,
+        used: e.used,
+        counts: c,
+        pairs: e.pairs,
+        et: e.et,
+        bt: e.bt,
+    }
+}
+
+// One record more in table t, of n words with its count.
+pub fn grown(e: Ends, t: usize, n: usize) -> Ends
+    requires { ⌜ (t < 8) × (e .used + n ≤ 16384) × (getD (e .counts) t 0 < 512) ⌝ }
+    ensures { λ r. ⌜ r ≡ record { full = false; used = e .used + n; counts = set (e .counts) t (getD (e .counts) t 0 + 1); pairs = e .pairs; et = e .et; bt = e .bt } ⌝ }
+{
+    let mut c = e.counts;
+    c[t] = c[t] + 1;
+    Ends {
+        full: false,
+        used: e.used + n,
+        counts: c,
+        pairs: e.pairs,
+        et: e.et,
+        bt: e.bt,
+    }
+}
+
+// The words that the image has left.
+pub fn left(e: Ends) -> usize
+    requires { ⌜ 23 + 2 * e .pairs + e .used ≤ 16384 ⌝ }
+    ensures { λ r. ⌜ r + (23 + 2 * e .pairs + e .used) ≡ 16384 ⌝ }
+{
+    16361 - 2 * e.pairs - e.used
+}
+
+// What each class refers to: a table's number, plus 8 where the word is an optional number; 6 for nothing, 7 for a function.
+pub fn kinds() -> [u8; 256]
+    ensures { λ r. ⌜ r ≡ kindBytes ⌝ }
+{
+    [
+        6,
+        6,
+        6,
+        6,
+        6,
+        6,
+        6,
+        6,
+        6,
+        6,
+        6,
+        6,
+        6,
+        6,
+        6,
+        6,
+        6,
+        6,
+        6,
+        6,
+        6,
+        6,
+        6,
+        6,
+        6,
+        6,
+        6,
+        6,
+        6,
+        6,
+        6,
+        6,
+        6,
+        6,
+        6,
+        6,
+        6,
+        6,
+        6,
+        6,
+        6,
+        6,
+        6,
+        6,
+        6,
+        6,
+        6,
+        6,
+        6,
+        6,
+        6,
+        6,
+        6,
+        6,
+        6,
+        6,
+        6,
+        6,
+        6,
+        6,
+        6,
+        6,
+        6,
+        6,
+        6,
+        6,
+        6,
+        6,
+        6,
+        6,
+        6,
+        6,
+        6,
+        6,
+        6,
+        6,
+        6,
+        6,
+        6,
+        6,
+        6,
+        6,
+        6,
+        8,
+        1,
+        9,
+        2,
+        3,
+        4,
+        5,
+        13,
+        7,
+        7,
+        5,
+        13,
+        6,
+        6,
+        6,
+        6,
+        5,
+        13,
+        5,
+        13,
+        6,
+        6,
+        6,
+        6,
+        6,
+        6,
+        6,
+        6,
+        6,
+        6,
+        6,
+        6,
+        6,
+        6,
+        6,
+        6,
+        6,
+        6,
+        6,
+        6,
+        6,
+        6,
+        6,
+        6,
+        6,
+        6,
+        6,
+        6,
+        6,
+        6,
+        6,
+        6,
+        6,
+        6,
+        6,
+        6,
+        6,
+        6,
+        6,
+        6,
+        6,
+        6,
+        6,
+        6,
+        6,
+        6,
+        6,
+        6,
+        6,
+        6,
+        6,
+        6,
+        6,
+        6,
+        6,
+        6,
+        6,
+        6,
+        6,
+        6,
+        6,
+        6,
+        6,
+        6,
+        6,
+        6,
+        6,
+        6,
+        6,
+        6,
+        6,
+        6,
+        6,
+        6,
+        6,
+        6,
+        6,
+        6,
+        6,
+        6,
+        6,
+        6,
+        6,
+        6,
+        6,
+        6,
+        6,
+        6,
+        6,
+        6,
+        6,
+        6,
+        6,
+        6,
+        6,
+        6,
+        6,
+        6,
+        6,
+        6,
+        6,
+        6,
+        6,
+        6,
+        6,
+        6,
+        6,
+        6,
+        6,
+        6,
+        6,
+        6,
+        6,
+        6,
+        6,
+        6,
+        6,
+        6,
+        6,
+        6,
+        6,
+        6,
+        6,
+        6,
+        6,
+        6,
+        6,
+        6,
+        6,
+        6,
+        6,
+        6,
+        6,
+        6,
+        6,
+        6,
+        6,
+        6,
+        6,
+        6,
+        6,
+        6,
+        6,
+        6,
+        6,
+        6,
+        6,
+        6,
+        6,
+        6,
+        6,
+        6,
+        6,
+    ]
+}
+
+fn slot(x: u8) -> usize
+    ensures { λ r. ⌜ (r ≡ x) × (r < 256) ⌝ }
+{
+    x as usize
+}
+
+// What the class s refers to.
+pub fn kind_of(kinds: &[u8; 256], s: u8) -> usize
+    requires { ⌜ now kinds ≡ kindBytes ⌝ }
+    ensures { λ r. ⌜ (r ≡ kindOf (target s)) × (r < 14) ⌝ }
+{
+    slot(kinds[slot(s)])
+}
+
+// A word through the maps.
+fn carried(kinds: &[u8; 256], maps: &[[u32; 512]; 6], s: u8, w: u32) -> u32
+    requires { ⌜ All Small (refOf (target s) w []) ⌝ }
+    requires { ⌜ length (now maps) ≡ 6 ⌝ }
+    requires { ⌜ now kinds ≡ kindBytes ⌝ }
+    ensures { λ r. ⌜ r ≡ through (wentR (now (maps .entry))) s w ⌝ }
+{
+    let u = kind_of(kinds, s);
+    if u == 6 {
+        return w;
+    }
+    if u == 7 {
+        return 0;
+    }
+    if u < 6 {
+        let v = maps[u][wide(w)];
+        if v == 0 {
+            return 0;
+        }
+        return v - 1;
+    }
+    if w == 0 {
+        return 0;
+    }
+    maps[u - 8][wide(w - 1)]
+}
+
+// Whether a word of the log is a word, unless both are a span's.
+fn alike_cell(a: u8, x: u32, b: u8, y: u32) -> bool
+    ensures { λ r. ⌜ r ≡ alikeC (a, x) (b, y) ⌝ }
+{
+    if a != b {
+        return false;
+    }
+    if x == y {
+        return true;
+    }
+    if a == 81 {
+        return true;
+    }
+    a == 82
+}
+
+// Whether the record at s is what the source's words from `at` to `end` become, spans apart.
+fn alike(
+    words: &[u32; 16384],
+    tags: &[u8; 16384],
+    kinds: &[u8; 256],
+    log: &[u32; 16384],
+    classes: &[u8; 16384],
+    maps: &[[u32; 512]; 6],
+    at: usize,
+    end: usize,
+    s: usize,
+) -> bool
+    requires { ⌜ Readable (now words) (now tags) (now kinds) at end ⌝ }
+    requires { ⌜ (s + suc (getD (now log) s 0) ≤ 16384) × (length (now log) ≡ 16384) × (length (now classes) ≡ 16384) × (length (now maps) ≡ 6) ⌝ }
+    ensures { λ r. ⌜ r ≡ alikeOf (recAt (now (log .entry)) (now (classes .entry)) s) (carriedBy (wentR (now (maps .entry))) (now (tags .entry)) (now (words .entry)) at end) ⌝ }
+{
+    if wide(log[s]) != end - at {
+        return false;
+    }
+    let mut i = at;
+    let mut p = s + 1;
+    while i < end {
+        let j = i;
+        let q = p;
+        i += 1;
+        p += 1;
+        let b = tags[j];
+        let y = carried(kinds, maps, b, words[j]);
+        if !alike_cell(classes[q], log[q], b, y) {
+            return false;
+        }
+    }
+    true
+}
+
+// The first of table t's n records that is, spans apart, what the source's words become; or n.
+fn find(
+    words: &[u32; 16384],
+    tags: &[u8; 16384],
+    kinds: &[u8; 256],
+    log: &[u32; 16384],
+    classes: &[u8; 16384],
+    starts: &[[u32; 512]; 8],
+    maps: &[[u32; 512]; 6],
+    at: usize,
+    end: usize,
+    t: usize,
+    n: usize,
+) -> usize
+    requires { ⌜ Readable (now words) (now tags) (now kinds) at end ⌝ }
+    requires { ⌜ (t < 8) × (n ≤ 512) × (length (now log) ≡ 16384) × (length (now classes) ≡ 16384) × (length (now maps) ≡ 6) × (length (row (now starts) t) ≡ 512) ⌝ }
+    requires { ⌜ ((k : ℕ) → k < n → cell (now starts) t k + suc (getD (now log) (cell (now starts) t k) 0) ≤ 16384) ⌝ }
+    ensures { λ r. ⌜ r ≡ seat (recsAt (now (log .entry)) (now (classes .entry)) (take n (row (now (starts .entry)) t))) (carriedBy (wentR (now (maps .entry))) (now (tags .entry)) (now (words .entry)) at end) ⌝ }
+{
+    let mut k = 0;
+    while k < n {
+        let j = k;
+        k += 1;
+        let s = wide(starts[t][j]);
+        if alike(words, tags, kinds, log, classes, maps, at, end, s) {
+            return j;
+        }
+    }
+    n
+}
+
+// A word as it is hashed: a span's is 0.
+fn bare_word(s: u8, w: u32) -> u32
+    ensures { λ r. ⌜ r ≡ bareW (target s) w ⌝ }
+{
+    if s < 81 {
+        return w;
+    }
+    if 82 < s {
+        return w;
+    }
+    0
+}
+
+// The hash of what the source's words become in table t.
+fn hash(
+    words: &[u32; 16384],
+    tags: &[u8; 16384],
+    kinds: &[u8; 256],
+    maps: &[[u32; 512]; 6],
+    at: usize,
+    end: usize,
+    t: usize,
+) -> usize
+    requires { ⌜ Readable (now words) (now tags) (now kinds) at end ⌝ }
+    requires { ⌜ (t < 8) × (length (now maps) ≡ 6) ⌝ }
+    ensures { λ r. ⌜ r ≡ hashR t (carriedBy (wentR (now (maps .entry))) (now (tags .entry)) (now (words .entry)) at end) ⌝ }
+{
+    let mut h = t;
+    let mut i = at;
+    while i < end {
+        let j = i;
+        i += 1;
+        let s = tags[j];
+        h = mix(h, bare_word(s, carried(kinds, maps, s, words[j])));
+    }
+    h
+}
+
+// The same as `find`, which is asked only where the mark may be there; the mark is left.
+fn sought(
+    words: &[u32; 16384],
+    tags: &[u8; 16384],
+    kinds: &[u8; 256],
+    log: &[u32; 16384],
+    classes: &[u8; 16384],
+    starts: &[[u32; 512]; 8],
+    maps: &[[u32; 512]; 6],
+    marks: &mut [u8; 16384],
+    ends: Ends,
+    at: usize,
+    end: usize,
+    t: usize,
+) -> usize
+    requires { ⌜ Readable (now words) (now tags) (now kinds) at end ⌝ }
+    requires { ⌜ t < 6 ⌝ }
+    requires { ⌜ Kept (now log) (now classes) (now starts) (now maps) (now marks) ends ⌝ }
+    ensures { λ r. ⌜ Sought (recsAt (now (log .entry)) (now (classes .entry)) (take (getD (ends .counts) t 0) (row (now (starts .entry)) t))) t (carriedBy (wentR (now (maps .entry))) (now (tags .entry)) (now (words .entry)) at end) (now (marks .entry)) (now (marks .exit)) r ⌝ }
+{
+    let n = ends.counts[t];
+    let h = hash(words, tags, kinds, maps, at, end, t);
+    if mark(marks, h % 16384, h) {
+        return n;
+    }
+    find(
+        words,
+        tags,
+        kinds,
+        log,
+        classes,
+        starts,
+        maps,
+        at,
+        end,
+        t,
+        n,
+    )
+}
+
+// Whether the span last met is undefined, once the word w of the class s is read, with the words from i on behind it.
+fn undefined_at(
+    words: &[u32; 16384],
+    tags: &[u8; 16384],
+    kinds: &[u8; 256],
+    maps: &[[u32; 512]; 6],
+    s: u8,
+    w: u32,
+    i: usize,
+    end: usize,
+    u: bool,
+) -> bool
+    requires { ⌜ Readable (now words) (now tags) (now kinds) i end ⌝ }
+    requires { ⌜ length (now maps) ≡ 6 ⌝ }
+    ensures { λ r. ⌜ r ≡ undefinedAt (target s) w (firstWord (carriedBy (wentR (now (maps .entry))) (now (tags .entry)) (now (words .entry)) i end)) u ⌝ }
+{
+    if s != 81 {
+        return u;
+    }
+    if w != 0 {
+        return false;
+    }
+    if i < end {
+        return carried(kinds, maps, tags[i], words[i]) == 0;
+    }
+    true
+}
+
+// A span's word moved by the offset, unless the span is undefined; any other word as it is.
+fn moved(s: u8, w: u32, offset: u32, u: bool) -> u32
+    ensures { λ r. ⌜ r ≡ movedOf (target s) w offset u ⌝ }
+{
+    if s < 81 {
+        return w;
+    }
+    if 82 < s {
+        return w;
+    }
+    if u {
+        return w;
+    }
+    wrapping_add_u32(w, offset)
+}
+
+// What the source's words from `at` to `end` become, from `to` on.
+fn write(
+    words: &[u32; 16384],
+    tags: &[u8; 16384],
+    kinds: &[u8; 256],
+    log: &mut [u32; 16384],
+    classes: &mut [u8; 16384],
+    maps: &[[u32; 512]; 6],
+    at: usize,
+    end: usize,
+    to: usize,
+    offset: u32,
+)
+    requires { ⌜ Readable (now words) (now tags) (now kinds) at end ⌝ }
+    requires { ⌜ (to + (end - at) ≤ 16384) × (length (now log) ≡ 16384) × (length (now classes) ≡ 16384) × (length (now maps) ≡ 6) ⌝ }
+    ensures { λ _. ⌜ Written (shift (carriedBy (wentR (now (maps .entry))) (now (tags .entry)) (now (words .entry)) at end) offset false) to (now (log .entry)) (now (classes .entry)) (now (log .exit)) (now (classes .exit)) ⌝ }
+{
+    let mut i = at;
+    let mut p = to;
+    let mut u = false;
+    while i < end {
+        let j = i;
+        let q = p;
+        i += 1;
+        p += 1;
+        let s = tags[j];
+        let w = carried(kinds, maps, s, words[j]);
+        u = undefined_at(words, tags, kinds, maps, s, w, i, end, u);
+        log[q] = moved(s, w, offset, u);
+        classes[q] = s;
+    }
+}
+
+// What the source's words from `at` to `end` become is what number k of table t is mapped to: an equal record, or a new one.
+pub fn settle(
+    words: &[u32; 16384],
+    tags: &[u8; 16384],
+    kinds: &[u8; 256],
+    log: &mut [u32; 16384],
+    classes: &mut [u8; 16384],
+    starts: &mut [[u32; 512]; 8],
+    maps: &mut [[u32; 512]; 6],
+    marks: &mut [u8; 16384],
+    ends: Ends,
+    offset: u32,
+    t: usize,
+    k: usize,
+    at: usize,
+    end: usize,
+) -> Ends
+    requires { ⌜ Readable (now words) (now tags) (now kinds) at end ⌝ }
+    requires { ⌜ (t < 6) × (k < countAt t (now words)) × (k < 512) × (ends .full ≡ false) ⌝ }
+    requires { ⌜ (t ≡ 0 → Nameless (between (now tags) (now words) at end)) ⌝ }
+    requires { ⌜ Kept (now log) (now classes) (now starts) (now maps) (now marks) ends ⌝ }
+    ensures { λ r. ⌜ Lands (now (words .entry)) (settled (tabOf t) k (shift (carriedBy (wentR (now (maps .entry))) (now (tags .entry)) (now (words .entry)) at end) offset false)) (now (log .entry)) (now (classes .entry)) (now (starts .entry)) (now (maps .entry)) (now (marks .entry)) ends r (now (log .exit)) (now (classes .exit)) (now (starts .exit)) (now (maps .exit)) (now (marks .exit)) ⌝ }
+{
+    let n = ends.counts[t];
+    let used = ends.used;
+    let j = sought(
+        words,
+        tags,
+        kinds,
+        log,
+        classes,
+        starts,
+        maps,
+        marks,
+        ends,
+        at,
+        end,
+        t,
+    );
+    if j < n {
+        maps[t][k] = (j + 1) as u32;
+        return ends;
+    }
+    if n == 512 {
+        return refuse(ends);
+    }
+    if left(ends) < 1 + (end - at) {
+        return refuse(ends);
+    }
+    log[used] = (end - at) as u32;
+    write(
+        words,
+        tags,
+        kinds,
+        log,
+        classes,
+        maps,
+        at,
+        end,
+        used + 1,
+        offset,
+    );
+    starts[t][n] = used as u32;
+    maps[t][k] = (n + 1) as u32;
+    grown(ends, t, 1 + (end - at))
+}
