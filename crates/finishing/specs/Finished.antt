@@ -34,13 +34,13 @@ use Rattle.finishing.specs.Naming.{Names, carried-named}
 use Rattle.finishing.specs.Cellwise.{each-to, cellwise, image-of, table-to, pairs-to, function-cells}
 
 -- ---- names in cells
-namesIn-append : (cs ds : Cells) → namesIn (cs ++ ds) ≡ namesIn cs ++ namesIn ds
+pub namesIn-append : (cs ds : Cells) → namesIn (cs ++ ds) ≡ namesIn cs ++ namesIn ds
 unfolding namesIn
 namesIn-append [] ds = refl
 namesIn-append ((s, zero) ∷ cs) ds = let i = namesIn-append cs ds in either (eqb s NAME) (λ e. rw (namesIn, e) i) λ e. rw (namesIn, e) i
 namesIn-append ((s, suc n) ∷ cs) ds = let i = namesIn-append cs ds in either (eqb s NAME) (λ e. rw (namesIn, e) (ap (n ∷_) i)) λ e. rw (namesIn, e) i
 
-no-names : {cs : Cells} → Each (Not NAME) cs → namesIn cs ≡ []
+pub no-names : {cs : Cells} → Each (Not NAME) cs → namesIn cs ≡ []
 unfolding namesIn
 no-names each-none = refl
 no-names (each-next h hs) = rw (namesIn, h) (no-names hs)
@@ -73,7 +73,7 @@ all-seen ((s, suc k) ∷ cs) ns h = each-next first (all-seen cs ns λ n m. h n 
 abbrev pub Low : ℕ → Cell → Type 0
 Low n c = eqb (class c) NAME ≡ true → word c < suc n
 
-low-names : {N : ℕ} {cs : Cells} → Each (Low N) cs → (k : ℕ) → Mem k (namesIn cs) → k < N
+pub low-names : {N : ℕ} {cs : Cells} → Each (Low N) cs → (k : ℕ) → Mem k (namesIn cs) → k < N
 unfolding namesIn
 low-names each-none k m = absurd (no-mem m)
 low-names (each-next {a = (s, zero)} h hs) k m = either (eqb s NAME) (λ e. low-names hs k (rw (namesIn, e) at m)) λ e. low-names hs k (rw (namesIn, e) at m)
@@ -135,7 +135,7 @@ numbered-low t h =
     }
 
 -- ---- names are no part of what appears
-names-nameless : {rs : List Cells} → Each (Lays nameRow) rs → Each (Each (Not NAME)) rs
+pub names-nameless : {rs : List Cells} → Each (Lays nameRow) rs → Each (Each (Not NAME)) rs
 unfolding nameRow calms? calm?
 names-nameless each-none = each-none
 names-nameless (each-next l ls) = each-next (nameless l refl) (names-nameless ls)

@@ -167,7 +167,7 @@ differ-apart (x ∷ xs) h = let p = and-split (unlike (map (map word) xs) (map w
 
 -- ---- what is carried is as many records and words
 module _ {f : ℕ → ℕ → ℕ} (o : Only f) where
-  carried-all : (rs : List Cells) → length (flatAll (map (carryCells f) rs)) ≡ length (flatAll rs)
+  pub carried-all : (rs : List Cells) → length (flatAll (map (carryCells f) rs)) ≡ length (flatAll rs)
   unfolding flatAll
   carried-all [] = refl
   carried-all (r ∷ rs) = length-append (carryCells f r) (flatAll (map (carryCells f) rs)) ∙ (ap₂ _+_ (length-map r _) (carried-all rs) ∙ sym (length-append r (flatAll rs)))
@@ -175,11 +175,11 @@ module _ {f : ℕ → ℕ → ℕ} (o : Only f) where
   carried-smaller : (rs : List Cells) {b : List Cells} → Smaller rs b → Smaller (map (carryCells f) rs) b
   carried-smaller rs s = record { few = rw (length-map rs (carryCells f)) (s .few); short = rw (carried-all rs) (s .short) }
 
-  carried-flat : (fs : List Function) → map flat (map (carryFunction f) fs) ≡ map (carryCells f) (map flat fs)
+  pub carried-flat : (fs : List Function) → map flat (map (carryFunction f) fs) ≡ map (carryCells f) (map flat fs)
   carried-flat [] = refl
   carried-flat (t ∷ fs) = ap₂ _∷_ (flat-carry-function f (only-keeps o) t) (carried-flat fs)
 
-  carried-entries : (es : List Entry) → map flatEntry (map (carryEntry f) es) ≡ map (carryCells f) (map flatEntry es)
+  pub carried-entries : (es : List Entry) → map flatEntry (map (carryEntry f) es) ≡ map (carryCells f) (map flatEntry es)
   carried-entries [] = refl
   carried-entries (e ∷ es) = ap₂ _∷_ (flat-carry-entry f (only-keeps o) e) (carried-entries es)
 
