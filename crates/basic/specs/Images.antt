@@ -6,6 +6,7 @@ use Prim.Native.Nat.{ℕ, zero, suc, _+_, _*_}
 use lib.ListN.{length}
 use lib.Seq.{sets}
 use Rattle.words.specs.Words.{wordsOf}
+use Rattle.model.specs.Refusals.{BAD-LAYOUT, BAD-NUMBER, RING}
 use Rattle.model.specs.Outcome.{Laid, laid, bad, strange}
 use Rattle.model.specs.Module.{Module, read}
 use Rattle.model.specs.Taped.{Taped}
@@ -26,8 +27,8 @@ told (ring left) = rings left
 -- intake refuses what holds no module
 unfoldable pub ofModule : Laid Module → Told
 ofModule (laid m) = told (orderOf m)
-ofModule bad = refused 2
-ofModule strange = refused 3
+ofModule bad = refused BAD-LAYOUT
+ofModule strange = refused BAD-NUMBER
 
 -- intake's number comes first
 unfoldable pub afterIntake : List ℕ → ℕ → Told
@@ -40,7 +41,7 @@ orderImage image = afterIntake image (intakeOf (length image) (wordsOf image))
 -- as one number: low half the refusal, 0 accepted; high half the count of functions, or of those left
 unfoldable pub packed : Told → ℕ
 packed (listed os) = length os * 4294967296
-packed (rings left) = 12 + left * 4294967296
+packed (rings left) = RING + left * 4294967296
 packed (refused k) = k
 
 -- an order goes to the start of the list, as far as there is room; a refusal leaves it

@@ -41,7 +41,7 @@ fn list(words: &[u32; 16384], tags: &[u8; 16384], n: usize, out: &mut [u32]) -> 
             copy(&order, count, out);
             count as u64 * 4294967296
         }
-        Ordered::Ring(left) => 12 + left as u64 * 4294967296,
+        Ordered::Ring(left) => refusals::RING as u64 + left as u64 * 4294967296,
     }
 }
 

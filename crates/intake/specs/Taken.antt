@@ -5,6 +5,7 @@ use mathlib.Core.List.{List}
 use Prim.Native.Nat.{ℕ}
 use lib.ListN.{length}
 use Rattle.words.specs.Words.{wordsOf}
+use Rattle.model.specs.Refusals.{BAD-SIZE, BAD-LAYOUT, BAD-NUMBER, NOT-LOWER, BAD-NAME, OUT-OF-SCOPE}
 use Rattle.model.specs.Outcome.{laid}
 use Rattle.model.specs.Module.{Module, read, sized}
 use Rattle.model.specs.Taped.{Taped}
@@ -15,12 +16,12 @@ use Rattle.intake.specs.declared.Taken.the-variants.{Accepted, Size, Mis
 -- 0 is accepted
 abbrev pub numberOf : Taken → ℕ
 numberOf (Accepted n) = 0
-numberOf Size = 1
-numberOf Misfit = 2
-numberOf Number = 3
-numberOf Order = 4
-numberOf Name = 5
-numberOf Scope = 6
+numberOf Size = BAD-SIZE
+numberOf Misfit = BAD-LAYOUT
+numberOf Number = BAD-NUMBER
+numberOf Order = NOT-LOWER
+numberOf Name = BAD-NAME
+numberOf Scope = OUT-OF-SCOPE
 
 -- the answer of tests 3 to 6
 pub record Tested (r : Taken) (words tags : List ℕ) (n : ℕ) : Type 0 where

@@ -51,18 +51,18 @@ pub fn take_in(image: &[u8], words: &mut [u32; 16384], tags: &mut [u8; 16384]) -
     }
 }
 
-// Document 01's number for each answer; 0 is accepted.
+// The refusal of each answer; 0 is accepted.
 pub fn number(taken: Taken) -> u32
     ensures { λ r. ⌜ r ≡ numberOf taken ⌝ }
 {
     match taken {
         Taken::Accepted(_) => 0,
-        Taken::Size => 1,
-        Taken::Misfit => 2,
-        Taken::Number => 3,
-        Taken::Order => 4,
-        Taken::Name => 5,
-        Taken::Scope => 6,
+        Taken::Size => refusals::BAD_SIZE,
+        Taken::Misfit => refusals::BAD_LAYOUT,
+        Taken::Number => refusals::BAD_NUMBER,
+        Taken::Order => refusals::NOT_LOWER,
+        Taken::Name => refusals::BAD_NAME,
+        Taken::Scope => refusals::OUT_OF_SCOPE,
     }
 }
 

@@ -5,6 +5,7 @@ use mathlib.Core.List.{List}
 use Prim.Native.Nat.{ℕ, zero, suc, _+_, _*_, _<_}
 use lib.ListN.{length}
 use Rattle.words.specs.Words.{wordsOf}
+use Rattle.model.specs.Refusals.{BAD-LAYOUT, BAD-NUMBER}
 use Rattle.model.specs.Outcome.{Laid, laid, bad, strange}
 use Rattle.model.specs.Module.{Module, read}
 use Rattle.model.specs.Intake.{intakeOf}
@@ -19,8 +20,8 @@ use Rattle.layered.specs.declared.Answer.the-variants.{Done, Refused}
 -- the tests 13, 8, 9, 10 and 11, and then the change; intake refuses what holds no module
 unfoldable pub ofModule : List ℕ → ℕ → ℕ → List ℕ → Laid Module → Told × List ℕ
 ofModule image original replacement omit (laid m) = (told (redirectFunction m original replacement omit), imageAfter image (redirectFunction m original replacement omit))
-ofModule image original replacement omit bad = (refused 2, image)
-ofModule image original replacement omit strange = (refused 3, image)
+ofModule image original replacement omit bad = (refused BAD-LAYOUT, image)
+ofModule image original replacement omit strange = (refused BAD-NUMBER, image)
 
 -- intake's number comes first
 unfoldable pub afterIntake : List ℕ → ℕ → ℕ → List ℕ → ℕ → Told × List ℕ

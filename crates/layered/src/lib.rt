@@ -16,11 +16,11 @@ fn told(r: Redirected) -> Answer
 {
     match r {
         Redirected::Done(a, b) => Answer::Done(a, b),
-        Redirected::Outside => Answer::Refused(13),
-        Redirected::NoOriginal => Answer::Refused(8),
-        Redirected::NoReplacement => Answer::Refused(9),
-        Redirected::ArgumentsDiffer => Answer::Refused(10),
-        Redirected::ResultsDiffer => Answer::Refused(11),
+        Redirected::Outside => Answer::Refused(refusals::NO_RECORD),
+        Redirected::NoOriginal => Answer::Refused(refusals::NO_ORIGINAL),
+        Redirected::NoReplacement => Answer::Refused(refusals::NO_REPLACEMENT),
+        Redirected::ArgumentsDiffer => Answer::Refused(refusals::OTHER_ARGUMENTS),
+        Redirected::ResultsDiffer => Answer::Refused(refusals::OTHER_RESULT),
     }
 }
 

@@ -3,6 +3,7 @@ use mathlib.Core.Path.{_≡_}
 use mathlib.Core.Bool.{true, false}
 use mathlib.Core.List.{List}
 use Prim.Native.Nat.{ℕ}
+use Rattle.model.specs.Refusals.{BAD-SIZE, BAD-LAYOUT, BAD-NUMBER, NOT-LOWER, BAD-NAME, OUT-OF-SCOPE}
 use Rattle.model.specs.Outcome.{Laid, laid, bad, strange}
 use Rattle.model.specs.Module.{Module, read, sized}
 use Rattle.model.specs.Numbers.{numbered}
@@ -12,17 +13,17 @@ use Rattle.model.specs.Scope.{inScope}
 
 -- 3 to 6, of a module; 0 is none of them
 unfoldable pub tested : Module → ℕ
-tested m = elim (numbered m) [ true ↦ elim (lower m) [ true ↦ elim (named m) [ true ↦ elim (inScope m) [ true ↦ 0 | false ↦ 6 ] | false ↦ 5 ] | false ↦ 4 ] | false ↦ 3 ]
+tested m = elim (numbered m) [ true ↦ elim (lower m) [ true ↦ elim (named m) [ true ↦ elim (inScope m) [ true ↦ 0 | false ↦ OUT-OF-SCOPE ] | false ↦ BAD-NAME ] | false ↦ NOT-LOWER ] | false ↦ BAD-NUMBER ]
 
 -- 2, or the 3 of a kind or a code that is none of the listed, or what the module says
 unfoldable pub verdict : Laid Module → ℕ
 verdict (laid m) = tested m
-verdict bad = 2
-verdict strange = 3
+verdict bad = BAD-LAYOUT
+verdict strange = BAD-NUMBER
 
 -- intake's answer for so many bytes that hold these words
 unfoldable pub intakeOf : ℕ → List ℕ → ℕ
-intakeOf bytes ws = elim (sized bytes ws) [ true ↦ verdict (read ws) | false ↦ 1 ]
+intakeOf bytes ws = elim (sized bytes ws) [ true ↦ verdict (read ws) | false ↦ BAD-SIZE ]
 
 -- a module that passes
 pub record Passes (m : Module) : Type 0 where

@@ -7,6 +7,7 @@ use Prim.Native.Nat.{ℕ, zero, suc, _+_, _*_}
 use lib.ListN.{length, getD, take, drop}
 use lib.Seq.{sets}
 use Rattle.words.specs.Words.{wordsOf, bytesOf}
+use Rattle.model.specs.Refusals.{NO-RECORD}
 use Rattle.model.specs.Session.{Session, Answer, answered, refused, new, set, clear, mapSpan, importType, importConst, importPipelineOverride, importGlobal, importGlobalExpression, renameType, importFunction, mapFunctionHandle, importFunctionIfNew, hasRequiredSpecialTypes, finish, finishWithEntryPoints}
 
 -- ---- the operations, in the order of their numbers
@@ -68,7 +69,7 @@ perform required a b c sources output s = says s one (answered (bit (hasRequired
 perform finishes a b c sources output s = writes s a (finish (length (part a b output)) s)
 perform finishes-entries a b c sources output s = writes s a (finishWithEntryPoints (length (part a b output)) s)
 -- "13: a number given by the caller lies outside its table"
-perform unknown a b c sources output s = says s one (refused 13)
+perform unknown a b c sources output s = says s one (refused NO-RECORD)
 
 -- ---- the steps in sequence; words behind the last whole step are not read
 unfoldable pub run : List ℕ → List ℕ → List ℕ → Session → List Said

@@ -6,6 +6,7 @@ use mathlib.Core.List.{List}
 use Prim.Native.Nat.{ℕ}
 use lib.ListN.{drop, set}
 use lib.Seq.{sets}
+use Rattle.model.specs.Refusals.{NO-ORIGINAL, NO-REPLACEMENT, OTHER-ARGUMENTS, OTHER-RESULT, NO-RECORD}
 use Rattle.model.specs.Tree.{Function}
 use Rattle.model.specs.Module.{Module, write}
 use Rattle.model.specs.Taped.{Taped}
@@ -28,20 +29,20 @@ pub data Told : Type 0 where
 
 unfoldable pub shown : Redirected → Told
 shown (Done a b) = both (a .0) (b .0)
-shown Outside = refused 13
-shown NoOriginal = refused 8
-shown NoReplacement = refused 9
-shown ArgumentsDiffer = refused 10
-shown ResultsDiffer = refused 11
+shown Outside = refused NO-RECORD
+shown NoOriginal = refused NO-ORIGINAL
+shown NoReplacement = refused NO-REPLACEMENT
+shown ArgumentsDiffer = refused OTHER-ARGUMENTS
+shown ResultsDiffer = refused OTHER-RESULT
 
 -- the model's answer without its module
 unfoldable pub told : Answer → Told
 told (redirected a b m) = both a b
-told outside = refused 13
-told noOriginal = refused 8
-told noReplacement = refused 9
-told argumentsDiffer = refused 10
-told resultsDiffer = refused 11
+told outside = refused NO-RECORD
+told noOriginal = refused NO-ORIGINAL
+told noReplacement = refused NO-REPLACEMENT
+told argumentsDiffer = refused OTHER-ARGUMENTS
+told resultsDiffer = refused OTHER-RESULT
 
 -- ---- tests
 pub record Finds (r : Found) (words tags : List ℕ) (n name : ℕ) : Type 0 where
