@@ -8,6 +8,7 @@ use crate::fields::{expression, limit, statement};
 use crate::generate_session::{given, Draft, Generated};
 use crate::module::*;
 use crate::random::Random;
+use crate::steps::operation;
 
 /// For every limit a session that meets it at its last step, and one that passes it there; with each the answer of
 /// that step.
@@ -82,9 +83,17 @@ struct Filling {
     more: usize,
 }
 
-const FUNCTIONS: fn(&Module) -> usize = |module| module.functions.len();
-const TYPES: fn(&Module) -> usize = |module| module.types.len();
-const EXPRESSIONS: fn(&Module) -> usize = |module| module.expressions.len();
+const IMPORT_TYPE: Import = (operation::IMPORT_TYPE, |module| module.types.len());
+const RENAME_TYPE: Import = (operation::RENAME_TYPE, |module| module.types.len());
+const IMPORT_CONST: Import = (operation::IMPORT_CONST, |module| module.constants.len());
+const IMPORT_PIPELINE_OVERRIDE: Import =
+    (operation::IMPORT_PIPELINE_OVERRIDE, |module| module.overrides.len());
+const IMPORT_GLOBAL: Import = (operation::IMPORT_GLOBAL, |module| module.globals.len());
+const IMPORT_GLOBAL_EXPRESSION: Import =
+    (operation::IMPORT_GLOBAL_EXPRESSION, |module| module.expressions.len());
+const IMPORT_FUNCTION: Import = (operation::IMPORT_FUNCTION, |module| module.functions.len());
+const IMPORT_FUNCTION_IF_NEW: Import = (operation::IMPORT_FUNCTION_IF_NEW, |module| module.functions.len());
+const MAP_FUNCTION_HANDLE: Import = (operation::MAP_FUNCTION_HANDLE, |module| module.functions.len());
 
 const fn filling(
     table: &'static str,
@@ -96,26 +105,31 @@ const fn filling(
 }
 
 const FILLING: [Filling; 10] = [
-    filling("names", names_source, Some((3, TYPES)), Some((4, TYPES))),
-    filling("types", types_source, Some((9, FUNCTIONS)), Some((3, TYPES))),
-    filling("constants", constants_source, Some((9, FUNCTIONS)), Some((5, |module| module.constants.len()))),
-    filling("overrides", overrides_source, Some((9, FUNCTIONS)), Some((6, |module| module.overrides.len()))),
-    filling("globals", globals_source, Some((9, FUNCTIONS)), Some((7, |module| module.globals.len()))),
+    filling("names", names_source, Some(IMPORT_TYPE), Some(RENAME_TYPE)),
+    filling("types", types_source, Some(IMPORT_FUNCTION), Some(IMPORT_TYPE)),
+    filling("constants", constants_source, Some(IMPORT_FUNCTION), Some(IMPORT_CONST)),
+    filling("overrides", overrides_source, Some(IMPORT_FUNCTION), Some(IMPORT_PIPELINE_OVERRIDE)),
+    filling("globals", globals_source, Some(IMPORT_FUNCTION), Some(IMPORT_GLOBAL)),
     Filling {
         more: 1,
-        ..filling("global expressions", expressions_source, Some((8, EXPRESSIONS)), Some((8, EXPRESSIONS)))
+        ..filling(
+            "global expressions",
+            expressions_source,
+            Some(IMPORT_GLOBAL_EXPRESSION),
+            Some(IMPORT_GLOBAL_EXPRESSION),
+        )
     },
     filling("special types", pairs_source, None, None),
-    FUNCTIONS_9,
-    Filling { single: Some((10, FUNCTIONS)), ..FUNCTIONS_9 },
-    Filling { single: Some((11, FUNCTIONS)), ..FUNCTIONS_9 },
+    OF_FUNCTIONS,
+    Filling { single: Some(IMPORT_FUNCTION_IF_NEW), ..OF_FUNCTIONS },
+    Filling { single: Some(MAP_FUNCTION_HANDLE), ..OF_FUNCTIONS },
 ];
 
 /// The table of functions, filled by each of the imports that append to it.
-const FUNCTIONS_9: Filling = Filling {
+const OF_FUNCTIONS: Filling = Filling {
     most: limit::FUNCTIONS as usize,
     more: 1,
-    ..filling("functions", functions_source, Some((11, FUNCTIONS)), Some((9, FUNCTIONS)))
+    ..filling("functions", functions_source, Some(MAP_FUNCTION_HANDLE), Some(IMPORT_FUNCTION))
 };
 
 /// One struct after the other whose members bear the names, and a struct of all of them.
@@ -247,18 +261,18 @@ impl Draft {
         let names = |text: &str| vec![Name { at: 0, bytes: text.as_bytes().to_vec() }];
         let functions = vec![heavy(first)];
         self.set_new(random, Module { names: names("a"), functions, ..Module::default() });
-        self.step(9, 0, 0, 0);
+        self.step(operation::IMPORT_FUNCTION, 0, 0, 0);
         match last {
             Last::Function => {
                 let functions = vec![heavy(rest - first - before)];
                 self.set_new(random, Module { names: names("b"), functions, ..Module::default() });
-                self.step(9, 0, 0, 0);
+                self.step(operation::IMPORT_FUNCTION, 0, 0, 0);
             }
             Last::EntryPoint => {
                 let function = Function { name: 0.into(), ..heavy(rest - first - before) };
                 let entry_points = vec![EntryPoint { name: 1.into(), function, ..EntryPoint::default() }];
                 self.set_new(random, Module { names: names("b"), entry_points, ..Module::default() });
-                self.step(14, 0, self.made.output as u32, 0);
+                self.step(operation::FINISH_WITH_ENTRY_POINTS, 0, self.made.output as u32, 0);
             }
             Last::SpecialType => {
                 let special = Special { places: [0.into(), 1.into(), 0.into()], ..Special::default() };
@@ -286,11 +300,14 @@ pub fn deep(random: &mut Random) -> Generated {
     let (module, operation, number) = match random.below(4) {
         0 => {
             let (count, depth) = *random.pick(&[(256, 9), (150, 17), (80, 32)]);
-            (deep_calls(count, depth), 9, 0)
+            (deep_calls(count, depth), operation::IMPORT_FUNCTION, 0)
         }
-        1 => (deep_types(limit::RECORDS as usize), 3, limit::RECORDS - 1),
-        2 => (deep_constants(limit::RECORDS as usize), 8, limit::RECORDS - 1),
-        _ => (deep_initialiser(limit::EXPRESSIONS as usize), 9, 0),
+        1 => (deep_types(limit::RECORDS as usize), operation::IMPORT_TYPE, limit::RECORDS - 1),
+        2 => {
+            let expressions = limit::RECORDS as usize;
+            (deep_constants(expressions), operation::IMPORT_GLOBAL_EXPRESSION, limit::RECORDS - 1)
+        }
+        _ => (deep_initialiser(limit::EXPRESSIONS as usize), operation::IMPORT_FUNCTION, 0),
     };
     draft.set_new(random, module);
     draft.step(operation, number, 0, 0);

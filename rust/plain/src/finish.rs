@@ -2,20 +2,20 @@
 
 use std::collections::HashMap;
 
-use crate::derive::Derived;
+use crate::derive::{Derived, Map};
 use crate::fields::limit;
 use crate::module::*;
 use crate::write::write;
 
 impl Derived {
     /// The entry points of the source, carried over; what they call is imported.
-    pub fn localize_entry_points(&mut self) -> Vec<(EntryPoint, crate::derive::Map)> {
+    pub fn localize_entry_points(&mut self) -> Vec<(EntryPoint, Map)> {
         let source = self.source();
         let entries = source.module.entry_points.iter();
         entries.map(|entry| self.localize_entry_point(entry)).collect()
     }
 
-    fn localize_entry_point(&mut self, entry: &EntryPoint) -> (EntryPoint, crate::derive::Map) {
+    fn localize_entry_point(&mut self, entry: &EntryPoint) -> (EntryPoint, Map) {
         let localized = self.localize_function(&entry.function);
         let entry = EntryPoint {
             name: self.import_name(entry.name),

@@ -12,6 +12,7 @@ use crate::intake::admit;
 use crate::module::*;
 use crate::mutate::mutate;
 use crate::random::Random;
+use crate::steps::{operation, OPERATIONS};
 use crate::twins::with_twins;
 use crate::write::write;
 
@@ -91,7 +92,7 @@ pub fn large(random: &mut Random) -> Generated {
     }
     draft.set(random, 0);
     for own in 0..random.below(60) as u32 {
-        draft.step(9, own, 0, 0);
+        draft.step(operation::IMPORT_FUNCTION, own, 0, 0);
     }
     draft.some_steps(random, 20);
     draft.done()
@@ -159,7 +160,7 @@ impl Draft {
             2 => u32::MAX - random.below(9) as u32,
             _ => random.word(),
         };
-        self.step(0, start, length, offset);
+        self.step(operation::SET, start, length, offset);
         if self.parts[part].module.is_some() {
             self.set = Some(part);
         }
@@ -169,13 +170,13 @@ impl Draft {
     fn set_other(&mut self, random: &mut Random) {
         let Part { start, length, .. } = *random.pick(&self.parts);
         let (start, length) = match random.below(5) {
-            0 => (start, length - random.between(1, 8) as u32),
+            0 => (start, length.saturating_sub(random.between(1, 8) as u32)),
             1 => (start, u32::MAX),
             2 => (start + 4, length),
             3 => (random.word(), random.word()),
             _ => (self.made.sources.len() as u32, length),
         };
-        self.step(0, start, length, 0);
+        self.step(operation::SET, start, length, 0);
     }
 
     /// Up to so many steps of any sort, now and then some before the first source.
@@ -204,19 +205,19 @@ impl Draft {
             }
             9 => self.set_other(random),
             10 => {
-                self.step(1, 0, 0, 0);
+                self.step(operation::CLEAR, 0, 0, 0);
                 self.set = None;
             }
             11..=14 => {
                 let (start, end) = (random.below(3) as u32, random.word());
                 let end = if random.once_in(2) { start } else { end };
-                self.step(2, start, end, 0);
+                self.step(operation::MAP_SPAN, start, end, 0);
             }
             15..=88 => self.import(random),
-            89..=91 => self.step(12, 0, 0, 0),
+            89..=91 => self.step(operation::HAS_REQUIRED_SPECIAL_TYPES, 0, 0, 0),
             92..=97 => self.finish(random),
-            98 => self.step(random.word().max(15), random.word(), 0, 0),
-            _ => self.step(15, 0, 0, 0),
+            98 => self.step(random.word().max(OPERATIONS.len() as u32), random.word(), 0, 0),
+            _ => self.step(OPERATIONS.len() as u32, 0, 0, 0),
         }
     }
 
@@ -224,23 +225,26 @@ impl Draft {
     fn import(&mut self, random: &mut Random) {
         let nothing = Module::default();
         let module = self.set.and_then(|part| self.parts[part].module.as_ref()).unwrap_or(&nothing);
-        let operation = *random.pick(&[3, 3, 4, 4, 5, 6, 7, 8, 8, 9, 9, 9, 10, 10, 11]);
-        let count = match operation {
-            3 | 4 => module.types.len(),
-            5 => module.constants.len(),
-            6 => module.overrides.len(),
-            7 => module.globals.len(),
-            8 => module.expressions.len(),
-            _ => module.functions.len(),
+        let (number, count) = match random.below(15) {
+            0..=1 => (operation::IMPORT_TYPE, module.types.len()),
+            2..=3 => (operation::RENAME_TYPE, module.types.len()),
+            4 => (operation::IMPORT_CONST, module.constants.len()),
+            5 => (operation::IMPORT_PIPELINE_OVERRIDE, module.overrides.len()),
+            6 => (operation::IMPORT_GLOBAL, module.globals.len()),
+            7..=8 => (operation::IMPORT_GLOBAL_EXPRESSION, module.expressions.len()),
+            9..=11 => (operation::IMPORT_FUNCTION, module.functions.len()),
+            12..=13 => (operation::IMPORT_FUNCTION_IF_NEW, module.functions.len()),
+            _ => (operation::MAP_FUNCTION_HANDLE, module.functions.len()),
         };
         let names = module.names.len();
-        let (a, b) = (given(random, count), if operation == 4 { given(random, names) } else { 0 });
-        self.step(operation, a, b, 0);
+        let (a, b) =
+            (given(random, count), if number == operation::RENAME_TYPE { given(random, names) } else { 0 });
+        self.step(number, a, b, 0);
     }
 
     /// A finish into the whole output or a part of it.
     fn finish(&mut self, random: &mut Random) {
-        let operation = random.between(13, 14) as u32;
+        let number = *random.pick(&[operation::FINISH, operation::FINISH_WITH_ENTRY_POINTS]);
         let output = self.made.output;
         let (start, length) = match random.below(6) {
             0 => (random.below(output + 9), random.below(600)),
@@ -248,7 +252,7 @@ impl Draft {
             2 => (random.word() as usize, random.word() as usize),
             _ => (0, output),
         };
-        self.step(operation, start as u32, length as u32, 0);
+        self.step(number, start as u32, length as u32, 0);
         if random.once_in(2) {
             self.set = None;
         }

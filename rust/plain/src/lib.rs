@@ -2,9 +2,11 @@
 //!
 //! It is the other opinion: the proved archive is compared with it on many images, so it is written to be
 //! read beside the document, not to be fast. An image is read into a [`Module`] once ([`read`], tests 1 and
-//! 2); tests 3 to 6 ([`intake`]), [`order`] and [`redirect`] then look at that tree. Around it stand the tools
-//! that need no proof: a [`listing`], a [`text`] form that is read back, a [generator](generate) of valid
-//! images and a [mutator](mutate) that breaks one thing at a time.
+//! 2); tests 3 to 6 ([`intake`]), [`order`] and [`redirect`] then look at that tree. A [`session`] derives a module
+//! from others, [`steps`] runs one in a single call, and [`link`](link::link) is the session that puts one image in
+//! order. Around it stand the tools that need no proof: a [`listing`], a [`text`] form that is read back, a
+//! [generator](generate) of valid images, a [mutator](mutate) that breaks one thing at a time, and a
+//! [generator of sessions](generate_session).
 //!
 //! ```
 //! // The shortest image: an edition, a total, nine empty sections and three special types that are none.
@@ -61,7 +63,7 @@ pub use write::write;
 /// Why an image or a call was turned back: document 01's number, the rule in words, and where it was found.
 #[derive(Clone, Copy, Debug, PartialEq, Eq)]
 pub struct Refused {
-    /// Document 01's number: 1 to 6, or 8 to 13.
+    /// Document 01's number: 1 to 13, or 20 to 22.
     pub number: u32,
     /// The word of the image at which the rule failed, where a rule is about a word.
     pub at: Option<usize>,

@@ -25,6 +25,25 @@ pub const OPERATIONS: [&str; 15] = [
     "finish_with_entry_points",
 ];
 
+/// Their numbers.
+pub mod operation {
+    pub const SET: u32 = 0;
+    pub const CLEAR: u32 = 1;
+    pub const MAP_SPAN: u32 = 2;
+    pub const IMPORT_TYPE: u32 = 3;
+    pub const RENAME_TYPE: u32 = 4;
+    pub const IMPORT_CONST: u32 = 5;
+    pub const IMPORT_PIPELINE_OVERRIDE: u32 = 6;
+    pub const IMPORT_GLOBAL: u32 = 7;
+    pub const IMPORT_GLOBAL_EXPRESSION: u32 = 8;
+    pub const IMPORT_FUNCTION: u32 = 9;
+    pub const IMPORT_FUNCTION_IF_NEW: u32 = 10;
+    pub const MAP_FUNCTION_HANDLE: u32 = 11;
+    pub const HAS_REQUIRED_SPECIAL_TYPES: u32 = 12;
+    pub const FINISH: u32 = 13;
+    pub const FINISH_WITH_ENTRY_POINTS: u32 = 14;
+}
+
 /// Words of a step, and of an answer.
 pub const STEP: usize = 4;
 pub const ANSWER: usize = 3;
@@ -56,28 +75,28 @@ fn step(
     words: &[u32],
     output: &mut [u8],
 ) -> Result<(u32, u32), Refused> {
-    let (operation, a, b, c) = (words[0], words[1], words[2], words[3]);
+    let (number, a, b, c) = (words[0], words[1], words[2], words[3]);
     let one = |value: Result<u32, Refused>| value.map(|value| (value, 0));
     let out = part(output.len(), a, b);
-    match operation {
-        0 => session.set_shader_source(&sources[part(sources.len(), a, b)], c).map(|()| (0, 0)),
-        1 => {
+    match number {
+        operation::SET => session.set_shader_source(&sources[part(sources.len(), a, b)], c).map(|()| (0, 0)),
+        operation::CLEAR => {
             session.clear_shader_source();
             Ok((0, 0))
         }
-        2 => session.map_span(a, b),
-        3 => one(session.import_type(a)),
-        4 => one(session.rename_type(a, b)),
-        5 => one(session.import_const(a)),
-        6 => one(session.import_pipeline_override(a)),
-        7 => one(session.import_global(a)),
-        8 => one(session.import_global_expression(a)),
-        9 => one(session.import_function(a)),
-        10 => one(session.import_function_if_new(a)),
-        11 => one(session.map_function_handle(a)),
-        12 => Ok((u32::from(session.has_required_special_types()), 0)),
-        13 => one(session.finish(&mut output[out])),
-        14 => one(session.finish_with_entry_points(&mut output[out])),
+        operation::MAP_SPAN => session.map_span(a, b),
+        operation::IMPORT_TYPE => one(session.import_type(a)),
+        operation::RENAME_TYPE => one(session.rename_type(a, b)),
+        operation::IMPORT_CONST => one(session.import_const(a)),
+        operation::IMPORT_PIPELINE_OVERRIDE => one(session.import_pipeline_override(a)),
+        operation::IMPORT_GLOBAL => one(session.import_global(a)),
+        operation::IMPORT_GLOBAL_EXPRESSION => one(session.import_global_expression(a)),
+        operation::IMPORT_FUNCTION => one(session.import_function(a)),
+        operation::IMPORT_FUNCTION_IF_NEW => one(session.import_function_if_new(a)),
+        operation::MAP_FUNCTION_HANDLE => one(session.map_function_handle(a)),
+        operation::HAS_REQUIRED_SPECIAL_TYPES => Ok((u32::from(session.has_required_special_types()), 0)),
+        operation::FINISH => one(session.finish(&mut output[out])),
+        operation::FINISH_WITH_ENTRY_POINTS => one(session.finish_with_entry_points(&mut output[out])),
         _ => Err(Refused::of(13, "an operation is 0 to 14")),
     }
 }

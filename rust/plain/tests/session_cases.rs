@@ -105,20 +105,22 @@ fn tests_come_in_their_sequence() {
     assert_eq!(number(session.import_type(0)), 20);
 }
 
-/// Two functions, of which the first calls the second.
-const CALLS: &str = "names { \"a\" \"b\" }
+/// Three functions, of which the first calls the second.
+const CALLS: &str = "names { \"a\" \"b\" \"d\" }
 functions {
   function name=0 { body { Call function=1 arguments=[] } }
   function name=1 { body { } }
+  function name=2 { body { } }
 }
 special_types { }";
 
-/// Functions of the same names, in a ring.
-const RING: &str = "names { \"b\" \"a\" \"c\" }
+/// Functions of the same names: two in a ring, one that calls itself, and one that calls that one.
+const RING: &str = "names { \"b\" \"a\" \"c\" \"d\" }
 functions {
   function name=0 { body { Call function=1 arguments=[] } }
   function name=1 { body { Call function=0 arguments=[] } }
   function name=2 { body { Call function=2 arguments=[] } }
+  function name=3 { body { Call function=2 arguments=[] } }
 }
 entry_points { entry_point name=0 stage=0 { function { body { Call function=1 arguments=[] } } } }
 special_types { }";
@@ -147,7 +149,7 @@ fn unknown_callees_come_first_and_known_ones_are_taken() {
 #[test]
 fn rings_of_unknown_names_are_refused() {
     let mut ring = session(RING);
-    for function in 0..3 {
+    for function in 0..4 {
         assert_eq!(number(ring.import_function(function)), 22);
         assert_eq!(number(ring.import_function_if_new(function)), 22);
         assert_eq!(number(ring.map_function_handle(function)), 22);
@@ -160,6 +162,13 @@ fn rings_of_unknown_names_are_refused() {
     open.set_shader_source(&image(RING), 0).unwrap();
     assert_eq!(open.import_function(0), Ok(2));
     assert_eq!(number(open.import_function(2)), 22);
+    assert_eq!(number(open.import_function(3)), 22);
+    // What a known function calls is followed only where the function is imported again.
+    open.set_shader_source(&image(CALLS), 0).unwrap();
+    assert_eq!(open.import_function(2), Ok(3));
+    open.set_shader_source(&image(RING), 0).unwrap();
+    assert_eq!(open.map_function_handle(3), Ok(3));
+    assert_eq!(number(open.import_function(3)), 22);
     assert_eq!(open.finish_with_entry_points(&mut [0; 600]).map(|_| ()), Ok(()));
 }
 

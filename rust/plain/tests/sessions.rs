@@ -1,6 +1,6 @@
 //! Generated sessions: what is finished passes intake, a refused step changes nothing, and every refusal is met.
 
-use std::collections::{BTreeMap, BTreeSet, HashSet};
+use std::collections::{BTreeSet, HashSet};
 
 use plain::fields::limit;
 use plain::generate_session::{session, Generated};
@@ -90,17 +90,15 @@ fn with_names_apart(image: &[u8]) -> Option<Vec<u8>> {
     (module.names.len() <= limit::RECORDS as usize && image.len() <= limit::BYTES).then_some(image)
 }
 
-/// How often each operation (15 for any other) gave each answer.
-type Met = BTreeMap<(u32, u32), usize>;
-
 #[test]
 fn sessions_keep_their_promises() {
-    let (mut met, mut turned_back) = (Met::new(), 0);
+    // Which operation (15 for any other) gave which answer.
+    let (mut met, mut turned_back) = (BTreeSet::new(), 0);
     for seed in 0..4000 {
         let generated = session(&mut Random::new(seed));
         let all = ran(&generated, &generated.steps);
         for (step, answer) in answered(&generated, &all) {
-            *met.entry((step[0].min(15), answer[0])).or_default() += 1;
+            met.insert((step[0].min(15), answer[0]));
         }
         first_refusal_is_told(&all);
         refusals_change_nothing(&generated, &all);
@@ -113,7 +111,6 @@ fn sessions_keep_their_promises() {
     expected.extend((1..=6).map(|refusal| (0, refusal)));
     expected.extend((3..=11).flat_map(|import| [20, 13, 21].map(|refusal| (import, refusal))));
     expected.extend((9..=11).map(|import| (import, 22)));
-    let met: BTreeSet<(u32, u32)> = met.into_keys().collect();
     assert_eq!(met, expected);
 }
 
