@@ -112,7 +112,7 @@ new-pair : (key t n : ℕ) → t < n → Pair n ((KEY, key) ∷ (TYPE, t) ∷ []
 unfolding field
 new-pair key t n h = record { shaped = plain-next (plain-next plain-none); low = h }
 
-no-rays : (n : ℕ) → Each (λ c. word c ≤ n) ((OPT-TYPE, 0) ∷ (OPT-TYPE, 0) ∷ (OPT-TYPE, 0) ∷ [])
+pub no-rays : (n : ℕ) → Each (λ c. word c ≤ n) ((OPT-TYPE, 0) ∷ (OPT-TYPE, 0) ∷ (OPT-TYPE, 0) ∷ [])
 no-rays n = each-next zero-low (each-next zero-low (each-next zero-low each-none))
   where
     zero-low : 0 ≤ n

@@ -59,7 +59,7 @@ piece-grown g p = record { passes = λ D t l. p .passes D (λ u. le-trans (g .ta
 pub pieces-grown : {s r : St} {fs : List Function} → Grown s r → Each (Piece s) fs → Each (Piece r) fs
 pieces-grown g ps = each-map (λ f p. piece-grown g p) ps
 
-each-same : {P : Function → Type 0} {fs gs : List Function} → fs ≡ gs → Each P fs → Each P gs
+pub each-same : {P : Function → Type 0} {fs gs : List Function} → fs ≡ gs → Each P fs → Each P gs
 each-same {P} q ps = subst (λ l. Each P l) q ps
 
 -- in the module that is derived
@@ -104,6 +104,23 @@ from-trans {m} {a} {b} {c} f g = record {
   grown = grown-trans (f .grown) (g .grown);
   pieces = g .pieces;
 }
+
+-- the same of one state alone, which is what a session keeps, and of what an operation does beside it
+pub record Holds (T : Tables) (s : St) : Type 0 where
+  pub typed : Typed T s
+  pub names : Known.Follows T s s
+  pub pieces : Each (Piece s) (s .functions)
+
+pub record Next (m : Module) (s r : St) : Type 0 where
+  pub holds : Holds (tables m) r
+  pub keeps : Keeps s r
+  pub grown : Grown s r
+
+pub holds-from : {m : Module} {s : St} → Holds (tables m) s → From m s s
+holds-from h = from-self (h .typed) (h .names) (h .pieces)
+
+pub from-next : {m : Module} {s r : St} → From m s r → Next m s r
+from-next f = record { holds = record { typed = f .typed; names = Known.follows-refl (f .after); pieces = f .pieces }; keeps = f .keeps; grown = f .grown }
 
 -- ---- the last function of a name
 last-miss : (fs : List Function) (f : Function) (j v w : ℕ) → eqb (nameWord f) w ≡ false → lastOf (fs ++ (f ∷ [])) j v w ≡ lastOf fs j v w
@@ -272,17 +289,32 @@ module _ (m : Module) (well : WellFormed m) (ok : Passes m) (o : ℕ) where
         stays : known m R k ≡ known m E k
         stays = unfold known append appended in last-miss (E .functions) G′ 0 0 (suc (seat (nameTable E) (text m k))) (ne-eqb (nameWord G′) (suc (seat (nameTable E) (text m k))) apart)
 
+    -- whether its name was known or not
+    pub append-next : Next m s R
+    unfolding append appended Keeps
+    append-next =
+        let fe = ends fol Q s follows G pass calls f in
+        record {
+          holds = record {
+            typed = typed-keeping m well (ok .numbers) (ok .lowers) o .appends G′ E (fe .typed);
+            names = Known.follows-refl (follows-keeping m well (ok .numbers) (ok .lowers) o s .appends G′ E (fe .after));
+            pieces = each-append (pieces-grown longer (fe .pieces)) (each-next piece each-none);
+          };
+          keeps = fe .keeps;
+          grown = grown-trans (fe .grown) longer;
+        }
+
     pub append-from : known m s n ≡ 0 → From m s R
     unfolding append appended Keeps
     append-from z =
         let fe = ends fol Q s follows G pass calls f in
         record {
-          typed = typed-keeping m well (ok .numbers) (ok .lowers) o .appends G′ E (fe .typed);
+          typed = append-next .holds .typed;
           after = follows-keeping m well (ok .numbers) (ok .lowers) o s .appends G′ E (fe .after);
-          keeps = fe .keeps;
+          keeps = append-next .keeps;
           knows = others z;
-          grown = grown-trans (fe .grown) longer;
-          pieces = each-append (pieces-grown longer (fe .pieces)) (each-next piece each-none);
+          grown = append-next .grown;
+          pieces = append-next .holds .pieces;
         }
 
   -- ---- THE NESTED FOLLOW
