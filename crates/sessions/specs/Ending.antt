@@ -1,29 +1,28 @@
 -- WHAT IS WRITTEN at the end of a session: it is read back, passes tests 1 to 4 and 6, and all of test 5 but that the functions' names are distinct.
 use mathlib.Core.Path.{_≡_, refl, sym, ap, ap₂, _∙_}
 use mathlib.Core.Bool.{Bool, true, false, _&&_, not}
-use mathlib.Core.List.{List, [], _∷_, map}
-use Prim.Native.Nat.{ℕ, zero, suc, _*_, _<_, _≤_}
+use mathlib.Core.List.{List, map}
+use Prim.Native.Nat.{ℕ, suc, _*_, _≤_}
 use native.Mathlib.Nat.{le-refl}
 use native.Mathlib.Omega.{arith}
 use lib.Dec.{eqb}
 use lib.ListN.{length}
 use borrow.Author.Tests.{eqb-true, eqb-false, eq-eqb, ne-eqb}
-use Rattle.model.specs.Outcome.{Cells, word, laid}
+use Rattle.model.specs.Outcome.{word, laid}
 use Rattle.model.specs.Table.{NAME, KEY}
 use Rattle.model.specs.Tree.{Function, Entry}
 use Rattle.model.specs.Module.{Module, read, write, sized}
-use Rattle.model.specs.Carry.{carrySpecial, carry, Each, each-none, each-next, WellFunction, WellEntry}
+use Rattle.model.specs.Carry.{carrySpecial, carry, Each, each-none, each-next}
 use Rattle.model.specs.Initial.{Mem}
 use Rattle.model.specs.Intake.{tested, verdict, intakeOf}
 use Rattle.model.specs.Numbers.{every, outside, soundFunction, soundEntry, numbered}
-use Rattle.model.specs.Lower.{functionsLower, entriesLower, operandsLower, lower}
-use Rattle.model.specs.Names.{field, present, absent, distinct, differ, expressionsNamed, functionsNamed, entriesNamed, functionNames, entryNames, named}
-use Rattle.model.specs.Scope.{scoped, allScoped, entriesScoped, inScope}
-use Rattle.model.specs.Redirect.{nameWord}
+use Rattle.model.specs.Lower.{functionsLower, entriesLower, lower}
+use Rattle.model.specs.Names.{field, present, absent, distinct, differ, functionsNamed, entriesNamed, functionNames, entryNames, named}
+use Rattle.model.specs.Scope.{allScoped, entriesScoped, inScope}
 use Rattle.model.specs.Tables.{Tab, names, at, Tables, tables, count}
 use Rattle.model.specs.Imports.{St}
 use Rattle.model.specs.Finish.{appearing, renumber, withNames, namedBy, gathered, finished, tooLarge}
-use Rattle.laws.specs.Lists.{and-true, and-split}
+use Rattle.laws.specs.Lists.{and-true}
 use Rattle.laws.specs.Quiet.{each-map}
 use Rattle.imports.specs.Imported.{derived-four, gathered-tables}
 use Rattle.bodies.specs.Passing as Bodies
@@ -31,7 +30,6 @@ use Rattle.finishing.specs.Firsts.{either}
 use Rattle.finishing.specs.Kept.{Parts}
 use Rattle.finishing.specs.Naming.{function-names, entry-names, present-kept, functions-named, entries-named, other-fields}
 use Rattle.finishing.specs.Finished.{renumber-only, renumber-names, renumber-apart, image-seen, names-seen, finished-parts, finished-numbered, finished-lower, finished-scope, finished-differ}
-use Rattle.finishing.specs.Numbering.{Cellwise}
 use Rattle.finishing.specs.Cellwise.{cellwise}
 use Rattle.finishing.specs.Images.{image-read, image-sized}
 use Rattle.finishing.specs.Tabled.{kept-differ}

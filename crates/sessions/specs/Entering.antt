@@ -1,15 +1,15 @@
 -- ENTRY POINTS: those of the source that is set, as a session ends with them. Each that is derived passes, in the derived module as it is in the end.
-use mathlib.Core.Path.{_≡_, refl, sym, ap, _∙_}
-use mathlib.Core.Bool.{Bool, true, false, _&&_, not, false≢true}
+use mathlib.Core.Path.{_≡_, refl, ap}
+use mathlib.Core.Bool.{true, false, _&&_, not, false≢true}
 use mathlib.Core.List.{List, [], _∷_, _++_}
 use mathlib.Core.Option.{some}
-use Prim.Native.Nat.{ℕ, zero, suc, _<_, _≤_, pred}
-use native.Mathlib.Nat.{le-refl, le-trans, le-of-suc-le-suc}
+use Prim.Native.Nat.{ℕ, zero, suc, _<_, _≤_}
+use native.Mathlib.Nat.{le-refl, le-trans}
 use native.Mathlib.Omega.{arith}
 use lib.Dec.{eqb}
-use lib.ListN.{length, getD, getElem?}
+use lib.ListN.{length, getElem?}
 use borrow.Author.Tests.{lt-ltb, ne-eqb}
-use Rattle.model.specs.Outcome.{Cells, word}
+use Rattle.model.specs.Outcome.{Cells}
 use Rattle.model.specs.Table.{WORD, NAME, entryHead, binding}
 use Rattle.model.specs.Tree.{Function, Entry, flat, flatEntry}
 use Rattle.model.specs.Module.{Module}
@@ -18,19 +18,19 @@ use Rattle.model.specs.Numbers.{Bounds, caps, bound, below as under, within, ri
 use Rattle.model.specs.Initial.{initialised}
 use Rattle.model.specs.Intake.{Passes}
 use Rattle.model.specs.Names.{field, present, expressionsNamed, functionsNamed, entriesNamed, functionNames, entryNames, named}
-use Rattle.model.specs.Calls.{In, here, later}
+use Rattle.model.specs.Calls.{In}
 use Rattle.model.specs.Callees.{callees}
 use Rattle.model.specs.Tables.{Tab, names, at, tables, count, mapAt}
 use Rattle.model.specs.References.{table, opt, target, targets, refOf, refs, each, through, carryW, shift, moved}
 use Rattle.model.specs.Imports.{St, importT}
-use Rattle.model.specs.Bodies.{Making, bring, went, carried, step, final, localized, followF, follow, entered, entryMade, enterAll, entriesMade}
+use Rattle.model.specs.Bodies.{Making, bring, went, carried, step, final, localized, follow, entered, entryMade, enterAll, entriesMade}
 use Rattle.model.specs.Finish.{gathered}
 use Rattle.model.specs.Session.{ringing, calleesOf}
 use Rattle.gather.proofs.Numbered.{sound-below}
 use Rattle.calls.proofs.Lists.{in-left, in-right}
 use Rattle.laws.specs.Lists.{and-true, and-split}
 use Rattle.laws.specs.Plain.{plain?}
-use Rattle.laws.specs.Quiet.{Plainly, plain-none, plain-next, plainly, each-map}
+use Rattle.laws.specs.Quiet.{Plainly, plain-none, plain-next, plainly}
 use Rattle.imports.specs.Functions.{within-append}
 use Rattle.imports.specs.Theorems.{Inside}
 use Rattle.imports.specs.Imported.{import-kept, gathered-tables}

@@ -1,6 +1,6 @@
 -- THE FUNCTIONS OF UNKNOWN NAME that calls bring: where they have heights, the nested `follow` does what the import of a body asks of it (`Follows` of the crate bodies), whatever its bound is, as long as that is no less than the height. Each function that it appends passes, and takes nobody's name away.
 use mathlib.Core.Path.{_≡_, refl, sym, ap, subst, _∙_}
-use mathlib.Core.Logic.{_⊎_, inl, inr, ⊎-elim}
+use mathlib.Core.Logic.{inl, inr}
 use mathlib.Core.Bool.{Bool, true, false}
 use mathlib.Core.List.{List, [], _∷_, _++_}
 use mathlib.Core.Option.{some}
@@ -8,7 +8,7 @@ use Prim.Native.Nat.{ℕ, zero, suc, _+_, _<_, _≤_, pred}
 use native.Mathlib.Nat.{le-refl, le-trans, not-suc-le-zero}
 use native.Mathlib.Omega.{arith}
 use lib.Dec.{eqb}
-use lib.ListN.{length, getD, getElem?, length-append}
+use lib.ListN.{length, getD, getElem?, length-append, List·getD-append}
 use borrow.Author.Tests.{ne-eqb}
 use Rattle.model.specs.Outcome.{Cells}
 use Rattle.model.specs.Table.{NAME}
@@ -21,19 +21,17 @@ use Rattle.model.specs.Numbers.{outside}
 use Rattle.model.specs.Callees.{callees}
 use Rattle.model.specs.Redirect.{nothing, nameWord, function as functionAt}
 use Rattle.model.specs.Tables.{Tab, names, at, Tables, tables, recAt, count, mapAt}
-use Rattle.model.specs.References.{table, Node, node, refOf, refs, target, targets, alike, seat}
-use Rattle.model.specs.Imports.{St, once, importT}
-use Rattle.model.specs.Bodies.{lastOf, known, Making, went, declarations, declared, derived, final, localized, appended, append, followF, follow}
+use Rattle.model.specs.References.{table, node, refOf, refs, target, targets, alike, seat}
+use Rattle.model.specs.Imports.{St, importT}
+use Rattle.model.specs.Bodies.{lastOf, known, went, declarations, declared, derived, final, localized, appended, append, followF}
 use Rattle.model.specs.Finish.{gathered}
 use Rattle.laws.specs.Lists.{and-split}
 use Rattle.laws.specs.Quiet.{each-append, each-map}
 use Rattle.imports.specs.RecordLaws.{All as AllN, Has as HasN}
 use Rattle.imports.specs.Trace.{Keeps, keeps-trans}
-use Rattle.imports.specs.Theorems.{Grows}
 use Rattle.imports.specs.Imported.{gathered-tables, import-keeps}
 use Rattle.bodies.specs.Context.{Grown, grown-refl, grown-trans, once-is}
 use Rattle.bodies.specs.Lists.{All, all-map}
-use Rattle.bodies.specs.Inv.{Ext}
 use Rattle.bodies.specs.Function as Function
 use Rattle.bodies.specs.Passing as Bodies
 use Rattle.bodies.specs.Lawful as Lawful
@@ -41,7 +39,7 @@ use Rattle.bodies.specs.Source.{function-passes}
 use Rattle.bodies.specs.Theorems as Theorems
 use Rattle.finishing.specs.Known as Known
 use Rattle.finishing.specs.Known.{nameTable}
-use Rattle.finishing.specs.Output.{Headed, headed, carried-name, follows-keeping}
+use Rattle.finishing.specs.Output.{headed, carried-name, follows-keeping}
 use Rattle.finishing.specs.Specials.{Typed, typed-keeping}
 use Rattle.finishing.specs.Counting.{type-functions}
 use Rattle.sessions.specs.Height.{Low, low-on}
@@ -73,6 +71,18 @@ pieces-named {s} (each-next {a = f} p ps) = (low, pieces-named ps)
     low : nameWord f ≤ count (s .recs) names
     low = unfold outside gathered count at in name-low (outside (gathered s [])) f (piece-here p .well) (piece-here p .three)
 
+-- functions that were derived stay as they are
+unfoldable pub Older : St → St → Type 0
+Older a s = (i : ℕ) → i < length (a .functions) → getD (s .functions) i nothing ≡ getD (a .functions) i nothing
+
+pub older-same : (a s : St) → s .functions ≡ a .functions → Older a s
+unfolding Older
+older-same a s q i h = ap (λ (l : List Function). getD l i nothing) q
+
+pub older-trans : (a b c : St) → length (a .functions) ≤ length (b .functions) → Older a b → Older b c → Older a c
+unfolding Older
+older-trans a b c l p q i h = q i (omega arith) ∙ p i h
+
 -- ---- what holds of a state s that came from a, the source m being set
 pub record From (m : Module) (a s : St) : Type 0 where
   pub typed : Typed (tables m) s
@@ -80,6 +90,7 @@ pub record From (m : Module) (a s : St) : Type 0 where
   pub keeps : Keeps a s
   pub knows : (k : ℕ) → 0 < known m a k → known m s k ≡ known m a k
   pub grown : Grown a s
+  pub older : Older a s
   pub pieces : Each (Piece s) (s .functions)
 
 pub from-good : {m : Module} {a s : St} → From m a s → Lawful.Good m s
@@ -90,7 +101,7 @@ unfolding Keeps
 keeps-self s t n h = refl
 
 pub from-self : {m : Module} {s : St} → Typed (tables m) s → Known.Follows (tables m) s s → Each (Piece s) (s .functions) → From m s s
-from-self {s} t f p = record { typed = t; after = f; keeps = keeps-self s; knows = λ k h. refl; grown = grown-refl s; pieces = p }
+from-self {s} t f p = record { typed = t; after = f; keeps = keeps-self s; knows = λ k h. refl; grown = grown-refl s; older = older-same s s refl; pieces = p }
 
 pub from-refl : {m : Module} {a s : St} → From m a s → From m s s
 from-refl f = from-self (f .typed) (Known.follows-refl (f .after)) (f .pieces)
@@ -102,6 +113,7 @@ from-trans {m} {a} {b} {c} f g = record {
   keeps = keeps-trans a b c (f .keeps) (g .keeps);
   knows = λ k h. let e = f .knows k h in g .knows k (rw e h) ∙ e;
   grown = grown-trans (f .grown) (g .grown);
+  older = older-trans a b c (f .grown .functions) (f .older) (g .older);
   pieces = g .pieces;
 }
 
@@ -115,12 +127,13 @@ pub record Next (m : Module) (s r : St) : Type 0 where
   pub holds : Holds (tables m) r
   pub keeps : Keeps s r
   pub grown : Grown s r
+  pub older : Older s r
 
 pub holds-from : {m : Module} {s : St} → Holds (tables m) s → From m s s
 holds-from h = from-self (h .typed) (h .names) (h .pieces)
 
 pub from-next : {m : Module} {s r : St} → From m s r → Next m s r
-from-next f = record { holds = record { typed = f .typed; names = Known.follows-refl (f .after); pieces = f .pieces }; keeps = f .keeps; grown = f .grown }
+from-next f = record { holds = record { typed = f .typed; names = Known.follows-refl (f .after); pieces = f .pieces }; keeps = f .keeps; grown = f .grown; older = f .older }
 
 -- ---- the last function of a name
 last-miss : (fs : List Function) (f : Function) (j v w : ℕ) → eqb (nameWord f) w ≡ false → lastOf (fs ++ (f ∷ [])) j v w ≡ lastOf fs j v w
@@ -172,6 +185,7 @@ module _ (m : Module) (well : WellFormed m) (ok : Passes m) (o : ℕ) where
         keeps = import-keeps m well (ok .numbers) (ok .lowers) o t n s h (f .typed .kept);
         knows = λ k w. Lawful.known-stays m s r (from-good f) (g .tables) (type-functions o (tables m) t n s) k w;
         grown = g;
+        older = older-same s r (type-functions o (tables m) t n s);
         pieces = each-same (sym (type-functions o (tables m) t n s)) (pieces-grown g (f .pieces));
       })
 
@@ -251,6 +265,10 @@ module _ (m : Module) (well : WellFormed m) (ok : Passes m) (o : ℕ) where
     unfolding append appended
     longer = record { tables = grown-refl E .tables; functions = simp length-append (omega arith) }
 
+    later : Older E R
+    unfolding append appended Older
+    later i h = List·getD-append (E .functions) (G′ ∷ []) nothing i h
+
     piece : Piece R G′
     piece = record {
       passes = λ D t w. again fol Q s follows G pass calls f D (λ u. le-trans (longer .tables .longer u) (t u)) (le-trans (longer .functions) w);
@@ -302,6 +320,7 @@ module _ (m : Module) (well : WellFormed m) (ok : Passes m) (o : ℕ) where
           };
           keeps = fe .keeps;
           grown = grown-trans (fe .grown) longer;
+          older = older-trans s E R (fe .grown .functions) (fe .older) later;
         }
 
     pub append-from : known m s n ≡ 0 → From m s R
@@ -314,6 +333,7 @@ module _ (m : Module) (well : WellFormed m) (ok : Passes m) (o : ℕ) where
           keeps = append-next .keeps;
           knows = others z;
           grown = append-next .grown;
+          older = append-next .older;
           pieces = append-next .holds .pieces;
         }
 

@@ -1,8 +1,8 @@
 -- HEIGHTS: a function of a known name has the height 0, another one more than all that it calls. Where 22 is not met (`ringing` says false) each function that is asked for has a height, and it is at most the number of functions whose names are unknown.
-use mathlib.Core.Path.{_≡_, refl, sym, ap, _∙_}
+use mathlib.Core.Path.{_≡_, refl, ap}
 use mathlib.Core.Logic.{_⊎_, inl, inr, ⊎-elim}
-use mathlib.Core.Bool.{Bool, true, false, not}
-use mathlib.Core.List.{List, [], _∷_, _++_}
+use mathlib.Core.Bool.{true, false}
+use mathlib.Core.List.{List, [], _∷_}
 use Prim.Native.Nat.{ℕ, zero, suc, _+_, _<_, _≤_}
 use native.Mathlib.Nat.{not-suc-le-zero}
 use native.Mathlib.Omega.{arith}
@@ -12,13 +12,13 @@ use borrow.Author.Tests.{eqb-true, eqb-false, eq-eqb}
 use Rattle.model.specs.Module.{Module}
 use Rattle.model.specs.Carry.{Each, each-none, each-next, WellFormed}
 use Rattle.model.specs.Numbers.{numbered}
-use Rattle.model.specs.Calls.{Call, In, here, later, numbers, any, keep, free, held, Rounds, rounds}
+use Rattle.model.specs.Calls.{Call, In, numbers, any, keep, free, held, Rounds, rounds}
 use Rattle.model.specs.Callees.{callees, calls}
 use Rattle.model.specs.Redirect.{function as functionAt}
 use Rattle.model.specs.Imports.{St}
 use Rattle.model.specs.Bodies.{known}
 use Rattle.model.specs.Session.{unknown, stuck, ringing}
-use Rattle.calls.proofs.Lists.{either, never, in-keep, keep-in, any-in, in-any, any-off, in-numbers, numbers-in}
+use Rattle.calls.proofs.Lists.{either, never, in-keep, any-in, any-off, in-numbers}
 use Rattle.calls.proofs.Rounds.{length-round, last-round, some-round}
 use Rattle.gather.proofs.Numbered.{numbered-known}
 use Rattle.bodies.specs.Lists.{All, all-map}

@@ -1,21 +1,21 @@
 -- WHAT A SESSION'S STATE HOLDS, kept by every operation on a source that passed: setting it with its special types, clearing it, and the imports of types, constants, overrides, globals, expressions and functions.
-use mathlib.Core.Path.{_≡_, refl, sym, ap, _∙_}
-use mathlib.Core.Bool.{Bool, true, false}
+use mathlib.Core.Path.{_≡_, refl}
+use mathlib.Core.Bool.{false}
 use mathlib.Core.List.{List, [], _∷_}
-use Prim.Native.Nat.{ℕ, zero, suc, _<_, _≤_}
+use Prim.Native.Nat.{ℕ, suc, _<_, _≤_}
 use native.Mathlib.Nat.{le-refl}
 use native.Mathlib.Omega.{arith}
 use lib.ListN.{length}
 use Rattle.model.specs.Module.{Special, Module}
 use Rattle.model.specs.Carry.{Each, each-none, each-next, WellFormed}
 use Rattle.model.specs.Intake.{Passes}
-use Rattle.model.specs.Calls.{In, here, later, numbers, keep}
+use Rattle.model.specs.Calls.{In, here, later, numbers}
 use Rattle.model.specs.Callees.{callees}
 use Rattle.model.specs.Redirect.{function as functionAt}
-use Rattle.model.specs.Tables.{Tab, names, types, at, six, Tables, tables, count, Maps}
+use Rattle.model.specs.Tables.{Tab, names, types, at, six, Tables, tables, count}
 use Rattle.model.specs.Imports.{St, importT, renamed, unmapped, emptied, fresh}
 use Rattle.model.specs.Special.{force, withSpecial, putRay, putPair, sourced}
-use Rattle.model.specs.Bodies.{append, followF, follow}
+use Rattle.model.specs.Bodies.{append, follow}
 use Rattle.model.specs.Session.{unknown, ringing}
 use Rattle.calls.proofs.Lists.{length-numbers}
 use Rattle.gather.proofs.Numbered.{numbered-known}
@@ -28,16 +28,15 @@ use Rattle.bodies.specs.Lawful as Lawful
 use Rattle.finishing.specs.Known as Known
 use Rattle.finishing.specs.Ringless.{keep-short}
 use Rattle.finishing.specs.Alone.{called}
-use Rattle.finishing.specs.Sessions.{Keeping, Setting, sourced-kept}
+use Rattle.finishing.specs.Sessions.{Setting, sourced-kept}
 use Rattle.finishing.specs.Output.{follows-setting, emptied-follows}
-use Rattle.finishing.specs.Specials.{Typed, typed-setting, no-rays}
-use Rattle.finishing.specs.Counting.{type-functions}
+use Rattle.finishing.specs.Specials.{typed-setting, no-rays}
 use Rattle.sessions.specs.Height.{Low, unknowns, ringless}
 use Rattle.sessions.specs.Following.{Piece, pieces-grown, Holds, Next, holds-from, from-next, From, from-import, follows, append-next}
 use Rattle.sessions.specs.Renaming.{from-rename}
 
 -- tables and functions are no matter of maps and special types
-same-grown : (s r : St) → r .recs ≡ s .recs → r .functions ≡ s .functions → Grown s r
+pub same-grown : (s r : St) → r .recs ≡ s .recs → r .functions ≡ s .functions → Grown s r
 same-grown s r p q = record { tables = rw p (grown-refl s .tables); functions = rw q (le-refl _) }
 
 -- ---- without a source

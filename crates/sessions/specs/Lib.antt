@@ -6,3 +6,4 @@ pub mod Holding
 pub mod Entering
 pub mod Ending
 pub mod Operating
+pub mod Growing

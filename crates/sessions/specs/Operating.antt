@@ -3,29 +3,27 @@ use mathlib.Core.Path.{_≡_, refl, subst}
 use mathlib.Core.Bool.{Bool, true, false}
 use mathlib.Core.List.{List, [], _∷_}
 use mathlib.Core.Option.{Option, none, some}
-use Prim.Native.Nat.{ℕ, zero, suc, _*_, _<_, pred}
+use Prim.Native.Nat.{ℕ, zero, suc, _*_, _<_}
 use native.Mathlib.Omega.{arith}
 use lib.Dec.{ltb}
 use lib.ListN.{length}
 use borrow.Author.Tests.{ltb-true}
 use Rattle.model.specs.Outcome.{Laid, laid, bad, strange}
-use Rattle.model.specs.Tree.{Entry}
 use Rattle.model.specs.Module.{Module, read, write}
-use Rattle.model.specs.Carry.{Each, each-none, WellFormed}
+use Rattle.model.specs.Carry.{each-none, WellFormed}
 use Rattle.model.specs.Intake.{Passes, intakeOf}
 use Rattle.model.specs.Callees.{callees}
 use Rattle.model.specs.Redirect.{function}
-use Rattle.model.specs.Tables.{Tab, names, types, six, Tables, tables, count, mapAt}
-use Rattle.model.specs.Imports.{St, importT, renamed, emptied, fresh}
+use Rattle.model.specs.Tables.{Tab, names, types, Tables, tables, count}
+use Rattle.model.specs.Imports.{St}
 use Rattle.model.specs.Special.{sourced}
-use Rattle.model.specs.Bodies.{known, append, follow, enterAll, entriesMade}
 use Rattle.model.specs.Finish.{finished, tooLarge}
 use Rattle.model.specs.Session.{Source, Session, Answer, answered, refused, after, new, needing, kept, ringing, setting, set, clear, mapSpan, importing, renameType, importFunction, mapFunctionHandle, ending, finish, calleesOf, withEntries, finishWithEntryPoints}
 use Rattle.laws.specs.Modules.{read-well}
 use Rattle.finishing.specs.Linking.{intake-passes}
-use Rattle.sessions.specs.Following.{Holds, holds-from, from-next}
+use Rattle.sessions.specs.Following.{Holds, Next, holds-from, from-next}
 use Rattle.sessions.specs.Holding.{none-set, cleared-holds, fresh-holds, sourced-holds, import-next, rename-next, function-next, handle-from}
-use Rattle.sessions.specs.Entering.{EntryPiece, Entered, all-entered, entries-sound}
+use Rattle.sessions.specs.Entering.{all-entered, entries-sound}
 use Rattle.sessions.specs.Ending.{Written, all-written}
 
 -- ---- operations; import_type and its like are one, `imports`
@@ -70,129 +68,141 @@ GoodBy (some x) s = Set x s
 unfoldable pub Good : Session → Type 0
 Good s = GoodBy (s .source) (s .state)
 
-good-holds : (x : Option Source) (s : St) → GoodBy x s → (T : Tables) × Holds T s
+pub good-holds : (x : Option Source) (s : St) → GoodBy x s → (T : Tables) × Holds T s
 unfolding GoodBy
 good-holds none s g = (none-set, g)
 good-holds (some x) s g = (tables (x .image), g .holds)
+
+-- ---- a fact P of sessions that holds of s holds of the session after an operation, if it holds of what the operation takes over
+module _ (P : Session → Type 0) (s : Session) (p : P s) where
+  -- 21
+  pub kept-after : {A : Type 0} (x : Source) (r : St) (a : A) → P (record { source = some x; state = r }) → P (after s (kept x r a))
+  unfolding kept after
+  kept-after {A} x r a k = go (tooLarge (finished r []))
+    where
+      go : (b : Bool) → P (after s (let v : Answer A = elim b [ true ↦ refused 21 | false ↦ answered a (record { source = some x; state = r }) ] in v))
+      go true = p
+      go false = k
+
+  -- 13
+  ranged-after : {A : Type 0} (n k : ℕ) (a : Answer A) → (n < k → P (after s a)) → P (after {A = A} s (elim (ltb n k) [ true ↦ a | false ↦ refused 13 ]))
+  unfolding after
+  ranged-after {A} n k a f = go (ltb n k) refl
+    where
+      go : (b : Bool) → ltb n k ≡ b → P (after s (let v : Answer A = elim b [ true ↦ a | false ↦ refused 13 ] in v))
+      go true e = f (ltb-true n k e)
+      go false e = p
+
+  -- 22
+  ringless-after : {A : Type 0} (c : Bool) (a : Answer A) → (c ≡ false → P (after s a)) → P (after {A = A} s (elim c [ true ↦ refused 22 | false ↦ a ]))
+  unfolding after
+  ringless-after true a f = p
+  ringless-after false a f = f refl
+
+  -- the end
+  pub ending-after : (m : Module) (room : ℕ) → P new → P (after s (ending m room))
+  unfolding ending after
+  ending-after m room n = go (tooLarge m) (ltb room (4 * length (write m)))
+    where
+      go : (b c : Bool) → P (after s (let v : Answer (List ℕ) = elim b [ true ↦ refused 21 | false ↦ elim c [ true ↦ refused 7 | false ↦ answered (write m) new ] ] in v))
+      go true c = p
+      go false true = p
+      go false false = n
+
+  -- setting
+  pub set-after : (bytes : ℕ) (ws : List ℕ) (o : ℕ) → ((m : Module) → WellFormed m → Passes m → P (record { source = some (record { image = m; offset = o }); state = sourced o m (s .state) })) → P (after s (set bytes ws o s))
+  unfolding set setting after
+  set-after bytes ws o f = go (intakeOf bytes ws) refl (read ws) refl
+    where
+      go : (n : ℕ) → intakeOf bytes ws ≡ n → (r : Laid Module) → read ws ≡ r → P (after s (let v : Answer (Unit {0}) = elim n [ zero ↦ setting r o s | suc n ↦ refused (suc n) ] in v))
+      go zero e (laid m) q = kept-after (record { image = m; offset = o }) (sourced o m (s .state)) tt (f m (read-well ws m q) (intake-passes bytes ws m e q))
+      go zero e bad q = p
+      go zero e strange q = p
+      go (suc n) e r q = p
+
+  module _ (g : Good s) where
+    -- 20
+    needing-after : {A : Type 0} (f : Source → Answer A) → ((x : Source) → Set x (s .state) → P (after s (f x))) → P (after s (needing (s .source) f))
+    unfolding needing after Good GoodBy
+    needing-after {A} f k = go (s .source) g
+      where
+        go : (x : Option Source) → GoodBy x (s .state) → P (after s (needing x f))
+        go none h = p
+        go (some x) h = k x h
+
+    pub span-after : (v : ℕ × ℕ) → P (after s (mapSpan v s))
+    unfolding mapSpan after
+    span-after v = needing-after _ λ x k. p
+
+    pub finish-with-after : (room : ℕ) → P new → P (after s (finishWithEntryPoints room s))
+    unfolding finishWithEntryPoints
+    finish-with-after room n =
+        needing-after _ λ x k.
+        ringless-after (ringing (calleesOf (x .image .entries)) (x .image) (s .state)) _ λ e.
+        ending-after (withEntries x (s .state)) room n
+
+    -- what an import takes over is a next state
+    module _ (next : (x : Source) (r : St) → Set x (s .state) → Next (x .image) (s .state) r → P (record { source = some x; state = r })) where
+      pub import-after : (t : Tab) (n : ℕ) → P (after s (importing t n s))
+      unfolding importing
+      import-after t n =
+          needing-after _ λ x k.
+          ranged-after n (count (tables (x .image)) t) _ λ l.
+          kept-after x _ _ (next x _ k (import-next (x .image) (k .well) (k .passes) (x .offset) t n (s .state) l (k .holds)))
+
+      pub rename-after : (n name : ℕ) → P (after s (renameType n name s))
+      unfolding renameType
+      rename-after n name =
+          needing-after _ λ x k.
+          ranged-after n (count (tables (x .image)) types) _ λ l.
+          ranged-after name (count (tables (x .image)) names) _ λ w.
+          kept-after x _ _ (next x _ k (rename-next (x .image) (k .well) (k .passes) (x .offset) n name (s .state) l w (k .holds)))
+
+      pub function-after : (n : ℕ) → P (after s (importFunction n s))
+      unfolding importFunction
+      function-after n =
+          needing-after _ λ x k.
+          ranged-after n (length (x .image .functions)) _ λ l.
+          ringless-after (ringing (n ∷ callees (function (x .image) n)) (x .image) (s .state)) _ λ e.
+          kept-after x _ _ (next x _ k (function-next (x .image) (k .well) (k .passes) (x .offset) n (s .state) l e (k .holds)))
+
+      pub handle-after : (n : ℕ) → P (after s (mapFunctionHandle n s))
+      unfolding mapFunctionHandle
+      handle-after n =
+          needing-after _ λ x k.
+          ranged-after n (length (x .image .functions)) _ λ l.
+          ringless-after (ringing (n ∷ []) (x .image) (s .state)) _ λ e.
+          kept-after x _ _ (next x _ k (from-next (handle-from (x .image) (k .well) (k .passes) (x .offset) n (s .state) l e (k .holds))))
 
 -- ---- each operation keeps it
 pub new-good : Good new
 unfolding Good GoodBy new
 new-good = fresh-holds
 
-kept-good : {A : Type 0} (x : Source) (r : St) (a : A) (s : Session) → Good s → Set x r → Good (after s (kept x r a))
-unfolding kept after Good GoodBy
-kept-good {A} x r a s g k = go (tooLarge (finished r []))
-  where
-    go : (b : Bool) → Good (after s (let v : Answer A = elim b [ true ↦ refused 21 | false ↦ answered a (record { source = some x; state = r }) ] in v))
-    go true = g
-    go false = k
-
-set-good : (bytes : ℕ) (ws : List ℕ) (o : ℕ) (s : Session) → Good s → Good (after s (set bytes ws o s))
-unfolding set setting after Good
-set-good bytes ws o s g = go (intakeOf bytes ws) refl (read ws) refl
-  where
-    go : (n : ℕ) → intakeOf bytes ws ≡ n → (r : Laid Module) → read ws ≡ r → Good (after s (let v : Answer (Unit {0}) = elim n [ zero ↦ setting r o s | suc n ↦ refused (suc n) ] in v))
-    go zero e (laid m) q =
-        let h = good-holds (s .source) (s .state) g in
-        let w = read-well ws m q in
-        let p = intake-passes bytes ws m e q in
-        kept-good (record { image = m; offset = o }) (sourced o m (s .state)) tt s g (record { well = w; passes = p; holds = sourced-holds m w p o (h .0) (s .state) (h .1) })
-    go zero e bad q = g
-    go zero e strange q = g
-    go (suc n) e r q = g
-
 clear-good : (s : Session) → Good s → Good (clear s)
 unfolding clear Good GoodBy
 clear-good s g = let h = good-holds (s .source) (s .state) g in cleared-holds (h .0) (s .state) (h .1)
 
--- 20, or with the source that is set
-needing-good : {A : Type 0} (s : Session) (f : Source → Answer A) → Good s → ((x : Source) → Set x (s .state) → Good (after s (f x))) → Good (after s (needing (s .source) f))
-unfolding needing after Good GoodBy
-needing-good {A} s f g k = go (s .source) g
-  where
-    go : (x : Option Source) → GoodBy x (s .state) → Good (after s (needing x f))
-    go none h = g
-    go (some x) h = k x h
+set-good : (s : Session) → Good s → (o : ℕ) (m : Module) → WellFormed m → Passes m → Good (record { source = some (record { image = m; offset = o }); state = sourced o m (s .state) })
+unfolding Good GoodBy
+set-good s g o m w p = let h = good-holds (s .source) (s .state) g in record { well = w; passes = p; holds = sourced-holds m w p o (h .0) (s .state) (h .1) }
 
--- 13, or in range
-ranged-good : {A : Type 0} (s : Session) (n k : ℕ) (a : Answer A) → Good s → (n < k → Good (after s a)) → Good (after {A = A} s (elim (ltb n k) [ true ↦ a | false ↦ refused 13 ]))
-unfolding after
-ranged-good {A} s n k a g f = go (ltb n k) refl
-  where
-    go : (b : Bool) → ltb n k ≡ b → Good (after s (let v : Answer A = elim b [ true ↦ a | false ↦ refused 13 ] in v))
-    go true e = f (ltb-true n k e)
-    go false e = g
-
--- 22, or no ring
-ringless-good : {A : Type 0} (s : Session) (c : Bool) (a : Answer A) → Good s → (c ≡ false → Good (after s a)) → Good (after {A = A} s (elim c [ true ↦ refused 22 | false ↦ a ]))
-unfolding after
-ringless-good s true a g f = g
-ringless-good s false a g f = f refl
-
-span-good : (p : ℕ × ℕ) (s : Session) → Good s → Good (after s (mapSpan p s))
-unfolding mapSpan after
-span-good p s g = needing-good s _ g (λ x k. g)
-
-import-good : (t : Tab) (n : ℕ) (s : Session) → Good s → Good (after s (importing t n s))
-unfolding importing
-import-good t n s g =
-    needing-good s _ g λ x k.
-    ranged-good s n (count (tables (x .image)) t) _ g λ l.
-    kept-good x _ _ s g (record { well = k .well; passes = k .passes; holds = import-next (x .image) (k .well) (k .passes) (x .offset) t n (s .state) l (k .holds) .holds })
-
-rename-good : (n name : ℕ) (s : Session) → Good s → Good (after s (renameType n name s))
-unfolding renameType
-rename-good n name s g =
-    needing-good s _ g λ x k.
-    ranged-good s n (count (tables (x .image)) types) _ g λ l.
-    ranged-good s name (count (tables (x .image)) names) _ g λ w.
-    kept-good x _ _ s g (record { well = k .well; passes = k .passes; holds = rename-next (x .image) (k .well) (k .passes) (x .offset) n name (s .state) l w (k .holds) .holds })
-
-function-good : (n : ℕ) (s : Session) → Good s → Good (after s (importFunction n s))
-unfolding importFunction
-function-good n s g =
-    needing-good s _ g λ x k.
-    ranged-good s n (length (x .image .functions)) _ g λ l.
-    ringless-good s (ringing (n ∷ callees (function (x .image) n)) (x .image) (s .state)) _ g λ e.
-    kept-good x _ _ s g (record { well = k .well; passes = k .passes; holds = function-next (x .image) (k .well) (k .passes) (x .offset) n (s .state) l e (k .holds) .holds })
-
-handle-good : (n : ℕ) (s : Session) → Good s → Good (after s (mapFunctionHandle n s))
-unfolding mapFunctionHandle
-handle-good n s g =
-    needing-good s _ g λ x k.
-    ranged-good s n (length (x .image .functions)) _ g λ l.
-    ringless-good s (ringing (n ∷ []) (x .image) (s .state)) _ g λ e.
-    kept-good x _ _ s g (record { well = k .well; passes = k .passes; holds = from-next (handle-from (x .image) (k .well) (k .passes) (x .offset) n (s .state) l e (k .holds)) .holds })
-
-ending-good : (m : Module) (room : ℕ) (s : Session) → Good s → Good (after s (ending m room))
-unfolding ending after
-ending-good m room s g = go (tooLarge m) (ltb room (4 * length (write m)))
-  where
-    go : (b c : Bool) → Good (after s (let v : Answer (List ℕ) = elim b [ true ↦ refused 21 | false ↦ elim c [ true ↦ refused 7 | false ↦ answered (write m) new ] ] in v))
-    go true c = g
-    go false true = g
-    go false false = new-good
-
-finish-with-good : (room : ℕ) (s : Session) → Good s → Good (after s (finishWithEntryPoints room s))
-unfolding finishWithEntryPoints
-finish-with-good room s g =
-    needing-good s _ g λ x k.
-    ringless-good s (ringing (calleesOf (x .image .entries)) (x .image) (s .state)) _ g λ e.
-    ending-good (withEntries x (s .state)) room s g
+next-good : (s : Session) (x : Source) (r : St) → Set x (s .state) → Next (x .image) (s .state) r → Good (record { source = some x; state = r })
+unfolding Good GoodBy
+next-good s x r k n = record { well = k .well; passes = k .passes; holds = n .holds }
 
 -- EVERY OPERATION KEEPS IT
 pub does-good : (p : Operation) (s : Session) → Good s → Good (does p s)
 unfolding does finish
-does-good (sets bytes ws o) s g = set-good bytes ws o s g
+does-good (sets bytes ws o) s g = set-after Good s g bytes ws o (set-good s g o)
 does-good clears s g = clear-good s g
-does-good (spans p) s g = span-good p s g
-does-good (imports t n) s g = import-good t n s g
-does-good (renames n name) s g = rename-good n name s g
-does-good (functions n) s g = function-good n s g
-does-good (handles n) s g = handle-good n s g
-does-good (finishes room) s g = ending-good (finished (s .state) []) room s g
-does-good (finishes-with room) s g = finish-with-good room s g
+does-good (spans v) s g = span-after Good s g g v
+does-good (imports t n) s g = import-after Good s g g (next-good s) t n
+does-good (renames n name) s g = rename-after Good s g g (next-good s) n name
+does-good (functions n) s g = function-after Good s g g (next-good s) n
+does-good (handles n) s g = handle-after Good s g g (next-good s) n
+does-good (finishes room) s g = ending-after Good s g (finished (s .state) []) room new-good
+does-good (finishes-with room) s g = finish-with-after Good s g g room new-good
 
 pub run-good : (ps : List Operation) (s : Session) → Good s → Good (run ps s)
 unfolding run

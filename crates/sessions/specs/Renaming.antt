@@ -1,28 +1,28 @@
 -- RENAMED TYPES: the source in which a type bears another name is well formed as the source is, so an import from it keeps what an import keeps. Its counts and its names are the source's.
 use mathlib.Core.Path.{_≡_, refl, sym, ap, subst, _∙_}
-use mathlib.Core.Bool.{Bool, true, false}
+use mathlib.Core.Bool.{true}
 use mathlib.Core.List.{List, [], _∷_}
-use Prim.Native.Nat.{ℕ, zero, suc, _<_, _≤_}
+use Prim.Native.Nat.{ℕ, suc, _<_}
 use native.Mathlib.Nat.{le-trans}
 use native.Mathlib.Decide.{ℕ-discrete}
 use native.Mathlib.Omega.{arith}
 use lib.ListN.{length, getD, set, length-set}
 use lib.Seq.{getD-set-same, getD-set-other}
 use Rattle.model.specs.Outcome.{Cells}
-use Rattle.model.specs.Table.{Row, NAME, typeRow, more}
+use Rattle.model.specs.Table.{NAME, typeRow}
 use Rattle.model.specs.Module.{Module}
-use Rattle.model.specs.Carry.{Each, Lays, lays-next, WellFormed}
+use Rattle.model.specs.Carry.{Lays, lays-next, WellFormed}
 use Rattle.model.specs.Intake.{Passes}
-use Rattle.model.specs.Tables.{Tab, names, types, exprs, codeT, isT, at, upd, Tables, tables, recAt, count, mapAt}
-use Rattle.model.specs.References.{Place, table, own, function, Node, node, refOf, refs, target, targets, seat}
+use Rattle.model.specs.Tables.{Tab, names, types, exprs, codeT, isT, at, Tables, tables, recAt, count, mapAt}
+use Rattle.model.specs.References.{table, Node, node, refOf, refs, target, targets, seat}
 use Rattle.model.specs.Imports.{St, importT, rename, renamed}
 use Rattle.laws.specs.Plain.{plain-more}
 use Rattle.laws.specs.Quiet.{each-map}
 use Rattle.imports.specs.TableLaws.{Tab-dec, at-same, at-other, apart}
 use Rattle.imports.specs.RecordLaws.{All, all-map, rest-of}
-use Rattle.imports.specs.Well.{home, May, type-name, InitLow, Good, WF}
-use Rattle.imports.specs.Trace.{Trace, Sized, Keeps, trace-keeps, import-trace}
-use Rattle.imports.specs.Theorems.{Grows, Base, trace-base, trace-grows}
+use Rattle.imports.specs.Well.{home, type-name, InitLow, Good, WF}
+use Rattle.imports.specs.Trace.{Trace, Sized, trace-keeps, import-trace}
+use Rattle.imports.specs.Theorems.{Grows, trace-base, trace-grows}
 use Rattle.imports.specs.Kinds.{rowOf}
 use Rattle.imports.specs.Passing.{codeOk, codes, FitR, Fit, trace-fit, tested-fit}
 use Rattle.imports.specs.Tested.{tested-wf}
@@ -33,8 +33,8 @@ use Rattle.finishing.specs.Finished.{each-at}
 use Rattle.finishing.specs.Known as Known
 use Rattle.finishing.specs.Known.{Copied, name-copied, nameTable, import-follows}
 use Rattle.finishing.specs.Counting.{type-functions}
-use Rattle.finishing.specs.Specials.{Pair, Typed, import-special}
-use Rattle.sessions.specs.Following.{Piece, pieces-grown, each-same, From, from-good, from-trans}
+use Rattle.finishing.specs.Specials.{Typed, import-special}
+use Rattle.sessions.specs.Following.{pieces-grown, older-same, each-same, From, from-good}
 
 -- a type's record begins with its name
 pub type-head : {r : Cells} → Lays typeRow r → (v : ℕ) × (cs : Cells) × (r ≡ (NAME, v) ∷ cs) × ((w : ℕ) → Lays typeRow ((NAME, w) ∷ cs))
@@ -228,6 +228,7 @@ module _ (m : Module) (well : WellFormed m) (ok : Passes m) (o n name : ℕ) (in
       keeps = trace-keeps o S′ (both .0);
       knows = λ k h. Lawful.known-stays m s r (from-good f) grows (type-functions o S′ types n s) k h;
       grown = longer;
+      older = older-same s r (type-functions o S′ types n s);
       pieces = each-same (sym (type-functions o S′ types n s)) (pieces-grown longer (f .pieces));
     }
 
