@@ -7,3 +7,4 @@ pub mod Entering
 pub mod Ending
 pub mod Operating
 pub mod Growing
+pub mod Examples
