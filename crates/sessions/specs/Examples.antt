@@ -3,22 +3,22 @@
 use mathlib.Core.Path.{_≡_, refl, ap, _∙_}
 use mathlib.Core.Bool.{true, false}
 use mathlib.Core.List.{List, [], _∷_}
-use mathlib.Core.Option.{none, some}
-use Prim.Native.Nat.{ℕ, suc, _*_}
+use mathlib.Core.Option.{none}
+use Prim.Native.Nat.{ℕ, _*_}
 use lib.ListN.{length}
-use Rattle.model.specs.Table.{WORD, NAME, SPAN, UPTO, OPT-TYPE, RETURNS, KEY, TYPE}
-use Rattle.model.specs.Tree.{call, end, _then_, Function, Entry}
+use Rattle.model.specs.Table.{WORD, NAME, OPT-TYPE}
+use Rattle.model.specs.Tree.{call, end, _then_, Function}
 use Rattle.model.specs.SampleBodies.{does as doing}
 use Rattle.model.specs.RedirectExamples.{letter}
 use Rattle.model.specs.ImportExamples.{leaf, function-of}
-use Rattle.sessions.specs.Operating.{Operation, sets, clears, spans, imports, renames, functions, handles, finishes, finishes-with}
+use Rattle.sessions.specs.Operating.{Operation, sets, imports, renames, functions}
 use Rattle.model.specs.Module.{Module}
 use Rattle.imports.specs.Trace.{Keeps}
 use Rattle.imports.specs.Theorems.{Distinct}
 use Rattle.sessions.specs.Ending.{Written}
 use Rattle.sessions.specs.Operating.{new-good, run-good, finish-written}
 use Rattle.sessions.specs.Growing.{Grew, ends, turns, does-grow, does-keep, all-distinct, refused-keeps}
-use Rattle.model.specs.Session.{Session, answered, refused}
+use Rattle.model.specs.Session.{answered, refused}
 use Rattle.model.specs.Bodies.{append, appended, bring, carried, compareOf, comparesOf, declarations, declared, derived, eachE, enterAll, entered, entriesMade, entryMade, final, follow as bodies-follow, followF, goS, importE, join, keepNames, keptNames, known, lastOf, localized, mkS, nameCells, nameIf, namedAfter, namedRows, optE, plain, push, putName, quiet, rebuilt, settled, stand, step, unique, walked, went}
 use Rattle.model.specs.Callees.{calleesAt, calleesS, calls}
 use Rattle.model.specs.Calls.{any, free, held, keep, numbers, round, rounds}

@@ -194,6 +194,9 @@ module _ (m : Module) (well : WellFormed m) (ok : Passes m) (o : ℕ) where
   follow-idle zero s n h = refl
   follow-idle (suc d) s n h = once-is (λ r. r ≡ s) (known m s n) _ s (λ e. absurd (omega arith)) (λ e. refl)
 
+  pub source-passes : (n : ℕ) → n < length (m .functions) → Bodies.Passes m (functionAt m n)
+  source-passes n l = function-passes m well (ok .numbers) (ok .lowers) (ok .scope) n (functionAt m n) (unfold functionAt in at-some (m .functions) n l)
+
   source-named : functionsNamed (m .functions) ≡ true
   unfolding named
   source-named =
@@ -243,7 +246,7 @@ module _ (m : Module) (well : WellFormed m) (ok : Passes m) (o : ℕ) where
     G = functionAt m n
 
     pass : Bodies.Passes m G
-    pass = function-passes m well (ok .numbers) (ok .lowers) (ok .scope) n G (unfold functionAt in at-some (m .functions) n l)
+    pass = source-passes n l
 
     abbrev E : St
     E = final o m fol G s .out

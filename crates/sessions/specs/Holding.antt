@@ -127,12 +127,12 @@ module _ (m : Module) (well : WellFormed m) (ok : Passes m) (o : ℕ) where
   heights s is e i each-none = tt
   heights s is e i (each-next {a = j} l ls) = (ringless m well (ok .numbers) s is e j (i j here) l, heights s is e (λ k h. i k (later h)) ls)
 
+  pub callees-low : (s : St) (n : ℕ) → n < length (m .functions) → ringing (n ∷ callees (functionAt m n)) m s ≡ false → All (λ j. Low (unknowns m s) m s j) (callees (functionAt m n))
+  callees-low s n l e = heights s (n ∷ callees (functionAt m n)) e (λ j i. later i) (each-map (λ j c. c .to) (called m (numbered-known m well (ok .numbers)) n l))
+
   -- import_function
   pub function-next : (n : ℕ) (s : St) → n < length (m .functions) → ringing (n ∷ callees (functionAt m n)) m s ≡ false → Holds T s → Next m s (append o m (follow o m) n s)
-  function-next n s l e h = append-next m well ok o (follow o m) (λ j. Low (unknowns m s) m s j) s (follow-follows s) n l (heights s (n ∷ callees (functionAt m n)) e (λ j i. later i) low) (holds-from h)
-    where
-      low : Each (λ j. j < length (m .functions)) (callees (functionAt m n))
-      low = each-map (λ j c. c .to) (called m (numbered-known m well (ok .numbers)) n l)
+  function-next n s l e h = append-next m well ok o (follow o m) (λ j. Low (unknowns m s) m s j) s (follow-follows s) n l (callees-low s n l e) (holds-from h)
 
   -- map_function_handle
   pub handle-from : (n : ℕ) (s : St) → n < length (m .functions) → ringing (n ∷ []) m s ≡ false → Holds T s → From m s (follow o m n s)
