@@ -582,7 +582,7 @@ module _ (o : ℕ) (M : Module) (follow : ℕ → St → St) (Q : ℕ → Type 0
     upC nomore h m k = absurd (no-mem m)
     upC (c also ks) h m k = let z = and-true (kindsK c xs) _ h in ⊎-elim (λ p. mem-left (mentionsC ks xs) (upK c (z .0) p k)) (λ p. mem-right (mentionsK c xs) (upC ks (z .1) p k)) (mem-cases (evalsK c) (evalsC ks) m)
 
-  mentions-may : (x : ℕ) → Mem x (mentionsB (seen F) xs) → May F x
+  pub mentions-may : (x : ℕ) → Mem x (mentionsB (seen F) xs) → May F x
   mentions-may = isB xs (May F) (λ e s. inl s) (seen F) [] (λ e m. absurd (no-mem m)) (λ e m. inr (inl m)) (rules .reads)
 
   may-ops : (e : ℕ) → May F e → All (May F) (ops xs e)

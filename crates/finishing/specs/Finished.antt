@@ -384,7 +384,7 @@ module _ {t : Module} (p : Parts t) (h : numbered t ≡ true) where
   field-seen each-none n e = never n e
   field-seen (each-next {a = (s, w)} q qs) n e = either (eqb s NAME) (λ a. q n a (rw (field, a) at e)) λ a. field-seen qs n (rw (field, a) at e)
 
-  names-seen : {fs : List Function} → Each (λ f. Each (Seen ns) (flat f)) fs → Each (λ w. (n : ℕ) → w ≡ suc n → Mem n ns) (functionNames fs)
+  pub names-seen : {fs : List Function} → Each (λ f. Each (Seen ns) (flat f)) fs → Each (λ w. (n : ℕ) → w ≡ suc n → Mem n ns) (functionNames fs)
   unfolding functionNames
   names-seen each-none = each-none
   names-seen (each-next {a = f} q qs) = each-next (field-seen (function-cells f q .in-head)) (names-seen qs)

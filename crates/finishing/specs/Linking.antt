@@ -49,7 +49,14 @@ each-by : {P : Cells → Type 0} (l : List Cells) → ((i : ℕ) → i < length 
 each-by [] h = each-none
 each-by (x ∷ l) h = each-next (h 0 (omega arith)) (each-by l λ i k. h (suc i) (omega arith))
 
-module _ (m : Module) (well : WellFormed m) (s : St) (es : List Entry) (k : Typed (tables m) s) (f : Fits 0 (tables m) s) (q : Smaller (s .special .pairs) (m .special .pairs)) (g : Functions m s es) where
+-- that they are laid out and their numbers are in range
+pub record LaidOut (s : St) (es : List Entry) : Type 0 where
+  pub functions-well : Each WellFunction (s .functions)
+  pub entries-well : Each WellEntry es
+  pub functions-sound : every (soundFunction (outside (gathered s es))) (s .functions) ≡ true
+  pub entries-sound : every (soundEntry (outside (gathered s es))) es ≡ true
+
+module _ {T : Tables} (s : St) (es : List Entry) (k : Typed T s) (g : LaidOut s es) where
   table-laid : (t : Tab) → Each (Lays (rowOf t)) (at t (s .recs))
   table-laid t = each-by (at t (s .recs)) λ i h. laid-at i h
     where
@@ -59,9 +66,9 @@ module _ (m : Module) (well : WellFormed m) (s : St) (es : List Entry) (k : Type
           let r : FitR t (recAt (s .recs) t i) = (unfold Fit in k .kept .fit t i c) in
           (unfold recAt in r .laid)
 
-  parts : Parts (gathered s es)
+  pub gathered-parts : Parts (gathered s es)
   unfolding gathered rowOf at
-  parts = record {
+  gathered-parts = record {
     names-each = table-laid names;
     types-each = table-laid types;
     constants-each = table-laid constants;
@@ -74,14 +81,24 @@ module _ (m : Module) (well : WellFormed m) (s : St) (es : List Entry) (k : Type
     pairs-each = typed-pairs k;
   }
 
-  numbers : numbered (gathered s es) ≡ true
+  pub gathered-numbers : numbered (gathered s es) ≡ true
   unfolding numbered gathered
-  numbers =
-      let t = derived-three (tables m) s es (k .kept) in
+  gathered-numbers =
+      let t = derived-three T s es (k .kept) in
       let b = outside (gathered s es) in
       let c : count (s .recs) types ≡ b .types = (unfold outside count at gathered in refl) in
       let z = typed-within b c k in
       and-true (t .types-in) (and-true (t .constants-in) (and-true (t .overrides-in) (and-true (t .globals-in) (and-true (t .exprs-in) (and-true (t .constant-in) (and-true (g .functions-sound) (and-true (g .entries-sound) (and-true (z .0) (z .1)))))))))
+
+module _ (m : Module) (well : WellFormed m) (s : St) (es : List Entry) (k : Typed (tables m) s) (f : Fits 0 (tables m) s) (q : Smaller (s .special .pairs) (m .special .pairs)) (g : Functions m s es) where
+  laid-out : LaidOut s es
+  laid-out = record { functions-well = g .functions-well; entries-well = g .entries-well; functions-sound = g .functions-sound; entries-sound = g .entries-sound }
+
+  parts : Parts (gathered s es)
+  parts = gathered-parts s es k laid-out
+
+  numbers : numbered (gathered s es) ≡ true
+  numbers = gathered-numbers s es k laid-out
 
   rays-long : length (s .special .rays) ≡ length (m .special .rays)
   rays-long = plain-length (typed-rays k) (unfold plain? in refl) ∙ sym (plain-length (well .rays-ok) (unfold plain? in refl))

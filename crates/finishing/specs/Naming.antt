@@ -33,7 +33,7 @@ module _ {m : ℕ → ℕ → ℕ} (o : Only m) (q : Names m) where
   other-field k h [] = refl
   other-field k h ((s, w) ∷ cs) = let i = other-field k h cs in either (eqb s NAME) (λ e. rw (eqb-true s NAME e, field, h) i) λ e. ap₂ (λ x l. elim (eqb s k) [ true ↦ x | false ↦ l ]) (o .only s w e) i
 
-  other-fields : (k : ℕ) → eqb NAME k ≡ false → (rs : List Cells) → map (field k) (map (carryCells m) rs) ≡ map (field k) rs
+  pub other-fields : (k : ℕ) → eqb NAME k ≡ false → (rs : List Cells) → map (field k) (map (carryCells m) rs) ≡ map (field k) rs
   other-fields k h [] = refl
   other-fields k h (r ∷ rs) = ap₂ _∷_ (other-field k h r) (other-fields k h rs)
 
@@ -45,7 +45,7 @@ module _ {m : ℕ → ℕ → ℕ} (o : Only m) (q : Names m) where
   zero-kept zero = ap (λ x. eqb x 0) (q .none)
   zero-kept (suc n) = ne-eqb (m NAME (suc n)) 0 (q .some n) ∙ sym (ne-eqb (suc n) 0 λ e. omega arith)
 
-  present-kept : (ws : List ℕ) → present (map (m NAME) ws) ≡ present ws
+  pub present-kept : (ws : List ℕ) → present (map (m NAME) ws) ≡ present ws
   unfolding present
   present-kept [] = refl
   present-kept (w ∷ ws) = ap₂ (λ x l. not x && l) (zero-kept w) (present-kept ws)
@@ -55,22 +55,22 @@ module _ {m : ℕ → ℕ → ℕ} (o : Only m) (q : Names m) where
   unfolding expressionsNamed carryFunction
   expressions-kept f = ap₂ _&&_ (ap present (name-fields (f .named)) ∙ present-kept (map (field NAME) (f .named))) (ap distinct (other-fields NAMED-EXPR refl (f .named)))
 
-  functions-named : (fs : List Function) → functionsNamed (map (carryFunction m) fs) ≡ functionsNamed fs
+  pub functions-named : (fs : List Function) → functionsNamed (map (carryFunction m) fs) ≡ functionsNamed fs
   unfolding functionsNamed
   functions-named [] = refl
   functions-named (f ∷ fs) = ap₂ _&&_ (expressions-kept f) (functions-named fs)
 
-  entries-named : (es : List Entry) → entriesNamed (map (carryEntry m) es) ≡ entriesNamed es
+  pub entries-named : (es : List Entry) → entriesNamed (map (carryEntry m) es) ≡ entriesNamed es
   unfolding entriesNamed carryEntry
   entries-named [] = refl
   entries-named (e ∷ es) = ap₂ _&&_ (expressions-kept (e .function)) (entries-named es)
 
-  function-names : (fs : List Function) → functionNames (map (carryFunction m) fs) ≡ map (m NAME) (functionNames fs)
+  pub function-names : (fs : List Function) → functionNames (map (carryFunction m) fs) ≡ map (m NAME) (functionNames fs)
   unfolding functionNames carryFunction
   function-names [] = refl
   function-names (f ∷ fs) = ap₂ _∷_ (name-field (f .head)) (function-names fs)
 
-  entry-names : (es : List Entry) → entryNames (map (carryEntry m) es) ≡ map (m NAME) (entryNames es)
+  pub entry-names : (es : List Entry) → entryNames (map (carryEntry m) es) ≡ map (m NAME) (entryNames es)
   unfolding entryNames carryEntry
   entry-names [] = refl
   entry-names (e ∷ es) = ap₂ _∷_ (name-field (e .head)) (entry-names es)

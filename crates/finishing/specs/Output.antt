@@ -53,7 +53,7 @@ pub record Bears (m : Module) (s : St) (n : ℕ) : Type 0 where
   pub seated : seat (nameTable s) (recAt (tables m) names (pred (nameWord (functionAt m n)))) < length (nameTable s)
   pub found : 0 < known m s n
 
-carried-name : (m : Module) (o : ℕ) (x : Making) (cs : Cells) (k : ℕ) (r : Cells) → cs ≡ (NAME, suc k) ∷ r → word (getD (carried o m x cs) 0 (0, 0)) ≡ mapAt (x .out .maps) names k
+pub carried-name : (m : Module) (o : ℕ) (x : Making) (cs : Cells) (k : ℕ) (r : Cells) → cs ≡ (NAME, suc k) ∷ r → word (getD (carried o m x cs) 0 (0, 0)) ≡ mapAt (x .out .maps) names k
 unfolding carried shift carryCell through carryW target targets went moved
 carried-name m o x cs k r q = rw q
 
@@ -245,7 +245,7 @@ zeros (suc k) zero = refl
 zeros (suc k) (suc n) = zeros k n
 
 -- with a new source nothing is mapped
-emptied-follows : (T : Tables) (s : St) → Follows T (emptied (unmapped T) s) (emptied (unmapped T) s)
+pub emptied-follows : (T : Tables) (s : St) → Follows T (emptied (unmapped T) s) (emptied (unmapped T) s)
 unfolding emptied unmapped mapAt count Sized six at
 emptied-follows T s = record {
   sized = λ u. rw (at-six u (λ t. replicate {A = ℕ} (count T t) 0)) (length-replicate {A = ℕ} (count T u) 0);

@@ -39,7 +39,7 @@ unfolding each
 each-special step h [] s = refl
 each-special step h (j ∷ js) s = each-special step h js (step (j .place) (j .num) s) ∙ h (j .place) (j .num) s
 
-import-special : (f o : ℕ) (T : Tables) (t : Tab) (n : ℕ) (s : St) → importF f o T t n s .special ≡ s .special
+pub import-special : (f o : ℕ) (T : Tables) (t : Tab) (n : ℕ) (s : St) → importF f o T t n s .special ≡ s .special
 unfolding importF
 import-special zero o T t n s = refl
 import-special (suc f) o T t n s = go (mapAt (s .maps) t n) (λ js s. each-special (stepT (importF f o T)) (λ p n s. stepped p n s (import-special f o T)) js s)
@@ -112,7 +112,7 @@ new-pair : (key t n : ℕ) → t < n → Pair n ((KEY, key) ∷ (TYPE, t) ∷ []
 unfolding field
 new-pair key t n h = record { shaped = plain-next (plain-next plain-none); low = h }
 
-no-rays : (n : ℕ) → Each (λ c. word c ≤ n) ((OPT-TYPE, 0) ∷ (OPT-TYPE, 0) ∷ (OPT-TYPE, 0) ∷ [])
+pub no-rays : (n : ℕ) → Each (λ c. word c ≤ n) ((OPT-TYPE, 0) ∷ (OPT-TYPE, 0) ∷ (OPT-TYPE, 0) ∷ [])
 no-rays n = each-next zero-low (each-next zero-low (each-next zero-low each-none))
   where
     zero-low : 0 ≤ n
@@ -170,13 +170,13 @@ module _ (m : Module) (well : WellFormed m) (three : numbered m ≡ true) (four 
   unfolding force
   force-typed n v s l k = record { kept = (unfold force in force-kept T n v s l (k .kept)); shaped = k .shaped; low = k .low; paired = k .paired; keys = k .keys }
 
-  typed-keeping : Keeping m o (Typed T)
+  pub typed-keeping : Keeping m o (Typed T)
   typed-keeping = record { imports = import-typed; appends = λ f s k. unfold appended in record { kept = (unfold appended in kept-appended f s (k .kept)); shaped = k .shaped; low = k .low; paired = k .paired; keys = k .keys } }
 
   same-keyed : (key n : ℕ) (s : St) → keyed (s .special .pairs) key ≡ 0 → keyed (importT o T types n s .special .pairs) key ≡ 0
   same-keyed key n s h = let e : importT o T types n s .special ≡ s .special = (unfold importT in import-special _ o T types n s) in rw e h
 
-  typed-setting : Setting m o (Typed T)
+  pub typed-setting : Setting m o (Typed T)
   typed-setting = record {
     ray-new = λ j n s l k. put-ray j n _ (import-typed types n s l k);
     ray-old = λ j n v s e k. force-typed n (suc v) s (rw e at (each-getD (k .low) j)) k;

@@ -33,7 +33,7 @@ cells-below b (c ∷ cs) h =
     go true e f rest = each-next (callee-below b (word c) (subst (λ s. below (bound b s) (word c) ≡ true) (eqb-true (class c) CALLEE e) f)) rest
     go false e f rest = rest
 
-sound-below : (b : Bounds) (f : Function) → WellFunction f → soundFunction b f ≡ true → Each (λ j. j < b .functions) (callees f)
+pub sound-below : (b : Bounds) (f : Function) → WellFunction f → soundFunction b f ≡ true → Each (λ j. j < b .functions) (callees f)
 unfolding sound inside
 sound-below b f w h =
     subst (Each (λ j. j < b .functions)) (cells-function w) (cells-below (inside b f) (flat f) (and-split (within (inside b f) (flat f)) (ordered (flat f) && initialised f) h .0))

@@ -1,0 +1,125 @@
+-- The theorems are not empty: sessions on a small source, computed, and the theorems applied to them.
+-- The source has three functions, shade, tone and fog, where shade calls fog and fog calls tone, an entry point that calls shade, and two types, of which one is special. It is set twice, with another offset, so that the special type's place is taken.
+use mathlib.Core.Path.{_≡_, refl, ap, _∙_}
+use mathlib.Core.Bool.{true, false}
+use mathlib.Core.List.{List, [], _∷_}
+use mathlib.Core.Option.{none}
+use Prim.Native.Nat.{ℕ, _*_}
+use lib.ListN.{length}
+use Rattle.model.specs.Table.{WORD, NAME, OPT-TYPE}
+use Rattle.model.specs.Tree.{call, end, _then_, Function}
+use Rattle.model.specs.SampleBodies.{does as doing}
+use Rattle.model.specs.RedirectExamples.{letter}
+use Rattle.model.specs.ImportExamples.{leaf, function-of}
+use Rattle.sessions.specs.Operating.{Operation, sets, imports, renames, functions}
+use Rattle.model.specs.Module.{Module}
+use Rattle.imports.specs.Trace.{Keeps}
+use Rattle.imports.specs.Theorems.{Distinct}
+use Rattle.sessions.specs.Ending.{Written}
+use Rattle.sessions.specs.Operating.{new-good, run-good, finish-written}
+use Rattle.sessions.specs.Growing.{Grew, ends, turns, does-grow, does-keep, all-distinct, refused-keeps}
+use Rattle.model.specs.Session.{answered, refused}
+use Rattle.model.specs.Bodies.{append, appended, bring, carried, compareOf, comparesOf, declarations, declared, derived, eachE, enterAll, entered, entriesMade, entryMade, final, follow as bodies-follow, followF, goS, importE, join, keepNames, keptNames, known, lastOf, localized, mkS, nameCells, nameIf, namedAfter, namedRows, optE, plain, push, putName, quiet, rebuilt, settled, stand, step, unique, walked, went}
+use Rattle.model.specs.Callees.{calleesAt, calleesS, calls}
+use Rattle.model.specs.Calls.{any, free, held, keep, numbers, round, rounds}
+use Rattle.model.specs.Carry.{carry, carryCell, carryEntry, carryFunction, carryOpt, carryRange, carryS, carrySpecial}
+use Rattle.model.specs.Finish.{appearing, finished, firsts, gathered, indexN, keepN, namedBy, namesIn, passes, renumber, tooLarge, withNames}
+use Rattle.model.specs.Imports.{commit, emptied, fresh, importF, importT, levels as imports-levels, made, once, rename, renamed, settle, stepT, unmapped, wentT}
+use Rattle.model.specs.Initial.{close, constantAt, initialised, initials, initsOf as initial-initsOf, mark, marked, moving, reachedMarks, readBy, roots, unmarked}
+use Rattle.model.specs.Intake.{intakeOf, tested, verdict}
+use Rattle.model.specs.Lower.{basesOf, below as lower-below, entriesLower, functionsLower, initOf, initsLower, initsOf as lower-initsOf, lower, operandsLower, typesLower}
+use Rattle.model.specs.Module.{_⊛_, bodies, countAt, endAt, flatModule, flatSpecial, flatTable, limits, next, offsetAt, pairsFrom, placed, places, read, records, section, sections, sized, specialAt, table, tableAt, write}
+use Rattle.model.specs.Names.{absent, differ, distinct as names-distinct, entriesNamed, entryNames, expressionsNamed, field, functionNames, functionsNamed, named as names-named, present, same, unlike}
+use Rattle.model.specs.Numbers.{below as numbers-below, bound, caps, constantOnly, every, inside, numbered, ordered, outside, rising, sound, within}
+use Rattle.model.specs.Operands.{constantKind, emittedKind, functionOf, kind, kindAt, operand, ops, opsOf, optional, resultKind, resultOf, standing, standingKind}
+use Rattle.model.specs.Outcome.{_⟫_, both, eat, exact, mapL, mapO}
+use Rattle.model.specs.Redirect.{function, nameWord, nothing}
+use Rattle.model.specs.References.{add, alike, alikeC, carryW, each, firstWord, merged, moved, refOf, refs, seat, shift, spanBy, target, targets, through, undefined, undefinedAt}
+use Rattle.sessions.specs.Operating.{does, run}
+use Rattle.model.specs.Scope.{addE, addF, addOpt, addS, allOf, allScoped, allVis, callResult, contB, distinct as scope-distinct, effectResult, emitted, entriesScoped, evalsOpt, evalsS, expandS, has, holdsS, inRange, inScope, isOf, kindsS, live, okE, okS, optVis, scoped, scopedAs, seen, shapeS, topB, upFrom, vis}
+use Rattle.model.specs.Session.{after, calleesOf, clear, ending, finish, finishWithEntryPoints, importFunction, importing, kept, mapFunctionHandle, mapSpan, needing, new, renameType, ringing, set as session-set, setting, stuck, unknown, withEntries}
+use Rattle.model.specs.Special.{force, keyed, pairTo, pairs, putPair, putRay, ray, rayTo, rays, sourced, withSpecial}
+use Rattle.model.specs.Table.{atomics, constantRow, counted, entryHead, expressionRow, expressions, follow as table-follow, functionHead, globalRow, levels as table-levels, limit, more, nameRow, overrideRow, queries, repeat, results, run as table-run, statements, text, typeRow, types, values, variant, variants}
+use Rattle.model.specs.Tables.{types as tab-types, at, codeT, count, isT, mapAt, recAt, six, tables, upd}
+use Rattle.model.specs.Tree.{blockAt, caseAt, cases, checked, entryAt, flat, flatAll, flatBlock, flatEntry, flatList, flatS, flatX, form, functionAt, kindOf, listed, operands, optOf, rows, shaped, sizeB, sizeC, statement, stmts, wordOf}
+
+abbrev calling : ℕ → ℕ → Function
+calling n f = function-of n [] [] [] (doing (call f [] none) then end)
+
+abbrev pub shades : Module
+shades = record {
+  names = letter 97 ∷ letter 98 ∷ letter 99 ∷ [];
+  types = leaf 1 1 0 ∷ leaf 0 5 1 ∷ [];
+  constants = [];
+  overrides = [];
+  globals = [];
+  exprs = [];
+  functions = calling 0 2 ∷ function-of 1 [] [] [] end ∷ calling 2 1 ∷ [];
+  entries = record { head = (NAME, 1) ∷ (WORD, 0) ∷ (WORD, 0) ∷ (WORD, 0) ∷ (WORD, 0) ∷ (WORD, 0) ∷ (WORD, 0) ∷ []; function = calling 1 0 } ∷ [];
+  special = record { rays = (OPT-TYPE, 1) ∷ (OPT-TYPE, 0) ∷ (OPT-TYPE, 0) ∷ []; pairs = [] };
+}
+
+abbrev setting-it : ℕ → Operation
+setting-it o = sets (4 * length (write shades)) (write shades) o
+
+-- the source is set with offset 10, and shade is imported: once, and twice
+abbrev pub one : List Operation
+one = setting-it 10 ∷ functions 0 ∷ []
+
+abbrev pub two : List Operation
+two = setting-it 10 ∷ functions 0 ∷ imports tab-types 1 ∷ functions 0 ∷ []
+
+-- it is set again with offset 100: the place of its special type is taken
+abbrev pub again : List Operation
+again = setting-it 10 ∷ functions 0 ∷ setting-it 100 ∷ renames 1 2 ∷ []
+
+-- a function that calls itself
+abbrev rings : Operation
+rings = sets (4 * length (write ring)) (write ring) 0
+  where
+    ring : Module
+    ring = record { names = letter 97 ∷ []; types = []; constants = []; overrides = []; globals = []; exprs = []; functions = calling 0 0 ∷ []; entries = []; special = record { rays = (OPT-TYPE, 0) ∷ (OPT-TYPE, 0) ∷ (OPT-TYPE, 0) ∷ []; pairs = [] } }
+
+pub record Computed : Type 0 where
+  -- shade brings fog, which brings tone
+  pub brought : functionNames (run one new .state .functions) ≡ 3 ∷ 2 ∷ 1 ∷ []
+  pub brought-once : functionNames (run two new .state .functions) ≡ 3 ∷ 2 ∷ 1 ∷ 1 ∷ []
+  -- the ends are answered
+  pub ends-one : finish 65536 (run one new) ≡ answered (write (finished (run one new .state) [])) new
+  pub ends-two : finish 65536 (run two new) ≡ answered (write (finished (run two new .state) [])) new
+  pub ends-with : finishWithEntryPoints 65536 (run one new) ≡ answered (write (withEntries (record { image = shades; offset = 10 }) (run one new .state))) new
+  -- and test 5 is passed unless a function's name stands twice
+  pub apart : names-distinct (functionNames (finished (run one new .state) [] .functions)) ≡ true
+  pub twice : names-distinct (functionNames (finished (run two new .state) [] .functions)) ≡ false
+  -- the special type is mapped to what was derived for its place, with the span of the first
+  pub taken : run again new .state .maps .ofTypes ≡ 1 ∷ 2 ∷ []
+  pub spans-first : run again new .state .recs .ofTypes ≡ leaf 1 11 0 ∷ leaf 2 105 1 ∷ []
+  -- a ring is refused, and so is a number past the table
+  pub ring-refused : importFunction 0 (run (rings ∷ []) new) ≡ refused 22
+  pub range-refused : importFunction 3 (run one new) ≡ refused 13
+
+pub computed : Computed
+unfolding append appended bring carried compareOf comparesOf declarations declared derived eachE enterAll entered entriesMade entryMade final bodies-follow followF goS importE join keepNames keptNames known lastOf localized mkS nameCells nameIf namedAfter namedRows optE plain push putName quiet rebuilt settled stand step unique walked went calleesAt calleesS calls any free held keep numbers round rounds carry carryCell carryEntry carryFunction carryOpt carryRange carryS carrySpecial appearing finished firsts gathered indexN keepN namedBy namesIn passes renumber tooLarge withNames commit emptied fresh importF importT imports-levels made once rename renamed settle stepT unmapped wentT close constantAt initialised initials initial-initsOf mark marked moving reachedMarks readBy roots unmarked intakeOf tested verdict basesOf lower-below entriesLower functionsLower initOf initsLower lower-initsOf lower operandsLower typesLower _⊛_ bodies countAt endAt flatModule flatSpecial flatTable limits next offsetAt pairsFrom placed places read records section sections sized specialAt table tableAt write absent differ names-distinct entriesNamed entryNames expressionsNamed field functionNames functionsNamed names-named present same unlike numbers-below bound caps constantOnly every inside numbered ordered outside rising sound within constantKind emittedKind functionOf kind kindAt operand ops opsOf optional resultKind resultOf standing standingKind _⟫_ both eat exact mapL mapO function nameWord nothing add alike alikeC carryW each firstWord merged moved refOf refs seat shift spanBy target targets through undefined undefinedAt does run addE addF addOpt addS allOf allScoped allVis callResult contB scope-distinct effectResult emitted entriesScoped evalsOpt evalsS expandS has holdsS inRange inScope isOf kindsS live okE okS optVis scoped scopedAs seen shapeS topB upFrom vis after calleesOf clear ending finish finishWithEntryPoints importFunction importing kept mapFunctionHandle mapSpan needing new renameType ringing session-set setting stuck unknown withEntries force keyed pairTo pairs putPair putRay ray rayTo rays sourced withSpecial atomics constantRow counted entryHead expressionRow expressions table-follow functionHead globalRow table-levels limit more nameRow overrideRow queries repeat results table-run statements text typeRow types values variant variants at codeT count isT mapAt recAt six tables upd blockAt caseAt cases checked entryAt flat flatAll flatBlock flatEntry flatList flatS flatX form functionAt kindOf listed operands optOf rows shaped sizeB sizeC statement stmts wordOf
+computed = record { brought = refl; brought-once = refl; ends-one = refl; ends-two = refl; ends-with = refl; apart = refl; twice = refl; taken = refl; spans-first = refl; ring-refused = refl; range-refused = refl }
+
+-- ---- the theorems apply
+-- what the first session writes is read back and passes all tests
+pub written-one : Written (finished (run one new .state) []) (write (finished (run one new .state) []))
+written-one = finish-written (run one new) (run-good one new new-good) 65536 _ new (computed .ends-one)
+
+-- the second's is turned back with 5, and by no other test
+pub written-two : intakeOf (4 * length (write (finished (run two new .state) []))) (write (finished (run two new .state) [])) ≡ 5
+written-two = finish-written (run two new) (run-good two new new-good) 65536 _ new (computed .ends-two) .intake ∙ ap (λ b. elim b [ true ↦ 0 | false ↦ 5 ]) (computed .twice)
+
+-- nothing that was derived is lost when the source is set again, and no two records are equal
+pub grown-again : Grew (run one new .state) (does (setting-it 100) (run one new) .state)
+grown-again = does-grow (setting-it 100) (unfold ends in refl) (run one new) (run-good one new new-good)
+
+pub kept-on : Keeps (run one new .state) (does (functions 0) (run one new) .state)
+kept-on = does-keep (functions 0) (unfold turns in refl) (run one new) (run-good one new new-good)
+
+pub distinct-again : Distinct (run again new .state)
+distinct-again = all-distinct (run again new) (run-good again new new-good)
+
+pub stays : after (run one new) (importFunction 3 (run one new)) ≡ run one new
+stays = refused-keeps (run one new) 13 (importFunction 3 (run one new)) (computed .range-refused)

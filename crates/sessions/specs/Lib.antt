@@ -1,0 +1,12 @@
+pub mod Height
+pub mod Named
+pub mod Following
+pub mod Renaming
+pub mod Alike
+pub mod Holding
+pub mod Depth
+pub mod Entering
+pub mod Ending
+pub mod Operating
+pub mod Growing
+pub mod Examples
