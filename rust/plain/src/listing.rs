@@ -36,9 +36,12 @@ pub fn listing_with(image: &[u8], options: Options) -> String {
     if !whole {
         line(&mut text, 0, "laid out before the fault:");
     }
-    let module = crate::laid_out(image);
+    let (module, begun) = crate::laid_out(image);
     let mut listing = Listing { module: &module, options, text: &mut text };
     listing.module(stop(image, &module), whole);
+    if let Some(function) = begun {
+        listing.function_record("as far as it was:", &function);
+    }
     if refused.is_none() {
         listing.order();
     }
@@ -136,7 +139,7 @@ fn stop(image: &[u8], laid_out: &Module) -> Option<Stop> {
 pub fn holder(image: &[u8], refused: Refused) -> Option<Holder> {
     let at = refused.at?;
     let words = crate::words(image);
-    if let Some(stop) = stop(image, &crate::laid_out(image)).filter(|stop| stop.end == at) {
+    if let Some(stop) = stop(image, &crate::laid_out(image).0).filter(|stop| stop.end == at) {
         let Stop { table, record, start, .. } = stop;
         return Some(Holder { section: SECTIONS[table], record: Some(record), start });
     }

@@ -280,7 +280,7 @@ fn what_was_laid_out_before_the_fault_is_listed() {
             "names: 4\n",
             "functions: 1\n",
             "function 0 shade(0 density: type 0 colour)\n",
-            "  1 was not laid out: words 89..113\n",
+            "  1 was not laid out: words 89..113\n  as far as it was: fog()\n    body:\n",
         ],
     );
     let raw = plain::raw::raw(&plain::bytes(&words));
