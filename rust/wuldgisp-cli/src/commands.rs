@@ -132,6 +132,9 @@ pub const COMMANDS: &[Command] = &[
             "A listing shows all that the image holds, what is referred to by number and name, literals by value and \
              bits. Of an image that is refused it shows the rule and the word, and what was laid out before the fault.",
             "The text form is read back by assemble, byte for byte (docs/TEXT.md).",
+            "A JSON object has the members that check's has, then `bytes`, `words`, `complete` (whether all was laid \
+             out), `sections`, the tables under the keys of the text form, and `order`. An optional number is null or \
+             the number; a name is a string, or an object with its bytes as `hex` where they are no UTF-8.",
         ],
         options: &[
             flag("--spans", "show spans too"),
