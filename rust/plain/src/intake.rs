@@ -11,7 +11,7 @@ use crate::read::read;
 use crate::scope::test_6;
 use crate::Refused;
 
-/// Whether intake accepts these bytes: document 01's tests 1 to 6.
+/// Whether intake accepts these bytes: the tests 1 to 6.
 pub fn intake(image: &[u8]) -> Result<(), Refused> {
     admit(image).map(|_| ())
 }

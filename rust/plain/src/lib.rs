@@ -1,4 +1,4 @@
-//! A plain reading of module images, written from document 01 and from nothing else.
+//! A plain reading of module images, written from the rules (`docs/RULES.md`) and from nothing else.
 //!
 //! It is the other opinion: the proved archive is compared with it on many images, so it is written to be
 //! read beside the document, not to be fast. An image is read into a [`Module`] once ([`read`], tests 1 and
@@ -60,7 +60,7 @@ pub use redirect::redirect;
 pub use rings::{rings, Rings};
 pub use write::write;
 
-/// Why an image or a call was turned back: document 01's number, the rule in words, and where it was found.
+/// Why an image or a call was turned back: the refusal's number, the rule in words, and where it was found.
 #[derive(Clone, Copy, Debug, PartialEq, Eq)]
 pub struct Refused {
     /// Document 01's number: 1 to 13, or 20 to 22.

@@ -36,10 +36,12 @@ pub fn listing_with(image: &[u8], options: Options) -> String {
     if !whole {
         line(&mut text, 0, "laid out before the fault:");
     }
-    let module = crate::laid_out(image);
-    let counts = raw::sections(&crate::words(image)).iter().map(|section| section.count).collect();
-    let mut listing = Listing { module: &module, counts, options, text: &mut text };
-    listing.module(whole);
+    let (module, begun) = crate::laid_out(image);
+    let mut listing = Listing { module: &module, options, text: &mut text };
+    listing.module(stop(image, &module), whole);
+    if let Some(function) = begun {
+        listing.function_record("as far as it was:", &function);
+    }
     if refused.is_none() {
         listing.order();
     }
@@ -71,7 +73,7 @@ fn place(text: &mut String, image: &[u8], refused: Refused) {
         None => "behind the end".to_owned(),
     };
     line(text, 1, &format!("found at word {at}, byte {}: {value}", 4 * at));
-    if let Some(holder) = holder(image, at) {
+    if let Some(holder) = holder(image, refused) {
         line(text, 1, &format!("in: {holder}"));
     }
     let from = at.saturating_sub(4);
@@ -101,9 +103,46 @@ impl std::fmt::Display for Holder {
     }
 }
 
-/// What holds a word, as far as header and offsets tell.
-pub fn holder(image: &[u8], at: usize) -> Option<Holder> {
+/// The table and the record at which layout stopped, and where the record starts and ends; none where every record
+/// of the tables was laid out.
+#[derive(Clone, Copy)]
+struct Stop {
+    table: usize,
+    record: usize,
+    start: usize,
+    end: usize,
+}
+
+fn stop(image: &[u8], laid_out: &Module) -> Option<Stop> {
     let words = crate::words(image);
+    let module = laid_out;
+    let listed = [
+        module.names.len(),
+        module.types.len(),
+        module.constants.len(),
+        module.overrides.len(),
+        module.globals.len(),
+        module.expressions.len(),
+        module.functions.len(),
+        module.entry_points.len(),
+    ];
+    let sections = raw::sections(&words);
+    let short = |(section, listed): (&raw::Section, &usize)| *listed < section.count as usize;
+    let table = sections.iter().zip(&listed).position(short)?;
+    let record = listed[table];
+    let (start, end) = sections[table].records(&words).get(record).copied().unwrap_or_default();
+    Some(Stop { table, record, start, end })
+}
+
+/// What holds the word of a refusal, as far as header and offsets tell. A record that is too short for its fields is
+/// refused at the word behind it, and holds that.
+pub fn holder(image: &[u8], refused: Refused) -> Option<Holder> {
+    let at = refused.at?;
+    let words = crate::words(image);
+    if let Some(stop) = stop(image, &crate::laid_out(image).0).filter(|stop| stop.end == at) {
+        let Stop { table, record, start, .. } = stop;
+        return Some(Holder { section: SECTIONS[table], record: Some(record), start });
+    }
     if at < 20 {
         return Some(Holder { section: "the header", record: None, start: 0 });
     }
@@ -131,8 +170,6 @@ pub fn shown(bytes: &[u8]) -> String {
 /// The listing of a module, which need not be one that intake accepts.
 struct Listing<'a> {
     module: &'a Module,
-    /// The counts of the header, by section.
-    counts: Vec<u32>,
     options: Options,
     text: &'a mut String,
 }
@@ -175,12 +212,16 @@ impl<'a> Listing<'a> {
         numbers.iter().map(|number| self.function(*number)).collect()
     }
 
-    /// A section's title with its count; an empty section is told too.
-    fn title<T>(&mut self, k: usize, records: &'a [T]) -> std::iter::Enumerate<std::slice::Iter<'a, T>> {
-        let (listed, all) = (records.len(), self.counts[k] as usize);
-        let of = if listed == all { String::new() } else { format!(" of {all}") };
-        self.line(0, &format!("{}: {listed}{of}", SECTIONS[k]));
-        records.iter().enumerate()
+    /// Whether layout stopped in this section; the record at which it did is told.
+    fn stopped(&mut self, stop: Option<Stop>, k: usize) -> bool {
+        let Some(stop) = stop.filter(|stop| stop.table == k) else { return false };
+        let Stop { record, start, end, .. } = stop;
+        let words = match start <= end && end != 0 {
+            true => format!("words {start}..{end}"),
+            false => "its offset is out of place".to_owned(),
+        };
+        self.line(1, &format!("{record} was not laid out: {words}"));
+        true
     }
 
     /// A span that is wanted and not undefined.
@@ -191,45 +232,74 @@ impl<'a> Listing<'a> {
         }
     }
 
-    fn module(&mut self, whole: bool) {
+    /// Every section up to the record at which layout stopped.
+    fn module(&mut self, stop: Option<Stop>, whole: bool) {
+        let last = stop.map_or(SECTIONS.len() - 1, |stop| stop.table);
+        for k in 0..=last {
+            match k {
+                8 if whole => self.special(),
+                8 => (),
+                _ => self.table(k),
+            }
+            if self.stopped(stop, k) {
+                return;
+            }
+        }
+    }
+
+    /// One of the eight tables.
+    fn table(&mut self, k: usize) {
         let module = self.module;
-        for (own, name) in self.title(0, &module.names) {
-            self.line(1, &format!("{own} {}", quoted(&name.bytes)));
+        match k {
+            0 => self.section(k, &module.names, Self::name_record),
+            1 => self.section(k, &module.types, Self::type_record),
+            2 => self.section(k, &module.constants, Self::constant),
+            3 => self.section(k, &module.overrides, Self::override_record),
+            4 => self.section(k, &module.globals, Self::global),
+            5 => self.section(k, &module.expressions, Self::global_expression),
+            6 => self.section(k, &module.functions, Self::table_function),
+            _ => self.section(k, &module.entry_points, Self::entry_point),
         }
-        for (own, record) in self.title(1, &module.types) {
-            self.type_record(own, record);
+    }
+
+    /// A section's title with its count, and its records; an empty section is told too.
+    fn section<T>(&mut self, k: usize, records: &[T], record: impl Fn(&mut Self, usize, &T)) {
+        self.line(0, &format!("{}: {}", SECTIONS[k], records.len()));
+        for (own, value) in records.iter().enumerate() {
+            record(self, own, value);
         }
-        for (own, record) in self.title(2, &module.constants) {
-            let (ty, span) = (self.ty(record.ty), self.span(&record.span));
-            let own = self.own(own, record.name);
-            self.line(1, &format!("{own}: type {ty} = global expression {}{span}", record.init.value));
-        }
-        for (own, record) in self.title(3, &module.overrides) {
-            let (ty, init) = (self.ty(record.ty), initialiser(record.init, "global expression "));
-            let (own, id, span) = (self.own(own, record.name), record.id.value, self.span(&record.span));
-            self.line(1, &format!("{own}: type {ty}, id word {id}{init}{span}"));
-        }
-        for (own, record) in self.title(4, &module.globals) {
-            let (ty, init) = (self.ty(record.ty), initialiser(record.init, "global expression "));
-            let (space, binding) = (copied(&record.space), copied(&record.binding));
-            let (own, decorations) = (self.own(own, record.name), record.decorations.value);
-            let span = self.span(&record.span);
-            let what = format!("space {space}, binding {binding}, decorations {decorations}{init}{span}");
-            self.line(1, &format!("{own}: type {ty}, {what}"));
-        }
-        for (own, record) in self.title(5, &module.expressions) {
-            let what = self.expression_record(&Function::default(), record);
-            self.line(1, &format!("#{own} = {what}"));
-        }
-        for (own, function) in self.title(6, &module.functions) {
-            self.function_record(&format!("function {own}"), function);
-        }
-        for (own, entry) in self.title(7, &module.entry_points) {
-            self.entry_point(own, entry);
-        }
-        if whole {
-            self.special();
-        }
+    }
+
+    fn name_record(&mut self, own: usize, name: &Name) {
+        self.line(1, &format!("{own} {}", quoted(&name.bytes)));
+    }
+
+    fn constant(&mut self, own: usize, record: &Constant) {
+        let (own, ty, span) = (self.own(own, record.name), self.ty(record.ty), self.span(&record.span));
+        self.line(1, &format!("{own}: type {ty} = global expression {}{span}", record.init.value));
+    }
+
+    fn override_record(&mut self, own: usize, record: &Override) {
+        let (own, ty, span) = (self.own(own, record.name), self.ty(record.ty), self.span(&record.span));
+        let (id, init) = (record.id.value, initialiser(record.init, "global expression "));
+        self.line(1, &format!("{own}: type {ty}, id word {id}{init}{span}"));
+    }
+
+    fn global(&mut self, own: usize, record: &Global) {
+        let (own, ty, span) = (self.own(own, record.name), self.ty(record.ty), self.span(&record.span));
+        let (space, binding) = (copied(&record.space), copied(&record.binding));
+        let (decorations, init) = (record.decorations.value, initialiser(record.init, "global expression "));
+        let what = format!("space {space}, binding {binding}, decorations {decorations}{init}{span}");
+        self.line(1, &format!("{own}: type {ty}, {what}"));
+    }
+
+    fn global_expression(&mut self, own: usize, record: &Expression) {
+        let what = self.expression_record(&Function::default(), record);
+        self.line(1, &format!("#{own} = {what}"));
+    }
+
+    fn table_function(&mut self, own: usize, function: &Function) {
+        self.function_record(&format!("function {own}"), function);
     }
 
     /// A record's number and its name.
@@ -480,8 +550,7 @@ impl<'a> Listing<'a> {
 
 /// The functions that a ring leaves without an order, and one ring, in a line each.
 pub fn rings_told(module: &Module, rings: &Rings) -> [String; 2] {
-    let listing =
-        Listing { module, counts: Vec::new(), options: Options::default(), text: &mut String::new() };
+    let listing = Listing { module, options: Options::default(), text: &mut String::new() };
     let mut ring = listing.functions(&rings.ring);
     ring.push(ring[0].clone());
     [format!("left: {}", listing.functions(&rings.left).join(", ")), format!("a ring: {}", ring.join(" -> "))]

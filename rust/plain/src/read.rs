@@ -22,16 +22,18 @@ pub fn read(image: &[u8]) -> Read<Module> {
     tables(&words, &sections)
 }
 
-/// What of an image is laid out before the first word that fits no layout: whole records, section by section. Of an
-/// image that can be read this is all of it.
-pub fn laid_out(image: &[u8]) -> Module {
-    let mut module = Module::default();
-    // Which word it is, and why, is told by `read`.
-    let _ = lay_out(image, &mut module);
-    module
+/// What of an image is laid out before the first word that fits no layout: whole records, section by section, and the
+/// function that holds the word, as far as it was read. Of an image that can be read the module is all of it.
+pub fn laid_out(image: &[u8]) -> (Module, Option<Function>) {
+    let (mut module, mut begun) = (Module::default(), None);
+    match lay_out(image, &mut module, &mut begun) {
+        Ok(()) => (module, None),
+        // Which word it is, and why, is told by `read`.
+        Err(_) => (module, begun),
+    }
 }
 
-fn lay_out(image: &[u8], module: &mut Module) -> Read<()> {
+fn lay_out(image: &[u8], module: &mut Module, begun: &mut Option<Function>) -> Read<()> {
     test_1(image)?;
     let words = words(image);
     let sections = sections(&words)?;
@@ -41,8 +43,19 @@ fn lay_out(image: &[u8], module: &mut Module) -> Read<()> {
     part(&words, &sections[3], &mut module.overrides, override_record)?;
     part(&words, &sections[4], &mut module.globals, global)?;
     part(&words, &sections[5], &mut module.expressions, expression)?;
-    part(&words, &sections[6], &mut module.functions, function)?;
-    part(&words, &sections[7], &mut module.entry_points, entry_point)?;
+    part(&words, &sections[6], &mut module.functions, |cursor| {
+        let function = begun.insert(Function::default());
+        function_fields(cursor, function).map(|()| function.clone())
+    })?;
+    *begun = None;
+    part(&words, &sections[7], &mut module.entry_points, |cursor| {
+        let mut entry = entry_head(cursor)?;
+        let function = begun.insert(Function::default());
+        function_fields(cursor, function)?;
+        entry.function = function.clone();
+        Ok(entry)
+    })?;
+    *begun = None;
     module.special = special(&words, &sections[8])?;
     Ok(())
 }
@@ -52,7 +65,7 @@ fn part<T>(
     words: &[u32],
     section: &Section,
     records: &mut Vec<T>,
-    record: impl Fn(&mut Cursor) -> Read<T>,
+    mut record: impl FnMut(&mut Cursor) -> Read<T>,
 ) -> Read<()> {
     for (at, end) in extents(words, section)? {
         let mut cursor = Cursor { words, at, end };
@@ -223,12 +236,22 @@ impl Cursor<'_> {
 
     /// A count and as many elements.
     fn list<T>(&mut self, most: u32, element: impl Fn(&mut Self) -> Read<T>) -> Read<Vec<T>> {
-        let count = self.count(most)?;
         let mut list = Vec::new();
-        for _ in 0..count {
+        self.elements(most, &mut list, element)?;
+        Ok(list)
+    }
+
+    /// The same into a list that keeps what was read before an element that does not fit.
+    fn elements<T>(
+        &mut self,
+        most: u32,
+        list: &mut Vec<T>,
+        element: impl Fn(&mut Self) -> Read<T>,
+    ) -> Read<()> {
+        for _ in 0..self.count(most)? {
             list.push(element(self)?);
         }
-        Ok(list)
+        Ok(())
     }
 
     /// A code that decides how the record goes on.
@@ -334,16 +357,21 @@ fn variant(cursor: &mut Cursor, rows: &[Row]) -> Read<Value> {
 }
 
 fn function(cursor: &mut Cursor) -> Read<Function> {
-    Ok(Function {
-        name: cursor.word()?,
-        span: cursor.array()?,
-        arguments: cursor.list(limit::ARGUMENTS, argument)?,
-        result: result_type(cursor)?,
-        locals: cursor.list(limit::LOCALS, local)?,
-        expressions: cursor.list(limit::EXPRESSIONS, expression)?,
-        named: cursor.list(limit::NAMED, named)?,
-        body: block(cursor, 1)?,
-    })
+    let mut function = Function::default();
+    function_fields(cursor, &mut function)?;
+    Ok(function)
+}
+
+/// A function's fields, into a record that keeps what was read before a word that does not fit.
+fn function_fields(cursor: &mut Cursor, function: &mut Function) -> Read<()> {
+    function.name = cursor.word()?;
+    function.span = cursor.array()?;
+    cursor.elements(limit::ARGUMENTS, &mut function.arguments, argument)?;
+    function.result = result_type(cursor)?;
+    cursor.elements(limit::LOCALS, &mut function.locals, local)?;
+    cursor.elements(limit::EXPRESSIONS, &mut function.expressions, expression)?;
+    cursor.elements(limit::NAMED, &mut function.named, named)?;
+    cursor.elements(u32::MAX, &mut function.body, |cursor| statement_record(cursor, 1))
 }
 
 fn argument(cursor: &mut Cursor) -> Read<Argument> {
@@ -418,12 +446,19 @@ fn case(cursor: &mut Cursor, depth: usize) -> Read<Case> {
 }
 
 fn entry_point(cursor: &mut Cursor) -> Read<EntryPoint> {
+    let mut entry = entry_head(cursor)?;
+    entry.function = function(cursor)?;
+    Ok(entry)
+}
+
+/// An entry point without its function.
+fn entry_head(cursor: &mut Cursor) -> Read<EntryPoint> {
     Ok(EntryPoint {
         name: cursor.word()?,
         stage: cursor.word()?,
         early_depth: cursor.array()?,
         workgroup: cursor.array()?,
-        function: function(cursor)?,
+        function: Function::default(),
     })
 }
 

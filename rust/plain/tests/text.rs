@@ -278,8 +278,9 @@ fn what_was_laid_out_before_the_fault_is_listed() {
             "in: functions, record 1, which starts at word ",
             "laid out before the fault:\n",
             "names: 4\n",
-            "functions: 1 of 2\n",
+            "functions: 1\n",
             "function 0 shade(0 density: type 0 colour)\n",
+            "  1 was not laid out: words 89..113\n  as far as it was: fog()\n    body:\n",
         ],
     );
     let raw = plain::raw::raw(&plain::bytes(&words));
@@ -300,6 +301,25 @@ fn what_was_laid_out_before_the_fault_is_listed() {
         &plain::raw::raw(b"1234567"),
         &["7 bytes, 1 words and 3 bytes behind them\nno header: it has 20 words\n"],
     );
+}
+
+#[test]
+fn a_record_that_is_too_short_holds_its_fault() {
+    let mut words =
+        plain::words(&plain::assemble("wuldgisp-text 1 names { \"a\" } special_types { }").unwrap());
+    words[21] = 5;
+    let listing = plain::listing::listing(&plain::bytes(&words));
+    has(
+        &listing,
+        &[
+            "found at word 23, ",
+            "in: names, record 0, which starts at word 21\n",
+            "names: 0\n  0 was not laid out: words 21..23\n",
+        ],
+    );
+    words[20] = 9;
+    let listing = plain::listing::listing(&plain::bytes(&words));
+    has(&listing, &["found at word 20, ", "  0 was not laid out: its offset is out of place\n"]);
 }
 
 #[test]

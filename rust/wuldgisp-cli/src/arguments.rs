@@ -5,7 +5,7 @@ use std::ffi::{OsStr, OsString};
 use std::os::unix::ffi::OsStrExt;
 use std::path::PathBuf;
 
-use crate::commands::{command, Command, Inputs, Opt, COMMON};
+use crate::commands::{command, Command, Inputs, Opt, Times, COMMON};
 use crate::files::{Input, Output};
 use crate::help;
 
@@ -156,29 +156,22 @@ fn take(
         (None, Some(_)) => return Err(format!("{} takes no word behind it", option.long)),
         (None, None) => OsString::new(),
     };
-    if option.value.is_some() && !option.many && given.has(option.long) {
+    if option.times != Times::Any && given.has(option.long) {
         return Err(format!("{} is given twice", option.long));
     }
     given.options.push((option.long, value));
     Ok(())
 }
 
-/// What the table cannot say: which options exclude one another, and how many files there may be.
+/// That options and files go together.
 fn admissible(command: &Command, given: &Given) -> Result<(), String> {
-    const EXCLUDING: [&str; 3] = ["--text", "--raw", "--json"];
-    let several: Vec<&str> = EXCLUDING.into_iter().filter(|option| given.has(option)).collect();
+    let several: Vec<&str> = command.excluding.iter().copied().filter(|option| given.has(option)).collect();
     if let [one, other, ..] = several[..] {
         return Err(format!("{one} and {other} exclude one another"));
     }
-    if given.has("--output") && given.has("--in-place") {
-        return Err("--output and --in-place exclude one another".to_owned());
-    }
-    if command.name == "redirect" {
-        for option in ["--original", "--replacement"] {
-            if !given.has(option) {
-                return Err(format!("redirect wants {option} and a name"));
-            }
-        }
+    let missing = |option: &&Opt| option.times == Times::Once && !given.has(option.long);
+    if let Some(option) = command.options.iter().find(missing) {
+        return Err(format!("{} wants {} {}", command.name, option.long, option.value.unwrap_or_default()));
     }
     let standard =
         given.words.iter().filter(|word| *word == "-").count() + usize::from(given.words.is_empty());

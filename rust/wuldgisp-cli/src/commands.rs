@@ -15,6 +15,8 @@ pub struct Command {
     /// The rest of its help, a paragraph to a string.
     pub about: &'static [&'static str],
     pub options: &'static [Opt],
+    /// Of these options one may be given.
+    pub excluding: &'static [&'static str],
     /// How many inputs it takes.
     pub inputs: fn(&Given) -> Inputs,
     /// What it does to one of its inputs, of which there may be many.
@@ -27,9 +29,16 @@ pub struct Opt {
     pub short: Option<&'static str>,
     /// What the word behind it is, where it wants one.
     pub value: Option<&'static str>,
-    /// Whether it may be given more than once.
-    pub many: bool,
+    pub times: Times,
     pub about: &'static str,
+}
+
+/// How often an option is given.
+#[derive(Clone, Copy, PartialEq, Eq)]
+pub enum Times {
+    AtMostOnce,
+    Once,
+    Any,
 }
 
 /// The inputs that a command takes.
@@ -45,14 +54,14 @@ pub enum Inputs {
 
 /// An option without a word behind it.
 const fn flag(long: &'static str, about: &'static str) -> Opt {
-    Opt { long, short: None, value: None, many: false, about }
+    Opt { long, short: None, value: None, times: Times::Any, about }
 }
 
 const QUIET: Opt = Opt {
     long: "--quiet",
     short: Some("-q"),
     value: None,
-    many: false,
+    times: Times::Any,
     about: "print no answers: the exit status tells; misuse is still told",
 };
 const JSON: Opt = flag("--json", "a JSON object on a line for each image");
@@ -60,18 +69,20 @@ const OUTPUT: Opt = Opt {
     long: "--output",
     short: Some("-o"),
     value: Some("FILE"),
-    many: false,
+    times: Times::AtMostOnce,
     about: "write the image to FILE, in one stroke, instead of standard output",
 };
 
 /// An option with a name behind it.
-const fn name(long: &'static str, many: bool, about: &'static str) -> Opt {
-    Opt { long, short: None, value: Some("NAME"), many, about }
+const fn name(long: &'static str, times: Times, about: &'static str) -> Opt {
+    Opt { long, short: None, value: Some("NAME"), times, about }
 }
 
 /// Options of every command.
-pub const COMMON: &[Opt] =
-    &[QUIET, Opt { long: "--help", short: Some("-h"), value: None, many: false, about: "print this help" }];
+pub const COMMON: &[Opt] = &[
+    QUIET,
+    Opt { long: "--help", short: Some("-h"), value: None, times: Times::Any, about: "print this help" },
+];
 
 /// The commands.
 pub const COMMANDS: &[Command] = &[
@@ -86,6 +97,7 @@ pub const COMMANDS: &[Command] = &[
              `section` and `record`; with a ring `left`, `functions_left` and `ring`.",
         ],
         options: &[flag("--rings", "refuse a ring of calls too, by 12, and name the functions left and one ring"), JSON],
+        excluding: &[],
         inputs: |_| Inputs::Many,
         run: check::run,
     },
@@ -102,6 +114,7 @@ pub const COMMANDS: &[Command] = &[
              members of a refusal as check has them.",
         ],
         options: &[JSON],
+        excluding: &[],
         inputs: |_| Inputs::Many,
         run: order::run,
     },
@@ -115,12 +128,13 @@ pub const COMMANDS: &[Command] = &[
             "A NAME is a name of the image, or @ and its number.",
         ],
         options: &[
-            name("--original", false, "the function whose calls are redirected"),
-            name("--replacement", false, "the function that is called instead"),
-            name("--omit", true, "a function that keeps its calls"),
+            name("--original", Times::Once, "the function whose calls are redirected"),
+            name("--replacement", Times::Once, "the function that is called instead"),
+            name("--omit", Times::Any, "a function that keeps its calls"),
             OUTPUT,
             flag("--in-place", "write each image back to its file, in one stroke"),
         ],
+        excluding: &["--output", "--in-place"],
         inputs: |given| if given.has("--in-place") { Inputs::Files } else { Inputs::One },
         run: redirect::run,
     },
@@ -132,6 +146,9 @@ pub const COMMANDS: &[Command] = &[
             "A listing shows all that the image holds, what is referred to by number and name, literals by value and \
              bits. Of an image that is refused it shows the rule and the word, and what was laid out before the fault.",
             "The text form is read back by assemble, byte for byte (docs/TEXT.md).",
+            "A JSON object has the members that check's has, then `bytes`, `words`, `complete` (whether all was laid \
+             out), `sections`, the tables under the keys of the text form, and `order`. An optional number is null or \
+             the number; a name is a string, or an object with its bytes as `hex` where they are no UTF-8.",
         ],
         options: &[
             flag("--spans", "show spans too"),
@@ -139,6 +156,7 @@ pub const COMMANDS: &[Command] = &[
             flag("--raw", "header, sections and records word by word, with nothing read into them"),
             JSON,
         ],
+        excluding: &["--text", "--raw", "--json"],
         inputs: |given| if given.has("--text") { Inputs::One } else { Inputs::Many },
         run: inspect::run,
     },
@@ -151,6 +169,7 @@ pub const COMMANDS: &[Command] = &[
              status is 1. A text that is not of the form is told with line and column (docs/TEXT.md).",
         ],
         options: &[OUTPUT],
+        excluding: &[],
         inputs: |_| Inputs::One,
         run: assemble::run,
     },

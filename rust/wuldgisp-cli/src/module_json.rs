@@ -10,7 +10,7 @@ use crate::json::Json;
 /// All of an image, behind the members of its answer.
 pub fn image(answer: Json, image: &[u8]) -> Json {
     let words = plain::words(image);
-    let module = plain::laid_out(image);
+    let (module, _) = plain::laid_out(image);
     let section = |section: raw::Section| {
         Json::object([
             ("name", Json::text(section.name)),

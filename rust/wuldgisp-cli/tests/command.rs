@@ -62,6 +62,27 @@ fn order_prints_as_the_program_does() {
 }
 
 #[test]
+fn order_prints_the_vectors() {
+    let vectors = std::path::Path::new(env!("CARGO_MANIFEST_DIR")).join("../../vectors");
+    let mut alike = 0;
+    for entry in std::fs::read_dir(vectors).unwrap().flatten() {
+        let path = entry.path();
+        let Some(expected) =
+            path.extension().filter(|end| *end == "order").map(|_| std::fs::read(&path).unwrap())
+        else {
+            continue;
+        };
+        let (_, out, _) = answer(&["order", path.with_extension("img").to_str().unwrap()], b"");
+        // Names that a line cannot show stand between quotes.
+        if !out.contains('"') {
+            assert_eq!(out.as_bytes(), expected, "{}", path.display());
+            alike += 1;
+        }
+    }
+    assert!(alike > 30, "{alike}");
+}
+
+#[test]
 fn names_with_control_characters_are_escaped() {
     let text = r#"wuldgisp-text 1
 names { "a\x1b[2Jb" "no\xfe" "\x22quoted\x22" "gr\xc3\xbcn b" "\xe2\x80\xae" }
@@ -126,6 +147,11 @@ fn redirect_tells_what_is_wrong() {
     let told =
         "wuldgisp: standard input: /no/such/folder/x cannot be written: there is no folder /no/such/folder\n";
     assert_eq!((status, err.as_str()), (2, told));
+    let folder = folder();
+    let words = ["redirect", "--original=fog", "--replacement=tone", "-o", folder.to_str().unwrap()];
+    let (status, _, err) = answer(&words, &shade());
+    assert_eq!(status, 2);
+    assert!(err.ends_with(" cannot be written: it is a folder\n"), "{err}");
 }
 
 #[test]

@@ -2,6 +2,10 @@
 
 mod tool;
 
+use std::path::{Path, PathBuf};
+
+use plain::generate::{generate, Options};
+use plain::random::Random;
 use tool::*;
 
 #[test]
@@ -80,19 +84,34 @@ special_types { pair key=5 type=0 }
     assert!(out.contains("\"refusal\":5,") && out.contains("\"order\":null}"), "{out}");
 }
 
+/// A folder of images that were generated and then damaged.
+fn damaged() -> PathBuf {
+    let mut random = Random::new(19);
+    for own in 0..200 {
+        let module = generate(&mut random, Options::small());
+        let (_, image) = plain::mutate::mutate(&mut random, &module);
+        file(&format!("damaged/{own}.img"), &image);
+    }
+    folder().join("damaged")
+}
+
 #[test]
 fn every_answer_is_json() {
     if std::process::Command::new("python3").arg("-V").output().is_err() {
         return;
     }
-    let vectors = concat!(env!("CARGO_MANIFEST_DIR"), "/../../vectors");
-    for command in ["check --rings", "order", "inspect"] {
-        let line = format!(
-            "$PROGRAM {command} --json {vectors} | \
-             python3 -c 'import json, sys; print(len([json.loads(line) for line in sys.stdin]))'"
-        );
-        let images = std::fs::read_dir(vectors).unwrap().flatten();
+    let vectors = Path::new(env!("CARGO_MANIFEST_DIR")).join("../../vectors");
+    for folder in [vectors, damaged()] {
+        let images = std::fs::read_dir(&folder).unwrap().flatten();
         let images = images.filter(|entry| entry.path().extension().is_some_and(|end| end == "img")).count();
-        assert_eq!(shell(&line).1, format!("{images}\n"), "{command}");
+        for command in ["check --rings", "order", "inspect"] {
+            let line = format!(
+                "$PROGRAM {command} --json {} | \
+                 python3 -c 'import json, sys; print(len([json.loads(line) for line in sys.stdin]))'",
+                folder.display()
+            );
+            let (_, out, err) = shell(&line);
+            assert_eq!((out, err), (format!("{images}\n"), String::new()), "{command}");
+        }
     }
 }

@@ -29,7 +29,7 @@ pub struct Place {
 /// ```
 pub fn place(image: &[u8]) -> Option<Place> {
     let refused = plain::intake(image).err()?;
-    let holds = refused.at.and_then(|word| plain::listing::holder(image, word));
+    let holds = plain::listing::holder(image, refused);
     Some(Place {
         number: refused.number,
         rule: refused.rule,
