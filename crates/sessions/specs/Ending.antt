@@ -12,30 +12,32 @@ use Rattle.model.specs.Outcome.{word, laid}
 use Rattle.model.specs.Table.{NAME, KEY}
 use Rattle.model.specs.Tree.{Function, Entry}
 use Rattle.model.specs.Module.{Module, read, write, sized}
-use Rattle.model.specs.Carry.{carrySpecial, carry, Each, each-none, each-next}
+use Rattle.model.specs.Carry.{carryFunction, carryEntry, carrySpecial, carry, WellFunction, Each, each-none, each-next}
 use Rattle.model.specs.Initial.{Mem}
 use Rattle.model.specs.Intake.{tested, verdict, intakeOf}
 use Rattle.model.specs.Numbers.{every, outside, soundFunction, soundEntry, numbered}
 use Rattle.model.specs.Lower.{functionsLower, entriesLower, lower}
 use Rattle.model.specs.Names.{field, present, absent, distinct, differ, functionsNamed, entriesNamed, functionNames, entryNames, named}
-use Rattle.model.specs.Scope.{allScoped, entriesScoped, inScope}
+use Rattle.model.specs.Scope.{seen, allScoped, entriesScoped, inScope}
 use Rattle.model.specs.Tables.{Tab, names, at, Tables, tables, count}
 use Rattle.model.specs.Imports.{St}
 use Rattle.model.specs.Finish.{appearing, renumber, withNames, namedBy, gathered, finished, tooLarge}
 use Rattle.laws.specs.Lists.{and-true}
 use Rattle.laws.specs.Quiet.{each-map}
+use Rattle.walks.specs.Agreement.{Maps, Agrees}
 use Rattle.imports.specs.Imported.{derived-four, gathered-tables}
 use Rattle.bodies.specs.Passing as Bodies
 use Rattle.finishing.specs.Firsts.{either}
-use Rattle.finishing.specs.Kept.{Parts}
+use Rattle.finishing.specs.Kept.{Parts, exprs-same, initials-kept}
+use Rattle.finishing.specs.Touching.{Only, same-b}
 use Rattle.finishing.specs.Naming.{function-names, entry-names, present-kept, functions-named, entries-named, other-fields}
 use Rattle.finishing.specs.Finished.{renumber-only, renumber-names, renumber-apart, image-seen, names-seen, finished-parts, finished-numbered, finished-lower, finished-scope, finished-differ}
-use Rattle.finishing.specs.Cellwise.{cellwise}
+use Rattle.finishing.specs.Cellwise.{each-to, cellwise}
 use Rattle.finishing.specs.Images.{image-read, image-sized}
 use Rattle.finishing.specs.Tabled.{kept-differ}
 use Rattle.finishing.specs.Linking.{LaidOut, gathered-parts, gathered-numbers}
 use Rattle.sessions.specs.Named.{head-field}
-use Rattle.sessions.specs.Following.{Piece, Holds}
+use Rattle.sessions.specs.Following.{Origin, Piece, Holds}
 use Rattle.sessions.specs.Entering.{EntryPiece}
 
 -- ---- all of test 5 but one
@@ -232,3 +234,38 @@ names-finished {s} {es} h ps = names-gathered
   where
     names-gathered : distinct (functionNames (namedBy (appearing (gathered s es)) (gathered s es) .functions)) ≡ distinct (functionNames (s .functions))
     names-gathered = unfold gathered in distinct-again (parts h ps) (three h ps)
+
+-- ---- EACH FUNCTION OF IT agrees with the one that it comes from
+-- names are no matter of walks
+renamed-agrees : {ρ : ℕ → ℕ → ℕ} → Only ρ → (M M′ : Module) (μ : Maps) (F F′ : Function) (f : ℕ → ℕ) → WellFunction F′ → Agrees M M′ μ F F′ f → Agrees M M′ μ F (carryFunction ρ F′) f
+renamed-agrees {ρ} o M M′ μ F F′ f w a = record { body = same-seen ∙ a .body; records = λ e m. rw same-rows (a .records e m); apart = a .apart }
+  where
+    same-seen : seen (carryFunction ρ F′) ≡ seen F′
+    same-seen = unfold seen in (let i = initials-kept o w in let b = same-b o (w .body-ok) in unfold carryFunction in rw (i, b) refl)
+
+    same-rows : carryFunction ρ F′ .exprs ≡ F′ .exprs
+    same-rows = unfold carryFunction in exprs-same o w
+
+origin-named : {ρ : ℕ → ℕ → ℕ} {s : St} {f : Function} → Only ρ → WellFunction f → Origin s f → Origin s (carryFunction ρ f)
+origin-named {ρ} {s} {f} o w p = record {
+  source = p .source;
+  well = p .well;
+  passes = p .passes;
+  function = p .function;
+  is = p .is;
+  under = p .under;
+  kept = p .kept;
+  grown = p .grown;
+  agrees = λ D. renamed-agrees o (p .source) D _ (p .function) f _ w (p .agrees D);
+}
+
+pub record Origins (s : St) (m : Module) : Type 0 where
+  pub functions : Each (Origin s) (m .functions)
+  pub entries : Each (λ E. Origin s (E .function)) (m .entries)
+
+pub all-origins : {T : Tables} {s : St} {es : List Entry} → Holds T s → Each (EntryPiece s) es → Origins s (finished s es)
+unfolding finished namedBy withNames carry gathered carryEntry
+all-origins {T} {s} {es} h ps = record {
+  functions = each-to (carryFunction (renumber (appearing (gathered s es)))) (each-map (λ f p. origin-named (renumber-only (appearing (gathered s es))) (p .passes (gathered s es) (here h ps) (all-here h ps) .well) (p .origin)) (h .pieces));
+  entries = each-to (carryEntry (renumber (appearing (gathered s es)))) (each-map (λ E p. origin-named (renumber-only (appearing (gathered s es))) (p .laid .function-ok) (p .origin)) ps);
+}

@@ -44,7 +44,7 @@ use Rattle.finishing.specs.Cellwise.{each-first}
 use Rattle.finishing.specs.Finished.{Low as LowCell, within-low}
 use Rattle.finishing.specs.Sessions.{specials-in}
 use Rattle.sessions.specs.Height.{Low, low-on, unknowns}
-use Rattle.sessions.specs.Following.{From, from-refl, from-trans, from-import, follows, ends, again, names-again}
+use Rattle.sessions.specs.Following.{Of, of-entry, Origin, origin-grown, origin, From, from-refl, from-trans, from-import, follows, ends, again, names-again}
 use Rattle.sessions.specs.Holding.{few, heights}
 
 pub record EntryPiece (s : St) (E : Entry) : Type 0 where
@@ -52,9 +52,10 @@ pub record EntryPiece (s : St) (E : Entry) : Type 0 where
   pub passes : (D : Module) → ((t : Tab) → count (s .recs) t ≤ count (tables D) t) → length (s .functions) ≤ length (D .functions) → (soundEntry (outside D) E ≡ true) × Bodies.Passes D (E .function)
   pub called : not (eqb (field NAME (E .head)) 0) ≡ true
   pub names : expressionsNamed (E .function) ≡ true
+  pub origin : Origin s (E .function)
 
 entry-grown : {s r : St} {E : Entry} → Grown s r → EntryPiece s E → EntryPiece r E
-entry-grown g p = record { laid = p .laid; passes = λ D t l. p .passes D (λ u. le-trans (g .tables .longer u) (t u)) (le-trans (g .functions) l); called = p .called; names = p .names }
+entry-grown g p = record { laid = p .laid; passes = λ D t l. p .passes D (λ u. le-trans (g .tables .longer u) (t u)) (le-trans (g .functions) l); called = p .called; names = p .names; origin = origin-grown g (p .origin) }
 
 -- ---- the head: a name and six words
 data Head : Cells → Type 0 where
@@ -125,6 +126,7 @@ module _ (m : Module) (well : WellFormed m) (ok : Passes m) (o : ℕ) (a : St) w
     pub laid : WellEntry E
     pub three : soundEntry (outside m) E ≡ true
     pub pass : Bodies.Passes m (E .function)
+    pub is : Of m (E .function)
     pub called : not (eqb (field NAME (E .head)) 0) ≡ true
     pub names : expressionsNamed (E .function) ≡ true
     pub calls : All (λ j. Low (unknowns m a) m a j) (callees (E .function))
@@ -189,6 +191,7 @@ module _ (m : Module) (well : WellFormed m) (ok : Passes m) (o : ℕ) (a : St) w
       passes = λ D t l. (sound-at D t l, passes-at D t l);
       called = name-at;
       names = names-again m well ok o (follow o m) (λ j. Low (unknowns m a) m s j) s fol-follows F (p .pass) calls-low (from-refl f) (p .names);
+      origin = origin-grown (on .grown) (origin m well ok o (follow o m) (λ j. Low (unknowns m a) m s j) s fol-follows F (p .pass) calls-low (from-refl f) (p .is));
     }
       where
         F′ : Function
@@ -247,7 +250,7 @@ module _ (m : Module) (well : WellFormed m) (ok : Passes m) (o : ℕ) (a : St) w
   unfolding outside
   low-callees f p = sound-below (outside m) f (p .well) (p .three)
 
-  each-sound : (is : List ℕ) → ringing is m a ≡ false → (es : List Entry) → ((k : ℕ) (E : Entry) → getElem? es k ≡ some E → Bodies.Passes m (E .function)) → Each WellEntry es → every (soundEntry (outside m)) es ≡ true
+  each-sound : (is : List ℕ) → ringing is m a ≡ false → (es : List Entry) → ((k : ℕ) (E : Entry) → getElem? es k ≡ some E → Bodies.Passes m (E .function) × Of m (E .function)) → Each WellEntry es → every (soundEntry (outside m)) es ≡ true
       → present (entryNames es) ≡ true → entriesNamed es ≡ true → ((j : ℕ) → In j (calleesOf es) → In j is) → Each Sound es
   unfolding every present entryNames entriesNamed calleesOf
   each-sound is e [] ps ws t c n h = each-none
@@ -256,7 +259,7 @@ module _ (m : Module) (well : WellFormed m) (ok : Passes m) (o : ℕ) (a : St) w
       let c₁ = and-split (not (eqb (field NAME (E .head)) 0)) (present (entryNames es)) c in
       let n₁ = and-split (expressionsNamed (E .function)) (entriesNamed es) n in
       let p = ps 0 E refl in
-      each-next (record { laid = w; three = t₁ .0; pass = p; called = c₁ .0; names = n₁ .0; calls = heights m well ok o a is e (λ j k. h j (in-left (calleesOf es) k)) (low-callees (E .function) p) }) (each-sound is e es (λ k D q. ps (suc k) D q) ws (t₁ .1) (c₁ .1) (n₁ .1) (λ j k. h j (in-right (callees (E .function)) k)))
+      each-next (record { laid = w; three = t₁ .0; pass = p .0; is = p .1; called = c₁ .0; names = n₁ .0; calls = heights m well ok o a is e (λ j k. h j (in-left (calleesOf es) k)) (low-callees (E .function) (p .0)) }) (each-sound is e es (λ k D q. ps (suc k) D q) ws (t₁ .1) (c₁ .1) (n₁ .1) (λ j k. h j (in-right (callees (E .function)) k)))
 
   pub entries-sound : ringing (calleesOf (m .entries)) m a ≡ false → Each Sound (m .entries)
-  entries-sound e = each-sound (calleesOf (m .entries)) e (m .entries) (entry-passes m well (ok .numbers) (ok .lowers) (ok .scope)) (well .entries-ok .each) (specials-in m (ok .numbers) .2) (five .called) (five .names) (λ j k. k)
+  entries-sound e = each-sound (calleesOf (m .entries)) e (m .entries) (λ k E q. (entry-passes m well (ok .numbers) (ok .lowers) (ok .scope) k E q, of-entry k q)) (well .entries-ok .each) (specials-in m (ok .numbers) .2) (five .called) (five .names) (λ j k. k)

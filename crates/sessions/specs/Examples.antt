@@ -1,10 +1,11 @@
 -- The theorems are not empty: sessions on a small source, computed, and the theorems applied to them.
 -- The source has three functions, shade, tone and fog, where shade calls fog and fog calls tone, an entry point that calls shade, and two types, of which one is special. It is set twice, with another offset, so that the special type's place is taken.
-use mathlib.Core.Path.{_≡_, refl, ap, _∙_}
+use mathlib.Core.Path.{_≡_, refl, sym, ap, _∙_}
 use mathlib.Core.Bool.{true, false}
 use mathlib.Core.List.{List, [], _∷_}
-use mathlib.Core.Option.{none}
-use Prim.Native.Nat.{ℕ, _*_}
+use mathlib.Core.Option.{none, some}
+use Prim.Native.Nat.{ℕ, _*_, _≤_}
+use native.Mathlib.Omega.{arith}
 use lib.ListN.{length}
 use Rattle.model.specs.Table.{WORD, NAME, OPT-TYPE}
 use Rattle.model.specs.Tree.{call, end, _then_, Function}
@@ -15,10 +16,12 @@ use Rattle.sessions.specs.Operating.{Operation, sets, imports, renames, 
 use Rattle.model.specs.Module.{Module}
 use Rattle.imports.specs.Trace.{Keeps}
 use Rattle.imports.specs.Theorems.{Distinct}
-use Rattle.sessions.specs.Ending.{Written}
-use Rattle.sessions.specs.Operating.{new-good, run-good, finish-written}
+use Rattle.sessions.specs.Height.{unknowns}
+use Rattle.sessions.specs.Ending.{Written, Origins}
+use Rattle.sessions.specs.Theorems.{every-state, source-set, fuel-removed, follow-is, origins}
+use Rattle.sessions.specs.Operating.{Set, new-good, run-good, finish-written}
 use Rattle.sessions.specs.Growing.{Grew, ends, turns, does-grow, does-keep, all-distinct, refused-keeps}
-use Rattle.model.specs.Session.{answered, refused}
+use Rattle.model.specs.Session.{Session, answered, refused}
 use Rattle.model.specs.Bodies.{append, appended, bring, carried, compareOf, comparesOf, declarations, declared, derived, eachE, enterAll, entered, entriesMade, entryMade, final, follow as bodies-follow, followF, goS, importE, join, keepNames, keptNames, known, lastOf, localized, mkS, nameCells, nameIf, namedAfter, namedRows, optE, plain, push, putName, quiet, rebuilt, settled, stand, step, unique, walked, went}
 use Rattle.model.specs.Callees.{calleesAt, calleesS, calls}
 use Rattle.model.specs.Calls.{any, free, held, keep, numbers, round, rounds}
@@ -94,13 +97,17 @@ pub record Computed : Type 0 where
   -- the special type is mapped to what was derived for its place, with the span of the first
   pub taken : run again new .state .maps .ofTypes ≡ 1 ∷ 2 ∷ []
   pub spans-first : run again new .state .recs .ofTypes ≡ leaf 1 11 0 ∷ leaf 2 105 1 ∷ []
+  -- with the source just set no name is known, and no ring is met
+  pub just-set : run (setting-it 10 ∷ []) new .source ≡ some (record { image = shades; offset = 10 })
+  pub all-unknown : unknowns shades (run (setting-it 10 ∷ []) new .state) ≡ 3
+  pub no-ring : ringing (0 ∷ []) shades (run (setting-it 10 ∷ []) new .state) ≡ false
   -- a ring is refused, and so is a number past the table
   pub ring-refused : importFunction 0 (run (rings ∷ []) new) ≡ refused 22
   pub range-refused : importFunction 3 (run one new) ≡ refused 13
 
 pub computed : Computed
-unfolding append appended bring carried compareOf comparesOf declarations declared derived eachE enterAll entered entriesMade entryMade final bodies-follow followF goS importE join keepNames keptNames known lastOf localized mkS nameCells nameIf namedAfter namedRows optE plain push putName quiet rebuilt settled stand step unique walked went calleesAt calleesS calls any free held keep numbers round rounds carry carryCell carryEntry carryFunction carryOpt carryRange carryS carrySpecial appearing finished firsts gathered indexN keepN namedBy namesIn passes renumber tooLarge withNames commit emptied fresh importF importT imports-levels made once rename renamed settle stepT unmapped wentT close constantAt initialised initials initial-initsOf mark marked moving reachedMarks readBy roots unmarked intakeOf tested verdict basesOf lower-below entriesLower functionsLower initOf initsLower lower-initsOf lower operandsLower typesLower _⊛_ bodies countAt endAt flatModule flatSpecial flatTable limits next offsetAt pairsFrom placed places read records section sections sized specialAt table tableAt write absent differ names-distinct entriesNamed entryNames expressionsNamed field functionNames functionsNamed names-named present same unlike numbers-below bound caps constantOnly every inside numbered ordered outside rising sound within constantKind emittedKind functionOf kind kindAt operand ops opsOf optional resultKind resultOf standing standingKind _⟫_ both eat exact mapL mapO function nameWord nothing add alike alikeC carryW each firstWord merged moved refOf refs seat shift spanBy target targets through undefined undefinedAt does run addE addF addOpt addS allOf allScoped allVis callResult contB scope-distinct effectResult emitted entriesScoped evalsOpt evalsS expandS has holdsS inRange inScope isOf kindsS live okE okS optVis scoped scopedAs seen shapeS topB upFrom vis after calleesOf clear ending finish finishWithEntryPoints importFunction importing kept mapFunctionHandle mapSpan needing new renameType ringing session-set setting stuck unknown withEntries force keyed pairTo pairs putPair putRay ray rayTo rays sourced withSpecial atomics constantRow counted entryHead expressionRow expressions table-follow functionHead globalRow table-levels limit more nameRow overrideRow queries repeat results table-run statements text typeRow types values variant variants at codeT count isT mapAt recAt six tables upd blockAt caseAt cases checked entryAt flat flatAll flatBlock flatEntry flatList flatS flatX form functionAt kindOf listed operands optOf rows shaped sizeB sizeC statement stmts wordOf
-computed = record { brought = refl; brought-once = refl; ends-one = refl; ends-two = refl; ends-with = refl; apart = refl; twice = refl; taken = refl; spans-first = refl; ring-refused = refl; range-refused = refl }
+unfolding append appended bring carried compareOf comparesOf declarations declared derived eachE enterAll entered entriesMade entryMade final bodies-follow followF goS importE join keepNames keptNames known lastOf localized mkS nameCells nameIf namedAfter namedRows optE plain push putName quiet rebuilt settled stand step unique walked went calleesAt calleesS calls any free held keep numbers round rounds carry carryCell carryEntry carryFunction carryOpt carryRange carryS carrySpecial appearing finished firsts gathered indexN keepN namedBy namesIn passes renumber tooLarge withNames commit emptied fresh importF importT imports-levels made once rename renamed settle stepT unmapped wentT close constantAt initialised initials initial-initsOf mark marked moving reachedMarks readBy roots unmarked intakeOf tested verdict basesOf lower-below entriesLower functionsLower initOf initsLower lower-initsOf lower operandsLower typesLower _⊛_ bodies countAt endAt flatModule flatSpecial flatTable limits next offsetAt pairsFrom placed places read records section sections sized specialAt table tableAt write absent differ names-distinct entriesNamed entryNames expressionsNamed field functionNames functionsNamed names-named present same unlike numbers-below bound caps constantOnly every inside numbered ordered outside rising sound within constantKind emittedKind functionOf kind kindAt operand ops opsOf optional resultKind resultOf standing standingKind _⟫_ both eat exact mapL mapO function nameWord nothing add alike alikeC carryW each firstWord merged moved refOf refs seat shift spanBy target targets through undefined undefinedAt does run addE addF addOpt addS allOf allScoped allVis callResult contB scope-distinct effectResult emitted entriesScoped evalsOpt evalsS expandS has holdsS inRange inScope isOf kindsS live okE okS optVis scoped scopedAs seen shapeS topB upFrom vis after calleesOf clear ending finish finishWithEntryPoints importFunction importing kept mapFunctionHandle mapSpan needing new renameType ringing session-set setting stuck unknown withEntries force keyed pairTo pairs putPair putRay ray rayTo rays sourced withSpecial atomics constantRow counted entryHead expressionRow expressions table-follow functionHead globalRow table-levels limit more nameRow overrideRow queries repeat results table-run statements text typeRow types values variant variants at codeT count isT mapAt recAt six tables upd blockAt caseAt cases checked entryAt flat flatAll flatBlock flatEntry flatList flatS flatX form functionAt kindOf listed operands optOf rows shaped sizeB sizeC statement stmts wordOf unknowns
+computed = record { brought = refl; brought-once = refl; ends-one = refl; ends-two = refl; ends-with = refl; apart = refl; twice = refl; taken = refl; spans-first = refl; just-set = refl; all-unknown = refl; no-ring = refl; ring-refused = refl; range-refused = refl }
 
 -- ---- the theorems apply
 -- what the first session writes is read back and passes all tests
@@ -123,3 +130,23 @@ distinct-again = all-distinct (run again new) (run-good again new new-good)
 
 pub stays : after (run one new) (importFunction 3 (run one new)) ≡ run one new
 stays = refused-keeps (run one new) 13 (importFunction 3 (run one new)) (computed .range-refused)
+
+-- a bound of 3 or of 9 is as good as that of `follow`, which follows shade by importing it
+abbrev begun : Session
+begun = run (setting-it 10 ∷ []) new
+
+set-begun : Set (record { image = shades; offset = 10 }) (begun .state)
+set-begun = source-set begun (every-state (setting-it 10 ∷ [])) (record { image = shades; offset = 10 }) (computed .just-set)
+
+pub three-deep : followF 3 10 shades 0 (begun .state) ≡ followF 9 10 shades 0 (begun .state)
+three-deep = deep 3 (omega arith) ∙ sym (deep 9 (omega arith))
+  where
+    deep : (k : ℕ) → 3 ≤ k → followF k 10 shades 0 (begun .state) ≡ bodies-follow 10 shades 0 (begun .state)
+    deep k l = fuel-removed (record { image = shades; offset = 10 }) (begun .state) set-begun 0 (omega arith) (computed .no-ring) k (rw (computed .all-unknown) l)
+
+pub followed-by-import : bodies-follow 10 shades 0 (begun .state) ≡ once (known shades (begun .state) 0) (λ z. append 10 shades (bodies-follow 10 shades) 0 (begun .state)) (begun .state)
+followed-by-import = follow-is (record { image = shades; offset = 10 }) (begun .state) set-begun 0 (omega arith) (computed .no-ring)
+
+-- each function of the first session agrees with the one that it comes from
+pub walks-one : Origins (run one new .state) (finished (run one new .state) [])
+walks-one = origins one

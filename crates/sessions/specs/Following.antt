@@ -12,7 +12,7 @@ use lib.ListN.{length, getD, getElem?, length-append, List·getD-append}
 use borrow.Author.Tests.{ne-eqb}
 use Rattle.model.specs.Outcome.{Cells}
 use Rattle.model.specs.Table.{NAME}
-use Rattle.model.specs.Tree.{Function, flatAll}
+use Rattle.model.specs.Tree.{Function, Entry, flatAll}
 use Rattle.model.specs.Module.{Module}
 use Rattle.model.specs.Carry.{Each, each-none, each-next, WellFormed}
 use Rattle.model.specs.Intake.{Passes}
@@ -23,16 +23,20 @@ use Rattle.model.specs.Redirect.{nothing, nameWord, function as functionAt}
 use Rattle.model.specs.Tables.{Tab, names, at, Tables, tables, recAt, count, mapAt}
 use Rattle.model.specs.References.{table, node, refOf, refs, target, targets, alike, seat}
 use Rattle.model.specs.Imports.{St, importT}
-use Rattle.model.specs.Bodies.{lastOf, known, went, declarations, declared, derived, final, localized, appended, append, followF}
+use Rattle.model.specs.Bodies.{lastOf, known, Making, went, declarations, declared, derived, final, localized, appended, append, followF}
 use Rattle.model.specs.Finish.{gathered}
 use Rattle.laws.specs.Lists.{and-split}
 use Rattle.laws.specs.Quiet.{each-append, each-map}
+use Rattle.walks.specs.Agreement.{Agrees, Carries}
+use Rattle.walks.specs.Theorems.{carries}
 use Rattle.imports.specs.RecordLaws.{All as AllN, Has as HasN}
 use Rattle.imports.specs.Trace.{Keeps, keeps-trans}
 use Rattle.imports.specs.Imported.{gathered-tables, import-keeps}
 use Rattle.bodies.specs.Context.{Grown, grown-refl, grown-trans, once-is}
 use Rattle.bodies.specs.Lists.{All, all-map}
+use Rattle.bodies.specs.Inv.{place}
 use Rattle.bodies.specs.Function as Function
+use Rattle.bodies.specs.Function.{mapsOf, maps-match}
 use Rattle.bodies.specs.Passing as Bodies
 use Rattle.bodies.specs.Lawful as Lawful
 use Rattle.bodies.specs.Source.{function-passes}
@@ -45,14 +49,40 @@ use Rattle.finishing.specs.Counting.{type-functions}
 use Rattle.sessions.specs.Height.{Low, low-on}
 use Rattle.sessions.specs.Named.{name-low, derived-named}
 
+-- ---- where a derived function comes from
+-- a function of the module: one of the table, or an entry point's
+pub data Of (m : Module) : Function → Type 0 where
+  of-table : (n : ℕ) → n < length (m .functions) → Of m (functionAt m n)
+  of-entry : {E : Entry} (i : ℕ) → getElem? (m .entries) i ≡ some E → Of m (E .function)
+
+-- a function of a source that passed, with which it agrees, through the maps as they were at the end of its import; what these name is still there
+pub record Origin (s : St) (f : Function) : Type 0 where
+  pub source : Module
+  pub well : WellFormed source
+  pub passes : Passes source
+  pub function : Function
+  pub is : Of source function
+  pub under : Making
+  pub kept : Typed (tables source) (under .out)
+  pub grown : Grown (under .out) s
+  pub agrees : (D : Module) → Agrees source D (mapsOf (went source under)) function f (place (under .memo))
+
+pub origin-grown : {s r : St} {f : Function} → Grown s r → Origin s f → Origin r f
+origin-grown g p = record { source = p .source; well = p .well; passes = p .passes; function = p .function; is = p .is; under = p .under; kept = p .kept; grown = grown-trans (p .grown) g; agrees = p .agrees }
+
+-- so every walk of it is its source's, carried
+pub origin-walks : {s : St} {f : Function} (p : Origin s f) → (D : Module) (cs : List ℕ) → Carries (mapsOf (went (p .source) (p .under))) (p .function) f (place (p .under .memo)) cs
+origin-walks {s} {f} p D cs = carries (p .source) D (mapsOf (went (p .source) (p .under))) (p .function) f (place (p .under .memo)) (p .agrees D) cs
+
 -- ---- a derived function: it passes in every module that has at least what s has, it has a name, and so have its named expressions
 pub record Piece (s : St) (f : Function) : Type 0 where
   pub passes : (D : Module) → ((t : Tab) → count (s .recs) t ≤ count (tables D) t) → length (s .functions) ≤ length (D .functions) → Bodies.Passes D f
   pub called : 0 < nameWord f
   pub names : expressionsNamed f ≡ true
+  pub origin : Origin s f
 
 pub piece-grown : {s r : St} {f : Function} → Grown s r → Piece s f → Piece r f
-piece-grown g p = record { passes = λ D t l. p .passes D (λ u. le-trans (g .tables .longer u) (t u)) (le-trans (g .functions) l); called = p .called; names = p .names }
+piece-grown g p = record { passes = λ D t l. p .passes D (λ u. le-trans (g .tables .longer u) (t u)) (le-trans (g .functions) l); called = p .called; names = p .names; origin = origin-grown g (p .origin) }
 
 pub pieces-grown : {s r : St} {fs : List Function} → Grown s r → Each (Piece s) fs → Each (Piece r) fs
 pieces-grown g ps = each-map (λ f p. piece-grown g p) ps
@@ -221,6 +251,19 @@ module _ (m : Module) (well : WellFormed m) (ok : Passes m) (o : ℕ) where
     pub names-again : expressionsNamed F ≡ true → expressionsNamed F′ ≡ true
     names-again h = derived-named o m fol F s h (Theorems.names-mapped m well (ok .numbers) (ok .lowers) o fol Q (From m s) follows F pass calls s f)
 
+    pub origin : Of m F → Origin e F′
+    origin q = record {
+      source = m;
+      well = well;
+      passes = ok;
+      function = F;
+      is = q;
+      under = final o m fol F s;
+      kept = ends .typed;
+      grown = grown-refl e;
+      agrees = λ D. Theorems.agrees m well (ok .numbers) (ok .lowers) o fol Q (From m s) follows F pass calls s f D (mapsOf (went m (final o m fol F s))) (maps-match m Q (final o m fol F s));
+    }
+
     -- its name
     module _ (k : ℕ) (rest : Cells) (is : F .head ≡ (NAME, suc k) ∷ rest) (low : k < length (m .names)) where
       declared-name : 0 < mapAt (declared o m fol F s .out .maps) names k
@@ -277,6 +320,7 @@ module _ (m : Module) (well : WellFormed m) (ok : Passes m) (o : ℕ) where
       passes = λ D t w. again fol Q s follows G pass calls f D (λ u. le-trans (longer .tables .longer u) (t u)) (le-trans (longer .functions) w);
       called = rw (name .0) (omega arith);
       names = names-again fol Q s follows G pass calls f (unfold functionAt in named-at (m .functions) source-named n l);
+      origin = origin-grown longer (origin fol Q s follows G pass calls f (of-table n l));
     }
 
     pub found : 0 < known m R n

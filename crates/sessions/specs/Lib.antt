@@ -9,4 +9,5 @@ pub mod Entering
 pub mod Ending
 pub mod Operating
 pub mod Growing
+pub mod Theorems
 pub mod Examples

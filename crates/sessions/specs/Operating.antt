@@ -17,6 +17,7 @@ use Rattle.model.specs.Redirect.{function}
 use Rattle.model.specs.Tables.{Tab, names, types, Tables, tables, count}
 use Rattle.model.specs.Imports.{St}
 use Rattle.model.specs.Special.{sourced}
+use Rattle.model.specs.Bodies.{enterAll}
 use Rattle.model.specs.Finish.{finished, tooLarge}
 use Rattle.model.specs.Session.{Source, Session, Answer, answered, refused, after, new, needing, kept, ringing, setting, set, clear, mapSpan, importing, renameType, importFunction, mapFunctionHandle, ending, finish, calleesOf, withEntries, finishWithEntryPoints}
 use Rattle.laws.specs.Modules.{read-well}
@@ -24,7 +25,7 @@ use Rattle.finishing.specs.Linking.{intake-passes}
 use Rattle.sessions.specs.Following.{Holds, Next, holds-from, from-next}
 use Rattle.sessions.specs.Holding.{none-set, cleared-holds, fresh-holds, sourced-holds, import-next, rename-next, function-next, handle-from}
 use Rattle.sessions.specs.Entering.{all-entered, entries-sound}
-use Rattle.sessions.specs.Ending.{Written, all-written}
+use Rattle.sessions.specs.Ending.{Written, all-written, Origins, all-origins}
 
 -- ---- operations; import_type and its like are one, `imports`
 pub data Operation : Type 0 where
@@ -240,3 +241,14 @@ finish-with-written x s k room ws r h = go (ringing (calleesOf (x .image .entrie
         let a = ended (withEntries x s) room ws r h in
         let i = all-entered (x .image) (k .well) (k .passes) (x .offset) s (entries-sound (x .image) (k .well) (k .passes) (x .offset) s e) s (holds-from (k .holds)) in
         written-as (a .1) (all-written (from-next (i .from) .holds) (i .pieces) (a .0))
+
+-- ---- AND WHERE ITS FUNCTIONS COME FROM: each agrees with a function of a source that was set
+pub finish-origins : (s : Session) → Good s → Origins (s .state) (finished (s .state) [])
+unfolding Good
+finish-origins s g = all-origins (good-holds (s .source) (s .state) g .1) each-none
+
+pub finish-with-origins : (x : Source) (s : St) → Set x s → ringing (calleesOf (x .image .entries)) (x .image) s ≡ false → Origins (enterAll (x .image .entries) (x .offset) (x .image) s) (withEntries x s)
+unfolding withEntries
+finish-with-origins x s k e =
+    let i = all-entered (x .image) (k .well) (k .passes) (x .offset) s (entries-sound (x .image) (k .well) (k .passes) (x .offset) s e) s (holds-from (k .holds)) in
+    all-origins (from-next (i .from) .holds) (i .pieces)
