@@ -1,0 +1,111 @@
+#!/usr/bin/env python3
+"""Writes the theorems of the crate computed: the model's link and run of steps on vectors, each computed and compared by refl.
+
+    tools/compute_vectors.py [FOLDER]       writes Links.antt and Sessions.antt for the vectors named below, to crates/computed/specs or another folder
+
+A handful is in the gate, since a vector takes a second or more; others are tried by naming them here."""
+import os
+import re
+import struct
+import sys
+
+LINKS = ["000", "001", "002", "003", "004", "006", "008", "013"]
+SESSIONS = ["s001", "s008", "s104", "s106"]
+# the files of the model whose definitions have to be unfolded
+MODEL = ["Outcome", "Table", "Tree", "Module", "Carry", "Operands", "Lower", "Names", "Initial", "Numbers", "Scope", "Intake", "Calls", "Callees", "Redirect",
+         "Tables", "References", "Imports", "Bodies", "Special", "Finish", "Session", "Link", "Steps"]
+
+
+def unfoldables(name):
+    """The names that a file declares as unfoldable, those of mutual blocks among them."""
+    out, inside, indent = [], False, 0
+    for line in open(f"crates/model/specs/{name}.antt").read().split("\n"):
+        if m := re.match(r"^(\s*)unfoldable pub (\S+) :", line):
+            out.append(m.group(2))
+            inside = False
+        elif m := re.match(r"^(\s*)unfoldable mutual", line):
+            inside, indent = True, len(m.group(1))
+        elif inside and line.strip():
+            if len(line) - len(line.lstrip()) <= indent and not line.lstrip().startswith("--"):
+                inside = False
+            elif m := re.match(r"^\s*pub (\S+) :", line):
+                out.append(m.group(1))
+    return out
+
+
+def words(data):
+    return list(struct.unpack(f"<{len(data) // 4}I", data[: len(data) // 4 * 4]))
+
+
+def listed(numbers):
+    return "(" + " ∷ ".join(map(str, numbers)) + " ∷ [])" if numbers else "[]"
+
+
+def imports():
+    """Use lines under names that do not meet, and what to unfold."""
+    uses, names = [], []
+    for file in MODEL:
+        items = []
+        for name in unfoldables(file):
+            plain = re.match(r"^[A-Za-z]", name)
+            names.append(f"{file}-{name}" if plain else name)
+            items.append(f"{name} as {file}-{name}" if plain else name)
+        uses.append(f"use Rattle.model.specs.{file}.{{{', '.join(items)}}}")
+    return uses, "unfolding wordOf wordsOf " + " ".join(names)
+
+
+def bytes_of(name):
+    return open(f"vectors/{name}", "rb").read()
+
+
+def links(uses, unfolding):
+    """Link on an image, into an output as long as the image."""
+    expected = {line.split("\t")[0]: line.split("\t")[1:] for line in open("vectors/expected.tsv").read().strip().split("\n")}
+    text = ["use Rattle.model.specs.Link.{linked, refused, ringed}", ""]
+    for name in LINKS:
+        image = bytes_of(f"{name}.img")
+        if os.path.exists(f"vectors/{name}.linked"):
+            answer = "linked " + listed(words(bytes_of(f"{name}.linked")))
+        elif expected[name][0] != "ok":
+            answer = "refused " + expected[name][0].split()[1]
+        else:
+            answer = "ringed " + expected[name][1].split()[3]
+        text += [f"pub v{name} : Link-link {len(image)} {listed(words(image))} {len(image)} ≡ {answer}", unfolding, f"v{name} = refl", ""]
+    return text
+
+
+def sessions(uses, unfolding):
+    """A run of steps: the answers, and the words of the last finish that wrote."""
+    text = ["use Rattle.model.specs.Steps.{Said}", "",
+            "-- the words that the last step wrote that wrote any",
+            "unfoldable pub lastWritten : List Said → List ℕ → List ℕ", "lastWritten [] v = v",
+            "lastWritten (x ∷ xs) v = elim (x .written) [ [] ↦ lastWritten xs v | w ∷ ws ↦ lastWritten xs (w ∷ ws) ]", ""]
+    for name in SESSIONS:
+        lines = bytes_of(f"{name}.steps").decode().strip().split("\n")
+        room = int(re.search(r"output of (\d+)", lines[0]).group(1))
+        rows = [[[int(w) for w in half.split()] for half in line.split("#")[0].split("=")] for line in lines[1:]]
+        steps = [w for step, _ in rows for w in step]
+        answers = [w for _, answer in rows for w in answer]
+        finishes = [(step[1], answer[1]) for step, answer in rows if step[0] in (13, 14) and answer[0] == 0]
+        start, size = finishes[-1] if finishes else (0, 0)
+        output = bytes_of(f"{name}.output").ljust(start + size, b"\xa5")
+        run = f"(Steps-run {listed(steps)} {listed(list(bytes_of(f'{name}.sources')))} (replicate {room} 0) Session-new)"
+        text += [f"pub {name} : Steps-answersOf {run} ≡ {listed(answers)}", unfolding, f"{name} = refl", "",
+                 f"pub {name}-written : lastWritten {run} [] ≡ {listed(words(output[start:start + size]))}", unfolding.replace("unfolding", "unfolding lastWritten"),
+                 f"{name}-written = refl", ""]
+    return text
+
+
+def main():
+    folder = os.path.abspath(sys.argv[1]) if len(sys.argv) > 1 else "crates/computed/specs"
+    os.chdir(os.path.dirname(os.path.dirname(os.path.abspath(__file__))))
+    uses, unfolding = imports()
+    head = ["use mathlib.Core.Path.{_≡_, refl}", "use mathlib.Core.List.{List, [], _∷_}", "use Prim.Native.Nat.{ℕ}", "use lib.ListN.{replicate}",
+            "use Rattle.words.specs.Words.{wordOf, wordsOf}", *uses]
+    first = {"Links": "-- Linking computed on vectors: the answer, or the linked image.", "Sessions": "-- Sessions computed on vectors: the answers of all steps, and what was written last."}
+    for name, body in (("Links", links(uses, unfolding)), ("Sessions", sessions(uses, unfolding))):
+        with open(f"{folder}/{name}.antt", "w") as out:
+            out.write("\n".join([first[name] + " Written by tools/compute_vectors.py.", *head, *body]))
+
+
+main()
