@@ -121,9 +121,6 @@ taken-links : (m : Module) → Taken m → Linking (write m) (4 * length (write 
 unfolding intakeOf verdict tested
 taken-links m t = record { passes = rw (intakeOf, t .size, t .reads, verdict, tested, t .numbers, t .lowers, t .names, t .scope); reads = t .reads; roomy = le-refl _ }
 
-pub lamp-order : orderOf lamp ≡ ordered (1 ∷ 2 ∷ 0 ∷ [])
-lamp-order = computed .lamp-order
-
 pub lamp-linking : Linking (write lamp) (4 * length (write lamp)) lamp
 lamp-linking = taken-links lamp (computed .lamp-taken)
 

@@ -125,16 +125,16 @@ module _ (m : Module) (well : WellFormed m) (three : numbered m ≡ true) (four 
       go : (seat (nameTable s) r ≡ seat (nameTable a) r) × (seat (nameTable a) r < length (nameTable s)) → Bears m s n
       go p = record { seated = rw (p .0) (p .1); found = unfold known in rw (p .0) (f .borne (suc (seat (nameTable a) r)) (unfold known in b .found)) }
 
-  -- ---- what is imported bears its name, whichever way calls are followed that keeps what holds of such states
-  module _ (fw : ℕ → St → St) (fk : (a : St) (n : ℕ) (s : St) → Follows T a s → Follows T a (fw n s)) (n : ℕ) (s : St) (h : Headed m n) (k : Follows T s s) where
+  -- ---- what is imported bears its name
+  module _ (n : ℕ) (s : St) (h : Headed m n) (k : Follows T s s) where
     abbrev F : Function
     F = functionAt m n
 
     abbrev d : St
-    d = declared o m fw F s .out
+    d = declared o m (follow o m) F s .out
 
     abbrev e : St
-    e = final o m fw F s .out
+    e = final o m (follow o m) F s .out
 
     first-ref : (cs : Cells) → cs ≡ (NAME, suc (h .name)) ∷ h .rest → (xs ys zs : Cells) → (js : List Node) × (refs (cs ++ xs ++ ys ++ zs) ≡ node (table names) (h .name) ∷ js)
     first-ref cs q xs ys zs = (refs (h .rest ++ xs ++ ys ++ zs), rw q (unfold refs refOf target targets in refl))
@@ -143,61 +143,48 @@ module _ (m : Module) (well : WellFormed m) (three : numbered m ≡ true) (four 
     low-name = unfold count tables at in h .in-range
 
     start-follows : Follows T s d
-    start-follows = declared-kept m o (Follows T s) (ik s) fw (fk s) F (function-in m three n) s k
+    start-follows = declared-kept m o (Follows T s) (ik s) (follow o m) (follow-follows s) F (function-in m three n) s k
 
     end-follows : Follows T d e
-    end-follows = rest-kept m o (Follows T d) (ik d) fw (fk d) F (function-in m three n) s (follows-refl start-follows)
+    end-follows = rest-kept m o (Follows T d) (ik d) (follow o m) (follow-follows d) F (function-in m three n) s (follows-refl start-follows)
 
     name-mapped : 0 < mapAt (d .maps) names (h .name)
     name-mapped =
         let s₁ : St = importT o T names (h .name) s in
         let j = first-ref (F .head) (h .is) (flatAll (F .arguments)) (F .result) (flatAll (F .locals)) in
         let g : Follows T s₁ s₁ = follows-refl (ik s names (h .name) s low-name k) in
-        declared-after m o (Follows T s₁) (ik s₁) fw (fk s₁) F (function-in m three n) s (node (table names) (h .name)) (j .0) (unfold declarations in j .1) (unfold step bring in g) .mapped (h .name)
+        declared-after m o (Follows T s₁) (ik s₁) (follow o m) (follow-follows s₁) F (function-in m three n) s (node (table names) (h .name)) (j .0) (unfold declarations in j .1) (unfold step bring in g) .mapped (h .name)
         (import-trace o T wf names (h .name) s low-name (k .sized) .1)
 
-    derived-name : nameWord (localized o m fw F s) ≡ mapAt (d .maps) names (h .name)
+    derived-name : nameWord (localized o m (follow o m) F s) ≡ mapAt (d .maps) names (h .name)
     unfolding nameWord localized derived
-    derived-name = carried-name m o (declared o m fw F s) (F .head) (h .name) (h .rest) (h .is)
+    derived-name = carried-name m o (declared o m (follow o m) F s) (F .head) (h .name) (h .rest) (h .is)
 
     source-name : nameWord F ≡ suc (h .name)
     unfolding nameWord
     source-name = rw (h .is)
 
-    pub named-by : (nameWord (localized o m fw F s) ≡ suc (seat (nameTable e) (recAt T names (pred (nameWord F))))) × (seat (nameTable e) (recAt T names (pred (nameWord F))) < length (nameTable e))
-    named-by =
+    pub imported-name : (nameWord (localized o m (follow o m) F s) ≡ suc (seat (nameTable e) (recAt T names (pred (nameWord F))))) × (seat (nameTable e) (recAt T names (pred (nameWord F))) < length (nameTable e))
+    imported-name =
         let p = start-follows .sound (h .name) name-mapped low-name in
         let q = end-follows .seats (recAt T names (h .name)) (p .1) in
         rw source-name (derived-name ∙ p .0 ∙ ap suc (sym (q .0)), rw (q .0) (q .1))
 
-    pub follows-by : Follows T e e
-    follows-by = follows-refl end-follows
-
-    pub bears-by : Bears m (append o m fw n s) n
-    bears-by =
-        let p = start-follows .sound (h .name) name-mapped low-name in
-        let q = end-follows .seats (recAt T names (h .name)) (p .1) in
-        let w : nameWord (localized o m fw F s) ≡ suc (seat (nameTable e) (recAt T names (h .name))) = derived-name ∙ p .0 ∙ ap suc (sym (q .0)) in
-        joined w (rw (q .0) (q .1))
-      where
-        joined : nameWord (localized o m fw F s) ≡ suc (seat (nameTable e) (recAt T names (h .name))) → seat (nameTable e) (recAt T names (h .name)) < length (nameTable e) → Bears m (append o m fw n s) n
-        joined w l = record {
-          seated = unfold append appended in rw source-name l;
-          found = unfold known append appended in rw (source-name, ← w) (last-hit (e .functions) (localized o m fw F s) 0 0);
-        }
-
-  module _ (n : ℕ) (s : St) (h : Headed m n) (k : Follows T s s) where
-    abbrev e′ : St
-    e′ = final o m (follow o m) (functionAt m n) s .out
-
-    pub imported-name : (nameWord (localized o m (follow o m) (functionAt m n) s) ≡ suc (seat (nameTable e′) (recAt T names (pred (nameWord (functionAt m n)))))) × (seat (nameTable e′) (recAt T names (pred (nameWord (functionAt m n)))) < length (nameTable e′))
-    imported-name = named-by (follow o m) follow-follows n s h k
-
-    pub imported-follows : Follows T e′ e′
-    imported-follows = follows-by (follow o m) follow-follows n s h k
+    pub imported-follows : Follows T e e
+    imported-follows = follows-refl end-follows
 
     pub imported-bears : Bears m (append o m (follow o m) n s) n
-    imported-bears = bears-by (follow o m) follow-follows n s h k
+    imported-bears =
+        let p = start-follows .sound (h .name) name-mapped low-name in
+        let q = end-follows .seats (recAt T names (h .name)) (p .1) in
+        let w : nameWord (localized o m (follow o m) F s) ≡ suc (seat (nameTable e) (recAt T names (h .name))) = derived-name ∙ p .0 ∙ ap suc (sym (q .0)) in
+        joined w (rw (q .0) (q .1))
+      where
+        joined : nameWord (localized o m (follow o m) F s) ≡ suc (seat (nameTable e) (recAt T names (h .name))) → seat (nameTable e) (recAt T names (h .name)) < length (nameTable e) → Bears m (append o m (follow o m) n s) n
+        joined w l = record {
+          seated = unfold append appended in rw source-name l;
+          found = unfold known append appended in rw (source-name, ← w) (last-hit (e .functions) (localized o m (follow o m) F s) 0 0);
+        }
 
   -- ---- along a list of functions
   pub along : (is : List ℕ) (s : St) → ((i : ℕ) → In i is → Headed m i) → Follows T s s → (j : ℕ) → In j is → Bears m (appendAll is o m s) j

@@ -90,7 +90,7 @@ module _ (m : Module) (three : numbered m ≡ true) where
     once-kept zero f s p q = p
     once-kept (suc v) f s p q = q
 
-    pub depth-kept : (d n : ℕ) (s : St) → K s → K (followF d o m n s)
+    depth-kept : (d n : ℕ) (s : St) → K s → K (followF d o m n s)
     unfolding followF
     depth-kept zero n s h = h
     depth-kept (suc d) n s h = once-kept (known m s n) _ s (append-kept (followF d o m) (depth-kept d) n s h) h
