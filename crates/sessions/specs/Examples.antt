@@ -2,7 +2,7 @@
 -- The source has three functions, shade, tone and fog, where shade calls fog and fog calls tone, an entry point that calls shade, and two types, of which one is special. It is set twice, with another offset, so that the special type's place is taken.
 use mathlib.Core.Path.{_≡_, refl, sym, ap, _∙_}
 use mathlib.Core.Bool.{true, false}
-use mathlib.Core.List.{List, [], _∷_}
+use mathlib.Core.List.{List, [], _∷_, _++_}
 use mathlib.Core.Option.{none, some}
 use Prim.Native.Nat.{ℕ, _*_, _≤_}
 use native.Mathlib.Omega.{arith}
@@ -15,13 +15,14 @@ use Rattle.model.specs.ImportExamples.{leaf, function-of}
 use Rattle.sessions.specs.Operating.{Operation, sets, imports, renames, functions}
 use Rattle.model.specs.Module.{Module}
 use Rattle.imports.specs.Trace.{Keeps}
-use Rattle.imports.specs.Theorems.{Distinct}
+use Rattle.imports.specs.Theorems.{Distinct, Sound}
 use Rattle.sessions.specs.Height.{unknowns}
 use Rattle.sessions.specs.Ending.{Written, Origins}
-use Rattle.sessions.specs.Theorems.{every-state, source-set, fuel-removed, follow-is, origins}
+use Rattle.sessions.specs.Theorems.{mapped-records, mapped-plainly, every-state, source-set, fuel-removed, follow-is, origins}
 use Rattle.sessions.specs.Operating.{Set, new-good, run-good, finish-written}
+use Rattle.sessions.specs.Mapped.{handIf, handRay, handRays, handPairs, taken, renamedBy, allRenamed, Stays, stays-none, stays-next, But}
 use Rattle.sessions.specs.Growing.{Grew, ends, turns, does-grow, does-keep, all-distinct, refused-keeps}
-use Rattle.model.specs.Session.{Session, answered, refused}
+use Rattle.model.specs.Session.{Source, Session, answered, refused}
 use Rattle.model.specs.Bodies.{append, appended, bring, carried, compareOf, comparesOf, declarations, declared, derived, eachE, enterAll, entered, entriesMade, entryMade, final, follow as bodies-follow, followF, goS, importE, join, keepNames, keptNames, known, lastOf, localized, mkS, nameCells, nameIf, namedAfter, namedRows, optE, plain, push, putName, quiet, rebuilt, settled, stand, step, unique, walked, went}
 use Rattle.model.specs.Callees.{calleesAt, calleesS, calls}
 use Rattle.model.specs.Calls.{any, free, held, keep, numbers, round, rounds}
@@ -95,8 +96,11 @@ pub record Computed : Type 0 where
   pub apart : names-distinct (functionNames (finished (run one new .state) [] .functions)) ≡ true
   pub twice : names-distinct (functionNames (finished (run two new .state) [] .functions)) ≡ false
   -- the special type is mapped to what was derived for its place, with the span of the first
-  pub taken : run again new .state .maps .ofTypes ≡ 1 ∷ 2 ∷ []
+  pub place-taken : run again new .state .maps .ofTypes ≡ 1 ∷ 2 ∷ []
   pub spans-first : run again new .state .recs .ofTypes ≡ leaf 1 11 0 ∷ leaf 2 105 1 ∷ []
+  -- that type is mapped by hand, and it is the only one; at first none is
+  pub by-hand : taken 100 shades (run one new .state) ≡ 0 ∷ []
+  pub none-at-first : taken 10 shades fresh ≡ []
   -- with the source just set no name is known, and no ring is met
   pub just-set : run (setting-it 10 ∷ []) new .source ≡ some (record { image = shades; offset = 10 })
   pub all-unknown : unknowns shades (run (setting-it 10 ∷ []) new .state) ≡ 3
@@ -106,8 +110,8 @@ pub record Computed : Type 0 where
   pub range-refused : importFunction 3 (run one new) ≡ refused 13
 
 pub computed : Computed
-unfolding append appended bring carried compareOf comparesOf declarations declared derived eachE enterAll entered entriesMade entryMade final bodies-follow followF goS importE join keepNames keptNames known lastOf localized mkS nameCells nameIf namedAfter namedRows optE plain push putName quiet rebuilt settled stand step unique walked went calleesAt calleesS calls any free held keep numbers round rounds carry carryCell carryEntry carryFunction carryOpt carryRange carryS carrySpecial appearing finished firsts gathered indexN keepN namedBy namesIn passes renumber tooLarge withNames commit emptied fresh importF importT imports-levels made once rename renamed settle stepT unmapped wentT close constantAt initialised initials initial-initsOf mark marked moving reachedMarks readBy roots unmarked intakeOf tested verdict basesOf lower-below entriesLower functionsLower initOf initsLower lower-initsOf lower operandsLower typesLower _⊛_ bodies countAt endAt flatModule flatSpecial flatTable limits next offsetAt pairsFrom placed places read records section sections sized specialAt table tableAt write absent differ names-distinct entriesNamed entryNames expressionsNamed field functionNames functionsNamed names-named present same unlike numbers-below bound caps constantOnly every inside numbered ordered outside rising sound within constantKind emittedKind functionOf kind kindAt operand ops opsOf optional resultKind resultOf standing standingKind _⟫_ both eat exact mapL mapO function nameWord nothing add alike alikeC carryW each firstWord merged moved refOf refs seat shift spanBy target targets through undefined undefinedAt does run addE addF addOpt addS allOf allScoped allVis callResult contB scope-distinct effectResult emitted entriesScoped evalsOpt evalsS expandS has holdsS inRange inScope isOf kindsS live okE okS optVis scoped scopedAs seen shapeS topB upFrom vis after calleesOf clear ending finish finishWithEntryPoints importFunction importing kept mapFunctionHandle mapSpan needing new renameType ringing session-set setting stuck unknown withEntries force keyed pairTo pairs putPair putRay ray rayTo rays sourced withSpecial atomics constantRow counted entryHead expressionRow expressions table-follow functionHead globalRow table-levels limit more nameRow overrideRow queries repeat results table-run statements text typeRow types values variant variants at codeT count isT mapAt recAt six tables upd blockAt caseAt cases checked entryAt flat flatAll flatBlock flatEntry flatList flatS flatX form functionAt kindOf listed operands optOf rows shaped sizeB sizeC statement stmts wordOf unknowns
-computed = record { brought = refl; brought-once = refl; ends-one = refl; ends-two = refl; ends-with = refl; apart = refl; twice = refl; taken = refl; spans-first = refl; just-set = refl; all-unknown = refl; no-ring = refl; ring-refused = refl; range-refused = refl }
+unfolding append appended bring carried compareOf comparesOf declarations declared derived eachE enterAll entered entriesMade entryMade final bodies-follow followF goS importE join keepNames keptNames known lastOf localized mkS nameCells nameIf namedAfter namedRows optE plain push putName quiet rebuilt settled stand step unique walked went calleesAt calleesS calls any free held keep numbers round rounds carry carryCell carryEntry carryFunction carryOpt carryRange carryS carrySpecial appearing finished firsts gathered indexN keepN namedBy namesIn passes renumber tooLarge withNames commit emptied fresh importF importT imports-levels made once rename renamed settle stepT unmapped wentT close constantAt initialised initials initial-initsOf mark marked moving reachedMarks readBy roots unmarked intakeOf tested verdict basesOf lower-below entriesLower functionsLower initOf initsLower lower-initsOf lower operandsLower typesLower _⊛_ bodies countAt endAt flatModule flatSpecial flatTable limits next offsetAt pairsFrom placed places read records section sections sized specialAt table tableAt write absent differ names-distinct entriesNamed entryNames expressionsNamed field functionNames functionsNamed names-named present same unlike numbers-below bound caps constantOnly every inside numbered ordered outside rising sound within constantKind emittedKind functionOf kind kindAt operand ops opsOf optional resultKind resultOf standing standingKind _⟫_ both eat exact mapL mapO function nameWord nothing add alike alikeC carryW each firstWord merged moved refOf refs seat shift spanBy target targets through undefined undefinedAt does run addE addF addOpt addS allOf allScoped allVis callResult contB scope-distinct effectResult emitted entriesScoped evalsOpt evalsS expandS has holdsS inRange inScope isOf kindsS live okE okS optVis scoped scopedAs seen shapeS topB upFrom vis after calleesOf clear ending finish finishWithEntryPoints importFunction importing kept mapFunctionHandle mapSpan needing new renameType ringing session-set setting stuck unknown withEntries force keyed pairTo pairs putPair putRay ray rayTo rays sourced withSpecial atomics constantRow counted entryHead expressionRow expressions table-follow functionHead globalRow table-levels limit more nameRow overrideRow queries repeat results table-run statements text typeRow types values variant variants at codeT count isT mapAt recAt six tables upd blockAt caseAt cases checked entryAt flat flatAll flatBlock flatEntry flatList flatS flatX form functionAt kindOf listed operands optOf rows shaped sizeB sizeC statement stmts wordOf unknowns handIf handRay handRays handPairs taken
+computed = record { brought = refl; brought-once = refl; ends-one = refl; ends-two = refl; ends-with = refl; apart = refl; twice = refl; place-taken = refl; spans-first = refl; by-hand = refl; none-at-first = refl; just-set = refl; all-unknown = refl; no-ring = refl; ring-refused = refl; range-refused = refl }
 
 -- ---- the theorems apply
 -- what the first session writes is read back and passes all tests
@@ -150,3 +154,22 @@ followed-by-import = follow-is (record { image = shades; offset = 10 }) (begun .
 -- each function of the first session agrees with the one that it comes from
 pub walks-one : Origins (run one new .state) (finished (run one new .state) [])
 walks-one = origins one
+
+-- set for the first time, all that is mapped has its source's record; set again, all but that type and the renamed one
+abbrev shades-at : ℕ → Source
+shades-at o = record { image = shades; offset = o }
+
+two-stay : Stays (functions 0 ∷ imports tab-types 1 ∷ [])
+unfolding turns
+two-stay = stays-next refl (stays-next refl stays-none)
+
+rename-stays : Stays (renames 1 2 ∷ [])
+unfolding turns
+rename-stays = stays-next refl stays-none
+
+pub all-sound : Sound (tables shades) (run (functions 0 ∷ imports tab-types 1 ∷ []) (record { source = some (shades-at 10); state = sourced 10 shades fresh }) .state)
+unfolding new
+all-sound = mapped-plainly (shades-at 10) (set-begun .well) (set-begun .passes) new new-good two-stay (computed .none-at-first) (unfold allRenamed renamedBy in refl)
+
+pub sound-but : But (taken 100 shades (run one new .state) ++ allRenamed (renames 1 2 ∷ [])) (shades-at 100) (run (renames 1 2 ∷ []) (record { source = some (shades-at 100); state = sourced 100 shades (run one new .state) }))
+sound-but = mapped-records (shades-at 100) (set-begun .well) (set-begun .passes) (run one new) (every-state one) rename-stays

@@ -9,5 +9,7 @@ pub mod Entering
 pub mod Ending
 pub mod Operating
 pub mod Growing
+pub mod Replaced
+pub mod Mapped
 pub mod Theorems
 pub mod Examples

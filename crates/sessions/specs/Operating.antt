@@ -86,7 +86,7 @@ module _ (P : Session → Type 0) (s : Session) (p : P s) where
       go false = k
 
   -- 13
-  ranged-after : {A : Type 0} (n k : ℕ) (a : Answer A) → (n < k → P (after s a)) → P (after {A = A} s (elim (ltb n k) [ true ↦ a | false ↦ refused 13 ]))
+  pub ranged-after : {A : Type 0} (n k : ℕ) (a : Answer A) → (n < k → P (after s a)) → P (after {A = A} s (elim (ltb n k) [ true ↦ a | false ↦ refused 13 ]))
   unfolding after
   ranged-after {A} n k a f = go (ltb n k) refl
     where
@@ -95,7 +95,7 @@ module _ (P : Session → Type 0) (s : Session) (p : P s) where
       go false e = p
 
   -- 22
-  ringless-after : {A : Type 0} (c : Bool) (a : Answer A) → (c ≡ false → P (after s a)) → P (after {A = A} s (elim c [ true ↦ refused 22 | false ↦ a ]))
+  pub ringless-after : {A : Type 0} (c : Bool) (a : Answer A) → (c ≡ false → P (after s a)) → P (after {A = A} s (elim c [ true ↦ refused 22 | false ↦ a ]))
   unfolding after
   ringless-after true a f = p
   ringless-after false a f = f refl
@@ -123,22 +123,22 @@ module _ (P : Session → Type 0) (s : Session) (p : P s) where
 
   module _ (g : Good s) where
     -- 20
-    needing-after : {A : Type 0} (f : Source → Answer A) → ((x : Source) → Set x (s .state) → P (after s (f x))) → P (after s (needing (s .source) f))
+    pub needing-after : {A : Type 0} (f : Source → Answer A) → ((x : Source) → s .source ≡ some x → Set x (s .state) → P (after s (f x))) → P (after s (needing (s .source) f))
     unfolding needing after Good GoodBy
-    needing-after {A} f k = go (s .source) g
+    needing-after {A} f k = go (s .source) refl g
       where
-        go : (x : Option Source) → GoodBy x (s .state) → P (after s (needing x f))
-        go none h = p
-        go (some x) h = k x h
+        go : (x : Option Source) → s .source ≡ x → GoodBy x (s .state) → P (after s (needing x f))
+        go none e h = p
+        go (some x) e h = k x e h
 
     pub span-after : (v : ℕ × ℕ) → P (after s (mapSpan v s))
     unfolding mapSpan after
-    span-after v = needing-after _ λ x k. p
+    span-after v = needing-after _ λ x e k. p
 
     pub finish-with-after : (room : ℕ) → P new → P (after s (finishWithEntryPoints room s))
     unfolding finishWithEntryPoints
     finish-with-after room n =
-        needing-after _ λ x k.
+        needing-after _ λ x q k.
         ringless-after (ringing (calleesOf (x .image .entries)) (x .image) (s .state)) _ λ e.
         ending-after (withEntries x (s .state)) room n
 
@@ -147,14 +147,14 @@ module _ (P : Session → Type 0) (s : Session) (p : P s) where
       pub import-after : (t : Tab) (n : ℕ) → P (after s (importing t n s))
       unfolding importing
       import-after t n =
-          needing-after _ λ x k.
+          needing-after _ λ x q k.
           ranged-after n (count (tables (x .image)) t) _ λ l.
           kept-after x _ _ (next x _ k (import-next (x .image) (k .well) (k .passes) (x .offset) t n (s .state) l (k .holds)))
 
       pub rename-after : (n name : ℕ) → P (after s (renameType n name s))
       unfolding renameType
       rename-after n name =
-          needing-after _ λ x k.
+          needing-after _ λ x q k.
           ranged-after n (count (tables (x .image)) types) _ λ l.
           ranged-after name (count (tables (x .image)) names) _ λ w.
           kept-after x _ _ (next x _ k (rename-next (x .image) (k .well) (k .passes) (x .offset) n name (s .state) l w (k .holds)))
@@ -162,7 +162,7 @@ module _ (P : Session → Type 0) (s : Session) (p : P s) where
       pub function-after : (n : ℕ) → P (after s (importFunction n s))
       unfolding importFunction
       function-after n =
-          needing-after _ λ x k.
+          needing-after _ λ x q k.
           ranged-after n (length (x .image .functions)) _ λ l.
           ringless-after (ringing (n ∷ callees (function (x .image) n)) (x .image) (s .state)) _ λ e.
           kept-after x _ _ (next x _ k (function-next (x .image) (k .well) (k .passes) (x .offset) n (s .state) l e (k .holds)))
@@ -170,7 +170,7 @@ module _ (P : Session → Type 0) (s : Session) (p : P s) where
       pub handle-after : (n : ℕ) → P (after s (mapFunctionHandle n s))
       unfolding mapFunctionHandle
       handle-after n =
-          needing-after _ λ x k.
+          needing-after _ λ x q k.
           ranged-after n (length (x .image .functions)) _ λ l.
           ringless-after (ringing (n ∷ []) (x .image) (s .state)) _ λ e.
           kept-after x _ _ (next x _ k (from-next (handle-from (x .image) (k .well) (k .passes) (x .offset) n (s .state) l e (k .holds))))
@@ -184,7 +184,7 @@ clear-good : (s : Session) → Good s → Good (clear s)
 unfolding clear Good GoodBy
 clear-good s g = let h = good-holds (s .source) (s .state) g in cleared-holds (h .0) (s .state) (h .1)
 
-set-good : (s : Session) → Good s → (o : ℕ) (m : Module) → WellFormed m → Passes m → Good (record { source = some (record { image = m; offset = o }); state = sourced o m (s .state) })
+pub set-good : (s : Session) → Good s → (o : ℕ) (m : Module) → WellFormed m → Passes m → Good (record { source = some (record { image = m; offset = o }); state = sourced o m (s .state) })
 unfolding Good GoodBy
 set-good s g o m w p = let h = good-holds (s .source) (s .state) g in record { well = w; passes = p; holds = sourced-holds m w p o (h .0) (s .state) (h .1) }
 
@@ -209,6 +209,28 @@ pub run-good : (ps : List Operation) (s : Session) → Good s → Good (run ps s
 unfolding run
 run-good [] s g = g
 run-good (p ∷ ps) s g = run-good ps (does p s) (does-good p s g)
+
+-- ---- a source that is set passed intake
+pub record Newly (s : Session) (o : ℕ) (ws : List ℕ) (r : Session) : Type 0 where
+  pub image : Module
+  pub reads : read ws ≡ laid image
+  pub well : WellFormed image
+  pub passes : Passes image
+  pub is : r ≡ record { source = some (record { image = image; offset = o }); state = sourced o image (s .state) }
+
+pub set-answered : (bytes : ℕ) (ws : List ℕ) (o : ℕ) (s : Session) (v : Unit {0}) (r : Session) → set bytes ws o s ≡ answered v r → Newly s o ws r
+unfolding set setting kept
+set-answered bytes ws o s v r h = go (intakeOf bytes ws) refl (read ws) refl h
+  where
+    taken-over : (m : Module) → read ws ≡ laid m → WellFormed m → Passes m → (b : Bool) → (let a : Answer (Unit {0}) = elim b [ true ↦ refused 21 | false ↦ answered tt (record { source = some (record { image = m; offset = o }); state = sourced o m (s .state) }) ] in a) ≡ answered v r → Newly s o ws r
+    taken-over m q w p true h = let z : _≡_ {A = ℕ} 0 1 = cc in absurd (omega arith)
+    taken-over m q w p false h = record { image = m; reads = q; well = w; passes = p; is = cc }
+
+    go : (n : ℕ) → intakeOf bytes ws ≡ n → (x : Laid Module) → read ws ≡ x → (let a : Answer (Unit {0}) = elim n [ zero ↦ setting x o s | suc n ↦ refused (suc n) ] in a) ≡ answered v r → Newly s o ws r
+    go zero e (laid m) q h = taken-over m q (read-well ws m q) (intake-passes bytes ws m e q) (tooLarge (finished (sourced o m (s .state)) [])) h
+    go zero e bad q h = let z : _≡_ {A = ℕ} 0 1 = cc in absurd (omega arith)
+    go zero e strange q h = let z : _≡_ {A = ℕ} 0 1 = cc in absurd (omega arith)
+    go (suc n) e x q h = let z : _≡_ {A = ℕ} 0 1 = cc in absurd (omega arith)
 
 -- ---- WHAT IS WRITTEN
 -- what `ending` answers is the module's words

@@ -1,5 +1,6 @@
 -- RENAMED TYPES: the source in which a type bears another name is well formed as the source is, so an import from it keeps what an import keeps. Its counts and its names are the source's.
 use mathlib.Core.Path.{_≡_, refl, sym, ap, subst, _∙_}
+use mathlib.Core.Logic.{_⊎_, inl, inr}
 use mathlib.Core.Bool.{true}
 use mathlib.Core.List.{List, [], _∷_}
 use Prim.Native.Nat.{ℕ, suc, _<_}
@@ -126,6 +127,10 @@ module _ (T : Tables) (n name : ℕ) (in-types : n < count T types) (in-names : 
       at-types : (t : Tab) → types ≡ t → P t k (recAt T′ t k)
       at-types t p = rw (← p) (elim (ℕ-discrete k n) [ yes q ↦ rw q (subst (P types n) (sym here) new) | no q ↦ subst (P types k) (sym (other-type k q)) (old types k) ])
 
+  -- every other record is the source's
+  pub renamed-elsewhere : (t : Tab) (k : ℕ) → ((types ≡ t) × (k ≡ n)) ⊎ (recAt T′ t k ≡ recAt T t k)
+  renamed-elsewhere t k = each-renamed (λ t k r. ((types ≡ t) × (k ≡ n)) ⊎ (r ≡ recAt T t k)) (inl (refl, refl)) (λ t k. inr refl) t k
+
   pub renamed-wf : WF T → WF T′
   unfolding WF
   renamed-wf wf t k h =
@@ -155,29 +160,29 @@ module _ (m : Module) (well : WellFormed m) (ok : Passes m) (o n name : ℕ) (in
   abbrev S′ : Tables
   S′ = renamed S n name
 
-  fit : Fit S
-  fit = tested-fit m well (ok .numbers) (ok .lowers)
+  pub source-fit : Fit S
+  source-fit = tested-fit m well (ok .numbers) (ok .lowers)
 
-  wf : WF S′
-  wf = renamed-wf S n name in-types in-names fit (tested-wf m well (ok .numbers) (ok .lowers))
+  pub source-wf : WF S′
+  source-wf = renamed-wf S n name in-types in-names source-fit (tested-wf m well (ok .numbers) (ok .lowers))
 
   counts : (t : Tab) → count S′ t ≡ count S t
-  counts = same-count S n name in-types in-names fit
+  counts = same-count S n name in-types in-names source-fit
 
   plain : (k : ℕ) → k < count S′ names → Copied (recAt S′ names k)
   unfolding recAt count
-  plain k h = rw (same-names S n name in-types in-names fit) (unfold tables at in name-copied (each-at (well .names-ok .each) k [] (unfold tables at in rw (same-names S n name in-types in-names fit) at h)))
+  plain k h = rw (same-names S n name in-types in-names source-fit) (unfold tables at in name-copied (each-at (well .names-ok .each) k [] (unfold tables at in rw (same-names S n name in-types in-names source-fit) at h)))
 
   same-name : (k : ℕ) → recAt S′ names k ≡ recAt S names k
   unfolding recAt
-  same-name k = ap (λ (l : List Cells). getD l k []) (same-names S n name in-types in-names fit)
+  same-name k = ap (λ (l : List Cells). getD l k []) (same-names S n name in-types in-names source-fit)
 
   -- name k is mapped to the seat of these words
   abbrev Seated : St → ℕ → Cells → Type 0
   Seated s k w = (mapAt (s .maps) names k ≡ suc (seat (nameTable s) w)) × (seat (nameTable s) w < length (nameTable s))
 
   -- to the renamed source and back
-  sized-to : (s : St) → Sized S s → Sized S′ s
+  pub sized-to : (s : St) → Sized S s → Sized S′ s
   unfolding Sized
   sized-to s z u = z u ∙ sym (counts u)
 
@@ -195,11 +200,11 @@ module _ (m : Module) (well : WellFormed m) (ok : Passes m) (o n name : ℕ) (in
     abbrev r : St
     r = importT o S′ types n s
 
-    both : Trace o S′ s r × (0 < mapAt (r .maps) types n)
-    both = import-trace o S′ wf types n s (rw (counts types) in-types) (sized-to s (f .typed .kept .base .sized))
+    pub renamed-trace : Trace o S′ s r × (0 < mapAt (r .maps) types n)
+    renamed-trace = import-trace o S′ source-wf types n s (rw (counts types) in-types) (sized-to s (f .typed .kept .base .sized))
 
     grows : Grows (s .recs) (r .recs)
-    grows = trace-grows o S′ wf (both .0)
+    grows = trace-grows o S′ source-wf (renamed-trace .0)
 
     longer : Grown s r
     longer = record { tables = grows; functions = omega (arith, ap length (type-functions o S′ types n s)) }
@@ -207,8 +212,8 @@ module _ (m : Module) (well : WellFormed m) (ok : Passes m) (o n name : ℕ) (in
     kept : Kept S r
     kept =
         let b = f .typed .kept .base in
-        let c = trace-base o S′ wf (both .0) (record { sized = sized-to s (b .sized); inside = b .inside; wf = b .wf; distinct = b .distinct }) in
-        record { base = record { sized = sized-back r (c .sized); inside = c .inside; wf = c .wf; distinct = c .distinct }; fit = trace-fit o S′ (renamed-fit S n name in-types in-names fit) (both .0) (f .typed .kept .fit) }
+        let c = trace-base o S′ source-wf (renamed-trace .0) (record { sized = sized-to s (b .sized); inside = b .inside; wf = b .wf; distinct = b .distinct }) in
+        record { base = record { sized = sized-back r (c .sized); inside = c .inside; wf = c .wf; distinct = c .distinct }; fit = trace-fit o S′ (renamed-fit S n name in-types in-names source-fit) (renamed-trace .0) (f .typed .kept .fit) }
 
     typed : Typed S r
     typed =
@@ -224,8 +229,8 @@ module _ (m : Module) (well : WellFormed m) (ok : Passes m) (o n name : ℕ) (in
     pub from-rename : From m s r
     from-rename = record {
       typed = typed;
-      after = follows-back (import-follows o S′ plain wf s s types n (rw (counts types) in-types) (follows-to (f .after)));
-      keeps = trace-keeps o S′ (both .0);
+      after = follows-back (import-follows o S′ plain source-wf s s types n (rw (counts types) in-types) (follows-to (f .after)));
+      keeps = trace-keeps o S′ (renamed-trace .0);
       knows = λ k h. Lawful.known-stays m s r (from-good f) grows (type-functions o S′ types n s) k h;
       grown = longer;
       older = older-same s r (type-functions o S′ types n s);
@@ -233,4 +238,4 @@ module _ (m : Module) (well : WellFormed m) (ok : Passes m) (o n name : ℕ) (in
     }
 
     pub renamed-mapped : 0 < mapAt (r .maps) types n
-    renamed-mapped = both .1
+    renamed-mapped = renamed-trace .1

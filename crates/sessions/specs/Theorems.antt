@@ -2,7 +2,7 @@
 use mathlib.Core.Path.{_≡_, subst}
 use mathlib.Core.Logic.{_⊎_}
 use mathlib.Core.Bool.{false}
-use mathlib.Core.List.{List, [], _∷_}
+use mathlib.Core.List.{List, [], _∷_, _++_}
 use mathlib.Core.Option.{Option, some}
 use Prim.Native.Nat.{ℕ, _<_, _≤_}
 use lib.ListN.{length}
@@ -14,14 +14,17 @@ use Rattle.model.specs.Redirect.{function}
 use Rattle.model.specs.Imports.{St, once}
 use Rattle.model.specs.Bodies.{known, append, followF, follow, went, enterAll}
 use Rattle.model.specs.Finish.{finished}
-use Rattle.model.specs.Session.{Source, Session, Answer, answered, refused, after, new, ringing, finish, calleesOf, withEntries, finishWithEntryPoints}
+use Rattle.model.specs.Session.{Source, Session, Answer, answered, refused, after, new, ringing, set, finish, calleesOf, withEntries, finishWithEntryPoints}
 use Rattle.walks.specs.Agreement.{Carries}
 use Rattle.imports.specs.Trace.{Keeps}
-use Rattle.imports.specs.Theorems.{Distinct}
+use Rattle.imports.specs.Theorems.{Distinct, Base, Sound}
 use Rattle.bodies.specs.Function.{mapsOf}
 use Rattle.bodies.specs.Inv.{place}
 use Rattle.bodies.specs.Lawful as Lawful
-use Rattle.model.specs.Carry.{each-none}
+use Rattle.model.specs.Carry.{each-none, WellFormed}
+use Rattle.model.specs.Intake.{Passes}
+use Rattle.model.specs.Tables.{tables}
+use Rattle.model.specs.Special.{sourced}
 use Rattle.sessions.specs.Height.{Low, unknowns}
 use Rattle.sessions.specs.Following.{Origin, From}
 use Rattle.sessions.specs.Following as Following
@@ -29,10 +32,12 @@ use Rattle.sessions.specs.Holding as Holding
 use Rattle.sessions.specs.Depth as Depth
 use Rattle.sessions.specs.Ending.{Written, Origins}
 use Rattle.sessions.specs.Ending as Ending
-use Rattle.sessions.specs.Operating.{Operation, does, run, Set, GoodBy, Good}
+use Rattle.sessions.specs.Operating.{Operation, does, run, Set, GoodBy, Good, Newly}
 use Rattle.sessions.specs.Operating as Operating
 use Rattle.sessions.specs.Growing.{Grew, ends, turns}
 use Rattle.sessions.specs.Growing as Growing
+use Rattle.sessions.specs.Mapped.{taken, allRenamed, Stays, But}
+use Rattle.sessions.specs.Mapped as Mapped
 
 -- ---- ANY SESSION
 -- what a session's state holds, at every state
@@ -103,6 +108,25 @@ stays-mapped = Growing.does-keep
 -- no two derived records of a table are equal, spans apart
 pub records-differ : (ps : List Operation) → Distinct (run ps new .state)
 records-differ ps = Growing.all-distinct (run ps new) (every-state ps)
+
+-- ---- where a special type's place or key is taken
+-- a source that is set passed intake
+pub newly-set : (bytes : ℕ) (ws : List ℕ) (o : ℕ) (s : Session) (v : Unit {0}) (r : Session) → set bytes ws o s ≡ answered v r → Newly s o ws r
+newly-set = Operating.set-answered
+
+-- from then on, while it stays, every mapped number but the types that were mapped by hand has its source's record, carried through the maps as they were, which are the maps as they are but for references to those types (`SoundBut`). Mapped by hand are special types whose place or key was taken when it was set, and types that were renamed since.
+pub mapped-records : (x : Source) → WellFormed (x .image) → Passes (x .image) → (s : Session) → Good s → {ps : List Operation} → Stays ps
+    → But (taken (x .offset) (x .image) (s .state) ++ allRenamed ps) x (run ps (record { source = some x; state = sourced (x .offset) (x .image) (s .state) }))
+mapped-records = Mapped.while-set
+
+-- where there are none, every mapped record is its source's, through the maps as they are
+pub mapped-plainly : (x : Source) → WellFormed (x .image) → Passes (x .image) → (s : Session) → Good s → {ps : List Operation} → Stays ps → taken (x .offset) (x .image) (s .state) ≡ [] → allRenamed ps ≡ []
+    → Sound (tables (x .image)) (run ps (record { source = some x; state = sourced (x .offset) (x .image) (s .state) }) .state)
+mapped-plainly = Mapped.while-plain
+
+-- and of any mapping, by hand or not: the derived tables are well formed, no two records are equal, and what is mapped is there
+pub tables-hold : (x : Source) (s : St) → Set x s → Base (tables (x .image)) s
+tables-hold x s k = k .holds .typed .kept .base
 
 -- ---- 4. A REFUSAL keeps the session, and every operation answers or refuses
 pub refused-keeps : {A : Type 0} (s : Session) (n : ℕ) (a : Answer A) → a ≡ refused n → after s a ≡ s
