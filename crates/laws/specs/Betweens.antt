@@ -1,7 +1,7 @@
 -- The cells between two places of words and tape: one by one, and where words and tape hold a module, those of its sections and records.
 use mathlib.Core.Path.{_≡_, refl, ap, ap₂, _∙_}
 use mathlib.Core.List.{List, [], _∷_, map}
-use Prim.Native.Nat.{ℕ, suc, _+_, _*_, _≤_, _<_}
+use Prim.Native.Nat.{ℕ, suc, _+_, _≤_, _<_}
 use native.Mathlib.Omega.{arith}
 use lib.ListN.{length, getD, take, drop-of-length-le, length-take, length-append}
 use lib.Seq.{slice, slice-cons}
@@ -13,7 +13,7 @@ use Rattle.model.specs.Taped.{Taped}
 use Rattle.model.specs.Between.{beside, between, Stretch}
 use Rattle.laws.specs.Sections.{length-places}
 use Rattle.laws.specs.Views.{sectionOf, view-rising, view-within, view-section, view-next, view-table, view-records, sees-record, length-write}
-use Rattle.laws.specs.FunctionViews.{Part, part-end, part-words, part-tags, looked-at, taped-held, taped-count, taped-offset, taped-length, taped-part}
+use Rattle.laws.specs.FunctionViews.{Held, Part, part-end, part-words, part-tags, looked-at, taped-held, taped-count, taped-offset, taped-length, taped-part}
 
 pub beside-cells : (cs : Cells) → beside (map class cs) (map word cs) ≡ cs
 unfolding beside
@@ -23,18 +23,22 @@ beside-cells (c ∷ cs) = ap (c ∷_) (beside-cells cs)
 pub slice-none : {A : Type 0} (i end : ℕ) (l : List A) → end ≤ i → slice i end l ≡ []
 slice-none i end l h = drop-of-length-le (take end l) {i = i} (omega (arith, length-take end l))
 
-pub between-none : (tags words : List ℕ) (i end : ℕ) → end ≤ i → between tags words i end ≡ []
+pub between-none : (words tags : List ℕ) (i end : ℕ) → end ≤ i → between words tags i end ≡ []
 unfolding between beside
-between-none tags words i end h = rw (slice-none i end tags h)
+between-none words tags i end h = rw (slice-none i end tags h)
 
-pub between-next : (tags words : List ℕ) (i end : ℕ) → i < end → end ≤ length tags → end ≤ length words → between tags words i end ≡ (getD tags i 0, getD words i 0) ∷ between tags words (suc i) end
+pub between-next : (words tags : List ℕ) (i end : ℕ) → i < end → end ≤ length words → end ≤ length tags → between words tags i end ≡ (getD tags i 0, getD words i 0) ∷ between words tags (suc i) end
 unfolding between beside
-between-next tags words i end h t w = rw (slice-cons i end tags 0 h t, slice-cons i end words 0 h w)
+between-next words tags i end h w t = rw (slice-cons i end tags 0 h t, slice-cons i end words 0 h w)
+
+-- the part that stands there
+pub held-between : {words tags : List ℕ} {cells cs : Cells} {p q : ℕ} → Held words tags cells → Part cells p q cs → between words tags p q ≡ cs
+unfolding between
+held-between {cs} o v = ap₂ beside (part-tags o v) (part-words o v) ∙ beside-cells cs
 
 module _ {words tags : List ℕ} {n : ℕ} {m : Module} (t : Taped words tags n m) where
-  pub part-between : {p q : ℕ} {cs : Cells} → Part (flatModule m) p q cs → between tags words p q ≡ cs
-  unfolding between
-  part-between {cs} v = ap₂ beside (part-tags (taped-held t) v) (part-words (taped-held t) v) ∙ beside-cells cs
+  pub part-between : {p q : ℕ} {cs : Cells} → Part (flatModule m) p q cs → between words tags p q ≡ cs
+  part-between v = held-between (taped-held t) v
 
   -- section k, up to where the next starts
   pub section-part : (k : ℕ) → k < 8 → Part (flatModule m) (offsetAt k words) (offsetAt (suc k) words) (sectionOf m k .1)
@@ -48,16 +52,15 @@ module _ {words tags : List ℕ} {n : ℕ} {m : Module} (t : Taped words tags n 
       let l : offsetAt (suc k) words ≤ n = omega (arith, v .within, taped-length t) in
       record { rising = v .rising; small = omega (arith, t .small); in-words = omega (arith, t .small, t .words-long); in-tags = omega (arith, t .small, t .tags-long) }
 
-  -- by the words of the header
-  pub header-stretch : (k a e : ℕ) → k < 8 → a ≡ getD words (3 + 2 * k) 0 → e ≡ getD words (3 + 2 * suc k) 0 → Stretch words tags a e
-  unfolding offsetAt
+  -- by what is read in the header
+  pub header-stretch : (k a e : ℕ) → k < 8 → a ≡ offsetAt k words → e ≡ offsetAt (suc k) words → Stretch words tags a e
   header-stretch k a e h p q = rw (p, q) (section-stretch k h)
 
-  pub section-between : (k : ℕ) → k < 8 → between tags words (offsetAt k words) (offsetAt (suc k) words) ≡ sectionOf m k .1
+  pub section-between : (k : ℕ) → k < 8 → between words tags (offsetAt k words) (offsetAt (suc k) words) ≡ sectionOf m k .1
   section-between k h = part-between (section-part k h)
 
   -- a table: its cells, how many records it has, where their offsets stand, and the records
-  pub table-between : (k : ℕ) → k < 8 → between tags words (offsetAt k words) (offsetAt (suc k) words) ≡ flatTable (getD (tables m) k [])
+  pub table-between : (k : ℕ) → k < 8 → between words tags (offsetAt k words) (offsetAt (suc k) words) ≡ flatTable (getD (tables m) k [])
   table-between k h = section-between k h ∙ ap (λ s. s .1) (view-table m k h)
 
   pub table-count : (k : ℕ) → k < 8 → countAt k words ≡ length (getD (tables m) k [])

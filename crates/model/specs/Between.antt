@@ -11,7 +11,7 @@ beside (s ∷ ss) [] = []
 beside (s ∷ ss) (w ∷ ws) = (s, w) ∷ beside ss ws
 
 unfoldable pub between : List ℕ → List ℕ → ℕ → ℕ → Cells
-between tags words at end = beside (slice at end tags) (slice at end words)
+between words tags at end = beside (slice at end tags) (slice at end words)
 
 -- such a stretch lies in both
 pub record Stretch (words tags : List ℕ) (at end : ℕ) : Type 0 where

@@ -8,22 +8,17 @@ use native.Mathlib.Numerals.{add-one}
 use native.Mathlib.Omega.{arith}
 use lib.Dec.{ltb, leb}
 use lib.ListN.{getD, set}
-use lib.Seq.{slice-cons}
 use borrow.Author.Tests.{lt-ltb, le-ltb, eq-eqb, ne-eqb, not-true, not-false}
 use Rattle.model.specs.Outcome.{Cells}
 use Rattle.model.specs.Module.{countAt}
 use Rattle.model.specs.Numbers.{Bounds, caps, bound, below, within, rising, ordered}
-use Rattle.laws.specs.Betweens.{slice-none}
-use Rattle.numbers.specs.Ranges.{Long, paired, between, cap, upTo, table, codes, headed, owned, Ranged, Checked, Owned}
+use Rattle.model.specs.Between.{between}
+use Rattle.laws.specs.Betweens.{between-none, between-next}
+use Rattle.numbers.specs.Ranges.{Long, cap, upTo, table, codes, headed, owned, Ranged, Checked, Owned}
 
 -- ---- the cells between two places
-pub between-none : (words tags : List ℕ) (i end : ℕ) → end ≤ i → between words tags i end ≡ []
-unfolding between paired
-between-none words tags i end h = rw (slice-none i end tags h)
-
 pub between-cons : (words tags : List ℕ) (i end : ℕ) → i < end → Long words tags → end ≤ 16384 → between words tags i end ≡ (getD tags i 0, getD words i 0) ∷ between words tags (i + 1) end
-unfolding between paired
-between-cons words tags i end h long ok = rw (add-one i, slice-cons i end tags 0 h (omega arith), slice-cons i end words 0 h (omega arith))
+between-cons words tags i end h long ok = rw (add-one i) (between-next words tags i end h (omega arith) (omega arith))
 
 -- ---- the table
 map-upTo : (f : ℕ → ℕ) (n k s : ℕ) → s < n → getD (map f (upTo k n)) s 0 ≡ f (k + s)
@@ -138,10 +133,10 @@ module _ (words tags t : List ℕ) (at end : ℕ) where
           checked-emit q = record { to = omega arith; same = λ b e. turn b e true true (lt-ltb f (getD t s 0) g) (sym v-is ∙ not-false v q) }
 
 -- ---- the counts put in
-pub outside-is : (words t : List ℕ) → t ≡ codes → (a b c d e f g : ℕ) → a ≡ getD words 2 0 → b ≡ getD words 4 0 → f ≡ getD words 12 0 → g ≡ getD words 14 0 → c ≡ getD words 6 0 → d ≡ getD words 8 0 → e ≡ getD words 10 0
+pub outside-is : (words t : List ℕ) → t ≡ codes → (a b c d e f g : ℕ) → a ≡ countAt 0 words → b ≡ countAt 1 words → f ≡ countAt 5 words → g ≡ countAt 6 words → c ≡ countAt 2 words → d ≡ countAt 3 words → e ≡ countAt 4 words
     → set (set (set (set (set (set (set (set (set (set (set (set (set (set (set (set (set (set (set t 83 (a + 1)) 84 b) 85 (b + 1)) 86 c) 87 d) 88 e) 89 f) 90 (f + 1)) 91 g) 92 g) 93 f) 94 (f + 1)) 95 0) 96 0) 98 (f + 1)) 99 f) 100 (f + 1)) 101 f) 102 (f + 1)
     ≡ table (headed words)
-unfolding codes upTo table cap bound caps headed countAt
+unfolding codes upTo table cap bound caps headed
 outside-is words t q a b c d e f g qa qb qf qg qc qd qe = rw (q, add-one a, add-one b, add-one f, qa, qb, qc, qd, qe, qf, qg)
 
 pub inside-is : (t : List ℕ) (e a l x y z : ℕ) → x ≡ e → y ≡ a → z ≡ l

@@ -23,10 +23,11 @@ use Rattle.laws.specs.Plain.{plain?, plain-classes}
 use Rattle.laws.specs.Sections.{startOf}
 use Rattle.laws.specs.FunctionViews.{Held, Part, part-end, part-left, part-right, part-word, part-tag, field?, field-not, Expression, expression-first, expression-class, expression-field, list-all, locals-count, exprs-count, exprs-all, exprs-shapes, expr-part, expr-kind, named-class, stands-end, parts}
 use Rattle.model.specs.Members.{no-mem, mem-left, mem-right, mem-cases}
-use Rattle.numbers.specs.Ranges.{Long, between, Lists, Listed, Initialised}
+use Rattle.model.specs.Between.{between}
+use Rattle.laws.specs.Betweens.{held-between}
+use Rattle.numbers.specs.Ranges.{Long, Lists, Listed, Initialised}
 use Rattle.numbers.specs.Marks.{finds, on, blank, inits, Visits, Room, Done, Work, Starting, Reaching, Reaches}
 use Rattle.numbers.proofs.Visiting.{mem-one, visits-none, room-after}
-use Rattle.numbers.proofs.Tabling.{part-between}
 
 -- ---- the last of the list
 mem-last : (l : List ℕ) (t : ℕ) → 0 < t → t ≤ length l → take t l ≡ take (t - 1) l ++ (getD l (t - 1) 0 ∷ [])
@@ -195,7 +196,7 @@ module _ (words tags starts m₀ l₀ : List ℕ) (t₀ e : ℕ) where
                 reach-next = record {
                   going = λ f locals exprs end ls st w₀.
                       let w = inv .going f locals exprs end ls st w₀ in
-                      let p : between words tags at to ≡ getD (f .exprs) (getD l (t - 1) 0) [] = rw (← x-is .0) (part-between (ls .own .held) (part-to f locals exprs end ls st w)) in
+                      let p : between words tags at to ≡ getD (f .exprs) (getD l (t - 1) 0) [] = rw (← x-is .0) (held-between (ls .own .held) (part-to f locals exprs end ls st w)) in
                       visited f e m l t w h (kind-is f locals exprs end ls st w ∙ not-false v q) m₁ l₁ t₁ (subst (λ cs. Visits e (opsOf cs) m l (t - 1) m₁ l₁ t₁) p got);
                 }
 

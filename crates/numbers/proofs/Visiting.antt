@@ -13,9 +13,11 @@ use borrow.Author.Tests.{lt-ltb, eq-eqb, ne-eqb, le-leb, lt-leb, eqb-true, eqb-f
 use Rattle.model.specs.Operands.{constantKind, optional, operand, opsOf}
 use Rattle.model.specs.Initial.{Mem, here, there}
 use Rattle.model.specs.Members.{no-mem, mem-left, mem-right, mem-cases}
-use Rattle.numbers.specs.Ranges.{Long, between}
+use Rattle.model.specs.Between.{between}
+use Rattle.laws.specs.Betweens.{between-none}
+use Rattle.numbers.specs.Ranges.{Long}
 use Rattle.numbers.specs.Marks.{finds, reads, on, blank, inits, Visits, Room}
-use Rattle.numbers.proofs.Ranging.{between-none, between-cons}
+use Rattle.numbers.proofs.Ranging.{between-cons}
 
 -- ---- "0 to 8, 16 to 18 and 20 to 22"
 pub constant-low : (k : ℕ) → k ≤ 8 → true ≡ constantKind k

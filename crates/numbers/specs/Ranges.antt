@@ -1,15 +1,15 @@
--- What the passes over words and tape answer, in terms of the model's cells: the cells between two places, the table of bounds as the code has it, and where a function stands.
+-- What the passes over words and tape answer, in terms of the model's cells: the table of bounds as the code has it, and where a function stands.
 use mathlib.Core.Path.{_≡_}
 use mathlib.Core.Bool.{Bool, _&&_}
 use mathlib.Core.Option.{Option, none, some}
 use mathlib.Core.List.{List, [], _∷_, _++_, map}
 use Prim.Native.Nat.{ℕ, zero, suc, _^_, _≤_}
 use lib.ListN.{length, replicate}
-use lib.Seq.{slice}
 use Rattle.model.specs.Outcome.{Cells}
 use Rattle.model.specs.Tree.{Function}
 use Rattle.model.specs.Module.{Module, countAt}
 use Rattle.model.specs.Taped.{Taped}
+use Rattle.model.specs.Between.{between}
 use Rattle.model.specs.FunctionView.{localsAt, expressionsAt}
 use Rattle.model.specs.Initial.{initialised}
 use Rattle.model.specs.Numbers.{Bounds, bound, within, ordered, every, outside, inside, sound, soundFunction, soundEntry, constantOnly}
@@ -19,16 +19,6 @@ use Rattle.laws.specs.FunctionViews.{Part, Stands}
 pub record Long (words tags : List ℕ) : Type 0 where
   pub words-long : length words ≡ 16384
   pub tags-long : length tags ≡ 16384
-
--- ---- cells
--- tags and words that stand beside one another
-unfoldable pub paired : List ℕ → List ℕ → Cells
-paired [] ws = []
-paired (s ∷ ss) [] = []
-paired (s ∷ ss) (w ∷ ws) = (s, w) ∷ paired ss ws
-
-unfoldable pub between : List ℕ → List ℕ → ℕ → ℕ → Cells
-between words tags at end = paired (slice at end tags) (slice at end words)
 
 -- ---- the table of bounds: a word has 32 bits, so one that is free stays below 2 ^ 32
 unfoldable pub cap : Option ℕ → ℕ

@@ -1,5 +1,9 @@
 // What the initialisers of a function's locals reach, along operands as they stand, lower or not: marks and a list of what is still to be visited, so
 // that each expression is visited once.
+use classes::EXPR;
+use classes::EXPR_KIND;
+use classes::NAMED;
+use classes::OPT_EXPR;
 use words::wide;
 ghost use mathlib.Core.Path.{_≡_};
 ghost use mathlib.Core.List.{[]};
@@ -7,7 +11,8 @@ ghost use Prim.Native.Nat.{_+_, _*_, _^_, _≤_, _<_};
 ghost use lib.ListN.{length, drop};
 ghost use lib.Seq.{slice, sets};
 ghost use Rattle.model.specs.Operands.{constantKind, optional, opsOf};
-ghost use Rattle.numbers.specs.Ranges.{Long, between, Listed, Initialised};
+ghost use Rattle.model.specs.Between.{between};
+ghost use Rattle.numbers.specs.Ranges.{Long, Listed, Initialised};
 ghost use Rattle.numbers.specs.Marks.{finds, reads, inits, Room, Visits, Reaching, Reaches};
 
 // "0 to 8, 16 to 18 and 20 to 22".
@@ -51,11 +56,11 @@ pub fn places(tags: &[u8; 16384], at: usize, end: usize, starts: &mut [u32; 1025
         let j = i;
         i += 1;
         let s = tags[j];
-        if s == 114 {
+        if s == NAMED {
             starts[k] = short(j);
             return;
         }
-        if s == 116 {
+        if s == EXPR_KIND {
             starts[k] = short(j);
             k += 1;
         }
@@ -66,10 +71,10 @@ pub fn places(tags: &[u8; 16384], at: usize, end: usize, starts: &mut [u32; 1025
 fn operand(s: u8, w: u32) -> usize
     ensures { λ r. ⌜ (r ≡ reads s w) × (r ≤ 2 ^ 32) ⌝ }
 {
-    if s == 93 {
+    if s == EXPR {
         return wide(w) + 1;
     }
-    if s == 94 {
+    if s == OPT_EXPR {
         return wide(w);
     }
     0

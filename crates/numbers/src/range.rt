@@ -1,10 +1,59 @@
 // Numbers and codes in range: each word is compared with the bound of its class.
-use words::wide;
+use views::CONSTANTS;
+use views::EXPRESSIONS;
+use views::FUNCTIONS;
+use views::GLOBALS;
+use views::NAMES;
+use views::OVERRIDES;
+use views::TYPES;
+use views::count;
 ghost use mathlib.Core.Path.{_≡_};
 ghost use Prim.Native.Nat.{_+_, _^_, _≤_, _<_};
 ghost use lib.ListN.{getD};
 ghost use Rattle.model.specs.Numbers.{rising as risingOf};
-ghost use Rattle.numbers.specs.Ranges.{Long, between, table, codes, headed, Ranged, Checked, Owned};
+ghost use Rattle.model.specs.Between.{between};
+ghost use Rattle.numbers.specs.Ranges.{Long, table, codes, headed, Ranged, Checked, Owned};
+
+// Classes as places of the table of bounds.
+const NAME: usize = classes::NAME as usize;
+
+const TYPE: usize = classes::TYPE as usize;
+
+const OPT_TYPE: usize = classes::OPT_TYPE as usize;
+
+const CONSTANT: usize = classes::CONSTANT as usize;
+
+const OVERRIDE: usize = classes::OVERRIDE as usize;
+
+const GLOBAL: usize = classes::GLOBAL as usize;
+
+const INIT: usize = classes::INIT as usize;
+
+const OPT_INIT: usize = classes::OPT_INIT as usize;
+
+const FUNCTION: usize = classes::FUNCTION as usize;
+
+const CALLEE: usize = classes::CALLEE as usize;
+
+const EXPR: usize = classes::EXPR as usize;
+
+const OPT_EXPR: usize = classes::OPT_EXPR as usize;
+
+const ARGUMENT: usize = classes::ARGUMENT as usize;
+
+const LOCAL: usize = classes::LOCAL as usize;
+
+const FROM: usize = classes::FROM as usize;
+
+const TO: usize = classes::TO as usize;
+
+const RESULT: usize = classes::RESULT as usize;
+
+const OPT_RESULT: usize = classes::OPT_RESULT as usize;
+
+const NAMED_EXPR: usize = classes::NAMED_EXPR as usize;
+
+const LOCAL_INIT: usize = classes::LOCAL_INIT as usize;
 
 fn far(x: u32) -> u64
     ensures { λ r. ⌜ (r ≡ x) × (r < 2 ^ 32) ⌝ }
@@ -283,29 +332,29 @@ pub fn outside(t: &mut [u64; 256], words: &[u32; 16384])
     requires { ⌜ now t ≡ codes ⌝ }
     ensures { λ _. ⌜ now (t .exit) ≡ table (headed (now (words .entry))) ⌝ }
 {
-    let names = far(words[2]);
-    let types = far(words[4]);
-    let inits = far(words[12]);
-    let functions = far(words[14]);
-    t[83] = names + 1;
-    t[84] = types;
-    t[85] = types + 1;
-    t[86] = far(words[6]);
-    t[87] = far(words[8]);
-    t[88] = far(words[10]);
-    t[89] = inits;
-    t[90] = inits + 1;
-    t[91] = functions;
-    t[92] = functions;
-    t[93] = inits;
-    t[94] = inits + 1;
-    t[95] = 0;
-    t[96] = 0;
-    t[98] = inits + 1;
-    t[99] = inits;
-    t[100] = inits + 1;
-    t[101] = inits;
-    t[102] = inits + 1;
+    let names = count(words, NAMES) as u64;
+    let types = count(words, TYPES) as u64;
+    let inits = count(words, EXPRESSIONS) as u64;
+    let functions = count(words, FUNCTIONS) as u64;
+    t[NAME] = names + 1;
+    t[TYPE] = types;
+    t[OPT_TYPE] = types + 1;
+    t[CONSTANT] = count(words, CONSTANTS) as u64;
+    t[OVERRIDE] = count(words, OVERRIDES) as u64;
+    t[GLOBAL] = count(words, GLOBALS) as u64;
+    t[INIT] = inits;
+    t[OPT_INIT] = inits + 1;
+    t[FUNCTION] = functions;
+    t[CALLEE] = functions;
+    t[EXPR] = inits;
+    t[OPT_EXPR] = inits + 1;
+    t[ARGUMENT] = 0;
+    t[LOCAL] = 0;
+    t[TO] = inits + 1;
+    t[RESULT] = inits;
+    t[OPT_RESULT] = inits + 1;
+    t[NAMED_EXPR] = inits;
+    t[LOCAL_INIT] = inits + 1;
 }
 
 // The bounds in a function of so many expressions, arguments and locals.
@@ -313,15 +362,15 @@ pub fn inside(t: &mut [u64; 256], exprs: u32, arguments: u32, locals: u32)
     ensures { λ _. ⌜ Owned (now (t .exit)) (now (t .entry)) exprs arguments locals ⌝ }
 {
     let e = far(exprs);
-    t[93] = e;
-    t[94] = e + 1;
-    t[95] = far(arguments);
-    t[96] = far(locals);
-    t[98] = e + 1;
-    t[99] = e;
-    t[100] = e + 1;
-    t[101] = e;
-    t[102] = e + 1;
+    t[EXPR] = e;
+    t[OPT_EXPR] = e + 1;
+    t[ARGUMENT] = far(arguments);
+    t[LOCAL] = far(locals);
+    t[TO] = e + 1;
+    t[RESULT] = e;
+    t[OPT_RESULT] = e + 1;
+    t[NAMED_EXPR] = e;
+    t[LOCAL_INIT] = e + 1;
 }
 
 // Whether each word from `at` to `end` is below the bound of its class.
@@ -356,7 +405,7 @@ fn rising(words: &[u32; 16384], tags: &[u8; 16384], i: usize, end: usize) -> boo
     requires { ⌜ end ≤ 16384 ⌝ }
     ensures { λ r. ⌜ r ≡ risingOf (getD (now (tags .entry)) i 0, getD (now (words .entry)) i 0) (between (now (words .entry)) (now (tags .entry)) (i + 1) end) ⌝ }
 {
-    if tags[i] != 97 {
+    if tags[i] != classes::FROM {
         return true;
     }
     if end <= i + 1 {
@@ -386,7 +435,7 @@ pub fn checked(
         if t[k] <= far(words[j]) {
             return false;
         }
-        if k == 97 {
+        if k == FROM {
             if !rising(words, tags, j, end) {
                 return false;
             }

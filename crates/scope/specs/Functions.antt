@@ -42,7 +42,7 @@ pub record Scoped (r : Bool) (words tags : List ℕ) (at from end : ℕ) : Type 
   pub same : (f : Function) (cs : Cells) → Frame words tags at from end f cs → initialised f ≡ true → r ≡ scoped f
 
 -- every module in words and tape has its numbers in range
-pub record Numbered (words tags : List ℕ) (n : ℕ) : Type 0 where
+pub record InRange (words tags : List ℕ) (n : ℕ) : Type 0 where
   pub holds : (m : Module) → Taped words tags n m → numbered m ≡ true
 
 -- "of every function and every entry point"

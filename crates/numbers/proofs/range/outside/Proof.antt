@@ -4,29 +4,17 @@ use borrow.Author.Needs.{needs}
 use Rattle.numbers.proofs.range.outside.Statement.{statement}
 use Rattle.numbers.proofs.range.outside.Tie as tie
 
-element-copy-out-far : tie.Need-element-copy-out-far
-element-copy-out-far c = search needs
+count-requires : tie.Need-count-requires
+count-requires c κs = search needs
 
-far-requires : tie.Need-far-requires
-far-requires c κs = search needs
+count-requires-2 : tie.Need-count-requires-2
+count-requires-2 c κs = search needs
 
-element-copy-out-far-2 : tie.Need-element-copy-out-far-2
-element-copy-out-far-2 c = search needs
+count-requires-3 : tie.Need-count-requires-3
+count-requires-3 c κs = search needs
 
-far-requires-2 : tie.Need-far-requires-2
-far-requires-2 c κs = search needs
-
-element-copy-out-far-3 : tie.Need-element-copy-out-far-3
-element-copy-out-far-3 c = search needs
-
-far-requires-3 : tie.Need-far-requires-3
-far-requires-3 c κs = search needs
-
-element-copy-out-far-4 : tie.Need-element-copy-out-far-4
-element-copy-out-far-4 c = search needs
-
-far-requires-4 : tie.Need-far-requires-4
-far-requires-4 c κs = search needs
+count-requires-4 : tie.Need-count-requires-4
+count-requires-4 c κs = search needs
 
 add-t : tie.Need-add-t
 add-t c = search needs
@@ -43,29 +31,20 @@ add-t-2 c = search needs
 element-write-t-3 : tie.Need-element-write-t-3
 element-write-t-3 c = search needs
 
-element-copy-out-far-5 : tie.Need-element-copy-out-far-5
-element-copy-out-far-5 c = search needs
-
-far-requires-5 : tie.Need-far-requires-5
-far-requires-5 c κs = search needs
+count-requires-5 : tie.Need-count-requires-5
+count-requires-5 c κs = search needs
 
 element-write-t-4 : tie.Need-element-write-t-4
 element-write-t-4 c = search needs
 
-element-copy-out-far-6 : tie.Need-element-copy-out-far-6
-element-copy-out-far-6 c = search needs
-
-far-requires-6 : tie.Need-far-requires-6
-far-requires-6 c κs = search needs
+count-requires-6 : tie.Need-count-requires-6
+count-requires-6 c κs = search needs
 
 element-write-t-5 : tie.Need-element-write-t-5
 element-write-t-5 c = search needs
 
-element-copy-out-far-7 : tie.Need-element-copy-out-far-7
-element-copy-out-far-7 c = search needs
-
-far-requires-7 : tie.Need-far-requires-7
-far-requires-7 c κs = search needs
+count-requires-7 : tie.Need-count-requires-7
+count-requires-7 c κs = search needs
 
 element-write-t-6 : tie.Need-element-write-t-6
 element-write-t-6 c = search needs
@@ -131,27 +110,20 @@ pub outside-spec : {M : Type 1} → statement M
 outside-spec =
     tie.close
     (tie.spec
-    element-copy-out-far
-    far-requires
-    element-copy-out-far-2
-    far-requires-2
-    element-copy-out-far-3
-    far-requires-3
-    element-copy-out-far-4
-    far-requires-4
+    count-requires
+    count-requires-2
+    count-requires-3
+    count-requires-4
     add-t
     element-write-t
     element-write-t-2
     add-t-2
     element-write-t-3
-    element-copy-out-far-5
-    far-requires-5
+    count-requires-5
     element-write-t-4
-    element-copy-out-far-6
-    far-requires-6
+    count-requires-6
     element-write-t-5
-    element-copy-out-far-7
-    far-requires-7
+    count-requires-7
     element-write-t-6
     element-write-t-7
     add-t-3
