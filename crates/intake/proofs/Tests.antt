@@ -14,7 +14,7 @@ use Rattle.model.specs.Lower.{lower}
 use Rattle.model.specs.Names.{named, Numbered}
 use Rattle.model.specs.Scope.{inScope}
 use Rattle.model.specs.Intake.{tested, verdict, intakeOf, Passes}
-use Rattle.numbers.specs.Ranges.{Says}
+use Rattle.numbers.specs.Passes.{Says}
 use Rattle.scope.specs.Functions.{InRange}
 use Rattle.image.specs.Layout.{Lays, size, misfit, unknown, shows, held, layoutOf}
 use Rattle.image.specs.declared.Layout.{Layout}

@@ -2,6 +2,7 @@
 use mathlib.Core.Path.{_≡_, refl, ap, ap₂, _∙_}
 use mathlib.Core.List.{List, [], _∷_, map}
 use Prim.Native.Nat.{ℕ, suc, _+_, _≤_, _<_}
+use native.Mathlib.Numerals.{add-one}
 use native.Mathlib.Omega.{arith}
 use lib.ListN.{length, getD, take, drop-of-length-le, length-take, length-append}
 use lib.Seq.{slice, slice-cons}
@@ -10,7 +11,7 @@ use Rattle.model.specs.Module.{Module, countAt, offsetAt, places, flatTable, fl
 use Rattle.model.specs.Tree.{flatAll}
 use Rattle.model.specs.View.{tables, recordAt, recordEnd}
 use Rattle.model.specs.Taped.{Taped}
-use Rattle.model.specs.Between.{beside, between, Stretch}
+use Rattle.model.specs.Between.{beside, between, Long, Stretch}
 use Rattle.laws.specs.Sections.{length-places}
 use Rattle.laws.specs.Views.{sectionOf, view-rising, view-within, view-section, view-next, view-table, view-records, sees-record, length-write}
 use Rattle.laws.specs.FunctionViews.{Held, Part, part-end, part-words, part-tags, looked-at, taped-held, taped-count, taped-offset, taped-length, taped-part}
@@ -30,6 +31,10 @@ between-none words tags i end h = rw (slice-none i end tags h)
 pub between-next : (words tags : List ℕ) (i end : ℕ) → i < end → end ≤ length words → end ≤ length tags → between words tags i end ≡ (getD tags i 0, getD words i 0) ∷ between words tags (suc i) end
 unfolding between beside
 between-next words tags i end h w t = rw (slice-cons i end tags 0 h t, slice-cons i end words 0 h w)
+
+-- of arrays, as code steps
+pub between-cons : (words tags : List ℕ) (i end : ℕ) → i < end → Long words tags → end ≤ 16384 → between words tags i end ≡ (getD tags i 0, getD words i 0) ∷ between words tags (i + 1) end
+between-cons words tags i end h long ok = rw (add-one i) (between-next words tags i end h (omega arith) (omega arith))
 
 -- the part that stands there
 pub held-between : {words tags : List ℕ} {cells cs : Cells} {p q : ℕ} → Held words tags cells → Part cells p q cs → between words tags p q ≡ cs

@@ -20,7 +20,10 @@ use Rattle.model.specs.Numbers.{Bounds, within, ordered, every, outside, inside
 use Rattle.laws.specs.Views.{sees-entry}
 use Rattle.laws.specs.FunctionViews.{arguments-count, locals-count, exprs-count, stands-end, looked-at, taped-part, taped-function, taped-entry, taped-functions, taped-entries}
 use Rattle.laws.specs.Betweens.{held-between}
-use Rattle.numbers.specs.Ranges.{Long, table, headed, owned, Checked, Owned, Says, Tabled, Frame, Framed, Sound, Loose, Loosely, Lists, Listed, Initialised, tablesFine, kindsFine, functionsFine, entriesFine}
+use Rattle.model.specs.Between.{Long}
+use Rattle.ranges.specs.Ranges.{table, headed, owned, Checked, Owned}
+use Rattle.numbers.specs.Passes.{Says, Tabled, Frame, Framed, Sound, Loose, Loosely, tablesFine, kindsFine, functionsFine, entriesFine}
+use Rattle.initial.specs.Lists.{Lists, Listed, Initialised}
 use Rattle.numbers.proofs.Tabling.{and-next, taped-long, cells-few, headed-is}
 
 -- ---- where its counts stand

@@ -18,9 +18,10 @@ use Rattle.model.specs.Operands.{kind, constantKind}
 use Rattle.model.specs.Numbers.{Bounds, caps, bound, below, within, every, outside, constantOnly}
 use Rattle.laws.specs.Views.{length-write, view-rising, view-next, view-within, view-last, view-section, view-table, sees-names, sees-types, sees-constants, sees-overrides, sees-globals, sees-exprs, sees-functions, sees-special, sees-expr}
 use Rattle.laws.specs.FunctionViews.{Part, part-word, part-end, each-at, Expression, expression-first, expression-kind, each-expression, looked-at, taped-write, taped-held, taped-count, taped-offset, taped-part}
-use Rattle.model.specs.Between.{between}
+use Rattle.model.specs.Between.{between, Long}
 use Rattle.laws.specs.Betweens.{held-between}
-use Rattle.numbers.specs.Ranges.{Long, table, headed, Ranged, Says, Tabled, tablesFine, kindsFine}
+use Rattle.ranges.specs.Ranges.{table, headed, Ranged}
+use Rattle.numbers.specs.Passes.{Says, Tabled, tablesFine, kindsFine}
 
 -- ---- what a pass over a section tests
 pub and-next : (a b c : Bool) → (a && (b && c)) ≡ ((a && b) && c)

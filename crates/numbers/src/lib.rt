@@ -2,16 +2,13 @@
 // bound of its class; a second look at Emit's start; and the kinds that the initialisers of locals reach, each expression visited once.
 // The cost is linear in the words, about 1 ns each. The worst are functions of 1,024 expressions whose operands run forward from one initialiser: two of
 // them, 12,353 words, take about 40 microseconds.
-pub mod initial;
-pub mod range;
-
 use initial::constant;
 use initial::initialised;
-use range::CODES;
-use range::checked;
-use range::inside;
-use range::outside;
-use range::ranged;
+use ranges::CODES;
+use ranges::checked;
+use ranges::inside;
+use ranges::outside;
+use ranges::ranged;
 use views::CONSTANTS;
 use views::ENTRIES;
 use views::ENTRY_HEAD;
@@ -32,7 +29,8 @@ ghost use Prim.Native.Nat.{suc, _<_};
 ghost use Rattle.model.specs.Module.{offsetAt};
 ghost use Rattle.model.specs.Taped.{Tape};
 ghost use Rattle.model.specs.Numbers.{numbered as numberedOf};
-ghost use Rattle.numbers.specs.Ranges.{Ranged, Says, Tabled, Framed, Sound, Loosely, tablesFine, kindsFine, functionsFine, entriesFine};
+ghost use Rattle.ranges.specs.Ranges.{Ranged};
+ghost use Rattle.numbers.specs.Passes.{Says, Tabled, Framed, Sound, Loosely, tablesFine, kindsFine, functionsFine, entriesFine};
 
 // A table section: count offsets, and records whose numbers are in range.
 fn table(words: &[u32; 16384], tags: &[u8; 16384], n: usize, t: &[u64; 256], k: usize) -> bool

@@ -19,7 +19,7 @@ use Rattle.model.specs.Initial.{initialised}
 use Rattle.model.specs.Numbers.{Bounds, caps, bound, below, within, ordered, every, outside, inside, sound}
 use Rattle.model.specs.Scope.{scoped, allScoped, entriesScoped, inScope}
 use Rattle.laws.specs.FunctionViews.{part-end, looked-at}
-use Rattle.numbers.specs.Ranges.{Says, Frame, tablesFine, kindsFine, functionsFine, entriesFine}
+use Rattle.numbers.specs.Passes.{Says, Frame, tablesFine, kindsFine, functionsFine, entriesFine}
 use Rattle.numbers.proofs.Framing.{Word, noFunction, noEntry, Framing, framing-functions, framing-entries, functions-in, entries-in, numbered-is}
 use Rattle.laws.specs.Lists.{and-split}
 use Rattle.scope.specs.Functions.{Stated, Scoped, InRange, functionsScoped, entryPointsScoped}

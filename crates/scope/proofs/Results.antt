@@ -138,7 +138,7 @@ fits-none xs k f = go (eqb k 15)
     go false = refl
 
 fits-out : (ws ts st : List ℕ) (count e k f : ℕ) → count ≤ e → fitsResult (exprsOf ws ts st count) k f (some e) ≡ false
-unfolding fitsResult callResult effectResult
+unfolding fitsResult callResult effectResult expressions
 fits-out ws ts st count e k f h = go (eqb k 15) refl (eqb k 14) refl
   where
     go : (b : Bool) → eqb k 15 ≡ b → (c : Bool) → eqb k 14 ≡ c → fitsResult (exprsOf ws ts st count) k f (some e) ≡ false

@@ -11,9 +11,9 @@ use lib.ListN.{length, getD, set, length-set}
 use lib.Seq.{getD-set-same, getD-set-other}
 use borrow.Author.Tests.{eq-eqb, ne-eqb, lt-ltb, le-ltb, eqb-true, eqb-false, ltb-true, ltb-false, not-true, not-false}
 use Rattle.model.specs.Outcome.{Cells}
-use Rattle.model.specs.Table.{Row, EXPR-KIND, expressionRow}
+use Rattle.model.specs.Table.{Row, EXPR-KIND, expressions, expressionRow}
 use Rattle.model.specs.Carry.{Lays, lays-next}
-use Rattle.model.specs.Operands.{opsOf, kind, standingKind, kindAt, standing, ops, emittedKind}
+use Rattle.model.specs.Operands.{opsOf, NO-KIND, kind, standingKind, kindAt, standing, ops, emittedKind}
 use Rattle.model.specs.Scope.{has, vis, allVis, addE, live, upFrom, inRange}
 use Rattle.scope.specs.Fine.{oneE, nextE, fineE}
 use Rattle.scope.specs.Tape.{cellsFrom, cellsIn, recordOf, tableFrom, exprsOf, Exprs, marks}
@@ -96,12 +96,12 @@ module _ (ws ts st : List ℕ) where
       unfolding standing
       standing-in e h = ap standingKind (kind-in e h)
 
-    pub kind-out : (e : ℕ) → count ≤ e → kindAt (exprsOf ws ts st count) e ≡ 27
+    pub kind-out : (e : ℕ) → count ≤ e → kindAt (exprsOf ws ts st count) e ≡ NO-KIND
     unfolding kindAt kind
     kind-out e h = ap kind (expr-out e h)
 
     pub standing-out : (e : ℕ) → count ≤ e → standing (exprsOf ws ts st count) e ≡ false
-    unfolding standing standingKind
+    unfolding standing standingKind expressions
     standing-out e h = ap standingKind (kind-out e h)
 
     -- ---- what is seen is what is in scope

@@ -19,9 +19,10 @@ use Rattle.model.specs.Reached.{initial-is, initial-all}
 use Rattle.model.specs.Scope.{inBody, allOf, seen, scoped}
 use Rattle.laws.specs.Sections.{startOf, start-end}
 use Rattle.laws.specs.FunctionViews.{Held, Part, part-end, part-right, part-word, part-tag, namedAt, bodyAt, each-at, expression-first, expr-part, expr-shape, named-count, parts, stands-end}
-use Rattle.numbers.specs.Ranges.{Lists, Listed, Framed}
-use Rattle.numbers.specs.Marks.{finds, on, inits, Visits, Work, Starting, Reaching, Reaches}
-use Rattle.numbers.proofs.Reaching.{all, starting, begun, many-is, many-few, end-in}
+use Rattle.initial.specs.Lists.{Lists, Listed}
+use Rattle.numbers.specs.Passes.{Framed}
+use Rattle.initial.specs.Marks.{finds, on, inits, Visits, Work, Starting, Reaching, Reaches}
+use Rattle.initial.proofs.Reaching.{all, starting, begun, many-is, many-few, end-in}
 use Rattle.numbers.proofs.Framing.{lists-are}
 use Rattle.laws.specs.Lists.{and-split, bool-same}
 use Rattle.scope.specs.Fine.{fineB}

@@ -11,7 +11,8 @@ use Rattle.model.specs.Taped.{Taped}
 use Rattle.model.specs.Initial.{initialised}
 use Rattle.model.specs.Numbers.{numbered}
 use Rattle.model.specs.Scope.{scoped, allScoped, entriesScoped}
-use Rattle.numbers.specs.Ranges.{Frame, Lists}
+use Rattle.numbers.specs.Passes.{Frame}
+use Rattle.initial.specs.Lists.{Lists}
 use Rattle.scope.specs.Tape.{Ends}
 
 -- the arrays that a pass works in: where expressions start, what is still to be visited, and how long each lasts

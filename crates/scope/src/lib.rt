@@ -4,9 +4,9 @@
 pub mod body;
 
 use body::body;
-use numbers::initial::places;
-use numbers::initial::reach;
-use numbers::initial::roots;
+use initial::places;
+use initial::reach;
+use initial::roots;
 use views::ENTRIES;
 use views::ENTRY_HEAD;
 use views::FUNCTIONS;
@@ -20,7 +20,7 @@ ghost use mathlib.Core.Path.{_≡_};
 ghost use mathlib.Core.Bool.{true};
 ghost use Rattle.model.specs.Taped.{Tape};
 ghost use Rattle.model.specs.Scope.{inScope};
-ghost use Rattle.numbers.specs.Ranges.{Says};
+ghost use Rattle.numbers.specs.Passes.{Says};
 ghost use Rattle.scope.specs.Functions.{Lent, Known, Tested, Stated, Scoped, InRange, functionsScoped, entryPointsScoped};
 
 // Is the body of a function in scope? Its lists of locals and expressions have their numbers at the words `locals` and `exprs`.

@@ -11,6 +11,13 @@ ghost use Rattle.model.specs.FunctionView.{ENTRY-HEAD, argumentsAt, argumentAt,
 ghost use Rattle.model.specs.Taped.{Tape};
 ghost use Rattle.views.specs.Functions.{Standing, Named, Body};
 
+// The header: section k has its count at the word COUNTS + 2 k, and its offset at the word OFFSETS + 2 k.
+pub const COUNTS: usize = 2;
+
+pub const OFFSETS: usize = 3;
+
+pub const HEADER: usize = 20;
+
 // The sections by number: eight tables, and the special types.
 pub const NAMES: usize = 0;
 
@@ -38,7 +45,7 @@ pub fn count(words: &[u32; 16384], k: usize) -> usize
     requires { ⌜ k < 9 ⌝ }
     ensures { λ r. ⌜ (r ≡ countAt k (now (words .entry))) × (r < 2 ^ 32) ⌝ }
 {
-    wide(words[2 + 2 * k])
+    wide(words[COUNTS + 2 * k])
 }
 
 // Where section k starts.
@@ -46,7 +53,7 @@ pub fn offset(words: &[u32; 16384], k: usize) -> usize
     requires { ⌜ k < 9 ⌝ }
     ensures { λ r. ⌜ (r ≡ offsetAt k (now (words .entry))) × (r < 2 ^ 32) ⌝ }
 {
-    wide(words[3 + 2 * k])
+    wide(words[OFFSETS + 2 * k])
 }
 
 // Where record j of section k starts: at its offset from the start of the section, which is one of the words.
