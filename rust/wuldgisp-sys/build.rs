@@ -32,7 +32,8 @@ fn main() {
 /// The folder of the archive.
 fn folder() -> Result<PathBuf, String> {
     let Some(given) = std::env::var_os("WULDGISP_LIB").map(PathBuf::from) else {
-        return Ok(Path::new(env!("CARGO_MANIFEST_DIR")).join("../../target/staticlib"));
+        let root = Path::new(env!("CARGO_MANIFEST_DIR")).ancestors().nth(2);
+        return Ok(root.ok_or("this package stands in no repository")?.join("target/staticlib"));
     };
     if given.is_relative() {
         let shown = given.display();

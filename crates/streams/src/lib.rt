@@ -82,30 +82,40 @@ fn say(text: &[u8]) {
 
 // What the number of a refusal means, to the end of the line.
 fn sentence(k: u32) {
-    if k == 1 {
+    if k == refusals::BAD_SIZE {
         say(b": the size, the edition or the total of words is wrong\n");
-    } else if k == 2 {
+    } else if k == refusals::BAD_LAYOUT {
         say(b": the layout or the padding is wrong, or a limit is passed\n");
-    } else if k == 3 {
+    } else if k == refusals::BAD_NUMBER {
         say(b": a number or a code is out of range, or a kind stands where it is barred\n");
-    } else if k == 4 {
+    } else if k == refusals::NOT_LOWER {
         say(b": a reference is not to a lower number\n");
-    } else if k == 5 {
+    } else if k == refusals::BAD_NAME {
         say(b": a name is missing, or names, named numbers or special keys are equal\n");
-    } else if k == 6 {
+    } else if k == refusals::OUT_OF_SCOPE {
         say(b": a rule of scope is broken\n");
-    } else if k == 8 {
+    } else if k == refusals::SHORT_OUTPUT {
+        say(b": the output is too short\n");
+    } else if k == refusals::NO_ORIGINAL {
         say(b": no function bears the original's name\n");
-    } else if k == 9 {
+    } else if k == refusals::NO_REPLACEMENT {
         say(b": no function bears the replacement's name\n");
-    } else if k == 10 {
+    } else if k == refusals::OTHER_ARGUMENTS {
         say(b": the original and the replacement have other argument types\n");
-    } else if k == 11 {
+    } else if k == refusals::OTHER_RESULT {
         say(b": the original and the replacement have other result types\n");
-    } else if k == 12 {
+    } else if k == refusals::RING {
         say(b": functions call one another in a ring\n");
-    } else {
+    } else if k == refusals::NO_RECORD {
         say(b": a number given by the caller lies outside its table\n");
+    } else if k == refusals::NO_SOURCE {
+        say(b": no source is set\n");
+    } else if k == refusals::FULL {
+        say(b": the derived image would be too long, or a table of it too large\n");
+    } else if k == refusals::UNKNOWN_RING {
+        say(b": functions of unknown name call one another in a ring\n");
+    } else {
+        say(b": this is no refusal\n");
     }
 }
 
@@ -120,7 +130,9 @@ pub fn refused(program: &[u8], k: u32) {
 // The same of refusal 12, with the count of functions from which a chain of calls reaches a ring: `PROGRAM: refused 12 left 2: ..`.
 pub fn ring(program: &[u8], left: u32) {
     say(program);
-    say(b": refused 12 left ");
+    say(b": refused ");
+    io::print_decimal(STDERR_FILENO, refusals::RING as u64);
+    say(b" left ");
     io::print_decimal(STDERR_FILENO, left as u64);
-    sentence(12);
+    sentence(refusals::RING);
 }

@@ -64,6 +64,28 @@ fn every_refusal_is_a_rule() {
     }
 }
 
+#[test]
+fn programs_and_library_say_the_same_of_a_refusal() {
+    let streams = page("crates/streams/src/lib.rt");
+    use wuldgisp::Refusal::*;
+    for refusal in [
+        Size,
+        Layout,
+        Range,
+        Reference,
+        Names,
+        Scope,
+        OriginalNotFound,
+        ReplacementNotFound,
+        ArgumentTypes,
+        ResultTypes,
+        Ring { left: 1 },
+        NumberGiven,
+    ] {
+        assert!(streams.contains(&format!("b\": {}\\n\"", refusal.sentence())), "{refusal}");
+    }
+}
+
 /// The words between backquotes of the row of a table that begins so.
 fn keys(text: &str, begins: &str) -> Vec<String> {
     let row = text.lines().find(|line| line.starts_with(begins)).unwrap_or_else(|| panic!("no row {begins}"));
