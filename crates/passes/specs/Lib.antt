@@ -4,4 +4,7 @@ pub mod Forms
 pub mod Ready
 pub mod Shapes
 pub mod Body
+pub mod Declarations
+pub mod Names
+pub mod Whole
 pub mod Examples

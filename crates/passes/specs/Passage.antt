@@ -187,7 +187,7 @@ module _ (o : ℕ) (M : Module) (follow : ℕ → St → St) (p q : ℕ → Maki
   Steady [] d st = Unit {0}
   Steady (j ∷ js) d st = (went M (stepP (j .place) (j .num) st) (j .place) (j .num) ≡ went M d (j .place) (j .num)) × Steady js d (stepP (j .place) (j .num) st)
 
-  steady-word : (t : Target) (w : ℕ) (js : List Node) (d st : Making) → Steady (refOf t w js) d st → (carryW (went M (arrive o M follow p q t w st)) t w ≡ carryW (went M d) t w) × Steady js d (arrive o M follow p q t w st)
+  pub steady-word : (t : Target) (w : ℕ) (js : List Node) (d st : Making) → Steady (refOf t w js) d st → (carryW (went M (arrive o M follow p q t w st)) t w ≡ carryW (went M d) t w) × Steady js d (arrive o M follow p q t w st)
   unfolding refOf Steady arrive carryW
   steady-word copied w js d st h = (refl, h)
   steady-word start w js d st h = (refl, h)

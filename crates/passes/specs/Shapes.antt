@@ -10,8 +10,8 @@ use lib.Dec.{eqb, ltb}
 use lib.ListN.{getElem?}
 use borrow.Author.Tests.{eqb-true, ltb-true, ne-eqb}
 use Rattle.model.specs.Outcome.{Cells, class, word}
-use Rattle.model.specs.Table.{Row, WORD, SPAN, UPTO, EXPR, OPT-EXPR, OPT-RESULT, PAD, VALUE, ATOMIC, Shape, sEmit, sBlock, sIf, sSwitch, sLoop, sBreak, sContinue, sReturn, sKill, sCall, sEffect, statements, values, variants, more}
-use Rattle.model.specs.Carry.{carryCell, carryCells, Lays, lays-none, lays-next}
+use Rattle.model.specs.Table.{Row, WORD, SPAN, UPTO, NAME, TYPE, EXPR, OPT-EXPR, OPT-RESULT, LOCAL-INIT, PAD, ARGUMENTS, LOCALS, VALUE, ATOMIC, RETURNS, Shape, sEmit, sBlock, sIf, sSwitch, sLoop, sBreak, sContinue, sReturn, sKill, sCall, sEffect, statements, functionHead, counted, values, results, binding, variants, more}
+use Rattle.model.specs.Carry.{carryCell, carryCells, Lays, lays-none, lays-next, Each, each-none, each-next}
 use Rattle.model.specs.References.{Place, targets, target, through, firstWord, shift}
 use Rattle.model.specs.Module.{Module}
 use Rattle.model.specs.Imports.{St}
@@ -23,7 +23,7 @@ use Rattle.laws.specs.FunctionViews.{variant-brings}
 use Rattle.bodies.specs.Lists.{or-true}
 use Rattle.bodies.specs.Classes.{Effects, e-none, e-last, e-more, effect-cells, result-cells}
 use Rattle.passes.specs.Pass.{atomicKind, early}
-use Rattle.passes.specs.Passage.{still?, calm?, calm-of, Fields, f-none, f-cell}
+use Rattle.passes.specs.Passage.{Calm, still?, calm?, calm-of, Fields, f-none, f-span, f-cell}
 use Rattle.passes.specs.Forms.{Copies}
 
 -- ---- calm cells
@@ -175,3 +175,56 @@ effect-early o M follow p q k {ss} {cs} e l a b ts st = go (atomicKind k) refl
     go : (x : Bool) → atomicKind k ≡ x → elim x [ true ↦ eachE (comparesOf ((SPAN, a) ∷ (UPTO, b) ∷ (cs ++ ts))) p st | false ↦ st ] ≡ eachE (comparesOf cs) p st
     go true h = ap (λ (es : List ℕ). eachE es p st) (unfold comparesOf in held-compares cs ts (effect-held k h e l))
     go false h = let z = effect-plain k h e in unfold eachE in ap (λ (es : List ℕ). eachE es p st) (sym (plain-compares (plainly l z) z))
+
+-- ---- declarations
+name-calm : Calm NAME
+name-calm = calm-of NAME (unfold calm? still? target targets in refl)
+
+type-calm : Calm TYPE
+type-calm = calm-of TYPE (unfold calm? still? target targets in refl)
+
+word-calm : Calm WORD
+word-calm = calm-of WORD (unfold calm? still? target targets in refl)
+
+bind : {cs : Cells} → Plainly (binding []) cs → Fields cs
+bind (plain-next (plain-next (plain-next (plain-next (plain-next (plain-next plain-none)))))) = f-cell word-calm (f-cell word-calm (f-cell word-calm (f-cell word-calm (f-cell word-calm (f-cell word-calm f-none)))))
+
+pub head-fields : {r : Cells} → Lays functionHead r → Fields r
+unfolding functionHead
+head-fields l = go (plainly l (unfold plain? in refl))
+  where
+    go : {r : Cells} → Plainly (NAME ∷ SPAN ∷ UPTO ∷ []) r → Fields r
+    go (plain-next (plain-next (plain-next plain-none))) = f-cell name-calm (f-span f-none)
+
+pub argument-fields : {r : Cells} → Lays (counted ARGUMENTS) r → Fields r
+unfolding counted
+argument-fields l = go (plainly l (unfold plain? in refl))
+  where
+    go : {r : Cells} → Plainly (NAME ∷ TYPE ∷ binding []) r → Fields r
+    go (plain-next (plain-next b)) = f-cell name-calm (f-cell type-calm (bind b))
+
+pub local-fields : {r : Cells} → Lays (counted LOCALS) r → Fields r
+unfolding counted
+local-fields l = go (plainly l (unfold plain? in refl))
+  where
+    go : {r : Cells} → Plainly (SPAN ∷ UPTO ∷ NAME ∷ TYPE ∷ LOCAL-INIT ∷ []) r → Fields r
+    go (plain-next (plain-next (plain-next (plain-next (plain-next plain-none))))) = f-span (f-cell name-calm (f-cell type-calm (f-cell (calm-of LOCAL-INIT (unfold calm? still? target targets in refl)) f-none)))
+
+pub result-fields : {r : Cells} → Lays (RETURNS ∷ []) r → Fields r
+unfolding more variants
+result-fields (lays-next {w} {xs} {cs} e l) = f-cell (calm-of RETURNS (unfold calm? still? target targets in refl)) (go w (variant-brings (getElem? results w) e) (rw append-nil at l))
+  where
+    typed : {cs : Cells} → Plainly (TYPE ∷ binding []) cs → Fields cs
+    typed (plain-next b) = f-cell type-calm (bind b)
+
+    empty : {cs : Cells} → Lays [] cs → Fields cs
+    empty lays-none = f-none
+
+    go : (w : ℕ) {xs : Row} {cs : Cells} → getElem? results w ≡ some xs → Lays xs cs → Fields cs
+    go zero {xs} e l = let n : xs ≡ [] = (unfold results in cc) in empty (rw n at l)
+    go (suc zero) {xs} e l = let n : xs ≡ TYPE ∷ binding [] = (unfold results in cc) in typed (plainly (rw n at l) (unfold plain? in refl))
+    go (suc (suc k)) e l = let z : _≡_ {A = ℕ} 0 1 = (unfold results in cc) in absurd (omega arith)
+
+pub each-fields : {ss : Row} {rs : List Cells} → ((r : Cells) → Lays ss r → Fields r) → Each (Lays ss) rs → Each Fields rs
+each-fields f each-none = each-none
+each-fields f (each-next {a = r} l ls) = each-next (f r l) (each-fields f ls)
