@@ -1,9 +1,7 @@
 -- The passes by example, computed: P10 and P11 of document 01, an Atomic with its compare, a call with a result, a merged initialiser, blocks in blocks, spans. What is written is the flat list of the derived function, and the state behind is the model's.
 use mathlib.Core.Path.{_≡_, refl}
-use mathlib.Core.Bool.{true, false}
-use mathlib.Core.List.{List, [], _∷_, _++_, map}
+use mathlib.Core.List.{List, [], _∷_}
 use mathlib.Core.Option.{none, some}
-use Prim.Native.Nat.{ℕ, suc}
 use Rattle.model.specs.Outcome.{Cells}
 use Rattle.model.specs.Table.{WORD, NAME, SPAN, UPTO, TYPE, LOCAL-INIT, VALUE, RETURNS}
 use Rattle.model.specs.Tree.{stmt, block, branch, switch, loop, break, return, kill, call, end, _then_, case, nomore, _also_, Function, optOf, wordOf, kindOf, sizeB, sizeC, flatAll, flatList, flatX, flatS, flatBlock, flat}
@@ -14,9 +12,9 @@ use Rattle.model.specs.Names.{field}
 use Rattle.model.specs.Scope.{upFrom, inRange}
 use Rattle.model.specs.SampleBodies.{literal, splat, negate, add as plus, called, does, evals, store, exchange, local}
 use Rattle.model.specs.Redirect.{nameWord, nothing, function}
-use Rattle.model.specs.Tables.{types, codeT, isT, at, upd, six, tables, recAt, count, mapAt}
+use Rattle.model.specs.Tables.{codeT, isT, at, upd, six, tables, recAt, count, mapAt}
 use Rattle.model.specs.References.{targets, target, refOf, refs, each, carryW, through, undefined, add, spanBy, firstWord, undefinedAt, moved, shift, alikeC, alike, seat, merged}
-use Rattle.model.specs.Imports.{St, once, settle, wentT, made, commit, stepT, importF, levels, importT, unmapped, emptied, fresh}
+use Rattle.model.specs.Imports.{once, settle, wentT, made, commit, stepT, importF, levels, importT, unmapped, emptied, fresh}
 use Rattle.model.specs.Bodies.{lastOf, known, Making, bring, compareOf, comparesOf, eachE, optE, went, carried, step, push, join, stand, importE, plain, unique, quiet, goS, settled, mkS, putName, nameIf, keepNames, nameCells, namedRows, declarations, declared, walked, rebuilt, keptNames, namedAfter, derived, final, localized, appended, append, followF, follow}
 use Rattle.model.specs.Special.{force, withSpecial, putRay, rayTo, ray, rays, keyed, putPair, pairTo, pairs, sourced}
 use Rattle.model.specs.ImportExamples.{leaf, module-of, function-of, named as name-of}

@@ -1,2 +1,10 @@
 pub mod Pass
+pub mod Passage
+pub mod Forms
+pub mod Ready
+pub mod Shapes
+pub mod Body
+pub mod Declarations
+pub mod Names
+pub mod Whole
 pub mod Examples
