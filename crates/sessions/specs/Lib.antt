@@ -11,5 +11,6 @@ pub mod Operating
 pub mod Growing
 pub mod Replaced
 pub mod Mapped
+pub mod Answers
 pub mod Theorems
 pub mod Examples
