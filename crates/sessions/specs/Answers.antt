@@ -106,17 +106,20 @@ module _ (x : Source) (s : St) (k : Set x s) where
     pub is : getD (r .functions) v nothing ≡ derived
     pub origin : Origin r derived
     pub from : (origin .source ≡ m) × (origin .function ≡ function m n)
+    -- it agrees with that function through the maps of tables as they are now
+    pub now : origin .under .out .maps ≡ r .maps
 
   abbrev after-it : ℕ → St
   after-it n = append (x .offset) m (follow (x .offset) m) n s
 
   appends : (n v : ℕ) (q : Session) → n < length (m .functions) → ringing (n ∷ callees (function m n)) m s ≡ false → (pred (length (after-it n .functions)) ≡ v) × Takes x v q (after-it n) → Appends n v q (after-it n)
-  appends n v q l z a =
+  appends n v w l z a =
       let c = callees-low m (k .well) (k .passes) (x .offset) s n l z in
       let f = follow-follows m (k .well) (k .passes) (x .offset) s in
       let h = holds-from (k .holds) in
       let e = last m (k .well) (k .passes) (x .offset) (follow (x .offset) m) (λ j. Low (unknowns m s) m s j) s f n l c h in
       let p = piece m (k .well) (k .passes) (x .offset) (follow (x .offset) m) (λ j. Low (unknowns m s) m s j) s f n l c h in
+      let q = piece-from m (k .well) (k .passes) (x .offset) (follow (x .offset) m) (λ j. Low (unknowns m s) m s j) s f n l c h in
       let d : v ≡ length (final (x .offset) m (follow (x .offset) m) (function m n) s .out .functions) = omega (arith, a .0, e .0) in
       record {
         takes = a .1;
@@ -124,7 +127,8 @@ module _ (x : Source) (s : St) (k : Set x s) where
         derived = localized (x .offset) m (follow (x .offset) m) (function m n) s;
         is = ap (λ (i : ℕ). getD (after-it n .functions) i nothing) d ∙ e .1;
         origin = p .origin;
-        from = piece-from m (k .well) (k .passes) (x .offset) (follow (x .offset) m) (λ j. Low (unknowns m s) m s j) s f n l c h;
+        from = (q .0, q .1);
+        now = q .2;
       }
 
   pub function-gives : (n v : ℕ) (q : Session) → importFunction n here ≡ answered v q → Appends n v q (append (x .offset) m (follow (x .offset) m) n s)

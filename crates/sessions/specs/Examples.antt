@@ -18,7 +18,7 @@ use Rattle.imports.specs.Trace.{Keeps}
 use Rattle.imports.specs.Theorems.{Distinct, Sound}
 use Rattle.sessions.specs.Height.{unknowns}
 use Rattle.sessions.specs.Ending.{Written, Origins}
-use Rattle.sessions.specs.Theorems.{function-gives, mapped-records, mapped-plainly, every-state, source-set, fuel-removed, follow-is, origins}
+use Rattle.sessions.specs.Theorems.{written-with, function-gives, mapped-records, mapped-plainly, every-state, source-set, fuel-removed, follow-is, origins}
 use Rattle.sessions.specs.Operating.{Set, new-good, run-good, finish-written}
 use Rattle.sessions.specs.Mapped.{handIf, handRay, handRays, handPairs, taken, renamedBy, allRenamed, Stays, stays-none, stays-next, But}
 use Rattle.sessions.specs.Answers.{Appends}
@@ -103,6 +103,7 @@ pub record Computed : Type 0 where
   pub by-hand : taken 100 shades (run one new .state) ≡ 0 ∷ []
   pub none-at-first : taken 10 shades fresh ≡ []
   -- with the source just set no name is known, and no ring is met
+  pub one-set : run one new .source ≡ some (record { image = shades; offset = 10 })
   pub just-set : run (setting-it 10 ∷ []) new .source ≡ some (record { image = shades; offset = 10 })
   pub all-unknown : unknowns shades (run (setting-it 10 ∷ []) new .state) ≡ 3
   pub no-ring : ringing (0 ∷ []) shades (run (setting-it 10 ∷ []) new .state) ≡ false
@@ -114,12 +115,16 @@ pub record Computed : Type 0 where
 
 pub computed : Computed
 unfolding append appended bring carried compareOf comparesOf declarations declared derived eachE enterAll entered entriesMade entryMade final bodies-follow followF goS importE join keepNames keptNames known lastOf localized mkS nameCells nameIf namedAfter namedRows optE plain push putName quiet rebuilt settled stand step unique walked went calleesAt calleesS calls any free held keep numbers round rounds carry carryCell carryEntry carryFunction carryOpt carryRange carryS carrySpecial appearing finished firsts gathered indexN keepN namedBy namesIn passes renumber tooLarge withNames commit emptied fresh importF importT imports-levels made once rename renamed settle stepT unmapped wentT close constantAt initialised initials initial-initsOf mark marked moving reachedMarks readBy roots unmarked intakeOf tested verdict basesOf lower-below entriesLower functionsLower initOf initsLower lower-initsOf lower operandsLower typesLower _⊛_ bodies countAt endAt flatModule flatSpecial flatTable limits next offsetAt pairsFrom placed places read records section sections sized specialAt table tableAt write absent differ names-distinct entriesNamed entryNames expressionsNamed field functionNames functionsNamed names-named present same unlike numbers-below bound caps constantOnly every inside numbered ordered outside rising sound within constantKind emittedKind functionOf kind kindAt operand ops opsOf optional resultKind resultOf standing standingKind _⟫_ both eat exact mapL mapO function nameWord nothing add alike alikeC carryW each firstWord merged moved refOf refs seat shift spanBy target targets through undefined undefinedAt does run addE addF addOpt addS allOf allScoped allVis callResult contB scope-distinct effectResult emitted entriesScoped evalsOpt evalsS expandS has holdsS inRange inScope isOf kindsS live okE okS optVis scoped scopedAs seen shapeS topB upFrom vis after calleesOf clear ending finish finishWithEntryPoints importFunction importing kept mapFunctionHandle mapSpan needing new renameType ringing session-set setting stuck unknown withEntries force keyed pairTo pairs putPair putRay ray rayTo rays sourced withSpecial atomics constantRow counted entryHead expressionRow expressions table-follow functionHead globalRow table-levels limit more nameRow overrideRow queries repeat results table-run statements text typeRow types values variant variants at codeT count isT mapAt recAt six tables upd blockAt caseAt cases checked entryAt flat flatAll flatBlock flatEntry flatList flatS flatX form functionAt kindOf listed operands optOf rows shaped sizeB sizeC statement stmts wordOf unknowns handIf handRay handRays handPairs taken
-computed = record { brought = refl; brought-once = refl; ends-one = refl; ends-two = refl; ends-with = refl; apart = refl; twice = refl; place-taken = refl; spans-first = refl; by-hand = refl; none-at-first = refl; just-set = refl; all-unknown = refl; no-ring = refl; answers-third = refl; ring-refused = refl; range-refused = refl }
+computed = record { brought = refl; brought-once = refl; ends-one = refl; ends-two = refl; ends-with = refl; apart = refl; twice = refl; place-taken = refl; spans-first = refl; by-hand = refl; none-at-first = refl; one-set = refl; just-set = refl; all-unknown = refl; no-ring = refl; answers-third = refl; ring-refused = refl; range-refused = refl }
 
 -- ---- the theorems apply
 -- what the first session writes is read back and passes all tests
 pub written-one : Written (finished (run one new .state) []) (write (finished (run one new .state) []))
 written-one = finish-written (run one new) (run-good one new new-good) 65536 _ new (computed .ends-one)
+
+-- with its entry point too
+pub written-with-entry : Written (withEntries (record { image = shades; offset = 10 }) (run one new .state)) (write (withEntries (record { image = shades; offset = 10 }) (run one new .state)))
+written-with-entry = written-with (run one new) (every-state one) (record { image = shades; offset = 10 }) (computed .one-set) 65536 _ new (computed .ends-with)
 
 -- the second's is turned back with 5, and by no other test
 pub written-two : intakeOf (4 * length (write (finished (run two new .state) []))) (write (finished (run two new .state) [])) ≡ 5

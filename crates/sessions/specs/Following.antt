@@ -324,9 +324,10 @@ module _ (m : Module) (well : WellFormed m) (ok : Passes m) (o : ℕ) where
       origin = origin-grown longer (origin fol Q s follows G pass calls f (of-table n l));
     }
 
-    pub piece-from : (piece .origin .source ≡ m) × (piece .origin .function ≡ G)
-    unfolding piece origin-grown origin
-    piece-from = (refl, refl)
+    -- from this function, through the maps of the state that it is appended to
+    pub piece-from : (piece .origin .source ≡ m) × (piece .origin .function ≡ G) × (piece .origin .under .out .maps ≡ R .maps)
+    unfolding piece origin-grown origin append appended
+    piece-from = (refl, refl, refl)
 
     pub found : 0 < known m R n
     unfolding known append appended
