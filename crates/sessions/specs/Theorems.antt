@@ -1,20 +1,20 @@
 -- The theorems on sessions, each with its statement in full. A session is any list of operations from the start (`run`), whatever is answered or refused; its sources are images that passed intake, since others are refused when they are set.
 use mathlib.Core.Path.{_≡_, subst}
 use mathlib.Core.Logic.{_⊎_}
-use mathlib.Core.Bool.{false}
+use mathlib.Core.Bool.{true, false}
 use mathlib.Core.List.{List, [], _∷_, _++_}
 use mathlib.Core.Option.{Option, some}
 use Prim.Native.Nat.{ℕ, _<_, _≤_}
 use lib.ListN.{length}
 use Rattle.model.specs.Tree.{Function}
 use Rattle.model.specs.Module.{Module}
-use Rattle.model.specs.Names.{distinct, functionNames}
+use Rattle.model.specs.Names.{distinct, functionNames, named}
 use Rattle.model.specs.Callees.{callees}
 use Rattle.model.specs.Redirect.{function}
 use Rattle.model.specs.Imports.{St, once, importT, renamed}
 use Rattle.model.specs.Bodies.{known, append, followF, follow, went, enterAll}
 use Rattle.model.specs.Finish.{finished}
-use Rattle.model.specs.Session.{Source, Session, Answer, answered, refused, after, new, ringing, set, importing, renameType, importFunction, mapFunctionHandle, finish, calleesOf, withEntries, finishWithEntryPoints}
+use Rattle.model.specs.Session.{Source, Session, Answer, answered, refused, after, new, ringing, set, importing, renameType, importFunction, mapFunctionHandle, hasRequiredSpecialTypes, finish, calleesOf, withEntries, finishWithEntryPoints}
 use Rattle.walks.specs.Agreement.{Carries}
 use Rattle.imports.specs.Trace.{Keeps}
 use Rattle.imports.specs.Theorems.{Distinct, Base, Sound}
@@ -38,6 +38,7 @@ use Rattle.sessions.specs.Growing.{Grew, ends, turns}
 use Rattle.sessions.specs.Growing as Growing
 use Rattle.sessions.specs.Mapped.{taken, allRenamed, Stays, But}
 use Rattle.sessions.specs.Mapped as Mapped
+use Rattle.sessions.specs.Untaken as Untaken
 use Rattle.sessions.specs.Answers.{Gives, Appends, Bears}
 use Rattle.sessions.specs.Answers as Answers
 
@@ -125,6 +126,10 @@ mapped-records = Mapped.while-set
 pub mapped-plainly : (x : Source) → WellFormed (x .image) → Passes (x .image) → (s : Session) → Good s → {ps : List Operation} → Stays ps → taken (x .offset) (x .image) (s .state) ≡ [] → allRenamed ps ≡ []
     → Sound (tables (x .image)) (run ps (record { source = some x; state = sourced (x .offset) (x .image) (s .state) }) .state)
 mapped-plainly = Mapped.while-plain
+
+-- so it is with the first source, and with any other as long as no special type is derived
+pub none-taken : (o : ℕ) (m : Module) → named m ≡ true → (s : Session) → hasRequiredSpecialTypes s ≡ false → taken o m (s .state) ≡ []
+none-taken = Untaken.none-taken
 
 -- and of any mapping, by hand or not: the derived tables are well formed, no two records are equal, and what is mapped is there
 pub tables-hold : (x : Source) (s : St) → Set x s → Base (tables (x .image)) s
