@@ -20,7 +20,7 @@ use Rattle.laws.specs.Modules.{write-read}
 use Rattle.finishing.specs.Kept.{Parts}
 use Rattle.finishing.specs.Finished.{finished-parts, finished-passes}
 
-or-false : (a b : Bool) → a || b ≡ false → (a ≡ false) × (b ≡ false)
+pub or-false : (a b : Bool) → a || b ≡ false → (a ≡ false) × (b ≡ false)
 or-false true b e = let z : _≡_ {A = ℕ} 0 1 = cc in absurd (omega arith)
 or-false false b e = (refl, e)
 

@@ -18,9 +18,10 @@ use Rattle.imports.specs.Trace.{Keeps}
 use Rattle.imports.specs.Theorems.{Distinct, Sound}
 use Rattle.sessions.specs.Height.{unknowns}
 use Rattle.sessions.specs.Ending.{Written, Origins}
-use Rattle.sessions.specs.Theorems.{mapped-records, mapped-plainly, every-state, source-set, fuel-removed, follow-is, origins}
+use Rattle.sessions.specs.Theorems.{written-with, function-gives, mapped-records, mapped-plainly, every-state, source-set, fuel-removed, follow-is, origins}
 use Rattle.sessions.specs.Operating.{Set, new-good, run-good, finish-written}
 use Rattle.sessions.specs.Mapped.{handIf, handRay, handRays, handPairs, taken, renamedBy, allRenamed, Stays, stays-none, stays-next, But}
+use Rattle.sessions.specs.Answers.{Appends}
 use Rattle.sessions.specs.Growing.{Grew, ends, turns, does-grow, does-keep, all-distinct, refused-keeps}
 use Rattle.model.specs.Session.{Source, Session, answered, refused}
 use Rattle.model.specs.Bodies.{append, appended, bring, carried, compareOf, comparesOf, declarations, declared, derived, eachE, enterAll, entered, entriesMade, entryMade, final, follow as bodies-follow, followF, goS, importE, join, keepNames, keptNames, known, lastOf, localized, mkS, nameCells, nameIf, namedAfter, namedRows, optE, plain, push, putName, quiet, rebuilt, settled, stand, step, unique, walked, went}
@@ -102,21 +103,28 @@ pub record Computed : Type 0 where
   pub by-hand : taken 100 shades (run one new .state) ≡ 0 ∷ []
   pub none-at-first : taken 10 shades fresh ≡ []
   -- with the source just set no name is known, and no ring is met
+  pub one-set : run one new .source ≡ some (record { image = shades; offset = 10 })
   pub just-set : run (setting-it 10 ∷ []) new .source ≡ some (record { image = shades; offset = 10 })
   pub all-unknown : unknowns shades (run (setting-it 10 ∷ []) new .state) ≡ 3
   pub no-ring : ringing (0 ∷ []) shades (run (setting-it 10 ∷ []) new .state) ≡ false
+  -- shade becomes the third function
+  pub answers-third : importFunction 0 (record { source = some (record { image = shades; offset = 10 }); state = run (setting-it 10 ∷ []) new .state }) ≡ answered 2 (run one new)
   -- a ring is refused, and so is a number past the table
   pub ring-refused : importFunction 0 (run (rings ∷ []) new) ≡ refused 22
   pub range-refused : importFunction 3 (run one new) ≡ refused 13
 
 pub computed : Computed
 unfolding append appended bring carried compareOf comparesOf declarations declared derived eachE enterAll entered entriesMade entryMade final bodies-follow followF goS importE join keepNames keptNames known lastOf localized mkS nameCells nameIf namedAfter namedRows optE plain push putName quiet rebuilt settled stand step unique walked went calleesAt calleesS calls any free held keep numbers round rounds carry carryCell carryEntry carryFunction carryOpt carryRange carryS carrySpecial appearing finished firsts gathered indexN keepN namedBy namesIn passes renumber tooLarge withNames commit emptied fresh importF importT imports-levels made once rename renamed settle stepT unmapped wentT close constantAt initialised initials initial-initsOf mark marked moving reachedMarks readBy roots unmarked intakeOf tested verdict basesOf lower-below entriesLower functionsLower initOf initsLower lower-initsOf lower operandsLower typesLower _⊛_ bodies countAt endAt flatModule flatSpecial flatTable limits next offsetAt pairsFrom placed places read records section sections sized specialAt table tableAt write absent differ names-distinct entriesNamed entryNames expressionsNamed field functionNames functionsNamed names-named present same unlike numbers-below bound caps constantOnly every inside numbered ordered outside rising sound within constantKind emittedKind functionOf kind kindAt operand ops opsOf optional resultKind resultOf standing standingKind _⟫_ both eat exact mapL mapO function nameWord nothing add alike alikeC carryW each firstWord merged moved refOf refs seat shift spanBy target targets through undefined undefinedAt does run addE addF addOpt addS allOf allScoped allVis callResult contB scope-distinct effectResult emitted entriesScoped evalsOpt evalsS expandS has holdsS inRange inScope isOf kindsS live okE okS optVis scoped scopedAs seen shapeS topB upFrom vis after calleesOf clear ending finish finishWithEntryPoints importFunction importing kept mapFunctionHandle mapSpan needing new renameType ringing session-set setting stuck unknown withEntries force keyed pairTo pairs putPair putRay ray rayTo rays sourced withSpecial atomics constantRow counted entryHead expressionRow expressions table-follow functionHead globalRow table-levels limit more nameRow overrideRow queries repeat results table-run statements text typeRow types values variant variants at codeT count isT mapAt recAt six tables upd blockAt caseAt cases checked entryAt flat flatAll flatBlock flatEntry flatList flatS flatX form functionAt kindOf listed operands optOf rows shaped sizeB sizeC statement stmts wordOf unknowns handIf handRay handRays handPairs taken
-computed = record { brought = refl; brought-once = refl; ends-one = refl; ends-two = refl; ends-with = refl; apart = refl; twice = refl; place-taken = refl; spans-first = refl; by-hand = refl; none-at-first = refl; just-set = refl; all-unknown = refl; no-ring = refl; ring-refused = refl; range-refused = refl }
+computed = record { brought = refl; brought-once = refl; ends-one = refl; ends-two = refl; ends-with = refl; apart = refl; twice = refl; place-taken = refl; spans-first = refl; by-hand = refl; none-at-first = refl; one-set = refl; just-set = refl; all-unknown = refl; no-ring = refl; answers-third = refl; ring-refused = refl; range-refused = refl }
 
 -- ---- the theorems apply
 -- what the first session writes is read back and passes all tests
 pub written-one : Written (finished (run one new .state) []) (write (finished (run one new .state) []))
 written-one = finish-written (run one new) (run-good one new new-good) 65536 _ new (computed .ends-one)
+
+-- with its entry point too
+pub written-with-entry : Written (withEntries (record { image = shades; offset = 10 }) (run one new .state)) (write (withEntries (record { image = shades; offset = 10 }) (run one new .state)))
+written-with-entry = written-with (run one new) (every-state one) (record { image = shades; offset = 10 }) (computed .one-set) 65536 _ new (computed .ends-with)
 
 -- the second's is turned back with 5, and by no other test
 pub written-two : intakeOf (4 * length (write (finished (run two new .state) []))) (write (finished (run two new .state) [])) ≡ 5
@@ -136,10 +144,10 @@ pub stays : after (run one new) (importFunction 3 (run one new)) ≡ run one new
 stays = refused-keeps (run one new) 13 (importFunction 3 (run one new)) (computed .range-refused)
 
 -- a bound of 3 or of 9 is as good as that of `follow`, which follows shade by importing it
-abbrev begun : Session
+abbrev pub begun : Session
 begun = run (setting-it 10 ∷ []) new
 
-set-begun : Set (record { image = shades; offset = 10 }) (begun .state)
+pub set-begun : Set (record { image = shades; offset = 10 }) (begun .state)
 set-begun = source-set begun (every-state (setting-it 10 ∷ [])) (record { image = shades; offset = 10 }) (computed .just-set)
 
 pub three-deep : followF 3 10 shades 0 (begun .state) ≡ followF 9 10 shades 0 (begun .state)
@@ -156,7 +164,7 @@ pub walks-one : Origins (run one new .state) (finished (run one new .state) [])
 walks-one = origins one
 
 -- set for the first time, all that is mapped has its source's record; set again, all but that type and the renamed one
-abbrev shades-at : ℕ → Source
+abbrev pub shades-at : ℕ → Source
 shades-at o = record { image = shades; offset = o }
 
 two-stay : Stays (functions 0 ∷ imports tab-types 1 ∷ [])
@@ -173,3 +181,7 @@ all-sound = mapped-plainly (shades-at 10) (set-begun .well) (set-begun .passes) 
 
 pub sound-but : But (taken 100 shades (run one new .state) ++ allRenamed (renames 1 2 ∷ [])) (shades-at 100) (run (renames 1 2 ∷ []) (record { source = some (shades-at 100); state = sourced 100 shades (run one new .state) }))
 sound-but = mapped-records (shades-at 100) (set-begun .well) (set-begun .passes) (run one new) (every-state one) rename-stays
+
+-- what is answered is the function that comes from shade
+pub third : Appends (shades-at 10) (begun .state) set-begun 0 2 (run one new) (append 10 shades (bodies-follow 10 shades) 0 (begun .state))
+third = function-gives (shades-at 10) (begun .state) set-begun 0 2 (run one new) (computed .answers-third)

@@ -9,6 +9,7 @@ use native.Mathlib.Nat.{le-refl, le-trans, not-suc-le-zero}
 use native.Mathlib.Omega.{arith}
 use lib.Dec.{eqb}
 use lib.ListN.{length, getD, getElem?, length-append, List·getD-append}
+use lib.Seq.{getD-append-seam}
 use borrow.Author.Tests.{ne-eqb}
 use Rattle.model.specs.Outcome.{Cells}
 use Rattle.model.specs.Table.{NAME}
@@ -315,13 +316,18 @@ module _ (m : Module) (well : WellFormed m) (ok : Passes m) (o : ℕ) where
     unfolding append appended Older
     later i h = List·getD-append (E .functions) (G′ ∷ []) nothing i h
 
-    piece : Piece R G′
+    pub piece : Piece R G′
     piece = record {
       passes = λ D t w. again fol Q s follows G pass calls f D (λ u. le-trans (longer .tables .longer u) (t u)) (le-trans (longer .functions) w);
       called = rw (name .0) (omega arith);
       names = names-again fol Q s follows G pass calls f (unfold functionAt in named-at (m .functions) source-named n l);
       origin = origin-grown longer (origin fol Q s follows G pass calls f (of-table n l));
     }
+
+    -- from this function, through the maps of the state that it is appended to
+    pub piece-from : (piece .origin .source ≡ m) × (piece .origin .function ≡ G) × (piece .origin .under .out .maps ≡ R .maps)
+    unfolding piece origin-grown origin append appended
+    piece-from = (refl, refl, refl)
 
     pub found : 0 < known m R n
     unfolding known append appended
@@ -353,6 +359,11 @@ module _ (m : Module) (well : WellFormed m) (ok : Passes m) (o : ℕ) where
 
         stays : known m R k ≡ known m E k
         stays = unfold known append appended in last-miss (E .functions) G′ 0 0 (suc (seat (nameTable E) (text m k))) (ne-eqb (nameWord G′) (suc (seat (nameTable E) (text m k))) apart)
+
+    -- it is the last of the functions
+    pub last : (suc (length (E .functions)) ≡ length (R .functions)) × (getD (R .functions) (length (E .functions)) nothing ≡ G′)
+    unfolding append appended
+    last = (sym (simp length-append (omega arith)), getD-append-seam (E .functions) G′ [] nothing)
 
     -- whether its name was known or not
     pub append-next : Next m s R

@@ -11,5 +11,7 @@ pub mod Operating
 pub mod Growing
 pub mod Replaced
 pub mod Mapped
+pub mod Untaken
+pub mod Answers
 pub mod Theorems
 pub mod Examples

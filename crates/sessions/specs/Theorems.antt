@@ -1,20 +1,20 @@
 -- The theorems on sessions, each with its statement in full. A session is any list of operations from the start (`run`), whatever is answered or refused; its sources are images that passed intake, since others are refused when they are set.
 use mathlib.Core.Path.{_≡_, subst}
 use mathlib.Core.Logic.{_⊎_}
-use mathlib.Core.Bool.{false}
+use mathlib.Core.Bool.{true, false}
 use mathlib.Core.List.{List, [], _∷_, _++_}
 use mathlib.Core.Option.{Option, some}
 use Prim.Native.Nat.{ℕ, _<_, _≤_}
 use lib.ListN.{length}
 use Rattle.model.specs.Tree.{Function}
 use Rattle.model.specs.Module.{Module}
-use Rattle.model.specs.Names.{distinct, functionNames}
+use Rattle.model.specs.Names.{distinct, functionNames, named}
 use Rattle.model.specs.Callees.{callees}
 use Rattle.model.specs.Redirect.{function}
-use Rattle.model.specs.Imports.{St, once}
+use Rattle.model.specs.Imports.{St, once, importT, renamed}
 use Rattle.model.specs.Bodies.{known, append, followF, follow, went, enterAll}
 use Rattle.model.specs.Finish.{finished}
-use Rattle.model.specs.Session.{Source, Session, Answer, answered, refused, after, new, ringing, set, finish, calleesOf, withEntries, finishWithEntryPoints}
+use Rattle.model.specs.Session.{Source, Session, Answer, answered, refused, after, new, ringing, set, importing, renameType, importFunction, mapFunctionHandle, hasRequiredSpecialTypes, finish, calleesOf, withEntries, finishWithEntryPoints}
 use Rattle.walks.specs.Agreement.{Carries}
 use Rattle.imports.specs.Trace.{Keeps}
 use Rattle.imports.specs.Theorems.{Distinct, Base, Sound}
@@ -23,7 +23,7 @@ use Rattle.bodies.specs.Inv.{place}
 use Rattle.bodies.specs.Lawful as Lawful
 use Rattle.model.specs.Carry.{each-none, WellFormed}
 use Rattle.model.specs.Intake.{Passes}
-use Rattle.model.specs.Tables.{tables}
+use Rattle.model.specs.Tables.{Tab, types, tables}
 use Rattle.model.specs.Special.{sourced}
 use Rattle.sessions.specs.Height.{Low, unknowns}
 use Rattle.sessions.specs.Following.{Origin, From}
@@ -38,6 +38,9 @@ use Rattle.sessions.specs.Growing.{Grew, ends, turns}
 use Rattle.sessions.specs.Growing as Growing
 use Rattle.sessions.specs.Mapped.{taken, allRenamed, Stays, But}
 use Rattle.sessions.specs.Mapped as Mapped
+use Rattle.sessions.specs.Untaken as Untaken
+use Rattle.sessions.specs.Answers.{Gives, Appends, Bears}
+use Rattle.sessions.specs.Answers as Answers
 
 -- ---- ANY SESSION
 -- what a session's state holds, at every state
@@ -124,6 +127,10 @@ pub mapped-plainly : (x : Source) → WellFormed (x .image) → Passes (x .image
     → Sound (tables (x .image)) (run ps (record { source = some x; state = sourced (x .offset) (x .image) (s .state) }) .state)
 mapped-plainly = Mapped.while-plain
 
+-- so it is with the first source, and with any other as long as no special type is derived
+pub none-taken : (o : ℕ) (m : Module) → named m ≡ true → (s : Session) → hasRequiredSpecialTypes s ≡ false → taken o m (s .state) ≡ []
+none-taken = Untaken.none-taken
+
 -- and of any mapping, by hand or not: the derived tables are well formed, no two records are equal, and what is mapped is there
 pub tables-hold : (x : Source) (s : St) → Set x s → Base (tables (x .image)) s
 tables-hold x s k = k .holds .typed .kept .base
@@ -134,3 +141,19 @@ refused-keeps = Growing.refused-keeps
 
 pub answered-or-refused : {A : Type 0} (a : Answer A) → ((v : A) × (r : Session) × (a ≡ answered v r)) ⊎ ((n : ℕ) × (a ≡ refused n))
 answered-or-refused = Growing.answered-or-refused
+
+-- ---- 5. WHAT IS ANSWERED
+-- the number of the derived record that the number given is mapped to
+pub import-gives : (x : Source) (s : St) (k : Set x s) → (t : Tab) (n v : ℕ) (q : Session) → importing t n (record { source = some x; state = s }) ≡ answered v q → Gives x s k t n v q (importT (x .offset) (tables (x .image)) t n s)
+import-gives = Answers.import-gives
+
+pub rename-gives : (x : Source) (s : St) (k : Set x s) → (n name v : ℕ) (q : Session) → renameType n name (record { source = some x; state = s }) ≡ answered v q → Gives x s k types n v q (importT (x .offset) (renamed (tables (x .image)) n name) types n s)
+rename-gives = Answers.rename-gives
+
+-- the last function, which comes from the one given
+pub function-gives : (x : Source) (s : St) (k : Set x s) → (n v : ℕ) (q : Session) → importFunction n (record { source = some x; state = s }) ≡ answered v q → Appends x s k n v q (append (x .offset) (x .image) (follow (x .offset) (x .image)) n s)
+function-gives = Answers.function-gives
+
+-- the function that bears the name of the one given
+pub handle-gives : (x : Source) (s : St) (k : Set x s) → (n v : ℕ) (q : Session) → mapFunctionHandle n (record { source = some x; state = s }) ≡ answered v q → Bears x s k n v q (follow (x .offset) (x .image) n s)
+handle-gives = Answers.handle-gives
