@@ -9,6 +9,7 @@ use native.Mathlib.Omega.{arith}
 use lib.Dec.{ltb, leb}
 use lib.ListN.{length, getElem?, List·getD-eq-default}
 use borrow.Author.Tests.{ltb-true, ltb-false, leb-true}
+use Rattle.model.specs.Table.{expressions}
 use Rattle.model.specs.Outcome.{Cells}
 use Rattle.model.specs.Tree.{Function, Entry}
 use Rattle.model.specs.Module.{Module}
@@ -71,7 +72,7 @@ emitted-stands k h s = go (standingKind k) s h
 
 -- a result is in the table
 result-inside : (xs : List Cells) (e : ℕ) → resultKind (kindAt xs e) ≡ true → e < length xs
-unfolding resultKind kindAt kind
+unfolding resultKind kindAt kind expressions
 result-inside xs e h = by _ (ltb e (length xs)) (ltb-true e (length xs)) (λ q. absurd (false≢true (rw (List·getD-eq-default xs [] (ltb-false e (length xs) q)) at h)))
 
 -- ---- one function that passes
