@@ -37,7 +37,7 @@ fn list(words: &[u32; 16384], tags: &[u8; 16384], n: usize, out: &mut [u32]) -> 
     let answer = gather::order_of(words, tags, n, &mut order);
     match answer {
         Ordered::All => {
-            let count = words::wide(words[14]);
+            let count = views::count(words, views::FUNCTIONS);
             copy(&order, count, out);
             count as u64 * 4294967296
         }

@@ -15,7 +15,7 @@ use Rattle.model.specs.Tree.{flatAll, DEPTH}
 use Rattle.model.specs.Module.{next, records, table, raysRow, pairRow}
 use Rattle.laws.specs.Lists.{bool-same, map-append}
 use Rattle.image.specs.Parts.{Reader, join, times, pieces}
-use Rattle.image.specs.Rows.{numbers, row, rowAt}
+use Rattle.image.specs.Rows.{SIZE, RAYS-ROW, PAIR-ROW, row, rowAt}
 use Rattle.image.specs.Walks.{Final, next as next-final, refused as refused-final, strange as strange-final, seen, final, Walks, filled, Fills}
 use Rattle.image.specs.Extents.{Classes, done, refused, odd, shown, ending, Covers, after, classes, extent, recordsLeft, tableClasses, tabled, specialOf, special}
 use Rattle.image.specs.declared.record.Walked.{Walked}
@@ -411,27 +411,27 @@ module _ (words tags₀ : List ℕ) (base stop n pc : ℕ) (room : base + n ≤ 
       records-done q e = record { same = sym (rw e) ∙ ended-so (laid []) (all-left q) }
 
 -- ---- the special types
-rays-row : rowAt 390 ≡ raysRow
-unfolding rowAt row numbers
+rays-row : rowAt RAYS-ROW ≡ raysRow
+unfolding rowAt row SIZE RAYS-ROW
 rays-row = refl
 
-pair-row : rowAt 394 ≡ pairRow
-unfolding rowAt row numbers
+pair-row : rowAt PAIR-ROW ≡ pairRow
+unfolding rowAt row SIZE PAIR-ROW
 pair-row = refl
 
-module _ (words tags : List ℕ) (base stop count : ℕ) (enough : stop ≤ length words) (h : base ≤ stop) (r : Walked) (tags₁ : List ℕ) (got : Walks r tags₁ tags base stop (pieces 32 (rowAt 390) (slice base stop words))) where
+module _ (words tags : List ℕ) (base stop count : ℕ) (enough : stop ≤ length words) (h : base ≤ stop) (r : Walked) (tags₁ : List ℕ) (got : Walks r tags₁ tags base stop (pieces 32 (rowAt RAYS-ROW) (slice base stop words))) where
   pairs : Reader
   pairs = times count (pieces DEPTH pairRow)
 
   all : Outcome Cells
   all = specialOf count (slice base stop words)
 
-  is-all : all ≡ join (pieces 32 (rowAt 390) (slice base stop words)) pairs
+  is-all : all ≡ join (pieces 32 (rowAt RAYS-ROW) (slice base stop words)) pairs
   unfolding all specialOf pairs
   is-all = ap (λ w. join (pieces 32 w (slice base stop words)) (times count (pieces 32 pairRow))) (sym rays-row)
 
-  rd-rays : Reads (slice base stop words) (pieces 32 (rowAt 390) (slice base stop words))
-  rd-rays = reads-pieces 32 (rowAt 390) (slice base stop words)
+  rd-rays : Reads (slice base stop words) (pieces 32 (rowAt RAYS-ROW) (slice base stop words))
+  rd-rays = reads-pieces 32 (rowAt RAYS-ROW) (slice base stop words)
 
   rd-pairs : Reading pairs
   unfolding pairs
@@ -449,13 +449,13 @@ module _ (words tags : List ℕ) (base stop count : ℕ) (enough : stop ≤ leng
   special-strange e = exact-strange words tags base stop enough h all rd-all WalkedStrange tags₁ (record { same = sym (ap (final tags base stop) is-all ∙ chain-strange words tags base stop enough h _ rd-rays r tags₁ got pairs e) }) refl
 
   module _ (i : ℕ) (e : r ≡ Next i) where
-    onward : Onto words base stop i (final tags base stop (join (pieces 32 (rowAt 390) (slice base stop words)) pairs)) (final tags₁ i stop (pairs (slice i stop words)))
+    onward : Onto words base stop i (final tags base stop (join (pieces 32 (rowAt RAYS-ROW) (slice base stop words)) pairs)) (final tags₁ i stop (pairs (slice i stop words)))
     onward = chain-next words tags base stop enough h _ rd-rays r tags₁ got pairs i e
 
     pub special-within : i ≤ stop
     special-within = onward .within
 
-    module _ (q : Walked) (tags₂ : List ℕ) (then : Walks q tags₂ tags₁ i stop (times count (pieces 32 (rowAt 394)) (slice i stop words))) where
+    module _ (q : Walked) (tags₂ : List ℕ) (then : Walks q tags₂ tags₁ i stop (times count (pieces 32 (rowAt PAIR-ROW)) (slice i stop words))) where
       whole-special : Walks q tags₂ tags base stop all
       unfolding pairs
       whole-special = record { same = (rw pair-row at (then .same)) ∙ sym (ap (final tags base stop) is-all ∙ onward .same) }

@@ -2,18 +2,18 @@
 use mathlib.Core.Path.{_≡_, refl, sym, ap, _∙_, subst}
 use mathlib.Core.Bool.{Bool, true, false}
 use mathlib.Core.Option.{none, some}
-use mathlib.Core.List.{List, [], _∷_, map}
+use mathlib.Core.List.{List, [], _∷_, _++_, map}
 use Prim.Native.Nat.{ℕ, zero, suc, _+_, _*_, _-_, _≤_, _<_}
 use native.Mathlib.Nat.{le-of-suc-le-suc, not-suc-le-zero, add-zero, zero-add, add-suc, suc-add}
 use native.Mathlib.Numerals.{add-one}
 use native.Mathlib.Omega.{arith}
-use lib.Dec.{T, ltb, leb, eqb, ltb→lt, leb→le}
-use lib.ListN.{length, getD, drop, take, getElem?, length-map}
+use lib.Dec.{T, ltb, leb, ltb→lt, leb→le}
+use lib.ListN.{length, getD, drop, take, getElem?, length-map, length-append, List·getD-append}
 use lib.Seq.{drop-cons, getD-drop, getD-take}
 use borrow.Author.Tests.{lt-ltb, le-ltb, ne-eqb, le-leb, lt-leb}
-use Rattle.model.specs.Table.{Row, TYPE-KIND, BLOCK, CASES, LENGTH, limit, counted, variants, types, expressions, levels, queries, values, atomics, results, statements}
-use Rattle.image.specs.Parts.{caseRow, rowOf, rowAs, statementRows, rows, over, nothing, once, bringsOf}
-use Rattle.image.specs.Rows.{numbers, row, rowAt, ROWS}
+use Rattle.model.specs.Table.{Row, TYPE-KIND, BLOCK, CASES, LENGTH, limit, counted, variants}
+use Rattle.image.specs.Parts.{caseRow, statementRows, rows, over, nothing, once, bringsOf}
+use Rattle.image.specs.Rows.{laid, starts, symbols, coded, listed, records, allRows, ROWS, SYMBOLS, pairs, numbers, SIZE, row, rowAt}
 
 -- ---- a rule of a list, at each entry
 abbrev pub and : Bool → Bool → Bool
@@ -62,16 +62,21 @@ second true b t e = absurd (subst (λ (x : Bool). T x) e tt)
 second false b t e = t
 
 -- ---- the table
-pub table-length : (t : List ℕ) → t ≡ numbers → length t ≡ 510
-unfolding numbers
-table-length t e = rw e
+pub in-table : (t : List ℕ) → t ≡ numbers → (p : ℕ) → p < SIZE → p < length t
+unfolding SIZE
+in-table t e p h = rw e h
 
-numbers-length : length numbers ≡ 510
-unfolding numbers
-numbers-length = refl
+behind : ROWS ≤ length numbers
+unfolding ROWS numbers
+behind = omega (arith, length-append (laid allRows) (starts 0 (coded symbols) ++ (pairs (length (laid (coded symbols))) ROWS symbols ++ starts (length (laid (coded symbols ++ listed symbols))) records)))
 
-pub in-table : (t : List ℕ) → t ≡ numbers → (p : ℕ) → p < 510 → p < length t
-in-table t e p h = omega (arith, table-length t e)
+pub row-in-table : (t : List ℕ) → t ≡ numbers → (p : ℕ) → p < ROWS → p < length t
+row-in-table t e p h = rw e (omega (arith, behind))
+
+-- a place of the table fits any word
+pub rows-few : ROWS ≤ 65536
+unfolding SIZE
+rows-few = leb→le ROWS 65536 tt
 
 row-end : (ns : List ℕ) (n : ℕ) → n ≡ 0 → row (n ∷ ns) ≡ []
 unfolding row
@@ -84,13 +89,41 @@ row-more ns zero h = absurd (not-suc-le-zero h)
 row-more ns (suc n) h = refl
 
 -- in the rows each number but 0 is a symbol of a row, and one more follows
-rule : ℕ → ℕ → Bool
-rule k x = either (ltb 396 k) (either (eqb x 0) (and (ltb (suc k) ROWS) (and (ltb x 126) (either (ltb x 105) (leb 108 x)))))
+fine : ℕ → Bool
+fine x = and (ltb x 126) (either (ltb x 105) (leb 108 x))
+
+fines : Row → Bool
+fines [] = true
+fines (s ∷ ss) = and (fine s) (fines ss)
+
+all-fine : List Row → Bool
+all-fine [] = true
+all-fine (r ∷ rs) = and (fines r) (all-fine rs)
+
+record Ruled (l : List ℕ) (p : ℕ) : Type 0 where
+  follows : suc p < length l
+  is-fine : T (fine (getD l p 0))
+
+ruled-row : (r : Row) (l : List ℕ) → ((p : ℕ) → p < length l → (getD l p 0 ≡ 0 → ⊥) → Ruled l p) → T (fines r) → (p : ℕ) → p < length (r ++ (0 ∷ l)) → (getD (r ++ (0 ∷ l)) p 0 ≡ 0 → ⊥) → Ruled (r ++ (0 ∷ l)) p
+unfolding fines
+ruled-row [] l ih t zero h g = absurd (g refl)
+ruled-row [] l ih t (suc p) h g = let q = ih p (le-of-suc-le-suc h) g in record { follows = omega (arith, q .follows); is-fine = q .is-fine }
+ruled-row (s ∷ ss) l ih t zero h g = record { follows = omega (arith, length-append ss (0 ∷ l)); is-fine = and-left (fine s) (fines ss) t }
+ruled-row (s ∷ ss) l ih t (suc p) h g = let q = ruled-row ss l ih (and-right (fine s) (fines ss) t) p (le-of-suc-le-suc h) g in record { follows = omega (arith, q .follows); is-fine = q .is-fine }
+
+ruled-rows : (rs : List Row) → T (all-fine rs) → (p : ℕ) → p < length (laid rs) → (getD (laid rs) p 0 ≡ 0 → ⊥) → Ruled (laid rs) p
+unfolding laid all-fine
+ruled-rows [] t p h g = absurd (not-suc-le-zero h)
+ruled-rows (r ∷ rs) t p h g = ruled-row r (laid rs) (ruled-rows rs (and-right (fines r) (all-fine rs) t)) (and-left (fines r) (all-fine rs) t) p h g
+
+rows-fine : T (all-fine allRows)
+unfolding SIZE all-fine fines fine either
+rows-fine = tt
 
 module _ (p : ℕ) (h : p < ROWS) where
   opened : rowAt p ≡ row (getD numbers p 0 ∷ drop (suc p) numbers)
   unfolding rowAt
-  opened = ap row (drop-cons numbers p 0 (omega (arith, numbers-length)))
+  opened = ap row (drop-cons numbers p 0 (omega (arith, behind)))
 
   pub ended : getD numbers p 0 ≡ 0 → rowAt p ≡ []
   ended e = opened ∙ row-end (drop (suc p) numbers) (getD numbers p 0) e
@@ -99,27 +132,34 @@ module _ (p : ℕ) (h : p < ROWS) where
   unfolding rowAt
   further g = rw add-one (opened ∙ row-more (drop (suc p) numbers) (getD numbers p 0) (omega arith))
 
+  in-rows : getD numbers p 0 ≡ getD (laid allRows) p 0
+  unfolding numbers ROWS
+  in-rows = List·getD-append (laid allRows) (starts 0 (coded symbols) ++ (pairs (length (laid (coded symbols))) ROWS symbols ++ starts (length (laid (coded symbols ++ listed symbols))) records)) 0 p h
+
   module _ (g : getD numbers p 0 ≡ 0 → ⊥) where
-    ruled : T (and (ltb (suc p) ROWS) (and (ltb (getD numbers p 0) 126) (either (ltb (getD numbers p 0) 105) (leb 108 (getD numbers p 0)))))
-    unfolding numbers rule either
-    ruled = second (eqb (getD numbers p 0) 0) _ (second (ltb 396 p) _ (at rule numbers tt p (omega arith)) (le-ltb 396 p (omega arith))) (ne-eqb (getD numbers p 0) 0 g)
+    ruled : Ruled (laid allRows) p
+    unfolding ROWS
+    ruled = ruled-rows allRows rows-fine p h (λ z. g (in-rows ∙ z))
 
     pub row-next : p + 1 < ROWS
-    row-next = rw add-one (ltb→lt (suc p) ROWS (and-left (ltb (suc p) ROWS) _ ruled))
+    unfolding ROWS
+    row-next = omega (arith, ruled .follows)
 
     rest : T (and (ltb (getD numbers p 0) 126) (either (ltb (getD numbers p 0) 105) (leb 108 (getD numbers p 0))))
-    rest = and-right (ltb (suc p) ROWS) _ ruled
+    unfolding fine
+    rest = rw in-rows (ruled .is-fine)
 
     pub symbol : getD numbers p 0 < 126
     symbol = ltb→lt (getD numbers p 0) 126 (and-left (ltb (getD numbers p 0) 126) _ rest)
 
     pub large : 105 ≤ getD numbers p 0 → 108 ≤ getD numbers p 0
+    unfolding either
     large l = leb→le 108 (getD numbers p 0) (second (ltb (getD numbers p 0) 105) _ (and-right (ltb (getD numbers p 0) 126) _ rest) (le-ltb (getD numbers p 0) 105 l))
 
 -- ---- lists of rows, blocks and cases
 pub record ListEntry (s : ℕ) (r : Row) : Type 0 where
-  pub start : getD numbers (468 + 2 * (s - 110)) 0 < ROWS
-  pub is : rowAt (getD numbers (468 + 2 * (s - 110)) 0) ≡ r
+  pub start : getD numbers (SYMBOLS + 2 * (s - 110)) 0 < ROWS
+  pub is : rowAt (getD numbers (SYMBOLS + 2 * (s - 110)) 0) ≡ r
 
 five : (P : ℕ → Type 0) → P 110 → P 111 → P 112 → P 113 → P 114 → (s : ℕ) → 110 ≤ s → s < 115 → P s
 five P a b c d e s h k =
@@ -134,7 +174,7 @@ five P a b c d e s h k =
     go (suc (suc (suc (suc (suc i))))) l = absurd (omega arith)
 
 list-entry : (s : ℕ) → 110 ≤ s → s < 115 → ListEntry s (counted s)
-unfolding numbers row rowAt counted
+unfolding SIZE row rowAt
 list-entry = five (λ s. ListEntry s (counted s))
     (record { start = omega arith; is = refl })
     (record { start = omega arith; is = refl })
@@ -142,16 +182,16 @@ list-entry = five (λ s. ListEntry s (counted s))
     (record { start = omega arith; is = refl })
     (record { start = omega arith; is = refl })
 
-list-limit : (s : ℕ) → 110 ≤ s → s < 115 → getD numbers (468 + 2 * (s - 110) + 1) 0 ≡ limit s
-unfolding numbers limit
-list-limit = five (λ s. getD numbers (468 + 2 * (s - 110) + 1) 0 ≡ limit s) refl refl refl refl refl
+list-limit : (s : ℕ) → 110 ≤ s → s < 115 → getD numbers (SYMBOLS + 2 * (s - 110) + 1) 0 ≡ limit s
+unfolding SIZE
+list-limit = five (λ s. getD numbers (SYMBOLS + 2 * (s - 110) + 1) 0 ≡ limit s) refl refl refl refl refl
 
 block-entry : ListEntry BLOCK (LENGTH ∷ [])
-unfolding numbers row rowAt
+unfolding SIZE row rowAt
 block-entry = record { start = omega arith; is = refl }
 
 cases-entry : ListEntry CASES caseRow
-unfolding numbers row rowAt
+unfolding SIZE row rowAt
 cases-entry = record { start = omega arith; is = refl }
 
 -- ---- variants and statements
@@ -159,19 +199,19 @@ unfoldable pub group : ℕ → List Row
 group s = elim (ltb s BLOCK) [ true ↦ variants s | false ↦ statementRows ]
 
 -- the starts of a group's rows
-starts : ℕ → ℕ → List ℕ
-starts from most = take most (drop from numbers)
+startsOf : ℕ → ℕ → List ℕ
+startsOf from most = take most (drop from numbers)
 
 record GroupEntry (s from most : ℕ) : Type 0 where
-  is-from : getD numbers (468 + 2 * (s - 110)) 0 ≡ from
-  is-most : getD numbers (468 + 2 * (s - 110) + 1) 0 ≡ most
-  fits : from + most ≤ 510
-  are : map rowAt (starts from most) ≡ group s
-  each : T (every (λ i x. ltb x ROWS) 0 (starts from most))
-  long : length (starts from most) ≡ most
+  is-from : getD numbers (SYMBOLS + 2 * (s - 110)) 0 ≡ from
+  is-most : getD numbers (SYMBOLS + 2 * (s - 110) + 1) 0 ≡ most
+  fits : from + most ≤ SIZE
+  are : map rowAt (startsOf from most) ≡ group s
+  each : T (every (λ i x. ltb x ROWS) 0 (startsOf from most))
+  long : length (startsOf from most) ≡ most
 
 abbrev Entry : ℕ → Type 0
-Entry s = GroupEntry s (getD numbers (468 + 2 * (s - 110)) 0) (getD numbers (468 + 2 * (s - 110) + 1) 0)
+Entry s = GroupEntry s (getD numbers (SYMBOLS + 2 * (s - 110)) 0) (getD numbers (SYMBOLS + 2 * (s - 110) + 1) 0)
 
 eight : (P : ℕ → Type 0) → P 115 → P 116 → P 117 → P 118 → P 119 → P 120 → P 121 → P 125 → (s : ℕ) → 115 ≤ s → s < 126 → (s ≡ 122 → ⊥) → (s ≡ 123 → ⊥) → (s ≡ 124 → ⊥) → P s
 eight P a b c d e f g z s h k n₁ n₂ n₃ =
@@ -192,7 +232,7 @@ eight P a b c d e f g z s h k n₁ n₂ n₃ =
     go (suc (suc (suc (suc (suc (suc (suc (suc (suc (suc (suc i))))))))))) l n₁ n₂ n₃ = absurd (omega arith)
 
 entry-of : (s : ℕ) → 115 ≤ s → s < 126 → (s ≡ 122 → ⊥) → (s ≡ 123 → ⊥) → (s ≡ 124 → ⊥) → Entry s
-unfolding numbers row rowAt group variants types expressions levels queries values atomics results statementRows rowAs rowOf statements starts
+unfolding SIZE row rowAt group variants startsOf
 entry-of = eight Entry
     (record { is-from = refl; is-most = refl; fits = omega arith; are = refl; each = tt; long = refl })
     (record { is-from = refl; is-most = refl; fits = omega arith; are = refl; each = tt; long = refl })
@@ -204,14 +244,14 @@ entry-of = eight Entry
     (record { is-from = refl; is-most = refl; fits = omega arith; are = refl; each = tt; long = refl })
 
 -- ---- what the code looks up
-module _ (t : List ℕ) (table : t ≡ numbers) (s w place k from most n : ℕ) (low : 110 ≤ s) (high : s < 126) (is-place : place ≡ s) (is-k : k ≡ 468 + 2 * (place - 110)) (is-from : from ≡ getD t k 0) (is-most : most ≡ getD t (k + 1) 0) (is-n : n ≡ w) where
-  k-is : k ≡ 468 + 2 * (s - 110)
+module _ (t : List ℕ) (table : t ≡ numbers) (s w place k from most n : ℕ) (low : 110 ≤ s) (high : s < 126) (is-place : place ≡ s) (is-k : k ≡ SYMBOLS + 2 * (place - 110)) (is-from : from ≡ getD t k 0) (is-most : most ≡ getD t (k + 1) 0) (is-n : n ≡ w) where
+  k-is : k ≡ SYMBOLS + 2 * (s - 110)
   k-is = rw is-place at is-k
 
-  from-is : from ≡ getD numbers (468 + 2 * (s - 110)) 0
+  from-is : from ≡ getD numbers (SYMBOLS + 2 * (s - 110)) 0
   from-is = rw (table, k-is) at is-from
 
-  most-is : most ≡ getD numbers (468 + 2 * (s - 110) + 1) 0
+  most-is : most ≡ getD numbers (SYMBOLS + 2 * (s - 110) + 1) 0
   most-is = rw (table, k-is) at is-most
 
   module _ (h : s < 115) where
@@ -239,10 +279,10 @@ module _ (t : List ℕ) (table : t ≡ numbers) (s w place k from most n : ℕ) 
   brings-cases e = (rw (from-is, e) (cases-entry .start), rw (from-is, e) (ap (rows w) (sym (cases-entry .is))))
 
   f : ℕ
-  f = getD numbers (468 + 2 * (s - 110)) 0
+  f = getD numbers (SYMBOLS + 2 * (s - 110)) 0
 
   m : ℕ
-  m = getD numbers (468 + 2 * (s - 110) + 1) 0
+  m = getD numbers (SYMBOLS + 2 * (s - 110) + 1) 0
 
   module _ (h : 115 ≤ s) (n₁ : s ≡ 122 → ⊥) (n₂ : s ≡ 123 → ⊥) (n₃ : s ≡ 124 → ⊥) where
     entry : Entry s
@@ -258,17 +298,17 @@ module _ (t : List ℕ) (table : t ≡ numbers) (s w place k from most n : ℕ) 
 
     group-long : length (group s) ≡ most
     unfolding f m
-    group-long = sym (ap length (entry .are)) ∙ length-map (starts f m) rowAt ∙ entry .long ∙ sym most-is
+    group-long = sym (ap length (entry .are)) ∙ length-map (startsOf f m) rowAt ∙ entry .long ∙ sym most-is
 
     pub brings-none : most ≤ n → bringsOf s w ≡ nothing
     unfolding once
     brings-none g = grouped ∙ ap once (out (group s) w (omega (arith, group-long, is-n)))
 
-    pub in-group : n < most → from + n < 510
+    pub in-group : n < most → from + n < SIZE
     in-group g = omega (arith, entry .fits, from-is, most-is)
 
-    start-is : n < most → getD (starts f m) w 0 ≡ getD t (from + n) 0
-    unfolding starts f m
+    start-is : n < most → getD (startsOf f m) w 0 ≡ getD t (from + n) 0
+    unfolding startsOf f m
     start-is g =
         let l : w < m = omega (arith, most-is, is-n) in
         getD-take m (drop f numbers) w 0 l ∙ getD-drop f numbers w 0 ∙ ap (λ x. getD numbers (x + w) 0) (sym from-is) ∙ ap (λ x. getD numbers (from + x) 0) (sym is-n) ∙ ap (λ l. getD l (from + n) 0) (sym table)
@@ -276,8 +316,8 @@ module _ (t : List ℕ) (table : t ≡ numbers) (s w place k from most n : ℕ) 
     pub brings-row : (pc : ℕ) → pc ≡ getD t (from + n) 0 → n < most → (pc < ROWS) × (bringsOf s w ≡ rows 1 (rowAt pc))
     unfolding once f m
     brings-row pc is g =
-        let l : w < length (starts f m) = omega (arith, entry .long, most-is, is-n) in
-        let e : getD (starts f m) w 0 ≡ pc = start-is g ∙ sym is in (
-          rw e at (ltb→lt (getD (starts f m) w 0) ROWS (at (λ i x. ltb x ROWS) (starts f m) (entry .each) w l)),
-          grouped ∙ ap (λ q. once (getElem? q w)) (sym (entry .are)) ∙ ap once (getElem?-map rowAt (starts f m) w l) ∙ ap (λ x. rows 1 (rowAt x)) e,
+        let l : w < length (startsOf f m) = omega (arith, entry .long, most-is, is-n) in
+        let e : getD (startsOf f m) w 0 ≡ pc = start-is g ∙ sym is in (
+          rw e at (ltb→lt (getD (startsOf f m) w 0) ROWS (at (λ i x. ltb x ROWS) (startsOf f m) (entry .each) w l)),
+          grouped ∙ ap (λ q. once (getElem? q w)) (sym (entry .are)) ∙ ap once (getElem?-map rowAt (startsOf f m) w l) ∙ ap (λ x. rows 1 (rowAt x)) e,
         )

@@ -11,12 +11,12 @@ use lib.ListN.{length, getD, take, drop, replicate, length-map, length-append, l
 use lib.Seq.{slice, length-slice, length-take-le, take-take, drop-cons}
 use borrow.Author.Tests.{ne-eqb, eqb-true, leb-true}
 use Rattle.model.specs.Outcome.{Cells, class, word, Outcome, fits, misfit, unknown, Laid, laid, bad, strange, exact, both, mapL}
-use Rattle.model.specs.Table.{Row, PLACE, nameRow, typeRow, constantRow, overrideRow, globalRow, expressionRow, functionHead, entryHead}
+use Rattle.model.specs.Table.{Row, PLACE}
 use Rattle.model.specs.Tree.{flatAll, DEPTH}
 use Rattle.model.specs.Module.{table, raysRow, pairRow, places, flatTable, limits, countAt, offsetAt, endAt, placed, section}
 use Rattle.laws.specs.Lists.{and-first, and-second}
-use Rattle.image.specs.Parts.{pieces, functionRow, entryRow}
-use Rattle.image.specs.Rows.{numbers, row, rowAt, ROWS}
+use Rattle.image.specs.Parts.{pieces}
+use Rattle.image.specs.Rows.{ROWS, RECORDS, numbers, SIZE, row, rowAt}
 use Rattle.image.specs.Extents.{Classes, done, refused, odd, shown, ending, Covers, after, classes, tableClasses, tabled, specialOf, special, sectionsFrom, tableRows}
 use Rattle.image.specs.declared.section.Held.{Held}
 use Rattle.image.specs.declared.section.Held.the-variants.{Fits, Bad, Strange}
@@ -128,11 +128,11 @@ eight P a b c d e f g z (suc (suc (suc (suc (suc (suc (suc zero))))))) h = z
 eight P a b c d e f g z (suc (suc (suc (suc (suc (suc (suc (suc k)))))))) h = absurd (omega arith)
 
 pub record RowEntry (k : ℕ) : Type 0 where
-  pub start : getD numbers (500 + k) 0 < ROWS
-  pub is : rowAt (getD numbers (500 + k) 0) ≡ getD tableRows k []
+  pub start : getD numbers (RECORDS + k) 0 < ROWS
+  pub is : rowAt (getD numbers (RECORDS + k) 0) ≡ getD tableRows k []
 
 row-entry : (k : ℕ) → k < 8 → RowEntry k
-unfolding numbers row rowAt tableRows nameRow typeRow constantRow overrideRow globalRow expressionRow functionRow entryRow functionHead entryHead
+unfolding SIZE row rowAt
 row-entry = eight RowEntry
     (record { start = omega arith; is = refl })
     (record { start = omega arith; is = refl })
@@ -198,7 +198,7 @@ module _ (words tags₀ : List ℕ) (total : ℕ) (large : 20 ≤ total) (enough
       pub sections-total : stop ≤ total
       sections-total = omega (arith, stop-is stop is-stop, stands k (omega arith) .within, ws-long)
 
-      module _ (t : List ℕ) (tabled-by : t ≡ numbers) (pc : ℕ) (is-pc : pc ≡ getD t (500 + k) 0) where
+      module _ (t : List ℕ) (tabled-by : t ≡ numbers) (pc : ℕ) (is-pc : pc ≡ getD t (RECORDS + k) 0) where
         pub sections-row : pc < ROWS
         sections-row = rw (is-pc, tabled-by) (row-entry k h .start)
 
@@ -212,7 +212,7 @@ module _ (words tags₀ : List ℕ) (total : ℕ) (large : 20 ≤ total) (enough
           here-is : tabled (rowAt pc) (getD words (2 + 2 * k) 0) (slice base stop words) ≡ here
           unfolding here ws section
           here-is =
-              ap (λ q. tabled q (getD words (2 + 2 * k) 0) (slice base stop words)) (ap rowAt (is-pc ∙ ap (λ l. getD l (500 + k) 0) tabled-by) ∙ row-entry k h .is)
+              ap (λ q. tabled q (getD words (2 + 2 * k) 0) (slice base stop words)) (ap rowAt (is-pc ∙ ap (λ l. getD l (RECORDS + k) 0) tabled-by) ∙ row-entry k h .is)
               ∙ ap (λ n. tabled (getD tableRows k []) n (slice base stop words)) (sym (count-is words total large enough k (omega arith)))
               ∙ ap (tabled (getD tableRows k []) (countAt k (take total words))) (sym (part-same base stop sections-total) ∙ ap (λ j. slice j stop (take total words)) (base-is base is-base) ∙ ap (λ j. slice (offsetAt k (take total words)) j (take total words)) (stop-is stop is-stop))
 

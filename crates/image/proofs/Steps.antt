@@ -13,7 +13,7 @@ use borrow.Author.Tests.{eq-eqb, ne-eqb, ltb-true, ltb-false, eqb-true}
 use Rattle.model.specs.Outcome.{Cells, class, Outcome, fits, misfit, unknown, mapO}
 use Rattle.model.specs.Table.{Row, PAD, LENGTH, STMT-KIND, run}
 use Rattle.image.specs.Parts.{join, times, check, statementOf, readB, piece, pieces, Brings, rows, over, nothing, bringsOf, brought, opening}
-use Rattle.image.specs.Rows.{numbers, row, rowAt, ROWS, MoreIs}
+use Rattle.image.specs.Rows.{ROWS, numbers, SIZE, KIND-ROW, row, rowAt, MoreIs}
 use Rattle.image.specs.Walks.{next, refused, strange, seen, final, Walks}
 use Rattle.image.specs.declared.record.Walked.{Walked}
 use Rattle.image.specs.declared.record.Walked.the-variants.{Next, Misfit, Strange}
@@ -77,8 +77,8 @@ module _ (words tags : List ℕ) (i end s left : ℕ) where
       opened-rows r tags₁ got = record { same = (rw is-c at (got .same)) ∙ sym (inside ∙ ap (λ q. final (set tags i s) (i + 1) end (brought q λ n r. times n (pieces left r) (slice (i + 1) end words))) (got-rows .1)) }
 
 -- ---- a statement
-kind-row : rowAt 327 ≡ STMT-KIND ∷ []
-unfolding rowAt row numbers
+kind-row : rowAt KIND-ROW ≡ STMT-KIND ∷ []
+unfolding rowAt row SIZE KIND-ROW
 kind-row = refl
 
 check-yes : (w : ℕ) (cs : Cells) (rest : List ℕ) → w ≡ suc (length cs) → check w (fits cs rest) ≡ fits ((LENGTH, w) ∷ cs) rest
@@ -94,7 +94,7 @@ module _ (words tags : List ℕ) (i end left : ℕ) where
   unfolding statementOf seen final
   stmt-short h = record { same = sym (ap (final tags i end) (eat-none words i end _ h)) }
 
-  module _ (h : i < end) (enough : end ≤ length words) (r : Walked) (tags₁ : List ℕ) (got : Walks r tags₁ (set tags i 124) (i + 1) end (pieces left (rowAt 327) (slice (i + 1) end words))) where
+  module _ (h : i < end) (enough : end ≤ length words) (r : Walked) (tags₁ : List ℕ) (got : Walks r tags₁ (set tags i 124) (i + 1) end (pieces left (rowAt KIND-ROW) (slice (i + 1) end words))) where
     inner : Outcome Cells
     inner = pieces left (STMT-KIND ∷ []) (slice (i + 1) end words)
 

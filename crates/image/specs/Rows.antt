@@ -1,116 +1,106 @@
--- The field table as the code has it: rows of symbols, each ended by 0, and then where they start. proofs/Rows.antt proves that it is the model's.
+-- The field table as the code has it, computed from the model's rows: the rows, each ended by 0; where the rows of each group of codes start; for each symbol from MEMBERS on its row and limit, or its group and the number of codes; and where the rows of the tables' records start. The code's array is compared with it by computation (proofs/lay).
 use mathlib.Core.Path.{_≡_}
-use mathlib.Core.List.{List, [], _∷_}
-use Prim.Native.Nat.{ℕ, zero, suc, _<_}
-use lib.ListN.{drop}
-use Rattle.model.specs.Table.{Row}
-use Rattle.image.specs.Parts.{bringsOf, rows, over, nothing}
+use mathlib.Core.List.{List, [], _∷_, _++_}
+use Prim.Native.Nat.{ℕ, zero, suc, _+_, _*_, _-_, _<_}
+use lib.ListN.{length, getD, drop}
+use Rattle.model.specs.Table.{Row, MEMBERS, ARGUMENTS, LOCALS, EXPRESSIONS, NAMED, LENGTH, STMT-KIND, limit, counted, types, expressions, levels, queries, values, atomics, results, statements, nameRow, typeRow, constantRow, overrideRow, globalRow, expressionRow, functionHead, entryHead}
+use Rattle.model.specs.Module.{raysRow, pairRow}
+use Rattle.image.specs.Parts.{caseRow, rowOf, rowAs, statementRows, functionRow, entryRow, bringsOf, rows, over, nothing}
+use Rattle.image.specs.Extents.{tableRows}
 use Rattle.image.specs.declared.record.More.{More}
 use Rattle.image.specs.declared.record.More.the-variants.{Rows, Over, Unknown}
 
-unfoldable pub numbers : List ℕ
-numbers =
-    9 ∷ 80 ∷ 80 ∷ 80 ∷ 80 ∷ 80 ∷ 80 ∷ 0
-    ∷ 84 ∷ 80 ∷ 80 ∷ 0
-    ∷ 80 ∷ 110 ∷ 0
-    ∷ 84 ∷ 80 ∷ 80 ∷ 0
-    ∷ 84 ∷ 80 ∷ 0
-    ∷ 81 ∷ 82 ∷ 10 ∷ 80 ∷ 80 ∷ 0
-    ∷ 81 ∷ 82 ∷ 86 ∷ 0
-    ∷ 81 ∷ 82 ∷ 87 ∷ 0
-    ∷ 81 ∷ 82 ∷ 84 ∷ 0
-    ∷ 81 ∷ 82 ∷ 84 ∷ 109 ∷ 0
-    ∷ 81 ∷ 82 ∷ 93 ∷ 93 ∷ 0
-    ∷ 81 ∷ 82 ∷ 93 ∷ 80 ∷ 0
-    ∷ 81 ∷ 82 ∷ 3 ∷ 93 ∷ 0
-    ∷ 81 ∷ 82 ∷ 3 ∷ 93 ∷ 4 ∷ 4 ∷ 4 ∷ 4 ∷ 0
-    ∷ 81 ∷ 82 ∷ 95 ∷ 0
-    ∷ 81 ∷ 82 ∷ 88 ∷ 0
-    ∷ 81 ∷ 82 ∷ 96 ∷ 0
-    ∷ 81 ∷ 82 ∷ 93 ∷ 0
-    ∷ 81 ∷ 82 ∷ 93 ∷ 93 ∷ 5 ∷ 93 ∷ 94 ∷ 94 ∷ 117 ∷ 94 ∷ 2 ∷ 0
-    ∷ 81 ∷ 82 ∷ 93 ∷ 93 ∷ 94 ∷ 94 ∷ 94 ∷ 0
-    ∷ 81 ∷ 82 ∷ 93 ∷ 118 ∷ 0
-    ∷ 81 ∷ 82 ∷ 3 ∷ 93 ∷ 0
-    ∷ 81 ∷ 82 ∷ 18 ∷ 93 ∷ 93 ∷ 0
-    ∷ 81 ∷ 82 ∷ 93 ∷ 93 ∷ 93 ∷ 0
-    ∷ 81 ∷ 82 ∷ 3 ∷ 3 ∷ 93 ∷ 0
-    ∷ 81 ∷ 82 ∷ 4 ∷ 93 ∷ 0
-    ∷ 81 ∷ 82 ∷ 79 ∷ 93 ∷ 94 ∷ 94 ∷ 94 ∷ 0
-    ∷ 81 ∷ 82 ∷ 93 ∷ 6 ∷ 80 ∷ 0
-    ∷ 81 ∷ 82 ∷ 91 ∷ 0
-    ∷ 81 ∷ 82 ∷ 84 ∷ 2 ∷ 0
-    ∷ 81 ∷ 82 ∷ 84 ∷ 0
-    ∷ 81 ∷ 82 ∷ 93 ∷ 0
-    ∷ 0
-    ∷ 0
-    ∷ 93 ∷ 0
-    ∷ 93 ∷ 0
-    ∷ 93 ∷ 93 ∷ 0
-    ∷ 94 ∷ 0
-    ∷ 0
-    ∷ 0
-    ∷ 0
-    ∷ 80 ∷ 0
-    ∷ 80 ∷ 0
-    ∷ 0
-    ∷ 0
-    ∷ 0
-    ∷ 0
-    ∷ 0
-    ∷ 0
-    ∷ 0
-    ∷ 0
-    ∷ 94 ∷ 0
-    ∷ 0
-    ∷ 84 ∷ 80 ∷ 80 ∷ 80 ∷ 80 ∷ 80 ∷ 80 ∷ 0
-    ∷ 81 ∷ 82 ∷ 97 ∷ 98 ∷ 0
-    ∷ 81 ∷ 82 ∷ 122 ∷ 0
-    ∷ 81 ∷ 82 ∷ 93 ∷ 122 ∷ 122 ∷ 0
-    ∷ 81 ∷ 82 ∷ 93 ∷ 123 ∷ 0
-    ∷ 81 ∷ 82 ∷ 122 ∷ 122 ∷ 94 ∷ 0
-    ∷ 81 ∷ 82 ∷ 0
-    ∷ 81 ∷ 82 ∷ 0
-    ∷ 81 ∷ 82 ∷ 94 ∷ 0
-    ∷ 81 ∷ 82 ∷ 0
-    ∷ 81 ∷ 82 ∷ 80 ∷ 0
-    ∷ 81 ∷ 82 ∷ 80 ∷ 0
-    ∷ 81 ∷ 82 ∷ 93 ∷ 93 ∷ 0
-    ∷ 81 ∷ 82 ∷ 93 ∷ 93 ∷ 94 ∷ 93 ∷ 0
-    ∷ 81 ∷ 82 ∷ 93 ∷ 120 ∷ 93 ∷ 100 ∷ 0
-    ∷ 81 ∷ 82 ∷ 93 ∷ 99 ∷ 0
-    ∷ 81 ∷ 82 ∷ 92 ∷ 109 ∷ 100 ∷ 0
-    ∷ 81 ∷ 82 ∷ 93 ∷ 93 ∷ 94 ∷ 120 ∷ 93 ∷ 0
-    ∷ 83 ∷ 84 ∷ 80 ∷ 80 ∷ 80 ∷ 80 ∷ 80 ∷ 80 ∷ 80 ∷ 0
-    ∷ 83 ∷ 84 ∷ 80 ∷ 80 ∷ 80 ∷ 80 ∷ 80 ∷ 80 ∷ 0
-    ∷ 81 ∷ 82 ∷ 83 ∷ 84 ∷ 102 ∷ 0
-    ∷ 116 ∷ 0
-    ∷ 101 ∷ 83 ∷ 0
-    ∷ 124 ∷ 0
-    ∷ 119 ∷ 122 ∷ 2 ∷ 0
-    ∷ 125 ∷ 0
-    ∷ 108 ∷ 0
-    ∷ 83 ∷ 81 ∷ 82 ∷ 115 ∷ 0
-    ∷ 83 ∷ 81 ∷ 82 ∷ 84 ∷ 89 ∷ 0
-    ∷ 83 ∷ 81 ∷ 82 ∷ 80 ∷ 84 ∷ 90 ∷ 0
-    ∷ 83 ∷ 81 ∷ 82 ∷ 80 ∷ 80 ∷ 80 ∷ 80 ∷ 80 ∷ 84 ∷ 90 ∷ 80 ∷ 0
-    ∷ 116 ∷ 0
-    ∷ 83 ∷ 81 ∷ 82 ∷ 111 ∷ 121 ∷ 112 ∷ 113 ∷ 114 ∷ 122 ∷ 0
-    ∷ 83 ∷ 80 ∷ 80 ∷ 80 ∷ 80 ∷ 80 ∷ 80 ∷ 83 ∷ 81 ∷ 82 ∷ 111 ∷ 121 ∷ 112 ∷ 113 ∷ 114 ∷ 122 ∷ 0
-    ∷ 85 ∷ 85 ∷ 85 ∷ 0
-    ∷ 103 ∷ 84 ∷ 0
-    ∷ 0 ∷ 8 ∷ 12 ∷ 15 ∷ 19
-    ∷ 22 ∷ 28 ∷ 32 ∷ 36 ∷ 40 ∷ 45 ∷ 50 ∷ 55 ∷ 60 ∷ 69 ∷ 73 ∷ 77 ∷ 81 ∷ 85 ∷ 97 ∷ 105 ∷ 110 ∷ 115 ∷ 121 ∷ 127 ∷ 133 ∷ 138 ∷ 146 ∷ 152 ∷ 156 ∷ 161 ∷ 165
-    ∷ 169 ∷ 170 ∷ 171 ∷ 173 ∷ 175
-    ∷ 178 ∷ 180 ∷ 181 ∷ 182
-    ∷ 183 ∷ 185 ∷ 187
-    ∷ 188 ∷ 189 ∷ 190 ∷ 191 ∷ 192 ∷ 193 ∷ 194 ∷ 195
-    ∷ 197 ∷ 198
-    ∷ 206 ∷ 211 ∷ 215 ∷ 221 ∷ 226 ∷ 232 ∷ 235 ∷ 238 ∷ 242 ∷ 245 ∷ 249 ∷ 253 ∷ 258 ∷ 265 ∷ 272 ∷ 277 ∷ 283
-    ∷ 291 ∷ 64 ∷ 301 ∷ 32 ∷ 310 ∷ 128 ∷ 316 ∷ 1024 ∷ 318 ∷ 1024 ∷ 397 ∷ 5 ∷ 402 ∷ 27 ∷ 429 ∷ 5 ∷ 434 ∷ 4 ∷ 438 ∷ 3 ∷ 441 ∷ 8 ∷ 449 ∷ 2 ∷ 321 ∷ 0 ∷ 323 ∷ 0 ∷ 327 ∷ 0 ∷ 451 ∷ 17
-    ∷ 329 ∷ 331 ∷ 336 ∷ 342 ∷ 349 ∷ 361 ∷ 363 ∷ 373 ∷ 390 ∷ 394
+-- ---- rows
+-- one behind the other, each ended by 0
+unfoldable pub laid : List Row → List ℕ
+laid [] = []
+laid (r ∷ rs) = r ++ (0 ∷ laid rs)
+
+-- where each of them starts, the first at `at`
+unfoldable pub starts : ℕ → List Row → List ℕ
+starts at [] = []
+starts at (r ∷ rs) = at ∷ starts (suc (at + length r)) rs
+
+-- what a symbol's word does: it repeats a row, up to a limit where there is one, or chooses a row of a group
+pub data Symbol : Type 0 where
+  repeats : Row → ℕ → Symbol
+  chooses : List Row → Symbol
+
+-- those from MEMBERS on
+unfoldable pub symbols : List Symbol
+symbols =
+    repeats (counted MEMBERS) (limit MEMBERS)
+    ∷ repeats (counted ARGUMENTS) (limit ARGUMENTS)
+    ∷ repeats (counted LOCALS) (limit LOCALS)
+    ∷ repeats (counted EXPRESSIONS) (limit EXPRESSIONS)
+    ∷ repeats (counted NAMED) (limit NAMED)
+    ∷ chooses types
+    ∷ chooses expressions
+    ∷ chooses levels
+    ∷ chooses queries
+    ∷ chooses values
+    ∷ chooses atomics
+    ∷ chooses results
+    ∷ repeats (LENGTH ∷ []) 0
+    ∷ repeats caseRow 0
+    ∷ repeats (STMT-KIND ∷ []) 0
+    ∷ chooses statementRows
     ∷ []
 
+-- the rows that codes choose, and those that are repeated
+unfoldable pub coded : List Symbol → List Row
+coded [] = []
+coded (repeats r m ∷ ss) = coded ss
+coded (chooses g ∷ ss) = g ++ coded ss
+
+unfoldable pub listed : List Symbol → List Row
+listed [] = []
+listed (repeats r m ∷ ss) = r ∷ listed ss
+listed (chooses g ∷ ss) = listed ss
+
+-- the records of the tables, and those of the special types
+unfoldable pub records : List Row
+records = tableRows ++ raysRow ∷ pairRow ∷ []
+
+unfoldable pub allRows : List Row
+allRows = coded symbols ++ (listed symbols ++ records)
+
+-- ---- places: where rows end, where the symbols' pairs stand, and where the records' starts stand
+unfoldable pub ROWS : ℕ
+ROWS = length (laid allRows)
+
+unfoldable pub SYMBOLS : ℕ
+SYMBOLS = ROWS + length (coded symbols)
+
+unfoldable pub RECORDS : ℕ
+RECORDS = SYMBOLS + 2 * length symbols
+
+-- ---- the numbers
+-- a pair for each symbol: its row, the next of which is at `at`, and its limit; or where its group starts, the next of which is at `from`, and how many it has
+unfoldable pub pairs : ℕ → ℕ → List Symbol → List ℕ
+pairs at from [] = []
+pairs at from (repeats r m ∷ ss) = at ∷ m ∷ pairs (suc (at + length r)) from ss
+pairs at from (chooses g ∷ ss) = from ∷ length g ∷ pairs at (from + length g) ss
+
+unfoldable pub numbers : List ℕ
+numbers = laid allRows ++ (starts 0 (coded symbols) ++ (pairs (length (laid (coded symbols))) ROWS symbols ++ starts (length (laid (coded symbols ++ listed symbols))) records))
+
+-- how many they are; who unfolds SIZE computes with the numbers and all that they are made of
+unfoldable pub SIZE : ℕ
+unfolding numbers laid starts pairs coded listed symbols records allRows ROWS SYMBOLS RECORDS limit counted types expressions levels queries values atomics results statements rowOf rowAs statementRows nameRow typeRow constantRow overrideRow globalRow expressionRow functionHead entryHead functionRow entryRow tableRows
+SIZE = length numbers
+
+-- the row of a statement's kind, which its length brings, and those of the special types
+unfoldable pub KIND-ROW : ℕ
+KIND-ROW = getD numbers (SYMBOLS + 2 * (LENGTH - MEMBERS)) 0
+
+unfoldable pub RAYS-ROW : ℕ
+RAYS-ROW = getD numbers (RECORDS + 8) 0
+
+unfoldable pub PAIR-ROW : ℕ
+PAIR-ROW = getD numbers (RECORDS + 9) 0
+
+-- ---- rows by their place
 unfoldable pub row : List ℕ → Row
 row [] = []
 row (zero ∷ ns) = []
@@ -119,9 +109,6 @@ row (suc s ∷ ns) = suc s ∷ row ns
 -- the row that starts at pc
 unfoldable pub rowAt : ℕ → Row
 rowAt pc = row (drop pc numbers)
-
-abbrev pub ROWS : ℕ
-ROWS = 397
 
 abbrev pub MoreIs : ℕ → ℕ → More → Type 0
 MoreIs s w (Rows pc n) = (pc < ROWS) × (bringsOf s w ≡ rows n (rowAt pc))

@@ -9,6 +9,8 @@ ghost use Prim.Native.Nat.{_≤_};
 ghost use lib.ListN.{length, take};
 ghost use Rattle.image.specs.Layout.{Lays, Laying};
 
+const HEADER: u32 = views::HEADER as u32;
+
 // What the bytes of an image are: laid out whole, with so many words; refused 1; refused 2; or with a kind or a code that is none of the listed,
 // which is refused 3 later.
 pub enum Layout {
@@ -26,7 +28,7 @@ fn lay(words: &[u32], tags: &mut [u8; 16384], total: usize) -> Layout
     ensures { λ r. ⌜ Laying r (now (tags .exit)) (now (tags .entry)) (take total (now (words .entry))) ⌝ }
 {
     let table = TABLE;
-    record::fill(tags, 0, total, 104, 20);
+    record::fill(tags, 0, total, classes::PLACE, HEADER);
     if !section::placed(words, total) {
         return Layout::Misfit;
     }

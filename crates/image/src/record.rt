@@ -10,8 +10,25 @@ ghost use lib.ListN.{length};
 ghost use lib.Seq.{slice};
 ghost use Rattle.model.specs.Table.{run};
 ghost use Rattle.image.specs.Parts.{readB, statementOf, piece, pieces, times as timesOf, opening};
-ghost use Rattle.image.specs.Rows.{numbers, rowAt, MoreIs};
+ghost use Rattle.image.specs.Rows.{ROWS, numbers, rowAt, MoreIs};
 ghost use Rattle.image.specs.Walks.{Walks, Fills};
+
+// Classes as the table has them.
+const MEMBERS: usize = classes::MEMBERS as usize;
+
+const PAD: u16 = classes::PAD as u16;
+
+const TEXT: u16 = classes::TEXT as u16;
+
+const OPERANDS: u16 = classes::OPERANDS as u16;
+
+const TYPE_KIND: u16 = classes::TYPE_KIND as u16;
+
+const BLOCK: u16 = classes::BLOCK as u16;
+
+const CASES: u16 = classes::CASES as u16;
+
+const LENGTH: u16 = classes::LENGTH as u16;
 
 pub enum Walked {
     Next(usize),
@@ -79,12 +96,12 @@ fn pad(k: u32) -> u8
     ensures { λ r. ⌜ r ≡ 104 + k ⌝ }
 {
     if k == 1 {
-        return 105;
+        return classes::PAD;
     }
     if k == 2 {
-        return 106;
+        return classes::PAD + 1;
     }
-    107
+    classes::PAD + 2
 }
 
 // The last word of a name, of which k bytes are used: the others are zero.
@@ -117,10 +134,10 @@ fn text(words: &[u32], tags: &mut [u8; 16384], at: usize, end: usize) -> Walked
     if end <= at {
         return Walked::Misfit;
     }
-    tags[at] = 108;
+    tags[at] = classes::TEXT;
     let b = words[at];
     let k = b % 4;
-    let r = fill(tags, at + 1, end, 80, b / 4);
+    let r = fill(tags, at + 1, end, classes::WORD, b / 4);
     match r {
         Walked::Next(i) => {
             if k == 0 {
@@ -143,9 +160,9 @@ fn operands(words: &[u32], tags: &mut [u8; 16384], at: usize, end: usize) -> Wal
     if end <= at {
         return Walked::Misfit;
     }
-    tags[at] = 109;
+    tags[at] = classes::OPERANDS;
     let n = words[at];
-    fill(tags, at + 1, end, 93, n)
+    fill(tags, at + 1, end, classes::EXPR, n)
 }
 
 // What the word w of a list, a variant, a block, cases or a statement's kind brings.
@@ -155,20 +172,20 @@ fn brings(table: &[u16], s: u16, w: u32) -> More
     requires { ⌜ (s ≡ 124 → ⊥) ⌝ }
     ensures { λ r. ⌜ MoreIs s w r ⌝ }
 {
-    let k = SYMBOLS + 2 * (place(s) - 110);
+    let k = SYMBOLS + 2 * (place(s) - MEMBERS);
     let from = place(table[k]);
     let most = place(table[k + 1]);
     let n = wide(w);
-    if s < 115 {
+    if s < TYPE_KIND {
         if most < n {
             return More::Over;
         }
         return More::Rows(from, w);
     }
-    if s == 122 {
+    if s == BLOCK {
         return More::Rows(from, w);
     }
-    if s == 123 {
+    if s == CASES {
         return More::Rows(from, w);
     }
     if most <= n {
@@ -227,7 +244,7 @@ fn stmt(
     if end <= at {
         return Walked::Misfit;
     }
-    tags[at] = 124;
+    tags[at] = classes::LENGTH;
     let n = wide(words[at]);
     let r = row(words, tags, table, at + 1, end, KIND_ROW, left);
     match r {
@@ -259,16 +276,16 @@ fn part(
     requires { ⌜ (108 ≤ s) × (s < 126) ⌝ }
     ensures { λ r. ⌜ Walks r (now (tags .exit)) (now (tags .entry)) at end (piece left s (slice at end (now (words .entry)))) ⌝ }
 {
-    if s == 108 {
+    if s == TEXT {
         return text(words, tags, at, end);
     }
-    if s == 109 {
+    if s == OPERANDS {
         return operands(words, tags, at, end);
     }
-    if s == 124 {
+    if s == LENGTH {
         return stmt(words, tags, table, at, end, left);
     }
-    if s == 122 {
+    if s == BLOCK {
         if left == 0 {
             return Walked::Misfit;
         }
@@ -291,7 +308,7 @@ pub fn row(
     requires { ⌜ end ≤ length (now words) ⌝ }
     requires { ⌜ end ≤ 16384 ⌝ }
     requires { ⌜ now table ≡ numbers ⌝ }
-    requires { ⌜ pc < 397 ⌝ }
+    requires { ⌜ pc < ROWS ⌝ }
     ensures { λ r. ⌜ Walks r (now (tags .exit)) (now (tags .entry)) at end (pieces left (rowAt pc) (slice at end (now (words .entry)))) ⌝ }
 {
     let mut i = at;
@@ -302,7 +319,7 @@ pub fn row(
             return Walked::Next(i);
         }
         p += 1;
-        if s < 105 {
+        if s < PAD {
             if end <= i {
                 return Walked::Misfit;
             }
@@ -341,7 +358,7 @@ pub fn times(
     requires { ⌜ end ≤ length (now words) ⌝ }
     requires { ⌜ end ≤ 16384 ⌝ }
     requires { ⌜ now table ≡ numbers ⌝ }
-    requires { ⌜ pc < 397 ⌝ }
+    requires { ⌜ pc < ROWS ⌝ }
     ensures { λ r. ⌜ Walks r (now (tags .exit)) (now (tags .entry)) at end (timesOf count (pieces left (rowAt pc)) (slice at end (now (words .entry)))) ⌝ }
 {
     let mut n = count;

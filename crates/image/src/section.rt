@@ -7,6 +7,10 @@ use crate::record::times;
 use crate::table::PAIR_ROW;
 use crate::table::RAYS_ROW;
 use crate::table::RECORDS;
+use views::COUNTS;
+use views::HEADER;
+use views::OFFSETS;
+use views::SPECIAL;
 use words::wide;
 ghost use mathlib.Core.Path.{_≡_};
 ghost use mathlib.Core.Bool.{true};
@@ -15,8 +19,15 @@ ghost use lib.ListN.{length, take, getD};
 ghost use lib.Seq.{slice};
 ghost use Rattle.model.specs.Module.{limits, placed as placedOf, endAt, next};
 ghost use Rattle.image.specs.Parts.{pieces};
-ghost use Rattle.image.specs.Rows.{numbers, rowAt};
+ghost use Rattle.image.specs.Rows.{ROWS, numbers, rowAt};
 ghost use Rattle.image.specs.Extents.{Covers, extent, tabled, special as specialOf, sectionsFrom, tableRows, recordsLeft};
+
+// Where the header has the offset of the section behind section k, from which 2 k words lead on; and what it says of the special types.
+const NEXT: usize = OFFSETS + 2;
+
+const SPECIAL_COUNT: usize = COUNTS + 2 * SPECIAL;
+
+const SPECIAL_OFFSET: usize = OFFSETS + 2 * SPECIAL;
 
 // What an extent holds: records that fill it, a misfit (refusal 2), or a code that is none of the listed (refusal 3).
 pub enum Held {
@@ -54,7 +65,7 @@ fn record(
     requires { ⌜ stop ≤ length (now words) ⌝ }
     requires { ⌜ stop ≤ 16384 ⌝ }
     requires { ⌜ now table ≡ numbers ⌝ }
-    requires { ⌜ pc < 397 ⌝ }
+    requires { ⌜ pc < ROWS ⌝ }
     ensures { λ r. ⌜ Covers r (now (tags .exit)) (now (tags .entry)) at (extent (pieces 32 (rowAt pc)) start at end stop (slice at stop (now (words .entry)))) ⌝ }
 {
     if start != at {
@@ -93,7 +104,7 @@ fn records(
     requires { ⌜ stop ≤ length (now words) ⌝ }
     requires { ⌜ stop ≤ 16384 ⌝ }
     requires { ⌜ now table ≡ numbers ⌝ }
-    requires { ⌜ pc < 397 ⌝ }
+    requires { ⌜ pc < ROWS ⌝ }
     ensures { λ r. ⌜ Covers r (now (tags .exit)) (now (tags .entry)) (base + n) (recordsLeft (pieces 32 (rowAt pc)) (now (words .entry)) base stop n 0 (base + n)) ⌝ }
 {
     let mut at = base + n;
@@ -139,10 +150,10 @@ fn section(
     requires { ⌜ stop ≤ length (now words) ⌝ }
     requires { ⌜ stop ≤ 16384 ⌝ }
     requires { ⌜ now table ≡ numbers ⌝ }
-    requires { ⌜ pc < 397 ⌝ }
+    requires { ⌜ pc < ROWS ⌝ }
     ensures { λ r. ⌜ Covers r (now (tags .exit)) (now (tags .entry)) base (tabled (rowAt pc) count (slice base stop (now (words .entry)))) ⌝ }
 {
-    let r = fill(tags, base, stop, 104, count);
+    let r = fill(tags, base, stop, classes::PLACE, count);
     match r {
         Walked::Next(_) => records(words, tags, table, base, stop, wide(count), pc),
         Walked::Misfit => Held::Bad,
@@ -210,7 +221,7 @@ fn end_at(words: &[u32], total: usize, k: usize) -> usize
     if k == 8 {
         return total;
     }
-    wide(words[5 + 2 * k])
+    wide(words[NEXT + 2 * k])
 }
 
 // Do the sections follow one another from word 20 to the end, each with no more records than it may have?
@@ -220,18 +231,18 @@ pub fn placed(words: &[u32], total: usize) -> bool
     requires { ⌜ total ≤ 16384 ⌝ }
     ensures { λ r. ⌜ r ≡ placedOf limits 0 20 (take total (now (words .entry))) ⌝ }
 {
-    let mut at: usize = 20;
+    let mut at: usize = HEADER;
     let mut k = 0;
     while k < 9 {
         let j = k;
         k += 1;
         let from = at;
-        let start = wide(words[3 + 2 * j]);
+        let start = wide(words[OFFSETS + 2 * j]);
         at = end_at(words, total, j);
         if start != from {
             return false;
         }
-        if limit(j) < words[2 + 2 * j] {
+        if limit(j) < words[COUNTS + 2 * j] {
             return false;
         }
         if at < from {
@@ -258,10 +269,10 @@ pub fn sections(words: &[u32], tags: &mut [u8; 16384], table: &[u16], total: usi
     while k < 8 {
         let j = k;
         k += 1;
-        let base = wide(words[3 + 2 * j]);
-        let stop = wide(words[5 + 2 * j]);
+        let base = wide(words[OFFSETS + 2 * j]);
+        let stop = wide(words[NEXT + 2 * j]);
         let pc = place(table[RECORDS + j]);
-        let r = section(words, tags, table, base, stop, words[2 + 2 * j], pc);
+        let r = section(words, tags, table, base, stop, words[COUNTS + 2 * j], pc);
         match r {
             Held::Fits => {}
             Held::Strange => {
@@ -272,7 +283,14 @@ pub fn sections(words: &[u32], tags: &mut [u8; 16384], table: &[u16], total: usi
             }
         }
     }
-    let r = special(words, tags, table, wide(words[19]), total, words[18]);
+    let r = special(
+        words,
+        tags,
+        table,
+        wide(words[SPECIAL_OFFSET]),
+        total,
+        words[SPECIAL_COUNT],
+    );
     match r {
         Held::Fits => {
             if odd {

@@ -1,17 +1,13 @@
 // The field table as numbers: the rows of symbols, each ended by 0; where the rows of each group of codes start; for each symbol from
 // MEMBERS (110) on its row and limit, or its group and the number of codes; and the rows of the tables' records.
-// specs/Rows.antt has the same list, and proofs/Rows.antt proves that it is the model's table.
+// specs/Rows.antt computes the same numbers from the model's rows, and lay's proof compares them.
 
-// Where rows end and the groups' starts begin, where the symbols' pairs stand, and where the records' rows stand.
-pub const ROWS: usize = 397;
-
+// Where the symbols' pairs stand, and where the records' rows stand.
 pub const SYMBOLS: usize = 468;
 
 pub const RECORDS: usize = 500;
 
-// The rows of one statement and of its kind, and those of the special types.
-pub const STATEMENT_ROW: usize = 321;
-
+// The row of a statement's kind, and those of the special types.
 pub const KIND_ROW: usize = 327;
 
 pub const RAYS_ROW: usize = 390;

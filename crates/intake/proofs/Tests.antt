@@ -14,8 +14,8 @@ use Rattle.model.specs.Lower.{lower}
 use Rattle.model.specs.Names.{named, Numbered}
 use Rattle.model.specs.Scope.{inScope}
 use Rattle.model.specs.Intake.{tested, verdict, intakeOf, Passes}
-use Rattle.numbers.specs.Ranges.{Says}
-use Rattle.scope.specs.Functions.{Numbered as ScopeNumbered}
+use Rattle.numbers.specs.Passes.{Says}
+use Rattle.scope.specs.Functions.{InRange}
 use Rattle.image.specs.Layout.{Lays, size, misfit, unknown, shows, held, layoutOf}
 use Rattle.image.specs.declared.Layout.{Layout}
 use Rattle.image.specs.declared.Layout.the-variants.{Fits, Size as LaidSize, Misfit as LaidMisfit, Strange}
@@ -56,7 +56,7 @@ module _ (words tags : List ℕ) (n : ℕ) where
       pub numbers-right : (m : Module) → Taped words tags n m → numbered m ≡ true
       numbers-right = first
 
-      pub scope-ready : ScopeNumbered words tags n
+      pub scope-ready : InRange words tags n
       scope-ready = record { holds = first }
 
       module _ (b₄ : Bool) (t₄ : Of words tags n b₄ lower) where

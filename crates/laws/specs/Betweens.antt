@@ -1,7 +1,8 @@
 -- The cells between two places of words and tape: one by one, and where words and tape hold a module, those of its sections and records.
 use mathlib.Core.Path.{_≡_, refl, ap, ap₂, _∙_}
 use mathlib.Core.List.{List, [], _∷_, map}
-use Prim.Native.Nat.{ℕ, suc, _+_, _*_, _≤_, _<_}
+use Prim.Native.Nat.{ℕ, suc, _+_, _≤_, _<_}
+use native.Mathlib.Numerals.{add-one}
 use native.Mathlib.Omega.{arith}
 use lib.ListN.{length, getD, take, drop-of-length-le, length-take, length-append}
 use lib.Seq.{slice, slice-cons}
@@ -10,10 +11,10 @@ use Rattle.model.specs.Module.{Module, countAt, offsetAt, places, flatTable, fl
 use Rattle.model.specs.Tree.{flatAll}
 use Rattle.model.specs.View.{tables, recordAt, recordEnd}
 use Rattle.model.specs.Taped.{Taped}
-use Rattle.model.specs.Between.{beside, between, Stretch}
+use Rattle.model.specs.Between.{beside, between, Long, Stretch}
 use Rattle.laws.specs.Sections.{length-places}
 use Rattle.laws.specs.Views.{sectionOf, view-rising, view-within, view-section, view-next, view-table, view-records, sees-record, length-write}
-use Rattle.laws.specs.FunctionViews.{Part, part-end, part-words, part-tags, looked-at, taped-held, taped-count, taped-offset, taped-length, taped-part}
+use Rattle.laws.specs.FunctionViews.{Held, Part, part-end, part-words, part-tags, looked-at, taped-held, taped-count, taped-offset, taped-length, taped-part}
 
 pub beside-cells : (cs : Cells) → beside (map class cs) (map word cs) ≡ cs
 unfolding beside
@@ -31,10 +32,18 @@ pub between-next : (tags words : List ℕ) (i end : ℕ) → i < end → end ≤
 unfolding between beside
 between-next tags words i end h t w = rw (slice-cons i end tags 0 h t, slice-cons i end words 0 h w)
 
+-- of arrays, as code steps
+pub between-cons : (tags words : List ℕ) (i end : ℕ) → i < end → Long words tags → end ≤ 16384 → between tags words i end ≡ (getD tags i 0, getD words i 0) ∷ between tags words (i + 1) end
+between-cons tags words i end h long ok = rw (add-one i) (between-next tags words i end h (omega arith) (omega arith))
+
+-- the part that stands there
+pub held-between : {words tags : List ℕ} {cells cs : Cells} {p q : ℕ} → Held words tags cells → Part cells p q cs → between tags words p q ≡ cs
+unfolding between
+held-between {cs} o v = ap₂ beside (part-tags o v) (part-words o v) ∙ beside-cells cs
+
 module _ {words tags : List ℕ} {n : ℕ} {m : Module} (t : Taped words tags n m) where
   pub part-between : {p q : ℕ} {cs : Cells} → Part (flatModule m) p q cs → between tags words p q ≡ cs
-  unfolding between
-  part-between {cs} v = ap₂ beside (part-tags (taped-held t) v) (part-words (taped-held t) v) ∙ beside-cells cs
+  part-between v = held-between (taped-held t) v
 
   -- section k, up to where the next starts
   pub section-part : (k : ℕ) → k < 8 → Part (flatModule m) (offsetAt k words) (offsetAt (suc k) words) (sectionOf m k .1)
@@ -48,9 +57,8 @@ module _ {words tags : List ℕ} {n : ℕ} {m : Module} (t : Taped words tags n 
       let l : offsetAt (suc k) words ≤ n = omega (arith, v .within, taped-length t) in
       record { rising = v .rising; small = omega (arith, t .small); in-words = omega (arith, t .small, t .words-long); in-tags = omega (arith, t .small, t .tags-long) }
 
-  -- by the words of the header
-  pub header-stretch : (k a e : ℕ) → k < 8 → a ≡ getD words (3 + 2 * k) 0 → e ≡ getD words (3 + 2 * suc k) 0 → Stretch words tags a e
-  unfolding offsetAt
+  -- by what is read in the header
+  pub header-stretch : (k a e : ℕ) → k < 8 → a ≡ offsetAt k words → e ≡ offsetAt (suc k) words → Stretch words tags a e
   header-stretch k a e h p q = rw (p, q) (section-stretch k h)
 
   pub section-between : (k : ℕ) → k < 8 → between tags words (offsetAt k words) (offsetAt (suc k) words) ≡ sectionOf m k .1

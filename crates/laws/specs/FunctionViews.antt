@@ -349,10 +349,9 @@ lays-fields (lays-next {s} {w} {xs} {ss} e l) h =
 
 -- a record begins with its kind, and behind it are fields, laid out by the kind's row
 pub data Expression : Cells → Type 0 where
-  expression : {k : ℕ} {row : Row} {cs : Cells} → k < 27 → getElem? expressions k ≡ some row → Lays row cs → Each Field cs → Expression ((EXPR-KIND, k) ∷ cs)
+  expression : {k : ℕ} {row : Row} {cs : Cells} → k < length expressions → getElem? expressions k ≡ some row → Lays row cs → Each Field cs → Expression ((EXPR-KIND, k) ∷ cs)
 
-known : (k : ℕ) {r : Row} → getElem? expressions k ≡ some r → k < 27
-unfolding expressions
+known : (k : ℕ) {r : Row} → getElem? expressions k ≡ some r → k < length expressions
 known k a = looked-length expressions k a
 
 pub expression-shape : {r : Cells} → Lays (EXPR-KIND ∷ []) r → Expression r
@@ -369,7 +368,7 @@ pub expression-kind : {r : Cells} → Expression r → word (getD r 0 (0, 0)) �
 unfolding kind
 expression-kind (expression h e l q) = refl
 
-pub expression-known : {r : Cells} → Expression r → kind r < 27
+pub expression-known : {r : Cells} → Expression r → kind r < length expressions
 unfolding kind
 expression-known (expression h e l q) = h
 
@@ -604,7 +603,7 @@ module _ {ws ts : List ℕ} {cells : Cells} {s e : ℕ} {f : Function} (v : Stan
     unfolding kindAt
     expr-kind = let z : at + 0 ≡ at = omega arith in rw z at (part-word o (expr-part i h) 0 (expression-first expr-shape)) ∙ expression-kind expr-shape
 
-    pub expr-known : kindAt (f .exprs) i < 27
+    pub expr-known : kindAt (f .exprs) i < length expressions
     unfolding kindAt
     expr-known = expression-known expr-shape
 

@@ -2,14 +2,14 @@
 use mathlib.Core.Path.{_≡_, refl, sym, ap, _∙_}
 use mathlib.Core.Bool.{Bool, true, false, _&&_, not}
 use mathlib.Core.List.{List}
-use Prim.Native.Nat.{ℕ, suc, _+_, _*_, _≤_, _<_}
+use Prim.Native.Nat.{ℕ, suc, _+_, _≤_, _<_}
 use native.Mathlib.Numerals.{add-one}
 use native.Mathlib.Omega.{arith}
 use lib.Dec.{eqb, ltb}
 use lib.ListN.{getD}
 use borrow.Author.Tests.{eq-eqb, ne-eqb, le-leb, lt-leb, not-true, not-false}
 use Rattle.model.specs.Table.{TYPE, CONSTANT, OVERRIDE, EXPR, OPT-EXPR, NAMED, TYPE-KIND, EXPR-KIND}
-use Rattle.model.specs.Module.{countAt, offsetAt}
+use Rattle.model.specs.Module.{countAt}
 use Rattle.model.specs.View.{recordAt}
 use Rattle.model.specs.Between.{between, Stretch}
 use Rattle.laws.specs.Betweens.{between-none, between-next}
@@ -63,45 +63,31 @@ module _ (s w n : ℕ) where
   expr-passed z d e = rw (exprOk, ne-eqb n 0 z, ne-eqb s EXPR d, ne-eqb s OPT-EXPR e)
 
 -- ---- word d of record j of section k
-module _ (ws : List ℕ) (k j d b : ℕ) (reaches : Reaches ws k d) (h : j < countAt k ws) (is : b ≡ getD ws (3 + 2 * k) 0) where
-  pub offset-in : b + j < 16384
-  unfolding offsetAt
-  offset-in = rw is (reaches .offset j h)
+module _ (ws : List ℕ) (k j d a : ℕ) (is : a ≡ recordAt k j ws) where
+  pub word-in : Reaches ws k d → j < countAt k ws → a + d < 16384
+  word-in reaches h = rw is (reaches .reach j h)
 
-  module _ (a : ℕ) (at : a ≡ getD ws (b + j) 0) where
-    pub word-in : b + a + d < 16384
-    unfolding offsetAt recordAt
-    word-in = rw (at, is) (reaches .reach j h)
-
-    pub word-is : (r : ℕ) → r ≡ getD ws (b + a + d) 0 → r ≡ wordAt ws k j d
-    unfolding offsetAt recordAt wordAt
-    word-is r e = e ∙ rw (at, is)
+  pub word-is : (r : ℕ) → r ≡ getD ws (a + d) 0 → r ≡ wordAt ws k j d
+  unfolding wordAt
+  word-is r e = e ∙ rw is
 
 -- ---- inits; c is the number as the code has it, and m the table's count
-pub constant-inside : (ws : List ℕ) (c m : ℕ) → m ≡ getD ws 6 0 → c < m → c < countAt 2 ws
-unfolding countAt
-constant-inside ws c m i f = omega arith
-
-pub override-inside : (ws : List ℕ) (c m : ℕ) → m ≡ getD ws 8 0 → c < m → c < countAt 3 ws
-unfolding countAt
-override-inside ws c m i f = omega arith
-
 module _ (ws : List ℕ) (s w n c : ℕ) (number : c ≡ w) where
-  pub constant-none : (m : ℕ) → m ≡ getD ws 6 0 → s ≡ CONSTANT → m ≤ c → true ≡ initOk ws s w n
-  unfolding initOk countAt
-  constant-none m i e f = rw (initOk, eq-eqb s CONSTANT e, le-leb (getD ws 6 0) w (omega arith))
+  pub constant-none : (m : ℕ) → m ≡ countAt 2 ws → s ≡ CONSTANT → m ≤ c → true ≡ initOk ws s w n
+  unfolding initOk
+  constant-none m i e f = rw (initOk, eq-eqb s CONSTANT e, le-leb (countAt 2 ws) w (omega arith))
 
-  pub constant-tested : (m r : ℕ) → m ≡ getD ws 6 0 → s ≡ CONSTANT → c < m → r ≡ wordAt ws 2 c 4 → ltb (r + 1) n ≡ initOk ws s w n
-  unfolding initOk countAt
-  constant-tested m r i e f g = rw (initOk, eq-eqb s CONSTANT e, lt-leb (getD ws 6 0) w (omega arith), add-one, g, number)
+  pub constant-tested : (m r : ℕ) → m ≡ countAt 2 ws → s ≡ CONSTANT → c < m → r ≡ wordAt ws 2 c 4 → ltb (r + 1) n ≡ initOk ws s w n
+  unfolding initOk
+  constant-tested m r i e f g = rw (initOk, eq-eqb s CONSTANT e, lt-leb (countAt 2 ws) w (omega arith), add-one, g, number)
 
-  pub override-none : (m : ℕ) → m ≡ getD ws 8 0 → (s ≡ CONSTANT → ⊥) → s ≡ OVERRIDE → m ≤ c → true ≡ initOk ws s w n
-  unfolding initOk countAt
-  override-none m i d e f = rw (initOk, ne-eqb s CONSTANT d, eq-eqb s OVERRIDE e, le-leb (getD ws 8 0) w (omega arith))
+  pub override-none : (m : ℕ) → m ≡ countAt 3 ws → (s ≡ CONSTANT → ⊥) → s ≡ OVERRIDE → m ≤ c → true ≡ initOk ws s w n
+  unfolding initOk
+  override-none m i d e f = rw (initOk, ne-eqb s CONSTANT d, eq-eqb s OVERRIDE e, le-leb (countAt 3 ws) w (omega arith))
 
-  pub override-tested : (m r : ℕ) → m ≡ getD ws 8 0 → (s ≡ CONSTANT → ⊥) → s ≡ OVERRIDE → c < m → r ≡ wordAt ws 3 c 5 → ltb r n ≡ initOk ws s w n
-  unfolding initOk countAt
-  override-tested m r i d e f g = rw (initOk, ne-eqb s CONSTANT d, eq-eqb s OVERRIDE e, lt-leb (getD ws 8 0) w (omega arith), g, number)
+  pub override-tested : (m r : ℕ) → m ≡ countAt 3 ws → (s ≡ CONSTANT → ⊥) → s ≡ OVERRIDE → c < m → r ≡ wordAt ws 3 c 5 → ltb r n ≡ initOk ws s w n
+  unfolding initOk
+  override-tested m r i d e f g = rw (initOk, ne-eqb s CONSTANT d, eq-eqb s OVERRIDE e, lt-leb (countAt 3 ws) w (omega arith), g, number)
 
   pub init-passed : (s ≡ CONSTANT → ⊥) → (s ≡ OVERRIDE → ⊥) → true ≡ initOk ws s w n
   unfolding initOk

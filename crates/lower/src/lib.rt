@@ -1,8 +1,25 @@
 // Refusal 4 of document 01: a base, a member, an operand or an init that is not lower than what names it. Flat passes over the words and the
 // tape, linear in the words. `count` is how many records have begun, so the record that is being read has the number count - 1.
+use classes::CONSTANT;
+use classes::EXPR;
+use classes::EXPR_KIND;
+use classes::NAMED;
+use classes::OPT_EXPR;
+use classes::OVERRIDE;
+use classes::TYPE;
+use classes::TYPE_KIND;
+use views::CONSTANTS;
+use views::ENTRIES;
+use views::EXPRESSIONS;
+use views::FUNCTIONS;
+use views::OVERRIDES;
+use views::SPECIAL;
+use views::TYPES;
+use views::offset;
+use views::start_of;
 use words::wide;
 ghost use mathlib.Core.Path.{_≡_};
-ghost use Prim.Native.Nat.{_+_, _*_, _^_, _<_};
+ghost use Prim.Native.Nat.{_+_, _^_, _<_};
 ghost use Rattle.model.specs.Module.{Module, countAt};
 ghost use Rattle.model.specs.Taped.{Tape, Taped};
 ghost use Rattle.model.specs.Between.{between, Stretch};
@@ -14,7 +31,7 @@ fn type_next(s: u8, count: usize) -> usize
     requires { ⌜ count < 16384 ⌝ }
     ensures { λ r. ⌜ r ≡ typeNext s count ⌝ }
 {
-    if s == 115 {
+    if s == TYPE_KIND {
         return count + 1;
     }
     count
@@ -24,7 +41,7 @@ fn type_next(s: u8, count: usize) -> usize
 fn type_ok(s: u8, w: u32, count: usize) -> bool
     ensures { λ r. ⌜ r ≡ typeOk s w count ⌝ }
 {
-    if s == 84 {
+    if s == TYPE {
         return wide(w) + 1 < count;
     }
     true
@@ -35,10 +52,10 @@ fn expr_next(s: u8, count: usize) -> usize
     requires { ⌜ count < 16384 ⌝ }
     ensures { λ r. ⌜ r ≡ exprNext s count ⌝ }
 {
-    if s == 116 {
+    if s == EXPR_KIND {
         return count + 1;
     }
-    if s == 114 {
+    if s == NAMED {
         return 0;
     }
     count
@@ -51,10 +68,10 @@ fn expr_ok(s: u8, w: u32, count: usize) -> bool
     if count == 0 {
         return true;
     }
-    if s == 93 {
+    if s == EXPR {
         return wide(w) + 1 < count;
     }
-    if s == 94 {
+    if s == OPT_EXPR {
         return wide(w) < count;
     }
     true
@@ -66,8 +83,7 @@ fn word_at(words: &[u32; 16384], k: usize, j: usize, d: usize) -> usize
     requires { ⌜ Reaches (now words) k d ⌝ }
     ensures { λ r. ⌜ (r ≡ wordAt (now (words .entry)) k j d) × (r < 2 ^ 32) ⌝ }
 {
-    let base = wide(words[3 + 2 * k]);
-    let at = base + wide(words[base + j]);
+    let at = start_of(words, k, j);
     wide(words[at + d])
 }
 
@@ -77,17 +93,17 @@ fn init_ok(words: &[u32; 16384], s: u8, w: u32, count: usize) -> bool
     ensures { λ r. ⌜ r ≡ initOk (now (words .entry)) s w count ⌝ }
 {
     let j = wide(w);
-    if s == 86 {
-        if wide(words[6]) <= j {
+    if s == CONSTANT {
+        if views::count(words, CONSTANTS) <= j {
             return true;
         }
-        return word_at(words, 2, j, 4) + 1 < count;
+        return word_at(words, CONSTANTS, j, 4) + 1 < count;
     }
-    if s == 87 {
-        if wide(words[8]) <= j {
+    if s == OVERRIDE {
+        if views::count(words, OVERRIDES) <= j {
             return true;
         }
-        return word_at(words, 3, j, 5) < count;
+        return word_at(words, OVERRIDES, j, 5) < count;
     }
     true
 }
@@ -152,10 +168,10 @@ pub fn lower(words: &[u32; 16384], tags: &[u8; 16384], n: usize) -> bool
     requires { ⌜ Tape (now words) (now tags) n ⌝ }
     ensures { λ r. ⌜ ((m : Module) → Taped (now (words .entry)) (now (tags .entry)) n m → r ≡ lowerOf m) ⌝ }
 {
-    let exprs = wide(words[13]);
-    let functions = wide(words[15]);
-    let entries = wide(words[17]);
-    if !types(words, tags, wide(words[5]), wide(words[7])) {
+    let exprs = offset(words, EXPRESSIONS);
+    let functions = offset(words, FUNCTIONS);
+    let entries = offset(words, ENTRIES);
+    if !types(words, tags, offset(words, TYPES), offset(words, CONSTANTS)) {
         return false;
     }
     if !operands(words, tags, exprs, functions) {
@@ -167,5 +183,5 @@ pub fn lower(words: &[u32; 16384], tags: &[u8; 16384], n: usize) -> bool
     if !operands(words, tags, functions, entries) {
         return false;
     }
-    operands(words, tags, entries, wide(words[19]))
+    operands(words, tags, entries, offset(words, SPECIAL))
 }

@@ -5,9 +5,9 @@ use mathlib.Core.List.{List, [], _∷_}
 use mathlib.Core.Option.{Option, none, some}
 use Prim.Native.Nat.{ℕ, zero, suc}
 use lib.Dec.{eqb, leb}
-use lib.ListN.{getD}
+use lib.ListN.{length, getD}
 use Rattle.model.specs.Outcome.{Cells, class, word}
-use Rattle.model.specs.Table.{FUNCTION, EXPR, OPT-EXPR, RESULT, OPT-RESULT, EXPR-KIND}
+use Rattle.model.specs.Table.{FUNCTION, EXPR, OPT-EXPR, RESULT, OPT-RESULT, EXPR-KIND, expressions}
 use Rattle.model.specs.Tree.{optOf}
 
 -- ---- operands
@@ -36,9 +36,9 @@ functionOf [] = none
 functionOf (c ∷ cs) = elim (eqb (class c) FUNCTION) [ true ↦ some (word c) | false ↦ functionOf cs ]
 
 -- ---- kinds
--- a record begins with its kind, "kinds 0 to 26"; what is no record has none of them
+-- a record begins with its kind, "kinds 0 to 26", as many as the field table has rows; what is no record has none of them
 abbrev pub NO-KIND : ℕ
-NO-KIND = 27
+NO-KIND = length expressions
 
 unfoldable pub kind : Cells → ℕ
 kind [] = NO-KIND

@@ -5,12 +5,12 @@ use mathlib.Core.List.{List, [], _∷_}
 use Prim.Native.Nat.{ℕ, suc, _+_, _-_, _*_, _≤_, _<_}
 use native.Mathlib.Numerals.{add-one}
 use native.Mathlib.Omega.{arith}
-use lib.Dec.{eqb, ltb}
+use lib.Dec.{eqb}
 use lib.ListN.{length, getD, set, length-set, length-replicate}
 use lib.Seq.{slice, slice-cons, length-slice}
-use borrow.Author.Tests.{eq-eqb, ne-eqb, ltb-true, ltb-false}
+use borrow.Author.Tests.{eq-eqb, ne-eqb}
 use Rattle.model.specs.Table.{NAME, NAMED-EXPR, NAMED}
-use Rattle.model.specs.Module.{countAt, offsetAt, endAt}
+use Rattle.model.specs.Module.{countAt, offsetAt}
 use Rattle.model.specs.View.{recordAt, recordEnd}
 use Rattle.model.specs.Between.{between, Stretch}
 use Rattle.model.specs.Carry.{Each, each-next}
@@ -19,29 +19,14 @@ use Rattle.laws.specs.Betweens.{between-none, between-next, slice-none}
 use Rattle.names.specs.Passes.{listing, placeOf, numberAt, Placed, nameAt, Spelled, unnamed, NONE, marking, Small}
 
 -- ---- places
-module _ (ws : List ℕ) (k j b : ℕ) (p : Placed ws k) (h : j < countAt k ws) (is : b ≡ getD ws (3 + 2 * k) 0) where
-  pair-is : k ≡ 8 → b + 3 + 2 * j ≡ placeOf ws k j
-  unfolding placeOf offsetAt
-  pair-is e = rw (placeOf, eq-eqb k 8 e, is, e)
+module _ (ws : List ℕ) (k j r : ℕ) (p : Placed ws k) (h : j < countAt k ws) where
+  pub pair-placed : k ≡ 8 → r ≡ offsetAt 8 ws + 3 + 2 * j → (r ≡ placeOf ws k j) × (r < 16384)
+  unfolding placeOf
+  pair-placed e is = let q : r ≡ placeOf ws k j = rw (placeOf, eq-eqb k 8 e) is in (q, omega (arith, p .place j h))
 
-  pub pair-placed : k ≡ 8 → (b + 3 + 2 * j ≡ placeOf ws k j) × (b + 3 + 2 * j < 16384)
-  pair-placed e = let q = pair-is e in (q, omega (arith, p .place j h))
-
-  module _ (other : k ≡ 8 → ⊥) where
-    pub offset-in : b + j < 16384
-    unfolding offsetAt
-    offset-in = rw is (p .offset j h other)
-
-    record-is : (a : ℕ) → a ≡ getD ws (b + j) 0 → b + a ≡ placeOf ws k j
-    unfolding placeOf offsetAt recordAt
-    record-is a e = rw (placeOf, ne-eqb k 8 other, e, is)
-
-    pub record-placed : (a : ℕ) → a ≡ getD ws (b + j) 0 → (b + a ≡ placeOf ws k j) × (b + a < 16384)
-    record-placed a e = let q = record-is a e in (q, omega (arith, p .place j h))
-
-pub count-is : (ws : List ℕ) (k r : ℕ) → r ≡ getD ws (2 + 2 * k) 0 → r ≡ countAt k ws
-unfolding countAt
-count-is ws k r e = e
+  pub record-placed : (k ≡ 8 → ⊥) → r ≡ recordAt k j ws → (r ≡ placeOf ws k j) × (r < 16384)
+  unfolding placeOf
+  record-placed other is = let q : r ≡ placeOf ws k j = rw (placeOf, ne-eqb k 8 other) is in (q, omega (arith, p .place j h))
 
 pub number-is : (ws : List ℕ) (k j a r : ℕ) → a ≡ placeOf ws k j → r ≡ getD ws a 0 → r ≡ numberAt ws k j
 unfolding numberAt
@@ -105,23 +90,9 @@ module _ (ws : List ℕ) (k n i y : ℕ) (whole : Bool) (o : Over (λ l. absent 
   absent-next e = over-on (λ l. absent l y) (numberAt ws k) whole n i o h (rw (absent, ne-eqb y (numberAt ws k i) λ z. e (z ∙ sym is)))
 
 -- ---- names
-pub next-in : (j q : ℕ) → j < q → (j + 1 ≡ q → ⊥) → j + 1 < q
-next-in j q h e = go (ltb (j + 1) q) refl
-  where
-    go : (b : Bool) → ltb (j + 1) q ≡ b → j + 1 < q
-    go true t = ltb-true (j + 1) q t
-    go false t = let l = ltb-false (j + 1) q t in let z : j + 1 ≡ q = omega arith in absurd (e z)
-
-module _ (ws : List ℕ) (j q r : ℕ) (count : q ≡ countAt 0 ws) where
-  pub end-last : j + 1 ≡ q → r ≡ getD ws 5 0 → r ≡ recordEnd 0 j ws
-  unfolding recordEnd endAt offsetAt
-  end-last e f = let z : suc j ≡ countAt 0 ws = omega arith in rw (recordEnd, eq-eqb (suc j) (countAt 0 ws) z) f
-
-  pub end-next : (j + 1 ≡ q → ⊥) → r ≡ placeOf ws 0 (j + 1) → r ≡ recordEnd 0 j ws
-  unfolding recordEnd placeOf
-  end-next e f =
-      let d : suc j ≡ countAt 0 ws → ⊥ = λ z. let y : j + 1 ≡ q = omega arith in e y in
-      rw (recordEnd, ne-eqb (suc j) (countAt 0 ws) d) (f ∙ ap (λ i. recordAt 0 i ws) (add-one j))
+-- their offsets are words
+pub names-inside : {ws : List ℕ} → Spelled ws → {j : ℕ} → j < countAt 0 ws → offsetAt 0 ws + countAt 0 ws ≤ 16384
+names-inside {ws} s h = omega (arith, s .placed .offset (countAt 0 ws - 1) (omega arith) (λ e. omega arith))
 
 -- words one by one
 pub record Both (ws : List ℕ) (a b n i : ℕ) (whole : Bool) : Type 0 where

@@ -3,27 +3,30 @@
 // to the first: each leaves a mark by its hash, and only one whose mark may be there already is compared with all later ones, which is one or two of
 // 512 names whose hashes fall as if by chance. Names or keys that are made to leave their marks at one place are still compared by pairs. The worst
 // case is 512 names of equal length and one place that differ in their last words: 130,816 pairs of 30 words, about 2 ms.
+use classes::NAME;
+use classes::NAMED;
+use classes::NAMED_EXPR;
+use views::ENTRIES;
+use views::FUNCTIONS;
+use views::NAMES;
+use views::SPECIAL;
+use views::count;
+use views::end_of;
+use views::offset;
+use views::pair_at;
+use views::start_of;
 use words::wide;
 ghost use mathlib.Core.Path.{_≡_};
 ghost use Prim.Native.Nat.{_+_, _-_, _*_, _^_, _≤_, _<_};
 ghost use lib.ListN.{length};
 ghost use lib.Seq.{slice};
 ghost use Rattle.model.specs.Module.{Module, countAt};
-ghost use Rattle.model.specs.View.{recordEnd};
 ghost use Rattle.model.specs.Taped.{Taped};
 ghost use Rattle.model.specs.Between.{between, Stretch};
 ghost use Rattle.model.specs.Carry.{Each};
 ghost use Rattle.model.specs.Names.{present as presentOf, absent as absentOf, distinct as distinctOf, same as sameOf, unlike as unlikeOf, differ as differOf, named as namedOf, Numbered};
 ghost use Rattle.names.specs.Passes.{listing, placeOf, numberAt, Placed, nameAt, Spelled, unnamed as unnamedOf, NONE, marking, Small};
 ghost use Rattle.names.specs.Places.{mix as mixOf, hash as hashOf, itself, print as printOf, Leaves, Seen, New};
-
-// How many records section k has.
-fn count(words: &[u32; 16384], k: usize) -> usize
-    requires { ⌜ k < 9 ⌝ }
-    ensures { λ r. ⌜ (r ≡ countAt k (now (words .entry))) × (r < 2 ^ 32) ⌝ }
-{
-    wide(words[2 + 2 * k])
-}
 
 // Where record j of section k starts, or pair j of the special types.
 fn place(words: &[u32; 16384], k: usize, j: usize) -> usize
@@ -32,11 +35,10 @@ fn place(words: &[u32; 16384], k: usize, j: usize) -> usize
     requires { ⌜ j < 2 ^ 32 ⌝ }
     ensures { λ r. ⌜ (r ≡ placeOf (now (words .entry)) k j) × (r < 16384) ⌝ }
 {
-    let base = wide(words[3 + 2 * k]);
-    if k == 8 {
-        return base + 3 + 2 * j;
+    if k == SPECIAL {
+        return pair_at(words, j);
     }
-    base + wide(words[base + j])
+    start_of(words, k, j)
 }
 
 // The name of a function or an entry point, or the key of a pair.
@@ -145,20 +147,6 @@ fn distinct(words: &[u32; 16384], k: usize) -> bool
     true
 }
 
-// Where name j ends.
-fn end(words: &[u32; 16384], j: usize) -> usize
-    requires { ⌜ Spelled (now words) ⌝ }
-    requires { ⌜ j < countAt 0 (now words) ⌝ }
-    requires { ⌜ j < 2 ^ 32 ⌝ }
-    ensures { λ r. ⌜ r ≡ recordEnd 0 j (now (words .entry)) ⌝ }
-{
-    let next = j + 1;
-    if next == count(words, 0) {
-        return wide(words[5]);
-    }
-    place(words, 0, next)
-}
-
 // Whether the n words from a and the n words from b are equal.
 fn same(words: &[u32; 16384], a: usize, b: usize, n: usize) -> bool
     requires { ⌜ length (now words) ≡ 16384 ⌝ }
@@ -184,8 +172,8 @@ fn is_name(words: &[u32; 16384], a: usize, n: usize, j: usize) -> bool
     requires { ⌜ j < 2 ^ 32 ⌝ }
     ensures { λ r. ⌜ r ≡ sameOf (slice a (a + n) (now (words .entry))) (nameAt (now (words .entry)) j) ⌝ }
 {
-    let b = place(words, 0, j);
-    let e = end(words, j);
+    let b = place(words, NAMES, j);
+    let e = end_of(words, NAMES, j);
     if e - b != n {
         return false;
     }
@@ -199,7 +187,7 @@ fn unlike(words: &[u32; 16384], from: usize, a: usize, n: usize) -> bool
     requires { ⌜ from ≤ countAt 0 (now words) ⌝ }
     ensures { λ r. ⌜ r ≡ unlikeOf (listing (nameAt (now (words .entry))) (countAt 0 (now (words .entry)) - from) from) (slice a (a + n) (now (words .entry))) ⌝ }
 {
-    let most = count(words, 0);
+    let most = count(words, NAMES);
     let mut i = from;
     while i < most {
         let j = i;
@@ -243,8 +231,8 @@ fn new_name(words: &[u32; 16384], seen: &mut [u8], j: usize) -> bool
     requires { ⌜ Seen hashOf 4096 (nameAt (now words)) (countAt 0 (now words)) (j + 1) (now seen) ⌝ }
     ensures { λ r. ⌜ New unlikeOf hashOf 4096 (nameAt (now (words .entry))) (countAt 0 (now (words .entry))) j (now (seen .exit)) r ⌝ }
 {
-    let a = place(words, 0, j);
-    let e = end(words, j);
+    let a = place(words, NAMES, j);
+    let e = end_of(words, NAMES, j);
     let n = e - a;
     let h = hash(words, a, n);
     if mark(seen, h % 4096, h) {
@@ -259,7 +247,7 @@ fn differ(words: &[u32; 16384]) -> bool
     ensures { λ r. ⌜ r ≡ differOf (listing (nameAt (now (words .entry))) (countAt 0 (now (words .entry))) 0) ⌝ }
 {
     let mut seen = [0u8; 4096];
-    let mut i = count(words, 0);
+    let mut i = count(words, NAMES);
     while 0 < i {
         i -= 1;
         if !new_name(words, &mut seen, i) {
@@ -273,8 +261,8 @@ fn differ(words: &[u32; 16384]) -> bool
 fn unnamed(before: u8, s: u8, w: u32) -> bool
     ensures { λ r. ⌜ r ≡ unnamedOf before s w ⌝ }
 {
-    if before == 101 {
-        if s == 83 {
+    if before == NAMED_EXPR {
+        if s == NAME {
             return w == 0;
         }
         return false;
@@ -301,9 +289,9 @@ fn expressions(words: &[u32; 16384], tags: &[u8; 16384], at: usize, end: usize) 
         if unnamed(b, s, w) {
             return false;
         }
-        if s == 114 {
+        if s == NAMED {
             marks = [0u8; 1024];
-        } else if s == 101 {
+        } else if s == NAMED_EXPR {
             let e = wide(w);
             if marks[e] != 0 {
                 return false;
@@ -319,13 +307,13 @@ pub fn named(words: &[u32; 16384], tags: &[u8; 16384], n: usize) -> bool
     requires { ⌜ Numbered (now words) (now tags) n ⌝ }
     ensures { λ r. ⌜ ((m : Module) → Taped (now (words .entry)) (now (tags .entry)) n m → r ≡ namedOf m) ⌝ }
 {
-    let functions = wide(words[15]);
-    let entries = wide(words[17]);
-    let special = wide(words[19]);
-    if !present(words, 6) {
+    let functions = offset(words, FUNCTIONS);
+    let entries = offset(words, ENTRIES);
+    let special = offset(words, SPECIAL);
+    if !present(words, FUNCTIONS) {
         return false;
     }
-    if !present(words, 7) {
+    if !present(words, ENTRIES) {
         return false;
     }
     if !expressions(words, tags, functions, entries) {
@@ -337,8 +325,8 @@ pub fn named(words: &[u32; 16384], tags: &[u8; 16384], n: usize) -> bool
     if !differ(words) {
         return false;
     }
-    if !distinct(words, 6) {
+    if !distinct(words, FUNCTIONS) {
         return false;
     }
-    distinct(words, 8)
+    distinct(words, SPECIAL)
 }

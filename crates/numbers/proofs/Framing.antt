@@ -3,7 +3,7 @@ use mathlib.Core.Path.{_≡_, refl, sym, ap, _∙_}
 use mathlib.Core.Bool.{Bool, true, false, _&&_, not}
 use mathlib.Core.Option.{some}
 use mathlib.Core.List.{List, []}
-use Prim.Native.Nat.{ℕ, suc, _+_, _*_, _^_, _≤_, _<_}
+use Prim.Native.Nat.{ℕ, suc, _+_, _^_, _≤_, _<_}
 use native.Mathlib.Numerals.{add-one}
 use native.Mathlib.Omega.{arith}
 use lib.ListN.{length, getD, getElem?, drop}
@@ -13,14 +13,18 @@ use Rattle.model.specs.Outcome.{Cells}
 use Rattle.model.specs.Tree.{Function, Entry, end, flat, flatEntry}
 use Rattle.model.specs.Module.{Module, countAt, flatModule}
 use Rattle.model.specs.View.{recordAt, recordEnd}
-use Rattle.model.specs.FunctionView.{returnsAt, localsAt, expressionsAt}
+use Rattle.model.specs.FunctionView.{argumentsAt, localsAt, expressionsAt}
 use Rattle.model.specs.Taped.{Taped, Tape}
 use Rattle.model.specs.Initial.{initialised}
 use Rattle.model.specs.Numbers.{Bounds, within, ordered, every, outside, inside, sound, soundFunction, soundEntry, constantOnly, numbered}
 use Rattle.laws.specs.Views.{sees-entry}
 use Rattle.laws.specs.FunctionViews.{arguments-count, locals-count, exprs-count, stands-end, looked-at, taped-part, taped-function, taped-entry, taped-functions, taped-entries}
-use Rattle.numbers.specs.Ranges.{Long, table, headed, owned, Checked, Owned, Says, Tabled, Frame, Framed, Sound, Loose, Loosely, Lists, Listed, Initialised, tablesFine, kindsFine, functionsFine, entriesFine}
-use Rattle.numbers.proofs.Tabling.{and-next, part-between, taped-long, cells-few, headed-is}
+use Rattle.laws.specs.Betweens.{held-between}
+use Rattle.model.specs.Between.{Long}
+use Rattle.ranges.specs.Ranges.{table, headed, owned, Checked, Owned}
+use Rattle.numbers.specs.Passes.{Says, Tabled, Frame, Framed, Sound, Loose, Loosely, tablesFine, kindsFine, functionsFine, entriesFine}
+use Rattle.initial.specs.Lists.{Lists, Listed, Initialised}
+use Rattle.numbers.proofs.Tabling.{and-next, taped-long, cells-few, headed-is}
 
 -- ---- where its counts stand
 module _ {words tags : List ℕ} {at from end : ℕ} {f : Function} {cs : Cells} (fr : Frame words tags at from end f cs) where
@@ -30,31 +34,18 @@ module _ {words tags : List ℕ} {at from end : ℕ} {f : Function} {cs : Cells}
   end-small : end ≤ 16384
   end-small = omega (arith, fr .own .part .within, fr .small)
 
-  returns-is : (a : ℕ) → a ≡ getD words (from + 3) 0 → from + 4 + 8 * a ≡ returnsAt from words
-  unfolding returnsAt
-  returns-is a a-is = rw a-is
+  module _ (locals exprs : ℕ) (locals-is : locals ≡ localsAt from words) (exprs-is : exprs ≡ expressionsAt from words) where
+    -- the bounds are the function's
+    bounds-are : (e u v : ℕ) → e ≡ getD words exprs 0 → u ≡ getD words (argumentsAt from) 0 → v ≡ getD words locals 0 → (b : Bounds) → owned b e u v ≡ inside b f
+    unfolding owned inside
+    bounds-are e u v e-is u-is v-is b =
+        let x : e ≡ length (f .exprs) = e-is ∙ ap (λ o. getD words o 0) exprs-is ∙ exprs-count (fr .own) in
+        let y : u ≡ length (f .arguments) = u-is ∙ arguments-count (fr .own) in
+        let z : v ≡ length (f .locals) = v-is ∙ ap (λ o. getD words o 0) locals-is ∙ locals-count (fr .own) in
+        rw (x, y, z)
 
-  module _ (a r l e : ℕ) (a-is : a ≡ getD words (from + 3) 0) (r-is : r ≡ getD words (from + 4 + 8 * a) 0) where
-    locals-is : from + 4 + 8 * a + 1 + 7 * r ≡ localsAt from words
-    unfolding localsAt
-    locals-is = rw (r-is, returns-is a a-is)
-
-    module _ (l-is : l ≡ getD words (from + 4 + 8 * a + 1 + 7 * r) 0) where
-      exprs-is : from + 4 + 8 * a + 1 + 7 * r + 1 + 5 * l ≡ expressionsAt from words
-      unfolding expressionsAt
-      exprs-is = rw (l-is, locals-is)
-
-      -- the bounds are the function's
-      bounds-are : e ≡ getD words (from + 4 + 8 * a + 1 + 7 * r + 1 + 5 * l) 0 → (u v : ℕ) → u ≡ getD words (from + 3) 0 → v ≡ getD words (from + 4 + 8 * a + 1 + 7 * r) 0 → (b : Bounds) → owned b e u v ≡ inside b f
-      unfolding owned inside
-      bounds-are e-is u v u-is v-is b =
-          let x : e ≡ length (f .exprs) = e-is ∙ ap (λ o. getD words o 0) exprs-is ∙ exprs-count (fr .own) in
-          let y : u ≡ length (f .arguments) = u-is ∙ arguments-count (fr .own) in
-          let z : v ≡ length (f .locals) = v-is ∙ ap (λ o. getD words o 0) locals-is ∙ locals-count (fr .own) in
-          rw (x, y, z)
-
-      pub lists-are : Lists words tags (from + 4 + 8 * a + 1 + 7 * r) (from + 4 + 8 * a + 1 + 7 * r + 1 + 5 * l) end f
-      lists-are = record { start = from; long = fr .long; cells = fr .cells; small = fr .small; own = fr .own; locals-at = locals-is; exprs-at = exprs-is }
+    pub lists-are : Lists words tags locals exprs end f
+    lists-are = record { start = from; long = fr .long; cells = fr .cells; small = fr .small; own = fr .own; locals-at = locals-is; exprs-at = exprs-is }
 
 -- ---- what is tested of it
 abbrev pub Word : ℕ → ℕ → Type 0
@@ -64,9 +55,8 @@ module _ (words tags : List ℕ) (at from end : ℕ) (pre : Framed words tags at
   abbrev frame : Frame words tags at from end (pre .function) (pre .record-cells)
   frame = pre .frame
 
-  pub function-arguments : from + 3 < 16384
-  unfolding expressionsAt localsAt returnsAt
-  function-arguments = omega (arith, exprs-below frame, end-small frame)
+  pub function-inside : expressionsAt from words < 16384
+  function-inside = omega (arith, exprs-below frame, end-small frame)
 
   pub function-long : Long words tags
   function-long = frame .long
@@ -77,40 +67,27 @@ module _ (words tags : List ℕ) (at from end : ℕ) (pre : Framed words tags at
   pub function-small : end ≤ 16384
   function-small = end-small frame
 
-  module _ (a : ℕ) (a-is : Word a (getD words (from + 3) 0)) where
-    pub function-result : from + 4 + 8 * a < 16384
-    unfolding expressionsAt localsAt
-    function-result = omega (arith, returns-is frame a (a-is .0), exprs-below frame, end-small frame)
+  module _ (locals exprs : ℕ) (locals-is : locals ≡ localsAt from words) (exprs-is : exprs ≡ expressionsAt from words) where
+    pub function-listed : Listed words tags locals exprs end
+    function-listed = record { function = pre .function; lists = lists-are frame locals exprs locals-is exprs-is }
 
-    module _ (r : ℕ) (r-is : Word r (getD words (from + 4 + 8 * a) 0)) where
-      pub function-locals : from + 4 + 8 * a + 1 + 7 * r < 16384
-      unfolding expressionsAt
-      function-locals = omega (arith, locals-is frame a r 0 0 (a-is .0) (r-is .0), exprs-below frame, end-small frame)
+    module _ (e u v : ℕ) (e-is : e ≡ getD words exprs 0) (u-is : u ≡ getD words (argumentsAt from) 0) (v-is : v ≡ getD words locals 0) (t t₁ : List ℕ) (got : Owned t₁ t e u v) where
+      now-is : (f : Function) (cs : Cells) → Frame words tags at from end f cs → (b : Bounds) → t ≡ table b → t₁ ≡ table (inside b f)
+      now-is f cs fr b q = got .same b q ∙ ap table (bounds-are fr locals exprs locals-is exprs-is e u v e-is u-is v-is b)
 
-      module _ (l : ℕ) (l-is : Word l (getD words (from + 4 + 8 * a + 1 + 7 * r) 0)) where
-        pub function-exprs : from + 4 + 8 * a + 1 + 7 * r + 1 + 5 * l < 16384
-        function-exprs = omega (arith, exprs-is frame a r l 0 (a-is .0) (r-is .0) (l-is .0), exprs-below frame, end-small frame)
+      module _ (r₁ : Bool) (checked : Checked r₁ words tags t₁ at end) where
+        both : (f : Function) (cs : Cells) → Frame words tags at from end f cs → (b : Bounds) → t ≡ table b → within (inside b f) cs && ordered cs ≡ r₁
+        both f cs fr b q = sym (checked .same (inside b f) (now-is f cs fr b q) ∙ ap (λ cs. within (inside b f) cs && ordered cs) (held-between (fr .own .held) (fr .whole)))
 
-        pub function-listed : Listed words tags (from + 4 + 8 * a + 1 + 7 * r) (from + 4 + 8 * a + 1 + 7 * r + 1 + 5 * l) end
-        function-listed = record { function = pre .function; lists = lists-are frame a r l 0 (a-is .0) (r-is .0) (l-is .0) }
+        split : (f : Function) (cs : Cells) → Frame words tags at from end f cs → (b : Bounds) → t ≡ table b → (v : Bool) → r₁ ≡ v → sound b f cs ≡ v && initialised f
+        unfolding sound
+        split f cs fr b q v z = and-next (within (inside b f) cs) (ordered cs) (initialised f) ∙ ap (_&& initialised f) (both f cs fr b q ∙ z)
 
-        module _ (e : ℕ) (e-is : e ≡ getD words (from + 4 + 8 * a + 1 + 7 * r + 1 + 5 * l) 0) (u v : ℕ) (u-is : u ≡ getD words (from + 3) 0) (v-is : v ≡ getD words (from + 4 + 8 * a + 1 + 7 * r) 0) (t t₁ : List ℕ) (got : Owned t₁ t e u v) where
-          now-is : (f : Function) (cs : Cells) → Frame words tags at from end f cs → (b : Bounds) → t ≡ table b → t₁ ≡ table (inside b f)
-          now-is f cs fr b q = got .same b q ∙ ap table (bounds-are fr a r l e (a-is .0) (r-is .0) (l-is .0) e-is u v u-is v-is b)
+        pub function-over : not r₁ ≡ true → Sound false t₁ t words tags at from end
+        function-over z = record { same = λ f cs fr b q. sym (split f cs fr b q false (not-true r₁ z)); kept = now-is }
 
-          module _ (r₁ : Bool) (checked : Checked r₁ words tags t₁ at end) where
-            both : (f : Function) (cs : Cells) → Frame words tags at from end f cs → (b : Bounds) → t ≡ table b → within (inside b f) cs && ordered cs ≡ r₁
-            both f cs fr b q = sym (checked .same (inside b f) (now-is f cs fr b q) ∙ ap (λ cs. within (inside b f) cs && ordered cs) (part-between (fr .own .held) (fr .whole)))
-
-            split : (f : Function) (cs : Cells) → Frame words tags at from end f cs → (b : Bounds) → t ≡ table b → (v : Bool) → r₁ ≡ v → sound b f cs ≡ v && initialised f
-            unfolding sound
-            split f cs fr b q v z = and-next (within (inside b f) cs) (ordered cs) (initialised f) ∙ ap (_&& initialised f) (both f cs fr b q ∙ z)
-
-            pub function-over : not r₁ ≡ true → Sound false t₁ t words tags at from end
-            function-over z = record { same = λ f cs fr b q. sym (split f cs fr b q false (not-true r₁ z)); kept = now-is }
-
-            pub function-done : not r₁ ≡ false → (r₃ : Bool) → Initialised r₃ words tags (from + 4 + 8 * a + 1 + 7 * r) (from + 4 + 8 * a + 1 + 7 * r + 1 + 5 * l) end → Sound r₃ t₁ t words tags at from end
-            function-done z r₃ reached = record { same = λ f cs fr b q. reached .same f (lists-are fr a r l e (a-is .0) (r-is .0) (l-is .0)) ∙ sym (split f cs fr b q true (not-false r₁ z)); kept = now-is }
+        pub function-done : not r₁ ≡ false → (r₃ : Bool) → Initialised r₃ words tags locals exprs end → Sound r₃ t₁ t words tags at from end
+        function-done z r₃ reached = record { same = λ f cs fr b q. reached .same f (lists-are fr locals exprs locals-is exprs-is) ∙ sym (split f cs fr b q true (not-false r₁ z)); kept = now-is }
 
 -- ---- one after the other: records of section k, whose functions start at `from` of the record's start
 module _ {A : Type 0} (k : ℕ) (items : Module → List A) (fn : A → Function) (cells : A → Cells) (from : ℕ → ℕ) (d : Module → A) where
@@ -202,12 +179,10 @@ framing-entries words tags n = record {
   frames = λ m tp j x e. record { long = taped-long tp; cells = flatModule m; small = cells-few tp; whole = taped-part tp (omega arith) (sees-entry m refl j x e); own = taped-entry tp j x e };
 }
 
-pub functions-in : (words : List ℕ) (count j : ℕ) → Word count (getD words 14 0) → j < count → j < countAt 6 words
-unfolding countAt
+pub functions-in : (words : List ℕ) (count j : ℕ) → Word count (countAt 6 words) → j < count → j < countAt 6 words
 functions-in words count j is h = omega (arith, is .0)
 
-pub entries-in : (words : List ℕ) (count j : ℕ) → Word count (getD words 16 0) → j < count → j < countAt 7 words
-unfolding countAt
+pub entries-in : (words : List ℕ) (count j : ℕ) → Word count (countAt 7 words) → j < count → j < countAt 7 words
 entries-in words count j is h = omega (arith, is .0)
 
 module _ (words tags : List ℕ) (n : ℕ) (t₀ : List ℕ) where
@@ -218,10 +193,10 @@ module _ (words tags : List ℕ) (n : ℕ) (t₀ : List ℕ) where
   entries-begin = looping-begin 7 _ _ _ _ _ words tags n (framing-entries words tags n) t₀
 
   module _ (count j : ℕ) (t : List ℕ) where
-    module _ (is : Word count (getD words 14 0)) where
+    module _ (is : Word count (countAt 6 words)) where
       module _ (inv : InFunctions words tags n t₀ j t) where
         pub functions-done : count ≤ j → Loosely true t words tags n t₀ functionsFine
-        unfolding functionsFine countAt
+        unfolding functionsFine
         functions-done h = looping-done 6 _ _ _ _ _ words tags n (framing-functions words tags n) t₀ j t inv (omega (arith, is .0))
 
         module _ (h : j < count) (at end : ℕ) (at-is : at ≡ recordAt 6 j words) (end-is : end ≡ recordEnd 6 j words) where
@@ -236,10 +211,10 @@ module _ (words tags : List ℕ) (n : ℕ) (t₀ : List ℕ) where
             pub functions-next : not r ≡ false → InFunctions words tags n t₀ (j + 1) t₁
             functions-next q = looping-next 6 _ _ _ _ _ words tags n (framing-functions words tags n) t₀ j t inv (functions-in words count j is h) r t₁ (rw (at-is, end-is) at got) q
 
-    module _ (is : Word count (getD words 16 0)) where
+    module _ (is : Word count (countAt 7 words)) where
       module _ (inv : InEntries words tags n t₀ j t) where
         pub entries-done : count ≤ j → Loosely true t words tags n t₀ entriesFine
-        unfolding entriesFine countAt
+        unfolding entriesFine
         entries-done h = looping-done 7 _ _ _ _ _ words tags n (framing-entries words tags n) t₀ j t inv (omega (arith, is .0))
 
         module _ (h : j < count) (at end : ℕ) (at-is : at ≡ recordAt 7 j words) (end-is : end ≡ recordEnd 7 j words) where

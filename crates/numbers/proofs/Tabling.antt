@@ -1,13 +1,13 @@
 -- The sections of a module in words and tape: where they stand, what a pass over one of them tests, and the kinds of global expressions. Assumes nothing.
-use mathlib.Core.Path.{_≡_, refl, sym, ap, ap₂, _∙_}
+use mathlib.Core.Path.{_≡_, refl, sym, ap, _∙_}
 use mathlib.Core.Bool.{Bool, true, false, _&&_, not}
-use mathlib.Core.List.{List, [], _∷_, _++_, map}
-use Prim.Native.Nat.{ℕ, suc, _+_, _*_, _^_, _≤_, _<_}
+use mathlib.Core.List.{List, [], _∷_, _++_}
+use Prim.Native.Nat.{ℕ, suc, _+_, _≤_, _<_}
 use native.Mathlib.Numerals.{add-one}
 use native.Mathlib.Omega.{arith}
 use lib.ListN.{length, getD, drop}
 use lib.Seq.{drop-cons, drop-length}
-use borrow.Author.Tests.{eq-eqb, ne-eqb, not-true, not-false}
+use borrow.Author.Tests.{not-true, not-false}
 use Rattle.model.specs.Outcome.{Cells, class, word}
 use Rattle.model.specs.Table.{expressionRow}
 use Rattle.model.specs.Tree.{flatAll}
@@ -16,19 +16,12 @@ use Rattle.model.specs.View.{tables, recordAt, recordEnd}
 use Rattle.model.specs.Taped.{Taped, Tape}
 use Rattle.model.specs.Operands.{kind, constantKind}
 use Rattle.model.specs.Numbers.{Bounds, caps, bound, below, within, every, outside, constantOnly}
-use Rattle.laws.specs.Views.{length-write, view-rising, view-next, view-within, view-last, view-section, view-table, view-records, sees-names, sees-types, sees-constants, sees-overrides, sees-globals, sees-exprs, sees-functions, sees-special, sees-expr}
-use Rattle.laws.specs.FunctionViews.{Held, Part, part-words, part-tags, part-word, part-end, each-at, Expression, expression-first, expression-kind, each-expression, looked-at, taped-write, taped-held, taped-count, taped-offset, taped-part, table-least}
-use Rattle.numbers.specs.Ranges.{Long, paired, between, table, headed, Ranged, Says, Tabled, tablesFine, kindsFine}
-
--- ---- the cells between two places are the part that stands there
-paired-cells : (cs : Cells) → paired (map class cs) (map word cs) ≡ cs
-unfolding paired
-paired-cells [] = refl
-paired-cells (c ∷ cs) = ap (c ∷_) (paired-cells cs)
-
-pub part-between : {words tags : List ℕ} {cells cs : Cells} {p q : ℕ} → Held words tags cells → Part cells p q cs → between words tags p q ≡ cs
-unfolding between
-part-between {cs} o v = rw (part-words o v, part-tags o v) (paired-cells cs)
+use Rattle.laws.specs.Views.{length-write, view-rising, view-next, view-within, view-last, view-section, view-table, sees-names, sees-types, sees-constants, sees-overrides, sees-globals, sees-exprs, sees-functions, sees-special, sees-expr}
+use Rattle.laws.specs.FunctionViews.{Part, part-word, part-end, each-at, Expression, expression-first, expression-kind, each-expression, looked-at, taped-write, taped-held, taped-count, taped-offset, taped-part}
+use Rattle.model.specs.Between.{between, Long}
+use Rattle.laws.specs.Betweens.{held-between}
+use Rattle.ranges.specs.Ranges.{table, headed, Ranged}
+use Rattle.numbers.specs.Passes.{Says, Tabled, tablesFine, kindsFine}
 
 -- ---- what a pass over a section tests
 pub and-next : (a b c : Bool) → (a && (b && c)) ≡ ((a && b) && c)
@@ -99,14 +92,9 @@ module _ {words tags : List ℕ} {n : ℕ} {m : Module} (t : Taped words tags n 
 
 -- ---- one section
 module _ (words tags : List ℕ) (n : ℕ) (tape : Tape words tags n) (k : ℕ) (h : k < 8) where
-  module _ (a e : ℕ) (a-is : (a ≡ getD words (3 + 2 * k) 0) × (a < 2 ^ 32)) (e-is : (e ≡ getD words (5 + 2 * k) 0) × (e < 2 ^ 32)) where
-    start-at : a ≡ offsetAt k words
-    unfolding offsetAt
-    start-at = a-is .0
-
+  module _ (a e : ℕ) (start-at : a ≡ offsetAt k words) (next-at : e ≡ offsetAt (k + 1) words) where
     end-at : e ≡ offsetAt (suc k) words
-    unfolding offsetAt
-    end-at = let q : 5 + 2 * k ≡ 3 + 2 * suc k = omega arith in e-is .0 ∙ ap (λ i. getD words i 0) q
+    end-at = next-at ∙ ap (λ i. offsetAt i words) (add-one k)
 
     pub table-rising : a ≤ e
     table-rising = rw (start-at, end-at) (section-part (tape .taped) k h .rising)
@@ -123,7 +111,7 @@ At words tags t k r = Ranged r words tags t (offsetAt k words) (offsetAt (suc k)
 
 module _ (words tags : List ℕ) (n : ℕ) (t : List ℕ) where
   got : (k : ℕ) → k < 8 → (r : Bool) → At words tags t k r → (m : Module) → Taped words tags n m → t ≡ table (outside m) → every (within (outside m)) (getD (tables m) k []) ≡ r
-  got k h r a m tp e = sym (a .same (outside m) e ∙ ap (within (outside m)) (part-between (taped-held tp) (section-part tp k h)) ∙ within-table (outside m) (getD (tables m) k []))
+  got k h r a m tp e = sym (a .same (outside m) e ∙ ap (within (outside m)) (held-between (taped-held tp) (section-part tp k h)) ∙ within-table (outside m) (getD (tables m) k []))
 
   module _ (r₁ : Bool) (a₁ : At words tags t 1 r₁) where
     pub tables-types : not r₁ ≡ true → Tabled false words tags n t tablesFine
@@ -150,15 +138,15 @@ module _ (words tags : List ℕ) (n : ℕ) (t : List ℕ) where
             unfolding tablesFine tables
             tables-exprs q = record { same = λ m tp e. rw (got 1 (omega arith) r₁ a₁ m tp e, not-false r₁ q₁, got 2 (omega arith) r₂ a₂ m tp e, not-false r₂ q₂, got 3 (omega arith) r₃ a₃ m tp e, not-false r₃ q₃, got 4 (omega arith) r₄ a₄ m tp e, not-false r₄ q₄, got 5 (omega arith) r₅ a₅ m tp e, not-true r₅ q) }
 
-            pub tables-special : not r₅ ≡ false → (at : ℕ) → (at ≡ getD words 19 0) × (at < 2 ^ 32) → (r : Bool) → Ranged r words tags t at n → Tabled r words tags n t tablesFine
-            unfolding tablesFine tables flatSpecial offsetAt
+            pub tables-special : not r₅ ≡ false → (at : ℕ) → at ≡ offsetAt 8 words → (r : Bool) → Ranged r words tags t at n → Tabled r words tags n t tablesFine
+            unfolding tablesFine tables flatSpecial
             tables-special q₅ at is r a = record {
               same = λ m tp e.
                   let s : within (outside m) (m .special .rays) && every (within (outside m)) (m .special .pairs) ≡ r =
                   sym (ap (within (outside m) (m .special .rays) &&_) (within-all (outside m) (m .special .pairs)))
                   ∙ sym (within-append (outside m) (m .special .rays) (flatAll (m .special .pairs)))
-                  ∙ sym (ap (within (outside m)) (part-between (taped-held tp) (special-part tp)))
-                  ∙ sym (a .same (outside m) e ∙ ap (λ o. within (outside m) (between words tags o n)) (is .0)) in
+                  ∙ sym (ap (within (outside m)) (held-between (taped-held tp) (special-part tp)))
+                  ∙ sym (a .same (outside m) e ∙ ap (λ o. within (outside m) (between tags words o n)) is) in
                   rw (got 1 (omega arith) r₁ a₁ m tp e, not-false r₁ q₁, got 2 (omega arith) r₂ a₂ m tp e, not-false r₂ q₂, got 3 (omega arith) r₃ a₃ m tp e, not-false r₃ q₃, got 4 (omega arith) r₄ a₄ m tp e, not-false r₄ q₄, got 5 (omega arith) r₅ a₅ m tp e, not-false r₅ q₅, s);
             }
 
@@ -166,9 +154,8 @@ module _ (words tags : List ℕ) (n : ℕ) (tape : Tape words tags n) where
   pub tape-long : Long words tags
   tape-long = taped-long (tape .taped)
 
-  pub special-rising : (at : ℕ) → (at ≡ getD words 19 0) × (at < 2 ^ 32) → at ≤ n
-  unfolding offsetAt
-  special-rising at is = rw (is .0) (special-part (tape .taped) .rising)
+  pub special-rising : (at : ℕ) → at ≡ offsetAt 8 words → at ≤ n
+  special-rising at is = rw is (special-part (tape .taped) .rising)
 
   pub tape-small : n ≤ 16384
   tape-small = tape .taped .small
@@ -199,19 +186,18 @@ module _ (words tags : List ℕ) (n : ℕ) where
   pub kinds-begin : (count : ℕ) → Kinding words tags n 0
   kinds-begin count = record { to = omega arith; same = λ m tp. refl }
 
-  module _ (j : ℕ) (inv : Kinding words tags n j) (count : ℕ) (is : (count ≡ getD words 12 0) × (count < 2 ^ 32)) where
+  module _ (j : ℕ) (inv : Kinding words tags n j) (count : ℕ) (is : count ≡ countAt 5 words) where
     pub kinds-done : count ≤ j → Says true words tags n kindsFine
-    unfolding countAt kindsFine every
+    unfolding kindsFine every
     kinds-done h = record {
       same = λ m tp.
-          let q : j ≡ length (m .exprs) = omega (arith, inv .to, is .0, taped-count tp 5 (omega arith), sees-exprs m refl .count) in
+          let q : j ≡ length (m .exprs) = omega (arith, inv .to, is, taped-count tp 5 (omega arith), sees-exprs m refl .count) in
           sym (ap (λ i. every constantOnly (drop i (m .exprs))) q ∙ ap (every constantOnly) (drop-length (m .exprs))) ∙ inv .same m tp;
     }
 
     module _ (h : j < count) where
       pub kinds-record : j < countAt 5 words
-      unfolding countAt
-      kinds-record = omega (arith, is .0)
+      kinds-record = omega arith
 
       module _ (at : ℕ) (at-is : at ≡ recordAt 5 j words) where
         pub kinds-inside : Tape words tags n → at < 16384

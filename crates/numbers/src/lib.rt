@@ -2,25 +2,35 @@
 // bound of its class; a second look at Emit's start; and the kinds that the initialisers of locals reach, each expression visited once.
 // The cost is linear in the words, about 1 ns each. The worst are functions of 1,024 expressions whose operands run forward from one initialiser: two of
 // them, 12,353 words, take about 40 microseconds.
-pub mod initial;
-pub mod range;
-
 use initial::constant;
 use initial::initialised;
-use range::CODES;
-use range::checked;
-use range::inside;
-use range::outside;
-use range::ranged;
+use ranges::CODES;
+use ranges::checked;
+use ranges::inside;
+use ranges::outside;
+use ranges::ranged;
+use views::CONSTANTS;
+use views::ENTRIES;
+use views::ENTRY_HEAD;
+use views::EXPRESSIONS;
+use views::FUNCTIONS;
+use views::GLOBALS;
+use views::OVERRIDES;
+use views::SPECIAL;
+use views::TYPES;
+use views::arguments_at;
+use views::count;
+use views::expressions_at;
+use views::locals_at;
+use views::offset;
 use views::record_at;
 use views::record_end;
-use words::wide;
-ghost use mathlib.Core.Path.{_≡_};
 ghost use Prim.Native.Nat.{suc, _<_};
 ghost use Rattle.model.specs.Module.{offsetAt};
 ghost use Rattle.model.specs.Taped.{Tape};
 ghost use Rattle.model.specs.Numbers.{numbered as numberedOf};
-ghost use Rattle.numbers.specs.Ranges.{Ranged, Says, Tabled, Framed, Sound, Loosely, tablesFine, kindsFine, functionsFine, entriesFine};
+ghost use Rattle.ranges.specs.Ranges.{Ranged};
+ghost use Rattle.numbers.specs.Passes.{Says, Tabled, Framed, Sound, Loosely, tablesFine, kindsFine, functionsFine, entriesFine};
 
 // A table section: count offsets, and records whose numbers are in range.
 fn table(words: &[u32; 16384], tags: &[u8; 16384], n: usize, t: &[u64; 256], k: usize) -> bool
@@ -28,8 +38,8 @@ fn table(words: &[u32; 16384], tags: &[u8; 16384], n: usize, t: &[u64; 256], k: 
     requires { ⌜ k < 8 ⌝ }
     ensures { λ r. ⌜ Ranged r (now (words .entry)) (now (tags .entry)) (now (t .entry)) (offsetAt k (now (words .entry))) (offsetAt (suc k) (now (words .entry))) ⌝ }
 {
-    let at = wide(words[3 + 2 * k]);
-    let end = wide(words[5 + 2 * k]);
+    let at = offset(words, k);
+    let end = offset(words, k + 1);
     ranged(words, tags, t, at, end)
 }
 
@@ -38,22 +48,22 @@ fn tables(words: &[u32; 16384], tags: &[u8; 16384], n: usize, t: &[u64; 256]) ->
     requires { ⌜ Tape (now words) (now tags) n ⌝ }
     ensures { λ r. ⌜ Tabled r (now (words .entry)) (now (tags .entry)) n (now (t .entry)) tablesFine ⌝ }
 {
-    if !table(words, tags, n, t, 1) {
+    if !table(words, tags, n, t, TYPES) {
         return false;
     }
-    if !table(words, tags, n, t, 2) {
+    if !table(words, tags, n, t, CONSTANTS) {
         return false;
     }
-    if !table(words, tags, n, t, 3) {
+    if !table(words, tags, n, t, OVERRIDES) {
         return false;
     }
-    if !table(words, tags, n, t, 4) {
+    if !table(words, tags, n, t, GLOBALS) {
         return false;
     }
-    if !table(words, tags, n, t, 5) {
+    if !table(words, tags, n, t, EXPRESSIONS) {
         return false;
     }
-    let at = wide(words[19]);
+    let at = offset(words, SPECIAL);
     ranged(words, tags, t, at, n)
 }
 
@@ -62,12 +72,12 @@ fn kinds(words: &[u32; 16384], tags: &[u8; 16384], n: usize) -> bool
     requires { ⌜ Tape (now words) (now tags) n ⌝ }
     ensures { λ r. ⌜ Says r (now (words .entry)) (now (tags .entry)) n kindsFine ⌝ }
 {
-    let count = wide(words[12]);
+    let count = count(words, EXPRESSIONS);
     let mut j = 0;
     while j < count {
         let i = j;
         j += 1;
-        let at = record_at(words, tags, n, 5, i);
+        let at = record_at(words, tags, n, EXPRESSIONS, i);
         if !constant(words[at]) {
             return false;
         }
@@ -87,31 +97,27 @@ fn function(
     requires { ⌜ Framed (now words) (now tags) at from end ⌝ }
     ensures { λ r. ⌜ Sound r (now (t .exit)) (now (t .entry)) (now (words .entry)) (now (tags .entry)) at from end ⌝ }
 {
-    let a = words[from + 3];
-    let result = from + 4 + 8 * wide(a);
-    let locals = result + 1 + 7 * wide(words[result]);
-    let l = words[locals];
-    let exprs = locals + 1 + 5 * wide(l);
-    let e = words[exprs];
-    inside(t, e, a, l);
+    let locals = locals_at(words, from);
+    let exprs = expressions_at(words, from);
+    inside(t, words[exprs], words[arguments_at(from)], words[locals]);
     if !checked(words, tags, t, at, end) {
         return false;
     }
     initialised(words, tags, locals, exprs, end)
 }
 
-// Table functions (k is 6, and a function starts its record) and entry points (k is 7, and seven words stand before it).
+// Table functions, each of which starts its record, and entry points, where other words stand before it.
 fn functions(words: &[u32; 16384], tags: &[u8; 16384], n: usize, t: &mut [u64; 256]) -> bool
     requires { ⌜ Tape (now words) (now tags) n ⌝ }
     ensures { λ r. ⌜ Loosely r (now (t .exit)) (now (words .entry)) (now (tags .entry)) n (now (t .entry)) functionsFine ⌝ }
 {
-    let count = wide(words[14]);
+    let count = count(words, FUNCTIONS);
     let mut j = 0;
     while j < count {
         let i = j;
         j += 1;
-        let at = record_at(words, tags, n, 6, i);
-        let end = record_end(words, tags, n, 6, i);
+        let at = record_at(words, tags, n, FUNCTIONS, i);
+        let end = record_end(words, tags, n, FUNCTIONS, i);
         if !function(words, tags, t, at, at, end) {
             return false;
         }
@@ -123,14 +129,14 @@ fn entries(words: &[u32; 16384], tags: &[u8; 16384], n: usize, t: &mut [u64; 256
     requires { ⌜ Tape (now words) (now tags) n ⌝ }
     ensures { λ r. ⌜ Loosely r (now (t .exit)) (now (words .entry)) (now (tags .entry)) n (now (t .entry)) entriesFine ⌝ }
 {
-    let count = wide(words[16]);
+    let count = count(words, ENTRIES);
     let mut j = 0;
     while j < count {
         let i = j;
         j += 1;
-        let at = record_at(words, tags, n, 7, i);
-        let end = record_end(words, tags, n, 7, i);
-        if !function(words, tags, t, at, at + 7, end) {
+        let at = record_at(words, tags, n, ENTRIES, i);
+        let end = record_end(words, tags, n, ENTRIES, i);
+        if !function(words, tags, t, at, at + ENTRY_HEAD, end) {
             return false;
         }
     }

@@ -15,13 +15,14 @@ use mir.Syntax.{w32, w64}
 use Rattle.model.specs.Tree.{Function}
 use Rattle.model.specs.Module.{Module, countAt}
 use Rattle.model.specs.View.{recordAt}
-use Rattle.model.specs.FunctionView.{returnsAt}
+use Rattle.model.specs.FunctionView.{argumentsAt, argumentAt, returnsAt, expressionsAt}
 use Rattle.model.specs.Taped.{Taped, Tape}
 use Rattle.model.specs.Redirect.{nameWord, find, argumentTypes, agree, resultType, same, nothing, function, compared}
+use Rattle.views.proofs.Places.{standing-function, standing-inside}
 use Rattle.redirect.specs.Passes.{foundAt, shown, told, Finds, Agrees, Returns, Compares}
 use Rattle.redirect.specs.declared.Found.the-variants.{At, Nothing}
 use Rattle.redirect.specs.declared.Redirected.the-variants.{Done, ArgumentsDiffer, ResultsDiffer}
-use Rattle.redirect.proofs.Places.{many, few, start-in, name-is, count-in, types-many, type-in, type-is, result-in, result-type-in, result-few, result-none, result-some}
+use Rattle.redirect.proofs.Places.{many, few, start-in, name-is, types-many, type-in, type-is, result-type-in, result-few, result-none, result-some}
 use Rattle.handles.specs.declared.FunctionHandle.{FunctionHandle}
 
 drop-whole : {A : Type 0} (l : List A) (i : ℕ) → length l ≤ i → drop i l ≡ []
@@ -38,16 +39,12 @@ module _ (words tags : List ℕ) (n name : ℕ) where
     pub count-is : count ≡ countAt 6 words
     pub same : (m : Module) → Taped words tags n m → find (drop j (m .functions)) j name ≡ find (m .functions) 0 name
 
-  pub seek-begin : (count : ℕ) → count ≡ getD words 14 0 → Seeking count 0
-  unfolding countAt
+  pub seek-begin : (count : ℕ) → count ≡ countAt 6 words → Seeking count 0
   seek-begin count e = record { within = omega arith; count-is = e; same = λ m t. refl }
 
   module _ (h : Tape words tags n) (count j : ℕ) (inv : Seeking count j) (less : j < count) where
     pub seek-in : j < countAt 6 words
     seek-in = omega (arith, inv .count-is)
-
-    pub seek-asks : Tape words tags n × (j < countAt 6 words)
-    seek-asks = (h, seek-in)
 
     pub seek-small : Fits w32 j
     seek-small = record { fits = omega (arith, few (h .taped), seek-in) }
@@ -105,19 +102,13 @@ module _ (words tags : List ℕ) (n i k : ℕ) where
   agree-begin those others = record { within = omega arith; within-others = omega arith; same = λ m t. refl }
 
   module _ (h : Tape words tags n) (x : i < countAt 6 words) (y : k < countAt 6 words) (a b : ℕ) (a-is : a ≡ recordAt 6 i words) (b-is : b ≡ recordAt 6 k words) where
-    pub count-a : a + 3 < 16384
-    count-a = omega (arith, count-in (h .taped) i x)
-
-    pub count-b : b + 3 < 16384
-    count-b = omega (arith, count-in (h .taped) k y)
-
-    module _ (those others : ℕ) (those-is : those ≡ getD words (a + 3) 0) (others-is : others ≡ getD words (b + 3) 0) where
+    module _ (those others : ℕ) (those-is : those ≡ getD words (argumentsAt a) 0) (others-is : others ≡ getD words (argumentsAt b) 0) where
       module _ {m : Module} (t : Taped words tags n m) where
         those-many : those ≡ length (argumentTypes (function m i))
-        those-many = those-is ∙ ap (λ p. getD words (p + 3) 0) a-is ∙ types-many t i x
+        those-many = those-is ∙ ap (λ p. getD words (argumentsAt p) 0) a-is ∙ types-many t i x
 
         others-many : others ≡ length (argumentTypes (function m k))
-        others-many = others-is ∙ ap (λ p. getD words (p + 3) 0) b-is ∙ types-many t k y
+        others-many = others-is ∙ ap (λ p. getD words (argumentsAt p) 0) b-is ∙ types-many t k y
 
       module _ (j : ℕ) (inv : Agreeing those others j) (less : j < those) where
         pub agree-short : others ≤ j → Agrees true words tags n i k
@@ -128,30 +119,31 @@ module _ (words tags : List ℕ) (n i k : ℕ) where
                   sym (sym (inv .same m t) ∙ ap (agree (drop j (argumentTypes (function m i)))) (drop-whole (argumentTypes (function m k)) j q) ∙ agree-none (drop j (argumentTypes (function m i))));
             }
 
-        pub in-a : a + 5 + 8 * j < 16384
+        pub in-a : argumentAt a j + 1 < 16384
         in-a = omega (arith, type-in (h .taped) i x j (omega (arith, those-many (h .taped))))
 
         module _ (more : j < others) where
-          pub in-b : b + 5 + 8 * j < 16384
+          pub in-b : argumentAt b j + 1 < 16384
           in-b = omega (arith, type-in (h .taped) k y j (omega (arith, others-many (h .taped))))
 
-          agree-cut : (m : Module) → Taped words tags n m → eqb (getD words (a + 5 + 8 * j) 0) (getD words (b + 5 + 8 * j) 0) && agree (drop (suc j) (argumentTypes (function m i))) (drop (suc j) (argumentTypes (function m k))) ≡ agree (argumentTypes (function m i)) (argumentTypes (function m k))
+          agree-cut : (m : Module) → Taped words tags n m → eqb (getD words (argumentAt a j + 1) 0) (getD words (argumentAt b j + 1) 0) && agree (drop (suc j) (argumentTypes (function m i))) (drop (suc j) (argumentTypes (function m k))) ≡ agree (argumentTypes (function m i)) (argumentTypes (function m k))
           unfolding agree
           agree-cut m t =
               let u : j < length (argumentTypes (function m i)) = omega (arith, those-many t) in
               let v : j < length (argumentTypes (function m k)) = omega (arith, others-many t) in
-              let p = ap (λ z. getD words (z + 5 + 8 * j) 0) a-is ∙ type-is t i x j u in
-              let q = ap (λ z. getD words (z + 5 + 8 * j) 0) b-is ∙ type-is t k y j v in
+              let p = ap (λ z. getD words (argumentAt z j + 1) 0) a-is ∙ type-is t i x j u in
+              let q = ap (λ z. getD words (argumentAt z j + 1) 0) b-is ∙ type-is t k y j v in
               rw (p, q) (rw (drop-cons (argumentTypes (function m i)) j 0 u, drop-cons (argumentTypes (function m k)) j 0 v) at (inv .same m t))
 
-          pub agree-not : (getD words (a + 5 + 8 * j) 0 ≡ getD words (b + 5 + 8 * j) 0 → ⊥) → Agrees false words tags n i k
-          agree-not g =
-              record { same = λ m t. rw (ne-eqb (getD words (a + 5 + 8 * j) 0) (getD words (b + 5 + 8 * j) 0) g) at (agree-cut m t) }
+          module _ (u v : ℕ) (u-is : u ≡ getD words (argumentAt a j + 1) 0) (v-is : v ≡ getD words (argumentAt b j + 1) 0) where
+            cut-here : (m : Module) → Taped words tags n m → eqb u v && agree (drop (suc j) (argumentTypes (function m i))) (drop (suc j) (argumentTypes (function m k))) ≡ agree (argumentTypes (function m i)) (argumentTypes (function m k))
+            cut-here m t = rw (u-is, v-is) (agree-cut m t)
 
-          pub agree-next : getD words (a + 5 + 8 * j) 0 ≡ getD words (b + 5 + 8 * j) 0 → Agreeing those others (j + 1)
-          agree-next g =
-              rw add-one
-              (record { within = less; within-others = more; same = λ m t. rw (eq-eqb (getD words (a + 5 + 8 * j) 0) (getD words (b + 5 + 8 * j) 0) g) at (agree-cut m t) })
+            pub agree-not : (u ≡ v → ⊥) → Agrees false words tags n i k
+            agree-not g = record { same = λ m t. rw (ne-eqb u v g) at (cut-here m t) }
+
+            pub agree-next : u ≡ v → Agreeing those others (j + 1)
+            agree-next g = rw add-one (record { within = less; within-others = more; same = λ m t. rw (eq-eqb u v g) at (cut-here m t) })
 
       pub agree-done : (j : ℕ) → Agreeing those others j → those ≤ j → Agrees true words tags n i k
       unfolding agree
@@ -159,15 +151,8 @@ module _ (words tags : List ℕ) (n i k : ℕ) where
           record { same = λ m t. let q : length (argumentTypes (function m i)) ≤ j = omega (arith, those-many t) in rw (drop-whole (argumentTypes (function m i)) j q) at (inv .same m t) }
 
 -- ---- returns_at
-module _ (words tags : List ℕ) (n i : ℕ) (h : Tape words tags n) (x : i < countAt 6 words) (a : ℕ) (a-is : a ≡ recordAt 6 i words) where
-  pub count-at : a + 3 < 16384
-  count-at = omega (arith, count-in (h .taped) i x)
-
-  pub returns-is : (c : ℕ) → c ≡ getD words (a + 3) 0 → (a + 4 + 8 * c ≡ returnsAt (recordAt 6 i words) words) × (a + 4 + 8 * c < 16384)
-  unfolding returnsAt
-  returns-is c e =
-      let q : a + 4 + 8 * c ≡ recordAt 6 i words + 4 + 8 * getD words (recordAt 6 i words + 3) 0 = ap₂ (λ u v. u + 4 + 8 * v) a-is (e ∙ ap (λ p. getD words (p + 3) 0) a-is) in
-      (q, omega (arith, result-in (h .taped) i x))
+pub lists-in : (words tags : List ℕ) (n i : ℕ) → Tape words tags n → i < countAt 6 words → (a : ℕ) → a ≡ recordAt 6 i words → expressionsAt a words < 16384
+lists-in words tags n i h x a e = rw e (standing-inside (standing-function h x))
 
 -- ---- results_agree
 module _ (words tags : List ℕ) (n i k : ℕ) (h : Tape words tags n) (x : i < countAt 6 words) (y : k < countAt 6 words) (p q : ℕ) (p-is : p ≡ returnsAt (recordAt 6 i words) words) (q-is : q ≡ returnsAt (recordAt 6 k words) words) where

@@ -4,7 +4,7 @@ use mathlib.Core.Bool.{Bool, true, false}
 use mathlib.Core.List.{List, _∷_}
 use Prim.Native.Nat.{ℕ, _<_}
 use native.Mathlib.Omega.{arith}
-use lib.ListN.{length, getD}
+use lib.ListN.{length}
 use Rattle.model.specs.Module.{Module, countAt}
 use Rattle.model.specs.Taped.{Taped, Tape}
 use Rattle.model.specs.Redirect.{allBelow, withReplacement, withOriginal, redirectFunction}
@@ -19,16 +19,19 @@ use Rattle.redirect.proofs.Places.{many}
 use Rattle.redirect.proofs.Finding.{find-in}
 use Rattle.handles.specs.declared.FunctionHandle.{FunctionHandle}
 
-names-many : {words tags : List ℕ} {n : ℕ} {m : Module} → Taped words tags n m → getD words 2 0 ≡ length (m .names)
-unfolding countAt
+names-many : {words tags : List ℕ} {n : ℕ} {m : Module} → Taped words tags n m → countAt 0 words ≡ length (m .names)
 names-many {m} t = taped-count t 0 (omega arith) ∙ sees-names m refl .count
+
+-- the numbers given are compared with the count of names
+pub names-told : (words l : List ℕ) (r : Bool) (x : ℕ) → r ≡ allBelow l x → x ≡ countAt 0 words → r ≡ allBelow l (countAt 0 words)
+names-told words l r x is e = is ∙ ap (allBelow l) e
 
 -- a function that was found is in the table
 pub found-in : (words tags : List ℕ) (n name : ℕ) (h : Tape words tags n) (f : Found) (a : FunctionHandle) → f ≡ At a → Finds f words tags n name → a .0 < countAt 6 words
 unfolding foundAt
 found-in words tags n name h f a e s = omega (arith, find-in (h .holds .functions) 0 name (a .0) (sym (s .same (h .holds) (h .taped)) ∙ ap foundAt e), many (h .taped))
 
-module _ (words tags : List ℕ) (n o p : ℕ) (omit : List ℕ) (r : Bool) (is : r ≡ allBelow (o ∷ p ∷ omit) (getD words 2 0)) where
+module _ (words tags : List ℕ) (n o p : ℕ) (omit : List ℕ) (r : Bool) (is : r ≡ allBelow (o ∷ p ∷ omit) (countAt 0 words)) where
   below : (m : Module) → Taped words tags n m → allBelow (o ∷ p ∷ omit) (length (m .names)) ≡ r
   below m t = sym (is ∙ ap (allBelow (o ∷ p ∷ omit)) (names-many t))
 

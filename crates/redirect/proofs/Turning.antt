@@ -227,8 +227,8 @@ module _ (words₀ tags : List ℕ) (n a b : ℕ) (omit : List ℕ) where
     pub holds : (m : Module) → Taped words₀ tags n m → Taped words tags n (withFunctions m (mix a b omit j (m .functions) 0))
     pub rest : drop n words ≡ drop n words₀
 
-  pub turning-begin : (count : ℕ) → count ≡ getD words₀ 14 0 → Turning count words₀ 0
-  unfolding countAt mix withFunctions
+  pub turning-begin : (count : ℕ) → count ≡ countAt 6 words₀ → Turning count words₀ 0
+  unfolding mix withFunctions
   turning-begin count e = record { within = omega arith; count-is = e; holds = λ m t. t; rest = refl }
 
   module _ (h : Tape words₀ tags n) (count j : ℕ) (words : List ℕ) (inv : Turning count words j) (less : j < count) where
@@ -276,13 +276,11 @@ unfolding sections
 entries-end m = sym (view-next m 7 (omega arith)) ∙ view-length m 7 (omega arith)
 
 module _ (words tags : List ℕ) (n a b : ℕ) where
-  module _ (s e : ℕ) (s-is : s ≡ getD words 17 0) (e-is : e ≡ getD words 19 0) where
+  module _ (s e : ℕ) (s-is : s ≡ offsetAt 7 words) (e-is : e ≡ offsetAt 8 words) where
     entries-start : {m : Module} → Taped words tags n m → s ≡ offsetAt 7 (write m)
-    unfolding offsetAt
     entries-start t = s-is ∙ taped-offset t 7 (omega arith)
 
     entries-stop : {m : Module} → Taped words tags n m → e ≡ s + length (flatTable (map flatEntry (m .entries)))
-    unfolding offsetAt
     entries-stop {m} t = e-is ∙ taped-offset t 8 (omega arith) ∙ entries-end m ∙ ap (_+ length (flatTable (map flatEntry (m .entries)))) (sym (entries-start t))
 
     pub entries-asks : Tape words tags n → (s ≤ e) × (e ≤ 16384) × (length words ≡ 16384) × (length tags ≡ 16384)
@@ -299,7 +297,7 @@ module _ (words tags : List ℕ) (n a b : ℕ) where
         let l = ap length c ∙ length-map (flatTable (map flatEntry (m .entries))) (carryCell (redirecting a b)) in
         rewrite-part (redirecting a b) t (withEntries m (map (redirectEntry a b) (m .entries))) (well-entries m (t .well) (map (redirectEntry a b) (m .entries)) (length-map (m .entries) (redirectEntry a b)) (each-map (redirectEntry a b) (carry-well-entry (redirecting a b) keeps) (t .well .entries-ok .each))) (entries-before m) (flatTable (map flatEntry (m .entries))) (entries-behind m) (entries-in m (m .entries) refl refl) (entries-in m (map (redirectEntry a b) (m .entries)) (length-map (m .entries) (redirectEntry a b)) l ∙ ap (λ y. entries-before m ++ (y ++ entries-behind m)) c) s e (entries-start t ∙ sym (entries-long m)) (entries-stop t) words₁ is
 
-pub all-turns : (words₀ words tags : List ℕ) (n a b : ℕ) (omit : List ℕ) → Tape words₀ tags n → Turns words words₀ tags n (turnAll a b omit) → (s e : ℕ) → s ≡ getD words 17 0 → e ≡ getD words 19 0 → (words₁ : List ℕ) → words₁ ≡ sets words s (zipWith (redirecting a b) (slice s e tags) (slice s e words)) → Turns words₁ words₀ tags n (redirectedBy a b omit)
+pub all-turns : (words₀ words tags : List ℕ) (n a b : ℕ) (omit : List ℕ) → Tape words₀ tags n → Turns words words₀ tags n (turnAll a b omit) → (s e : ℕ) → s ≡ offsetAt 7 words → e ≡ offsetAt 8 words → (words₁ : List ℕ) → words₁ ≡ sets words s (zipWith (redirecting a b) (slice s e tags) (slice s e words)) → Turns words₁ words₀ tags n (redirectedBy a b omit)
 unfolding turnAll redirectedBy redirect withFunctions
 all-turns words₀ words tags n a b omit h t s e s-is e-is words₁ is =
     record {
@@ -310,5 +308,5 @@ all-turns words₀ words tags n a b omit h t s e s-is e-is words₁ is =
 pub turned-tape : (words₀ words tags : List ℕ) (n : ℕ) (f : Module → Module) → Tape words₀ tags n → Turns words words₀ tags n f → Tape words tags n
 turned-tape words₀ words tags n f h t = record { holds = f (h .holds); taped = t .holds (h .holds) (h .taped) }
 
-pub all-asks : (words₀ words tags : List ℕ) (n a b : ℕ) (omit : List ℕ) → Tape words₀ tags n → Turns words words₀ tags n (turnAll a b omit) → (s e : ℕ) → s ≡ getD words 17 0 → e ≡ getD words 19 0 → (s ≤ e) × (e ≤ 16384) × (length words ≡ 16384) × (length tags ≡ 16384)
+pub all-asks : (words₀ words tags : List ℕ) (n a b : ℕ) (omit : List ℕ) → Tape words₀ tags n → Turns words words₀ tags n (turnAll a b omit) → (s e : ℕ) → s ≡ offsetAt 7 words → e ≡ offsetAt 8 words → (s ≤ e) × (e ≤ 16384) × (length words ≡ 16384) × (length tags ≡ 16384)
 all-asks words₀ words tags n a b omit h t s e s-is e-is = entries-asks words tags n a b s e s-is e-is (turned-tape words₀ words tags n (turnAll a b omit) h t)

@@ -1,18 +1,30 @@
 // Redirecting over the words and the tape of an image that passed intake: redirect_function of redirect.rs. Functions are found by name number,
 // their argument and result types are compared, and the numbers of Calls and CallResults that name the original name the replacement.
 // The tests read and change nothing; the pass after them goes once over the functions and the entry points.
+use classes::CALLEE;
+use classes::FUNCTION;
 use handles::FunctionHandle;
+use views::ENTRIES;
+use views::FUNCTIONS;
+use views::NAMES;
+use views::SPECIAL;
+use views::argument_at;
+use views::arguments;
+use views::count;
+use views::offset;
+use views::record_at;
+use views::record_end;
 use words::store;
 use words::wide;
 ghost use mathlib.Core.Path.{_≡_};
 ghost use mathlib.Core.List.{_∷_, zipWith};
-ghost use Prim.Native.Nat.{suc, _*_, _≤_, _<_};
+ghost use Prim.Native.Nat.{suc, _+_, _*_, _≤_, _<_};
 ghost use lib.Dec.{eqb};
-ghost use lib.ListN.{length};
+ghost use lib.ListN.{length, getD};
 ghost use lib.Seq.{slice, sets};
 ghost use Rattle.model.specs.Module.{countAt};
-ghost use Rattle.model.specs.View.{recordAt, recordEnd};
-ghost use Rattle.model.specs.FunctionView.{returnsAt};
+ghost use Rattle.model.specs.View.{recordAt};
+ghost use Rattle.model.specs.FunctionView.{argumentAt, returnsAt};
 ghost use Rattle.model.specs.Taped.{Tape};
 ghost use Rattle.model.specs.Redirect.{omitted as omittedOf, allBelow, redirecting, stays as staysOf};
 ghost use Rattle.redirect.specs.Passes.{Finds, Agrees, Returns, Compares, Tests, Turns, turnOne, turnAll, redirectedBy, Redirects, Stores};
@@ -43,39 +55,17 @@ fn is_named(w: u32, name: u32) -> bool
     w - 1 == name
 }
 
-// Where table function j starts.
-fn start_of(words: &[u32; 16384], tags: &[u8; 16384], n: usize, j: usize) -> usize
-    requires { ⌜ Tape (now words) (now tags) n ⌝ }
-    requires { ⌜ j < countAt 6 (now words) ⌝ }
-    ensures { λ r. ⌜ r ≡ recordAt 6 j (now (words .entry)) ⌝ }
-{
-    let at = wide(words[15]);
-    at + wide(words[at + j])
-}
-
-// Where it ends: where the next one starts, or where the section ends.
-fn end_of(words: &[u32; 16384], tags: &[u8; 16384], n: usize, j: usize) -> usize
-    requires { ⌜ Tape (now words) (now tags) n ⌝ }
-    requires { ⌜ j < countAt 6 (now words) ⌝ }
-    ensures { λ r. ⌜ r ≡ recordEnd 6 j (now (words .entry)) ⌝ }
-{
-    if j + 1 == wide(words[14]) {
-        return wide(words[17]);
-    }
-    start_of(words, tags, n, j + 1)
-}
-
 // The table function with a name.
 pub fn find(words: &[u32; 16384], tags: &[u8; 16384], n: usize, name: u32) -> Found
     requires { ⌜ Tape (now words) (now tags) n ⌝ }
     ensures { λ r. ⌜ Finds r (now (words .entry)) (now (tags .entry)) n name ⌝ }
 {
-    let count = wide(words[14]);
+    let count = count(words, FUNCTIONS);
     let mut j = 0;
     while j < count {
         let i = j;
         j += 1;
-        let at = start_of(words, tags, n, i);
+        let at = record_at(words, tags, n, FUNCTIONS, i);
         if is_named(words[at], name) {
             return Found::At(FunctionHandle(i as u32));
         }
@@ -126,22 +116,30 @@ fn omitted(omit: &[u32], w: u32) -> bool
     false
 }
 
+// The type of argument i of the function that starts at s.
+fn type_at(words: &[u32; 16384], s: usize, i: usize) -> u32
+    requires { ⌜ argumentAt s i + 1 < 16384 ⌝ }
+    ensures { λ r. ⌜ r ≡ getD (now (words .entry)) (argumentAt s i + 1) 0 ⌝ }
+{
+    words[argument_at(s, i) + 1]
+}
+
 // Whether the argument types of table functions i and k are equal, up to the shorter list.
 fn arguments_agree(words: &[u32; 16384], tags: &[u8; 16384], n: usize, i: usize, k: usize) -> bool
     requires { ⌜ Tape (now words) (now tags) n ⌝ }
     requires { ⌜ (i < countAt 6 (now words)) × (k < countAt 6 (now words)) ⌝ }
     ensures { λ r. ⌜ Agrees r (now (words .entry)) (now (tags .entry)) n i k ⌝ }
 {
-    let a = start_of(words, tags, n, i);
-    let b = start_of(words, tags, n, k);
-    let some = wide(words[a + 3]);
-    let others = wide(words[b + 3]);
+    let a = record_at(words, tags, n, FUNCTIONS, i);
+    let b = record_at(words, tags, n, FUNCTIONS, k);
+    let some = arguments(words, a);
+    let others = arguments(words, b);
     let mut j = 0;
     while j < some {
         if others <= j {
             return true;
         }
-        if words[a + 5 + 8 * j] != words[b + 5 + 8 * j] {
+        if type_at(words, a, j) != type_at(words, b, j) {
             return false;
         }
         j += 1;
@@ -155,8 +153,8 @@ fn returns_at(words: &[u32; 16384], tags: &[u8; 16384], n: usize, i: usize) -> u
     requires { ⌜ i < countAt 6 (now words) ⌝ }
     ensures { λ r. ⌜ (r ≡ returnsAt (recordAt 6 i (now (words .entry))) (now (words .entry))) × (r < 16384) ⌝ }
 {
-    let a = start_of(words, tags, n, i);
-    a + 4 + 8 * wide(words[a + 3])
+    let s = record_at(words, tags, n, FUNCTIONS, i);
+    views::returns_at(words, s)
 }
 
 // Whether two functions have no result, or results of one type.
@@ -212,7 +210,7 @@ fn test(
     requires { ⌜ Tape (now words) (now tags) n ⌝ }
     ensures { λ r. ⌜ Tests r (now (words .entry)) (now (tags .entry)) n original replacement (now (omit .entry)) ⌝ }
 {
-    if !inside(original, replacement, omit, words[2]) {
+    if !inside(original, replacement, omit, count(words, NAMES) as u32) {
         return Redirected::Outside;
     }
     let Found::At(a) = find(words, tags, n, original) else {
@@ -228,13 +226,13 @@ fn test(
 fn redirect_word(s: u8, w: u32, original: u32, replacement: u32) -> u32
     ensures { λ r. ⌜ r ≡ redirecting original replacement s w ⌝ }
 {
-    if s == 92 {
+    if s == CALLEE {
         if w == original {
             return replacement;
         }
         return w;
     }
-    if s == 91 {
+    if s == FUNCTION {
         if w == original {
             return replacement;
         }
@@ -286,9 +284,9 @@ fn redirect_one(
     requires { ⌜ j < countAt 6 (now words) ⌝ }
     ensures { λ _. ⌜ Turns (now (words .exit)) (now (words .entry)) (now (tags .entry)) n (turnOne j original replacement (now (omit .entry))) ⌝ }
 {
-    let at = start_of(words, tags, n, j);
+    let at = record_at(words, tags, n, FUNCTIONS, j);
     if !stays(replacement, omit, j, words[at]) {
-        let end = end_of(words, tags, n, j);
+        let end = record_end(words, tags, n, FUNCTIONS, j);
         redirect_fn(words, tags, at, end, original, replacement);
     }
 }
@@ -305,7 +303,7 @@ fn redirect_functions(
     requires { ⌜ Tape (now words) (now tags) n ⌝ }
     ensures { λ _. ⌜ Turns (now (words .exit)) (now (words .entry)) (now (tags .entry)) n (turnAll original replacement (now (omit .entry))) ⌝ }
 {
-    let count = wide(words[14]);
+    let count = count(words, FUNCTIONS);
     let mut j = 0;
     while j < count {
         let i = j;
@@ -327,8 +325,8 @@ fn redirect_all(
     ensures { λ _. ⌜ Turns (now (words .exit)) (now (words .entry)) (now (tags .entry)) n (redirectedBy original replacement (now (omit .entry))) ⌝ }
 {
     redirect_functions(words, tags, n, original, replacement, omit);
-    let at = wide(words[17]);
-    let end = wide(words[19]);
+    let at = offset(words, ENTRIES);
+    let end = offset(words, SPECIAL);
     redirect_fn(words, tags, at, end, original, replacement);
 }
 

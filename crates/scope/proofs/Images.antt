@@ -19,10 +19,10 @@ use Rattle.model.specs.Initial.{initialised}
 use Rattle.model.specs.Numbers.{Bounds, caps, bound, below, within, ordered, every, outside, inside, sound}
 use Rattle.model.specs.Scope.{scoped, allScoped, entriesScoped, inScope}
 use Rattle.laws.specs.FunctionViews.{part-end, looked-at}
-use Rattle.numbers.specs.Ranges.{Says, Frame, tablesFine, kindsFine, functionsFine, entriesFine}
+use Rattle.numbers.specs.Passes.{Says, Frame, tablesFine, kindsFine, functionsFine, entriesFine}
 use Rattle.numbers.proofs.Framing.{Word, noFunction, noEntry, Framing, framing-functions, framing-entries, functions-in, entries-in, numbered-is}
 use Rattle.laws.specs.Lists.{and-split}
-use Rattle.scope.specs.Functions.{Stated, Scoped, Numbered, functionsScoped, entryPointsScoped}
+use Rattle.scope.specs.Functions.{Stated, Scoped, InRange, functionsScoped, entryPointsScoped}
 use Rattle.scope.proofs.Trees.{Runs, runs-word}
 use Rattle.scope.proofs.Whole.{part-runs}
 
@@ -137,7 +137,7 @@ InFunctions = Onward 6 (λ m. m .functions) (λ f. f) flat (λ p. p) noFunction
 abbrev pub InEntries : List ℕ → List ℕ → ℕ → ℕ → Type 0
 InEntries = Onward 7 (λ m. m .entries) (λ e. e .function) flatEntry (λ p. p + 7) noEntry
 
-module _ (words tags : List ℕ) (n : ℕ) (nb : Numbered words tags n) where
+module _ (words tags : List ℕ) (n : ℕ) (nb : InRange words tags n) where
   functions-good : (m : Module) → Taped words tags n m → every (λ x. sound (outside m) x (flat x)) (m .functions) ≡ true
   unfolding functionsFine
   functions-good m tp = and-split (functionsFine m) (entriesFine m) (and-split (kindsFine m) (functionsFine m && entriesFine m) (and-split (tablesFine m) (kindsFine m && (functionsFine m && entriesFine m)) (sym (numbered-is m) ∙ nb .holds m tp) .1) .1) .0
@@ -153,9 +153,8 @@ module _ (words tags : List ℕ) (n : ℕ) (nb : Numbered words tags n) where
   entries-begin = onward-begin 7 _ _ _ _ _ words tags n (framing-entries words tags n)
 
   module _ (count j : ℕ) where
-    module _ (is : Word count (getD words 14 0)) (inv : InFunctions words tags n j) where
+    module _ (is : Word count (countAt 6 words)) (inv : InFunctions words tags n j) where
       pub functions-done : count ≤ j → Says true words tags n functionsScoped
-      unfolding countAt
       functions-done h = record { same = λ m tp. onward-done 6 _ _ _ _ _ words tags n (framing-functions words tags n) j inv (omega (arith, is .0)) m tp ∙ all-every (m .functions) }
 
       module _ (h : j < count) (at end : ℕ) (at-is : at ≡ recordAt 6 j words) (end-is : end ≡ recordEnd 6 j words) where
@@ -169,9 +168,8 @@ module _ (words tags : List ℕ) (n : ℕ) (nb : Numbered words tags n) where
           pub functions-next : not r ≡ false → InFunctions words tags n (j + 1)
           functions-next q = onward-next 6 _ _ _ _ _ words tags n (framing-functions words tags n) j inv (functions-in words count j is h) functions-good r (rw (at-is, end-is) at got) q
 
-    module _ (is : Word count (getD words 16 0)) (inv : InEntries words tags n j) where
+    module _ (is : Word count (countAt 7 words)) (inv : InEntries words tags n j) where
       pub entries-done : count ≤ j → Says true words tags n entryPointsScoped
-      unfolding countAt
       entries-done h = record { same = λ m tp. onward-done 7 _ _ _ _ _ words tags n (framing-entries words tags n) j inv (omega (arith, is .0)) m tp ∙ entries-every (m .entries) }
 
       module _ (h : j < count) (at end : ℕ) (at-is : at ≡ recordAt 7 j words) (end-is : end ≡ recordEnd 7 j words) where

@@ -8,12 +8,14 @@ use native.Mathlib.Nat.{le-refl}
 use native.Mathlib.Numerals.{add-one}
 use native.Mathlib.Omega.{arith}
 use lib.Dec.{eqb, ltb, leb}
-use lib.ListN.{getD}
+use lib.ListN.{length, getD}
 use borrow.Author.Tests.{eq-eqb, ne-eqb, lt-ltb, le-ltb, le-leb, lt-leb, leb-true, leb-false, not-true, not-false}
 use Rattle.model.specs.Outcome.{Cells}
 use Rattle.model.specs.Tree.{optOf, wordOf}
 use Rattle.model.specs.Operands.{optional, operand, opsOf, resultOf, standingKind, resultKind, emittedKind}
-use Rattle.scope.specs.Tape.{cellsFrom, between, Steps, steps-next, stepped, Placed}
+use Rattle.model.specs.Between.{between}
+use Rattle.laws.specs.Betweens.{between-none, between-next}
+use Rattle.scope.specs.Tape.{cellsFrom, cellsIn, Steps, steps-next, stepped, Placed}
 use Rattle.scope.specs.Lasts.{told, visibleAt, allSeen, keptOf}
 
 -- ---- kinds
@@ -135,17 +137,26 @@ pub cells-none : (ws ts : List ℕ) (i to : ℕ) → to ≤ i → cellsFrom (to 
 unfolding cellsFrom
 cells-none ws ts i to h = let e : to - i ≡ 0 = omega arith in rw e
 
+-- inside words and tape they are the model's cells between two places
+pub cells-between : (ws ts : List ℕ) (from to : ℕ) → from ≤ to → to ≤ length ws → to ≤ length ts → cellsIn ws ts from to ≡ between ts ws from to
+unfolding cellsIn cellsFrom
+cells-between ws ts from to h w t = go (to - from) from (omega arith)
+  where
+    go : (n i : ℕ) → i + n ≡ to → cellsFrom n ws ts i ≡ between ts ws i to
+    go zero i e = sym (between-none ts ws i to (omega arith))
+    go (suc n) i e = ap ((getD ts i 0, getD ws i 0) ∷_) (go n (suc i) (omega arith)) ∙ sym (between-next ts ws i to (omega arith) t w)
+
 -- ---- the loop of reads
 pub record Reading (ws ts : List ℕ) (from to : ℕ) (f : ℕ → Bool) (i : ℕ) : Type 0 where
-  pub same : allSeen (opsOf (cellsFrom (to - i) ws ts i)) f ≡ allSeen (opsOf (between ws ts from to)) f
+  pub same : allSeen (opsOf (cellsFrom (to - i) ws ts i)) f ≡ allSeen (opsOf (cellsIn ws ts from to)) f
 
 module _ (ws ts : List ℕ) (from to : ℕ) (f : ℕ → Bool) where
   pub reads-begin : Reading ws ts from to f from
-  unfolding between
+  unfolding cellsIn
   reads-begin = record { same = refl }
 
   module _ (i : ℕ) (inv : Reading ws ts from to f i) where
-    opened : i < to → (allSeen (operand (getD ts i 0) (getD ws i 0) []) f && allSeen (opsOf (cellsFrom (to - (i + 1)) ws ts (i + 1))) f) ≡ allSeen (opsOf (between ws ts from to)) f
+    opened : i < to → (allSeen (operand (getD ts i 0) (getD ws i 0) []) f && allSeen (opsOf (cellsFrom (to - (i + 1)) ws ts (i + 1))) f) ≡ allSeen (opsOf (cellsIn ws ts from to)) f
     unfolding opsOf
     opened h =
         sym (seen-append (operand (getD ts i 0) (getD ws i 0) []) (opsOf (cellsFrom (to - (i + 1)) ws ts (i + 1))) f)
@@ -154,19 +165,19 @@ module _ (ws ts : List ℕ) (from to : ℕ) (f : ℕ → Bool) where
         ∙ inv .same
 
     module _ (h : i < to) (r : Bool) (is : r ≡ allSeen (operand (getD ts i 0) (getD ws i 0) []) f) where
-      pub reads-wrong : not r ≡ true → false ≡ allSeen (opsOf (between ws ts from to)) f
+      pub reads-wrong : not r ≡ true → false ≡ allSeen (opsOf (cellsIn ws ts from to)) f
       reads-wrong e = ap (_&& allSeen (opsOf (cellsFrom (to - (i + 1)) ws ts (i + 1))) f) (sym (not-true r e) ∙ is) ∙ opened h
 
       pub reads-next : not r ≡ false → Reading ws ts from to f (i + 1)
       reads-next e = record { same = ap (_&& allSeen (opsOf (cellsFrom (to - (i + 1)) ws ts (i + 1))) f) (sym (not-false r e) ∙ is) ∙ opened h }
 
-    pub reads-done : to ≤ i → true ≡ allSeen (opsOf (between ws ts from to)) f
+    pub reads-done : to ≤ i → true ≡ allSeen (opsOf (cellsIn ws ts from to)) f
     unfolding opsOf allSeen
     reads-done h = ap (λ l. allSeen (opsOf l) f) (sym (cells-none ws ts i to h)) ∙ inv .same
 
 -- ---- the loop that looks for a result
 pub record Looking (ws ts : List ℕ) (from to i : ℕ) : Type 0 where
-  pub same : resultOf (cellsFrom (to - i) ws ts i) ≡ resultOf (between ws ts from to)
+  pub same : resultOf (cellsFrom (to - i) ws ts i) ≡ resultOf (cellsIn ws ts from to)
 
 word-opt : (w : ℕ) → wordOf (optOf w) ≡ w
 unfolding wordOf optOf
@@ -199,24 +210,24 @@ result-none = refl
 
 module _ (ws ts : List ℕ) (from to : ℕ) where
   pub look-begin : Looking ws ts from to from
-  unfolding between
+  unfolding cellsIn
   look-begin = record { same = refl }
 
   module _ (i : ℕ) (inv : Looking ws ts from to i) where
-    here : i < to → resultOf (between ws ts from to) ≡ resultOf ((getD ts i 0, getD ws i 0) ∷ cellsFrom (to - (i + 1)) ws ts (i + 1))
+    here : i < to → resultOf (cellsIn ws ts from to) ≡ resultOf ((getD ts i 0, getD ws i 0) ∷ cellsFrom (to - (i + 1)) ws ts (i + 1))
     here h = sym (inv .same) ∙ ap resultOf (cells-next ws ts i to h)
 
     module _ (h : i < to) (w : ℕ) (is : (w ≡ getD ws i 0) × (w < 2 ^ 32)) where
-      pub look-result : getD ts i 0 ≡ 99 → w + 1 ≡ wordOf (resultOf (between ws ts from to))
+      pub look-result : getD ts i 0 ≡ 99 → w + 1 ≡ wordOf (resultOf (cellsIn ws ts from to))
       look-result e = rw (add-one w) (ap suc (is .0) ∙ sym (ap wordOf (here h ∙ result-here (getD ts i 0) (getD ws i 0) _ e) ∙ word-some (getD ws i 0)))
 
-      pub look-optional : (getD ts i 0 ≡ 99 → ⊥) → getD ts i 0 ≡ 100 → w ≡ wordOf (resultOf (between ws ts from to))
+      pub look-optional : (getD ts i 0 ≡ 99 → ⊥) → getD ts i 0 ≡ 100 → w ≡ wordOf (resultOf (cellsIn ws ts from to))
       look-optional n e = is .0 ∙ sym (ap wordOf (here h ∙ result-optional (getD ts i 0) (getD ws i 0) _ e) ∙ word-opt (getD ws i 0))
 
     pub look-next : i < to → (getD ts i 0 ≡ 99 → ⊥) → (getD ts i 0 ≡ 100 → ⊥) → Looking ws ts from to (i + 1)
     look-next h n m = record { same = sym (here h ∙ result-later (getD ts i 0) (getD ws i 0) _ n m) }
 
-    pub look-done : to ≤ i → 0 ≡ wordOf (resultOf (between ws ts from to))
+    pub look-done : to ≤ i → 0 ≡ wordOf (resultOf (cellsIn ws ts from to))
     look-done h = sym (ap wordOf (sym (inv .same) ∙ ap resultOf (cells-none ws ts i to h) ∙ result-none) ∙ word-none)
 
 -- ---- through a block

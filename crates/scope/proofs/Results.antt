@@ -15,7 +15,7 @@ use Rattle.model.specs.Tree.{wordOf}
 use Rattle.model.specs.Operands.{opsOf, resultOf, functionOf, kindAt, standing}
 use Rattle.model.specs.Scope.{addE, addOpt, evalsOpt, isOf, callResult, effectResult, allVis}
 use Rattle.scope.specs.Fine.{fresh}
-use Rattle.scope.specs.Tape.{cellsFrom, between, exprsOf, Exprs}
+use Rattle.scope.specs.Tape.{cellsFrom, cellsIn, exprsOf, Exprs}
 use Rattle.scope.specs.Lasts.{Scope, visibleAt, allSeen, fitsResult, resultIn, FoundO, FoundL}
 use Rattle.scope.proofs.Scopes.{expr-in, kind-tag, kind-in, kind-out, record-begins, seen-is, kept-all, kept-set, scope-add, tells-false}
 
@@ -138,7 +138,7 @@ fits-none xs k f = go (eqb k 15)
     go false = refl
 
 fits-out : (ws ts st : List ℕ) (count e k f : ℕ) → count ≤ e → fitsResult (exprsOf ws ts st count) k f (some e) ≡ false
-unfolding fitsResult callResult effectResult
+unfolding fitsResult callResult effectResult expressions
 fits-out ws ts st count e k f h = go (eqb k 15) refl (eqb k 14) refl
   where
     go : (b : Bool) → eqb k 15 ≡ b → (c : Bool) → eqb k 14 ≡ c → fitsResult (exprsOf ws ts st count) k f (some e) ≡ false
@@ -146,7 +146,7 @@ fits-out ws ts st count e k f h = go (eqb k 15) refl (eqb k 14) refl
     go false b true c = rw (fitsResult, b, kind-out ws ts st count e h, c)
     go false b false c = rw (fitsResult, b, kind-out ws ts st count e h, c)
 
-module _ (ws ts st u : List ℕ) (count at stop keep : ℕ) (x : Exprs ws ts st count) (keeps : stop ≤ keep) (short : at + 4 ≤ stop) (r : ℕ) (r-is : r ≡ wordOf (resultOf (between ws ts (at + 4) stop))) where
+module _ (ws ts st u : List ℕ) (count at stop keep : ℕ) (x : Exprs ws ts st count) (keeps : stop ≤ keep) (short : at + 4 ≤ stop) (r : ℕ) (r-is : r ≡ wordOf (resultOf (cellsIn ws ts (at + 4) stop))) where
   pub result-none : r ≡ 0 → FoundO ws ts st count at stop keep u u true
   unfolding evalsOpt addOpt fresh addE
   result-none z =
@@ -180,8 +180,8 @@ module _ (ws ts st u : List ℕ) (count at stop keep : ℕ) (x : Exprs ws ts st 
         }
 
 -- where there is a result there is a field
-pub result-in : (ws ts : List ℕ) (from to r : ℕ) → r ≡ wordOf (resultOf (between ws ts from to)) → (r ≡ 0 → ⊥) → from < to
-unfolding between cellsFrom resultOf wordOf
+pub result-in : (ws ts : List ℕ) (from to r : ℕ) → r ≡ wordOf (resultOf (cellsIn ws ts from to)) → (r ≡ 0 → ⊥) → from < to
+unfolding cellsIn cellsFrom resultOf wordOf
 result-in ws ts from to r is n = go (ltb from to) refl
   where
     go : (b : Bool) → ltb from to ≡ b → from < to
@@ -189,9 +189,9 @@ result-in ws ts from to r is n = go (ltb from to) refl
     go false h = let z : to - from ≡ 0 = omega (arith, ltb-false from to h) in absurd (n (rw z at is))
 
 -- ---- a statement without blocks
-module _ (ws ts st u : List ℕ) (count at stop keep : ℕ) (x : Exprs ws ts st count) (keeps : stop ≤ keep) (short : at + 4 ≤ stop) (r : Bool) (r-is : r ≡ allSeen (opsOf (between ws ts (at + 4) stop)) (visibleAt ws st u count at)) where
-  simple-is : (ρ δ : List ℕ) → Scope count at keep ρ δ u → allVis (standing (exprsOf ws ts st count)) ρ (opsOf (between ws ts (at + 4) stop)) ≡ r
-  simple-is ρ δ s = sym (seen-is ws ts st count x u ρ δ at keep s (omega arith) (opsOf (between ws ts (at + 4) stop))) ∙ sym r-is
+module _ (ws ts st u : List ℕ) (count at stop keep : ℕ) (x : Exprs ws ts st count) (keeps : stop ≤ keep) (short : at + 4 ≤ stop) (r : Bool) (r-is : r ≡ allSeen (opsOf (cellsIn ws ts (at + 4) stop)) (visibleAt ws st u count at)) where
+  simple-is : (ρ δ : List ℕ) → Scope count at keep ρ δ u → allVis (standing (exprsOf ws ts st count)) ρ (opsOf (cellsIn ws ts (at + 4) stop)) ≡ r
+  simple-is ρ δ s = sym (seen-is ws ts st count x u ρ δ at keep s (omega arith) (opsOf (cellsIn ws ts (at + 4) stop))) ∙ sym r-is
 
   pub simple-reads : not r ≡ true → FoundL ws ts st count at stop keep u u false
   simple-reads h = record { found = λ ρ δ s. tells-false (rw (simple-is ρ δ s, not-true r h)) }

@@ -11,12 +11,12 @@ use lib.ListN.{length, getD, set, length-set}
 use lib.Seq.{getD-set-same, getD-set-other}
 use borrow.Author.Tests.{eq-eqb, ne-eqb, lt-ltb, le-ltb, eqb-true, eqb-false, ltb-true, ltb-false, not-true, not-false}
 use Rattle.model.specs.Outcome.{Cells}
-use Rattle.model.specs.Table.{Row, EXPR-KIND, expressionRow}
+use Rattle.model.specs.Table.{Row, EXPR-KIND, expressions, expressionRow}
 use Rattle.model.specs.Carry.{Lays, lays-next}
-use Rattle.model.specs.Operands.{opsOf, kind, standingKind, kindAt, standing, ops, emittedKind}
+use Rattle.model.specs.Operands.{opsOf, NO-KIND, kind, standingKind, kindAt, standing, ops, emittedKind}
 use Rattle.model.specs.Scope.{has, vis, allVis, addE, live, upFrom, inRange}
 use Rattle.scope.specs.Fine.{oneE, nextE, fineE}
-use Rattle.scope.specs.Tape.{cellsFrom, between, recordOf, tableFrom, exprsOf, Exprs, marks}
+use Rattle.scope.specs.Tape.{cellsFrom, cellsIn, recordOf, tableFrom, exprsOf, Exprs, marks}
 use Rattle.scope.specs.Lasts.{Scope, Kept, Tells, visibleAt, allSeen, FoundE, FoundR}
 use Rattle.scope.proofs.Restated.{live-drop, live-keep, next-drop, next-keep}
 use Rattle.scope.proofs.Leaves.{cells-next}
@@ -78,7 +78,7 @@ module _ (ws ts st : List ℕ) where
     module _ (x : Exprs ws ts st count) where
       -- a record begins with its kind
       pub record-begins : (e : ℕ) → e < count → recordOf ws ts st e ≡ (getD ts (getD st e 0) 0, getD ws (getD st e 0) 0) ∷ cellsFrom (getD st (suc e) 0 - (getD st e 0 + 1)) ws ts (getD st e 0 + 1)
-      unfolding recordOf between
+      unfolding recordOf cellsIn
       record-begins e h = cells-next ws ts (getD st e 0) (getD st (suc e) 0) (x .placed .rising e h)
 
       lays-class : {s t w : ℕ} {ss : Row} {cs : Cells} → Lays (s ∷ ss) ((t, w) ∷ cs) → t ≡ s
@@ -96,12 +96,12 @@ module _ (ws ts st : List ℕ) where
       unfolding standing
       standing-in e h = ap standingKind (kind-in e h)
 
-    pub kind-out : (e : ℕ) → count ≤ e → kindAt (exprsOf ws ts st count) e ≡ 27
+    pub kind-out : (e : ℕ) → count ≤ e → kindAt (exprsOf ws ts st count) e ≡ NO-KIND
     unfolding kindAt kind
     kind-out e h = ap kind (expr-out e h)
 
     pub standing-out : (e : ℕ) → count ≤ e → standing (exprsOf ws ts st count) e ≡ false
-    unfolding standing standingKind
+    unfolding standing standingKind expressions
     standing-out e h = ap standingKind (kind-out e h)
 
     -- ---- what is seen is what is in scope
@@ -273,13 +273,13 @@ module _ (ws ts st ini u : List ℕ) (count at keep e : ℕ) (x : Exprs ws ts st
           };
         }
 
-        module _ (m : getD ini e 0 ≡ 0) (from to : ℕ) (from-is : (from ≡ getD st e 0) × (from < 2 ^ 32)) (to-is : (to ≡ getD st (e + 1) 0) × (to < 2 ^ 32)) (r : Bool) (r-is : r ≡ allSeen (opsOf (between ws ts from to)) (visibleAt ws st u count at)) where
+        module _ (m : getD ini e 0 ≡ 0) (from to : ℕ) (from-is : (from ≡ getD st e 0) × (from < 2 ^ 32)) (to-is : (to ≡ getD st (e + 1) 0) × (to < 2 ^ 32)) (r : Bool) (r-is : r ≡ allSeen (opsOf (cellsIn ws ts from to)) (visibleAt ws st u count at)) where
           reads-is : (ρ δ : List ℕ) → Scope count at keep ρ δ u → allVis (standing (exprsOf ws ts st count)) ρ (ops (exprsOf ws ts st count) e) ≡ r
           unfolding ops recordOf
           reads-is ρ δ s =
-              let a : recordOf ws ts st e ≡ between ws ts from to = rw (from-is .0, to-is .0, add-one e) in
+              let a : recordOf ws ts st e ≡ cellsIn ws ts from to = rw (from-is .0, to-is .0, add-one e) in
               ap (λ l. allVis (standing (exprsOf ws ts st count)) ρ (opsOf l)) (expr-in ws ts st count e i ∙ a)
-              ∙ sym (seen-is ws ts st count x u ρ δ at keep s h (opsOf (between ws ts from to)))
+              ∙ sym (seen-is ws ts st count x u ρ δ at keep s h (opsOf (cellsIn ws ts from to)))
               ∙ sym r-is
 
           pub evaluated-reads : not r ≡ true → FoundE ws ts st ini count at keep e u u false

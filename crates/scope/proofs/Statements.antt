@@ -15,7 +15,7 @@ use Rattle.model.specs.Operands.{optional, operand, opsOf, resultOf, standing}
 use Rattle.model.specs.Scope.{Place, XBlock, inSwitch, inLoop, inContinuing, inRange, expandS, expandF, expand, expandK, expandC, effectResult, evalsOpt, evalsS, evalsF, evalsB, addE, addOpt, addS, addF, topB, holdsS, holdsF, holdsB, holdsK, holdsC, contB, vis, allVis, optVis}
 use Rattle.laws.specs.Lists.{and-split}
 use Rattle.scope.specs.Fine.{keepAll, doneB, doneS, doneK, fresh, fineS, fineF, fineB, fineK, fineC}
-use Rattle.scope.specs.Tape.{between, stmtOf, HoldsB, HoldsS, exprsOf, Steps, stepped, marks}
+use Rattle.scope.specs.Tape.{cellsIn, stmtOf, HoldsB, HoldsS, exprsOf, Steps, stepped, marks}
 use Rattle.scope.specs.Lasts.{Scope, Kept, told, Finds, visibleAt, allSeen, fitsResult, placeOf, rangeOf, StmtHere, BlockHere, FindsS, FindsB, FoundS, FoundB, FoundR, FoundL}
 use Rattle.scope.proofs.Restated.{addE-append, live-all}
 use Rattle.scope.proofs.Leaves.{operand-optional}
@@ -507,7 +507,7 @@ module _ (ws ts st ini u₀ : List ℕ) (count at stop keep : ℕ) (here : StmtH
   Z : Simple (exprsOf ws ts st count) (marks ws ts st count ini) (H .f) (getD ws (at + 4) 0)
   Z = simple-of (exprsOf ws ts st count) (marks ws ts st count ini) ws ts (at + 4) (H .f) (H .runs) (H .ok) (omega (arith, H .kind))
 
-  fields : between ws ts (at + 4) stop ≡ flatF (H .f)
+  fields : cellsIn ws ts (at + 4) stop ≡ flatF (H .f)
   fields = between-runs ws ts (at + 4) stop (flatF (H .f)) (H .runs) (H .long)
 
   pub stmt-simple : (b c r : Bool) (u : List ℕ) (v : Bool) → FoundL ws ts st count at stop keep u₀ u v → (n : ℕ) → n ≡ told v false → (getD ws (at + 1) 0 ≡ 7 → r ≡ true) → FoundS ws ts st ini count at stop keep (placeOf b c r) u₀ u n

@@ -11,7 +11,7 @@ use Rattle.model.specs.Table.{BLOCK}
 use Rattle.model.specs.Tree.{Stmt, stmt, Form, kill, Block, end, _then_, Case, Cases, _also_, Range, sizeB, flatS, flatB, flatBlock, statement, blockAt, DEPTH}
 use Rattle.model.specs.Carry.{OkS, OkF, OkB, OkBs, OkK, OkC, ok-stmt, ok-emit, ok-block, ok-branch, ok-switch, ok-loop, ok-break, ok-continue, ok-return, ok-kill, ok-call, ok-effect, ok-deeper, ok-end, ok-then, ok-case, ok-nomore, ok-also}
 use Rattle.laws.specs.Writing.{write-s, write-b}
-use Rattle.scope.specs.Tape.{cellsFrom, between, got, blockOf, stmtOf, HoldsB, HoldsS, Ends, Steps, steps-none, steps-next, stepped}
+use Rattle.scope.specs.Tape.{cellsFrom, cellsIn, got, blockOf, stmtOf, HoldsB, HoldsS, Ends, Steps, steps-none, steps-next, stepped}
 
 -- ---- runs
 module _ (ws ts : List ℕ) where
@@ -35,12 +35,12 @@ module _ (ws ts : List ℕ) where
       let h : (getD ts i 0, getD ws i 0) ≡ c = cc in
       (ap ((getD ts i 0, getD ws i 0) ∷_) (r .0) ∙ ap (_∷ cs) h, rw q at (r .1))
 
-  pub runs-between : (i j : ℕ) (cs : Cells) → between ws ts i j ≡ cs → i + length cs ≡ j → Runs i cs
-  unfolding between
+  pub runs-between : (i j : ℕ) (cs : Cells) → cellsIn ws ts i j ≡ cs → i + length cs ≡ j → Runs i cs
+  unfolding cellsIn
   runs-between i j cs e l = let q : j - i ≡ length cs = omega arith in rw q at e
 
-  pub between-runs : (i j : ℕ) (cs : Cells) → Runs i cs → i + length cs ≡ j → between ws ts i j ≡ cs
-  unfolding between
+  pub between-runs : (i j : ℕ) (cs : Cells) → Runs i cs → i + length cs ≡ j → cellsIn ws ts i j ≡ cs
+  unfolding cellsIn
   between-runs i j cs e l = let q : j - i ≡ length cs = omega arith in rw q e
 
 -- ---- depth: what fits d levels fits more

@@ -13,18 +13,20 @@ use Rattle.model.specs.Outcome.{Cells, class, word}
 use Rattle.model.specs.Table.{counted, expressionRow}
 use Rattle.model.specs.Tree.{Function, flatAll, flatBlock}
 use Rattle.model.specs.Operands.{standing}
+use Rattle.model.specs.FunctionView.{returnsAt, localsAt, expressionsAt}
 use Rattle.model.specs.Initial.{Marks, marked, moving, initials, initial, reachedMarks, initialised}
 use Rattle.model.specs.Reached.{initial-is, initial-all}
 use Rattle.model.specs.Scope.{inBody, allOf, seen, scoped}
 use Rattle.laws.specs.Sections.{startOf, start-end}
 use Rattle.laws.specs.FunctionViews.{Held, Part, part-end, part-right, part-word, part-tag, namedAt, bodyAt, each-at, expression-first, expr-part, expr-shape, named-count, parts, stands-end}
-use Rattle.numbers.specs.Ranges.{Lists, Listed, Framed}
-use Rattle.numbers.specs.Marks.{finds, on, inits, Visits, Work, Starting, Reaching, Reaches}
-use Rattle.numbers.proofs.Reaching.{all, starting, begun, many-is, many-few, end-in}
-use Rattle.numbers.proofs.Framing.{Word, lists-are}
+use Rattle.initial.specs.Lists.{Lists, Listed}
+use Rattle.numbers.specs.Passes.{Framed}
+use Rattle.initial.specs.Marks.{finds, on, inits, Visits, Work, Starting, Reaching, Reaches}
+use Rattle.initial.proofs.Reaching.{all, starting, begun, many-is, many-few, end-in}
+use Rattle.numbers.proofs.Framing.{lists-are}
 use Rattle.laws.specs.Lists.{and-split, bool-same}
 use Rattle.scope.specs.Fine.{fineB}
-use Rattle.scope.specs.Tape.{cellsFrom, between, blockOf, HoldsB, Ends, recordOf, tableFrom, exprsOf, Placed, Exprs, marks}
+use Rattle.scope.specs.Tape.{cellsFrom, cellsIn, blockOf, HoldsB, Ends, recordOf, tableFrom, exprsOf, Placed, Exprs, marks}
 use Rattle.scope.specs.Lasts.{BlockHere}
 use Rattle.scope.specs.Functions.{Lent, Known, Tested, Stated, Scoped}
 use Rattle.scope.proofs.Restated.{restated}
@@ -44,7 +46,7 @@ part-runs {ws} {ts} o (c ∷ cs) {p} {q} v =
     let h : (getD ts p 0, getD ws p 0) ≡ c = ap (λ x. (x, getD ws p 0)) a ∙ ap (λ x. (class c, x)) b in
     ap ((getD ts p 0, getD ws p 0) ∷_) y ∙ ap (_∷ cs) h
 
-part-cells : {ws ts : List ℕ} {cells : Cells} (o : Held ws ts cells) {cs : Cells} {p q : ℕ} → Part cells p q cs → between ws ts p q ≡ cs
+part-cells : {ws ts : List ℕ} {cells : Cells} (o : Held ws ts cells) {cs : Cells} {p q : ℕ} → Part cells p q cs → cellsIn ws ts p q ≡ cs
 part-cells {ws} {ts} o {cs} {p} {q} v = between-runs ws ts p q cs (part-runs o cs v) (sym (part-end v))
 
 -- a mark is one of an expression
@@ -207,14 +209,15 @@ module _ (words tags : List ℕ) (at from end : ℕ) (pre : Stated words tags at
   pub stated-framed : Framed words tags at from end
   stated-framed = record { function = pre .function; record-cells = pre .cells; frame = pre .frame }
 
-  module _ (a r l : ℕ) (a-is : Word a (getD words (from + 3) 0)) (r-is : Word r (getD words (from + 4 + 8 * a) 0)) (l-is : Word l (getD words (from + 4 + 8 * a + 1 + 7 * r) 0)) where
-    pub stated-known : Known words tags (from + 4 + 8 * a + 1 + 7 * r) (from + 4 + 8 * a + 1 + 7 * r + 1 + 5 * l) end
+  module _ (locals exprs : ℕ) (locals-is : locals ≡ localsAt from words) (exprs-is : exprs ≡ expressionsAt from words) where
+    pub stated-known : Known words tags locals exprs end
+    unfolding expressionsAt localsAt returnsAt
     stated-known = record {
       function = pre .function;
-      lists = lists-are (pre .frame) a r l 0 (a-is .0) (r-is .0) (l-is .0);
+      lists = lists-are (pre .frame) locals exprs locals-is exprs-is;
       inits = pre .inits;
-      ends = ends-in words tags (from + 4 + 8 * a + 1 + 7 * r + 1 + 5 * l) end (pre .ends) (omega arith) (omega arith);
+      ends = ends-in words tags exprs end (pre .ends) (omega arith) (omega arith);
     }
 
-    pub stated-scoped : (q : Bool) → Tested q words tags (from + 4 + 8 * a + 1 + 7 * r) (from + 4 + 8 * a + 1 + 7 * r + 1 + 5 * l) end → Scoped q words tags at from end
-    stated-scoped q got = record { same = λ f cs fr i. got .same f (lists-are fr a r l 0 (a-is .0) (r-is .0) (l-is .0)) i }
+    pub stated-scoped : (q : Bool) → Tested q words tags locals exprs end → Scoped q words tags at from end
+    stated-scoped q got = record { same = λ f cs fr i. got .same f (lists-are fr locals exprs locals-is exprs-is) i }

@@ -11,7 +11,8 @@ use Rattle.model.specs.Taped.{Taped}
 use Rattle.model.specs.Initial.{initialised}
 use Rattle.model.specs.Numbers.{numbered}
 use Rattle.model.specs.Scope.{scoped, allScoped, entriesScoped}
-use Rattle.numbers.specs.Ranges.{Frame, Lists}
+use Rattle.numbers.specs.Passes.{Frame}
+use Rattle.initial.specs.Lists.{Lists}
 use Rattle.scope.specs.Tape.{Ends}
 
 -- the arrays that a pass works in: where expressions start, what is still to be visited, and how long each lasts
@@ -42,7 +43,7 @@ pub record Scoped (r : Bool) (words tags : List ℕ) (at from end : ℕ) : Type 
   pub same : (f : Function) (cs : Cells) → Frame words tags at from end f cs → initialised f ≡ true → r ≡ scoped f
 
 -- every module in words and tape has its numbers in range
-pub record Numbered (words tags : List ℕ) (n : ℕ) : Type 0 where
+pub record InRange (words tags : List ℕ) (n : ℕ) : Type 0 where
   pub holds : (m : Module) → Taped words tags n m → numbered m ≡ true
 
 -- "of every function and every entry point"

@@ -11,7 +11,7 @@ use Rattle.model.specs.Outcome.{Cells}
 use Rattle.model.specs.Operands.{opsOf, resultOf, standingKind, standing}
 use Rattle.model.specs.Scope.{Place, expandS, expand, inRange, live, has, addE, addS, holdsS, holdsB, contB, addOpt, evalsOpt, callResult, effectResult, allVis}
 use Rattle.scope.specs.Fine.{doneB, doneS, fresh, oneE, nextE, fineE, fineS, fineB}
-use Rattle.scope.specs.Tape.{between, blockOf, stmtOf, HoldsB, HoldsS, Ends, exprsOf, Exprs, marks}
+use Rattle.scope.specs.Tape.{cellsIn, blockOf, stmtOf, HoldsB, HoldsS, Ends, exprsOf, Exprs, marks}
 
 pub record Scope (count q k : ℕ) (ρ δ u : List ℕ) : Type 0 where
   pub long : length u ≡ 1024
@@ -111,7 +111,7 @@ pub record FoundR (ws ts st ini : List ℕ) (count at keep a b : ℕ) (u₀ u : 
 
 -- the result of a statement, and the whole of a statement without blocks
 abbrev pub resultIn : List ℕ → List ℕ → ℕ → ℕ → Option ℕ
-resultIn ws ts at stop = resultOf (between ws ts (at + 4) stop)
+resultIn ws ts at stop = resultOf (cellsIn ws ts (at + 4) stop)
 
 abbrev pub resultOk : List ℕ → List ℕ → List ℕ → ℕ → ℕ → ℕ → List ℕ → Bool
 resultOk ws ts st count at stop δ = fitsResult (exprsOf ws ts st count) (getD ws (at + 1) 0) (getD ws (at + 4) 0) (resultIn ws ts at stop) && fresh (evalsOpt (resultIn ws ts at stop)) δ
@@ -122,4 +122,4 @@ pub record FoundO (ws ts st : List ℕ) (count at stop keep : ℕ) (u₀ u : Lis
 
 pub record FoundL (ws ts st : List ℕ) (count at stop keep : ℕ) (u₀ u : List ℕ) (r : Bool) : Type 0 where
   pub found : (ρ δ : List ℕ) → Scope count at keep ρ δ u₀
-      → Tells count at keep u₀ u r (allVis (standing (exprsOf ws ts st count)) ρ (opsOf (between ws ts (at + 4) stop)) && resultOk ws ts st count at stop δ) (addOpt (resultIn ws ts at stop) ρ) (addE (evalsOpt (resultIn ws ts at stop)) δ)
+      → Tells count at keep u₀ u r (allVis (standing (exprsOf ws ts st count)) ρ (opsOf (cellsIn ws ts (at + 4) stop)) && resultOk ws ts st count at stop δ) (addOpt (resultIn ws ts at stop) ρ) (addE (evalsOpt (resultIn ws ts at stop)) δ)

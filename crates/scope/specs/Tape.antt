@@ -17,8 +17,9 @@ unfoldable pub cellsFrom : ℕ → List ℕ → List ℕ → ℕ → Cells
 cellsFrom zero ws ts i = []
 cellsFrom (suc n) ws ts i = (getD ts i 0, getD ws i 0) ∷ cellsFrom n ws ts (suc i)
 
-unfoldable pub between : List ℕ → List ℕ → ℕ → ℕ → Cells
-between ws ts from to = cellsFrom (to - from) ws ts from
+-- those from one word to another: the model's `between` where both lie inside the words (proofs/Leaves.antt, `cells-between`), and nothing has to be said of lengths
+unfoldable pub cellsIn : List ℕ → List ℕ → ℕ → ℕ → Cells
+cellsIn ws ts from to = cellsFrom (to - from) ws ts from
 
 -- ---- trees
 unfoldable pub got : {A : Type 0} → A → Outcome A → A
@@ -28,20 +29,20 @@ got d unknown = d
 
 -- what the words from `at` to `fin` are read as
 unfoldable pub blockOf : List ℕ → List ℕ → ℕ → ℕ → Block Range
-blockOf ws ts at fin = got end (blockAt DEPTH (map word (between ws ts at fin)))
+blockOf ws ts at fin = got end (blockAt DEPTH (map word (cellsIn ws ts at fin)))
 
 unfoldable pub stmtOf : List ℕ → List ℕ → ℕ → ℕ → Stmt Range
-stmtOf ws ts at stop = got (stmt 0 0 kill) (statement (blockAt DEPTH) (map word (between ws ts at stop)))
+stmtOf ws ts at stop = got (stmt 0 0 kill) (statement (blockAt DEPTH) (map word (cellsIn ws ts at stop)))
 
 -- they are this block, this statement
 pub record HoldsB (ws ts : List ℕ) (at fin : ℕ) (b : Block Range) : Type 0 where
-  pub cells : between ws ts at fin ≡ flatBlock b
+  pub cells : cellsIn ws ts at fin ≡ flatBlock b
   pub long : at + length (flatBlock b) ≡ fin
   pub within : fin ≤ 16384
   pub ok : OkB DEPTH b
 
 pub record HoldsS (ws ts : List ℕ) (at stop : ℕ) (s : Stmt Range) : Type 0 where
-  pub cells : between ws ts at stop ≡ flatS s
+  pub cells : cellsIn ws ts at stop ≡ flatS s
   pub long : at + length (flatS s) ≡ stop
   pub within : stop ≤ 16384
   pub ok : OkS DEPTH s
@@ -61,7 +62,7 @@ stepped (suc n) ws i = stepped n ws (i + getD ws i 0)
 
 -- ---- the expressions of a function, which start at the words st
 unfoldable pub recordOf : List ℕ → List ℕ → List ℕ → ℕ → Cells
-recordOf ws ts st e = between ws ts (getD st e 0) (getD st (suc e) 0)
+recordOf ws ts st e = cellsIn ws ts (getD st e 0) (getD st (suc e) 0)
 
 unfoldable pub tableFrom : ℕ → List ℕ → List ℕ → List ℕ → ℕ → List Cells
 tableFrom zero ws ts st e = []

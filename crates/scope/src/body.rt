@@ -1,6 +1,11 @@
 // Scope in one pass over a body. Beside each expression stands the word up to which it is in scope: 0 while it is not evaluated, and 1, which no
 // statement lies before, for an initialiser expression. What a block evaluates stays until the block's end, and what a Loop's body evaluates before
 // its first Continue, like what its continuing block evaluates, until the end of the Loop.
+use classes::BLOCK;
+use classes::EXPR;
+use classes::OPT_EXPR;
+use classes::OPT_RESULT;
+use classes::RESULT;
 use words::wide;
 ghost use mathlib.Core.Path.{_≡_};
 ghost use mathlib.Core.Bool.{Bool, true, false, _||_};
@@ -12,7 +17,7 @@ ghost use Rattle.model.specs.Tree.{wordOf};
 ghost use Rattle.model.specs.Operands.{operand, opsOf, resultOf, standingKind, emittedKind};
 ghost use Rattle.model.specs.Scope.{inBody};
 ghost use Rattle.scope.specs.Fine.{fineB};
-ghost use Rattle.scope.specs.Tape.{between, blockOf, Steps, stepped, Placed, Exprs, exprsOf, marks};
+ghost use Rattle.scope.specs.Tape.{cellsIn, blockOf, Steps, stepped, Placed, Exprs, exprsOf, marks};
 ghost use Rattle.scope.specs.Lasts.{Cleared, visibleAt, allSeen, fitsResult, placeOf, keptOf, told, StmtHere, BlockHere, FoundS, FoundB, FoundE, FoundR, FoundO, FoundL};
 
 // Kinds 0 to 3 and 9 to 11.
@@ -88,10 +93,10 @@ fn read(
 {
     let s = tags[j];
     let w = wide(words[j]);
-    if s == 93 {
+    if s == EXPR {
         return visible(words, starts, until, count, at, w);
     }
-    if s == 94 {
+    if s == OPT_EXPR {
         if w == 0 {
             return true;
         }
@@ -113,7 +118,7 @@ fn reads(
 ) -> bool
     requires { ⌜ Placed (now starts) count ⌝ }
     requires { ⌜ to ≤ 16384 ⌝ }
-    ensures { λ r. ⌜ r ≡ allSeen (opsOf (between (now (words .entry)) (now (tags .entry)) from to)) (visibleAt (now (words .entry)) (now (starts .entry)) (now (until .entry)) count at) ⌝ }
+    ensures { λ r. ⌜ r ≡ allSeen (opsOf (cellsIn (now (words .entry)) (now (tags .entry)) from to)) (visibleAt (now (words .entry)) (now (starts .entry)) (now (until .entry)) count at) ⌝ }
 {
     let mut i = from;
     while i < to {
@@ -194,7 +199,7 @@ fn emit(
 // What the words from `from` to `to` evaluate: the number plus 1, or 0 for nothing.
 fn result_of(words: &[u32; 16384], tags: &[u8; 16384], from: usize, to: usize) -> usize
     requires { ⌜ to ≤ 16384 ⌝ }
-    ensures { λ r. ⌜ r ≡ wordOf (resultOf (between (now (words .entry)) (now (tags .entry)) from to)) ⌝ }
+    ensures { λ r. ⌜ r ≡ wordOf (resultOf (cellsIn (now (words .entry)) (now (tags .entry)) from to)) ⌝ }
 {
     let mut i = from;
     while i < to {
@@ -202,10 +207,10 @@ fn result_of(words: &[u32; 16384], tags: &[u8; 16384], from: usize, to: usize) -
         i += 1;
         let s = tags[j];
         let w = wide(words[j]);
-        if s == 99 {
+        if s == RESULT {
             return w + 1;
         }
-        if s == 100 {
+        if s == OPT_RESULT {
             return w;
         }
     }
@@ -367,7 +372,7 @@ fn parts(
     let mut cut: u8 = 1;
     while i < stop {
         let j = i;
-        if tags[j] == 122 {
+        if tags[j] == BLOCK {
             let fin = skip(words, j);
             i = fin;
             let r = block(

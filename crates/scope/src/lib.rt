@@ -4,9 +4,15 @@
 pub mod body;
 
 use body::body;
-use numbers::initial::places;
-use numbers::initial::reach;
-use numbers::initial::roots;
+use initial::places;
+use initial::reach;
+use initial::roots;
+use views::ENTRIES;
+use views::ENTRY_HEAD;
+use views::FUNCTIONS;
+use views::count;
+use views::expressions_at;
+use views::locals_at;
 use views::record_at;
 use views::record_end;
 use words::wide;
@@ -14,8 +20,8 @@ ghost use mathlib.Core.Path.{_≡_};
 ghost use mathlib.Core.Bool.{true};
 ghost use Rattle.model.specs.Taped.{Tape};
 ghost use Rattle.model.specs.Scope.{inScope};
-ghost use Rattle.numbers.specs.Ranges.{Says};
-ghost use Rattle.scope.specs.Functions.{Lent, Known, Tested, Stated, Scoped, Numbered, functionsScoped, entryPointsScoped};
+ghost use Rattle.numbers.specs.Passes.{Says};
+ghost use Rattle.scope.specs.Functions.{Lent, Known, Tested, Stated, Scoped, InRange, functionsScoped, entryPointsScoped};
 
 // Is the body of a function in scope? Its lists of locals and expressions have their numbers at the words `locals` and `exprs`.
 fn scoped(
@@ -60,9 +66,8 @@ fn function(
     ensures { λ r. ⌜ Scoped r (now (words .entry)) (now (tags .entry)) at from end ⌝ }
     ensures { λ r. ⌜ (r ≡ true → Lent (now (starts .exit)) (now (list .exit)) (now (until .exit))) ⌝ }
 {
-    let result = from + 4 + 8 * wide(words[from + 3]);
-    let locals = result + 1 + 7 * wide(words[result]);
-    let exprs = locals + 1 + 5 * wide(words[locals]);
+    let locals = locals_at(words, from);
+    let exprs = expressions_at(words, from);
     scoped(words, tags, starts, list, until, locals, exprs, end)
 }
 
@@ -76,18 +81,18 @@ fn functions(
     n: usize,
 ) -> bool
     requires { ⌜ Tape (now words) (now tags) n ⌝ }
-    requires { ⌜ Numbered (now words) (now tags) n ⌝ }
+    requires { ⌜ InRange (now words) (now tags) n ⌝ }
     requires { ⌜ Lent (now starts) (now list) (now until) ⌝ }
     ensures { λ r. ⌜ Says r (now (words .entry)) (now (tags .entry)) n functionsScoped ⌝ }
     ensures { λ r. ⌜ (r ≡ true → Lent (now (starts .exit)) (now (list .exit)) (now (until .exit))) ⌝ }
 {
-    let count = wide(words[14]);
+    let count = count(words, FUNCTIONS);
     let mut j = 0;
     while j < count {
         let i = j;
         j += 1;
-        let at = record_at(words, tags, n, 6, i);
-        let end = record_end(words, tags, n, 6, i);
+        let at = record_at(words, tags, n, FUNCTIONS, i);
+        let end = record_end(words, tags, n, FUNCTIONS, i);
         if !function(words, tags, starts, list, until, at, at, end) {
             return false;
         }
@@ -95,7 +100,7 @@ fn functions(
     true
 }
 
-// Entry points: seven words stand before a function.
+// Entry points: other words stand before a function.
 fn entries(
     words: &[u32; 16384],
     tags: &[u8; 16384],
@@ -105,19 +110,19 @@ fn entries(
     n: usize,
 ) -> bool
     requires { ⌜ Tape (now words) (now tags) n ⌝ }
-    requires { ⌜ Numbered (now words) (now tags) n ⌝ }
+    requires { ⌜ InRange (now words) (now tags) n ⌝ }
     requires { ⌜ Lent (now starts) (now list) (now until) ⌝ }
     ensures { λ r. ⌜ Says r (now (words .entry)) (now (tags .entry)) n entryPointsScoped ⌝ }
     ensures { λ r. ⌜ (r ≡ true → Lent (now (starts .exit)) (now (list .exit)) (now (until .exit))) ⌝ }
 {
-    let count = wide(words[16]);
+    let count = count(words, ENTRIES);
     let mut j = 0;
     while j < count {
         let i = j;
         j += 1;
-        let at = record_at(words, tags, n, 7, i);
-        let end = record_end(words, tags, n, 7, i);
-        if !function(words, tags, starts, list, until, at, at + 7, end) {
+        let at = record_at(words, tags, n, ENTRIES, i);
+        let end = record_end(words, tags, n, ENTRIES, i);
+        if !function(words, tags, starts, list, until, at, at + ENTRY_HEAD, end) {
             return false;
         }
     }
@@ -127,7 +132,7 @@ fn entries(
 // Is an image whose numbers are in range in scope?
 pub fn in_scope(words: &[u32; 16384], tags: &[u8; 16384], n: usize) -> bool
     requires { ⌜ Tape (now words) (now tags) n ⌝ }
-    requires { ⌜ Numbered (now words) (now tags) n ⌝ }
+    requires { ⌜ InRange (now words) (now tags) n ⌝ }
     ensures { λ r. ⌜ Says r (now (words .entry)) (now (tags .entry)) n inScope ⌝ }
 {
     let mut starts = [0u32; 1025];

@@ -1,8 +1,8 @@
 -- Sections, records and the lists of functions stand inside the words: what indexing them needs, and what is read there. Assumes nothing.
 use mathlib.Core.Path.{_≡_, refl, sym, ap, ap₂, _∙_}
 use mathlib.Core.Bool.{Bool, true, false}
-use mathlib.Core.List.{List, [], _∷_}
-use Prim.Native.Nat.{ℕ, suc, _+_, _*_, _-_, _^_, _≤_, _<_}
+use mathlib.Core.List.{List, []}
+use Prim.Native.Nat.{ℕ, suc, _+_, _*_, _-_, _≤_, _<_}
 use native.Mathlib.Numerals.{add-one}
 use native.Mathlib.Omega.{arith}
 use lib.Dec.{ltb}
@@ -10,11 +10,11 @@ use lib.ListN.{length, getD}
 use borrow.Author.Tests.{eq-eqb, ne-eqb, eqb-false, ltb-true, ltb-false}
 use Rattle.model.specs.Outcome.{Cell, Cells, class}
 use Rattle.model.specs.Table.{NAMED, EXPR-KIND}
-use Rattle.model.specs.Tree.{Function, Entry, flatAll}
-use Rattle.model.specs.Module.{Module, countAt, offsetAt, endAt, flatModule}
+use Rattle.model.specs.Tree.{Function, flatAll}
+use Rattle.model.specs.Module.{countAt, offsetAt, endAt, flatModule}
 use Rattle.model.specs.View.{recordAt, recordEnd}
 use Rattle.model.specs.FunctionView.{ENTRY-HEAD, returnsAt, localsAt, expressionsAt}
-use Rattle.model.specs.Taped.{Taped, Tape}
+use Rattle.model.specs.Taped.{Tape}
 use Rattle.model.specs.Carry.{Each, each-none, each-next}
 use Rattle.model.specs.Redirect.{nothing}
 use Rattle.laws.specs.Quiet.{each-append, each-map}

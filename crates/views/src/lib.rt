@@ -4,11 +4,19 @@ use classes::NAMED;
 use words::wide;
 ghost use mathlib.Core.Path.{_≡_};
 ghost use Prim.Native.Nat.{_+_, _*_, _^_, _≤_, _<_};
+ghost use lib.ListN.{getD};
 ghost use Rattle.model.specs.Module.{countAt, offsetAt};
 ghost use Rattle.model.specs.View.{recordAt, recordEnd};
 ghost use Rattle.model.specs.FunctionView.{ENTRY-HEAD, argumentsAt, argumentAt, returnsAt, localsAt, localAt, expressionsAt};
 ghost use Rattle.model.specs.Taped.{Tape};
 ghost use Rattle.views.specs.Functions.{Standing, Named, Body};
+
+// The header: section k has its count at the word COUNTS + 2 k, and its offset at the word OFFSETS + 2 k.
+pub const COUNTS: usize = 2;
+
+pub const OFFSETS: usize = 3;
+
+pub const HEADER: usize = 20;
 
 // The sections by number: eight tables, and the special types.
 pub const NAMES: usize = 0;
@@ -29,12 +37,15 @@ pub const ENTRIES: usize = 7;
 
 pub const SPECIAL: usize = 8;
 
+// The words in front of an entry point's function.
+pub const ENTRY_HEAD: usize = 7;
+
 // How many records section k has.
 pub fn count(words: &[u32; 16384], k: usize) -> usize
     requires { ⌜ k < 9 ⌝ }
     ensures { λ r. ⌜ (r ≡ countAt k (now (words .entry))) × (r < 2 ^ 32) ⌝ }
 {
-    wide(words[2 + 2 * k])
+    wide(words[COUNTS + 2 * k])
 }
 
 // Where section k starts.
@@ -42,7 +53,7 @@ pub fn offset(words: &[u32; 16384], k: usize) -> usize
     requires { ⌜ k < 9 ⌝ }
     ensures { λ r. ⌜ (r ≡ offsetAt k (now (words .entry))) × (r < 2 ^ 32) ⌝ }
 {
-    wide(words[3 + 2 * k])
+    wide(words[OFFSETS + 2 * k])
 }
 
 // Where record j of section k starts: at its offset from the start of the section, which is one of the words.
@@ -85,13 +96,21 @@ pub fn record_end(words: &[u32; 16384], tags: &[u8; 16384], n: usize, k: usize, 
     end_of(words, k, j)
 }
 
+// Where pair j of the special types stands, behind the three optional types.
+pub fn pair_at(words: &[u32; 16384], j: usize) -> usize
+    requires { ⌜ j < 2 ^ 32 ⌝ }
+    ensures { λ r. ⌜ r ≡ offsetAt 8 (now (words .entry)) + 3 + 2 * j ⌝ }
+{
+    offset(words, SPECIAL) + 3 + 2 * j
+}
+
 // Where the function of entry point j starts.
 pub fn entry_function(words: &[u32; 16384], tags: &[u8; 16384], n: usize, j: usize) -> usize
     requires { ⌜ Tape (now words) (now tags) n ⌝ }
     requires { ⌜ j < countAt 7 (now words) ⌝ }
     ensures { λ r. ⌜ r ≡ recordAt 7 j (now (words .entry)) + ENTRY-HEAD ⌝ }
 {
-    start_of(words, ENTRIES, j) + 7
+    start_of(words, ENTRIES, j) + ENTRY_HEAD
 }
 
 // The parts of a function that starts at s and whose expressions begin inside the words. Lists have their counts in front: arguments, locals,
@@ -101,6 +120,14 @@ pub fn arguments_at(s: usize) -> usize
     ensures { λ r. ⌜ r ≡ argumentsAt s ⌝ }
 {
     s + 3
+}
+
+// How many arguments it has.
+pub fn arguments(words: &[u32; 16384], s: usize) -> usize
+    requires { ⌜ expressionsAt s (now words) < 16384 ⌝ }
+    ensures { λ r. ⌜ (r ≡ getD (now (words .entry)) (argumentsAt s) 0) × (r < 2 ^ 32) ⌝ }
+{
+    wide(words[arguments_at(s)])
 }
 
 // Argument i.
@@ -115,7 +142,7 @@ pub fn returns_at(words: &[u32; 16384], s: usize) -> usize
     requires { ⌜ expressionsAt s (now words) < 16384 ⌝ }
     ensures { λ r. ⌜ (r ≡ returnsAt s (now (words .entry))) × (r < 16384) ⌝ }
 {
-    argument_at(s, wide(words[arguments_at(s)]))
+    argument_at(s, arguments(words, s))
 }
 
 pub fn locals_at(words: &[u32; 16384], s: usize) -> usize

@@ -2,7 +2,6 @@
 use Rattle.basic.proofs.Images.{count-few, list-long, listed-all, listed-ring}
 use lib.ListN.{replicate, length-replicate}
 use Prim.Native.Nat.{ℕ}
-use Rattle.model.specs.Module.{countAt}
 use borrow.Author.Needs.{needs}
 use Rattle.basic.proofs.list.Statement.{statement}
 use Rattle.basic.proofs.list.Tie as tie
@@ -13,15 +12,11 @@ order-of-requires c κs = search needs
 enum-told : tie.Need-enum-told
 enum-told c = search needs
 
-element-copy-out-wide : tie.Need-element-copy-out-wide
-element-copy-out-wide c = search needs
-
-wide-requires : tie.Need-wide-requires
-wide-requires c κs = search needs
+count-requires : tie.Need-count-requires
+count-requires c κs = search needs
 
 copy-requires : tie.Need-copy-requires
-unfolding countAt
-copy-requires c κs = (list-long (c .before .before .before .before .before .before .before .before .before .args .words .now) (c .before .before .before .before .before .before .before .before .before .args .tags .now) (c .before .before .before .before .before .before .before .before .before .args .n) (c .before .before .before .before .before .before .before .before .before .pre .0) (replicate 256 0) (c .before .before .before .before .before .before .order-of .last .1 .1 .1 .0) (c .before .before .before .before .before .before .order-of .result) (c .before .before .before .before .before .before .order-of .ensures) (c .before .before .before .before .enum-told .given .1) (length-replicate {A = ℕ} 256 0), count-few (c .before .before .before .before .before .before .before .before .before .args .words .now) (c .before .before .before .before .before .before .before .before .before .args .tags .now) (c .before .before .before .before .before .before .before .before .before .args .n) (c .before .before .before .before .before .before .before .before .before .pre .0) (c .before .before .wide .result) (c .before .before .wide .ensures .0))
+copy-requires c κs = (list-long (c .before .before .before .before .before .before .before .before .args .words .now) (c .before .before .before .before .before .before .before .before .args .tags .now) (c .before .before .before .before .before .before .before .before .args .n) (c .before .before .before .before .before .before .before .before .pre .0) (replicate 256 0) (c .before .before .before .before .before .order-of .last .1 .1 .1 .0) (c .before .before .before .before .before .order-of .result) (c .before .before .before .before .before .order-of .ensures) (c .before .before .before .enum-told .given .1) (length-replicate {A = ℕ} 256 0), count-few (c .before .before .before .before .before .before .before .before .args .words .now) (c .before .before .before .before .before .before .before .before .args .tags .now) (c .before .before .before .before .before .before .before .before .args .n) (c .before .before .before .before .before .before .before .before .pre .0) (c .before .before .count .result) (c .before .before .count .ensures .0))
 
 mul-result : tie.Need-mul-result
 mul-result c = search needs
@@ -42,8 +37,7 @@ same-length : tie.Need-same-length
 same-length c = search needs
 
 returns : tie.Need-returns
-unfolding countAt
-returns c = listed-all (c .before .before .before .before .before .before .before .before .before .before .before .before .args .words .now) (c .before .before .before .before .before .before .before .before .before .before .before .before .args .tags .now) (c .before .before .before .before .before .before .before .before .before .before .before .before .args .n) (c .before .before .before .before .before .before .before .before .before .before .before .before .pre .0) (replicate 256 0) (c .before .before .before .before .before .before .before .before .before .order-of .last .1 .1 .1 .0) (c .before .before .before .before .before .before .before .before .before .order-of .result) (c .before .before .before .before .before .before .before .before .before .order-of .ensures) (c .before .before .before .before .before .before .before .enum-told .given .1) (c .before .before .before .before .before .wide .result) (c .before .before .before .before .before .wide .ensures .0) (c .before .before .before .before .before .before .before .before .before .before .before .before .args .out .now) (c .before .before .copy .last .1 .1 .0) (c .before .before .copy .ensures)
+returns c = listed-all (c .before .before .before .before .before .before .before .before .before .before .before .args .words .now) (c .before .before .before .before .before .before .before .before .before .before .before .args .tags .now) (c .before .before .before .before .before .before .before .before .before .before .before .args .n) (c .before .before .before .before .before .before .before .before .before .before .before .pre .0) (replicate 256 0) (c .before .before .before .before .before .before .before .before .order-of .last .1 .1 .1 .0) (c .before .before .before .before .before .before .before .before .order-of .result) (c .before .before .before .before .before .before .before .before .order-of .ensures) (c .before .before .before .before .before .before .enum-told .given .1) (c .before .before .before .before .before .count .result) (c .before .before .before .before .before .count .ensures .0) (c .before .before .before .before .before .before .before .before .before .before .before .args .out .now) (c .before .before .copy .last .1 .1 .0) (c .before .before .copy .ensures)
 
 returns-2 : tie.Need-returns-2
 returns-2 c = search (listed-ring, needs)
@@ -54,8 +48,7 @@ list-spec =
     (tie.spec
     order-of-requires
     enum-told
-    element-copy-out-wide
-    wide-requires
+    count-requires
     copy-requires
     mul-result
     enum-known-answer

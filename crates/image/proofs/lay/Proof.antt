@@ -1,6 +1,6 @@
 -- `image::lay` meets its contract. Assumes nothing.
 use mathlib.Core.Path.{refl}
-use Rattle.image.specs.Rows.{numbers}
+use Rattle.image.specs.Rows.{SIZE}
 use Rattle.image.proofs.Laying.{lay-misplaced, lay-placed, lay-fits, lay-bad, lay-strange}
 use borrow.Author.Needs.{needs}
 use Rattle.image.proofs.lay.Statement.{statement}
@@ -19,7 +19,7 @@ slice-aggregate-sections : tie.Need-slice-aggregate-sections
 slice-aggregate-sections c = search needs
 
 sections-requires : tie.Need-sections-requires
-unfolding numbers
+unfolding SIZE
 sections-requires c κs = (search needs, (search needs, (search needs, (refl, lay-placed (c .before .before .before .before .before .before .before .args .words .now) (c .before .before .before .before .before .before .before .args .tags .now) (c .before .before .before .before .fill .last .0) (c .before .before .before .before .before .before .before .args .total) (c .before .before .before .before .before .before .before .pre .0) (c .before .before .before .before .before .before .before .pre .1 .0) (c .before .before .before .before .fill .result) (c .before .before .before .before .fill .ensures) (c .before .before .before .placed .result) (c .before .before .before .placed .ensures) (c .before .before .if1 .left)))))
 
 enum-told : tie.Need-enum-told

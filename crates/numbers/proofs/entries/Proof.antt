@@ -12,11 +12,8 @@ Inv-loop words tags n t₀ count j₀ t j = InEntries words tags n t₀ j t
 abbrev μ-loop : tie.MeasureT-loop
 μ-loop words tags n t₀ count j₀ t j = count - j
 
-element-copy-out-wide : tie.Need-element-copy-out-wide Inv-loop μ-loop
-element-copy-out-wide c = search needs
-
-wide-requires : tie.Need-wide-requires Inv-loop μ-loop
-wide-requires c κs = search needs
+count-requires : tie.Need-count-requires Inv-loop μ-loop
+count-requires c κs = search needs
 
 loop-holds : tie.Need-loop-holds Inv-loop μ-loop
 loop-holds c = entries-begin _ _ _ _
@@ -25,28 +22,28 @@ add-j : tie.Need-add-j Inv-loop μ-loop
 add-j c = search needs
 
 record-at-requires : tie.Need-record-at-requires Inv-loop μ-loop
-record-at-requires c κs = (c .before .before .before .before .pre, (search needs, entries-in _ _ _ (c .before .before .wide .ensures) (c .loop-test .taken)))
+record-at-requires c κs = (c .before .before .before .pre, (search needs, entries-in _ _ _ (c .before .before .count .ensures) (c .loop-test .taken)))
 
 record-end-requires : tie.Need-record-end-requires Inv-loop μ-loop
-record-end-requires c κs = (c .before .before .before .before .before .pre, (search needs, entries-in _ _ _ (c .before .before .before .wide .ensures) (c .before .loop-test .taken)))
+record-end-requires c κs = (c .before .before .before .before .pre, (search needs, entries-in _ _ _ (c .before .before .before .count .ensures) (c .before .loop-test .taken)))
 
 add-function : tie.Need-add-function Inv-loop μ-loop
-add-function c = omega (arith, entries-small _ _ _ _ _ _ _ (c .before .before .before .before .before .wide .ensures) (c .before .before .before .before .loop .inv) (c .before .before .before .loop-test .taken) _ _ (c .before .before .record-at .ensures) (c .before .record-end .ensures) (c .before .before .before .before .before .before .before .pre))
+add-function c = omega (arith, entries-small _ _ _ _ _ _ _ (c .before .before .before .before .before .count .ensures) (c .before .before .before .before .loop .inv) (c .before .before .before .loop-test .taken) _ _ (c .before .before .record-at .ensures) (c .before .record-end .ensures) (c .before .before .before .before .before .before .pre))
 
 function-requires : tie.Need-function-requires Inv-loop μ-loop
-function-requires c κs = entries-framed _ _ _ _ _ _ _ (c .before .before .before .before .before .wide .ensures) (c .before .before .before .before .loop .inv) (c .before .before .before .loop-test .taken) _ _ (c .before .before .record-at .ensures) (c .before .record-end .ensures) (c .before .before .before .before .before .before .before .pre)
+function-requires c κs = entries-framed _ _ _ _ _ _ _ (c .before .before .before .before .before .count .ensures) (c .before .before .before .before .loop .inv) (c .before .before .before .loop-test .taken) _ _ (c .before .before .record-at .ensures) (c .before .record-end .ensures) (c .before .before .before .before .before .before .pre)
 
 returns : tie.Need-returns Inv-loop μ-loop
-returns c = entries-over _ _ _ _ _ _ _ (c .before .before .before .before .before .before .before .wide .ensures) (c .before .before .before .before .before .before .loop .inv) (c .before .before .before .before .before .loop-test .taken) _ _ (c .before .before .before .before .record-at .ensures) (c .before .before .before .record-end .ensures) _ _ (c .before .function .ensures) (c .if1 .taken)
+returns c = entries-over _ _ _ _ _ _ _ (c .before .before .before .before .before .before .before .count .ensures) (c .before .before .before .before .before .before .loop .inv) (c .before .before .before .before .before .loop-test .taken) _ _ (c .before .before .before .before .record-at .ensures) (c .before .before .before .record-end .ensures) _ _ (c .before .function .ensures) (c .if1 .taken)
 
 loop-less : tie.Need-loop-less Inv-loop μ-loop
 loop-less c = search needs
 
 loop-again : tie.Need-loop-again Inv-loop μ-loop
-loop-again c = entries-next _ _ _ _ _ _ _ (c .before .before .before .before .before .before .before .wide .ensures) (c .before .before .before .before .before .before .loop .inv) (c .before .before .before .before .before .loop-test .taken) _ _ (c .before .before .before .before .record-at .ensures) (c .before .before .before .record-end .ensures) _ _ (c .before .function .ensures) (c .if1 .left)
+loop-again c = entries-next _ _ _ _ _ _ _ (c .before .before .before .before .before .before .before .count .ensures) (c .before .before .before .before .before .before .loop .inv) (c .before .before .before .before .before .loop-test .taken) _ _ (c .before .before .before .before .record-at .ensures) (c .before .before .before .record-end .ensures) _ _ (c .before .function .ensures) (c .if1 .left)
 
 returns-2 : tie.Need-returns-2 Inv-loop μ-loop
-returns-2 c = entries-done _ _ _ _ _ _ _ (c .before .before .wide .ensures) (c .before .loop .inv) (c .loop-test .left)
+returns-2 c = entries-done _ _ _ _ _ _ _ (c .before .before .count .ensures) (c .before .loop .inv) (c .loop-test .left)
 
 pub entries-spec : {M : Type 1} → statement M
 entries-spec =
@@ -54,8 +51,7 @@ entries-spec =
     (tie.spec
     Inv-loop
     μ-loop
-    element-copy-out-wide
-    wide-requires
+    count-requires
     loop-holds
     add-j
     record-at-requires

@@ -12,11 +12,8 @@ Inv-loop words tags n count j₀ j = Kinding words tags n j
 abbrev μ-loop : tie.MeasureT-loop
 μ-loop words tags n count j₀ j = count - j
 
-element-copy-out-wide : tie.Need-element-copy-out-wide Inv-loop μ-loop
-element-copy-out-wide c = search needs
-
-wide-requires : tie.Need-wide-requires Inv-loop μ-loop
-wide-requires c κs = search needs
+count-requires : tie.Need-count-requires Inv-loop μ-loop
+count-requires c κs = search needs
 
 loop-holds : tie.Need-loop-holds Inv-loop μ-loop
 loop-holds c = search (kinds-begin, needs)
@@ -28,7 +25,7 @@ record-at-requires : tie.Need-record-at-requires Inv-loop μ-loop
 record-at-requires c κs = search (kinds-record, needs)
 
 mul-constant : tie.Need-mul-constant Inv-loop μ-loop
-mul-constant c = omega (arith, kinds-inside _ _ _ _ (c .before .before .loop .inv) _ (c .before .before .before .wide .ensures) (c .before .loop-test .taken) _ (c .record-at .ensures) (c .before .before .before .before .before .pre))
+mul-constant c = omega (arith, kinds-inside _ _ _ _ (c .before .before .loop .inv) _ (c .before .before .before .count .ensures .0) (c .before .loop-test .taken) _ (c .record-at .ensures) (c .before .before .before .before .pre))
 
 element-copy-out-constant : tie.Need-element-copy-out-constant Inv-loop μ-loop
 element-copy-out-constant c = search (kinds-inside, needs)
@@ -54,8 +51,7 @@ kinds-spec =
     (tie.spec
     Inv-loop
     μ-loop
-    element-copy-out-wide
-    wide-requires
+    count-requires
     loop-holds
     add-j
     record-at-requires

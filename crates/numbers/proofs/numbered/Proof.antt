@@ -1,6 +1,6 @@
 -- `numbers::numbered` meets its contract. Assumes nothing.
 use mathlib.Core.Path.{refl}
-use Rattle.numbers.specs.Ranges.{codes, upTo}
+use Rattle.ranges.specs.Ranges.{codes, upTo}
 use Rattle.numbers.proofs.Framing.{numbered-tables, numbered-kinds, numbered-functions, numbered-entries}
 use borrow.Author.Needs.{needs}
 use Rattle.numbers.proofs.numbered.Statement.{statement}

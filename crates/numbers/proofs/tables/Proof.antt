@@ -34,11 +34,8 @@ table-requires-5 c κs = search needs
 returns-5 : tie.Need-returns-5
 returns-5 c = search (tables-exprs, needs)
 
-element-copy-out-wide : tie.Need-element-copy-out-wide
-element-copy-out-wide c = search needs
-
-wide-requires : tie.Need-wide-requires
-wide-requires c κs = search needs
+offset-requires : tie.Need-offset-requires
+offset-requires c κs = search needs
 
 ranged-requires : tie.Need-ranged-requires
 ranged-requires c κs = search (tape-long, tape-small, special-rising, needs)
@@ -60,7 +57,6 @@ tables-spec =
     returns-4
     table-requires-5
     returns-5
-    element-copy-out-wide
-    wide-requires
+    offset-requires
     ranged-requires
     returns-6)

@@ -1,7 +1,7 @@
 -- `redirect::find` meets its contract. Assumes nothing.
 use Prim.Native.Nat.{_-_}
 use mathlib.Core.Path.{refl}
-use Rattle.redirect.proofs.Finding.{Seeking, seek-begin, seek-asks, seek-small, seek-at, seek-fits, seek-here, seek-on, seek-none}
+use Rattle.redirect.proofs.Finding.{Seeking, seek-begin, seek-in, seek-small, seek-at, seek-fits, seek-here, seek-on, seek-none}
 use borrow.Author.Needs.{needs}
 use Rattle.redirect.proofs.find.Statement.{statement}
 use Rattle.redirect.proofs.find.Tie as tie
@@ -12,11 +12,8 @@ Inv-loop words tags n name count j₀ j = Seeking words tags n name count j
 abbrev μ-loop : tie.MeasureT-loop
 μ-loop words tags n name count j₀ j = count - j
 
-element-copy-out-wide : tie.Need-element-copy-out-wide Inv-loop μ-loop
-element-copy-out-wide c = search needs
-
-wide-requires : tie.Need-wide-requires Inv-loop μ-loop
-wide-requires c κs = search needs
+count-requires : tie.Need-count-requires Inv-loop μ-loop
+count-requires c κs = search needs
 
 loop-holds : tie.Need-loop-holds Inv-loop μ-loop
 loop-holds c = search (seek-begin, needs)
@@ -24,8 +21,8 @@ loop-holds c = search (seek-begin, needs)
 add-j : tie.Need-add-j Inv-loop μ-loop
 add-j c = search needs
 
-start-of-requires : tie.Need-start-of-requires Inv-loop μ-loop
-start-of-requires c κs = search (seek-asks, needs)
+record-at-requires : tie.Need-record-at-requires Inv-loop μ-loop
+record-at-requires c κs = search (seek-in, needs)
 
 mul-is-named : tie.Need-mul-is-named Inv-loop μ-loop
 mul-is-named c = search (seek-fits, needs)
@@ -36,11 +33,11 @@ element-copy-out-is-named c = search (seek-at, needs)
 is-named-requires : tie.Need-is-named-requires Inv-loop μ-loop
 is-named-requires c κs = search needs
 
-cast-t18 : tie.Need-cast-t18 Inv-loop μ-loop
-cast-t18 c = search (seek-small, needs)
+cast-t15 : tie.Need-cast-t15 Inv-loop μ-loop
+cast-t15 c = search (seek-small, needs)
 
 returns : tie.Need-returns Inv-loop μ-loop
-returns c = let s = c .before .before .before .before .before .before .before .before in let l = c .before .before .before .before .before .loop in seek-here (s .args .words .now) (s .args .tags .now) (s .args .n) (s .args .name) (s .pre) (c .before .before .before .before .before .before .wide .result) (l .j) (l .inv) (c .before .before .before .before .loop-test .taken) (c .before .before .before .start-of .result) (c .before .before .before .start-of .ensures) (c .before .is-named .result) (c .before .is-named .ensures) (c .if1 .taken) _ refl
+returns c = let s = c .before .before .before .before .before .before .before in let l = c .before .before .before .before .before .loop in seek-here (s .args .words .now) (s .args .tags .now) (s .args .n) (s .args .name) (s .pre) (c .before .before .before .before .before .before .count .result) (l .j) (l .inv) (c .before .before .before .before .loop-test .taken) (c .before .before .before .record-at .result) (c .before .before .before .record-at .ensures) (c .before .is-named .result) (c .before .is-named .ensures) (c .if1 .taken) _ refl
 
 loop-less : tie.Need-loop-less Inv-loop μ-loop
 loop-less c = search needs
@@ -57,15 +54,14 @@ find-spec =
     (tie.spec
     Inv-loop
     μ-loop
-    element-copy-out-wide
-    wide-requires
+    count-requires
     loop-holds
     add-j
-    start-of-requires
+    record-at-requires
     mul-is-named
     element-copy-out-is-named
     is-named-requires
-    cast-t18
+    cast-t15
     returns
     loop-less
     loop-again

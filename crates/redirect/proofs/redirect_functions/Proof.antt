@@ -11,29 +11,26 @@ Inv-loop words₀ tags n original replacement omit count j₀ words j = Turning 
 abbrev μ-loop : tie.MeasureT-loop
 μ-loop words₀ tags n original replacement omit count j₀ words j = count - j
 
-element-copy-out-wide : tie.Need-element-copy-out-wide Inv-loop μ-loop
-element-copy-out-wide c = search needs
-
-wide-requires : tie.Need-wide-requires Inv-loop μ-loop
-wide-requires c κs = search needs
+count-requires : tie.Need-count-requires Inv-loop μ-loop
+count-requires c κs = search needs
 
 loop-holds : tie.Need-loop-holds Inv-loop μ-loop
-loop-holds c = turning-begin (c .before .before .before .args .words .now) (c .before .before .before .args .tags .now) (c .before .before .before .args .n) (c .before .before .before .args .original) (c .before .before .before .args .replacement) (c .before .before .before .args .omit .now) (c .wide .result) (c .wide .ensures .0)
+loop-holds c = turning-begin (c .before .before .before .args .words .now) (c .before .before .before .args .tags .now) (c .before .before .before .args .n) (c .before .before .before .args .original) (c .before .before .before .args .replacement) (c .before .before .before .args .omit .now) (c .count .result) (c .count .ensures .0)
 
 add-j : tie.Need-add-j Inv-loop μ-loop
 add-j c = search needs
 
 redirect-one-requires : tie.Need-redirect-one-requires Inv-loop μ-loop
-redirect-one-requires c κs = turning-asks (c .before .before .before .before .before .before .args .words .now) (c .before .before .before .before .before .before .args .tags .now) (c .before .before .before .before .before .before .args .n) (c .before .before .before .before .before .before .args .original) (c .before .before .before .before .before .before .args .replacement) (c .before .before .before .before .before .before .args .omit .now) (c .before .before .before .before .before .before .pre) (c .before .before .before .wide .result) (c .before .before .loop .j) (c .before .before .loop .words) (c .before .before .loop .inv) (c .before .loop-test .taken)
+redirect-one-requires c κs = turning-asks (c .before .before .before .before .before .before .args .words .now) (c .before .before .before .before .before .before .args .tags .now) (c .before .before .before .before .before .before .args .n) (c .before .before .before .before .before .before .args .original) (c .before .before .before .before .before .before .args .replacement) (c .before .before .before .before .before .before .args .omit .now) (c .before .before .before .before .before .before .pre) (c .before .before .before .count .result) (c .before .before .loop .j) (c .before .before .loop .words) (c .before .before .loop .inv) (c .before .loop-test .taken)
 
 loop-less : tie.Need-loop-less Inv-loop μ-loop
 loop-less c = search needs
 
 loop-again : tie.Need-loop-again Inv-loop μ-loop
-loop-again c = turning-next (c .before .before .before .before .before .before .before .args .words .now) (c .before .before .before .before .before .before .before .args .tags .now) (c .before .before .before .before .before .before .before .args .n) (c .before .before .before .before .before .before .before .args .original) (c .before .before .before .before .before .before .before .args .replacement) (c .before .before .before .before .before .before .before .args .omit .now) (c .before .before .before .before .before .before .before .pre) (c .before .before .before .before .wide .result) (c .before .before .before .loop .j) (c .before .before .before .loop .words) (c .before .before .before .loop .inv) (c .before .before .loop-test .taken) (c .redirect-one .last .0) (c .redirect-one .ensures)
+loop-again c = turning-next (c .before .before .before .before .before .before .before .args .words .now) (c .before .before .before .before .before .before .before .args .tags .now) (c .before .before .before .before .before .before .before .args .n) (c .before .before .before .before .before .before .before .args .original) (c .before .before .before .before .before .before .before .args .replacement) (c .before .before .before .before .before .before .before .args .omit .now) (c .before .before .before .before .before .before .before .pre) (c .before .before .before .before .count .result) (c .before .before .before .loop .j) (c .before .before .before .loop .words) (c .before .before .before .loop .inv) (c .before .before .loop-test .taken) (c .redirect-one .last .0) (c .redirect-one .ensures)
 
 returns : tie.Need-returns Inv-loop μ-loop
-returns c = turning-done (c .before .before .before .before .before .args .words .now) (c .before .before .before .before .before .args .tags .now) (c .before .before .before .before .before .args .n) (c .before .before .before .before .before .args .original) (c .before .before .before .before .before .args .replacement) (c .before .before .before .before .before .args .omit .now) (c .before .before .wide .result) (c .before .loop .j) (c .before .loop .words) (c .before .loop .inv) (c .loop-test .left)
+returns c = turning-done (c .before .before .before .before .before .args .words .now) (c .before .before .before .before .before .args .tags .now) (c .before .before .before .before .before .args .n) (c .before .before .before .before .before .args .original) (c .before .before .before .before .before .args .replacement) (c .before .before .before .before .before .args .omit .now) (c .before .before .count .result) (c .before .loop .j) (c .before .loop .words) (c .before .loop .inv) (c .loop-test .left)
 
 pub redirect-functions-spec : {M : Type 1} → statement M
 redirect-functions-spec =
@@ -41,8 +38,7 @@ redirect-functions-spec =
     (tie.spec
     Inv-loop
     μ-loop
-    element-copy-out-wide
-    wide-requires
+    count-requires
     loop-holds
     add-j
     redirect-one-requires

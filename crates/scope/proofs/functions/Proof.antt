@@ -16,38 +16,35 @@ Inv-loop words tags starts₀ list₀ until₀ n count j₀ starts list until j 
 abbrev μ-loop : tie.MeasureT-loop
 μ-loop words tags starts₀ list₀ until₀ n count j₀ starts list until j = count - j
 
-element-copy-out-wide : tie.Need-element-copy-out-wide Inv-loop μ-loop
-element-copy-out-wide c = search needs
-
-wide-requires : tie.Need-wide-requires Inv-loop μ-loop
-wide-requires c κs = search needs
+count-requires : tie.Need-count-requires Inv-loop μ-loop
+count-requires c κs = search needs
 
 loop-holds : tie.Need-loop-holds Inv-loop μ-loop
-loop-holds c = (functions-begin _ _ _ (c .before .before .pre .1 .0), c .before .before .pre .1 .1)
+loop-holds c = (functions-begin _ _ _ (c .before .pre .1 .0), c .before .pre .1 .1)
 
 add-j : tie.Need-add-j Inv-loop μ-loop
 add-j c = search needs
 
 record-at-requires : tie.Need-record-at-requires Inv-loop μ-loop
-record-at-requires c κs = (c .before .before .before .before .pre .0, (search needs, functions-in _ _ _ (c .before .before .wide .ensures) (c .loop-test .taken)))
+record-at-requires c κs = (c .before .before .before .pre .0, (search needs, functions-in _ _ _ (c .before .before .count .ensures) (c .loop-test .taken)))
 
 record-end-requires : tie.Need-record-end-requires Inv-loop μ-loop
-record-end-requires c κs = (c .before .before .before .before .before .pre .0, (search needs, functions-in _ _ _ (c .before .before .before .wide .ensures) (c .before .loop-test .taken)))
+record-end-requires c κs = (c .before .before .before .before .pre .0, (search needs, functions-in _ _ _ (c .before .before .before .count .ensures) (c .before .loop-test .taken)))
 
 function-requires : tie.Need-function-requires Inv-loop μ-loop
-function-requires c κs = (functions-stated _ _ _ (c .before .before .before .before .before .before .before .before .before .pre .1 .0) _ _ (c .before .before .before .before .before .before .before .wide .ensures) (c .before .before .before .before .before .before .loop .inv .0) (c .before .before .before .before .before .loop-test .taken) _ _ (c .before .before .before .before .record-at .ensures) (c .before .before .before .record-end .ensures) (c .before .before .before .before .before .before .before .before .before .pre .0), c .before .before .before .before .before .before .loop .inv .1)
+function-requires c κs = (functions-stated _ _ _ (c .before .before .before .before .before .before .before .before .pre .1 .0) _ _ (c .before .before .before .before .before .before .before .count .ensures) (c .before .before .before .before .before .before .loop .inv .0) (c .before .before .before .before .before .loop-test .taken) _ _ (c .before .before .before .before .record-at .ensures) (c .before .before .before .record-end .ensures) (c .before .before .before .before .before .before .before .before .pre .0), c .before .before .before .before .before .before .loop .inv .1)
 
 returns : tie.Need-returns Inv-loop μ-loop
-returns c = (functions-over _ _ _ (c .before .before .before .before .before .before .before .before .before .before .before .pre .1 .0) _ _ (c .before .before .before .before .before .before .before .before .before .wide .ensures) (c .before .before .before .before .before .before .before .before .loop .inv .0) (c .before .before .before .before .before .before .before .loop-test .taken) _ _ (c .before .before .before .before .before .before .record-at .ensures) (c .before .before .before .before .before .record-end .ensures) _ (c .before .function .ensures .0) (c .if1 .taken), λ h. absurd-bool h refl)
+returns c = (functions-over _ _ _ (c .before .before .before .before .before .before .before .before .before .before .pre .1 .0) _ _ (c .before .before .before .before .before .before .before .before .before .count .ensures) (c .before .before .before .before .before .before .before .before .loop .inv .0) (c .before .before .before .before .before .before .before .loop-test .taken) _ _ (c .before .before .before .before .before .before .record-at .ensures) (c .before .before .before .before .before .record-end .ensures) _ (c .before .function .ensures .0) (c .if1 .taken), λ h. absurd-bool h refl)
 
 loop-less : tie.Need-loop-less Inv-loop μ-loop
 loop-less c = search needs
 
 loop-again : tie.Need-loop-again Inv-loop μ-loop
-loop-again c = (functions-next _ _ _ (c .before .before .before .before .before .before .before .before .before .before .before .pre .1 .0) _ _ (c .before .before .before .before .before .before .before .before .before .wide .ensures) (c .before .before .before .before .before .before .before .before .loop .inv .0) (c .before .before .before .before .before .before .before .loop-test .taken) _ _ (c .before .before .before .before .before .before .record-at .ensures) (c .before .before .before .before .before .record-end .ensures) _ (c .before .function .ensures .0) (c .if1 .left), c .before .function .ensures .1 (not-false _ (c .if1 .left)))
+loop-again c = (functions-next _ _ _ (c .before .before .before .before .before .before .before .before .before .before .pre .1 .0) _ _ (c .before .before .before .before .before .before .before .before .before .count .ensures) (c .before .before .before .before .before .before .before .before .loop .inv .0) (c .before .before .before .before .before .before .before .loop-test .taken) _ _ (c .before .before .before .before .before .before .record-at .ensures) (c .before .before .before .before .before .record-end .ensures) _ (c .before .function .ensures .0) (c .if1 .left), c .before .function .ensures .1 (not-false _ (c .if1 .left)))
 
 returns-2 : tie.Need-returns-2 Inv-loop μ-loop
-returns-2 c = (functions-done _ _ _ (c .before .before .before .before .pre .1 .0) _ _ (c .before .before .wide .ensures) (c .before .loop .inv .0) (c .loop-test .left), λ h. c .before .loop .inv .1)
+returns-2 c = (functions-done _ _ _ (c .before .before .before .pre .1 .0) _ _ (c .before .before .count .ensures) (c .before .loop .inv .0) (c .loop-test .left), λ h. c .before .loop .inv .1)
 
 pub functions-spec : {M : Type 1} → statement M
 functions-spec =
@@ -55,8 +52,7 @@ functions-spec =
     (tie.spec
     Inv-loop
     μ-loop
-    element-copy-out-wide
-    wide-requires
+    count-requires
     loop-holds
     add-j
     record-at-requires

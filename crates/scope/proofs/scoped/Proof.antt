@@ -1,5 +1,5 @@
 -- `scope::scoped` meets its contract. Assumes nothing.
-use Rattle.numbers.proofs.Reaching.{init-locals, init-exprs, init-after, init-end, init-count, init-room, init-few}
+use Rattle.initial.proofs.Reaching.{init-locals, init-exprs, init-after, init-end, init-count, init-room, init-few}
 use Rattle.scope.proofs.Whole.{known-listed, known-few, known-reach, known-named, known-body, known-scoped, known-lent}
 use borrow.Author.Needs.{needs}
 use Rattle.scope.proofs.scoped.Statement.{statement}

@@ -2,7 +2,6 @@
 use Rattle.views.proofs.Places.{Seeking, standing-inside, seek-begin, seek-inside, seek-next, seek-done}
 use borrow.Author.Needs.{needs}
 use Prim.Native.Nat.{_-_}
-use native.Mathlib.Omega.{arith}
 use Rattle.views.proofs.named_at.Statement.{statement}
 use Rattle.views.proofs.named_at.Tie as tie
 

@@ -1,7 +1,7 @@
 -- `image::record::+opened+part+row+stmt+times` meets its contract. Assumes nothing.
 use Prim.Native.Nat.{_*_, _+_, _-_}
-use native.Mathlib.Omega.{arith}
-use Rattle.image.proofs.Rows.{in-table}
+use Rattle.image.proofs.Rows.{row-in-table, rows-few}
+use Rattle.image.specs.Rows.{ROWS, SIZE, KIND-ROW}
 use Rattle.image.proofs.Steps.{opened-short, opened-over, opened-unknown, opened-in, opened-rows, stmt-short, stmt-misfit, stmt-strange, stmt-next, stmt-wrong, part-text, part-operands, part-stmt, part-block, part-other, part-deep, Rowing, row-begin, row-done, row-symbol, row-large, row-short, row-plain, row-misfit, row-strange, row-again, Timing, times-begin, times-done, times-misfit, times-strange, times-next}
 use borrow.Author.Needs.{needs}
 use Prim.Native.Nat.{ℕ, _<_}
@@ -363,7 +363,7 @@ abbrev row-Inv-loop : row-lts.InvT-loop
 row-Inv-loop words tags₀ table at end pc left i₀ p₀ tags i p = Rowing words tags₀ at end pc left tags i p
 
 abbrev row-μ-loop : row-lts.MeasureT-loop
-row-μ-loop words tags₀ table at end pc left i₀ p₀ tags i p = 397 - p
+row-μ-loop words tags₀ table at end pc left i₀ p₀ tags i p = ROWS - p
 
 row-loop-holds : (t : ℕ) → row-lts.Need-loop-holds (
   narrow-reads.Asked,
@@ -379,7 +379,7 @@ row-mul-s : (t : ℕ) → row-lts.Need-mul-s (
   part-below t,
   part.Post,
 ) (row-at t) row.Post row-Inv-loop row-μ-loop
-row-mul-s t c = search needs
+row-mul-s t c = let h = rows-few in search needs
 
 row-shared-slice-read-s : (t : ℕ) → row-lts.Need-shared-slice-read-s (
   narrow-reads.Asked,
@@ -387,7 +387,7 @@ row-shared-slice-read-s : (t : ℕ) → row-lts.Need-shared-slice-read-s (
   part-below t,
   part.Post,
 ) (row-at t) row.Post row-Inv-loop row-μ-loop
-row-shared-slice-read-s t c = in-table (c .before .before .before .before .args .table .now) (search needs) _ (omega (arith, c .before .loop .inv .in-rows))
+row-shared-slice-read-s t c = row-in-table (c .before .before .before .before .args .table .now) (search needs) _ (c .before .loop .inv .in-rows)
 
 row-returns : (t : ℕ) → row-lts.Need-returns (
   narrow-reads.Asked,
@@ -403,7 +403,7 @@ row-add-p : (t : ℕ) → row-lts.Need-add-p (
   part-below t,
   part.Post,
 ) (row-at t) row.Post row-Inv-loop row-μ-loop
-row-add-p t c = search needs
+row-add-p t c = let h = rows-few in search needs
 
 row-returns-2 : (t : ℕ) → row-lts.Need-returns-2 (
   narrow-reads.Asked,
@@ -571,6 +571,7 @@ stmt-row-requires : (t : ℕ) → stmt-lts.Need-row-requires (
   row-below t,
   row.Post,
 ) (stmt-at t) stmt.Post
+unfolding SIZE KIND-ROW
 stmt-row-requires t c κs = (search needs, (search needs, (search needs, (search needs, (search needs, search needs)))))
 
 stmt-enum-known-r : (t : ℕ) → stmt-lts.Need-enum-known-r (
@@ -595,6 +596,7 @@ stmt-returns-2 : (t : ℕ) → stmt-lts.Need-returns-2 (
   row-below t,
   row.Post,
 ) (stmt-at t) stmt.Post
+unfolding SIZE KIND-ROW
 stmt-returns-2 t c = search (stmt-next, needs)
 
 stmt-enum-told : (t : ℕ) → stmt-lts.Need-enum-told (
@@ -619,6 +621,7 @@ stmt-returns-3 : (t : ℕ) → stmt-lts.Need-returns-3 (
   row-below t,
   row.Post,
 ) (stmt-at t) stmt.Post
+unfolding SIZE KIND-ROW
 stmt-returns-3 t c = search (stmt-wrong, needs)
 
 stmt-returns-4 : (t : ℕ) → stmt-lts.Need-returns-4 (
@@ -627,6 +630,7 @@ stmt-returns-4 : (t : ℕ) → stmt-lts.Need-returns-4 (
   row-below t,
   row.Post,
 ) (stmt-at t) stmt.Post
+unfolding SIZE KIND-ROW
 stmt-returns-4 t c = search (stmt-misfit, needs)
 
 stmt-returns-5 : (t : ℕ) → stmt-lts.Need-returns-5 (
@@ -635,6 +639,7 @@ stmt-returns-5 : (t : ℕ) → stmt-lts.Need-returns-5 (
   row-below t,
   row.Post,
 ) (stmt-at t) stmt.Post
+unfolding SIZE KIND-ROW
 stmt-returns-5 t c = search (stmt-strange, needs)
 
 abbrev times-Inv-loop : times-lts.InvT-loop

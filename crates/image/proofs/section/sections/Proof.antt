@@ -1,4 +1,5 @@
 -- `image::section::sections` meets its contract. Assumes nothing.
+use Rattle.image.specs.Rows.{SIZE}
 use native.Mathlib.Omega.{arith}
 use Prim.Native.Nat.{_-_}
 use Rattle.image.proofs.Rows.{in-table}
@@ -56,6 +57,7 @@ mul-place : tie.Need-mul-place Inv-loop μ-loop
 mul-place c = search needs
 
 shared-slice-read-place : tie.Need-shared-slice-read-place Inv-loop μ-loop
+unfolding SIZE
 shared-slice-read-place c = in-table (c .before .before .before .before .before .before .before .before .before .args .table .now) (c .before .before .before .before .before .before .before .before .before .pre .1 .1 .1 .0) _ (omega (arith, c .before .before .before .before .before .loop-test .taken))
 
 place-requires : tie.Need-place-requires Inv-loop μ-loop
@@ -74,6 +76,7 @@ shared-slice-read-section : tie.Need-shared-slice-read-section Inv-loop μ-loop
 shared-slice-read-section c = search needs
 
 section-requires : tie.Need-section-requires Inv-loop μ-loop
+unfolding SIZE
 section-requires c κs = (search (sections-forth, needs), (sections-within (c .before .before .before .before .before .before .before .before .before .before .before .before .args .words .now) (c .before .before .before .before .before .before .before .before .before .before .before .before .args .tags .now) (c .before .before .before .before .before .before .before .before .before .before .before .before .args .total) (c .before .before .before .before .before .before .before .before .before .before .before .before .pre .0) (c .before .before .before .before .before .before .before .before .before .before .before .before .pre .1 .0) (c .before .before .before .before .before .before .before .before .before .before .before .before .pre .1 .1 .1 .1) (c .before .before .before .before .before .before .before .before .before .loop .k) (c .before .before .before .before .before .before .before .before .loop-test .taken) (c .before .before .before .before .before .before .wide .result) (c .before .before .before .before .wide2 .result) (c .before .before .before .before .before .before .wide .ensures .0) (c .before .before .before .before .wide2 .ensures .0), (let h = sections-total (c .before .before .before .before .before .before .before .before .before .before .before .before .args .words .now) (c .before .before .before .before .before .before .before .before .before .before .before .before .args .tags .now) (c .before .before .before .before .before .before .before .before .before .before .before .before .args .total) (c .before .before .before .before .before .before .before .before .before .before .before .before .pre .0) (c .before .before .before .before .before .before .before .before .before .before .before .before .pre .1 .0) (c .before .before .before .before .before .before .before .before .before .before .before .before .pre .1 .1 .1 .1) (c .before .before .before .before .before .before .before .before .before .loop .k) (c .before .before .before .before .before .before .before .before .loop-test .taken) (c .before .before .before .before .before .before .wide .result) (c .before .before .before .before .wide2 .result) (c .before .before .before .before .before .before .wide .ensures .0) (c .before .before .before .before .wide2 .ensures .0) in omega (arith, h, c .before .before .before .before .before .before .before .before .before .before .before .before .pre .1 .1 .0), (search needs, search (sections-row, needs)))))
 
 enum-told : tie.Need-enum-told Inv-loop μ-loop
@@ -83,6 +86,7 @@ loop-less : tie.Need-loop-less Inv-loop μ-loop
 loop-less c = search needs
 
 loop-again : tie.Need-loop-again Inv-loop μ-loop
+unfolding SIZE
 loop-again c = search (sections-fits, needs)
 
 enum-told-2 : tie.Need-enum-told-2 Inv-loop μ-loop
@@ -92,12 +96,14 @@ loop-less-2 : tie.Need-loop-less-2 Inv-loop μ-loop
 loop-less-2 c = search needs
 
 loop-again-2 : tie.Need-loop-again-2 Inv-loop μ-loop
+unfolding SIZE
 loop-again-2 c = search (sections-strange, needs)
 
 enum-told-3 : tie.Need-enum-told-3 Inv-loop μ-loop
 enum-told-3 c = search needs
 
 returns : tie.Need-returns Inv-loop μ-loop
+unfolding SIZE
 returns c = search (sections-bad, needs)
 
 shared-slice-read-wide-3 : tie.Need-shared-slice-read-wide-3 Inv-loop μ-loop

@@ -1,7 +1,7 @@
 -- `scope::body::+block+looped+parts+stmt` meets its contract. Assumes nothing.
 use mathlib.Core.Bool.{true}
 use mathlib.Core.List.{[]}
-use Prim.Native.Nat.{_*_, _+_, _-_}
+use Prim.Native.Nat.{_*_, _+_, _-_, ℕ, _<_}
 use native.Mathlib.Omega.{arith}
 use mathlib.Core.Path.{refl}
 use Rattle.scope.specs.Lasts.{placeOf}
@@ -10,7 +10,6 @@ use Rattle.scope.proofs.Blocks.{Walking, block-begin, block-far, block-
 use Rattle.scope.proofs.Parts.{Passing, parts-begin, parts-skip, parts-far, parts-on, parts-block, parts-wrong, parts-next, word-wrong, word-next, parts-done}
 use Rattle.scope.proofs.Statements.{loop-skip, loop-mid, loop-body, loop-skip₂, loop-wrong, loop-late, loop-continuing, loop-wrong₂, loop-end, stmt-low, emit-asks, stmt-emit, stmt-break, stmt-continue, stmt-no-continue, stmt-switch, stmt-simple, stmt-no-return}
 use borrow.Author.Needs.{needs}
-use Prim.Native.Nat.{ℕ, _<_}
 use borrow.Fn.Kinds.{In}
 use borrow.Fn.PlainCycle.{Measures, is, falls, and}
 use Rattle.scope.proofs.body.block.Reads as block

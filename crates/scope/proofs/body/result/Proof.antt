@@ -1,7 +1,6 @@
 -- `scope::body::result` meets its contract. Assumes nothing.
 use native.Mathlib.Omega.{arith}
-use Rattle.scope.proofs.Results.{result-in}
-use Rattle.scope.proofs.Results.{result-none, result-out, result-unfit, result-twice, result-fine}
+use Rattle.scope.proofs.Results.{result-in, result-none, result-out, result-unfit, result-twice, result-fine}
 use borrow.Author.Needs.{needs}
 use Rattle.scope.proofs.body.result.Statement.{statement}
 use Rattle.scope.proofs.body.result.Tie as tie
