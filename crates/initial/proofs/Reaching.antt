@@ -187,7 +187,7 @@ module _ (words tags starts m₀ l₀ : List ℕ) (t₀ e : ℕ) where
               pub reach-room : Room e m l (t - 1)
               reach-room = rest-room (pre .function) e m l t this h
 
-              module _ (m₁ l₁ : List ℕ) (t₁ : ℕ) (got : Visits e (opsOf (between words tags at to)) m l (t - 1) m₁ l₁ t₁) where
+              module _ (m₁ l₁ : List ℕ) (t₁ : ℕ) (got : Visits e (opsOf (between tags words at to)) m l (t - 1) m₁ l₁ t₁) where
                 pub reach-less : t₁ + blank e m₁ < t + blank e m
                 reach-less = omega (arith, got .moved)
 
@@ -196,7 +196,7 @@ module _ (words tags starts m₀ l₀ : List ℕ) (t₀ e : ℕ) where
                 reach-next = record {
                   going = λ f locals exprs end ls st w₀.
                       let w = inv .going f locals exprs end ls st w₀ in
-                      let p : between words tags at to ≡ getD (f .exprs) (getD l (t - 1) 0) [] = rw (← x-is .0) (held-between (ls .own .held) (part-to f locals exprs end ls st w)) in
+                      let p : between tags words at to ≡ getD (f .exprs) (getD l (t - 1) 0) [] = rw (← x-is .0) (held-between (ls .own .held) (part-to f locals exprs end ls st w)) in
                       visited f e m l t w h (kind-is f locals exprs end ls st w ∙ not-false v q) m₁ l₁ t₁ (subst (λ cs. Visits e (opsOf cs) m l (t - 1) m₁ l₁ t₁) p got);
                 }
 

@@ -189,27 +189,27 @@ module _ (e : ℕ) (m l : List ℕ) (t : ℕ) where
 pub record Spreading (e : ℕ) (words tags : List ℕ) (at end : ℕ) (m₀ l₀ : List ℕ) (t₀ i : ℕ) (m l : List ℕ) (n : ℕ) : Type 0 where
   pub to : i ≤ end
   pub room : Room e m l n
-  pub onward : (m₁ l₁ : List ℕ) (t₁ : ℕ) → Visits e (opsOf (between words tags i end)) m l n m₁ l₁ t₁ → Visits e (opsOf (between words tags at end)) m₀ l₀ t₀ m₁ l₁ t₁
+  pub onward : (m₁ l₁ : List ℕ) (t₁ : ℕ) → Visits e (opsOf (between tags words i end)) m l n m₁ l₁ t₁ → Visits e (opsOf (between tags words at end)) m₀ l₀ t₀ m₁ l₁ t₁
 
 module _ (e : ℕ) (words tags : List ℕ) (at end : ℕ) (m₀ l₀ : List ℕ) (t₀ : ℕ) where
   pub spread-begin : at ≤ end → Room e m₀ l₀ t₀ → Spreading e words tags at end m₀ l₀ t₀ at m₀ l₀ t₀
   spread-begin h r = record { to = h; room = r; onward = λ m l t v. v }
 
   module _ (i : ℕ) (m l : List ℕ) (n : ℕ) (inv : Spreading e words tags at end m₀ l₀ t₀ i m l n) where
-    pub spread-done : end ≤ i → Visits e (opsOf (between words tags at end)) m₀ l₀ t₀ m l n
+    pub spread-done : end ≤ i → Visits e (opsOf (between tags words at end)) m₀ l₀ t₀ m l n
     unfolding opsOf
-    spread-done h = inv .onward m l n (rw (between-none words tags i end h) (visits-none e m l n))
+    spread-done h = inv .onward m l n (rw (between-none tags words i end h) (visits-none e m l n))
 
     pub spread-next : i < end → Long words tags → end ≤ 16384 → (x : ℕ) → (x ≡ reads (getD tags i 0) (getD words i 0)) × (x ≤ 2 ^ 32) → (m₁ l₁ : List ℕ) (n₁ : ℕ) → Visits e (optional x []) m l n m₁ l₁ n₁ → Spreading e words tags at end m₀ l₀ t₀ (i + 1) m₁ l₁ n₁
     unfolding opsOf
     spread-next h long ok x is m₁ l₁ n₁ v = record {
       to = omega arith;
       room = room-after (inv .room) v;
-      onward = λ m₂ l₂ t₂ w. inv .onward m₂ l₂ t₂ (subst (λ xs. Visits e xs m l n m₂ l₂ t₂) (sym front) (visits-then (optional x []) (opsOf (between words tags (i + 1) end)) v w));
+      onward = λ m₂ l₂ t₂ w. inv .onward m₂ l₂ t₂ (subst (λ xs. Visits e xs m l n m₂ l₂ t₂) (sym front) (visits-then (optional x []) (opsOf (between tags words (i + 1) end)) v w));
     }
       where
-        front : opsOf (between words tags i end) ≡ optional x [] ++ opsOf (between words tags (i + 1) end)
-        front = ap opsOf (between-cons words tags i end h long ok) ∙ operand-front (getD tags i 0) (getD words i 0) (opsOf (between words tags (i + 1) end)) ∙ ap (λ z. optional z [] ++ opsOf (between words tags (i + 1) end)) (sym (is .0))
+        front : opsOf (between tags words i end) ≡ optional x [] ++ opsOf (between tags words (i + 1) end)
+        front = ap opsOf (between-cons tags words i end h long ok) ∙ operand-front (getD tags i 0) (getD words i 0) (opsOf (between tags words (i + 1) end)) ∙ ap (λ z. optional z [] ++ opsOf (between tags words (i + 1) end)) (sym (is .0))
 
 -- ---- what locals begin with
 pub record Rooting (e : ℕ) (words : List ℕ) (at count : ℕ) (m₀ l₀ : List ℕ) (i : ℕ) (m l : List ℕ) (n : ℕ) : Type 0 where

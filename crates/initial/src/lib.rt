@@ -114,7 +114,7 @@ fn spread(
     requires { ⌜ at ≤ end ⌝ }
     requires { ⌜ end ≤ 16384 ⌝ }
     requires { ⌜ Room e (now marks) (now list) top ⌝ }
-    ensures { λ r. ⌜ Visits e (opsOf (between (now (words .entry)) (now (tags .entry)) at end)) (now (marks .entry)) (now (list .entry)) top (now (marks .exit)) (now (list .exit)) r ⌝ }
+    ensures { λ r. ⌜ Visits e (opsOf (between (now (tags .entry)) (now (words .entry)) at end)) (now (marks .entry)) (now (list .entry)) top (now (marks .exit)) (now (list .exit)) r ⌝ }
 {
     let mut i = at;
     let mut n = top;

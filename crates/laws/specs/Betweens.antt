@@ -24,25 +24,25 @@ beside-cells (c ∷ cs) = ap (c ∷_) (beside-cells cs)
 pub slice-none : {A : Type 0} (i end : ℕ) (l : List A) → end ≤ i → slice i end l ≡ []
 slice-none i end l h = drop-of-length-le (take end l) {i = i} (omega (arith, length-take end l))
 
-pub between-none : (words tags : List ℕ) (i end : ℕ) → end ≤ i → between words tags i end ≡ []
+pub between-none : (tags words : List ℕ) (i end : ℕ) → end ≤ i → between tags words i end ≡ []
 unfolding between beside
-between-none words tags i end h = rw (slice-none i end tags h)
+between-none tags words i end h = rw (slice-none i end tags h)
 
-pub between-next : (words tags : List ℕ) (i end : ℕ) → i < end → end ≤ length words → end ≤ length tags → between words tags i end ≡ (getD tags i 0, getD words i 0) ∷ between words tags (suc i) end
+pub between-next : (tags words : List ℕ) (i end : ℕ) → i < end → end ≤ length tags → end ≤ length words → between tags words i end ≡ (getD tags i 0, getD words i 0) ∷ between tags words (suc i) end
 unfolding between beside
-between-next words tags i end h w t = rw (slice-cons i end tags 0 h t, slice-cons i end words 0 h w)
+between-next tags words i end h t w = rw (slice-cons i end tags 0 h t, slice-cons i end words 0 h w)
 
 -- of arrays, as code steps
-pub between-cons : (words tags : List ℕ) (i end : ℕ) → i < end → Long words tags → end ≤ 16384 → between words tags i end ≡ (getD tags i 0, getD words i 0) ∷ between words tags (i + 1) end
-between-cons words tags i end h long ok = rw (add-one i) (between-next words tags i end h (omega arith) (omega arith))
+pub between-cons : (tags words : List ℕ) (i end : ℕ) → i < end → Long words tags → end ≤ 16384 → between tags words i end ≡ (getD tags i 0, getD words i 0) ∷ between tags words (i + 1) end
+between-cons tags words i end h long ok = rw (add-one i) (between-next tags words i end h (omega arith) (omega arith))
 
 -- the part that stands there
-pub held-between : {words tags : List ℕ} {cells cs : Cells} {p q : ℕ} → Held words tags cells → Part cells p q cs → between words tags p q ≡ cs
+pub held-between : {words tags : List ℕ} {cells cs : Cells} {p q : ℕ} → Held words tags cells → Part cells p q cs → between tags words p q ≡ cs
 unfolding between
 held-between {cs} o v = ap₂ beside (part-tags o v) (part-words o v) ∙ beside-cells cs
 
 module _ {words tags : List ℕ} {n : ℕ} {m : Module} (t : Taped words tags n m) where
-  pub part-between : {p q : ℕ} {cs : Cells} → Part (flatModule m) p q cs → between words tags p q ≡ cs
+  pub part-between : {p q : ℕ} {cs : Cells} → Part (flatModule m) p q cs → between tags words p q ≡ cs
   part-between v = held-between (taped-held t) v
 
   -- section k, up to where the next starts
@@ -61,11 +61,11 @@ module _ {words tags : List ℕ} {n : ℕ} {m : Module} (t : Taped words tags n 
   pub header-stretch : (k a e : ℕ) → k < 8 → a ≡ offsetAt k words → e ≡ offsetAt (suc k) words → Stretch words tags a e
   header-stretch k a e h p q = rw (p, q) (section-stretch k h)
 
-  pub section-between : (k : ℕ) → k < 8 → between words tags (offsetAt k words) (offsetAt (suc k) words) ≡ sectionOf m k .1
+  pub section-between : (k : ℕ) → k < 8 → between tags words (offsetAt k words) (offsetAt (suc k) words) ≡ sectionOf m k .1
   section-between k h = part-between (section-part k h)
 
   -- a table: its cells, how many records it has, where their offsets stand, and the records
-  pub table-between : (k : ℕ) → k < 8 → between words tags (offsetAt k words) (offsetAt (suc k) words) ≡ flatTable (getD (tables m) k [])
+  pub table-between : (k : ℕ) → k < 8 → between tags words (offsetAt k words) (offsetAt (suc k) words) ≡ flatTable (getD (tables m) k [])
   table-between k h = section-between k h ∙ ap (λ s. s .1) (view-table m k h)
 
   pub table-count : (k : ℕ) → k < 8 → countAt k words ≡ length (getD (tables m) k [])

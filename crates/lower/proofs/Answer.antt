@@ -98,25 +98,25 @@ module _ {words tags : List ℕ} {n : ℕ} {m : Module} (t : Taped words tags n 
   both-reach = (reaches 2 4 (omega arith) (λ j i. constant-at j i .long), reaches 3 5 (omega arith) (λ j i. override-at j i .long))
 
   -- the sections, by their places in the header
-  pub types-answer : (a e : ℕ) → a ≡ offsetAt 1 words → e ≡ offsetAt 2 words → pass (between words tags a e) typeNext typeOk 0 ≡ typesLower (m .types) 0
+  pub types-answer : (a e : ℕ) → a ≡ offsetAt 1 words → e ≡ offsetAt 2 words → pass (between tags words a e) typeNext typeOk 0 ≡ typesLower (m .types) 0
   unfolding tables
   types-answer a e p q = rw (p, q) (ap (λ cs. pass cs typeNext typeOk 0) (table-between t 1 (omega arith)) ∙ types-are (t .well .types-ok .each))
 
-  pub exprs-answer : (a e : ℕ) → a ≡ offsetAt 5 words → e ≡ offsetAt 6 words → pass (between words tags a e) exprNext exprOk 0 ≡ operandsLower (m .exprs) 0
+  pub exprs-answer : (a e : ℕ) → a ≡ offsetAt 5 words → e ≡ offsetAt 6 words → pass (between tags words a e) exprNext exprOk 0 ≡ operandsLower (m .exprs) 0
   unfolding tables
   exprs-answer a e p q = rw (p, q) (ap (λ cs. pass cs exprNext exprOk 0) (table-between t 5 (omega arith)) ∙ exprs-are (t .well .exprs-ok .each))
 
-  pub inits-answer : (a e : ℕ) → a ≡ offsetAt 5 words → e ≡ offsetAt 6 words → pass (between words tags a e) exprNext (initOk words) 0 ≡ initsLower (m .exprs) (m .constants) (m .overrides) 0
+  pub inits-answer : (a e : ℕ) → a ≡ offsetAt 5 words → e ≡ offsetAt 6 words → pass (between tags words a e) exprNext (initOk words) 0 ≡ initsLower (m .exprs) (m .constants) (m .overrides) 0
   unfolding tables
   inits-answer a e p q =
       rw (p, q)
       (ap (λ cs. pass cs exprNext (initOk words) 0) (table-between t 5 (omega arith)) ∙ inits-are words (m .constants) (m .overrides) constant-same override-same (t .well .exprs-ok .each))
 
-  pub functions-answer : (a e : ℕ) → a ≡ offsetAt 6 words → e ≡ offsetAt 7 words → pass (between words tags a e) exprNext exprOk 0 ≡ functionsLower (m .functions)
+  pub functions-answer : (a e : ℕ) → a ≡ offsetAt 6 words → e ≡ offsetAt 7 words → pass (between tags words a e) exprNext exprOk 0 ≡ functionsLower (m .functions)
   unfolding tables
   functions-answer a e p q = rw (p, q) (ap (λ cs. pass cs exprNext exprOk 0) (table-between t 6 (omega arith)) ∙ functions-are (t .well .functions-ok .each))
 
-  pub entries-answer : (a e : ℕ) → a ≡ offsetAt 7 words → e ≡ offsetAt 8 words → pass (between words tags a e) exprNext exprOk 0 ≡ entriesLower (m .entries)
+  pub entries-answer : (a e : ℕ) → a ≡ offsetAt 7 words → e ≡ offsetAt 8 words → pass (between tags words a e) exprNext exprOk 0 ≡ entriesLower (m .entries)
   unfolding tables
   entries-answer a e p q = rw (p, q) (ap (λ cs. pass cs exprNext exprOk 0) (table-between t 7 (omega arith)) ∙ entries-are (t .well .entries-ok .each))
 

@@ -99,25 +99,25 @@ pub record Left (next : ℕ → ℕ → ℕ) (ok : ℕ → ℕ → ℕ → Bool)
   pub within : i ≤ end
   pub from : at ≤ i
   pub few : n ≤ i
-  pub same : pass (between words tags i end) next ok n ≡ pass (between words tags at end) next ok 0
+  pub same : pass (between tags words i end) next ok n ≡ pass (between tags words at end) next ok 0
 
 module _ (next : ℕ → ℕ → ℕ) (ok : ℕ → ℕ → ℕ → Bool) (grows : (s n : ℕ) → next s n ≤ suc n) (words tags : List ℕ) (at end : ℕ) where
   pub left-all : Stretch words tags at end → Left next ok words tags at end 0 at
   left-all s = record { within = s .rising; from = omega arith; few = omega arith; same = refl }
 
   module _ (n i : ℕ) (l : Left next ok words tags at end n i) where
-    pub left-none : end ≤ i → true ≡ pass (between words tags at end) next ok 0
+    pub left-none : end ≤ i → true ≡ pass (between tags words at end) next ok 0
     unfolding pass
-    left-none h = rw (between-none words tags i end h) at (l .same)
+    left-none h = rw (between-none tags words i end h) at (l .same)
 
     module _ (h : i < end) (s : Stretch words tags at end) (r : ℕ) (is : r ≡ next (getD tags i 0) n) (b : Bool) (tests : b ≡ ok (getD tags i 0) (getD words i 0) r) where
-      opened : b && pass (between words tags (suc i) end) next ok r ≡ pass (between words tags at end) next ok 0
+      opened : b && pass (between tags words (suc i) end) next ok r ≡ pass (between tags words at end) next ok 0
       unfolding pass
       opened =
           rw (tests, is)
-          (sym (ap (λ cs. pass cs next ok n) (between-next words tags i end h (s .in-words) (s .in-tags))) ∙ l .same)
+          (sym (ap (λ cs. pass cs next ok n) (between-next tags words i end h (s .in-tags) (s .in-words))) ∙ l .same)
 
-      pub left-fails : not b ≡ true → false ≡ pass (between words tags at end) next ok 0
+      pub left-fails : not b ≡ true → false ≡ pass (between tags words at end) next ok 0
       left-fails e = rw (not-true b e) at opened
 
       pub left-next : not b ≡ false → Left next ok words tags at end r (i + 1)

@@ -110,7 +110,7 @@ fn init_ok(words: &[u32; 16384], s: u8, w: u32, count: usize) -> bool
 
 fn types(words: &[u32; 16384], tags: &[u8; 16384], at: usize, end: usize) -> bool
     requires { ⌜ Stretch (now words) (now tags) at end ⌝ }
-    ensures { λ r. ⌜ r ≡ pass (between (now (words .entry)) (now (tags .entry)) at end) typeNext typeOk 0 ⌝ }
+    ensures { λ r. ⌜ r ≡ pass (between (now (tags .entry)) (now (words .entry)) at end) typeNext typeOk 0 ⌝ }
 {
     let mut count = 0;
     let mut i = at;
@@ -128,7 +128,7 @@ fn types(words: &[u32; 16384], tags: &[u8; 16384], at: usize, end: usize) -> boo
 
 fn operands(words: &[u32; 16384], tags: &[u8; 16384], at: usize, end: usize) -> bool
     requires { ⌜ Stretch (now words) (now tags) at end ⌝ }
-    ensures { λ r. ⌜ r ≡ pass (between (now (words .entry)) (now (tags .entry)) at end) exprNext exprOk 0 ⌝ }
+    ensures { λ r. ⌜ r ≡ pass (between (now (tags .entry)) (now (words .entry)) at end) exprNext exprOk 0 ⌝ }
 {
     let mut count = 0;
     let mut i = at;
@@ -147,7 +147,7 @@ fn operands(words: &[u32; 16384], tags: &[u8; 16384], at: usize, end: usize) -> 
 fn inits(words: &[u32; 16384], tags: &[u8; 16384], at: usize, end: usize) -> bool
     requires { ⌜ Stretch (now words) (now tags) at end ⌝ }
     requires { ⌜ Reaches (now words) 2 4 × Reaches (now words) 3 5 ⌝ }
-    ensures { λ r. ⌜ r ≡ pass (between (now (words .entry)) (now (tags .entry)) at end) exprNext (initOk (now (words .entry))) 0 ⌝ }
+    ensures { λ r. ⌜ r ≡ pass (between (now (tags .entry)) (now (words .entry)) at end) exprNext (initOk (now (words .entry))) 0 ⌝ }
 {
     let mut count = 0;
     let mut i = at;

@@ -19,6 +19,11 @@ pub record Long (words tags : List ℕ) : Type 0 where
   pub words-long : length words ≡ 16384
   pub tags-long : length tags ≡ 16384
 
+-- words and tape, which are lent as arrays
+pub record Long (words tags : List ℕ) : Type 0 where
+  pub words-long : length words ≡ 16384
+  pub tags-long : length tags ≡ 16384
+
 -- such a stretch lies in both
 pub record Stretch (words tags : List ℕ) (at end : ℕ) : Type 0 where
   pub rising : at ≤ end

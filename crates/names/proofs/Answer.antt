@@ -197,19 +197,19 @@ module _ {words tags : List ℕ} {n : ℕ} {m : Module} (t : Taped words tags n 
 
   -- ---- named expressions, by their places in the header
   module _ (few : NumbersFew m) where
-    functions-marks : (a e : ℕ) → a ≡ offsetAt 6 words → e ≡ offsetAt 7 words → marking (between words tags a e) 0 NONE ≡ functionsNamed (m .functions)
+    functions-marks : (a e : ℕ) → a ≡ offsetAt 6 words → e ≡ offsetAt 7 words → marking (between tags words a e) 0 NONE ≡ functionsNamed (m .functions)
     unfolding tables
     functions-marks a e p q = rw (p, q) (ap (λ cs. marking cs 0 NONE) (table-between t 6 (omega arith)) ∙ functions-are (t .well .functions-ok .each) (few .in-functions))
 
-    entries-marks : (a e : ℕ) → a ≡ offsetAt 7 words → e ≡ offsetAt 8 words → marking (between words tags a e) 0 NONE ≡ entriesNamed (m .entries)
+    entries-marks : (a e : ℕ) → a ≡ offsetAt 7 words → e ≡ offsetAt 8 words → marking (between tags words a e) 0 NONE ≡ entriesNamed (m .entries)
     unfolding tables
     entries-marks a e p q = rw (p, q) (ap (λ cs. marking cs 0 NONE) (table-between t 7 (omega arith)) ∙ entries-are (t .well .entries-ok .each) (few .in-entries))
 
-    functions-few : (a e : ℕ) → a ≡ offsetAt 6 words → e ≡ offsetAt 7 words → Each Small (between words tags a e)
+    functions-few : (a e : ℕ) → a ≡ offsetAt 6 words → e ≡ offsetAt 7 words → Each Small (between tags words a e)
     unfolding tables
     functions-few a e p q = rw (p, q) (rw (table-between t 6 (omega arith)) (functions-small (t .well .functions-ok .each) (few .in-functions)))
 
-    entries-few : (a e : ℕ) → a ≡ offsetAt 7 words → e ≡ offsetAt 8 words → Each Small (between words tags a e)
+    entries-few : (a e : ℕ) → a ≡ offsetAt 7 words → e ≡ offsetAt 8 words → Each Small (between tags words a e)
     unfolding tables
     entries-few a e p q = rw (p, q) (rw (table-between t 7 (omega arith)) (entries-small (t .well .entries-ok .each) (few .in-entries)))
 
@@ -227,10 +227,10 @@ module _ {words tags : List ℕ} {n : ℕ} (v : Numbered words tags n) where
   pub spelled : Spelled words
   spelled = spelled-names (v .taped)
 
-  pub few-functions : (a e : ℕ) → a ≡ offsetAt 6 words → e ≡ offsetAt 7 words → Each Small (between words tags a e)
+  pub few-functions : (a e : ℕ) → a ≡ offsetAt 6 words → e ≡ offsetAt 7 words → Each Small (between tags words a e)
   few-functions = functions-few (v .taped) (v .few)
 
-  pub few-entries : (a e : ℕ) → a ≡ offsetAt 7 words → e ≡ offsetAt 8 words → Each Small (between words tags a e)
+  pub few-entries : (a e : ℕ) → a ≡ offsetAt 7 words → e ≡ offsetAt 8 words → Each Small (between tags words a e)
   few-entries = entries-few (v .taped) (v .few)
 
   -- ---- what the passes say of the module
@@ -244,10 +244,10 @@ module _ {words tags : List ℕ} {n : ℕ} (v : Numbered words tags n) where
     pub entries-present : {r : Bool} → r ≡ present (listing (numberAt words 7) (countAt 7 words) 0) → r ≡ present (entryNames (m .entries))
     entries-present e = e ∙ ap present (entries-listed t)
 
-    pub functions-named : {r : Bool} (a e : ℕ) → a ≡ offsetAt 6 words → e ≡ offsetAt 7 words → r ≡ marking (between words tags a e) 0 NONE → r ≡ functionsNamed (m .functions)
+    pub functions-named : {r : Bool} (a e : ℕ) → a ≡ offsetAt 6 words → e ≡ offsetAt 7 words → r ≡ marking (between tags words a e) 0 NONE → r ≡ functionsNamed (m .functions)
     functions-named a e p q s = s ∙ functions-marks t few-of a e p q
 
-    pub entries-named : {r : Bool} (a e : ℕ) → a ≡ offsetAt 7 words → e ≡ offsetAt 8 words → r ≡ marking (between words tags a e) 0 NONE → r ≡ entriesNamed (m .entries)
+    pub entries-named : {r : Bool} (a e : ℕ) → a ≡ offsetAt 7 words → e ≡ offsetAt 8 words → r ≡ marking (between tags words a e) 0 NONE → r ≡ entriesNamed (m .entries)
     entries-named a e p q s = s ∙ entries-marks t few-of a e p q
 
     pub names-differ : {r : Bool} → r ≡ differ (listing (nameAt words) (countAt 0 words) 0) → r ≡ differ (map (map word) (m .names))

@@ -209,26 +209,26 @@ each-rest (each-next p ps) = ps
 pub record Marked (words tags : List ℕ) (end : ℕ) (whole : Bool) (marks : List ℕ) (b i : ℕ) : Type 0 where
   pub within : i ≤ end
   pub long : length marks ≡ 1024
-  pub few : Each Small (between words tags i end)
-  pub same : marking (between words tags i end) b marks ≡ whole
+  pub few : Each Small (between tags words i end)
+  pub same : marking (between tags words i end) b marks ≡ whole
 
 module _ (words tags : List ℕ) (at end : ℕ) (st : Stretch words tags at end) where
-  pub marked-all : Each Small (between words tags at end) → Marked words tags end (marking (between words tags at end) 0 NONE) NONE 0 at
+  pub marked-all : Each Small (between tags words at end) → Marked words tags end (marking (between tags words at end) 0 NONE) NONE 0 at
   marked-all f = record { within = st .rising; long = length-replicate {A = ℕ} 1024 0; few = f; same = refl }
 
   module _ (whole : Bool) (marks : List ℕ) (b i : ℕ) (l : Marked words tags end whole marks b i) where
     pub marked-none : end ≤ i → true ≡ whole
     unfolding marking
-    marked-none h = rw (between-none words tags i end h) at (l .same)
+    marked-none h = rw (between-none tags words i end h) at (l .same)
 
     module _ (h : i < end) where
-      here : between words tags i end ≡ (getD tags i 0, getD words i 0) ∷ between words tags (suc i) end
-      here = between-next words tags i end h (st .in-words) (st .in-tags)
+      here : between tags words i end ≡ (getD tags i 0, getD words i 0) ∷ between tags words (suc i) end
+      here = between-next tags words i end h (st .in-tags) (st .in-words)
 
-      first : Each Small ((getD tags i 0, getD words i 0) ∷ between words tags (suc i) end)
+      first : Each Small ((getD tags i 0, getD words i 0) ∷ between tags words (suc i) end)
       first = rw here at (l .few)
 
-      opened-cell : not (unnamed b (getD tags i 0) (getD words i 0)) && elim (eqb (getD tags i 0) NAMED) [ true ↦ marking (between words tags (suc i) end) (getD tags i 0) NONE | false ↦ elim (eqb (getD tags i 0) NAMED-EXPR) [ true ↦ eqb (getD marks (getD words i 0) 0) 0 && marking (between words tags (suc i) end) (getD tags i 0) (set marks (getD words i 0) 1) | false ↦ marking (between words tags (suc i) end) (getD tags i 0) marks ] ] ≡ whole
+      opened-cell : not (unnamed b (getD tags i 0) (getD words i 0)) && elim (eqb (getD tags i 0) NAMED) [ true ↦ marking (between tags words (suc i) end) (getD tags i 0) NONE | false ↦ elim (eqb (getD tags i 0) NAMED-EXPR) [ true ↦ eqb (getD marks (getD words i 0) 0) 0 && marking (between tags words (suc i) end) (getD tags i 0) (set marks (getD words i 0) 1) | false ↦ marking (between tags words (suc i) end) (getD tags i 0) marks ] ] ≡ whole
       unfolding marking
       opened-cell = rw here at (l .same)
 
@@ -236,18 +236,18 @@ module _ (words tags : List ℕ) (at end : ℕ) (st : Stretch words tags at end)
       unnamed-fails u is t = rw (sym is ∙ t) at opened-cell
 
       module _ (u : Bool) (is : u ≡ unnamed b (getD tags i 0) (getD words i 0)) (ok : u ≡ false) where
-        passed : elim (eqb (getD tags i 0) NAMED) [ true ↦ marking (between words tags (suc i) end) (getD tags i 0) NONE | false ↦ elim (eqb (getD tags i 0) NAMED-EXPR) [ true ↦ eqb (getD marks (getD words i 0) 0) 0 && marking (between words tags (suc i) end) (getD tags i 0) (set marks (getD words i 0) 1) | false ↦ marking (between words tags (suc i) end) (getD tags i 0) marks ] ] ≡ whole
+        passed : elim (eqb (getD tags i 0) NAMED) [ true ↦ marking (between tags words (suc i) end) (getD tags i 0) NONE | false ↦ elim (eqb (getD tags i 0) NAMED-EXPR) [ true ↦ eqb (getD marks (getD words i 0) 0) 0 && marking (between tags words (suc i) end) (getD tags i 0) (set marks (getD words i 0) 1) | false ↦ marking (between tags words (suc i) end) (getD tags i 0) marks ] ] ≡ whole
         passed = rw (sym is ∙ ok) at opened-cell
 
         -- the cells behind this one, with other marks
-        on : (ms : List ℕ) → length ms ≡ 1024 → marking (between words tags (suc i) end) (getD tags i 0) ms ≡ whole → Marked words tags end whole ms (getD tags i 0) (i + 1)
+        on : (ms : List ℕ) → length ms ≡ 1024 → marking (between tags words (suc i) end) (getD tags i 0) ms ≡ whole → Marked words tags end whole ms (getD tags i 0) (i + 1)
         on ms n e = rw (add-one i) (record { within = h; long = n; few = each-rest first; same = e })
 
         pub list-next : (getD tags i 0) ≡ NAMED → Marked words tags end whole NONE (getD tags i 0) (i + 1)
         list-next e = on NONE (length-replicate {A = ℕ} 1024 0) (rw (eq-eqb (getD tags i 0) NAMED e) at passed)
 
         module _ (d : (getD tags i 0) ≡ NAMED → ⊥) where
-          unlisted : elim (eqb (getD tags i 0) NAMED-EXPR) [ true ↦ eqb (getD marks (getD words i 0) 0) 0 && marking (between words tags (suc i) end) (getD tags i 0) (set marks (getD words i 0) 1) | false ↦ marking (between words tags (suc i) end) (getD tags i 0) marks ] ≡ whole
+          unlisted : elim (eqb (getD tags i 0) NAMED-EXPR) [ true ↦ eqb (getD marks (getD words i 0) 0) 0 && marking (between tags words (suc i) end) (getD tags i 0) (set marks (getD words i 0) 1) | false ↦ marking (between tags words (suc i) end) (getD tags i 0) marks ] ≡ whole
           unlisted = rw (ne-eqb (getD tags i 0) NAMED d) at passed
 
           pub other-next : ((getD tags i 0) ≡ NAMED-EXPR → ⊥) → Marked words tags end whole marks (getD tags i 0) (i + 1)
@@ -257,7 +257,7 @@ module _ (words tags : List ℕ) (at end : ℕ) (st : Stretch words tags at end)
             pub in-marks : e < 1024
             in-marks = rw number (each-first first .small x)
 
-            expr-left : eqb (getD marks e 0) 0 && marking (between words tags (suc i) end) (getD tags i 0) (set marks e 1) ≡ whole
+            expr-left : eqb (getD marks e 0) 0 && marking (between tags words (suc i) end) (getD tags i 0) (set marks e 1) ≡ whole
             expr-left = rw number (rw (eq-eqb (getD tags i 0) NAMED-EXPR x) at unlisted)
 
             pub twice : (getD marks e 0 ≡ 0 → ⊥) → false ≡ whole

@@ -273,8 +273,8 @@ fn unnamed(before: u8, s: u8, w: u32) -> bool
 // Whether each named expression has a name, and none is named twice in a function.
 fn expressions(words: &[u32; 16384], tags: &[u8; 16384], at: usize, end: usize) -> bool
     requires { ⌜ Stretch (now words) (now tags) at end ⌝ }
-    requires { ⌜ Each Small (between (now words) (now tags) at end) ⌝ }
-    ensures { λ r. ⌜ r ≡ marking (between (now (words .entry)) (now (tags .entry)) at end) 0 NONE ⌝ }
+    requires { ⌜ Each Small (between (now tags) (now words) at end) ⌝ }
+    ensures { λ r. ⌜ r ≡ marking (between (now (tags .entry)) (now (words .entry)) at end) 0 NONE ⌝ }
 {
     let mut marks = [0u8; 1024];
     let mut before = 0;

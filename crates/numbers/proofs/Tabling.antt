@@ -146,7 +146,7 @@ module _ (words tags : List ℕ) (n : ℕ) (t : List ℕ) where
                   sym (ap (within (outside m) (m .special .rays) &&_) (within-all (outside m) (m .special .pairs)))
                   ∙ sym (within-append (outside m) (m .special .rays) (flatAll (m .special .pairs)))
                   ∙ sym (ap (within (outside m)) (held-between (taped-held tp) (special-part tp)))
-                  ∙ sym (a .same (outside m) e ∙ ap (λ o. within (outside m) (between words tags o n)) is) in
+                  ∙ sym (a .same (outside m) e ∙ ap (λ o. within (outside m) (between tags words o n)) is) in
                   rw (got 1 (omega arith) r₁ a₁ m tp e, not-false r₁ q₁, got 2 (omega arith) r₂ a₂ m tp e, not-false r₂ q₂, got 3 (omega arith) r₃ a₃ m tp e, not-false r₃ q₃, got 4 (omega arith) r₄ a₄ m tp e, not-false r₄ q₄, got 5 (omega arith) r₅ a₅ m tp e, not-false r₅ q₅, s);
             }
 

@@ -40,7 +40,7 @@ module _ (t : List ℕ) (b : Bounds) (e : t ≡ table b) (s f c w : ℕ) (s-is :
 -- ---- each word below its bound
 pub record Left (words tags t : List ℕ) (at end i : ℕ) : Type 0 where
   pub to : i ≤ end
-  pub same : (b : Bounds) → t ≡ table b → within b (between words tags i end) ≡ within b (between words tags at end)
+  pub same : (b : Bounds) → t ≡ table b → within b (between tags words i end) ≡ within b (between tags words at end)
 
 module _ (words tags t : List ℕ) (at end : ℕ) where
   pub ranged-begin : at ≤ end → Left words tags t at end at
@@ -49,12 +49,12 @@ module _ (words tags t : List ℕ) (at end : ℕ) where
   module _ (i : ℕ) (inv : Left words tags t at end i) where
     pub ranged-done : end ≤ i → Ranged true words tags t at end
     unfolding within
-    ranged-done h = record { same = λ b e. sym (ap (within b) (between-none words tags i end h)) ∙ inv .same b e }
+    ranged-done h = record { same = λ b e. sym (ap (within b) (between-none tags words i end h)) ∙ inv .same b e }
 
     module _ (h : i < end) (long : Long words tags) (ok : end ≤ 16384) (s : ℕ) (s-is : s ≡ getD tags i 0) (few : s < 256) (f : ℕ) (f-is : f ≡ getD words i 0) (low : f < 2 ^ 32) where
-      step : (b : Bounds) → t ≡ table b → (v : Bool) → ltb f (getD t s 0) ≡ v → (v && within b (between words tags (i + 1) end)) ≡ within b (between words tags at end)
+      step : (b : Bounds) → t ≡ table b → (v : Bool) → ltb f (getD t s 0) ≡ v → (v && within b (between tags words (i + 1) end)) ≡ within b (between tags words at end)
       unfolding within
-      step b e v q = sym (ap (_&& within b (between words tags (i + 1) end)) (cell-tested t b e s f (getD tags i 0) (getD words i 0) s-is few f-is low ∙ q)) ∙ sym (ap (within b) (between-cons words tags i end h long ok)) ∙ inv .same b e
+      step b e v q = sym (ap (_&& within b (between tags words (i + 1) end)) (cell-tested t b e s f (getD tags i 0) (getD words i 0) s-is few f-is low ∙ q)) ∙ sym (ap (within b) (between-cons tags words i end h long ok)) ∙ inv .same b e
 
       pub ranged-over : getD t s 0 ≤ f → Ranged false words tags t at end
       ranged-over g = record { same = λ b e. step b e false (le-ltb f (getD t s 0) g) }
@@ -64,21 +64,21 @@ module _ (words tags t : List ℕ) (at end : ℕ) where
 
 -- ---- Emit's start
 module _ (words tags : List ℕ) (i end : ℕ) where
-  pub rising-other : (getD tags i 0 ≡ 97 → ⊥) → true ≡ rising (getD tags i 0, getD words i 0) (between words tags (i + 1) end)
+  pub rising-other : (getD tags i 0 ≡ 97 → ⊥) → true ≡ rising (getD tags i 0, getD words i 0) (between tags words (i + 1) end)
   unfolding rising
-  rising-other ne = go (between words tags (i + 1) end)
+  rising-other ne = go (between tags words (i + 1) end)
     where
       go : (cs : Cells) → true ≡ rising (getD tags i 0, getD words i 0) cs
       go [] = refl
       go (d ∷ cs) = rw (rising, ne-eqb (getD tags i 0) 97 ne)
 
-  pub rising-last : end ≤ i + 1 → true ≡ rising (getD tags i 0, getD words i 0) (between words tags (i + 1) end)
+  pub rising-last : end ≤ i + 1 → true ≡ rising (getD tags i 0, getD words i 0) (between tags words (i + 1) end)
   unfolding rising
-  rising-last h = rw (between-none words tags (i + 1) end h)
+  rising-last h = rw (between-none tags words (i + 1) end h)
 
-  pub rising-tested : getD tags i 0 ≡ 97 → i + 1 < end → Long words tags → end ≤ 16384 → leb (getD words i 0) (getD words (i + 1) 0) ≡ rising (getD tags i 0, getD words i 0) (between words tags (i + 1) end)
+  pub rising-tested : getD tags i 0 ≡ 97 → i + 1 < end → Long words tags → end ≤ 16384 → leb (getD words i 0) (getD words (i + 1) 0) ≡ rising (getD tags i 0, getD words i 0) (between tags words (i + 1) end)
   unfolding rising
-  rising-tested e h long ok = rw (between-cons words tags (i + 1) end h long ok, rising, eq-eqb (getD tags i 0) 97 e)
+  rising-tested e h long ok = rw (between-cons tags words (i + 1) end h long ok, rising, eq-eqb (getD tags i 0) 97 e)
 
 and-false : (x : Bool) → x && false ≡ false
 and-false true = refl
@@ -87,7 +87,7 @@ and-false false = refl
 -- ---- both at once
 pub record Leaves (words tags t : List ℕ) (at end i : ℕ) : Type 0 where
   pub to : i ≤ end
-  pub same : (b : Bounds) → t ≡ table b → within b (between words tags i end) && ordered (between words tags i end) ≡ within b (between words tags at end) && ordered (between words tags at end)
+  pub same : (b : Bounds) → t ≡ table b → within b (between tags words i end) && ordered (between tags words i end) ≡ within b (between tags words at end) && ordered (between tags words at end)
 
 module _ (words tags t : List ℕ) (at end : ℕ) where
   pub checked-begin : at ≤ end → Leaves words tags t at end at
@@ -96,19 +96,19 @@ module _ (words tags t : List ℕ) (at end : ℕ) where
   module _ (i : ℕ) (inv : Leaves words tags t at end i) where
     pub checked-done : end ≤ i → Checked true words tags t at end
     unfolding within ordered
-    checked-done h = record { same = λ b e. sym (ap (λ cs. within b cs && ordered cs) (between-none words tags i end h)) ∙ inv .same b e }
+    checked-done h = record { same = λ b e. sym (ap (λ cs. within b cs && ordered cs) (between-none tags words i end h)) ∙ inv .same b e }
 
     module _ (h : i < end) (long : Long words tags) (ok : end ≤ 16384) (s : ℕ) (s-is : (s ≡ getD tags i 0) × (s < 256)) (f : ℕ) (f-is : (f ≡ getD words i 0) × (f < 2 ^ 32)) where
       rest : Cells
-      rest = between words tags (i + 1) end
+      rest = between tags words (i + 1) end
 
-      turn : (b : Bounds) → t ≡ table b → (p q : Bool) → ltb f (getD t s 0) ≡ p → rising (getD tags i 0, getD words i 0) rest ≡ q → (p && within b rest) && (q && ordered rest) ≡ within b (between words tags at end) && ordered (between words tags at end)
+      turn : (b : Bounds) → t ≡ table b → (p q : Bool) → ltb f (getD t s 0) ≡ p → rising (getD tags i 0, getD words i 0) rest ≡ q → (p && within b rest) && (q && ordered rest) ≡ within b (between tags words at end) && ordered (between tags words at end)
       unfolding within ordered rest
       turn b e p q u v =
           sym
           (ap (λ x. (x && within b rest) && (rising (getD tags i 0, getD words i 0) rest && ordered rest)) (cell-tested t b e s f (getD tags i 0) (getD words i 0) (s-is .0) (s-is .1) (f-is .0) (f-is .1) ∙ u)
           ∙ ap (λ x. (p && within b rest) && (x && ordered rest)) v)
-          ∙ sym (ap (λ cs. within b cs && ordered cs) (between-cons words tags i end h long ok))
+          ∙ sym (ap (λ cs. within b cs && ordered cs) (between-cons tags words i end h long ok))
           ∙ inv .same b e
 
       pub checked-over : getD t s 0 ≤ f → Checked false words tags t at end
@@ -119,7 +119,7 @@ module _ (words tags t : List ℕ) (at end : ℕ) where
         unfolding rest
         checked-plain n = record { to = omega arith; same = λ b e. turn b e true true (lt-ltb f (getD t s 0) g) (sym (rising-other words tags i end (λ z. n (s-is .0 ∙ z)))) }
 
-        module _ (v : Bool) (v-is : v ≡ rising (getD tags i 0, getD words i 0) (between words tags (i + 1) end)) where
+        module _ (v : Bool) (v-is : v ≡ rising (getD tags i 0, getD words i 0) (between tags words (i + 1) end)) where
           pub checked-falls : not v ≡ true → Checked false words tags t at end
           unfolding rest
           checked-falls q = record { same = λ b e. sym (and-false (within b rest)) ∙ turn b e true false (lt-ltb f (getD t s 0) g) (sym v-is ∙ not-true v q) }

@@ -403,7 +403,7 @@ fn rising(words: &[u32; 16384], tags: &[u8; 16384], i: usize, end: usize) -> boo
     requires { ⌜ Long (now words) (now tags) ⌝ }
     requires { ⌜ i < end ⌝ }
     requires { ⌜ end ≤ 16384 ⌝ }
-    ensures { λ r. ⌜ r ≡ risingOf (getD (now (tags .entry)) i 0, getD (now (words .entry)) i 0) (between (now (words .entry)) (now (tags .entry)) (i + 1) end) ⌝ }
+    ensures { λ r. ⌜ r ≡ risingOf (getD (now (tags .entry)) i 0, getD (now (words .entry)) i 0) (between (now (tags .entry)) (now (words .entry)) (i + 1) end) ⌝ }
 {
     if tags[i] != classes::FROM {
         return true;

@@ -138,13 +138,13 @@ unfolding cellsFrom
 cells-none ws ts i to h = let e : to - i ≡ 0 = omega arith in rw e
 
 -- inside words and tape they are the model's cells between two places
-pub cells-between : (ws ts : List ℕ) (from to : ℕ) → from ≤ to → to ≤ length ws → to ≤ length ts → cellsIn ws ts from to ≡ between ws ts from to
+pub cells-between : (ws ts : List ℕ) (from to : ℕ) → from ≤ to → to ≤ length ws → to ≤ length ts → cellsIn ws ts from to ≡ between ts ws from to
 unfolding cellsIn cellsFrom
 cells-between ws ts from to h w t = go (to - from) from (omega arith)
   where
-    go : (n i : ℕ) → i + n ≡ to → cellsFrom n ws ts i ≡ between ws ts i to
-    go zero i e = sym (between-none ws ts i to (omega arith))
-    go (suc n) i e = ap ((getD ts i 0, getD ws i 0) ∷_) (go n (suc i) (omega arith)) ∙ sym (between-next ws ts i to (omega arith) w t)
+    go : (n i : ℕ) → i + n ≡ to → cellsFrom n ws ts i ≡ between ts ws i to
+    go zero i e = sym (between-none ts ws i to (omega arith))
+    go (suc n) i e = ap ((getD ts i 0, getD ws i 0) ∷_) (go n (suc i) (omega arith)) ∙ sym (between-next ts ws i to (omega arith) t w)
 
 -- ---- the loop of reads
 pub record Reading (ws ts : List ℕ) (from to : ℕ) (f : ℕ → Bool) (i : ℕ) : Type 0 where

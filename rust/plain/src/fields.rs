@@ -269,7 +269,7 @@ pub const CASE_VALUES: &[Row] =
     &[row("I32", &[("value", Field::Copied)]), row("U32", &[("value", Field::Copied)]), row("Default", &[])];
 
 /// The kinds of expressions.
-pub const EXPRESSIONS: [Row; 27] = [
+pub const EXPRESSIONS: &[Row] = &[
     row("Literal", &[("code", Field::Code(LITERAL)), ("low", Field::Copied), ("high", Field::Copied)]),
     row("Constant", &[("constant", Field::Constant)]),
     row("Override", &[("override", Field::Override)]),

@@ -4,7 +4,7 @@
 //! (a number at its bound, an operand that is not lower, a statement in the wrong place). The answer may still
 //! be "accepted": a changed word that is only copied harms nothing.
 
-use crate::fields::{limit, statement, Field};
+use crate::fields::{limit, statement, Field, EXPRESSIONS};
 use crate::module::*;
 use crate::random::Random;
 use crate::write::write;
@@ -155,7 +155,7 @@ fn places(module: &Module) -> Vec<Place> {
         put(record.init, globals + 1);
     }
     for record in &module.expressions {
-        put(record.kind, 27);
+        put(record.kind, EXPRESSIONS.len());
         for (field, word) in record.words() {
             put(word, bound(module, &Function::default(), globals, field));
         }
@@ -189,7 +189,7 @@ fn function_places(module: &Module, function: &Function, put: &mut impl FnMut(Wo
         put(local.init, expressions + 1);
     }
     for record in &function.expressions {
-        put(record.kind, 27);
+        put(record.kind, EXPRESSIONS.len());
         for (field, word) in record.words() {
             put(word, bound(module, function, expressions, field));
         }

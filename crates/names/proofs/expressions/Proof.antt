@@ -9,7 +9,7 @@ use Rattle.names.proofs.expressions.Statement.{statement}
 use Rattle.names.proofs.expressions.Tie as tie
 
 abbrev Inv-loop : tie.InvT-loop
-Inv-loop words tags at end marks₀ before₀ i₀ marks before i = Marked words tags end (marking (between words tags at end) 0 NONE) marks before i
+Inv-loop words tags at end marks₀ before₀ i₀ marks before i = Marked words tags end (marking (between tags words at end) 0 NONE) marks before i
 
 abbrev μ-loop : tie.MeasureT-loop
 μ-loop words tags at end marks₀ before₀ i₀ marks before i = end - i
