@@ -1,5 +1,5 @@
 -- The theorems on the passes over a function's cells, each with its statement in full, for a source that passed intake's tests 3, 4 and 6 and a way to follow calls (`Follows`): what the passes write is the flat list of the derived function, and what they leave is the model's state behind its import.
-use Prim.Native.Nat.{ℕ, suc, _*_}
+use Prim.Native.Nat.{ℕ, suc, _*_, _<_}
 use mathlib.Core.Path.{_≡_, refl, ap, sym}
 use mathlib.Core.Bool.{true, false}
 use mathlib.Core.List.{List, _++_}
@@ -16,11 +16,13 @@ use Rattle.model.specs.Imports.{St}
 use Rattle.model.specs.Bodies.{Making, keptNames, declared, walked, rebuilt, derived, final, localized}
 use Rattle.bodies.specs.Lists.{All}
 use Rattle.bodies.specs.Context.{Law}
+use Rattle.bodies.specs.Steps.{own-ops}
 use Rattle.bodies.specs.Passing.{Passes, fine}
 use Rattle.bodies.specs.Lawful.{Follows, lawful}
 use Rattle.bodies.specs.Function.{Fine, ctx}
 use Rattle.passes.specs.Pass.{front, frontAfter, frontWritten, bodyAfter, bodyWritten, namesAfter, namesWritten, wholeAfter, wholeWritten}
 use Rattle.passes.specs.Passage.{written-length}
+use Rattle.passes.specs.Operands.{Lower}
 use Rattle.passes.specs.Body as Body
 use Rattle.passes.specs.Declarations as Declarations
 use Rattle.passes.specs.Names as Names
@@ -60,7 +62,10 @@ module _ (M : Module) (well : WellFormed M) (three : numbered M ≡ true) (four 
   abbrev pub fin : Making
   fin = final o M follow F s
 
-  -- ---- the declarations
+  -- ---- the declarations; an initialiser's operands have lower numbers, so `unique` is without levels (Operands, `unique-new`)
+  pub operands-lower : Lower o M follow (F .exprs)
+  operands-lower e l = own-ops (ctx o M follow Q G law F) (fit .exprs) (λ x. x < e) e (fit .exprs .lower e l)
+
   pub front-after : frontAfter o M follow F s ≡ dec
   front-after = Declarations.front-after o M follow Q G law F fit s good (pass .well)
 
