@@ -1,12 +1,12 @@
 -- The passes only add: whatever relation between what is under way before and behind holds of each single step (a record of a table, a callee, an expression appended or merged) holds of every pass. So what is too large at some cell is too large in the end. Assumes nothing of the source.
-use mathlib.Core.Path.{_≡_}
+use mathlib.Core.Path.{_≡_, refl, _∙_}
 use mathlib.Core.Bool.{Bool, true, false}
 use mathlib.Core.List.{List, [], _∷_, _++_}
 use Prim.Native.Nat.{ℕ, zero, suc, _+_, _≤_}
 use native.Mathlib.Omega.{arith}
 use native.Mathlib.Nat.{le-refl, le-trans}
 use lib.Dec.{eqb}
-use lib.ListN.{length, getD, length-append}
+use lib.ListN.{length, getD, set, length-append, length-set}
 use Rattle.model.specs.Outcome.{Cell, Cells, class, word}
 use Rattle.model.specs.Table.{FROM, STMT-KIND, NAME}
 use Rattle.model.specs.Tree.{flatAll}
@@ -17,6 +17,7 @@ use Rattle.model.specs.Operands.{standing}
 use Rattle.model.specs.Scope.{inRange}
 use Rattle.model.specs.Imports.{St, once, importT}
 use Rattle.model.specs.Bodies.{Making, bring, carried, step, comparesOf, eachE, push, join, importE, unique}
+use Rattle.imports.specs.RecordLaws.{kept, kept-in, kept-longer}
 use Rattle.bodies.specs.Context.{once-is}
 use Rattle.bodies.specs.Shallow.{need, peek, glance}
 use Rattle.passes.specs.Pass.{atomicKind, arrive, first, both, early, passed, after, named}
@@ -158,4 +159,36 @@ module _ (o : ℕ) (M : Module) (follow : ℕ → St → St) (xs : List Cells) w
     functions = λ f m. record { many = le-refl _; long = le-refl _ };
     appends = λ e m. let r = carried o M m (getD xs e []) in record { many = omega (arith, length-append (m .made) (r ∷ [])); long = omega (arith, flat-append (m .made) (r ∷ [])) };
     merges = λ e m. let z = merged-longer (m .made) (carried o M m (getD xs e [])) in record { many = z .0; long = z .1 };
+  }
+
+  -- ---- the memo keeps its length, and sends to what is made
+  pub record Placed (m : Making) : Type 0 where
+    pub within : (e : ℕ) → getD (m .memo) e 0 ≤ length (m .made)
+
+  pub record Stays (m m′ : Making) : Type 0 where
+    pub long : length (m′ .memo) ≡ length (m .memo)
+    pub places : Placed m → Placed m′
+
+  set-within : (ms : List ℕ) (e v n : ℕ) → ((y : ℕ) → getD ms y 0 ≤ n) → v ≤ n → (y : ℕ) → getD (set ms e v) y 0 ≤ n
+  set-within [] e v n h l y = h y
+  set-within (m ∷ ms) zero v n h l zero = l
+  set-within (m ∷ ms) zero v n h l (suc y) = h (suc y)
+  set-within (m ∷ ms) (suc e) v n h l zero = h zero
+  set-within (m ∷ ms) (suc e) v n h l (suc y) = set-within ms e v n (λ y. h (suc y)) l y
+
+  pub stays : Growing Stays
+  unfolding bring push join
+  stays = record {
+    same = λ m. record { long = refl; places = λ h. h };
+    next = λ a b c p q. record { long = q .long ∙ p .long; places = λ h. q .places (p .places h) };
+    tables = λ t n m. record { long = refl; places = λ h. record { within = h .within } };
+    functions = λ f m. record { long = refl; places = λ h. record { within = h .within } };
+    appends = λ e m.
+        let r = carried o M m (getD xs e []) in
+        let z = length-append (m .made) (r ∷ []) in
+        record { long = length-set (m .memo) e _; places = λ h. record { within = set-within (m .memo) e _ (length (m .made ++ (r ∷ []))) (λ y. omega (arith, h .within y, z)) (omega (arith, z)) } };
+    merges = λ e m.
+        let r = carried o M m (getD xs e []) in
+        let k = kept r (m .made) in
+        record { long = length-set (m .memo) e _; places = λ h. record { within = set-within (m .memo) e _ (length (merged (m .made) r)) (λ y. le-trans (h .within y) (kept-longer k)) (kept-in k) } };
   }

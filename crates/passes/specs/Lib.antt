@@ -10,4 +10,5 @@ pub mod Declarations
 pub mod Names
 pub mod Whole
 pub mod Growth
+pub mod Entries
 pub mod Examples
