@@ -1,5 +1,7 @@
 pub mod Pass
 pub mod Passage
+pub mod Cases
+pub mod Operands
 pub mod Forms
 pub mod Ready
 pub mod Shapes
@@ -7,4 +9,6 @@ pub mod Body
 pub mod Declarations
 pub mod Names
 pub mod Whole
+pub mod Growth
+pub mod Entries
 pub mod Examples

@@ -1,7 +1,7 @@
 -- What passing a run of cells does, whatever stands behind them (`Passage`), and how runs follow one another. A run of fields becomes its cells carried by later maps, where each number is mapped at its turn to what it is mapped to later (`Steady`).
 use mathlib.Core.Path.{_≡_, refl, ap, sym, _∙_, subst}
 use mathlib.Core.Bool.{Bool, true, false, _&&_, not, false≢true}
-use mathlib.Core.List.{List, [], _∷_, _++_, append-assoc, append-nil}
+use mathlib.Core.List.{List, [], _∷_, _++_, map, append-assoc, append-nil}
 use Prim.Native.Nat.{ℕ, zero, suc}
 use lib.Dec.{eqb}
 use lib.ListN.{length}
@@ -82,6 +82,12 @@ module _ (o : ℕ) (M : Module) (follow : ℕ → St → St) (p q : ℕ → Maki
   unfolding written
   written-length [] u m = refl
   written-length (c ∷ cs) u m = ap suc (written-length cs _ _)
+
+  -- cell by cell of the same class
+  pub written-classes : (cs : Cells) (u : Bool) (m : Making) → map class (written o M follow p q cs u m) ≡ map class cs
+  unfolding written
+  written-classes [] u m = refl
+  written-classes (c ∷ cs) u m = ap (class c ∷_) (written-classes cs _ _)
 
   -- ---- ws, passed from st, leave st′ and become out
   pub record Passage (ws : Cells) (st st′ : Making) (out : Cells) : Type 0 where

@@ -1,12 +1,13 @@
 -- The theorems on the passes over a function's cells, each with its statement in full, for a source that passed intake's tests 3, 4 and 6 and a way to follow calls (`Follows`): what the passes write is the flat list of the derived function, and what they leave is the model's state behind its import.
-use Prim.Native.Nat.{ℕ, suc, _*_}
+use Prim.Native.Nat.{ℕ, suc, _+_, _*_, _<_}
 use mathlib.Core.Path.{_≡_, refl, ap, sym}
 use mathlib.Core.Bool.{true, false}
 use mathlib.Core.List.{List, _++_}
-use lib.ListN.{length}
+use native.Mathlib.Omega.{arith}
+use lib.ListN.{length, length-append}
 use Rattle.model.specs.Outcome.{Cells}
 use Rattle.model.specs.Table.{EXPRESSIONS, NAMED}
-use Rattle.model.specs.Tree.{Function, flatList, flatBlock, flat}
+use Rattle.model.specs.Tree.{Function, flatAll, flatList, flatBlock, flat}
 use Rattle.model.specs.Module.{Module}
 use Rattle.model.specs.Carry.{WellFormed}
 use Rattle.model.specs.Numbers.{numbered}
@@ -16,11 +17,13 @@ use Rattle.model.specs.Imports.{St}
 use Rattle.model.specs.Bodies.{Making, keptNames, declared, walked, rebuilt, derived, final, localized}
 use Rattle.bodies.specs.Lists.{All}
 use Rattle.bodies.specs.Context.{Law}
+use Rattle.bodies.specs.Steps.{own-ops}
 use Rattle.bodies.specs.Passing.{Passes, fine}
 use Rattle.bodies.specs.Lawful.{Follows, lawful}
 use Rattle.bodies.specs.Function.{Fine, ctx}
 use Rattle.passes.specs.Pass.{front, frontAfter, frontWritten, bodyAfter, bodyWritten, namesAfter, namesWritten, wholeAfter, wholeWritten}
 use Rattle.passes.specs.Passage.{written-length}
+use Rattle.passes.specs.Operands.{Lower}
 use Rattle.passes.specs.Body as Body
 use Rattle.passes.specs.Declarations as Declarations
 use Rattle.passes.specs.Names as Names
@@ -38,6 +41,18 @@ module _ (o : ℕ) (M : Module) (follow : ℕ → St → St) (F : Function) wher
   pub names-length : (m : Making) → length (namesWritten o M follow F m) ≡ suc (2 * length (keptNames o M follow F m))
   unfolding namesWritten
   names-length m = ap suc (Names.rows-length o M follow _ _ (keptNames o M follow F m) m)
+
+  -- so the record is as long as these
+  pub whole-length : (s : St) → length (wholeWritten o M follow F s)
+      ≡ length (front F) + suc (length (flatAll (bodyAfter o M follow F (frontAfter o M follow F s) .made))) + suc (2 * length (keptNames o M follow F (bodyAfter o M follow F (frontAfter o M follow F s)))) + length (flatBlock (F .body))
+  unfolding wholeWritten flatList
+  whole-length s =
+      let m = bodyAfter o M follow F (frontAfter o M follow F s) in
+      let a = frontWritten o M follow F s in
+      let b = flatList EXPRESSIONS (m .made) in
+      let c = namesWritten o M follow F m in
+      let d = bodyWritten o M follow F (frontAfter o M follow F s) in
+      omega (arith, length-append (a ++ b ++ c) d, length-append (a ++ b) c, length-append a b, front-length s, names-length m, body-length (frontAfter o M follow F s))
 
 module _ (M : Module) (well : WellFormed M) (three : numbered M ≡ true) (four : lower M ≡ true) (o : ℕ) (follow : ℕ → St → St) (Q : ℕ → Type 0) (G : St → Type 0) (follows : Follows o M follow Q G)
     (F : Function) (pass : Passes M F) (calls : All Q (callees F)) (s : St) (good : G s) where
@@ -60,7 +75,10 @@ module _ (M : Module) (well : WellFormed M) (three : numbered M ≡ true) (four 
   abbrev pub fin : Making
   fin = final o M follow F s
 
-  -- ---- the declarations
+  -- ---- the declarations; an initialiser's operands have lower numbers, so `unique` is without levels (Operands, `unique-new`)
+  pub operands-lower : Lower o M follow (F .exprs)
+  operands-lower e l = own-ops (ctx o M follow Q G law F) (fit .exprs) (λ x. x < e) e (fit .exprs .lower e l)
+
   pub front-after : frontAfter o M follow F s ≡ dec
   front-after = Declarations.front-after o M follow Q G law F fit s good (pass .well)
 
