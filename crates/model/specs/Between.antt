@@ -12,12 +12,7 @@ beside (s ∷ ss) [] = []
 beside (s ∷ ss) (w ∷ ws) = (s, w) ∷ beside ss ws
 
 unfoldable pub between : List ℕ → List ℕ → ℕ → ℕ → Cells
-between words tags at end = beside (slice at end tags) (slice at end words)
-
--- words and tape, which are lent as arrays
-pub record Long (words tags : List ℕ) : Type 0 where
-  pub words-long : length words ≡ 16384
-  pub tags-long : length tags ≡ 16384
+between tags words at end = beside (slice at end tags) (slice at end words)
 
 -- words and tape, which are lent as arrays
 pub record Long (words tags : List ℕ) : Type 0 where
