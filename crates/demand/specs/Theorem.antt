@@ -1,4 +1,4 @@
--- DEMAND 3, proved: the theorem `demand3` has no premise but that of `Linking`.
+-- DEMAND 3 ON WORDS, proved: the theorem `demand3` has no premise but that of `Linking`.
 use mathlib.Core.Path.{_≡_, refl, ap, _∙_}
 use mathlib.Core.Bool.{true}
 use mathlib.Core.List.{List, []}
