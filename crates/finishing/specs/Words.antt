@@ -1,5 +1,5 @@
 -- THE WORDS OF AN IMAGE ARE BELOW 2^32: of a module that is well formed, passes test 3, fits an image and holds nothing large that is taken over (`Small`). What refers to something is below the counts, which are within their limits; what is counted or placed is at most the image's length.
-use mathlib.Core.Path.{_≡_, refl, sym, ap, _∙_}
+use mathlib.Core.Path.{_≡_, refl, sym, ap, _∙_, subst}
 use mathlib.Core.Bool.{Bool, true, false, _&&_, false≢true}
 use mathlib.Core.List.{List, [], _∷_, _++_, map, append-nil, append-assoc}
 use mathlib.Core.Option.{Option, none, some}
@@ -9,22 +9,27 @@ use native.Mathlib.Nat.{mod-lt}
 use lib.Dec.{eqb, ltb, leb}
 use lib.ListN.{length, getD, replicate, length-append, length-map}
 use borrow.Author.Tests.{ltb-true, ltb-false, leb-true, le-ltb, lt-ltb}
-use Rattle.model.specs.Outcome.{Cell, Cells}
+use Rattle.words.specs.Words.{AllBelow}
+use Rattle.model.specs.Outcome.{Cell, Cells, word, laid}
 use Rattle.model.specs.Table.{Row, WORD, SPAN, PAD, TEXT, EXPR, ARGUMENTS, LOCALS, EXPRESSIONS, NAMED, nameRow, text, more, limit}
 use Rattle.model.specs.Tree.{Stmt, Form, Block, Cases, Case, stmt, emit, block, branch, switch, loop, break, continue, return, kill, call, effect, end, _then_, nomore, _also_, case, Range, Function, Entry, wordOf, kindOf, sizeB, sizeC, flatAll, flatList, flatX, flatS, flatF, flatB, flatK, flatC, flatBlock, flat, flatEntry}
-use Rattle.model.specs.Module.{Module, places, flatTable, flatSpecial, Section, sections, pairsFrom, bodies, flatModule, HEADER}
+use Rattle.model.specs.Module.{Module, places, flatTable, flatSpecial, Section, sections, pairsFrom, bodies, flatModule, HEADER, read, write, sized}
 use Rattle.model.specs.Carry.{Lays, lays-none, lays-next, Each, each-none, each-next, WellFunction, WellEntry, WellFormed}
 use Rattle.model.specs.Numbers.{Bounds, caps, bound, below, within, rising, ordered, every, outside, inside, sound, soundFunction, soundEntry, constantOnly, numbered}
 use Rattle.model.specs.Initial.{initialised}
+use Rattle.model.specs.Intake.{intakeOf}
 use Rattle.model.specs.Tables.{Tab, names, types, constants, overrides, globals, exprs, at, tables}
 use Rattle.model.specs.References.{Target, copied, target, targets}
 use Rattle.laws.specs.Lists.{and-true, and-split}
 use Rattle.laws.specs.Writing.{flat-right}
+use Rattle.laws.specs.Modules.{read-well}
+use Rattle.laws.specs.Views.{length-write}
 use Rattle.laws.specs.Quiet.{each-append, each-map}
 use Rattle.imports.specs.Functions.{within-append}
 use Rattle.finishing.specs.Classes.{small-more}
 use Rattle.finishing.specs.Numbering.{Cellwise}
 use Rattle.finishing.specs.Cellwise.{each-rest, each-both, all-of, all-to, cellwise, function-cells}
+use Rattle.finishing.specs.Size.{source-is}
 use Rattle.finishing.specs.Small.{fixed, Small, Rows, SmallS, SmallF, SmallB, SmallK, SmallC, small-stmt, small-emit, small-block, small-branch, small-switch, small-loop, small-break, small-continue, small-return, small-kill, small-call, small-effect, small-end, small-then, small-case, small-nomore, small-also, SmallFunction, SmallEntry, SmallModule}
 
 pub record Word (c : Cell) : Type 0 where
@@ -496,3 +501,26 @@ image-words {t} w n k l =
     each-next {a = (104, 1)} (record { below = omega arith })
     (each-next {a = (104, HEADER + length (bodies (sections t)))} (record { below = omega arith })
     (each-append (pairs-below HEADER (sections t) (all-hold w n k) long) (bodies-below (sections t) (all-hold w n k) (omega arith))))
+
+-- ---- in terms of the words alone
+pub words-cells : (cs : Cells) → AllBelow (2 ^ 32) (map word cs) → Each Word cs
+words-cells [] h = each-none
+words-cells (c ∷ cs) h = each-next (record { below = h 0 (omega arith) }) (words-cells cs λ i l. h (suc i) (omega arith))
+
+pub cells-words : {cs : Cells} → Each Word cs → AllBelow (2 ^ 32) (map word cs)
+cells-words each-none i l = absurd (omega arith)
+cells-words (each-next h hs) zero l = h .below
+cells-words (each-next h hs) (suc i) l = cells-words hs i (omega arith)
+
+-- A SOURCE that intake passes is small if its words are words
+pub read-small : (bytes : ℕ) (ws : List ℕ) (t : Module) → intakeOf bytes ws ≡ 0 → read ws ≡ laid t → bytes ≡ 4 * length ws → AllBelow (2 ^ 32) ws → SmallModule t
+unfolding write
+read-small bytes ws t p r e h = image-small t (words-cells (flatModule t) (subst (λ xs. AllBelow (2 ^ 32) xs) (source-is bytes ws t p r e) h))
+
+-- WHAT IS WRITTEN of a small module, where it is read back and passes tests 1 and 3, is words
+pub written-words : (t : Module) → SmallModule t → numbered t ≡ true → read (write t) ≡ laid t → sized (4 * length (write t)) (write t) ≡ true → AllBelow (2 ^ 32) (write t)
+unfolding write sized
+written-words t k n r s =
+    let l = leb-true (4 * length (write t)) 65536 (and-split (leb (4 * length (write t)) 65536) _ (and-split (leb 80 (4 * length (write t))) _ s .1) .0) in
+    let e = length-write t in
+    cells-words (image-words (read-well (write t) t r) n k (omega arith))

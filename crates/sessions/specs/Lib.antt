@@ -14,4 +14,5 @@ pub mod Mapped
 pub mod Untaken
 pub mod Answers
 pub mod Theorems
+pub mod Words
 pub mod Examples
