@@ -1,7 +1,7 @@
 -- THE BODY: one pass over its cells leaves what the import over the tree leaves, and what is written is the flat list of the body made.
-use Prim.Native.Nat.{ℕ, _≤_}
+use Prim.Native.Nat.{ℕ, _<_, _≤_}
 use mathlib.Core.Path.{_≡_, refl, ap, sym, _∙_, subst}
-use mathlib.Core.Logic.{⊎-elim}
+use mathlib.Core.Logic.{inl, inr, ⊎-elim}
 use mathlib.Core.Bool.{Bool, true, false}
 use mathlib.Core.List.{List, [], _∷_, _++_, map}
 use mathlib.Core.Option.{Option, none, some}
@@ -14,15 +14,16 @@ use Rattle.model.specs.Carry.{carryCell, carryCells, carryOpt, carryF, OkS, OkF
 use Rattle.model.specs.References.{own, function, targets, target, Node, node, refOf, refs, each, carryW, through}
 use Rattle.model.specs.Operands.{opsOf, resultOf, standing}
 use Rattle.model.specs.Initial.{marked, initials}
-use Rattle.model.specs.Scope.{expandS, expandF, expand, expandK, expandC, evalsOpt, evalsS, evalsF, evalsB, evalsK, evalsC, addF, addS, topB, contB, vis, allVis, optVis, okS, okF, okB, okK, okC, seen}
+use Rattle.model.specs.Scope.{inRange, live, emitted, callResult, effectResult, kindsS, kindsF, kindsB, kindsK, kindsC, shapeB, inBody, expandS, expandF, expand, expandK, expandC, evalsOpt, evalsS, evalsF, evalsB, evalsK, evalsC, addF, addS, topB, contB, vis, allVis, optVis, okE, okS, okF, okB, okK, okC, allOf, seen, scopedAs, scoped}
 use Rattle.model.specs.Imports.{St}
-use Rattle.model.specs.Bodies.{Making, bring, went, carried, step, eachE, optE, comparesOf, goS, goF, goB, goK, settled, mkF, declared, walked, rebuilt, final}
+use Rattle.model.specs.Bodies.{known, Making, bring, went, carried, step, eachE, optE, comparesOf, goS, goF, goB, goK, settled, mkF, declared, walked, rebuilt, final}
 use Rattle.laws.specs.Lists.{word-of}
 use Rattle.walks.specs.Agreement.{Maps}
+use Rattle.walks.specs.ExpandProof.{kindsB-drop}
 use Rattle.imports.specs.RecordLaws.{All as AllN}
 use Rattle.bodies.specs.Lists.{All, all-map, all-append, all-mem, mem-all, and-true}
 use Rattle.bodies.specs.Context.{Inside, InN, Law, Ctx, OwnP, Own, owns-all}
-use Rattle.bodies.specs.Inv.{Has, place, ext-has}
+use Rattle.bodies.specs.Inv.{Has, place, Ext, ext-has}
 use Rattle.bodies.specs.Carried.{Match}
 use Rattle.bodies.specs.Steps.{vis-is, Exprs, plainC, quietC, stepC, plain-idle}
 use Rattle.bodies.specs.Body.{all-addS, all-top, all-cont, standing-in, Effect, Callee, FitS, FitF, FitB, FitK, FitC, no-room, Pre, pre-l, pre-next, pre-same, pre-end, read, doesS, doesB, doesK}
@@ -32,7 +33,8 @@ use Rattle.bodies.specs.Function.{Fine, ctx, mapsOf, maps-match, before}
 use Rattle.passes.specs.Pass.{atomicKind, early, bodyAfter, bodyWritten}
 use Rattle.passes.specs.Passage.{calm?, still?, Passage, alone-after, alone-written, fields-carried}
 use Rattle.passes.specs.Forms.{T, TF, TS, TB, TK, TC, t-stmt, t-emit, t-block, t-branch, t-switch, t-loop, t-break, t-continue, t-return, t-kill, t-end, t-then, t-case, t-nomore, t-also, t-body}
-use Rattle.passes.specs.Ready.{Ready, ready-ext, ready-vis, ready-new, ran, steadily}
+use Rattle.passes.specs.Ready.{Ready, ready-ext, ready-vis, ready-new, ran, Ways, light-vis, light-all, Lightly, lightly, lightly-call}
+use Rattle.passes.specs.Light.{range-keeps}
 use Rattle.passes.specs.Shapes.{Calms, calm-fields, calm-shift, effect-calm, value-copies, effect-early}
 
 -- ---- the cells of a call
@@ -54,9 +56,9 @@ behind-all P [] none a b = tt
 behind-all P [] (some e) a b = (b .0, tt)
 behind-all P (y ∷ ys) r a b = (a .0, behind-all P ys r (a .1) b)
 
-call-all : (P : Node → Type 0) (f : ℕ) (ys : List ℕ) (r : Option ℕ) → P (node function f) → All (λ y. P (node own y)) ys → All (λ y. P (node own y)) (evalsOpt r) → AllN P (refs (flatF (call f ys r)))
+call-refs : (f : ℕ) (ys : List ℕ) (r : Option ℕ) → refs (flatF (call f ys r)) ≡ node function f ∷ refs (behind ys r)
 unfolding flatF flatX refs refOf target targets
-call-all P f ys r h a b = (h, behind-all P ys r a b)
+call-refs f ys r = refl
 
 module _ (o : ℕ) (M : Module) (follow : ℕ → St → St) (p q : ℕ → Making → Making) where
   behind-run : (ys : List ℕ) (r : Option ℕ) (st : Making) → each (refs (behind ys r)) (step o M follow p) st ≡ optE r p (eachE ys p st)
@@ -119,21 +121,16 @@ module _ (o : ℕ) (M : Module) (follow : ℕ → St → St) (p q : ℕ → Maki
   begins-early (call f xs r) w a b ts st = refl
   begins-early (effect k cs) (ok-effect e l) a b ts st = effect-early o M follow p q k e l a b ts st
 
-module _ (c : Ctx) (ex : Exprs c) (init init′ : ℕ → Bool) (n₀ : ℕ) (fin : Making) (μ : Maps) (match : Match μ (place (fin .memo)) (c .calls) (went (c .M) fin)) (high : (k : ℕ) → n₀ ≤ k → init′ k ≡ false) where
+module _ (c : Ctx) (ex : Exprs c) (init init′ : ℕ → Bool) (n₀ : ℕ) (fin : Making) (μ : Maps) (match : Match μ (place (fin .memo)) (c .calls) (went (c .M) fin)) (high : (k : ℕ) → n₀ ≤ k → init′ k ≡ false)
+    (p′ q′ : ℕ → Making → Making) (ways : Ways c ex init p′ q′) where
   abbrev K : List ℕ → List ℕ → Making → Type 0
   K = Pre c ex init init′ n₀ fin
 
   abbrev p : ℕ → Making → Making
   p = plainC c
 
-  abbrev p′ : ℕ → Making → Making
-  p′ = needC c
-
   abbrev q : ℕ → Making → Making
   q = quietC c
-
-  abbrev q′ : ℕ → Making → Making
-  q′ = glanceC c
 
   abbrev goF₁ : (ℕ → Making → Making) → (ℕ → Making → Making) → Form Range → Making → Making
   goF₁ = goF (c .o) (c .M) (c .follow)
@@ -146,8 +143,8 @@ module _ (c : Ctx) (ex : Exprs c) (init init′ : ℕ → Bool) (n₀ : ℕ) (fi
 
   read-need : (e : ℕ) (ρ : List ℕ) (st : Making) {ev : List ℕ} → K ev ρ st → vis (standing (c .xs)) ρ e ≡ true → p′ e st ≡ p e st
   read-need e ρ st k v = ⊎-elim
-      (λ s. sym (plain-need c ex e st (standing-in (c .xs) e s) (rw (ex .bare e s) tt)))
-      (λ h. need-idle c e st h ∙ sym (plain-idle c ex e st h))
+      (λ s. ways .same e st (k .inv) (inr (standing-in (c .xs) e s, ex .stands-may e s, ex .bare e s)) (ways .stands e st s) ∙ sym (plain-need c ex e st (standing-in (c .xs) e s) (rw (ex .bare e s) tt)))
+      (λ h. ways .same e st (k .inv) (inl h) (ways .has e st h) ∙ (need-idle c e st h ∙ sym (plain-idle c ex e st h)))
       (vis-is (standing (c .xs)) (Has (st .memo)) ρ e v (k .scope))
 
   opt-need : (x : Option ℕ) (ρ : List ℕ) (st : Making) {ev : List ℕ} → K ev ρ st → optVis (standing (c .xs)) ρ x ≡ true → optE x p′ st ≡ optE x p st
@@ -155,44 +152,57 @@ module _ (c : Ctx) (ex : Exprs c) (init init′ : ℕ → Bool) (n₀ : ℕ) (fi
   opt-need none ρ st k v = refl
   opt-need (some x) ρ st k v = read-need x ρ st k v
 
-  -- ---- a call, and an effect: their operands are brought one after the other, each written at its turn
-  call-passes : (h : ℕ) (ys : List ℕ) (r : Option ℕ) (ρ : List ℕ) (st : Making) → Callee c h r → K (evalsOpt r) ρ st → allVis (standing (c .xs)) ρ ys ≡ true
-      → goF₁ p′ q′ (call h ys r) st ≡ goF₁ p q (call h ys r) st → PF (call h ys r) st st
-  unfolding mkF OwnP Inside
-  call-passes h ys r ρ st w k v e =
-      let ws = flatF (call h ys r) in
-      let d = each (refs ws) (stepC c p′) st in
-      let a : AllN (InN (c .M) (c .calls)) (refs ws) = call-all _ h ys r (w .inside) (all-mem _ ys (λ x m. tt)) (all-mem _ (evalsOpt r) (λ x m. tt)) in
-      let b : AllN (Own (Ready c ex st)) (refs ws) = call-all _ h ys r tt (ready-vis c ex ρ ys st v (k .scope)) (ready-new c ex (evalsOpt r) st (k .inside) (k .may) (w .result)) in
-      let s = steadily c ex (refs ws) st (k .inv) a b in
-      let f = fields-carried (c .o) (c .M) (c .follow) p′ q′ (calm-fields ws (call-calm h ys r)) d st (s .steady) in
-      subst (λ (m : Making). T (c .o) (c .M) (c .follow) p p′ q q′ ws st m (flatF (settled (c .o) (c .M) (c .follow) p q m (call h ys r)))) (call-run (c .o) (c .M) (c .follow) p′ q′ h ys r st ∙ e)
-      (rw (← call-carried (c .o) (c .M) (c .follow) p q h ys r d) f)
+  -- ---- an Emit
+  emits : (r : Range) (ρ : List ℕ) (st : Making) → K (live (inRange r) init) ρ st → okE (c .xs) (live (inRange r) init) ρ ≡ true → emitted (c .xs) (live (inRange r) init) ≡ true → PF (emit r) st st
+  emits r ρ st k v z =
+      let a = emit-need c ex init init′ n₀ fin μ match high r ρ st k v in
+      let h : (e : ℕ) → init e ≡ true → Has (eachE (inRange r) q st .memo) e = λ e i. subst (λ (m : Making). Has (m .memo) e) (a .0) (range-keeps (c .o) (c .M) (c .follow) (c .xs) (inRange r) st e (k .inits e i)) in
+      t-emit (c .o) (c .M) (c .follow) p p′ q q′ r st (ways .firsts r st (k .inits) z ∙ a .0) (ways .seconds r (eachE (inRange r) q st) h z ∙ a .1)
 
-  effect-passes : (n : ℕ) (cs : Cells) (ρ : List ℕ) (st : Making) → Effect c cs → K (evalsOpt (resultOf cs)) ρ st → allVis (standing (c .xs)) ρ (opsOf cs) ≡ true
-      → goF₁ p′ q′ (effect n cs) st ≡ goF₁ p q (effect n cs) st → PF (effect n cs) (eachE (comparesOf cs) p′ st) st
+  -- ---- a call, and an effect: their operands are brought one after the other, each written at its turn
+  call-passes : (h : ℕ) (ys : List ℕ) (r : Option ℕ) (ρ : List ℕ) (st : Making) → Callee c h r → K (evalsOpt r) ρ st → allVis (standing (c .xs)) ρ ys ≡ true → callResult (c .xs) h r ≡ true
+      → goF₁ (needC c) (glanceC c) (call h ys r) st ≡ goF₁ p q (call h ys r) st → PF (call h ys r) st st
+  unfolding mkF OwnP Inside
+  call-passes h ys r ρ st w k v z e =
+      let ws = flatF (call h ys r) in
+      let d = each (refs ws) (stepC c (needC c)) st in
+      let a : AllN (InN (c .M) (c .calls)) (refs (behind ys r)) = behind-all _ ys r (all-mem _ ys (λ x m. tt)) (all-mem _ (evalsOpt r) (λ x m. tt)) in
+      let b : AllN (Own (Ready c ex st)) (refs (behind ys r)) = behind-all _ ys r (ready-vis c ex ρ ys st v (k .scope)) (ready-new c ex (evalsOpt r) st (k .inside) (k .may) (w .result)) in
+      let l : (st₁ : Making) → 0 < known (c .M) (st₁ .out) h → Ext (c .M) st st₁ → AllN (Own (ways .Light st₁)) (refs (behind ys r)) = λ st₁ n x. behind-all _ ys r (all-map ys (ways .light-ext st st₁ x) (light-vis c ex init p′ q′ ways ρ ys st v (k .scope))) (ways .of-call h r st₁ z n) in
+      let s : Lightly c ex init p′ q′ ways (refs ws) st d = subst (λ (js : List Node). Lightly c ex init p′ q′ ways js st (each js (stepC c (needC c)) st)) (sym (call-refs h ys r)) (lightly-call c ex init p′ q′ ways h (refs (behind ys r)) st (k .inv) (w .inside) a b l) in
+      let f = fields-carried (c .o) (c .M) (c .follow) p′ q′ (calm-fields ws (call-calm h ys r)) d st (s .steady) in
+      subst (λ (m : Making). T (c .o) (c .M) (c .follow) p p′ q q′ ws st m (flatF (settled (c .o) (c .M) (c .follow) p q m (call h ys r)))) (call-run (c .o) (c .M) (c .follow) (needC c) (glanceC c) h ys r st ∙ e)
+      (rw (← call-carried (c .o) (c .M) (c .follow) p q h ys r d) (subst (λ (m : Making). T (c .o) (c .M) (c .follow) p p′ q q′ ws st m (carried (c .o) (c .M) d ws)) (s .same) f))
+
+  effect-passes : (n : ℕ) (cs : Cells) (ρ : List ℕ) (st : Making) → Effect c cs → K (evalsOpt (resultOf cs)) ρ st → allVis (standing (c .xs)) ρ (opsOf cs) ≡ true → effectResult (c .xs) n (resultOf cs) ≡ true
+      → goF₁ (needC c) (glanceC c) (effect n cs) st ≡ goF₁ p q (effect n cs) st → PF (effect n cs) (eachE (comparesOf cs) p′ st) st
   unfolding flatF goF mkF
-  effect-passes n cs ρ st w k v e =
+  effect-passes n cs ρ st w k v z e =
       let r = ready-vis c ex ρ (opsOf cs) st v (k .scope) in
-      let z = ran c ex (comparesOf cs) st (k .inv) (all-mem _ (comparesOf cs) (λ x m. mem-all _ (w .compares x m) r)) in
-      let st₁ = eachE (comparesOf cs) p′ st in
-      let d = each (refs cs) (stepC c p′) st₁ in
-      let m = all-append (Ready c ex st₁) (opsOf cs) (evalsOpt (resultOf cs)) (all-map (opsOf cs) (ready-ext c ex (z .ext)) r) (ready-new c ex (evalsOpt (resultOf cs)) st₁ (k .inside) (k .may) (w .result)) in
-      let s = steadily c ex (refs cs) st₁ (z .inv) (w .inside) (owns-all (Ready c ex st₁) (refs cs) (rw (w .owned) m)) in
+      let l = light-vis c ex init p′ q′ ways ρ (opsOf cs) st v (k .scope) in
+      let rc = all-mem (Ready c ex st) (comparesOf cs) (λ x m. mem-all _ (w .compares x m) r) in
+      let y = ran c ex (comparesOf cs) st (k .inv) rc in
+      let st₁ = eachE (comparesOf cs) (needC c) st in
+      let d = each (refs cs) (stepC c (needC c)) st₁ in
+      let m = all-append (Ready c ex st₁) (opsOf cs) (evalsOpt (resultOf cs)) (all-map (opsOf cs) (ready-ext c ex (y .ext)) r) (ready-new c ex (evalsOpt (resultOf cs)) st₁ (k .inside) (k .may) (w .result)) in
+      let n′ = all-append (ways .Light st₁) (opsOf cs) (evalsOpt (resultOf cs)) (all-map (opsOf cs) (ways .light-ext st st₁ (y .ext)) l) (ways .of-effect n (resultOf cs) st₁ z) in
+      let s = lightly c ex init p′ q′ ways (refs cs) st₁ (y .inv) (w .inside) (owns-all (Ready c ex st₁) (refs cs) (rw (w .owned) m)) (owns-all (ways .Light st₁) (refs cs) (rw (w .owned) n′)) in
       let f = fields-carried (c .o) (c .M) (c .follow) p′ q′ (calm-fields cs (effect-calm (w .shape))) d st₁ (s .steady) in
-      subst (λ (m : Making). T (c .o) (c .M) (c .follow) p p′ q q′ cs st₁ m (flatF (settled (c .o) (c .M) (c .follow) p q m (effect n cs)))) e
-      (rw (← effect-carried (c .o) (c .M) (c .follow) p q n cs d (effect-calm (w .shape))) f)
+      rw (light-all c ex init p′ q′ ways (comparesOf cs) st (k .inv) rc (all-mem (ways .Light st) (comparesOf cs) (λ x m. mem-all _ (w .compares x m) l)))
+      (subst (λ (m : Making). T (c .o) (c .M) (c .follow) p p′ q q′ cs st₁ m (flatF (settled (c .o) (c .M) (c .follow) p q m (effect n cs)))) e
+      (rw (← effect-carried (c .o) (c .M) (c .follow) p q n cs d (effect-calm (w .shape))) (subst (λ (m : Making). T (c .o) (c .M) (c .follow) p p′ q q′ cs st₁ m (carried (c .o) (c .M) d cs)) (s .same) f)))
 
   mutual
-    unfolding goF mkF expandF okF evalsF FitF addF addS topB contB begins
+    unfolding goF mkF expandF okF evalsF FitF addF addS topB contB begins kindsF
 
-    passS : (s : Stmt Range) {d : ℕ} → OkS d s → (ρ : List ℕ) (st : Making) → FitS s c → K (evalsS (expandS s init)) ρ st → okS (expandS s init) (c .xs) ρ ≡ true → TS (c .o) (c .M) (c .follow) p p′ q q′ s st
-    passS (stmt a b g) (ok-stmt l) ρ st w k v = t-stmt (c .o) (c .M) (c .follow) p p′ q q′ a b g st (begins p′ g st) (λ ts. begins-early (c .o) (c .M) (c .follow) p′ q′ g l a b ts st) (passF g l ρ st w k v)
+    passS : (s : Stmt Range) {d : ℕ} → OkS d s → (ρ : List ℕ) (st : Making) → FitS s c → K (evalsS (expandS s init)) ρ st → okS (expandS s init) (c .xs) ρ ≡ true → kindsS (expandS s init) (c .xs) ≡ true → TS (c .o) (c .M) (c .follow) p p′ q q′ s st
+    passS (stmt a b g) (ok-stmt l) ρ st w k v z = t-stmt (c .o) (c .M) (c .follow) p p′ q q′ a b g st (begins p′ g st) (λ ts. begins-early (c .o) (c .M) (c .follow) p′ q′ g l a b ts st) (passF g l ρ st w k v z)
 
-    passF : (g : Form Range) {d : ℕ} → OkF d g → (ρ : List ℕ) (st : Making) → FitF g c → K (evalsF (expandF g init)) ρ st → okF (expandF g init) (c .xs) ρ ≡ true → PF g (begins p′ g st) st
-    passF (emit r) l ρ st w k v = let z = emit-need c ex init init′ n₀ fin μ match high r ρ st k v in t-emit (c .o) (c .M) (c .follow) p p′ q q′ r st (z .0) (z .1)
-    passF (block b) (ok-block l) ρ st w k v = t-block (c .o) (c .M) (c .follow) p p′ q q′ b st (passB b (inner l .1) ρ st w k v)
-    passF (branch e a b) (ok-branch l m) ρ st w k v =
+    passF : (g : Form Range) {d : ℕ} → OkF d g → (ρ : List ℕ) (st : Making) → FitF g c → K (evalsF (expandF g init)) ρ st → okF (expandF g init) (c .xs) ρ ≡ true → kindsF (expandF g init) (c .xs) ≡ true → PF g (begins p′ g st) st
+    passF (emit r) l ρ st w k v z = emits r ρ st k v z
+    passF (block b) (ok-block l) ρ st w k v z = t-block (c .o) (c .M) (c .follow) p p′ q q′ b st (passB b (inner l .1) ρ st w k v z)
+    passF (branch e a b) (ok-branch l m) ρ st w k v z =
+        let z₁ = and-true (kindsB (expand a init) (c .xs)) _ z in
         let ea = evalsB (expand a init) in
         let eb = evalsB (expand b init) in
         let t = and-true (vis (standing (c .xs)) ρ e) _ v in
@@ -200,15 +210,16 @@ module _ (c : Ctx) (ex : Exprs c) (init init′ : ℕ → Bool) (n₀ : ℕ) (fi
         let k₁ = pre-same c ex init init′ n₀ fin _ ρ k (read c ex init init′ n₀ fin e ρ st k (t .0)) in
         let d₁ = doesB c ex init init′ n₀ fin μ match high (λ cs. Unit {0}) (no-room c fin μ) a ρ (p e st) (w .0) (pre-l c ex init init′ n₀ fin ea eb ρ k₁) (t₁ .0) in
         let k₂ = pre-next c ex init init′ n₀ fin ea eb ρ ρ k₁ d₁ (all-map ρ (ext-has (c .M) (d₁ .ext)) (k₁ .scope)) in
-        let x = passB a (inner l .1) ρ (p e st) (w .0) (pre-l c ex init init′ n₀ fin ea eb ρ k₁) (t₁ .0) in
-        let y = passB b (inner m .1) ρ (goB₁ p q a (p e st)) (w .1) k₂ (t₁ .1) in
+        let x = passB a (inner l .1) ρ (p e st) (w .0) (pre-l c ex init init′ n₀ fin ea eb ρ k₁) (t₁ .0) (z₁ .0) in
+        let y = passB b (inner m .1) ρ (goB₁ p q a (p e st)) (w .1) k₂ (t₁ .1) (z₁ .1) in
         t-branch (c .o) (c .M) (c .follow) p p′ q q′ e a b st (read-need e ρ st k (t .0)) x y
-    passF (switch e ks) (ok-switch l) ρ st w k v =
+    passF (switch e ks) (ok-switch l) ρ st w k v z =
         let t = and-true (vis (standing (c .xs)) ρ e) _ v in
         let k₁ = pre-same c ex init init′ n₀ fin _ ρ k (read c ex init init′ n₀ fin e ρ st k (t .0)) in
-        let x = passC ks l ρ (p e st) w k₁ (t .1) in
+        let x = passC ks l ρ (p e st) w k₁ (t .1) z in
         t-switch (c .o) (c .M) (c .follow) p p′ q q′ e ks st (read-need e ρ st k (t .0)) x
-    passF (loop a b o) (ok-loop l m) ρ st w k v =
+    passF (loop a b o) (ok-loop l m) ρ st w k v z =
+        let z₁ = and-true (kindsB (expand a init) (c .xs)) _ z in
         let ea = evalsB (expand a init) in
         let eb = evalsB (expand b init) in
         let ρb = contB (expand a init) ρ in
@@ -221,57 +232,83 @@ module _ (c : Ctx) (ex : Exprs c) (init init′ : ℕ → Bool) (n₀ : ℕ) (fi
         let d₁ = doesB c ex init init′ n₀ fin μ match high (λ cs. Unit {0}) (no-room c fin μ) b ρb (goB₁ p q a st) (w .1) k₁ (t₁ .0) in
         let s₂ = all-top _ (expand b init) ρb (all-map ρb (ext-has (c .M) (d₁ .ext)) s₁) (d₁ .has) in
         let k₂ = pre-end c ex init init′ n₀ fin eb ρb (topB (expand b init) ρb) k₁ d₁ s₂ in
-        let x₀ = passB a (inner l .1) ρ st (w .0) k₀ (t .0) in
-        let x₁ = passB b (inner m .1) ρb (goB₁ p q a st) (w .1) k₁ (t₁ .0) in
+        let x₀ = passB a (inner l .1) ρ st (w .0) k₀ (t .0) (z₁ .0) in
+        let x₁ = passB b (inner m .1) ρb (goB₁ p q a st) (w .1) k₁ (t₁ .0) (z₁ .1) in
         let x₂ = opt-need o (topB (expand b init) ρb) (goB₁ p q b (goB₁ p q a st)) k₂ (t₁ .1) in
         t-loop (c .o) (c .M) (c .follow) p p′ q q′ a b o st x₀ x₁ x₂
-    passF break l ρ st w k v = t-break (c .o) (c .M) (c .follow) p p′ q q′ st
-    passF continue l ρ st w k v = t-continue (c .o) (c .M) (c .follow) p p′ q q′ st
-    passF (return o) l ρ st w k v = t-return (c .o) (c .M) (c .follow) p p′ q q′ o st (opt-need o ρ st k v)
-    passF kill l ρ st w k v = t-kill (c .o) (c .M) (c .follow) p p′ q q′ st
-    passF (call h ys r) l ρ st w k v = call-passes h ys r ρ st w k v (quickF c ex init init′ n₀ fin μ match high (call h ys r) ρ st w k v .0)
-    passF (effect n cs) l ρ st w k v = effect-passes n cs ρ st w k v (quickF c ex init init′ n₀ fin μ match high (effect n cs) ρ st w k v .0)
+    passF break l ρ st w k v z = t-break (c .o) (c .M) (c .follow) p p′ q q′ st
+    passF continue l ρ st w k v z = t-continue (c .o) (c .M) (c .follow) p p′ q q′ st
+    passF (return o) l ρ st w k v z = t-return (c .o) (c .M) (c .follow) p p′ q q′ o st (opt-need o ρ st k v)
+    passF kill l ρ st w k v z = t-kill (c .o) (c .M) (c .follow) p p′ q q′ st
+    passF (call h ys r) l ρ st w k v z = call-passes h ys r ρ st w k v z (quickF c ex init init′ n₀ fin μ match high (call h ys r) ρ st w k v .0)
+    passF (effect n cs) l ρ st w k v z = effect-passes n cs ρ st w k v z (quickF c ex init init′ n₀ fin μ match high (effect n cs) ρ st w k v .0)
 
-    pub passB : (b : Block Range) {d : ℕ} → OkBs d b → (ρ : List ℕ) (st : Making) → FitB b c → K (evalsB (expand b init)) ρ st → okB (expand b init) (c .xs) ρ ≡ true → TB (c .o) (c .M) (c .follow) p p′ q q′ b st
-    passB end l ρ st w k v = t-end (c .o) (c .M) (c .follow) p p′ q q′ st
-    passB (s then b) (ok-then l m) ρ st w k v =
+    pub passB : (b : Block Range) {d : ℕ} → OkBs d b → (ρ : List ℕ) (st : Making) → FitB b c → K (evalsB (expand b init)) ρ st → okB (expand b init) (c .xs) ρ ≡ true → kindsB (expand b init) (c .xs) ≡ true → TB (c .o) (c .M) (c .follow) p p′ q q′ b st
+    passB end l ρ st w k v z = t-end (c .o) (c .M) (c .follow) p p′ q q′ st
+    passB (s then b) (ok-then l m) ρ st w k v z =
+        let z₁ = and-true (kindsS (expandS s init) (c .xs)) _ z in
         let es = evalsS (expandS s init) in
         let eb = evalsB (expand b init) in
         let t = and-true (okS (expandS s init) (c .xs) ρ) _ v in
         let k₀ = pre-l c ex init init′ n₀ fin es eb ρ k in
         let d = doesS c ex init init′ n₀ fin μ match high (λ cs. Unit {0}) (no-room c fin μ) s ρ st (w .0) k₀ (t .0) in
         let k₁ = pre-next c ex init init′ n₀ fin es eb ρ (addS (expandS s init) ρ) k d (all-addS _ (expandS s init) ρ (all-map ρ (ext-has (c .M) (d .ext)) (k .scope)) (d .has)) in
-        let x = passS s l ρ st (w .0) k₀ (t .0) in
-        let y = passB b m (addS (expandS s init) ρ) (goS (c .o) (c .M) (c .follow) p q s st) (w .1) k₁ (t .1) in
+        let x = passS s l ρ st (w .0) k₀ (t .0) (z₁ .0) in
+        let y = passB b m (addS (expandS s init) ρ) (goS (c .o) (c .M) (c .follow) p q s st) (w .1) k₁ (t .1) (z₁ .1) in
         t-then (c .o) (c .M) (c .follow) p p′ q q′ s b st x y
 
-    passK : (g : Case Range) {d : ℕ} → OkK d g → (ρ : List ℕ) (st : Making) → FitK g c → K (evalsK (expandK g init)) ρ st → okK (expandK g init) (c .xs) ρ ≡ true → TK (c .o) (c .M) (c .follow) p p′ q q′ g st
-    passK (case a b t) (ok-case z l) ρ st w k v = t-case (c .o) (c .M) (c .follow) p p′ q q′ a b t st (value-copies z) (passB b (inner l .1) ρ st (w .1) k v)
+    passK : (g : Case Range) {d : ℕ} → OkK d g → (ρ : List ℕ) (st : Making) → FitK g c → K (evalsK (expandK g init)) ρ st → okK (expandK g init) (c .xs) ρ ≡ true → kindsK (expandK g init) (c .xs) ≡ true → TK (c .o) (c .M) (c .follow) p p′ q q′ g st
+    passK (case a b t) (ok-case x l) ρ st w k v z = t-case (c .o) (c .M) (c .follow) p p′ q q′ a b t st (value-copies x) (passB b (inner l .1) ρ st (w .1) k v z)
 
-    passC : (ks : Cases Range) {d : ℕ} → OkC d ks → (ρ : List ℕ) (st : Making) → FitC ks c → K (evalsC (expandC ks init)) ρ st → okC (expandC ks init) (c .xs) ρ ≡ true → TC (c .o) (c .M) (c .follow) p p′ q q′ ks st
-    passC nomore l ρ st w k v = t-nomore (c .o) (c .M) (c .follow) p p′ q q′ st
-    passC (g also ks) (ok-also l m) ρ st w k v =
+    passC : (ks : Cases Range) {d : ℕ} → OkC d ks → (ρ : List ℕ) (st : Making) → FitC ks c → K (evalsC (expandC ks init)) ρ st → okC (expandC ks init) (c .xs) ρ ≡ true → kindsC (expandC ks init) (c .xs) ≡ true → TC (c .o) (c .M) (c .follow) p p′ q q′ ks st
+    passC nomore l ρ st w k v z = t-nomore (c .o) (c .M) (c .follow) p p′ q q′ st
+    passC (g also ks) (ok-also l m) ρ st w k v z =
+        let z₁ = and-true (kindsK (expandK g init) (c .xs)) _ z in
         let eb = evalsK (expandK g init) in
         let ek = evalsC (expandC ks init) in
         let t = and-true (okK (expandK g init) (c .xs) ρ) _ v in
         let k₀ = pre-l c ex init init′ n₀ fin eb ek ρ k in
         let d = doesK c ex init init′ n₀ fin μ match high (λ cs. Unit {0}) (no-room c fin μ) g ρ st (w .0) k₀ (t .0) in
         let k₁ = pre-next c ex init init′ n₀ fin eb ek ρ ρ k d (all-map ρ (ext-has (c .M) (d .ext)) (k .scope)) in
-        let x = passK g l ρ st (w .0) k₀ (t .0) in
-        let y = passC ks m ρ (goK (c .o) (c .M) (c .follow) p q g st) (w .1) k₁ (t .1) in
+        let x = passK g l ρ st (w .0) k₀ (t .0) (z₁ .0) in
+        let y = passC ks m ρ (goK (c .o) (c .M) (c .follow) p q g st) (w .1) k₁ (t .1) (z₁ .1) in
         t-also (c .o) (c .M) (c .follow) p p′ q q′ g ks st x y
 
--- THE BODY of a function that passed intake
-module _ (o : ℕ) (M : Module) (follow : ℕ → St → St) (Q : ℕ → Type 0) (G : St → Type 0) (law : Law o M follow Q G) (F : Function) (fine : Fine (ctx o M follow Q G law F) F) {d : ℕ} (ok : OkB d (F .body)) (s : St) (good : G s) where
+-- THE BODY of a function that passed intake, in any of these ways
+module _ (o : ℕ) (M : Module) (follow : ℕ → St → St) (Q : ℕ → Type 0) (G : St → Type 0) (law : Law o M follow Q G) (F : Function) (fine : Fine (ctx o M follow Q G law F) F) {d : ℕ} (ok : OkB d (F .body)) (six : scoped F ≡ true) (s : St) (good : G s) where
   abbrev dec : Making
   dec = declared o M follow F s
 
-  pub body-passage : Passage o M follow (need o M follow (F .exprs)) (glance o M follow (F .exprs)) (flatBlock (F .body)) dec (walked o M follow F dec) (flatBlock (rebuilt o M follow F dec))
+  abbrev c : Ctx
+  c = ctx o M follow Q G law F
+
+  kinds-seen : kindsB (seen F) (F .exprs) ≡ true
+  unfolding seen allOf scoped scopedAs
+  kinds-seen = kindsB-drop (marked (initials F)) (F .exprs) (F .body) (and-true (kindsB (allOf F) (F .exprs)) _ (and-true (shapeB (seen F) inBody) _ six .1) .0)
+
+  pub body-ways : (p′ q′ : ℕ → Making → Making) → Ways c (fine .exprs) (marked (initials F)) p′ q′ → Passage o M follow p′ q′ (flatBlock (F .body)) dec (walked o M follow F dec) (flatBlock (rebuilt o M follow F dec))
   unfolding walked rebuilt seen
-  body-passage =
-      t-body o M follow _ _ _ _ (F .body) dec
-      (passB (ctx o M follow Q G law F) (fine .exprs) (marked (initials F)) (λ k. false) (length (dec .made)) (final o M follow F s) (mapsOf (went M (final o M follow F s))) (maps-match M Q (final o M follow F s)) (λ k l. refl)
-      (F .body) (inner ok .1) [] dec (fine .fit) (before o M follow Q G law F fine s good (λ k. false)) (fine .scope))
+  body-ways p′ q′ ways =
+      t-body o M follow _ p′ _ q′ (F .body) dec
+      (passB c (fine .exprs) (marked (initials F)) (λ k. false) (length (dec .made)) (final o M follow F s) (mapsOf (went M (final o M follow F s))) (maps-match M Q (final o M follow F s)) (λ k l. refl) p′ q′ ways
+      (F .body) (inner ok .1) [] dec (fine .fit) (before o M follow Q G law F fine s good (λ k. false)) (fine .scope) (unfold seen in kinds-seen))
+
+  -- `need` and `glance` themselves
+  itself : Ways c (fine .exprs) (marked (initials F)) (need o M follow (F .exprs)) (glance o M follow (F .exprs))
+  itself = record {
+    Light = λ st e. Unit {0};
+    light-ext = λ st st′ x e l. tt;
+    same = λ e st i r l. refl;
+    stands = λ e st h. tt;
+    has = λ e st h. tt;
+    of-effect = λ n r st h. all-mem _ (evalsOpt r) (λ x m. tt);
+    of-call = λ f r st h k. all-mem _ (evalsOpt r) (λ x m. tt);
+    firsts = λ r st h z. refl;
+    seconds = λ r st h z. refl;
+  }
+
+  pub body-passage : Passage o M follow (need o M follow (F .exprs)) (glance o M follow (F .exprs)) (flatBlock (F .body)) dec (walked o M follow F dec) (flatBlock (rebuilt o M follow F dec))
+  body-passage = body-ways (need o M follow (F .exprs)) (glance o M follow (F .exprs)) itself
 
   pub body-after : bodyAfter o M follow F dec ≡ walked o M follow F dec
   unfolding bodyAfter

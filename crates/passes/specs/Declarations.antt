@@ -125,7 +125,7 @@ module _ (o : ℕ) (M : Module) (follow : ℕ → St → St) (Q : ℕ → Type 0
       let p = join-put c e st i l z (alln-both (refs (getD xs e [])) (λ j f g. f g) a (own-ops c ex (λ y. true ≡ true) e (all-any (ops xs e) (λ y. refl)))) in
       record { inv = p .inv; j = tt; ext = p .ext; has = λ w. omega (arith, p .at); other = λ y n u. p .other y n ∙ u; self = λ q u. absurd (q r) }
 
-  reach-ops : (e : ℕ) → R e → AllN (Own R) (refs (getD xs e []))
+  pub reach-ops : (e : ℕ) → R e → AllN (Own R) (refs (getD xs e []))
   reach-ops e h = own-ops c ex R e (all-mem R (ops xs e) (λ y m. reach-step h m))
 
   one : (x : ℕ) (st : Making) → x < length xs → R x → Inv c st → Unit {0} → Res c joinF (λ e. true) R (λ y. R y → ⊥) (λ s. Unit {0}) x st (u x st)
@@ -161,7 +161,7 @@ module _ (o : ℕ) (M : Module) (follow : ℕ → St → St) (Q : ℕ → Type 0
     unfolding begin
     begin-inv = record { good = good; size = length-replicate (length xs) 0; found = λ e h. absurd (no-has (length xs) e h); low = λ k h. absurd (omega arith); from = λ k h. absurd (omega arith) }
 
-    steady : Steady o M follow u u (refs (declarations o M follow F)) d (begin F s)
+    pub steady : Steady o M follow u u (refs (declarations o M follow F)) d (begin F s)
     unfolding declared begin
     steady =
         let js = refs (declarations o M follow F) in

@@ -55,7 +55,7 @@ module _ (o : ℕ) (M : Module) (follow : ℕ → St → St) (xs : List Cells) w
       grow-each [] m = g .same m
       grow-each (j ∷ js) m = g .next m _ _ (grow-step (j .place) (j .num) m) (grow-each js (step o M follow p (j .place) (j .num) m))
 
-      grow-all : (es : List ℕ) → Grows (eachE es p)
+      pub grow-all : (es : List ℕ) → Grows (eachE es p)
       unfolding eachE
       grow-all [] m = g .same m
       grow-all (e ∷ es) m = g .next m _ _ (a e m) (grow-all es (p e m))

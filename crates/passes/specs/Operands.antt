@@ -104,16 +104,16 @@ module _ (o : ℕ) (M : Module) (follow : ℕ → St → St) where
     Lower = (e : ℕ) → e < length xs → AllN (Own (λ x. x < e)) (refs (getD xs e []))
 
     -- two ways to import that agree on an expression
-    abbrev Agree : (ℕ → Making → Making) → (ℕ → Making → Making) → ℕ → Type 0
+    abbrev pub Agree : (ℕ → Making → Making) → (ℕ → Making → Making) → ℕ → Type 0
     Agree h k x = (m : Making) → h x m ≡ k x m
 
-    step-same : (h k : ℕ → Making → Making) (p : Place) (n : ℕ) (m : Making) → OwnP (Agree h k) p n → step o M follow h p n m ≡ step o M follow k p n m
+    pub step-same : (h k : ℕ → Making → Making) (p : Place) (n : ℕ) (m : Making) → OwnP (Agree h k) p n → step o M follow h p n m ≡ step o M follow k p n m
     unfolding step OwnP
     step-same h k (table t) n m a = refl
     step-same h k own n m a = a m
     step-same h k function n m a = refl
 
-    each-same : (h k : ℕ → Making → Making) (js : List Node) (m : Making) → AllN (Own (Agree h k)) js → each js (step o M follow h) m ≡ each js (step o M follow k) m
+    pub each-same : (h k : ℕ → Making → Making) (js : List Node) (m : Making) → AllN (Own (Agree h k)) js → each js (step o M follow h) m ≡ each js (step o M follow k) m
     unfolding each
     each-same h k [] m a = refl
     each-same h k (j ∷ js) m a = rw (step-same h k (j .place) (j .num) m (a .0)) (each-same h k js (step o M follow k (j .place) (j .num) m) (a .1))

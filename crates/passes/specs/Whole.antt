@@ -14,16 +14,19 @@ use Rattle.model.specs.Numbers.{numbered}
 use Rattle.model.specs.Lower.{lower}
 use Rattle.model.specs.Callees.{callees}
 use Rattle.model.specs.Imports.{St}
-use Rattle.model.specs.Bodies.{Making, keptNames, declared, walked, rebuilt, derived, final, localized}
+use Rattle.model.specs.Bodies.{Making, unique, keptNames, declared, walked, rebuilt, derived, final, localized}
 use Rattle.bodies.specs.Lists.{All}
 use Rattle.bodies.specs.Context.{Law}
+use Rattle.bodies.specs.Shallow.{need, glance}
 use Rattle.bodies.specs.Steps.{own-ops}
 use Rattle.bodies.specs.Passing.{Passes, fine}
 use Rattle.bodies.specs.Lawful.{Follows, lawful}
 use Rattle.bodies.specs.Function.{Fine, ctx}
-use Rattle.passes.specs.Pass.{front, frontAfter, frontWritten, bodyAfter, bodyWritten, namesAfter, namesWritten, wholeAfter, wholeWritten}
-use Rattle.passes.specs.Passage.{written-length}
+use Rattle.passes.specs.Pass.{after, written, front, begin, frontAfter, frontWritten, bodyAfter, bodyWritten, namesAfter, namesWritten, wholeAfter, wholeWritten}
+use Rattle.passes.specs.Passage.{written-length, alone-after, alone-written}
 use Rattle.passes.specs.Operands.{Lower}
+use Rattle.passes.specs.Light.{still}
+use Rattle.passes.specs.Still.{still-front, still-body}
 use Rattle.passes.specs.Body as Body
 use Rattle.passes.specs.Declarations as Declarations
 use Rattle.passes.specs.Names as Names
@@ -87,10 +90,10 @@ module _ (M : Module) (well : WellFormed M) (three : numbered M ≡ true) (four 
 
   -- ---- the body
   pub body-after : bodyAfter o M follow F dec ≡ mid
-  body-after = Body.body-after o M follow Q G law F fit (pass .well .body-ok) s good
+  body-after = Body.body-after o M follow Q G law F fit (pass .well .body-ok) (pass .six) s good
 
   pub body-written : bodyWritten o M follow F dec ≡ flatBlock (rebuilt o M follow F dec)
-  body-written = Body.body-written o M follow Q G law F fit (pass .well .body-ok) s good
+  body-written = Body.body-written o M follow Q G law F fit (pass .well .body-ok) (pass .six) s good
 
   -- ---- the named expressions, and the expressions made
   pub names-after : namesAfter o M follow F mid ≡ fin
@@ -118,3 +121,17 @@ module _ (M : Module) (well : WellFormed M) (three : numbered M ≡ true) (four 
   whole-written =
       rw (front-after, body-after, front-written, names-written, body-written, parts)
       (unfold localized derived in ap (λ (e : List Cells). front F′ ++ flatList EXPRESSIONS e ++ flatList NAMED (F′ .named) ++ flatBlock (rebuilt o M follow F dec)) (sym made-same))
+
+  -- ---- CALLS ARE FOLLOWED AT A CALL'S WORD ALONE: expressions are imported with a follow that does nothing
+  pub still-front-after : after o M follow (unique o M still (F .exprs)) (unique o M still (F .exprs)) (front F) (begin F s) ≡ dec
+  still-front-after = alone-after o M follow _ _ (still-front o M follow Q G law F pass calls s good)
+
+  pub still-front-written : written o M follow (unique o M still (F .exprs)) (unique o M still (F .exprs)) (front F) false (begin F s) ≡ front F′
+  still-front-written = alone-written o M follow _ _ (still-front o M follow Q G law F pass calls s good) false
+
+  pub still-body-after : after o M follow (need o M still (F .exprs)) (glance o M still (F .exprs)) (flatBlock (F .body)) dec ≡ mid
+  still-body-after = alone-after o M follow _ _ (still-body o M follow Q G law F pass calls s good)
+
+  pub still-body-written : written o M follow (need o M still (F .exprs)) (glance o M still (F .exprs)) (flatBlock (F .body)) false dec ≡ flatBlock (F′ .body)
+  unfolding localized derived
+  still-body-written = alone-written o M follow _ _ (still-body o M follow Q G law F pass calls s good) false
