@@ -1,15 +1,16 @@
 -- DEMAND 3, ON BYTES: the statement that a reader is sent to. Document 01 and the paper of demands: "Linking succeeds exactly if no chain of calls comes back to its start. Then the output holds what a fresh session writes that sets the image as its source with span offset 0, imports its functions in output order and finishes with entry points: each function stands once, every callee before its callers. And for every function or entry point and every finite list of numbers the walk in the linked module reads, apart from standing expressions, only what it has already evaluated; and its events from first to last equal those of the source's walk by the same list, carried through the maps, and both end alike."
 -- The premises are document 01's: the image passes intake, the output is at least as long as the image. An image and an output are lists of bytes; `linkImage` is the answer and the output afterwards, and what is said of the linked module is said of the module that the output's bytes hold. Demand.antt has the statement on words, which is the lemma.
 use mathlib.Core.Path.{_≡_, refl, sym, ap, ap₂, _∙_, subst}
+use mathlib.Core.Bool.{Bool, true, false}
 use mathlib.Core.Logic.{_↔_}
 use mathlib.Core.List.{List, _∷_, _++_}
 use mathlib.Core.Option.{some}
-use Prim.Native.Nat.{ℕ, suc, _+_, _*_, _<_, _≤_}
+use Prim.Native.Nat.{ℕ, zero, suc, _+_, _*_, _<_, _≤_}
 use native.Mathlib.Omega.{arith}
-use lib.Dec.{eqb, leb}
+use lib.Dec.{eqb, leb, ltb}
 use lib.ListN.{length, getD, getElem?, take, drop}
 use lib.Seq.{sets, length-sets, take-append-seam, drop-append-seam}
-use borrow.Author.Tests.{eqb-true, lt-ltb}
+use borrow.Author.Tests.{eqb-true, lt-ltb, ltb-false}
 use Rattle.words.specs.Words.{AllBelow, wordsOf, bytesOf}
 use Rattle.words.proofs.Laws.{length-wordsOf, length-bytesOf, words-of-bytes, words-below, sets-front}
 use Rattle.model.specs.Refusals.{SHORT-OUTPUT}
@@ -193,3 +194,21 @@ not-taken image output k e = rw (linkImage, link, e)
 pub too-short : (image output : List ℕ) → intakeOf (length image) (wordsOf image) ≡ 0 → (m : Module) → read (wordsOf image) ≡ laid m → length output < length image → linkImage image output ≡ (refused SHORT-OUTPUT, output)
 unfolding linkImage link linkOf outputAfter
 too-short image output p m r l = rw (linkImage, link, p, r, linkOf, lt-ltb (length output) (length image) l)
+
+-- AND ONLY THERE is anything linked
+pub linked-only : (image output vs : List ℕ) → linkImage image output .0 ≡ linked vs → (intakeOf (length image) (wordsOf image) ≡ 0) × (length image ≤ length output)
+unfolding linkImage link linkOf
+linked-only image output vs e = go (intakeOf (length image) (wordsOf image)) e
+  where
+    roomy : (m : Module) (b : Bool) → ltb (length output) (length image) ≡ b → (let v : Linked = elim b [ true ↦ refused 7 | false ↦ inOrder (orderOf m) m ] in v) ≡ linked vs → length image ≤ length output
+    roomy m true q e = let z : _≡_ {A = ℕ} 0 1 = cc in absurd (omega arith)
+    roomy m false q e = ltb-false (length output) (length image) q
+
+    laid-out : (x : Laid Module) → linkOf x (length image) (length output) ≡ linked vs → length image ≤ length output
+    laid-out (laid m) e = roomy m (ltb (length output) (length image)) refl e
+    laid-out bad e = let z : _≡_ {A = ℕ} 0 1 = cc in absurd (omega arith)
+    laid-out strange e = let z : _≡_ {A = ℕ} 0 1 = cc in absurd (omega arith)
+
+    go : (n : ℕ) → (let v : Linked = elim n [ zero ↦ linkOf (read (wordsOf image)) (length image) (length output) | suc n ↦ refused (suc n) ] in v) ≡ linked vs → (n ≡ 0) × (length image ≤ length output)
+    go zero e = (refl, laid-out (read (wordsOf image)) e)
+    go (suc n) e = let z : _≡_ {A = ℕ} 0 1 = cc in absurd (omega arith)

@@ -47,7 +47,7 @@ unfoldable pub P5 : List ℕ
 P5 = 1 ∷ 69 ∷ 3 ∷ 20 ∷ 0 ∷ 29 ∷ 0 ∷ 29 ∷ 0 ∷ 29 ∷ 0 ∷ 29 ∷ 0 ∷ 29 ∷ 3 ∷ 29 ∷ 0 ∷ 66 ∷ 0 ∷ 66 ∷ 3 ∷ 5 ∷ 7 ∷ 1 ∷ 97 ∷ 1 ∷ 98 ∷ 1 ∷ 99 ∷ 3 ∷ 19 ∷ 28 ∷ 1 ∷ 0 ∷ 0 ∷ 0 ∷ 0 ∷ 0 ∷ 0 ∷ 0 ∷ 1 ∷ 7 ∷ 15 ∷ 0 ∷ 0 ∷ 1 ∷ 0 ∷ 0 ∷ 2 ∷ 0 ∷ 0 ∷ 0 ∷ 0 ∷ 0 ∷ 0 ∷ 0 ∷ 0 ∷ 3 ∷ 0 ∷ 0 ∷ 0 ∷ 0 ∷ 0 ∷ 0 ∷ 0 ∷ 0 ∷ 0 ∷ 0 ∷ 0 ∷ []
 
 -- b, c, a
-unfoldable P5-linked : List ℕ
+unfoldable pub P5-linked : List ℕ
 P5-linked = 1 ∷ 69 ∷ 3 ∷ 20 ∷ 0 ∷ 29 ∷ 0 ∷ 29 ∷ 0 ∷ 29 ∷ 0 ∷ 29 ∷ 0 ∷ 29 ∷ 3 ∷ 29 ∷ 0 ∷ 66 ∷ 0 ∷ 66 ∷ 3 ∷ 5 ∷ 7 ∷ 1 ∷ 98 ∷ 1 ∷ 99 ∷ 1 ∷ 97 ∷ 3 ∷ 12 ∷ 21 ∷ 1 ∷ 0 ∷ 0 ∷ 0 ∷ 0 ∷ 0 ∷ 0 ∷ 0 ∷ 0 ∷ 2 ∷ 0 ∷ 0 ∷ 0 ∷ 0 ∷ 0 ∷ 0 ∷ 0 ∷ 0 ∷ 3 ∷ 0 ∷ 0 ∷ 0 ∷ 0 ∷ 0 ∷ 0 ∷ 0 ∷ 1 ∷ 7 ∷ 15 ∷ 0 ∷ 0 ∷ 0 ∷ 0 ∷ 0 ∷ 0 ∷ 0 ∷ 0 ∷ []
 
 -- P6: shade calls fog; tone; fog calls tone
@@ -55,7 +55,7 @@ unfoldable pub P6 : List ℕ
 P6 = 1 ∷ 77 ∷ 3 ∷ 20 ∷ 0 ∷ 30 ∷ 0 ∷ 30 ∷ 0 ∷ 30 ∷ 0 ∷ 30 ∷ 0 ∷ 30 ∷ 3 ∷ 30 ∷ 0 ∷ 74 ∷ 0 ∷ 74 ∷ 3 ∷ 6 ∷ 8 ∷ 5 ∷ 1684105331 ∷ 101 ∷ 4 ∷ 1701736308 ∷ 3 ∷ 6778726 ∷ 3 ∷ 19 ∷ 28 ∷ 1 ∷ 0 ∷ 0 ∷ 0 ∷ 0 ∷ 0 ∷ 0 ∷ 0 ∷ 1 ∷ 7 ∷ 15 ∷ 0 ∷ 0 ∷ 2 ∷ 0 ∷ 0 ∷ 2 ∷ 0 ∷ 0 ∷ 0 ∷ 0 ∷ 0 ∷ 0 ∷ 0 ∷ 0 ∷ 3 ∷ 0 ∷ 0 ∷ 0 ∷ 0 ∷ 0 ∷ 0 ∷ 0 ∷ 1 ∷ 7 ∷ 15 ∷ 0 ∷ 0 ∷ 1 ∷ 0 ∷ 0 ∷ 0 ∷ 0 ∷ 0 ∷ []
 
 -- tone, fog, shade
-unfoldable P6-linked : List ℕ
+unfoldable pub P6-linked : List ℕ
 P6-linked = 1 ∷ 77 ∷ 3 ∷ 20 ∷ 0 ∷ 30 ∷ 0 ∷ 30 ∷ 0 ∷ 30 ∷ 0 ∷ 30 ∷ 0 ∷ 30 ∷ 3 ∷ 30 ∷ 0 ∷ 74 ∷ 0 ∷ 74 ∷ 3 ∷ 5 ∷ 7 ∷ 4 ∷ 1701736308 ∷ 3 ∷ 6778726 ∷ 5 ∷ 1684105331 ∷ 101 ∷ 3 ∷ 12 ∷ 28 ∷ 1 ∷ 0 ∷ 0 ∷ 0 ∷ 0 ∷ 0 ∷ 0 ∷ 0 ∷ 0 ∷ 2 ∷ 0 ∷ 0 ∷ 0 ∷ 0 ∷ 0 ∷ 0 ∷ 0 ∷ 1 ∷ 7 ∷ 15 ∷ 0 ∷ 0 ∷ 0 ∷ 0 ∷ 0 ∷ 3 ∷ 0 ∷ 0 ∷ 0 ∷ 0 ∷ 0 ∷ 0 ∷ 0 ∷ 1 ∷ 7 ∷ 15 ∷ 0 ∷ 0 ∷ 1 ∷ 0 ∷ 0 ∷ 0 ∷ 0 ∷ 0 ∷ []
 
 -- P8: shade calls fog; tone; fog calls shade
@@ -66,7 +66,7 @@ P8 = 1 ∷ 77 ∷ 3 ∷ 20 ∷ 0 ∷ 30 ∷ 0 ∷ 30 ∷ 0 ∷ 30 ∷ 0 ∷ 30 �
 unfoldable pub P11 : List ℕ
 P11 = 1 ∷ 70 ∷ 1 ∷ 20 ∷ 1 ∷ 23 ∷ 0 ∷ 35 ∷ 0 ∷ 35 ∷ 0 ∷ 35 ∷ 0 ∷ 35 ∷ 1 ∷ 35 ∷ 0 ∷ 67 ∷ 0 ∷ 67 ∷ 1 ∷ 1 ∷ 102 ∷ 1 ∷ 0 ∷ 0 ∷ 0 ∷ 0 ∷ 0 ∷ 0 ∷ 0 ∷ 0 ∷ 0 ∷ 0 ∷ 0 ∷ 1 ∷ 1 ∷ 0 ∷ 0 ∷ 0 ∷ 0 ∷ 1 ∷ 0 ∷ 0 ∷ 0 ∷ 0 ∷ 2 ∷ 2 ∷ 0 ∷ 0 ∷ 0 ∷ 3 ∷ 1 ∷ 0 ∷ 7 ∷ 0 ∷ 0 ∷ 0 ∷ 0 ∷ 0 ∷ 1 ∷ 6 ∷ 0 ∷ 0 ∷ 0 ∷ 1 ∷ 2 ∷ 0 ∷ 0 ∷ 0 ∷ []
 
-unfoldable P11-linked : List ℕ
+unfoldable pub P11-linked : List ℕ
 P11-linked = 1 ∷ 70 ∷ 1 ∷ 20 ∷ 1 ∷ 23 ∷ 0 ∷ 35 ∷ 0 ∷ 35 ∷ 0 ∷ 35 ∷ 0 ∷ 35 ∷ 1 ∷ 35 ∷ 0 ∷ 67 ∷ 0 ∷ 67 ∷ 1 ∷ 1 ∷ 102 ∷ 1 ∷ 0 ∷ 0 ∷ 0 ∷ 0 ∷ 0 ∷ 0 ∷ 0 ∷ 0 ∷ 0 ∷ 0 ∷ 0 ∷ 1 ∷ 1 ∷ 0 ∷ 0 ∷ 0 ∷ 0 ∷ 1 ∷ 0 ∷ 0 ∷ 0 ∷ 0 ∷ 2 ∷ 2 ∷ 0 ∷ 0 ∷ 0 ∷ 3 ∷ 1 ∷ 0 ∷ 7 ∷ 0 ∷ 0 ∷ 0 ∷ 0 ∷ 0 ∷ 1 ∷ 6 ∷ 0 ∷ 0 ∷ 0 ∷ 2 ∷ 2 ∷ 0 ∷ 0 ∷ 0 ∷ []
 
 -- no functions, no records
@@ -137,6 +137,11 @@ p6-links = v001
 p11-links : link (4 * length P11) P11 (4 * length P11) ≡ linked P11-linked
 unfolding P11 P11-linked
 p11-links = v004
+
+-- P5's image is linked, into every output that is as long
+pub p5-image : (output : List ℕ) → 276 ≤ length output → linkImage (bytesOf P5) output .0 ≡ linked P5-linked
+unfolding P5
+p5-image output roomy = linked-so P5 (whole .of-p5) output roomy ∙ p5-links
 
 module _ (output : List ℕ) (roomy : 308 ≤ length output) (r : ℕ) (out : List ℕ) where
   p5-answer : Meets (bytesOf P5) output r out → r ≡ 1185410973696
