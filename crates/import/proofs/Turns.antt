@@ -26,7 +26,8 @@ use Rattle.imports.specs.Trace.{import-is, once-is}
 use Rattle.laws.specs.Betweens.{between-none, between-next}
 use Rattle.state.specs.Refers.{codeP, tabOf, wentR, Small}
 use Rattle.state.specs.Source.{srcOf, Source, refersTo, numberOf}
-use Rattle.state.specs.Held.{row, cell, tableOf, mapsOf, stOf, sizeR, Over, Kept, Same, Marks, Beside, Lands, carriedBy}
+use Rattle.state.specs.Held.{row, cell, tableOf, mapsOf, stOf, sizeR, Over, Kept, Same, Beside, Lands, carriedBy}
+use Rattle.state.specs.Marks.{Marks}
 use Rattle.state.specs.declared.Ends.{Ends}
 use Rattle.state.proofs.Passes.{all-here, all-next}
 use Rattle.state.proofs.State.{code-tab, tab-code, code-low, same-refl, same-then, marks-refl, marks-then, table-stays}
