@@ -2,3 +2,4 @@ pub mod Steps
 pub mod Growth
 pub mod Sources
 pub mod Turns
+pub mod Renames

@@ -26,10 +26,11 @@ use Rattle.imports.specs.Trace.{import-is, once-is}
 use Rattle.laws.specs.Betweens.{between-none, between-next}
 use Rattle.state.specs.Refers.{codeP, tabOf, wentR, Small}
 use Rattle.state.specs.Source.{srcOf, Source, refersTo, numberOf}
-use Rattle.state.specs.Held.{row, cell, tableOf, mapsOf, stOf, sizeR, Over, Kept, Same, Marks, Beside, Lands, Whole, carriedBy}
+use Rattle.state.specs.Held.{row, cell, tableOf, mapsOf, stOf, sizeR, Over, Kept, Same, Beside, Lands, carriedBy}
+use Rattle.state.specs.Marks.{Marks}
 use Rattle.state.specs.declared.Ends.{Ends}
 use Rattle.state.proofs.Passes.{all-here, all-next}
-use Rattle.state.proofs.State.{code-tab, tab-code, code-low, same-refl, same-then, marks-refl, marks-then, table-stays, st-stays, kept-stays}
+use Rattle.state.proofs.State.{code-tab, tab-code, code-low, same-refl, same-then, marks-refl, marks-then, table-stays}
 use Rattle.import.proofs.Steps.{step-is, hit, Allowed, allowed}
 use Rattle.import.proofs.Growth.{Grow, then, over-grow, grow-settle, grow-each, grow-T}
 use Rattle.import.proofs.Sources.{wf, count-is, inside, stretch, record-is, record-lower}
@@ -51,13 +52,36 @@ pub lands-at : {words log₀ classes₀ : List ℕ} {starts₀ maps₀ : List (L
     → Lands words (importT o T t k) log₀ classes₀ starts₀ maps₀ marks₀ e r log classes starts maps marks → Lands words (importT o T t m) log₀ classes₀ starts₀ maps₀ marks₀ e r log classes starts maps marks
 lands-at o T t k m q L = rw (← q) L
 
+-- one operation behind another
+pub lands-then : (words log₀ classes₀ : List ℕ) (starts₀ maps₀ : List (List ℕ)) (marks₀ : List ℕ) (e₀ : Ends) → Kept log₀ classes₀ starts₀ maps₀ marks₀ e₀
+    → (f : St → St) (e₁ : Ends) (log₁ classes₁ : List ℕ) (starts₁ maps₁ : List (List ℕ)) (marks₁ : List ℕ) → Lands words f log₀ classes₀ starts₀ maps₀ marks₀ e₀ e₁ log₁ classes₁ starts₁ maps₁ marks₁ → e₁ .full ≡ false
+    → (g : St → St) (r : Ends) (log classes : List ℕ) (starts maps : List (List ℕ)) (marks : List ℕ) → Lands words g log₁ classes₁ starts₁ maps₁ marks₁ e₁ r log classes starts maps marks
+    → (F : St → St) → ((special : List ℕ) → F (stOf words log₀ classes₀ starts₀ maps₀ special e₀) ≡ g (f (stOf words log₀ classes₀ starts₀ maps₀ special e₀)))
+    → Lands words F log₀ classes₀ starts₀ maps₀ marks₀ e₀ r log classes starts maps marks
+lands-then words log₀ classes₀ starts₀ maps₀ marks₀ e₀ K₀ f e₁ log₁ classes₁ starts₁ maps₁ marks₁ L q g r log classes starts maps marks M F is = record {
+  over = λ z special. rw (is special, L .is q special, ← entries) (M .over z special);
+  is = λ z special. is special ∙ ap g (L .is q special) ∙ M .is z special;
+  kept = M .kept;
+  beside = λ z. beside-then starts₀ starts₁ starts e₀ e₁ r (L .beside q) (M .beside z);
+  more = λ z. le-trans (L .more q) (M .more z);
+  below = same-then (e₀ .used) (e₁ .used) log₀ classes₀ log₁ classes₁ log classes (L .more q) (L .below) (M .below);
+  log-long = M .log-long;
+  tags-long = M .tags-long;
+  marks-stay = marks-then marks₀ marks₁ marks (L .marks-stay) (M .marks-stay);
+}
+  where
+    entries : sizeR (tableOf log₁ classes₁ starts₁ (e₁ .counts) 7) ≡ sizeR (tableOf log₀ classes₀ starts₀ (e₀ .counts) 7)
+    entries =
+        rw (L .beside q .entries-same .0, L .beside q .entries-same .1)
+        (ap sizeR (table-stays log₀ classes₀ log₁ classes₁ starts₀ maps₀ marks₀ marks₁ e₀ K₀ (L .below) (L .log-long) (L .tags-long) (L .marks-stay) 7 (omega arith)))
+
 -- types fall by their numbers
 pub type-falls : (T : Tables) (m k : ℕ) → rank T types m < rank T types k → m < k
 unfolding rank
 type-falls T m k h = omega arith
 
 -- ---- the maps as rows
-map-is : (words log classes : List ℕ) (starts maps : List (List ℕ)) (special : List ℕ) (e : Ends) (u : Tab) (k : ℕ) → k < countAt (codeT u) words → mapAt ((stOf words log classes starts maps special e) .maps) u k ≡ cell maps (codeT u) k
+pub map-is : (words log classes : List ℕ) (starts maps : List (List ℕ)) (special : List ℕ) (e : Ends) (u : Tab) (k : ℕ) → k < countAt (codeT u) words → mapAt ((stOf words log classes starts maps special e) .maps) u k ≡ cell maps (codeT u) k
 unfolding stOf mapsOf mapAt
 map-is words log classes starts maps special e u k h =
     rw (at-six u (λ t. take (countAt (codeT t) words) (getD maps (codeT t) []))) (getD-take (countAt (codeT u) words) (getD maps (codeT u) []) k 0 h)
@@ -112,19 +136,6 @@ module _ (words tags : List ℕ) (n : ℕ) (src : Source words tags n) (o t k : 
     where
       idle : (special : List ℕ) → importT o T (tabOf t) k (S₀ special) ≡ S₀ special
       idle special = import-is o T (wf words tags n src) (tabOf t) k (S₀ special) (inside words tags n src t k ht hk) ∙ once-is o T (λ r. r ≡ S₀ special) (mapAt (S₀ special .maps) (tabOf t) k) _ (S₀ special) (λ z. absurd (ne (sym (here special) ∙ z))) (λ g. refl)
-
-  -- the operation as a whole: starts and maps are taken over only where nothing is full
-  module _ (f : St → St) (r : Ends) (log classes : List ℕ) (starts maps : List (List ℕ)) (marks : List ℕ) (L : Lands words f log₀ classes₀ starts₀ maps₀ marks₀ e₀ r log classes starts maps marks) where
-    pub whole-full : r .full ≡ true → Whole words f log₀ classes₀ starts₀ maps₀ e₀ r log classes starts₀ maps₀ marks
-    whole-full q = record {
-      over = L .over;
-      stays = λ z. (st-stays log₀ classes₀ log classes starts₀ maps₀ marks₀ marks e₀ K₀ (L .below) (L .log-long) (L .tags-long) (L .marks-stay) words, kept-stays log₀ classes₀ log classes starts₀ maps₀ marks₀ marks e₀ K₀ (L .below) (L .log-long) (L .tags-long) (L .marks-stay));
-      is = λ z. absurd (false≢true (sym z ∙ q));
-      beside = λ z. absurd (false≢true (sym z ∙ q));
-    }
-
-    pub whole-done : r .full ≡ false → Whole words f log₀ classes₀ starts₀ maps₀ e₀ r log classes starts maps marks
-    whole-done q = record { over = L .over; stays = λ z. absurd (false≢true (sym q ∙ z)); is = λ z. (L .is z, L .kept z); beside = L .beside }
 
   -- what all that stands before the record gives
   pub start-is : cell maps₀ t k ≡ 0 → (special : List ℕ) → importT o T (tabOf t) k (S₀ special) ≡ commit o T (tabOf t) k (each (refs (recAt T (tabOf t) k)) (stepT (importT o T)) (S₀ special))

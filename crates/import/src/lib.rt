@@ -25,7 +25,7 @@ ghost use Prim.Native.Nat.{_<_};
 ghost use Rattle.model.specs.Module.{countAt};
 ghost use Rattle.model.specs.References.{target};
 ghost use Rattle.model.specs.Tables.{names, types, constants, overrides, globals, exprs};
-ghost use Rattle.model.specs.Imports.{importT};
+ghost use Rattle.model.specs.Imports.{importT, renamed};
 ghost use Rattle.state.specs.Refers.{kindBytes};
 ghost use Rattle.state.specs.Source.{srcOf, Source, refersTo, numberOf};
 ghost use Rattle.state.specs.Held.{Kept, Lands};
@@ -76,7 +76,7 @@ pub fn import_name(
     classes: &mut [u8; 16384],
     starts: &mut [[u32; 512]; 8],
     maps: &mut [[u32; 512]; 6],
-    marks: &mut [u8; 16384],
+    marks: &mut [u16; 16384],
     ends: Ends,
     offset: u32,
     h: u32,
@@ -121,7 +121,7 @@ pub fn import_type(
     classes: &mut [u8; 16384],
     starts: &mut [[u32; 512]; 8],
     maps: &mut [[u32; 512]; 6],
-    marks: &mut [u8; 16384],
+    marks: &mut [u16; 16384],
     ends: Ends,
     offset: u32,
     h: TypeHandle,
@@ -210,7 +210,7 @@ pub fn import_global_expression(
     classes: &mut [u8; 16384],
     starts: &mut [[u32; 512]; 8],
     maps: &mut [[u32; 512]; 6],
-    marks: &mut [u8; 16384],
+    marks: &mut [u16; 16384],
     ends: Ends,
     offset: u32,
     h: ExpressionHandle,
@@ -335,7 +335,7 @@ pub fn import_const(
     classes: &mut [u8; 16384],
     starts: &mut [[u32; 512]; 8],
     maps: &mut [[u32; 512]; 6],
-    marks: &mut [u8; 16384],
+    marks: &mut [u16; 16384],
     ends: Ends,
     offset: u32,
     h: ConstantHandle,
@@ -442,7 +442,7 @@ pub fn import_pipeline_override(
     classes: &mut [u8; 16384],
     starts: &mut [[u32; 512]; 8],
     maps: &mut [[u32; 512]; 6],
-    marks: &mut [u8; 16384],
+    marks: &mut [u16; 16384],
     ends: Ends,
     offset: u32,
     h: OverrideHandle,
@@ -549,7 +549,7 @@ pub fn import_global(
     classes: &mut [u8; 16384],
     starts: &mut [[u32; 512]; 8],
     maps: &mut [[u32; 512]; 6],
-    marks: &mut [u8; 16384],
+    marks: &mut [u16; 16384],
     ends: Ends,
     offset: u32,
     h: GlobalHandle,
@@ -640,6 +640,114 @@ pub fn import_global(
         e,
         offset,
         GLOBALS,
+        k,
+        at,
+        end,
+    )
+}
+
+// Type h under the name of that number: as it would be imported from a source in which it bears that name.
+pub fn rename_type(
+    words: &[u32; 16384],
+    tags: &[u8; 16384],
+    kinds: &[u8; 256],
+    n: usize,
+    log: &mut [u32; 16384],
+    classes: &mut [u8; 16384],
+    starts: &mut [[u32; 512]; 8],
+    maps: &mut [[u32; 512]; 6],
+    marks: &mut [u16; 16384],
+    ends: Ends,
+    offset: u32,
+    h: TypeHandle,
+    name: u32,
+) -> Ends
+    requires { ⌜ Source (now words) (now tags) n ⌝ }
+    requires { ⌜ ((h .0) < countAt 1 (now words)) × (name < countAt 0 (now words)) × (ends .full ≡ false) ⌝ }
+    requires { ⌜ now kinds ≡ kindBytes ⌝ }
+    requires { ⌜ Kept (now log) (now classes) (now starts) (now maps) (now marks) ends ⌝ }
+    ensures { λ r. ⌜ Lands (now (words .entry)) (importT offset (renamed (srcOf (now (words .entry)) n) (h .0) name) types (h .0)) (now (log .entry)) (now (classes .entry)) (now (starts .entry)) (now (maps .entry)) (now (marks .entry)) ends r (now (log .exit)) (now (classes .exit)) (now (starts .exit)) (now (maps .exit)) (now (marks .exit)) ⌝ }
+{
+    let k = wide(h.0);
+    if maps[TYPES][k] != 0 {
+        return ends;
+    }
+    let at = record_at(words, tags, n, TYPES, k);
+    let end = record_end(words, tags, n, TYPES, k);
+    let mut e = import_name(
+        words,
+        tags,
+        kinds,
+        n,
+        log,
+        classes,
+        starts,
+        maps,
+        marks,
+        ends,
+        offset,
+        name,
+    );
+    if e.full {
+        return e;
+    }
+    let mut i = at + 1;
+    while i < end {
+        let j = i;
+        i += 1;
+        let r = refers_to(kinds, tags[j], words[j]);
+        if r.table == NAMES {
+            e = import_name(
+                words,
+                tags,
+                kinds,
+                n,
+                log,
+                classes,
+                starts,
+                maps,
+                marks,
+                e,
+                offset,
+                r.number,
+            );
+            if e.full {
+                return e;
+            }
+        } else if r.table == TYPES {
+            e = import_type(
+                words,
+                tags,
+                kinds,
+                n,
+                log,
+                classes,
+                starts,
+                maps,
+                marks,
+                e,
+                offset,
+                TypeHandle(r.number),
+            );
+            if e.full {
+                return e;
+            }
+        }
+    }
+    let mut view = *words;
+    view[at] = name + 1;
+    settle(
+        &view,
+        tags,
+        kinds,
+        log,
+        classes,
+        starts,
+        maps,
+        marks,
+        e,
+        offset,
+        TYPES,
         k,
         at,
         end,

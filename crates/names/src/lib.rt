@@ -95,7 +95,7 @@ fn print(h: usize) -> u8
 }
 
 // Whether the hash h has surely not left its mark at a place; it leaves it. No mark is 0, and where prints differ the mark is 255.
-pub fn mark(seen: &mut [u8], at: usize, h: usize) -> bool
+fn mark(seen: &mut [u8], at: usize, h: usize) -> bool
     requires { ⌜ at < length (now seen) ⌝ }
     ensures { λ r. ⌜ Leaves (now (seen .entry)) at h (now (seen .exit)) r ⌝ }
 {

@@ -10,7 +10,7 @@ use native.Mathlib.Omega.{arith}
 use lib.Dec.{eqb}
 use lib.ListN.{length, getD, set, take, drop, length-append, length-set, length-map}
 use lib.Seq.{slice, sets, sets-eq, length-sets, take-suc-set, take-set-le, take-set-lt, getD-set-same, getD-set-other, length-take-le, getD-take, take-take, take-at, drop-at}
-use borrow.Author.Tests.{eqb-true, eqb-false, not-true}
+use borrow.Author.Tests.{eqb-true, eqb-false}
 use Rattle.model.specs.Outcome.{Cells, class, word}
 use Rattle.model.specs.Module.{Special, countAt}
 use Rattle.model.specs.Between.{beside, between, Stretch}
@@ -25,12 +25,12 @@ use Rattle.imports.specs.RecordLaws.{bare, alike-is, alike-self, bare-shift, le
 use Rattle.imports.specs.TableLaws.{Tab-dec, at-same, at-other, upd-at, at-six}
 use Rattle.laws.specs.Lists.{bool-same}
 use Rattle.laws.specs.Betweens.{beside-cells}
-use Rattle.names.specs.Places.{mixed, stands, Leaves}
+use Rattle.names.specs.Places.{mixed}
 use Rattle.laws.specs.Quiet.{each-map}
 use Rattle.state.specs.Refers.{codeP, tabOf, wentR}
 use Rattle.state.specs.Flats.{functionOf, entryOf, pairsAt, specialOf}
-use Rattle.state.specs.Marks.{MARKS, hashR, Marked}
-use Rattle.state.specs.Held.{row, cell, put, recAt, recsAt, tableOf, recsOf, functionsOf, entriesOf, mapsOf, stOf, sizeR, sizeS, sizesOf, wordsOf, Over, long, many, Named, Nameless, Kept, Same, Marks, Beside, Lands, Sought, Written, carriedBy}
+use Rattle.state.specs.Marks.{MARKS, SEVERAL, hashR, placeR, Shows, alone, several, Marked, Marks, Left}
+use Rattle.state.specs.Held.{row, cell, put, recAt, recsAt, tableOf, recsOf, functionsOf, entriesOf, mapsOf, stOf, sizeR, sizeS, sizesOf, wordsOf, Over, long, many, Named, Nameless, Kept, Same, Beside, Lands, Written, carriedBy}
 use Rattle.state.specs.declared.Ends.{Ends}
 use Rattle.state.proofs.Passes.{length-between}
 
@@ -261,7 +261,7 @@ module _ (log tags log′ tags′ : List ℕ) (used : ℕ) (c : Cells) (hl : len
 named-more : {m n : ℕ} → m ≤ n → {cs : Cells} → Named m cs → Named n cs
 named-more h = each-map (λ c f e. let g = f e in omega arith)
 
--- marks that stand, of a record and of one that equals it
+-- marks that stand
 pub marks-refl : (marks : List ℕ) → length marks ≡ MARKS → Marks marks marks
 marks-refl marks h = record { marks-long = h; others = λ p g u. u }
 
@@ -272,14 +272,46 @@ hash-alike : (t : ℕ) (a b : Cells) → bare a ≡ bare b → hashR t a ≡ has
 unfolding hashR
 hash-alike t a b e = ap (λ (cs : Cells). mixed (map word cs) t) e
 
--- one whose mark does not stand is none of them
-pub unmarked-new : (marks : List ℕ) (t : ℕ) (ds : List Cells) (c : Cells) → ((k : ℕ) → k < length ds → Marked marks t (getD ds k [])) → stands marks (hashR t c % MARKS) (hashR t c) ≡ false → seat ds c ≡ length ds
+-- a mark that is left
+shows-only : (v k j : ℕ) → Shows v k → v ≡ suc j → (v ≡ SEVERAL → ⊥) → k ≡ j
+shows-only v k j (alone e) q ne = omega arith
+shows-only v k j (several e) q ne = absurd (ne e)
+
+shows-some : (v k : ℕ) → Shows v k → v ≡ 0 → ⊥
+shows-some v k (alone e) q = omega arith
+shows-some v k (several e) q = omega arith
+
+module _ (marks : List ℕ) (p k : ℕ) (hp : p < MARKS) (hm : length marks ≡ MARKS) where
+  left-by : (v : ℕ) → Shows v k → ((g : ℕ) → Shows (getD marks p 0) g → Shows v g) → Left marks p k (set marks p v)
+  left-by v own on = record {
+    own = rw (getD-set-same marks p v 0 (omega arith)) own;
+    stay = record { marks-long = length-set marks p v ∙ hm; others = λ q g u. ⊎-elim (λ (e : q ≡ p). rw (e, getD-set-same marks p v 0 (omega arith)) (on g (rw e at u))) (λ (ne : q ≡ p → ⊥). rw (getD-set-other marks p q v 0 ne) u) (same-or q p) };
+  }
+
+  pub left-first : getD marks p 0 ≡ 0 → Left marks p k (set marks p (k + 1))
+  left-first e = left-by (k + 1) (alone (add-one k)) (λ g u. absurd (shows-some (getD marks p 0) g u e))
+
+  pub left-more : Left marks p k (set marks p 65535)
+  left-more = left-by 65535 (several refl) (λ g u. several refl)
+
+-- ---- the one record that may be alike
+seat-none : (ds : List Cells) (c : Cells) → ((k : ℕ) → k < length ds → alike (getD ds k []) c ≡ true → ⊥) → seat ds c ≡ length ds
 unfolding seat
-unmarked-new marks t [] c m h = refl
-unmarked-new marks t (d ∷ ds) c m h = go (alike d c) refl (unmarked-new marks t ds c (λ k l. m (suc k) (omega arith)) h)
+seat-none [] c h = refl
+seat-none (d ∷ ds) c h = go (alike d c) refl (seat-none ds c (λ k l. h (suc k) (omega arith)))
   where
     go : (b : Bool) → alike d c ≡ b → seat ds c ≡ length ds → elim b [ true ↦ 0 | false ↦ suc (seat ds c) ] ≡ suc (length ds)
-    go true e r = let q = hash-alike t d c (alike-is d c e) in absurd (false≢true (sym h ∙ rw q at (m 0 (omega arith))))
+    go true e r = absurd (h 0 (omega arith) e)
+    go false e r = ap suc r
+
+seat-only : (ds : List Cells) (c : Cells) (j : ℕ) → j < length ds → alike (getD ds j []) c ≡ true → ((k : ℕ) → k < length ds → alike (getD ds k []) c ≡ true → k ≡ j) → seat ds c ≡ j
+unfolding seat
+seat-only [] c j l a h = absurd (omega arith)
+seat-only (d ∷ ds) c zero l a h = ap (λ (b : Bool). elim b [ true ↦ 0 | false ↦ suc (seat ds c) ]) a
+seat-only (d ∷ ds) c (suc j) l a h = go (alike d c) refl (seat-only ds c j (omega arith) a (λ k q e. let z = h (suc k) (omega arith) e in omega arith))
+  where
+    go : (b : Bool) → alike d c ≡ b → seat ds c ≡ j → elim b [ true ↦ 0 | false ↦ suc (seat ds c) ] ≡ suc j
+    go true e r = let z = h 0 (omega arith) e in absurd (omega arith)
     go false e r = ap suc r
 
 pub pairs-long : (ws : List ℕ) (n i : ℕ) → length (pairsAt ws i n) ≡ n
@@ -316,21 +348,37 @@ module _ (log tags : List ℕ) (starts maps : List (List ℕ)) (marks : List ℕ
     pub tab-long : length (at (tabOf t) (recsOf log tags starts (e .counts))) ≡ getD (e .counts) t 0
     tab-long = ap length tab-is ∙ table-long t (omega arith)
 
-    pub tab-new : (c : Cells) → stands marks (hashR t c % MARKS) (hashR t c) ≡ false → getD (e .counts) t 0 ≡ seat (tableOf log tags starts (e .counts) t) c
-    tab-new c h =
-        let l = table-long t (omega arith) in
-        sym (unmarked-new marks t (tableOf log tags starts (e .counts) t) c (λ k q. rw (table-at t k (omega arith) (omega arith)) (K .marked t k ht (omega arith))) h ∙ l)
+    -- a record that is alike has its number in the mark at the place
+    module _ (c : Cells) (p : ℕ) (hp : p ≡ placeR t c) where
+      alike-shows : (k : ℕ) → k < length (tableOf log tags starts (e .counts) t) → alike (getD (tableOf log tags starts (e .counts) t) k []) c ≡ true → Shows (getD marks p 0) k
+      alike-shows k l a =
+          let lt = table-long t (omega arith) in
+          let at = table-at t k (omega arith) (omega arith) in
+          let q = hash-alike t (recAt log tags (cell starts t k)) c (alike-is (recAt log tags (cell starts t k)) c (rw at at a)) in
+          rw (hp, ← q) (K .marked t k ht (omega arith))
 
-    -- its mark is left, and only where it may have been there the table is searched
-    module _ (c : Cells) (h : ℕ) (hh : h ≡ hashR t c) (marks′ : List ℕ) (b : Bool) (L : Leaves marks (h % MARKS) h marks′ b) where
-      left-marks : Marks marks marks′
-      left-marks = record { marks-long = L .long ∙ K .marks-long; others = L .others }
+      pub sought-none : getD marks p 0 ≡ 0 → getD (e .counts) t 0 ≡ seat (tableOf log tags starts (e .counts) t) c
+      sought-none z = sym (seat-none (tableOf log tags starts (e .counts) t) c (λ k l a. shows-some (getD marks p 0) k (alike-shows k l a) z) ∙ table-long t (omega arith))
 
-      pub sought-old : (r : ℕ) → r ≡ seat (tableOf log tags starts (e .counts) t) c → Sought (tableOf log tags starts (e .counts) t) t c marks marks′ r
-      sought-old r q = record { is = q; own = rw (← hh) (L .own); stay = left-marks }
+      module _ (v j : ℕ) (hv : v ≡ getD marks p 0) (one : v ≡ suc j) (ne : v ≡ SEVERAL → ⊥) where
+        only : (k : ℕ) → k < length (tableOf log tags starts (e .counts) t) → alike (getD (tableOf log tags starts (e .counts) t) k []) c ≡ true → k ≡ j
+        only k l a = shows-only v k j (rw hv (alike-shows k l a)) one ne
 
-      pub sought-new : b ≡ true → Sought (tableOf log tags starts (e .counts) t) t c marks marks′ (getD (e .counts) t 0)
-      sought-new q = sought-old (getD (e .counts) t 0) (tab-new c (rw (← hh) (not-true (stands marks (h % MARKS) h) (sym (L .answer) ∙ q))))
+        pub sought-stale : getD (e .counts) t 0 ≤ j → getD (e .counts) t 0 ≡ seat (tableOf log tags starts (e .counts) t) c
+        sought-stale h =
+            let lt = table-long t (omega arith) in
+            sym (seat-none (tableOf log tags starts (e .counts) t) c (λ k l a. let z = only k l a in omega arith) ∙ lt)
+
+        module _ (h : j < getD (e .counts) t 0) (s : ℕ) (hs : s ≡ cell starts t j) (b : Bool) (hb : b ≡ alike (recAt log tags s) c) where
+          pub sought-one : b ≡ true → j ≡ seat (tableOf log tags starts (e .counts) t) c
+          sought-one q =
+              let lt = table-long t (omega arith) in
+              sym (seat-only (tableOf log tags starts (e .counts) t) c j (omega arith) (rw (table-at t j (omega arith) h, ← hs) (sym hb ∙ q)) only)
+
+          pub sought-other : b ≡ false → getD (e .counts) t 0 ≡ seat (tableOf log tags starts (e .counts) t) c
+          sought-other q =
+              let lt = table-long t (omega arith) in
+              sym (seat-none (tableOf log tags starts (e .counts) t) c (λ k l a. let z = only k l a in false≢true (sym (sym hb ∙ q) ∙ rw (hs, ← table-at t j (omega arith) h, ← z) a)) ∙ lt)
 
   -- the words of the rows are those of the tables, functions and entry points
   pub sizes-are : sizesOf log tags starts (e .counts) 8 ≡ sizeS (recsOf log tags starts (e .counts)) + (sizeR (tableOf log tags starts (e .counts) 6) + sizeR (tableOf log tags starts (e .counts) 7))
@@ -442,7 +490,7 @@ pub record Joins (t n names : ℕ) (c : Cells) (marks : List ℕ) : Type 0 where
   pub few-entries : t ≡ 7 → n < 16
   pub named : Named names c
   pub plain : t ≡ 0 → Nameless c
-  pub marked : t < 6 → Marked marks t c
+  pub marked : t < 6 → Marked marks t n c
   pub flats : t ≡ 6 → flat (functionOf c) ≡ c
   pub flats′ : t ≡ 7 → flatEntry (entryOf c) ≡ c
 
@@ -581,7 +629,7 @@ module _ (log tags log′ tags′ : List ℕ) (starts maps : List (List ℕ)) (m
           named = each-rec (λ u k s. Named (getD counts⁺ 0 0) (recAt log′ tags′ s)) (λ u k hu hk. rw (rec-old u k hu hk) (named-more (count-up 0 (omega arith)) (K .named u k hu hk))) (rw rec (named-more (count-up 0 (omega arith)) (J .named)));
           plain = λ k hk. each-rec (λ u k s. u ≡ 0 → Nameless (recAt log′ tags′ s)) (λ u k hu hk q. rw (rec-old u k hu hk, q) (K .plain k (rw q at hk))) (λ q. rw rec (J .plain q)) 0 k (omega arith) hk refl;
           mapped = λ u k hu. let m = K .mapped u k hu in let g = count-up u (omega arith) in omega arith;
-          marked = λ u k hu hk. each-rec (λ u k s. u < 6 → Marked marks′ u (recAt log′ tags′ s)) (λ u k hu hk h6. rw (rec-old u k hu hk) (M .others _ _ (K .marked u k h6 hk))) (λ h6. rw rec (J .marked h6)) u k (omega arith) hk hu;
+          marked = λ u k hu hk. each-rec (λ u k s. u < 6 → Marked marks′ u k (recAt log′ tags′ s)) (λ u k hu hk h6. rw (rec-old u k hu hk) (M .others _ _ (K .marked u k h6 hk))) (λ h6. rw rec (J .marked h6)) u k (omega arith) hk hu;
         }
 
 -- ---- what a record becomes has the names that were mapped
@@ -622,8 +670,8 @@ hash-shift : (t : ℕ) (c : Cells) (o : ℕ) (u : Bool) → hashR t (shift c o u
 hash-shift t c o u = hash-alike t (shift c o u) c (bare-shift c o u)
 
 -- ---- settling
-module _ (words tags₀ log tags : List ℕ) (starts maps : List (List ℕ)) (marks marks′ : List ℕ) (e : Ends) (nf : e .full ≡ false) (K : Kept log tags starts maps marks e) (t k at₀ end o : ℕ) (ht : t < 6) (hk : k < countAt t words) (hk′ : k < 512) (st : Stretch words tags₀ at₀ end)
-    (pl : t ≡ 0 → Nameless (between tags₀ words at₀ end)) (j : ℕ) (So : Sought (tableOf log tags starts (e .counts) t) t (carriedBy (wentR maps) tags₀ words at₀ end) marks marks′ j) where
+module _ (words tags₀ log tags : List ℕ) (starts maps : List (List ℕ)) (marks : List ℕ) (e : Ends) (nf : e .full ≡ false) (K : Kept log tags starts maps marks e) (t k at₀ end o : ℕ) (ht : t < 6) (hk : k < countAt t words) (hk′ : k < 512) (st : Stretch words tags₀ at₀ end)
+    (pl : t ≡ 0 → Nameless (between tags₀ words at₀ end)) (j : ℕ) (So : j ≡ seat (tableOf log tags starts (e .counts) t) (carriedBy (wentR maps) tags₀ words at₀ end)) where
   abbrev C : Cells
   C = shift (carriedBy (wentR maps) tags₀ words at₀ end) o false
 
@@ -639,15 +687,12 @@ module _ (words tags₀ log tags : List ℕ) (starts maps : List (List ℕ)) (ma
       length-shift (carriedBy (wentR maps) tags₀ words at₀ end) o false ∙ length-carry (through (wentR maps)) (between tags₀ words at₀ end) ∙ length-between tags₀ words at₀ end (st .in-tags) (st .in-words)
 
   seat-is : seat (at (tabOf t) (recsOf log tags starts (e .counts))) C ≡ j
-  seat-is = seat-shift (at (tabOf t) (recsOf log tags starts (e .counts))) (carriedBy (wentR maps) tags₀ words at₀ end) o false ∙ rw (tab-is log tags starts maps marks e K t ht) (sym (So .is))
-
-  kept-marks : Kept log tags starts maps marks′ e
-  kept-marks = kept-stays log tags log tags starts maps marks marks′ e K (same-refl (e .used) log tags) (K .log-long) (K .tags-long) (So .stay)
+  seat-is = seat-shift (at (tabOf t) (recsOf log tags starts (e .counts))) (carriedBy (wentR maps) tags₀ words at₀ end) o false ∙ rw (tab-is log tags starts maps marks e K t ht) (sym So)
 
   same-beside : Beside starts starts e e
   same-beside = record { functions-same = (refl, refl); entries-same = (refl, refl); pairs-same = refl; tops-same = (refl, refl) }
 
-  pub settle-old : j < getD (e .counts) t 0 → Lands words (settle (tabOf t) k C) log tags starts maps marks e e log tags starts (put maps t k (j + 1)) marks′
+  pub settle-old : j < getD (e .counts) t 0 → Lands words (settle (tabOf t) k C) log tags starts maps marks e e log tags starts (put maps t k (j + 1)) marks
   unfolding settle stOf
   settle-old h =
       let l = tab-long log tags starts maps marks e K t ht in
@@ -656,13 +701,13 @@ module _ (words tags₀ log tags : List ℕ) (starts maps : List (List ℕ)) (ma
       record {
         over = λ q. absurd (false≢true (sym nf ∙ q));
         is = λ q special. st-is (rw m (upd-at (tabOf t) (recsOf log tags starts (e .counts)))) (rw (s, ← add-one j) (maps-put words maps t k (j + 1) ht (K .maps-six) hk));
-        kept = λ q. kept-point log tags starts maps marks′ e kept-marks t k (j + 1) ht hk′ (omega arith);
+        kept = λ q. kept-point log tags starts maps marks e K t k (j + 1) ht hk′ (omega arith);
         beside = λ q. same-beside;
         more = λ q. le-refl _;
         below = same-refl (e .used) log tags;
         log-long = K .log-long;
         tags-long = K .tags-long;
-        marks-stay = So .stay;
+        marks-stay = marks-refl marks (K .marks-long);
       }
     where
       st-is : {R R′ : Tables} {M M′ : Maps} {fs : List Function} {sp : Special} → R ≡ R′ → M ≡ M′ → _≡_ {A = St} (record { recs = R; maps = M; functions = fs; special = sp }) (record { recs = R′; maps = M′; functions = fs; special = sp })
@@ -672,10 +717,10 @@ module _ (words tags₀ log tags : List ℕ) (starts maps : List (List ℕ)) (ma
     new-is : merged (at (tabOf t) (recsOf log tags starts (e .counts))) C ≡ at (tabOf t) (recsOf log tags starts (e .counts)) ++ (C ∷ [])
     new-is = let l = tab-long log tags starts maps marks e K t ht in let s = seat-is in merged-new (at (tabOf t) (recsOf log tags starts (e .counts))) C (omega arith)
 
-    full-lands : (r : Ends) → r .full ≡ true → ((special : List ℕ) → Over (sizeR (tableOf log tags starts (e .counts) 7)) (settle (tabOf t) k C (S special))) → Lands words (settle (tabOf t) k C) log tags starts maps marks e r log tags starts maps marks′
-    full-lands r q x = record { over = λ _. x; is = λ z. absurd (false≢true (sym z ∙ q)); kept = λ z. absurd (false≢true (sym z ∙ q)); beside = λ z. absurd (false≢true (sym z ∙ q)); more = λ z. absurd (false≢true (sym z ∙ q)); below = same-refl (e .used) log tags; log-long = K .log-long; tags-long = K .tags-long; marks-stay = So .stay }
+    full-lands : (r : Ends) → r .full ≡ true → ((special : List ℕ) → Over (sizeR (tableOf log tags starts (e .counts) 7)) (settle (tabOf t) k C (S special))) → Lands words (settle (tabOf t) k C) log tags starts maps marks e r log tags starts maps marks
+    full-lands r q x = record { over = λ _. x; is = λ z. absurd (false≢true (sym z ∙ q)); kept = λ z. absurd (false≢true (sym z ∙ q)); beside = λ z. absurd (false≢true (sym z ∙ q)); more = λ z. absurd (false≢true (sym z ∙ q)); below = same-refl (e .used) log tags; log-long = K .log-long; tags-long = K .tags-long; marks-stay = marks-refl marks (K .marks-long) }
 
-    pub settle-many : getD (e .counts) t 0 ≡ 512 → (r : Ends) → r .full ≡ true → Lands words (settle (tabOf t) k C) log tags starts maps marks e r log tags starts maps marks′
+    pub settle-many : getD (e .counts) t 0 ≡ 512 → (r : Ends) → r .full ≡ true → Lands words (settle (tabOf t) k C) log tags starts maps marks e r log tags starts maps marks
     unfolding settle stOf count
     settle-many q r f =
         let l = tab-long log tags starts maps marks e K t ht in
@@ -683,7 +728,7 @@ module _ (words tags₀ log tags : List ℕ) (starts maps : List (List ℕ)) (ma
         (λ special. many (tabOf t)
         (rw (at-same (tabOf t) (merged (at (tabOf t) (recsOf log tags starts (e .counts))) C) (recsOf log tags starts (e .counts)), new-is, length-append (at (tabOf t) (recsOf log tags starts (e .counts))) (C ∷ [])) (omega arith)))
 
-    pub settle-long : (room : ℕ) → room + (23 + 2 * e .pairs + e .used) ≡ 16384 → room < 1 + (end - at₀) → (r : Ends) → r .full ≡ true → Lands words (settle (tabOf t) k C) log tags starts maps marks e r log tags starts maps marks′
+    pub settle-long : (room : ℕ) → room + (23 + 2 * e .pairs + e .used) ≡ 16384 → room < 1 + (end - at₀) → (r : Ends) → r .full ≡ true → Lands words (settle (tabOf t) k C) log tags starts maps marks e r log tags starts maps marks
     unfolding settle stOf wordsOf
     settle-long room hr q r f =
         let c = c-long in
@@ -691,7 +736,7 @@ module _ (words tags₀ log tags : List ℕ) (starts maps : List (List ℕ)) (ma
         let w = words-are log tags starts maps marks e K words special in
         long (rw (new-is, size-append (tabOf t) C (recsOf log tags starts (e .counts))) (omega arith)))
 
-    module _ (ne : getD (e .counts) t 0 ≡ 512 → ⊥) (room : ℕ) (hr : room + (23 + 2 * e .pairs + e .used) ≡ 16384) (q : 1 + (end - at₀) ≤ room) (log′ tags′ : List ℕ) (W : Written C (e .used + 1) (set log (e .used) (end - at₀)) tags log′ tags′) where
+    module _ (ne : getD (e .counts) t 0 ≡ 512 → ⊥) (room : ℕ) (hr : room + (23 + 2 * e .pairs + e .used) ≡ 16384) (q : 1 + (end - at₀) ≤ room) (log′ tags′ : List ℕ) (W : Written C (e .used + 1) (set log (e .used) (end - at₀)) tags log′ tags′) (p : ℕ) (hp : p ≡ placeR t (carriedBy (wentR maps) tags₀ words at₀ end)) (marks′ : List ℕ) (Le : Left marks p (getD (e .counts) t 0) marks′) where
       fits : 23 + 2 * e .pairs + (e .used + suc (length C)) ≤ 16384
       fits = let c = c-long in omega arith
 
@@ -724,7 +769,7 @@ module _ (words tags₀ log tags : List ℕ) (starts maps : List (List ℕ)) (ma
         few-entries = λ x. absurd (omega arith);
         named = shift-named _ (carried-named maps (getD (e .counts) 0 0) (λ k. K .mapped 0 k (omega arith)) (between tags₀ words at₀ end)) o false;
         plain = λ x. shift-nameless (carried-nameless (through (wentR maps)) (pl x)) o false;
-        marked = λ x. rw (hash-shift t (carriedBy (wentR maps) tags₀ words at₀ end) o false) (So .own);
+        marked = λ x. rw (hash-shift t (carriedBy (wentR maps) tags₀ words at₀ end) o false, ← hp) (Le .own);
         flats = λ x. absurd (omega arith);
         flats′ = λ x. absurd (omega arith);
       }
@@ -745,8 +790,8 @@ module _ (words tags₀ log tags : List ℕ) (starts maps : List (List ℕ)) (ma
           rw er′
           (record {
             over = λ y. absurd (false≢true y);
-            is = λ y special. st-is (rw new-is (recs-are log tags log′ tags′ starts maps marks marks′ e K F g g′ (So .stay) t (omega arith) C rc hd fits few ht)) (rw (s, jn, ← add-one (getD (e .counts) t 0)) (maps-put words maps t k (getD (e .counts) t 0 + 1) ht (K .maps-six) hk)) (ap (map functionOf) (sym (table-same log tags log′ tags′ starts maps marks marks′ e K F g g′ (So .stay) t (omega arith) C rc hd fits few 6 (omega arith) (λ z. omega arith))));
-            kept = λ y. kept-point log′ tags′ (put starts t (getD (e .counts) t 0) (e .used)) maps marks′ _ (kept-more log tags log′ tags′ starts maps marks marks′ e K F g g′ (So .stay) t (omega arith) C rc hd fits few joins) t k (getD (e .counts) t 0 + 1) ht hk′ (rw ce (le-refl _));
+            is = λ y special. st-is (rw new-is (recs-are log tags log′ tags′ starts maps marks marks′ e K F g g′ (Le .stay) t (omega arith) C rc hd fits few ht)) (rw (s, jn, ← add-one (getD (e .counts) t 0)) (maps-put words maps t k (getD (e .counts) t 0 + 1) ht (K .maps-six) hk)) (ap (map functionOf) (sym (table-same log tags log′ tags′ starts maps marks marks′ e K F g g′ (Le .stay) t (omega arith) C rc hd fits few 6 (omega arith) (λ z. omega arith))));
+            kept = λ y. kept-point log′ tags′ (put starts t (getD (e .counts) t 0) (e .used)) maps marks′ _ (kept-more log tags log′ tags′ starts maps marks marks′ e K F g g′ (Le .stay) t (omega arith) C rc hd fits few joins) t k (getD (e .counts) t 0 + 1) ht hk′ (rw ce (le-refl _));
             beside = λ y. record {
               functions-same = (row-other starts t 6 (getD (e .counts) t 0) (e .used) (λ z. omega arith), getD-set-other (e .counts) t 6 (getD (e .counts) t 0 + 1) 0 (λ z. omega arith));
               entries-same = (row-other starts t 7 (getD (e .counts) t 0) (e .used) (λ z. omega arith), getD-set-other (e .counts) t 7 (getD (e .counts) t 0 + 1) 0 (λ z. omega arith));
@@ -757,7 +802,7 @@ module _ (words tags₀ log tags : List ℕ) (starts maps : List (List ℕ)) (ma
             below = F;
             log-long = g;
             tags-long = g′;
-            marks-stay = So .stay;
+            marks-stay = Le .stay;
           })
         where
           st-is : {R R′ : Tables} {M M′ : Maps} {fs fs′ : List Function} {sp : Special} → R ≡ R′ → M ≡ M′ → fs ≡ fs′ → _≡_ {A = St} (record { recs = R; maps = M; functions = fs; special = sp }) (record { recs = R′; maps = M′; functions = fs′; special = sp })

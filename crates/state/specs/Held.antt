@@ -15,13 +15,12 @@ use Rattle.model.specs.Module.{countAt}
 use Rattle.model.specs.Between.{between, Stretch}
 use Rattle.model.specs.Carry.{carryCells, Each}
 use Rattle.model.specs.Tables.{Tab, codeT, six, Tables, count, Maps}
-use Rattle.model.specs.References.{Place, refs, through, seat}
+use Rattle.model.specs.References.{Place, refs, through}
 use Rattle.model.specs.Imports.{St}
 use Rattle.imports.specs.RecordLaws.{All}
-use Rattle.names.specs.Places.{stands}
 use Rattle.state.specs.Refers.{Small, kindBytes}
 use Rattle.state.specs.Flats.{functionOf, entryOf, specialOf}
-use Rattle.state.specs.Marks.{MARKS, Marked}
+use Rattle.state.specs.Marks.{MARKS, Marked, Marks}
 use Rattle.state.specs.declared.Ends.{Ends}
 
 -- ---- arrays of arrays
@@ -131,7 +130,7 @@ pub record Kept (log tags : List ℕ) (starts maps : List (List ℕ)) (marks : L
   -- what is mapped is mapped to a record
   pub mapped : (t k : ℕ) → t < 6 → cell maps t k ≤ getD (e .counts) t 0
   -- every record of the six tables has left its mark
-  pub marked : (t k : ℕ) → t < 6 → k < getD (e .counts) t 0 → Marked marks t (recAt log tags (cell starts t k))
+  pub marked : (t k : ℕ) → t < 6 → k < getD (e .counts) t 0 → Marked marks t k (recAt log tags (cell starts t k))
 
 -- the special types that the words hold are derived types
 pub record Specials (special : List ℕ) (e : Ends) : Type 0 where
@@ -144,11 +143,6 @@ pub record Specials (special : List ℕ) (e : Ends) : Type 0 where
 pub record Same (used : ℕ) (log tags log′ tags′ : List ℕ) : Type 0 where
   pub words-same : take used log′ ≡ take used log
   pub tags-same : take used tags′ ≡ take used tags
-
--- marks that stood still stand
-pub record Marks (marks marks′ : List ℕ) : Type 0 where
-  pub marks-long : length marks′ ≡ MARKS
-  pub others : (p h : ℕ) → stands marks p h ≡ true → stands marks′ p h ≡ true
 
 -- functions, entry points and pairs are as they were, and so are the tops of the stacks
 pub record Beside (starts starts′ : List (List ℕ)) (e r : Ends) : Type 0 where
@@ -188,12 +182,6 @@ pub record Readable (words tags kinds : List ℕ) (at end : ℕ) : Type 0 where
 -- source cells, where `went` says where numbers went
 unfoldable pub carriedBy : (Place → ℕ → ℕ) → List ℕ → List ℕ → ℕ → ℕ → Cells
 carriedBy went tags words at end = carryCells (through went) (between tags words at end)
-
--- which of the records ds of table t is c, spans apart, or how many they are; c has left its mark
-pub record Sought (ds : List Cells) (t : ℕ) (c : Cells) (marks marks′ : List ℕ) (r : ℕ) : Type 0 where
-  pub is : r ≡ seat ds c
-  pub own : Marked marks′ t c
-  pub stay : Marks marks marks′
 
 -- a record's cells stand from p on
 pub record Written (cs : Cells) (p : ℕ) (log₀ tags₀ log tags : List ℕ) : Type 0 where

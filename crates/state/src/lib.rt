@@ -1,7 +1,7 @@
 // The state of a session, in arrays that the caller lends: a log of derived words and their classes, where each record starts in it, where the numbers of
 // the source went, marks of the records that are there; the counts go by value. A record is a count and that many words. What an import makes is compared
-// with the records of its table, spans apart, before anything is written; only where its mark may be there is the table searched.
-use names::mark;
+// with the records of its table, spans apart, before anything is written: with the one that the mark at its place shows, and only where that shows several
+// is the table searched.
 use names::mix;
 use std::num::wrapping_add_u32;
 use words::wide;
@@ -16,8 +16,8 @@ ghost use Rattle.model.specs.References.{target, refOf, refs, through, undefine
 ghost use Rattle.model.specs.Imports.{settle as settled};
 ghost use Rattle.imports.specs.RecordLaws.{All, bareW};
 ghost use Rattle.state.specs.Refers.{kindOf, kindBytes, tabOf, wentR, Small};
-ghost use Rattle.state.specs.Marks.{MARKS, hashR};
-ghost use Rattle.state.specs.Held.{row, cell, recAt, recsAt, Kept, Lands, Readable, Sought, Written, Nameless, carriedBy};
+ghost use Rattle.state.specs.Marks.{MARKS, hashR, placeR, Left};
+ghost use Rattle.state.specs.Held.{row, cell, recAt, recsAt, Kept, Lands, Readable, Written, Nameless, carriedBy};
 
 // Words of the log, records of each table, pairs of special types, and the tops of the stacks of functions in progress; or that something did not fit.
 pub struct Ends {
@@ -515,7 +515,42 @@ fn hash(
     h
 }
 
-// The same as `find`, which is asked only where the mark may be there; the mark is left.
+// Where its mark stands.
+fn place(
+    words: &[u32; 16384],
+    tags: &[u8; 16384],
+    kinds: &[u8; 256],
+    maps: &[[u32; 512]; 6],
+    at: usize,
+    end: usize,
+    t: usize,
+) -> usize
+    requires { ⌜ Readable (now words) (now tags) (now kinds) at end ⌝ }
+    requires { ⌜ (t < 8) × (length (now maps) ≡ 6) ⌝ }
+    ensures { λ r. ⌜ (r ≡ placeR t (carriedBy (wentR (now (maps .entry))) (now (tags .entry)) (now (words .entry)) at end)) × (r < MARKS) ⌝ }
+{
+    hash(words, tags, kinds, maps, at, end, t) % 16384
+}
+
+fn shown(x: u16) -> usize
+    ensures { λ r. ⌜ (r ≡ x) × (r < 65536) ⌝ }
+{
+    x as usize
+}
+
+// Number k leaves its mark at place p.
+fn leave(marks: &mut [u16; 16384], p: usize, k: usize)
+    requires { ⌜ (p < MARKS) × (k < 512) × (length (now marks) ≡ MARKS) ⌝ }
+    ensures { λ _. ⌜ Left (now (marks .entry)) p k (now (marks .exit)) ⌝ }
+{
+    if marks[p] == 0 {
+        marks[p] = (k + 1) as u16;
+        return;
+    }
+    marks[p] = 65535;
+}
+
+// The same as `find`, by the mark at place p.
 fn sought(
     words: &[u32; 16384],
     tags: &[u8; 16384],
@@ -524,35 +559,47 @@ fn sought(
     classes: &[u8; 16384],
     starts: &[[u32; 512]; 8],
     maps: &[[u32; 512]; 6],
-    marks: &mut [u8; 16384],
+    marks: &[u16; 16384],
     ends: Ends,
     at: usize,
     end: usize,
     t: usize,
+    p: usize,
 ) -> usize
     requires { ⌜ Readable (now words) (now tags) (now kinds) at end ⌝ }
-    requires { ⌜ t < 6 ⌝ }
+    requires { ⌜ (t < 6) × (p ≡ placeR t (carriedBy (wentR (now maps)) (now tags) (now words) at end)) × (p < MARKS) ⌝ }
     requires { ⌜ Kept (now log) (now classes) (now starts) (now maps) (now marks) ends ⌝ }
-    ensures { λ r. ⌜ Sought (recsAt (now (log .entry)) (now (classes .entry)) (take (getD (ends .counts) t 0) (row (now (starts .entry)) t))) t (carriedBy (wentR (now (maps .entry))) (now (tags .entry)) (now (words .entry)) at end) (now (marks .entry)) (now (marks .exit)) r ⌝ }
+    ensures { λ r. ⌜ r ≡ seat (recsAt (now (log .entry)) (now (classes .entry)) (take (getD (ends .counts) t 0) (row (now (starts .entry)) t))) (carriedBy (wentR (now (maps .entry))) (now (tags .entry)) (now (words .entry)) at end) ⌝ }
 {
     let n = ends.counts[t];
-    let h = hash(words, tags, kinds, maps, at, end, t);
-    if mark(marks, h % 16384, h) {
+    let v = shown(marks[p]);
+    if v == 0 {
         return n;
     }
-    find(
-        words,
-        tags,
-        kinds,
-        log,
-        classes,
-        starts,
-        maps,
-        at,
-        end,
-        t,
-        n,
-    )
+    if v == 65535 {
+        return find(
+            words,
+            tags,
+            kinds,
+            log,
+            classes,
+            starts,
+            maps,
+            at,
+            end,
+            t,
+            n,
+        );
+    }
+    let j = v - 1;
+    if n <= j {
+        return n;
+    }
+    let s = wide(starts[t][j]);
+    if alike(words, tags, kinds, log, classes, maps, at, end, s) {
+        return j;
+    }
+    n
 }
 
 // Whether the span last met is undefined, once the word w of the class s is read, with the words from i on behind it.
@@ -641,7 +688,7 @@ pub fn settle(
     classes: &mut [u8; 16384],
     starts: &mut [[u32; 512]; 8],
     maps: &mut [[u32; 512]; 6],
-    marks: &mut [u8; 16384],
+    marks: &mut [u16; 16384],
     ends: Ends,
     offset: u32,
     t: usize,
@@ -657,6 +704,7 @@ pub fn settle(
 {
     let n = ends.counts[t];
     let used = ends.used;
+    let p = place(words, tags, kinds, maps, at, end, t);
     let j = sought(
         words,
         tags,
@@ -670,6 +718,7 @@ pub fn settle(
         at,
         end,
         t,
+        p,
     );
     if j < n {
         maps[t][k] = (j + 1) as u32;
@@ -696,5 +745,6 @@ pub fn settle(
     );
     starts[t][n] = used as u32;
     maps[t][k] = (n + 1) as u32;
+    leave(marks, p, n);
     grown(ends, t, 1 + (end - at))
 }

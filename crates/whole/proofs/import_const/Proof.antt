@@ -1,0 +1,24 @@
+use native.Mathlib.Omega.{arith}
+use borrow.Author.Needs.{needs}
+use Rattle.whole.proofs.Over.{whole-of}
+use Rattle.whole.proofs.import_const.Statement.{statement}
+use Rattle.whole.proofs.import_const.Tie as tie
+use Rattle.whole.proofs.import_const.Reads as reads
+use Rattle.whole.proofs.import_const.Lts as lts
+
+import-const-requires : tie.Need-import-const-requires
+import-const-requires c κs = search needs
+
+take-over-requires : tie.Need-take-over-requires
+take-over-requires c κs = search needs
+
+returns : tie.Need-returns
+returns c = let a = (c .before .before .before .before .before .before .before .before .before .before .before .before .before .args) in let K = c .before .before .before .before .before .before .before .before .before .before .before .before .before .pre .1 .1 .1 in whole-of (a .words .now) (a .log .now) (a .classes .now) (a .starts .now) (a .maps .now) (a .marks .now) (a .ends) K _ _ _ _ _ _ _ (c .before .before .before .before .before .import-const .ensures) _ _ (c .take-over .ensures)
+
+pub import-const-spec : {M : Type 1} → statement M
+import-const-spec =
+    tie.close
+    (tie.spec
+    import-const-requires
+    take-over-requires
+    returns)

@@ -1,0 +1,283 @@
+// The imports as operations of a session: where the result does not fit, nothing has changed. The starts of records and the maps are copied, and the
+// copies are taken over only where it fits. What was written lies behind the log's end, and a mark that was left costs a search at most.
+use handles::ConstantHandle;
+use handles::ExpressionHandle;
+use handles::GlobalHandle;
+use handles::OverrideHandle;
+use handles::TypeHandle;
+use state::Ends;
+ghost use mathlib.Core.Path.{_≡_};
+ghost use mathlib.Core.Bool.{true, false};
+ghost use Prim.Native.Nat.{_<_};
+ghost use Rattle.model.specs.Module.{countAt};
+ghost use Rattle.model.specs.Tables.{types, constants, overrides, globals, exprs};
+ghost use Rattle.model.specs.Imports.{importT, renamed};
+ghost use Rattle.state.specs.Refers.{kindBytes};
+ghost use Rattle.state.specs.Source.{srcOf, Source};
+ghost use Rattle.state.specs.Held.{Kept, Whole};
+ghost use Rattle.whole.specs.Taken.{TakenOver};
+
+// The copies, unless something did not fit.
+fn take_over(
+    starts: &mut [[u32; 512]; 8],
+    maps: &mut [[u32; 512]; 6],
+    s: &[[u32; 512]; 8],
+    m: &[[u32; 512]; 6],
+    full: bool,
+)
+    ensures { λ _. ⌜ TakenOver full (now (starts .entry)) (now (maps .entry)) (now (s .entry)) (now (m .entry)) (now (starts .exit)) (now (maps .exit)) ⌝ }
+{
+    if full {
+        return;
+    }
+    *starts = *s;
+    *maps = *m;
+}
+
+// Type h.
+pub fn import_type(
+    words: &[u32; 16384],
+    tags: &[u8; 16384],
+    kinds: &[u8; 256],
+    n: usize,
+    log: &mut [u32; 16384],
+    classes: &mut [u8; 16384],
+    starts: &mut [[u32; 512]; 8],
+    maps: &mut [[u32; 512]; 6],
+    marks: &mut [u16; 16384],
+    ends: Ends,
+    offset: u32,
+    h: TypeHandle,
+) -> Ends
+    requires { ⌜ Source (now words) (now tags) n ⌝ }
+    requires { ⌜ (h .0 < countAt 1 (now words)) × (ends .full ≡ false) ⌝ }
+    requires { ⌜ now kinds ≡ kindBytes ⌝ }
+    requires { ⌜ Kept (now log) (now classes) (now starts) (now maps) (now marks) ends ⌝ }
+    ensures { λ r. ⌜ Whole (now (words .entry)) (importT offset (srcOf (now (words .entry)) n) types (h .0)) (now (log .entry)) (now (classes .entry)) (now (starts .entry)) (now (maps .entry)) ends r (now (log .exit)) (now (classes .exit)) (now (starts .exit)) (now (maps .exit)) (now (marks .exit)) ⌝ }
+{
+    let mut s = *starts;
+    let mut m = *maps;
+    let got = import::import_type(
+        words,
+        tags,
+        kinds,
+        n,
+        log,
+        classes,
+        &mut s,
+        &mut m,
+        marks,
+        ends,
+        offset,
+        h,
+    );
+    take_over(starts, maps, &s, &m, got.full);
+    got
+}
+
+// Type h under the name of that number.
+pub fn rename_type(
+    words: &[u32; 16384],
+    tags: &[u8; 16384],
+    kinds: &[u8; 256],
+    n: usize,
+    log: &mut [u32; 16384],
+    classes: &mut [u8; 16384],
+    starts: &mut [[u32; 512]; 8],
+    maps: &mut [[u32; 512]; 6],
+    marks: &mut [u16; 16384],
+    ends: Ends,
+    offset: u32,
+    h: TypeHandle,
+    name: u32,
+) -> Ends
+    requires { ⌜ Source (now words) (now tags) n ⌝ }
+    requires { ⌜ (h .0 < countAt 1 (now words)) × (name < countAt 0 (now words)) × (ends .full ≡ false) ⌝ }
+    requires { ⌜ now kinds ≡ kindBytes ⌝ }
+    requires { ⌜ Kept (now log) (now classes) (now starts) (now maps) (now marks) ends ⌝ }
+    ensures { λ r. ⌜ Whole (now (words .entry)) (importT offset (renamed (srcOf (now (words .entry)) n) (h .0) name) types (h .0)) (now (log .entry)) (now (classes .entry)) (now (starts .entry)) (now (maps .entry)) ends r (now (log .exit)) (now (classes .exit)) (now (starts .exit)) (now (maps .exit)) (now (marks .exit)) ⌝ }
+{
+    let mut s = *starts;
+    let mut m = *maps;
+    let got = import::rename_type(
+        words,
+        tags,
+        kinds,
+        n,
+        log,
+        classes,
+        &mut s,
+        &mut m,
+        marks,
+        ends,
+        offset,
+        h,
+        name,
+    );
+    take_over(starts, maps, &s, &m, got.full);
+    got
+}
+
+// Constant h.
+pub fn import_const(
+    words: &[u32; 16384],
+    tags: &[u8; 16384],
+    kinds: &[u8; 256],
+    n: usize,
+    log: &mut [u32; 16384],
+    classes: &mut [u8; 16384],
+    starts: &mut [[u32; 512]; 8],
+    maps: &mut [[u32; 512]; 6],
+    marks: &mut [u16; 16384],
+    ends: Ends,
+    offset: u32,
+    h: ConstantHandle,
+) -> Ends
+    requires { ⌜ Source (now words) (now tags) n ⌝ }
+    requires { ⌜ (h .0 < countAt 2 (now words)) × (ends .full ≡ false) ⌝ }
+    requires { ⌜ now kinds ≡ kindBytes ⌝ }
+    requires { ⌜ Kept (now log) (now classes) (now starts) (now maps) (now marks) ends ⌝ }
+    ensures { λ r. ⌜ Whole (now (words .entry)) (importT offset (srcOf (now (words .entry)) n) constants (h .0)) (now (log .entry)) (now (classes .entry)) (now (starts .entry)) (now (maps .entry)) ends r (now (log .exit)) (now (classes .exit)) (now (starts .exit)) (now (maps .exit)) (now (marks .exit)) ⌝ }
+{
+    let mut s = *starts;
+    let mut m = *maps;
+    let got = import::import_const(
+        words,
+        tags,
+        kinds,
+        n,
+        log,
+        classes,
+        &mut s,
+        &mut m,
+        marks,
+        ends,
+        offset,
+        h,
+    );
+    take_over(starts, maps, &s, &m, got.full);
+    got
+}
+
+// Override h.
+pub fn import_pipeline_override(
+    words: &[u32; 16384],
+    tags: &[u8; 16384],
+    kinds: &[u8; 256],
+    n: usize,
+    log: &mut [u32; 16384],
+    classes: &mut [u8; 16384],
+    starts: &mut [[u32; 512]; 8],
+    maps: &mut [[u32; 512]; 6],
+    marks: &mut [u16; 16384],
+    ends: Ends,
+    offset: u32,
+    h: OverrideHandle,
+) -> Ends
+    requires { ⌜ Source (now words) (now tags) n ⌝ }
+    requires { ⌜ (h .0 < countAt 3 (now words)) × (ends .full ≡ false) ⌝ }
+    requires { ⌜ now kinds ≡ kindBytes ⌝ }
+    requires { ⌜ Kept (now log) (now classes) (now starts) (now maps) (now marks) ends ⌝ }
+    ensures { λ r. ⌜ Whole (now (words .entry)) (importT offset (srcOf (now (words .entry)) n) overrides (h .0)) (now (log .entry)) (now (classes .entry)) (now (starts .entry)) (now (maps .entry)) ends r (now (log .exit)) (now (classes .exit)) (now (starts .exit)) (now (maps .exit)) (now (marks .exit)) ⌝ }
+{
+    let mut s = *starts;
+    let mut m = *maps;
+    let got = import::import_pipeline_override(
+        words,
+        tags,
+        kinds,
+        n,
+        log,
+        classes,
+        &mut s,
+        &mut m,
+        marks,
+        ends,
+        offset,
+        h,
+    );
+    take_over(starts, maps, &s, &m, got.full);
+    got
+}
+
+// Global h.
+pub fn import_global(
+    words: &[u32; 16384],
+    tags: &[u8; 16384],
+    kinds: &[u8; 256],
+    n: usize,
+    log: &mut [u32; 16384],
+    classes: &mut [u8; 16384],
+    starts: &mut [[u32; 512]; 8],
+    maps: &mut [[u32; 512]; 6],
+    marks: &mut [u16; 16384],
+    ends: Ends,
+    offset: u32,
+    h: GlobalHandle,
+) -> Ends
+    requires { ⌜ Source (now words) (now tags) n ⌝ }
+    requires { ⌜ (h .0 < countAt 4 (now words)) × (ends .full ≡ false) ⌝ }
+    requires { ⌜ now kinds ≡ kindBytes ⌝ }
+    requires { ⌜ Kept (now log) (now classes) (now starts) (now maps) (now marks) ends ⌝ }
+    ensures { λ r. ⌜ Whole (now (words .entry)) (importT offset (srcOf (now (words .entry)) n) globals (h .0)) (now (log .entry)) (now (classes .entry)) (now (starts .entry)) (now (maps .entry)) ends r (now (log .exit)) (now (classes .exit)) (now (starts .exit)) (now (maps .exit)) (now (marks .exit)) ⌝ }
+{
+    let mut s = *starts;
+    let mut m = *maps;
+    let got = import::import_global(
+        words,
+        tags,
+        kinds,
+        n,
+        log,
+        classes,
+        &mut s,
+        &mut m,
+        marks,
+        ends,
+        offset,
+        h,
+    );
+    take_over(starts, maps, &s, &m, got.full);
+    got
+}
+
+// Global expression h.
+pub fn import_global_expression(
+    words: &[u32; 16384],
+    tags: &[u8; 16384],
+    kinds: &[u8; 256],
+    n: usize,
+    log: &mut [u32; 16384],
+    classes: &mut [u8; 16384],
+    starts: &mut [[u32; 512]; 8],
+    maps: &mut [[u32; 512]; 6],
+    marks: &mut [u16; 16384],
+    ends: Ends,
+    offset: u32,
+    h: ExpressionHandle,
+) -> Ends
+    requires { ⌜ Source (now words) (now tags) n ⌝ }
+    requires { ⌜ (h .0 < countAt 5 (now words)) × (ends .full ≡ false) ⌝ }
+    requires { ⌜ now kinds ≡ kindBytes ⌝ }
+    requires { ⌜ Kept (now log) (now classes) (now starts) (now maps) (now marks) ends ⌝ }
+    ensures { λ r. ⌜ Whole (now (words .entry)) (importT offset (srcOf (now (words .entry)) n) exprs (h .0)) (now (log .entry)) (now (classes .entry)) (now (starts .entry)) (now (maps .entry)) ends r (now (log .exit)) (now (classes .exit)) (now (starts .exit)) (now (maps .exit)) (now (marks .exit)) ⌝ }
+{
+    let mut s = *starts;
+    let mut m = *maps;
+    let got = import::import_global_expression(
+        words,
+        tags,
+        kinds,
+        n,
+        log,
+        classes,
+        &mut s,
+        &mut m,
+        marks,
+        ends,
+        offset,
+        h,
+    );
+    take_over(starts, maps, &s, &m, got.full);
+    got
+}
