@@ -51,6 +51,7 @@ pub record Held (image output out : List ℕ) (m : Module) (os : List ℕ) (n : 
   pub shorter : n ≤ length image
   pub intake : intakeOf n (wordsOf (take n out)) ≡ 0
   pub holds : read (wordsOf (take n out)) ≡ laid m′
+  pub is : m′ ≡ linkBy os m
   -- "each function stands once", at its place, "every callee before its callers"
   pub count : length (m′ .functions) ≡ length (m .functions)
   pub once : (i : ℕ) → i < length (m .functions) → times os i ≡ 1
@@ -158,6 +159,7 @@ module _ (image output : List ℕ) (bytes : AllBelow 256 image) (passes : intake
         shorter = omega (arith, four, long, o .shorter);
         intake = ap₂ intakeOf four again ∙ o .intake;
         holds = ap read again ∙ o .reads;
+        is = refl;
         count = o .count;
         once = o .once;
         places = o .places;

@@ -47,10 +47,3 @@ module _ (bytes : ℕ) (ws : List ℕ) (room : ℕ) (m : Module) (os : List ℕ)
   -- INTAKE passes what is linked, given tests 4, 5 and 6 of the functions
   pub linked-intake : Tests (enterAll (m .entries) 0 m (stateAt m os)) (entriesMade (m .entries) 0 m (stateAt m os)) → intakeOf (4 * length (write (linkBy os m))) (write (linkBy os m)) ≡ 0
   linked-intake = link-intake bytes ws room m os passes reads whole roomy order functions entries
-
--- ---- OPEN
--- (a) `Made` and `EntryMade` but for `alone`: the derived function or entry point is well formed, no longer than its source, and in range of the tables as they are then (`well`, `short`, `sound`).
--- (b) `Made .alone` without the premise of `Alone.alone` on CallResults: for a function that is in scope, a CallResult that is imported is the result of a Call of the same function, so it names a callee.
---     (xs ys : List ℕ) (i : ℕ) → os ≡ xs ++ (i ∷ ys) → inScope m ≡ true → final 0 m (follow 0 m) (functionAt m i) (stateAt m xs) .out .functions ≡ stateAt m xs .functions
--- (c) `Tests`: tests 4, 5 and 6 of the derived functions and entry points.
--- (d) linking twice: orderOf (linkBy os m) ≡ ordered ks → linkBy ks (linkBy os m) ≡ linkBy os m
