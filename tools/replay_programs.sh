@@ -9,11 +9,17 @@ trap 'rm -rf "$work"' EXIT
 
 orders=0
 for expected in vectors/*.order; do
-  target/bin/order < "${expected%.order}.img" > "$work/order"
+  target/bin/order < "${expected%.order}.img" > "$work/order" 2> "$work/err"
   cmp "$work/order" "$expected"
+  if grep -q "^refused " "$expected"; then
+    grep -q "^order: $(cat "$expected"): ." "$work/err"
+    [ "$(wc -l < "$work/err")" = 1 ]
+  else
+    cmp "$work/err" /dev/null
+  fi
   orders=$((orders + 1))
 done
-echo "$orders orders agree"
+echo "$orders orders agree, and every refusal is said on standard error too"
 
 checks=0
 while IFS='|' read -r name answer _; do
@@ -74,7 +80,7 @@ head -c 70000 /dev/zero > "$work/long"
 redirect "$work/long" 0 1 && told "redirect_image: refused 1: "
 echo "wrong arguments are told in one line"
 
-for program in check_image redirect_image replay; do
+for program in check_image order redirect_image replay; do
   case $program in
     redirect_image) words=(0 1) ;;
     *) words=() ;;

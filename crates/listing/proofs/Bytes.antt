@@ -58,15 +58,6 @@ puts-both {out} {xs} {mid} {ys} {out′} {at} {j} {r} p q =
 pub puts-long : {out xs out′ : List ℕ} {at r : ℕ} → Puts out at xs out′ r → length out′ ≡ length out
 puts-long {out} {xs} {out′} {at} p = ap length (p .is) ∙ length-sets out at xs
 
-pub puts-front : {out xs out′ : List ℕ} {r : ℕ} → Puts out 0 xs out′ r → length xs ≤ length out → take r out′ ≡ xs
-puts-front {out} {xs} {out′} {r} p h =
-    let e : r ≡ length xs = omega (arith, p .ends) in
-    rw (e, p .is, sets-front xs out h) (front xs (drop (length xs) out))
-  where
-    front : (ys zs : List ℕ) → take (length ys) (ys ++ zs) ≡ ys
-    front [] zs = refl
-    front (y ∷ ys) zs = ap (y ∷_) (front ys zs)
-
 -- ---- a number
 pub one-digit : (x : ℕ) → x < 10 → decimal x ≡ (48 + x) ∷ []
 unfolding decimal
@@ -90,44 +81,46 @@ module _ (out : List ℕ) (at x : ℕ) where
   pub puts-three : {a b c : ℕ} → 100 ≤ x → a ≡ 48 + x / 100 → b ≡ 48 + x / 10 % 10 → c ≡ 48 + x % 10 → Puts out at (decimal x) (set (set (set out at a) (at + 1) b) (at + 2) c) (at + 3)
   puts-three h e f g = let z : at + 2 ≡ suc (suc at) = omega arith in rw (three-digits x h, e, f, g, add-one at, z) (record { is = refl; ends = refl })
 
--- ---- a name
+-- how long a name is
 pub text-long : (words : List ℕ) (p : ℕ) → length words ≡ 16384 → p < 16384 → getD words p 0 ≤ 4 * (16383 - p) → length (textAt words p) ≡ getD words p 0
 unfolding textAt
 text-long words p l h k = length-take-le (getD words p 0) (bytesOf (drop (p + 1) words)) (rw (length-bytesOf (drop (p + 1) words), length-drop (p + 1) words) (omega arith))
 
-pub record Naming (words : List ℕ) (p : ℕ) (out : List ℕ) (at k : ℕ) (now : List ℕ) : Type 0 where
-  pub high : k ≤ getD words p 0
+-- ---- putting bytes one at a time: what is left of the text, put too, is the whole
+pub record Putting (text out : List ℕ) (at k : ℕ) (now : List ℕ) : Type 0 where
+  pub high : k ≤ length text
   pub long : length now ≡ 65536
-  pub is : sets now (at + k) (drop k (textAt words p)) ≡ sets out at (textAt words p)
+  pub is : sets now (at + k) (drop k text) ≡ sets out at text
 
+pub begin : (text : List ℕ) {out : List ℕ} (at : ℕ) → length out ≡ 65536 → Putting text out at 0 out
+begin text {out} at h = let z : at + 0 ≡ at = omega arith in record { high = omega arith; long = h; is = ap (λ j. sets out j text) z }
+
+module _ {text out : List ℕ} {at k : ℕ} {now : List ℕ} (s : Putting text out at k now) where
+  pub again : k < length text → {b : ℕ} → b ≡ getD text k 0 → Putting text out at (k + 1) (set now (at + k) b)
+  again h {b} e =
+      let z : at + (k + 1) ≡ suc (at + k) = omega arith in
+      let d : drop k text ≡ b ∷ drop (suc k) text = drop-cons text k 0 h ∙ ap (_∷ drop (suc k) text) (sym e) in
+      record { high = omega arith; long = length-set now (at + k) b ∙ s .long; is = rw (z, add-one k) (sym (ap (sets now (at + k)) d) ∙ s .is) }
+
+  pub finish : length text ≤ k → {n : ℕ} → n ≡ length text → Puts out at text now (at + n)
+  finish h {n} e =
+      let f : k ≡ length text = omega (arith, s .high) in
+      record { is = sym (ap (sets now (at + k)) (ap (λ j. drop j text) f ∙ drop-length text)) ∙ s .is; ends = ap (at +_) e }
+
+-- ---- a name
 module _ {words : List ℕ} {p : ℕ} {out : List ℕ} {at : ℕ} (q : Room words p out at) where
-  pub begin : Naming words p out at 0 out
-  begin = let z : at + 0 ≡ at = omega arith in record { high = omega arith; long = q .long; is = ap (λ j. sets out j (textAt words p)) z }
+  pub name-long : length (textAt words p) ≡ getD words p 0
+  name-long = text-long words p (q .words-long) (q .here) (q .within)
 
-  module _ {k : ℕ} {now : List ℕ} (s : Naming words p out at k now) where
+  module _ {k : ℕ} {now : List ℕ} (s : Putting (textAt words p) out at k now) where
     pub inside : k < getD words p 0 → p + 1 + k / 4 < 16384
     inside h =
         let d : k / 4 * 4 + k % 4 ≡ k = div-add-mod' k 4 in
         omega (arith, q .within, q .here)
 
-    pub again : k < getD words p 0 → {b : ℕ} → b ≡ getD (bytesOf (drop (p + 1) words)) k 0 → Naming words p out at (k + 1) (set now (at + k) b)
+    pub name-again : k < getD words p 0 → {b : ℕ} → b ≡ getD (bytesOf (drop (p + 1) words)) k 0 → Putting (textAt words p) out at (k + 1) (set now (at + k) b)
     unfolding textAt
-    again h {b} e =
-        let l : length (textAt words p) ≡ getD words p 0 = text-long words p (q .words-long) (q .here) (q .within) in
-        let f : b ≡ getD (textAt words p) k 0 = e ∙ sym (getD-take (getD words p 0) (bytesOf (drop (p + 1) words)) k 0 h) in
-        let z : at + (k + 1) ≡ suc (at + k) = omega arith in
-        let d : drop k (textAt words p) ≡ b ∷ drop (suc k) (textAt words p) = drop-cons (textAt words p) k 0 (omega arith) ∙ ap (_∷ drop (suc k) (textAt words p)) (sym f) in
-        record {
-          high = omega arith;
-          long = length-set now (at + k) b ∙ s .long;
-          is = rw (z, add-one k) (sym (ap (sets now (at + k)) d) ∙ s .is);
-        }
+    name-again h e = again s (omega (arith, name-long)) (e ∙ sym (getD-take (getD words p 0) (bytesOf (drop (p + 1) words)) k 0 h))
 
-    pub finish : getD words p 0 ≤ k → {n : ℕ} → n ≡ getD words p 0 → Puts out at (textAt words p) now (at + n)
-    finish h {n} e =
-        let l : length (textAt words p) ≡ getD words p 0 = text-long words p (q .words-long) (q .here) (q .within) in
-        let f : k ≡ length (textAt words p) = omega (arith, s .high) in
-        record {
-          is = sym (ap (sets now (at + k)) (ap (λ j. drop j (textAt words p)) f ∙ drop-length (textAt words p))) ∙ s .is;
-          ends = ap (at +_) (e ∙ sym l);
-        }
+    pub name-finish : getD words p 0 ≤ k → {n : ℕ} → n ≡ getD words p 0 → Puts out at (textAt words p) now (at + n)
+    name-finish h e = finish s (omega (arith, name-long)) (e ∙ sym name-long)

@@ -1,7 +1,7 @@
 -- Tests 3 and 5 give what lines need: every table function has a name, and it is in the table of names. Assumes nothing.
 use mathlib.Core.Path.{_≡_, refl, subst}
 use mathlib.Core.Bool.{true, not, _&&_}
-use mathlib.Core.List.{List, _++_}
+use mathlib.Core.List.{List, _++_, map}
 use Prim.Native.Nat.{ℕ, suc, _≤_, _<_}
 use native.Mathlib.Omega.{arith}
 use lib.Dec.{eqb}
@@ -15,7 +15,7 @@ use Rattle.model.specs.Taped.{Taped}
 use Rattle.model.specs.Carry.{Lays, lays-next, Each, each-none, each-next, WellFunction, WellFormed}
 use Rattle.model.specs.Initial.{initialised}
 use Rattle.model.specs.Numbers.{Bounds, caps, bound, below, within, ordered, every, outside, inside, sound, soundFunction, numbered}
-use Rattle.model.specs.Names.{field, present, functionNames, named}
+use Rattle.model.specs.Names.{field, present, distinct, differ, functionNames, entryNames, functionsNamed, entriesNamed, named}
 use Rattle.laws.specs.Lists.{and-split}
 use Rattle.laws.specs.Tapes.{taped-same}
 use Rattle.gather.specs.Gathering.{Known}
@@ -38,7 +38,7 @@ sound-name b f w h =
     (subst (λ c. within (inside b f) c ≡ true) (flat-right f) (and-split (within (inside b f) (flat f)) (ordered (flat f) && initialised f) h .0))
 
 -- ---- present
-head-field : {h : Cells} → Lays functionHead h → field NAME h ≡ word (getD h 0 (0, 0))
+pub head-field : {h : Cells} → Lays functionHead h → field NAME h ≡ word (getD h 0 (0, 0))
 unfolding functionHead field
 head-field (lays-next e l) = refl
 
@@ -57,6 +57,17 @@ both b (each-next {a = f} {l = fs} w ws) h k =
 pub names-known : (m : Module) → WellFormed m → numbered m ≡ true → named m ≡ true → NamesKnown m
 unfolding named outside
 names-known m w h k = both (outside m) (w .functions-ok .each) (functions-sound m h) (and-split (present (functionNames (m .functions))) _ k .0)
+
+-- no two table functions have one name
+pub functions-distinct : (m : Module) → named m ≡ true → distinct (functionNames (m .functions)) ≡ true
+unfolding named
+functions-distinct m k =
+    let a = and-split (present (functionNames (m .functions))) _ k .1 in
+    let b = and-split (present (entryNames (m .entries))) _ a .1 in
+    let c = and-split (functionsNamed (m .functions)) _ b .1 in
+    let d = and-split (entriesNamed (m .entries)) _ c .1 in
+    let e = and-split (differ (map (map word) (m .names))) _ d .1 in
+    and-split (distinct (functionNames (m .functions))) _ e .0
 
 pub passed-naming : {words tags : List ℕ} {n : ℕ} → Passed words tags n → Naming words tags n
 passed-naming p m t = names-known m (t .well) (p .numbers m t) (p .names m t)

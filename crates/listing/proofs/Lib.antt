@@ -1,5 +1,6 @@
 pub mod Bytes
 pub mod Names
 pub mod Joining
-pub mod Orders
 pub mod Known
+pub mod Fits
+pub mod Orders

@@ -85,10 +85,10 @@ text-long b = go (eqb (b % 4) 0) refl
         let m : b % 4 < 4 = mod-lt b (zero-lt-suc 3) in
         omega (arith, d, length-append (replicate (b / 4) WORD) ((PAD + b % 4 - 1) ∷ []), length-replicate (b / 4) WORD)
 
-data Text : Cells → Type 0 where
+pub data Text : Cells → Type 0 where
   texts : (b : ℕ) (cs : Cells) → b ≤ 4 * length cs → Text ((TEXT, b) ∷ cs)
 
-text-shape : {r : Cells} → Lays nameRow r → Text r
+pub text-shape : {r : Cells} → Lays nameRow r → Text r
 unfolding nameRow more
 text-shape (lays-next {w = b} {xs} {cs} e l) =
     let n : text b ≡ xs = cc in
@@ -151,16 +151,9 @@ module _ {words tags : List ℕ} {n : ℕ} {m : Module} (t : Taped words tags n 
   name-standing : (j : ℕ) (r : Cells) → getElem? (m .names) j ≡ some r → Standing words n (recordAt 0 j words) r
   name-standing j r e = standing t (taped-part t (omega arith) (sees-name m refl j r e)) (text-shape (each-found (t .well .names-ok .each) j e))
 
-  names-first : offsetAt 0 words ≡ HEADER
-  names-first = taped-offset t 0 (omega arith) ∙ view-first m
-
   name-slot : (j : ℕ) → j < length (m .names) → offsetAt 0 words + j < 16384
   unfolding sections
   name-slot j h = omega (arith, taped-offset t 0 (omega arith), view-length m 0 (omega arith), table-least (m .names), view-within m 0 (omega arith), taped-write t, t .small)
-
-  name-from : (j : ℕ) → HEADER ≤ recordAt 0 j words
-  unfolding recordAt
-  name-from j = omega (arith, names-first)
 
   -- what a line reads
   readable-of : (s : ℕ) → NamesKnown m → s < countAt 6 words → Readable words s
@@ -171,7 +164,6 @@ module _ {words tags : List ℕ} {n : ℕ} {m : Module} (t : Taped words tags n 
       let j : getD words (recordAt 6 s words) 0 - 1 < length (m .names) = omega (arith, g .0, g .1, w) in
       let r = found (m .names) (getD words (recordAt 6 s words) 0 - 1) j in
       let d = name-standing (getD words (recordAt 6 s words) 0 - 1) (r .0) (r .1) in
-      let b = name-from (getD words (recordAt 6 s words) 0 - 1) in
       record {
         words-long = t .words-long;
         slot = omega (arith, offsets t);
@@ -180,7 +172,6 @@ module _ {words tags : List ℕ} {n : ℕ} {m : Module} (t : Taped words tags n 
         place = name-slot (getD words (recordAt 6 s words) 0 - 1) j;
         here = omega (arith, d .inside, t .small);
         within = omega (arith, d .inside, d .within, t .small);
-        short = omega (arith, d .inside, d .within, t .small, b);
       }
 
   -- and the text that it puts

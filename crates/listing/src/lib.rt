@@ -1,15 +1,21 @@
-// What the program `order` prints: the count of functions, and for each its new number, its source
-// number and its name. A line is put together in a buffer, and its contract says which bytes it has.
+// What the program `order` prints, put into a lent buffer: the count of functions, and for each its new number, its source number and its name; or the
+// refusal. The whole text is one definition on bytes (`tellingOf` in specs/Lines.antt), and there is always room for it.
 use calls::Ordered;
-use libc::STDOUT_FILENO;
+use intake::Taken;
 ghost use mathlib.Core.Path.{_≡_};
 ghost use mathlib.Core.List.{[], _∷_};
 ghost use Prim.Native.Nat.{_+_, _/_, _≤_, _<_};
-ghost use lib.ListN.{length, getD, drop};
-ghost use Rattle.model.specs.Module.{countAt};
+ghost use lib.ListN.{length, getD, drop, take};
 ghost use Rattle.model.specs.Taped.{Tape};
 ghost use Rattle.words.specs.Words.{bytesOf};
-ghost use Rattle.listing.specs.Lines.{decimal, textAt, Puts, Room, Naming, Lines, Printable, Passed};
+ghost use Rattle.listing.specs.Lines.{decimal, numbersText, lineText, linesText, headed, orderedText, tellingOf, nameAt, nameIs, textAt, Puts, Room, Readable, Line, Lines, Text, Passed, Says, Tells};
+
+// How many bytes the text has, the number of the refusal or 0, and how many functions a ring leaves.
+pub struct Said {
+    pub count: usize,
+    pub refusal: u32,
+    pub left: u32,
+}
 
 // Byte k of the words from `at` on.
 fn byte(words: &[u32; 16384], at: usize, k: usize) -> u8
@@ -80,97 +86,136 @@ fn put_name(words: &[u32; 16384], p: usize, out: &mut [u8; 65536], at: usize) ->
     at + n
 }
 
-// The line of table function s, at the start of `out`; its length is answered.
-pub fn line(
-    words: &[u32; 16384],
-    tags: &[u8; 16384],
-    n: usize,
-    new: usize,
-    s: usize,
-    out: &mut [u8; 65536],
-) -> usize
-    requires { ⌜ Tape (now words) (now tags) n ⌝ }
-    requires { ⌜ Naming (now words) (now tags) n ⌝ }
-    requires { ⌜ (new < 1000) × (s < countAt 6 (now words)) × (length (now out) ≡ 65536) ⌝ }
-    ensures { λ r. ⌜ Lines (now (words .entry)) (now (tags .entry)) n new s (now (out .exit)) r ⌝ }
+// These bytes.
+fn put_text(text: &[u8], out: &mut [u8; 65536], at: usize) -> usize
+    requires { ⌜ length (now out) ≡ 65536 ⌝ }
+    requires { ⌜ at + length (now text) ≤ 65536 ⌝ }
+    ensures { λ r. ⌜ Puts (now (out .entry)) at (now (text .entry)) (now (out .exit)) r ⌝ }
 {
-    let a = put_number(out, 0, new);
+    let mut i = 0;
+    while i < text.len() {
+        let k = i;
+        i += 1;
+        out[at + k] = text[k];
+    }
+    at + text.len()
+}
+
+// Two numbers, each with a space behind it.
+fn put_numbers(out: &mut [u8; 65536], at: usize, new: usize, s: usize) -> usize
+    requires { ⌜ (length (now out) ≡ 65536) × (at + length (numbersText new s) < 65536) ⌝ }
+    requires { ⌜ (new < 1000) × (s < 1000) ⌝ }
+    ensures { λ r. ⌜ Puts (now (out .entry)) at (numbersText new s) (now (out .exit)) r ⌝ }
+{
+    let a = put_number(out, at, new);
     let b = put(out, a, 32);
     let c = put_number(out, b, s);
-    let d = put(out, c, 32);
+    put(out, c, 32)
+}
+
+// Where the name of table function s stands.
+fn name_of(words: &[u32; 16384], s: usize) -> usize
+    requires { ⌜ Readable (now words) s ⌝ }
+    ensures { λ r. ⌜ r ≡ nameAt (now (words .entry)) s ⌝ }
+{
     let f = views::start_of(words, 6, s);
     let w = words::wide(words[f]);
-    let p = views::start_of(words, 0, w - 1);
-    let e = put_name(words, p, out, d);
-    put(out, e, 10)
+    views::start_of(words, 0, w - 1)
 }
 
-fn print_line(words: &[u32; 16384], tags: &[u8; 16384], n: usize, new: usize, s: usize)
-    requires { ⌜ Tape (now words) (now tags) n ⌝ }
-    requires { ⌜ Naming (now words) (now tags) n ⌝ }
-    requires { ⌜ (new < 1000) × (s < countAt 6 (now words)) ⌝ }
+// The line of table function s.
+fn line(words: &[u32; 16384], new: usize, s: usize, out: &mut [u8; 65536], at: usize) -> usize
+    requires { ⌜ Line (now words) new s (now out) at ⌝ }
+    ensures { λ r. ⌜ Puts (now (out .entry)) at (lineText new s (nameIs (now (words .entry)) s)) (now (out .exit)) r ⌝ }
 {
-    let mut out = io::large_buffer();
-    let k = line(words, tags, n, new, s, &mut out);
-    io::write_all(STDOUT_FILENO, &out[..k]);
+    let a = put_numbers(out, at, new, s);
+    let p = name_of(words, s);
+    let b = put_name(words, p, out, a);
+    put(out, b, 10)
 }
 
-// The lines of an order of `count` functions.
-pub fn print_order(
+// The lines of the first `count` numbers of an order.
+fn lines(
     words: &[u32; 16384],
-    tags: &[u8; 16384],
-    n: usize,
     order: &[u32; 256],
     count: usize,
-)
-    requires { ⌜ Tape (now words) (now tags) n ⌝ }
-    requires { ⌜ Naming (now words) (now tags) n ⌝ }
-    requires { ⌜ Printable (now words) (now order) count ⌝ }
+    out: &mut [u8; 65536],
+    at: usize,
+) -> usize
+    requires { ⌜ Lines (now words) (now order) count (now out) at ⌝ }
+    ensures { λ r. ⌜ Puts (now (out .entry)) at (linesText (take count (now (order .entry))) 0 (nameIs (now (words .entry)))) (now (out .exit)) r ⌝ }
 {
-    io::write_all(STDOUT_FILENO, b"functions ");
-    io::print_decimal(STDOUT_FILENO, count as u64);
-    io::write_all(STDOUT_FILENO, b"\n");
+    let mut next = at;
     let mut i = 0;
     while i < count {
         let k = i;
         i += 1;
-        print_line(words, tags, n, k, words::wide(order[k]));
+        next = line(words, k, words::wide(order[k]), out, next);
     }
+    next
 }
 
-// A refusal by its number.
-pub fn print_refused(code: u32) {
-    io::write_all(STDOUT_FILENO, b"refused ");
-    io::print_decimal(STDOUT_FILENO, code as u64);
-    io::write_all(STDOUT_FILENO, b"\n");
+// A first line: words, a number, and the end of the line.
+fn head(label: &[u8], x: usize, out: &mut [u8; 65536]) -> usize
+    requires { ⌜ length (now out) ≡ 65536 ⌝ }
+    requires { ⌜ (length (now label) ≤ 16) × (x < 1000) ⌝ }
+    ensures { λ r. ⌜ Puts (now (out .entry)) 0 (headed (now (label .entry)) x) (now (out .exit)) r ⌝ }
+{
+    let a = put_text(label, out, 0);
+    let b = put_number(out, a, x);
+    put(out, b, 10)
 }
 
-// Refusal 12, with the count of functions from which a chain reaches a ring.
-pub fn print_ring(left: u32) {
-    io::write_all(STDOUT_FILENO, b"refused 12 left ");
-    io::print_decimal(STDOUT_FILENO, left as u64);
-    io::write_all(STDOUT_FILENO, b"\n");
+// The text of an order of `count` functions.
+fn text(words: &[u32; 16384], order: &[u32; 256], count: usize, out: &mut [u8; 65536]) -> usize
+    requires { ⌜ Text (now words) (now order) count (now out) ⌝ }
+    ensures { λ r. ⌜ Puts (now (out .entry)) 0 (orderedText (take count (now (order .entry))) (nameIs (now (words .entry)))) (now (out .exit)) r ⌝ }
+{
+    let at = head(b"functions ", count, out);
+    lines(words, order, count, out, at)
 }
 
-// The order of a module that intake has passed, or refusal 12.
-pub fn show(words: &[u32; 16384], tags: &[u8; 16384], n: usize)
+// What is told of a module that intake has passed: its order, or refusal 12.
+pub fn tell(words: &[u32; 16384], tags: &[u8; 16384], n: usize, out: &mut [u8; 65536]) -> Said
     requires { ⌜ Tape (now words) (now tags) n ⌝ }
     requires { ⌜ Passed (now words) (now tags) n ⌝ }
+    requires { ⌜ length (now out) ≡ 65536 ⌝ }
+    ensures { λ r. ⌜ Tells (now (words .entry)) (now (tags .entry)) n (now (out .entry)) (now (out .exit)) (r .count) (r .refusal) (r .left) ⌝ }
 {
     let mut order = [0u32; 256];
     let answer = gather::order_of(words, tags, n, &mut order);
     match answer {
         Ordered::All => {
-            print_order(
-                words,
-                tags,
-                n,
-                &order,
-                views::count(words, views::FUNCTIONS),
-            );
+            let functions = views::count(words, views::FUNCTIONS);
+            Said {
+                count: text(words, &order, functions, out),
+                refusal: 0,
+                left: 0,
+            }
         }
-        Ordered::Ring(left) => {
-            print_ring(left);
-        }
+        Ordered::Ring(left) => Said {
+            count: head(b"refused 12 left ", words::wide(left), out),
+            refusal: refusals::RING,
+            left,
+        },
+    }
+}
+
+// What is told of any bytes.
+pub fn tell_of(image: &[u8], out: &mut [u8; 65536]) -> Said
+    requires { ⌜ length (now out) ≡ 65536 ⌝ }
+    ensures { λ r. ⌜ Says (tellingOf (now (image .entry))) (now (out .entry)) (now (out .exit)) (r .count) (r .refusal) (r .left) ⌝ }
+{
+    let mut words = intake::fresh_words();
+    let mut tags = intake::fresh_tags();
+    let taken = intake::take_in(image, &mut words, &mut tags);
+    if let Taken::Accepted(n) = taken {
+        return tell(&words, &tags, n, out);
+    }
+    let refusal = intake::number(taken);
+    Said {
+        count: head(b"refused ", words::wide(refusal), out),
+        refusal,
+        left: 0,
     }
 }

@@ -1,30 +1,47 @@
-// Reads an image on standard input and prints the order of its functions, or why it is refused.
-use intake::Taken;
-use libc::STDIN_FILENO;
+// Reads an image on standard input and prints the order of its functions, or why it is refused, which standard error is told too, with its sentence.
+// What is printed is `tellingOf` of listing's specs. Input longer than an image may be is refused 1 and not cut: the buffer holds one byte more.
 ghost use mathlib.Core.Path.{_≡_};
 ghost use lib.ListN.{length};
 
-// Longer than an image may be, so that one that is too long is seen to be.
-fn buffer() -> [u8; 65540]
-    ensures { λ r. ⌜ 65540 ≡ length r ⌝ }
+fn buffer() -> [u8; 65537]
+    ensures { λ r. ⌜ 65537 ≡ length r ⌝ }
 {
-    [0; 65540]
+    [0; 65537]
+}
+
+// The refusal on standard error; `left` functions are left by a ring alone.
+fn complain(refusal: u32, left: u32) {
+    if refusal == 0 {
+        return;
+    }
+    if left == 0 {
+        streams::refused(b"order", refusal);
+        return;
+    }
+    streams::ring(b"order", left);
 }
 
 // The answer for an image.
 fn answer(image: &[u8]) {
-    let mut words = intake::fresh_words();
-    let mut tags = intake::fresh_tags();
-    let taken = intake::take_in(image, &mut words, &mut tags);
-    if let Taken::Accepted(n) = taken {
-        listing::show(&words, &tags, n);
-    } else {
-        listing::print_refused(intake::number(taken));
+    let mut out = io::large_buffer();
+    let said = listing::tell_of(image, &mut out);
+    streams::write(b"order", &out[..said.count]);
+    complain(said.refusal, said.left);
+}
+
+// The answer for the first n bytes.
+fn check(bytes: &[u8], n: usize) {
+    if n <= bytes.len() {
+        answer(&bytes[..n]);
     }
 }
 
 fn main() {
-    let mut image = buffer();
-    let k = io::read_full(STDIN_FILENO, &mut image);
-    answer(&image[..k]);
+    let mut bytes = buffer();
+    let input = streams::read(&mut bytes);
+    if input.failed {
+        streams::unread(b"order");
+        return;
+    }
+    check(&bytes, input.count);
 }

@@ -27,6 +27,9 @@ enum-known-answer c = search needs
 cast-result : tie.Need-cast-result
 cast-result c = search needs
 
+cast-result-2 : tie.Need-cast-result-2
+cast-result-2 c = search needs
+
 mul-result-2 : tie.Need-mul-result-2
 mul-result-2 c = search needs
 
@@ -53,6 +56,7 @@ list-spec =
     mul-result
     enum-known-answer
     cast-result
+    cast-result-2
     mul-result-2
     add-result
     same-length

@@ -2,12 +2,13 @@
 use native.Mathlib.Omega.{arith}
 use Prim.Native.Nat.{_-_}
 use borrow.Author.Needs.{needs}
-use Rattle.listing.proofs.Bytes.{Naming, begin, inside, again, finish}
+use Rattle.listing.specs.Lines.{textAt}
+use Rattle.listing.proofs.Bytes.{Putting, begin, inside, name-again, name-finish}
 use Rattle.listing.proofs.put_name.Statement.{statement}
 use Rattle.listing.proofs.put_name.Tie as tie
 
 abbrev Inv-loop : tie.InvT-loop
-Inv-loop words p out₀ at n i₀ out i = Naming words p out₀ at i out
+Inv-loop words p out₀ at n i₀ out i = Putting (textAt words p) out₀ at i out
 
 abbrev μ-loop : tie.MeasureT-loop
 μ-loop words p out₀ at n i₀ out i = n - i
@@ -22,7 +23,7 @@ wide-requires : tie.Need-wide-requires Inv-loop μ-loop
 wide-requires c κs = search needs
 
 loop-holds : tie.Need-loop-holds Inv-loop μ-loop
-loop-holds c = begin (c .before .before .pre)
+loop-holds c = begin _ _ (c .before .before .pre .long)
 
 add-i : tie.Need-add-i Inv-loop μ-loop
 add-i c = search needs
@@ -43,13 +44,13 @@ loop-less : tie.Need-loop-less Inv-loop μ-loop
 loop-less c = search needs
 
 loop-again : tie.Need-loop-again Inv-loop μ-loop
-loop-again c = again (c .before .before .before .before .before .pre) (c .before .before .loop .inv) (omega (arith, c .before .before .before .wide .ensures .0)) (c .byte .ensures)
+loop-again c = name-again (c .before .before .before .before .before .pre) (c .before .before .loop .inv) (omega (arith, c .before .before .before .wide .ensures .0)) (c .byte .ensures)
 
 add-result : tie.Need-add-result Inv-loop μ-loop
 add-result c = omega (arith, c .before .before .wide .ensures .0, c .before .before .before .before .pre .fits)
 
 returns : tie.Need-returns Inv-loop μ-loop
-returns c = finish (c .before .before .before .before .pre) (c .before .loop .inv) (omega (arith, c .before .before .wide .ensures .0)) (c .before .before .wide .ensures .0)
+returns c = name-finish (c .before .before .before .before .pre) (c .before .loop .inv) (omega (arith, c .before .before .wide .ensures .0)) (c .before .before .wide .ensures .0)
 
 pub put-name-spec : {M : Type 1} → statement M
 put-name-spec =

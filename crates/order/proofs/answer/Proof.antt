@@ -1,46 +1,43 @@
--- `order::answer` meets its contract: what intake accepts has passed tests 3 and 5. Assumes nothing.
+-- `order::answer` meets its contract: the text is within the buffer. Assumes nothing.
+use mathlib.Core.Path.{sym}
+use lib.Seq.{length-take-le}
 use borrow.Author.Needs.{needs}
-use Rattle.listing.proofs.Known.{passed-one}
 use Rattle.order.proofs.answer.Statement.{statement}
 use Rattle.order.proofs.answer.Tie as tie
 
-fresh-words-requires : tie.Need-fresh-words-requires
-fresh-words-requires c κs = search needs
+large-buffer-requires : tie.Need-large-buffer-requires
+large-buffer-requires c κs = search needs
 
-fresh-tags-requires : tie.Need-fresh-tags-requires
-fresh-tags-requires c κs = search needs
+tell-of-requires : tie.Need-tell-of-requires
+tell-of-requires c κs = search needs
 
-take-in-requires : tie.Need-take-in-requires
-take-in-requires c κs = search needs
+slice-aggregate-write : tie.Need-slice-aggregate-write
+slice-aggregate-write c = search needs
 
-enum-known-taken : tie.Need-enum-known-taken
-enum-known-taken c = search needs
+array-share-prefix-out : tie.Need-array-share-prefix-out
+array-share-prefix-out c = search needs
 
-show-requires : tie.Need-show-requires
-show-requires c κs = let a = c .before .before .before .before .before .take-in .ensures .held _ (c .before .before .before .taken .given .1) in (record { holds = a .holds; taped = a .taped }, passed-one (a .taped) (a .passes .numbers) (a .passes .names))
+slice-aggregate-write-2 : tie.Need-slice-aggregate-write-2
+slice-aggregate-write-2 c = sym (length-take-le _ _ (search needs))
 
-number-requires : tie.Need-number-requires
-number-requires c κs = search needs
+write-requires : tie.Need-write-requires
+write-requires c κs = search needs
 
-print-refused-requires : tie.Need-print-refused-requires
-print-refused-requires c κs = search needs
+complain-requires : tie.Need-complain-requires
+complain-requires c κs = search needs
 
 returns : tie.Need-returns
 returns c = search needs
-
-returns-2 : tie.Need-returns-2
-returns-2 c = search needs
 
 pub answer-spec : {M : Type 1} → statement M
 answer-spec =
     tie.close
     (tie.spec
-    fresh-words-requires
-    fresh-tags-requires
-    take-in-requires
-    enum-known-taken
-    show-requires
-    number-requires
-    print-refused-requires
-    returns
-    returns-2)
+    large-buffer-requires
+    tell-of-requires
+    slice-aggregate-write
+    array-share-prefix-out
+    slice-aggregate-write-2
+    write-requires
+    complain-requires
+    returns)
