@@ -6,6 +6,7 @@ pub mod Begun
 pub mod Turn
 pub mod Rounds
 pub mod Whole
+pub mod Leaving
 pub mod Ranks
 pub mod Ring
 pub mod Stages

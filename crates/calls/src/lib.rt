@@ -8,8 +8,8 @@ ghost use mathlib.Core.Bool.{true, false};
 ghost use Prim.Native.Nat.{_≤_, _<_};
 ghost use lib.ListN.{length};
 ghost use Rattle.model.specs.Calls.{any};
-ghost use Rattle.calls.specs.Marks.{bit, onesOf, meets, holds, marked, members, PutBit, PutMark, SetCall, NoCalls, Firsts};
-ghost use Rattle.calls.specs.Placing.{Placeable, Placed, Orders};
+ghost use Rattle.calls.specs.Marks.{bit, onesOf, meets, holds, marked, members, PutBit, PutMark, SetCall, NoCalls, Firsts, Below};
+ghost use Rattle.calls.specs.Placing.{Placeable, Placed, Leaves, Orders};
 
 // All functions have their place; or so many are left waiting for a ring.
 pub enum Ordered {
@@ -40,7 +40,7 @@ fn clear_bit(x: u64, k: usize) -> u64
 }
 
 // Whether mark k stands in a set.
-fn has(set: &[u64; 4], k: usize) -> bool
+pub fn has(set: &[u64; 4], k: usize) -> bool
     requires { ⌜ k < 256 ⌝ }
     ensures { λ r. ⌜ r ≡ holds (now (set .entry)) k ⌝ }
 {
@@ -57,7 +57,7 @@ fn join(set: &mut [u64; 4], k: usize)
 }
 
 // Mark k leaves a set.
-fn leave(set: &mut [u64; 4], k: usize)
+pub fn leave(set: &mut [u64; 4], k: usize)
     requires { ⌜ (length (now set) ≡ 4) × (k < 256) × (holds (now set) k ≡ true) ⌝ }
     ensures { λ _. ⌜ PutMark false (now (set .entry)) k (now (set .exit)) ⌝ }
 {
@@ -66,7 +66,7 @@ fn leave(set: &mut [u64; 4], k: usize)
 }
 
 // The set of the first n marks.
-fn first(n: usize) -> [u64; 4]
+pub fn first(n: usize) -> [u64; 4]
     requires { ⌜ n ≤ 256 ⌝ }
     ensures { λ r. ⌜ Firsts n r ⌝ }
 {
@@ -117,7 +117,7 @@ pub fn mark(callees: &mut [u64; 1024], i: usize, j: usize)
 }
 
 // Whether a function calls one that waits.
-fn waits(callees: &[u64; 1024], f: FunctionHandle, waiting: &[u64; 4]) -> bool
+pub fn waits(callees: &[u64; 1024], f: FunctionHandle, waiting: &[u64; 4]) -> bool
     requires { ⌜ f .0 < 256 ⌝ }
     ensures { λ r. ⌜ r ≡ any (members (now (waiting .entry))) (marked (now (callees .entry)) (f .0)) ⌝ }
 {
@@ -153,6 +153,24 @@ fn place(callees: &[u64; 1024], n: usize, began: [u64; 4], out: &mut [u32; 256],
         }
     }
     Round { waiting, at: k }
+}
+
+// Those of a set that no round places: from each of them calls lead, through the set, to a ring.
+pub fn left(callees: &[u64; 1024], n: usize, began: [u64; 4]) -> [u64; 4]
+    requires { ⌜ (n ≤ 256) × (length began ≡ 4) × Below n began ⌝ }
+    ensures { λ r. ⌜ Leaves (marked (now (callees .entry))) n (members began) r ⌝ }
+{
+    let mut out = [0u32; 256];
+    let mut waiting = began;
+    loop {
+        let round = place(callees, n, waiting, &mut out, 0);
+        let placed = round.at;
+        if placed == 0 {
+            return waiting;
+        }
+        let next = round.waiting;
+        waiting = next;
+    }
 }
 
 // The order of the n functions, as their source numbers, goes to the first n of `out`.

@@ -1,0 +1,4 @@
+pub mod Compares
+pub mod Lasts
+pub mod Bears
+pub mod Finds

@@ -1,0 +1,141 @@
+// The derived function that bears the name of a function of the source. Numbers of names differ between source and derived image, so the text is sought
+// among the derived names; then the functions are gone through from the last on, since a later function of a name takes the place of an earlier one.
+use state::Ends;
+use views::FUNCTIONS;
+use views::NAMES;
+use views::record_at;
+use views::record_end;
+use words::wide;
+ghost use mathlib.Core.Path.{_≡_};
+ghost use mathlib.Core.Bool.{true};
+ghost use mathlib.Core.List.{map};
+ghost use Prim.Native.Nat.{suc, _+_, _≤_, _<_};
+ghost use lib.ListN.{length, getD, take};
+ghost use Rattle.model.specs.Module.{countAt};
+ghost use Rattle.model.specs.Names.{named};
+ghost use Rattle.model.specs.Between.{between};
+ghost use Rattle.model.specs.References.{alikeC, alike as alikeOf, seat};
+ghost use Rattle.model.specs.Bodies.{lastOf};
+ghost use Rattle.state.specs.Flats.{functionOf};
+ghost use Rattle.state.specs.Source.{modOf, Source};
+ghost use Rattle.state.specs.Refers.{kindBytes};
+ghost use Rattle.state.specs.Held.{recAt, recsAt, Readable};
+ghost use Rattle.known.specs.Bearing.{Names, Heads, Bearing, Knows};
+
+// Whether a word of the log is a word of the source, unless both are a span's.
+fn alike_cell(a: u8, x: u32, b: u8, y: u32) -> bool
+    ensures { λ r. ⌜ r ≡ alikeC (a, x) (b, y) ⌝ }
+{
+    if a != b {
+        return false;
+    }
+    if x == y {
+        return true;
+    }
+    if a == 81 {
+        return true;
+    }
+    a == 82
+}
+
+// Whether the record at s is the source's words from `at` to `end`.
+fn alike(
+    words: &[u32; 16384],
+    tags: &[u8; 16384],
+    log: &[u32; 16384],
+    classes: &[u8; 16384],
+    at: usize,
+    end: usize,
+    s: usize,
+) -> bool
+    requires { ⌜ Readable (now words) (now tags) kindBytes at end ⌝ }
+    requires { ⌜ (s + suc (getD (now log) s 0) ≤ 16384) × (length (now log) ≡ 16384) × (length (now classes) ≡ 16384) ⌝ }
+    ensures { λ r. ⌜ r ≡ alikeOf (recAt (now (log .entry)) (now (classes .entry)) s) (between (now (tags .entry)) (now (words .entry)) at end) ⌝ }
+{
+    if wide(log[s]) != end - at {
+        return false;
+    }
+    let mut i = at;
+    let mut p = s + 1;
+    while i < end {
+        let j = i;
+        let q = p;
+        i += 1;
+        p += 1;
+        if !alike_cell(classes[q], log[q], tags[j], words[j]) {
+            return false;
+        }
+    }
+    true
+}
+
+// The first of n names that is the source's words from `at` to `end`; or n.
+fn seek(
+    words: &[u32; 16384],
+    tags: &[u8; 16384],
+    log: &[u32; 16384],
+    classes: &[u8; 16384],
+    starts: &[u32; 512],
+    n: usize,
+    at: usize,
+    end: usize,
+) -> usize
+    requires { ⌜ Readable (now words) (now tags) kindBytes at end ⌝ }
+    requires { ⌜ Names (now log) (now classes) (now starts) n ⌝ }
+    ensures { λ r. ⌜ (r ≡ seat (recsAt (now (log .entry)) (now (classes .entry)) (take n (now (starts .entry)))) (between (now (tags .entry)) (now (words .entry)) at end)) × (r ≤ 512) ⌝ }
+{
+    let mut k = 0;
+    while k < n {
+        let j = k;
+        k += 1;
+        let s = wide(starts[j]);
+        if alike(words, tags, log, classes, at, end, s) {
+            return j;
+        }
+    }
+    n
+}
+
+// The last of n functions whose first word is w: its number plus 1, or 0.
+fn last(log: &[u32; 16384], classes: &[u8; 16384], starts: &[u32; 512], n: usize, w: u32) -> u32
+    requires { ⌜ Heads (now log) (now classes) (now starts) n ⌝ }
+    ensures { λ r. ⌜ (r ≡ lastOf (map functionOf (recsAt (now (log .entry)) (now (classes .entry)) (take n (now (starts .entry))))) 0 0 w) × (r ≤ n) ⌝ }
+{
+    let mut k = n;
+    while 0 < k {
+        let m = k;
+        k -= 1;
+        let s = wide(starts[k]);
+        if log[s + 1] == w {
+            return m as u32;
+        }
+    }
+    0
+}
+
+// The last derived function that bears the name of the source's function f: its number plus 1, or 0.
+pub fn known(
+    words: &[u32; 16384],
+    tags: &[u8; 16384],
+    n: usize,
+    log: &[u32; 16384],
+    classes: &[u8; 16384],
+    starts: &[[u32; 512]; 8],
+    ends: Ends,
+    f: usize,
+) -> u32
+    requires { ⌜ Source (now words) (now tags) n ⌝ }
+    requires { ⌜ named (modOf (now words) n) ≡ true ⌝ }
+    requires { ⌜ f < countAt 6 (now words) ⌝ }
+    requires { ⌜ Bearing (now log) (now classes) (now starts) ends ⌝ }
+    ensures { λ r. ⌜ Knows (now (words .entry)) n (now (log .entry)) (now (classes .entry)) (now (starts .entry)) ends f r ⌝ }
+{
+    let s = record_at(words, tags, n, FUNCTIONS, f);
+    let k = wide(words[s]) - 1;
+    let at = record_at(words, tags, n, NAMES, k);
+    let end = record_end(words, tags, n, NAMES, k);
+    let names = ends.counts[NAMES];
+    let functions = ends.counts[FUNCTIONS];
+    let d = seek(words, tags, log, classes, &starts[NAMES], names, at, end);
+    last(log, classes, &starts[FUNCTIONS], functions, (d + 1) as u32)
+}

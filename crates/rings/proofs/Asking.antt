@@ -1,0 +1,172 @@
+-- Whether words call one of a set, and whether the functions of entry points do. Assumes nothing.
+use mathlib.Core.Path.{_≡_, refl, sym, ap, ap₂, _∙_}
+use mathlib.Core.Bool.{Bool, true, false, cond}
+use mathlib.Core.List.{List, [], _∷_, _++_}
+use Prim.Native.Nat.{ℕ, zero, suc, _+_, _≤_, _<_}
+use native.Mathlib.Numerals.{add-one}
+use native.Mathlib.Omega.{arith}
+use lib.Dec.{eqb}
+use lib.ListN.{length, getD, drop}
+use lib.Seq.{drop-cons}
+use borrow.Author.Tests.{eqb-true, eq-eqb}
+use Rattle.model.specs.Table.{CALLEE}
+use Rattle.model.specs.Tree.{Entry}
+use Rattle.model.specs.Module.{Module, countAt}
+use Rattle.model.specs.View.{recordAt, recordEnd}
+use Rattle.model.specs.FunctionView.{ENTRY-HEAD}
+use Rattle.model.specs.Carry.{Each, each-none, each-next}
+use Rattle.model.specs.Calls.{In, any}
+use Rattle.model.specs.Callees.{callees}
+use Rattle.model.specs.Session.{calleesOf}
+use Rattle.laws.specs.FunctionViews.{each-at, looked-at, part-words, part-tags, taped-length, taped-entries, taped-entry}
+use Rattle.calls.specs.Marks.{holds, members}
+use Rattle.calls.proofs.Lists.{any-in, in-any}
+use Rattle.calls.proofs.Marks.{one-test, in-members, members-in}
+use Rattle.gather.specs.Gathering.{picks, picked}
+use Rattle.gather.proofs.Cells.{cells-function}
+use Rattle.gather.proofs.Marking.{picked-one, picked-none, picked-end, head-known, tail-known}
+use Rattle.gather.proofs.Numbered.{entries-known}
+use Rattle.state.specs.Flats.{noEntry}
+use Rattle.state.specs.Source.{modOf, Source}
+use Rattle.rings.specs.Rings.{Scannable}
+
+-- ---- one number
+-- k is one of the set
+abbrev pub isOf : List ℕ → ℕ → Bool
+isOf set k = any (members set) (eqb k)
+
+pub holds-is : (set : List ℕ) (k : ℕ) → k < 256 → holds set k ≡ isOf set k
+holds-is set k h =
+    one-test (holds set k) (isOf set k)
+    (λ e. in-any (eqb k) (in-members set k h e) (eq-eqb k k refl))
+    (λ e. let q = any-in (eqb k) (members set) e in rw (eqb-true k (q .0) (q .2)) (members-in set (q .0) (q .1) .1))
+
+-- ---- words
+pub record Asking (words tags : List ℕ) (at end : ℕ) (set : List ℕ) (j : ℕ) : Type 0 where
+  pub high : j ≤ end
+  pub known : Each (λ x. x < 256) (picked words tags j end)
+  pub rest : any (picked words tags j end) (isOf set) ≡ any (picked words tags at end) (isOf set)
+
+module _ {words tags : List ℕ} {at end : ℕ} (set : List ℕ) (p : Scannable words tags at end) where
+  pub begin : Asking words tags at end set at
+  begin = record { high = p .rising; known = p .known; rest = refl }
+
+  module _ {j : ℕ} (s : Asking words tags at end set j) where
+    pub finish : end ≤ j → false ≡ any (picked words tags at end) (isOf set)
+    unfolding any
+    finish h =
+        let q : j ≡ end = omega (arith, s .high) in
+        let e : picked words tags j end ≡ [] = rw q (picked-end words tags end) in
+        rw e at (s .rest)
+
+    module _ (h : j < end) where
+      a : end ≤ length words
+      a = omega (arith, p .within, p .words-long)
+
+      b : end ≤ length tags
+      b = omega (arith, p .within, p .tags-long)
+
+      pub pass : (getD tags j 0 ≡ CALLEE → ⊥) → Asking words tags at end set (j + 1)
+      pass e = let q = picked-none words tags j end h a b e in record { high = omega arith; known = rw q at (s .known); rest = rw q at (s .rest) }
+
+      module _ (e : getD tags j 0 ≡ CALLEE) (w : ℕ) (we : w ≡ getD words j 0) where
+        pub may : w < 256
+        may = rw we (head-known (rw (picked-one words tags j end h a b e) at (s .known)))
+
+        cut : cond (isOf set w) true (any (picked words tags (j + 1) end) (isOf set)) ≡ any (picked words tags at end) (isOf set)
+        unfolding any
+        cut = rw we (sym (ap (λ l. any l (isOf set)) (picked-one words tags j end h a b e)) ∙ s .rest)
+
+        module _ (r : Bool) (re : r ≡ holds set w) where
+          pub hit : r ≡ true → true ≡ any (picked words tags at end) (isOf set)
+          hit t = rw (sym (holds-is set w may) ∙ sym re ∙ t) at cut
+
+          pub miss : r ≡ false → Asking words tags at end set (j + 1)
+          miss f =
+              record {
+                high = omega arith;
+                known = tail-known (rw (picked-one words tags j end h a b e) at (s .known));
+                rest = rw (sym (holds-is set w may) ∙ sym re ∙ f) at cut;
+              }
+
+-- ---- entry points
+any-append : (p : ℕ → Bool) (xs ys : List ℕ) → any (xs ++ ys) p ≡ cond (any xs p) true (any ys p)
+unfolding any
+any-append p [] ys = refl
+any-append p (x ∷ xs) ys = go (p x) (any-append p xs ys)
+  where
+    go : (b : Bool) → any (xs ++ ys) p ≡ cond (any xs p) true (any ys p) → cond b true (any (xs ++ ys) p) ≡ cond (cond b true (any xs p)) true (any ys p)
+    go true e = refl
+    go false e = e
+
+pub record Looking (es : List Entry) (set : List ℕ) (j : ℕ) : Type 0 where
+  pub high : j ≤ length es
+  pub rest : any (calleesOf (drop j es)) (isOf set) ≡ any (calleesOf es) (isOf set)
+
+pub look : (es : List Entry) (set : List ℕ) → Looking es set 0
+look es set = record { high = omega arith; rest = refl }
+
+wider : {a b : ℕ} → a ≤ b → {l : List ℕ} → Each (λ j. j < a) l → Each (λ j. j < b) l
+wider h each-none = each-none
+wider h (each-next {a = x} p ps) = each-next {a = x} (omega arith) (wider h ps)
+
+module _ (words tags : List ℕ) (n : ℕ) (src : Source words tags n) (set : List ℕ) where
+  abbrev es : List Entry
+  es = modOf words n .entries
+
+  many : countAt 7 words ≡ length es
+  many = taped-entries (src .taped)
+
+  pub none-left : (c j : ℕ) → c ≡ countAt 7 words → Looking es set j → c ≤ j → false ≡ any (calleesOf es) (isOf set)
+  unfolding calleesOf any
+  none-left c j hc l h = let e : drop j es ≡ [] = past es j (omega (arith, many)) in rw e at (l .rest)
+    where
+      past : (xs : List Entry) (i : ℕ) → length xs ≤ i → drop i xs ≡ []
+      past [] zero h = refl
+      past [] (suc i) h = refl
+      past (x ∷ xs) zero h = absurd (omega arith)
+      past (x ∷ xs) (suc i) h = past xs i (omega arith)
+
+  module _ (c j : ℕ) (hc : c ≡ countAt 7 words) (l : Looking es set j) (h : j < c) where
+    pub entry-in : j < countAt 7 words
+    entry-in = omega arith
+
+    abbrev here : Entry
+    here = getD es j noEntry
+
+    inside : j < length es
+    inside = omega (arith, many)
+
+    module _ (from to : ℕ) (hf : from ≡ recordAt 7 j words + ENTRY-HEAD) (ht : to ≡ recordEnd 7 j words) where
+      called : picked words tags from to ≡ callees (here .function)
+      unfolding picked
+      called =
+          let s = taped-entry (src .taped) j here (looked-at es j noEntry inside) in
+          rw (hf, ht) (ap₂ picks (part-tags (s .held) (s .part)) (part-words (s .held) (s .part)) ∙ cells-function (s .well))
+
+      pub scannable : Scannable words tags from to
+      scannable =
+          let s = taped-entry (src .taped) j here (looked-at es j noEntry inside) .part in
+          let k = each-at (entries-known (modOf words n) (src .taped .well) (src .three)) j noEntry inside in
+          record {
+            words-long = src .taped .words-long;
+            tags-long = src .taped .tags-long;
+            rising = rw (hf, ht) (s .rising);
+            within = omega (arith, s .within, taped-length (src .taped), src .taped .small, ht);
+            known = rw called (wider (src .taped .well .functions-ok .few) k);
+          }
+
+      module _ (r : Bool) (re : r ≡ any (picked words tags from to) (isOf set)) where
+        split : cond r true (any (calleesOf (drop (j + 1) es)) (isOf set)) ≡ any (calleesOf es) (isOf set)
+        unfolding calleesOf
+        split =
+            ap (λ b. cond b true (any (calleesOf (drop (j + 1) es)) (isOf set))) (re ∙ ap (λ l. any l (isOf set)) called)
+            ∙ sym (any-append (isOf set) (callees (here .function)) (calleesOf (drop (j + 1) es)))
+            ∙ ap (λ l. any (calleesOf l) (isOf set)) (sym (drop-cons es j noEntry inside ∙ ap (λ i. here ∷ drop i es) (sym (add-one j))))
+            ∙ l .rest
+
+        pub entry-hit : r ≡ true → true ≡ any (calleesOf es) (isOf set)
+        entry-hit e = rw e at split
+
+        pub entry-miss : r ≡ false → Looking es set (j + 1)
+        entry-miss e = record { high = omega (arith, inside); rest = rw e at split }

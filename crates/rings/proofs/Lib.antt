@@ -1,0 +1,4 @@
+pub mod Sieving
+pub mod Meeting
+pub mod Asking
+pub mod Wholes

@@ -1,0 +1,26 @@
+-- `rings::follow_rings` meets its contract. Assumes nothing.
+use native.Mathlib.Omega.{arith}
+use Rattle.import.proofs.Sources.{tape}
+use Rattle.rings.proofs.Wholes.{callees-known, few, rings-one}
+use borrow.Author.Needs.{needs}
+use Rattle.rings.proofs.follow_rings.Statement.{statement}
+use Rattle.rings.proofs.follow_rings.Tie as tie
+
+clear-requires : tie.Need-clear-requires
+clear-requires c κs = search needs
+
+gather-requires : tie.Need-gather-requires
+gather-requires c κs = (tape (c .before .before .args .words .now) (c .before .before .args .tags .now) (c .before .before .args .n) (c .before .before .pre .0), (callees-known (c .before .before .pre .0), c .before .clear .ensures))
+
+stuck-requires : tie.Need-stuck-requires
+stuck-requires c κs = let p = c .before .before .before .before .pre in (p .0, (p .1 .0, (p .1 .1 .0, c .before .gather .ensures)))
+
+has-requires : tie.Need-has-requires
+has-requires c κs = omega (arith, few (c .before .before .before .before .before .before .pre .0), c .before .before .before .before .before .before .pre .1 .1 .1)
+
+returns : tie.Need-returns
+returns c = rings-one (c .before .before .before .before .before .before .before .args .words .now) (c .before .before .before .before .before .before .before .args .n) (c .before .before .before .before .before .before .before .args .log .now) (c .before .before .before .before .before .before .before .args .classes .now) (c .before .before .before .before .before .before .before .args .starts .now) (c .before .before .before .before .before .before .before .args .ends) (c .before .before .before .before .before .before .before .args .tags .now) (c .before .before .before .before .before .before .before .pre .0) _ (c .before .before .before .before .gather .ensures) _ (c .before .before .stuck .ensures) (c .before .before .before .before .before .before .before .args .f) (c .before .before .before .before .before .before .before .pre .1 .1 .1) _ (c .has .ensures)
+
+pub follow-rings-spec : {M : Type 1} → statement M
+follow-rings-spec =
+    tie.close (tie.spec clear-requires gather-requires stuck-requires has-requires returns)
