@@ -23,8 +23,8 @@ use Rattle.model.specs.Tables.{Tab, names, types, constants, overrides, globals
 use Rattle.model.specs.References.{Place, table, own, function, Target, copied, start, upto, ref, opt, targets, target, Node, node, refOf, refs}
 use Rattle.model.specs.Operands.{optional, opsOf, resultOf, kind, functionOf, standingKind, resultKind, emittedKind, constantKind, ops, kindAt, standing}
 use Rattle.model.specs.Callees.{calleesS, calleesF, calleesB, calleesK, calleesC, callees}
-use Rattle.model.specs.Reached.{initialised-is}
-use Rattle.model.specs.Members.{no-mem, mem-left, mem-right, mem-cases}
+use Rattle.laws.specs.Reached.{initialised-is}
+use Rattle.laws.specs.Members.{no-mem, mem-left, mem-right, mem-cases}
 use Rattle.model.specs.Initial.{Mem, here, there, Reached, step as reach-step, roots, marked, initials, initial, initialised}
 use Rattle.model.specs.Scope.{XStmt, XForm, XBlock, XCase, XCases, emitted, isOf, upFrom, inRange, live, expandS, expandF, expand, expandK, expandC, callResult, effectResult, kindsS, kindsF, kindsB, kindsK, kindsC, evalsOpt, evalsS, evalsF, evalsB, evalsK, evalsC, has, distinct, shapeB, inBody, okB, allOf, seen, scopedAs, scoped}
 use Rattle.model.specs.Imports.{St}

@@ -17,7 +17,7 @@ use Rattle.model.specs.Module.{Module}
 use Rattle.model.specs.Carry.{each-next, WellFormed}
 use Rattle.model.specs.Intake.{Passes}
 use Rattle.model.specs.Initial.{Mem, here, there}
-use Rattle.model.specs.Members.{no-mem, mem-left}
+use Rattle.laws.specs.Members.{no-mem, mem-left}
 use Rattle.model.specs.Names.{field, absent, distinct, same, differ, functionNames, named, present, entryNames, functionsNamed, entriesNamed}
 use Rattle.model.specs.Calls.{here as here-in, ordered}
 use Rattle.model.specs.Callees.{orderOf}

@@ -13,7 +13,7 @@ use Rattle.model.specs.Table.{SPAN, NAME}
 use Rattle.model.specs.Tree.{flatAll}
 use Rattle.model.specs.Carry.{carryCell, carryCells}
 use Rattle.model.specs.Initial.{Mem, here, there}
-use Rattle.model.specs.Members.{no-mem, mem-left, mem-right, mem-cases}
+use Rattle.laws.specs.Members.{no-mem, mem-left, mem-right, mem-cases}
 use Rattle.model.specs.Tables.{Tab, names, isT, codeT, Tables, count}
 use Rattle.model.specs.References.{Place, table, own, function, Target, copied, start, upto, ref, opt, targets, target, Node, refOf, refs, carryW, through, undefinedAt, firstWord, moved, shift, alike, merged}
 use Rattle.model.specs.Finish.{namesIn}

@@ -16,7 +16,7 @@ use Rattle.model.specs.Carry.{Each, each-none, each-next, WellFunction, WellEnt
 use Rattle.model.specs.Numbers.{every, outside, soundFunction, soundEntry, numbered}
 use Rattle.model.specs.Lower.{lower}
 use Rattle.model.specs.Initial.{Mem, here, there}
-use Rattle.model.specs.Members.{mem-left}
+use Rattle.laws.specs.Members.{mem-left}
 use Rattle.model.specs.Calls.{In, here as first, later, keep, times, ordered}
 use Rattle.model.specs.Callees.{calls, orderOf}
 use Rattle.model.specs.Redirect.{nothing, function as functionAt}

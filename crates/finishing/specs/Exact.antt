@@ -15,7 +15,7 @@ use Rattle.model.specs.Table.{PLACE}
 use Rattle.model.specs.Module.{Module, Section, HEADER, places, flatTable, sections, pairsFrom, bodies, flatModule}
 use Rattle.model.specs.Carry.{carryCells, carry, carrySpecial}
 use Rattle.model.specs.Initial.{Mem, here, there}
-use Rattle.model.specs.Members.{no-mem}
+use Rattle.laws.specs.Members.{no-mem}
 use Rattle.model.specs.Calls.{numbers}
 use Rattle.model.specs.Tables.{Tab, names, types, constants, overrides, globals, exprs, isT, codeT, at, Tables}
 use Rattle.model.specs.Imports.{St}

@@ -14,7 +14,7 @@ use Rattle.model.specs.Tree.{Function, Entry, flat, flatEntry}
 use Rattle.model.specs.Module.{Module, flatTable, sections, pairsFrom, bodies, flatModule, HEADER}
 use Rattle.model.specs.Carry.{carryCell, carryCells, carryFunction, carryEntry, carrySpecial, carry, Lays, Each, each-none, each-next, WellFunction, WellEntry}
 use Rattle.model.specs.Initial.{Mem, here, there}
-use Rattle.model.specs.Members.{no-mem}
+use Rattle.laws.specs.Members.{no-mem}
 use Rattle.model.specs.Calls.{numbers}
 use Rattle.model.specs.Numbers.{Bounds, bound, caps, below, within, every, outside, inside, sound, soundFunction, soundEntry, constantOnly, numbered}
 use Rattle.model.specs.Lower.{lower}

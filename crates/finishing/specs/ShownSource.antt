@@ -14,7 +14,7 @@ use Rattle.model.specs.Module.{Module, Special}
 use Rattle.model.specs.Table.{NAME, nameRow}
 use Rattle.model.specs.Carry.{Lays, Each, each-none, each-next, WellFormed, WellFunction, WellEntry}
 use Rattle.model.specs.Initial.{Mem}
-use Rattle.model.specs.Members.{no-mem}
+use Rattle.laws.specs.Members.{no-mem}
 use Rattle.model.specs.Numbers.{numbered, within, every, outside, inside, sound, soundEntry}
 use Rattle.model.specs.Redirect.{nothing, function as functionAt}
 use Rattle.model.specs.Tables.{Tab, names, types, constants, overrides, globals, exprs, isT, codeT, at, six, Tables, tables, recAt, count}

@@ -18,11 +18,11 @@ use Rattle.model.specs.Carry.{Lays, Each, each-none, each-next}
 use Rattle.model.specs.FunctionView.{localsAt, expressionsAt}
 use Rattle.model.specs.Operands.{constantKind, optional, opsOf, ops, kindAt}
 use Rattle.model.specs.Initial.{Mem, here, root, step, Reached, initsOf, roots, initialised}
-use Rattle.model.specs.Reached.{initialised-is, initialised-all}
+use Rattle.laws.specs.Reached.{initialised-is, initialised-all}
 use Rattle.laws.specs.Plain.{plain?, plain-classes}
 use Rattle.laws.specs.Sections.{startOf}
 use Rattle.laws.specs.FunctionViews.{Held, Part, part-end, part-left, part-right, part-word, part-tag, field?, field-not, Expression, expression-first, expression-class, expression-field, list-all, locals-count, exprs-count, exprs-all, exprs-shapes, expr-part, expr-kind, named-class, stands-end, parts}
-use Rattle.model.specs.Members.{no-mem, mem-left, mem-right, mem-cases}
+use Rattle.laws.specs.Members.{no-mem, mem-left, mem-right, mem-cases}
 use Rattle.model.specs.Between.{between, Long}
 use Rattle.laws.specs.Betweens.{held-between}
 use Rattle.initial.specs.Lists.{Lists, Listed, Initialised}

@@ -12,7 +12,7 @@ use lib.Seq.{slice, sets, slice-cons, slice-empty, take-suc-set, getD-set-same, 
 use borrow.Author.Tests.{lt-ltb, eq-eqb, ne-eqb, le-leb, lt-leb, eqb-true, eqb-false}
 use Rattle.model.specs.Operands.{constantKind, optional, operand, opsOf}
 use Rattle.model.specs.Initial.{Mem, here, there}
-use Rattle.model.specs.Members.{no-mem, mem-left, mem-right, mem-cases}
+use Rattle.laws.specs.Members.{no-mem, mem-left, mem-right, mem-cases}
 use Rattle.model.specs.Between.{between, Long}
 use Rattle.laws.specs.Betweens.{between-none, between-cons}
 use Rattle.initial.specs.Marks.{finds, reads, on, blank, inits, Visits, Room}

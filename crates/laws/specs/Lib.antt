@@ -1,4 +1,6 @@
 pub mod Lists
+pub mod Members
+pub mod Reached
 pub mod Carries
 pub mod Writing
 pub mod Readers

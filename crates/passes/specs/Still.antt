@@ -16,7 +16,7 @@ use Rattle.model.specs.Module.{Module}
 use Rattle.model.specs.References.{function, Node, refs, each}
 use Rattle.model.specs.Operands.{kind, standingKind, resultKind, emittedKind, constantKind, functionOf, kindAt, standing}
 use Rattle.model.specs.Initial.{root, Reached, roots, marked, initials}
-use Rattle.model.specs.Reached.{initialised-is}
+use Rattle.laws.specs.Reached.{initialised-is}
 use Rattle.model.specs.Scope.{inRange, live, emitted, isOf, callResult, effectResult, evalsOpt}
 use Rattle.model.specs.Callees.{callees}
 use Rattle.model.specs.Imports.{St}

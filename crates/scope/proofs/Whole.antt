@@ -15,7 +15,7 @@ use Rattle.model.specs.Tree.{Function, flatAll, flatBlock}
 use Rattle.model.specs.Operands.{standing}
 use Rattle.model.specs.FunctionView.{returnsAt, localsAt, expressionsAt}
 use Rattle.model.specs.Initial.{Marks, marked, moving, initials, initial, reachedMarks, initialised}
-use Rattle.model.specs.Reached.{initial-is, initial-all}
+use Rattle.laws.specs.Reached.{initial-is, initial-all}
 use Rattle.model.specs.Scope.{inBody, allOf, seen, scoped}
 use Rattle.laws.specs.Sections.{startOf, start-end}
 use Rattle.laws.specs.FunctionViews.{Held, Part, part-end, part-right, part-word, part-tag, namedAt, bodyAt, each-at, expression-first, expr-part, expr-shape, named-count, parts, stands-end}

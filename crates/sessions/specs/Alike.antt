@@ -12,7 +12,7 @@ use Rattle.model.specs.Module.{Module}
 use Rattle.model.specs.Carry.{carryF}
 use Rattle.model.specs.Operands.{opsOf, resultOf, ops, standing}
 use Rattle.model.specs.Initial.{Mem, root, roots, marked, initials, initial}
-use Rattle.model.specs.Reached.{initial-is}
+use Rattle.laws.specs.Reached.{initial-is}
 use Rattle.model.specs.Scope.{inRange, expandS, expandF, expand, expandK, expandC, evalsOpt, seen}
 use Rattle.model.specs.References.{Place, table, own, function, Node, refs, each, through}
 use Rattle.model.specs.Imports.{St, once}

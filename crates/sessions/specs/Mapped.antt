@@ -16,7 +16,7 @@ use Rattle.model.specs.Module.{Special, Module, pairRow}
 use Rattle.model.specs.Carry.{Lays, Each, each-none, each-next, WellFormed}
 use Rattle.model.specs.Intake.{Passes}
 use Rattle.model.specs.Initial.{Mem, here}
-use Rattle.model.specs.Members.{mem-left, mem-right}
+use Rattle.laws.specs.Members.{mem-left, mem-right}
 use Rattle.model.specs.Names.{field}
 use Rattle.model.specs.Numbers.{bound, caps, below as under, within, every, outside}
 use Rattle.model.specs.Callees.{callees}

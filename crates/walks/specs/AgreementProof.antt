@@ -15,7 +15,7 @@ use Rattle.model.specs.Operands.{optional, operand, opsOf, resultOf, functionOf
 use Rattle.model.specs.Initial.{here, there}
 use Rattle.model.specs.Scope.{XStmt, XForm, XBlock, XCase, XCases, evalsOpt, seen}
 use Rattle.model.specs.Walk.{read, eval, calls, End, Trace, halt, _▸_, finished, Rest, K, ends, only, ▸read, ▸readOpt, ▸evalOpt, ▸emit, choose, pick, roundEnd, rounds, fallTo, walkS, walkF, walkB, walkK, walkC, walk}
-use Rattle.model.specs.Members.{mem-left, mem-right}
+use Rattle.laws.specs.Members.{mem-left, mem-right}
 use Rattle.walks.specs.Tests.{and-l, and-r, by}
 use Rattle.walks.specs.Members.{Each}
 use Rattle.walks.specs.Agreement.{Maps, optWord, carriers, through, carried, plain, Alike, start, upto, text, field, AlikeR, over, next, carryOpt, carryCells, carryS, carryF, carryB, carryK, carryC, mentionsE, mentionsS, mentionsF, mentionsB, mentionsK, mentionsC, mentioned, Agrees, carryE, carryT, endOf, Carries}

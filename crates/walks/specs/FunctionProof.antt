@@ -15,7 +15,7 @@ use Rattle.model.specs.Tree.{Function, Entry}
 use Rattle.model.specs.Module.{Module}
 use Rattle.model.specs.Operands.{kind, standingKind, resultKind, emittedKind, constantKind, ops, kindAt, standing}
 use Rattle.model.specs.Initial.{Mem, marked, initials, initial, initialised}
-use Rattle.model.specs.Reached.{initial-is, initialised-is}
+use Rattle.laws.specs.Reached.{initial-is, initialised-is}
 use Rattle.model.specs.Scope.{XBlock, inBody, shapeB, kindsB, distinct, evalsB, okB, allOf, seen, scopedAs, scoped, allScoped, entriesScoped}
 use Rattle.model.specs.Walk.{walk}
 use Rattle.walks.specs.Tests.{Yes, and-l, and-r, and-both, or-cases, by}

@@ -14,7 +14,7 @@ use Rattle.model.specs.Tree.{stmt, emit, block, branch, switch, loop, break, co
 use Rattle.model.specs.Operands.{resultOf, functionOf, emittedKind, kindAt}
 use Rattle.model.specs.Initial.{Mem, here, there}
 use Rattle.model.specs.Scope.{XStmt, XForm, XBlock, XCase, XCases, Place, inSwitch, inLoop, inContinuing, shapeS, shapeF, shapeB, shapeK, shapeC, emitted, isOf, callResult, effectResult, kindsS, kindsF, kindsB, kindsK, kindsC, evalsOpt, evalsS, evalsF, evalsB, evalsK, evalsC, has, distinct}
-use Rattle.model.specs.Members.{mem-left, mem-right}
+use Rattle.laws.specs.Members.{mem-left, mem-right}
 use Rattle.walks.specs.Tests.{Yes, and-later, and-map, or-l, or-r, or-cases, not-map}
 use Rattle.walks.specs.Members.{Each}
 use Rattle.walks.specs.Agreement.{Maps, carryOpt, carryS, carryF, carryB, carryK, carryC}

@@ -3,7 +3,7 @@ use mathlib.Core.Logic.{_⊎_, ⊎-elim}
 use mathlib.Core.List.{List, [], _∷_, _++_}
 use Prim.Native.Nat.{ℕ}
 use Rattle.model.specs.Initial.{Mem, here, there}
-use Rattle.model.specs.Members.{no-mem, mem-cases}
+use Rattle.laws.specs.Members.{no-mem, mem-cases}
 
 -- P of every member
 abbrev pub Each : (ℕ → Type 0) → List ℕ → Type 0

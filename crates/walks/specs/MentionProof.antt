@@ -11,7 +11,7 @@ use Rattle.model.specs.Tree.{stmt, emit, block, branch, switch, loop, break, co
 use Rattle.model.specs.Operands.{opsOf, resultOf, ops, standing}
 use Rattle.model.specs.Initial.{Mem, here, there}
 use Rattle.model.specs.Scope.{XStmt, XForm, XBlock, XCase, XCases, evalsOpt, evalsS, evalsF, evalsB, evalsK, evalsC, addE, addOpt, addF, addS, topB, holdsS, contB, vis, allVis, optVis, okE, okS, okF, okB, okK, okC}
-use Rattle.model.specs.Members.{no-mem, mem-left, mem-right, mem-split}
+use Rattle.laws.specs.Members.{no-mem, mem-left, mem-right, mem-split}
 use Rattle.walks.specs.Tests.{Yes, and-l, and-r, or-cases}
 use Rattle.walks.specs.Members.{Each, each-none, each-append, each-cons}
 use Rattle.walks.specs.Agreement.{mentionsE, mentionsS, mentionsF, mentionsB, mentionsK, mentionsC}

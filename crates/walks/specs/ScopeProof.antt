@@ -11,7 +11,7 @@ use Rattle.model.specs.Tree.{stmt, emit, block, branch, switch, loop, break, co
 use Rattle.model.specs.Operands.{opsOf, resultOf, ops, standing}
 use Rattle.model.specs.Initial.{here, there}
 use Rattle.model.specs.Scope.{XStmt, XForm, XBlock, XCase, XCases, evalsOpt, addE, addOpt, addF, addS, topB, holdsS, holdsF, holdsB, holdsK, holdsC, contB, vis, allVis, optVis, okE, okS, okF, okB, okK, okC}
-use Rattle.model.specs.Members.{mem-left, mem-right}
+use Rattle.laws.specs.Members.{mem-left, mem-right}
 use Rattle.walks.specs.Tests.{Yes, and-map, or-map}
 use Rattle.walks.specs.Agreement.{Maps, carryOpt, carryS, carryF, carryB, carryK, carryC, mentionsE, mentionsS, mentionsF, mentionsB, mentionsK, mentionsC}
 use Rattle.walks.specs.Members.{Each}

@@ -9,11 +9,11 @@ use native.Mathlib.Omega.{arith}
 use lib.Dec.{eqb, ltb}
 use lib.ListN.{length, replicate, set, length-set, length-replicate, List·getD-eq-default}
 use borrow.Author.Tests.{ltb-true, ltb-false, eqb-true, eqb-false}
 use Rattle.model.specs.Outcome.{Cells}
 use Rattle.model.specs.Tree.{Function}
 use Rattle.model.specs.Operands.{opsOf, ops, kind, constantKind, kindAt, standing}
 use Rattle.model.specs.Initial.{Mem, here, there, root, step, Reached, roots, Marks, marked, mark, unmarked, readBy, close, reachedMarks, reached, moving, initials, initial, constantAt, initialised}
-use Rattle.model.specs.Members.{no-mem, mem-left, mem-right, mem-cases}
+use Rattle.laws.specs.Members.{no-mem, mem-left, mem-right, mem-cases}
 
 -- ---- tests
 by : (P : Type 0) (b : Bool) → (b ≡ true → P) → (b ≡ false → P) → P
