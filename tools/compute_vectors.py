@@ -1,7 +1,9 @@
 #!/usr/bin/env python3
-"""Writes the theorems of the crate computed: the model's link and run of steps on vectors, each computed and compared by refl.
+"""Writes the theorems of the crate computed: the model's link and run of steps on vectors, each computed and compared by refl; and what the crate
+refuted computes.
 
-    tools/compute_vectors.py [FOLDER]       writes Links.antt and Sessions.antt for the vectors named below, to crates/computed/specs or another folder
+    tools/compute_vectors.py [FOLDER]       writes Links.antt and Sessions.antt for the vectors named below to crates/computed/specs, and Answers.antt to
+                                            crates/refuted/specs; or all of them to another folder
 
 A handful is in the gate, since a vector takes a second or more; others are tried by naming them here."""
 import os
@@ -41,10 +43,10 @@ def listed(numbers):
     return "(" + " ∷ ".join(map(str, numbers)) + " ∷ [])" if numbers else "[]"
 
 
-def imports():
+def imports(files):
     """Use lines under names that do not meet, and what to unfold."""
     uses, names = [], []
-    for file in MODEL:
+    for file in files:
         items = []
         for name in unfoldables(file):
             plain = re.match(r"^[A-Za-z]", name)
@@ -96,16 +98,46 @@ def sessions(uses, unfolding):
     return text
 
 
+def changed(image, at, byte):
+    return image[:at] + bytes([byte]) + image[at + 1 :]
+
+
+def answers():
+    """What the definitions behind the exported contracts answer for marked cases."""
+    uses, unfolding = imports(MODEL[: MODEL.index("Redirect") + 1])
+    text = ["-- What the definitions behind the exported contracts answer for document 01's marked cases P5, P6 and P8, and for P6 with a name borne twice. Written by tools/compute_vectors.py.",
+            "use mathlib.Core.Path.{_≡_, refl}", "use mathlib.Core.List.{List, [], _∷_}", "use Prim.Native.Nat.{ℕ}", "use lib.ListN.{length, getD}",
+            "use Rattle.words.specs.Words.{wordOf, wordsOf, bytesOf}", *uses, "use Rattle.redirect.specs.Passes.{told as redirect-told, imageAfter}",
+            "use Rattle.basic.specs.Images.{told, ofModule, afterIntake, orderImage, packed, written}",
+            "use Rattle.layered.specs.Images.{ofModule as redirect-ofModule, afterIntake as redirect-afterIntake, redirectImage, packed as redirect-packed}", ""]
+    unfolding += " bytesOf redirect-told imageAfter told ofModule afterIntake orderImage packed written redirect-ofModule redirect-afterIntake redirectImage redirect-packed"
+    p6 = bytes_of("001.img")
+    # the callee in fog's call of tone, and the number of tone's name
+    images = {"p5": bytes_of("000.img"), "p6": p6, "p8": changed(p6, 284, 0), "twice": changed(p6, 196, 1)}
+    for name, image in images.items():
+        text += [f"unfoldable pub {name} : List ℕ", f"{name} = {listed(list(image))[1:-1]}", ""]
+    computed = [("p6-accepted", "Intake-intakeOf (length p6) (wordsOf p6)", "0"), ("twice-refused", "Intake-intakeOf (length twice) (wordsOf twice)", "5"),
+                ("p5-ordered", "written (orderImage p5) (9 ∷ 9 ∷ 9 ∷ [])", "1 ∷ 2 ∷ 0 ∷ []"), ("p8-left", "packed (orderImage p8)", str(12 + 2 * 2**32)),
+                # byte 184 is the callee in shade's call, which is of fog at first
+                ("p6-called", "getD p6 184 0", "2"), ("p6-redirected", "getD (redirectImage p6 2 1 [] .1) 184 0", "1"),
+                ("p6-answered", "redirect-packed (redirectImage p6 2 1 [] .0)", str((2 + 65536) * 2**32))]
+    for name, term, value in computed:
+        text += [f"pub {name} : {term} ≡ {value}", f"{unfolding} {name.split('-')[0]}", f"{name} = refl", ""]
+    return text
+
+
 def main():
     folder = os.path.abspath(sys.argv[1]) if len(sys.argv) > 1 else "crates/computed/specs"
     os.chdir(os.path.dirname(os.path.dirname(os.path.abspath(__file__))))
-    uses, unfolding = imports()
+    uses, unfolding = imports(MODEL)
     head = ["use mathlib.Core.Path.{_≡_, refl}", "use mathlib.Core.List.{List, [], _∷_}", "use Prim.Native.Nat.{ℕ}", "use lib.ListN.{replicate}",
             "use Rattle.words.specs.Words.{wordOf, wordsOf}", *uses]
     first = {"Links": "-- Linking computed on vectors: the answer, or the linked image.", "Sessions": "-- Sessions computed on vectors: the answers of all steps, and what was written last."}
     for name, body in (("Links", links(uses, unfolding)), ("Sessions", sessions(uses, unfolding))):
         with open(f"{folder}/{name}.antt", "w") as out:
             out.write("\n".join([first[name] + " Written by tools/compute_vectors.py.", *head, *body]))
+    with open(f"{folder if len(sys.argv) > 1 else 'crates/refuted/specs'}/Answers.antt", "w") as out:
+        out.write("\n".join(answers()))
 
 
 main()
