@@ -3,6 +3,9 @@
 // appearance; row 0 of a copy of the starts then holds the names in that order, so that all eight tables are written alike. The size is known before
 // anything is written: 21 where it passes the limit, 7 where the output is shorter, and the bytes behind the image stay.
 // On the stack: 64 KiB for the image's words, 20 KiB beside them.
+use classes::NAME;
+use views::ENTRIES;
+use views::FUNCTIONS;
 use words::store;
 use words::wide;
 ghost use mathlib.Core.Path.{_≡_};
@@ -15,14 +18,7 @@ ghost use Rattle.model.specs.Finish.{namesIn, firsts, keepN};
 ghost use Rattle.writing.specs.Flat.{firstsR, firstsT, lengths, tableSize, offsets, joined, tableWords, sizes, heads, tables, total, imageWords, finishedWords};
 ghost use Rattle.writing.specs.Held.{recAt, recsAt, tabsOf, Rec, Row, Rows, Derived, Noted, behind, named, Finishes, Stored};
 
-// The class of an optional name.
-const NAME: u8 = 83;
-
-// Tables of functions and of entry points, and how many each may have.
-const FUNCTIONS: usize = 6;
-
-const ENTRIES: usize = 7;
-
+// How many functions and entry points an image may have.
 const MOST_FUNCTIONS: usize = 256;
 
 const MOST_ENTRIES: usize = 16;
