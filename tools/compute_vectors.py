@@ -102,6 +102,10 @@ def changed(image, at, byte):
     return image[:at] + bytes([byte]) + image[at + 1 :]
 
 
+def spelt(text):
+    return listed(list(text.encode()))[1:-1]
+
+
 def answers():
     """What the definitions behind the exported contracts answer for marked cases."""
     uses, unfolding = imports(MODEL[: MODEL.index("Redirect") + 1])
@@ -109,8 +113,10 @@ def answers():
             "use mathlib.Core.Path.{_≡_, refl}", "use mathlib.Core.List.{List, [], _∷_}", "use Prim.Native.Nat.{ℕ}", "use lib.ListN.{length, getD}",
             "use Rattle.words.specs.Words.{wordOf, wordsOf, bytesOf}", *uses, "use Rattle.redirect.specs.Passes.{told as redirect-told, imageAfter}",
             "use Rattle.basic.specs.Images.{told, ofModule, afterIntake, orderImage, packed, written}",
+            "use Rattle.listing.specs.Lines.{decimal, nameText, nameIn, nameOf, numbersText, lineText, linesText, headed, orderedText, refusing, telling, ofModule as told-ofModule, afterIntake as told-afterIntake, tellingOf}",
             "use Rattle.layered.specs.Images.{ofModule as redirect-ofModule, afterIntake as redirect-afterIntake, redirectImage, packed as redirect-packed}", ""]
     unfolding += " bytesOf redirect-told imageAfter told ofModule afterIntake orderImage packed written redirect-ofModule redirect-afterIntake redirectImage redirect-packed"
+    unfolding += " decimal nameText nameIn nameOf numbersText lineText linesText headed orderedText refusing telling told-ofModule told-afterIntake tellingOf"
     p6 = bytes_of("001.img")
     # the callee in fog's call of tone, and the number of tone's name
     images = {"p5": bytes_of("000.img"), "p6": p6, "p8": changed(p6, 284, 0), "twice": changed(p6, 196, 1)}
@@ -120,6 +126,8 @@ def answers():
                 ("p5-ordered", "written (orderImage p5) (9 ∷ 9 ∷ 9 ∷ [])", "1 ∷ 2 ∷ 0 ∷ []"), ("p8-left", "packed (orderImage p8)", str(12 + 2 * 2**32)),
                 # byte 184 is the callee in shade's call, which is of fog at first
                 ("p6-called", "getD p6 184 0", "2"), ("p6-redirected", "getD (redirectImage p6 2 1 [] .1) 184 0", "1"),
+                ("p6-told", "tellingOf p6 .text", spelt("functions 3\n0 1 tone\n1 2 fog\n2 0 shade\n")), ("p8-told", "tellingOf p8 .text", spelt("refused 12 left 2\n")),
+                ("twice-told", "tellingOf twice .text", spelt("refused 5\n")),
                 ("p6-answered", "redirect-packed (redirectImage p6 2 1 [] .0)", str((2 + 65536) * 2**32))]
     for name, term, value in computed:
         text += [f"pub {name} : {term} ≡ {value}", f"{unfolding} {name.split('-')[0]}", f"{name} = refl", ""]

@@ -5,11 +5,11 @@ use Prim.Native.Nat.{ℕ, zero, suc, _+_, _*_, _-_, _/_, _%_, _≤_, _<_}
 use native.Mathlib.Nat.{div-add-mod', mod-lt, zero-lt-suc}
 use native.Mathlib.Numerals.{add-one}
 use native.Mathlib.Omega.{arith}
-use lib.ListN.{length, getD, take, drop, set, length-append, length-drop, length-set}
+use lib.ListN.{length, getD, drop, set, length-append, length-drop, length-set}
 use lib.Seq.{sets, drop-cons, drop-length, getD-take, getD-drop, length-take-le, length-sets}
 use borrow.Author.Tests.{lt-ltb, le-ltb}
 use Rattle.words.specs.Words.{bytesOf}
-use Rattle.words.proofs.Laws.{length-bytesOf, sets-front}
+use Rattle.words.proofs.Laws.{length-bytesOf}
 use Rattle.listing.specs.Lines.{decimal, textAt, Puts, Room}
 
 -- ---- one byte: byte s of a word

@@ -3,20 +3,20 @@
 use mathlib.Core.Path.{_≡_, refl, sym, ap, ap₂, _∙_}
 use mathlib.Core.Bool.{Bool, true, false, cond, not, _&&_}
 use mathlib.Core.Option.{some}
-use mathlib.Core.List.{List, [], _∷_, _++_, map}
+use mathlib.Core.List.{List, [], _∷_, map}
 use Prim.Native.Nat.{ℕ, zero, suc, _+_, _*_, _-_, _≤_, _<_}
 use native.Mathlib.Omega.{arith}
 use lib.Dec.{eqb}
-use lib.ListN.{length, getD, getElem?, set, take, length-append, length-take, length-map}
+use lib.ListN.{length, getD, getElem?, set, length-append, length-take, length-map}
 use lib.Seq.{getD-set-other}
 use borrow.Author.Tests.{eq-eqb, eqb-false, not-true}
 use Rattle.model.specs.Outcome.{Cells, word}
-use Rattle.model.specs.Table.{NAME, TEXT, nameRow}
+use Rattle.model.specs.Table.{nameRow}
 use Rattle.model.specs.Tree.{Function, flat, flatAll}
-use Rattle.model.specs.Module.{Module, sections, places, flatTable, write}
+use Rattle.model.specs.Module.{Module, sections, places, flatTable}
 use Rattle.model.specs.Taped.{Taped}
 use Rattle.model.specs.Carry.{Lays, Each, each-none, each-next, WellFunction}
-use Rattle.model.specs.Names.{field, absent, distinct, functionNames}
+use Rattle.model.specs.Names.{absent, distinct, functionNames}
 use Rattle.model.specs.Calls.{keep, times}
 use Rattle.model.specs.Redirect.{nameWord}
 use Rattle.laws.specs.Lists.{and-split, and-true}

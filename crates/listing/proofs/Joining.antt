@@ -10,7 +10,7 @@ use lib.ListN.{length, getD, take, drop, length-append}
 use lib.Seq.{sets, drop-cons, drop-length, getD-take, length-take-le}
 use Rattle.model.specs.Module.{offsetAt}
 use Rattle.model.specs.View.{recordAt}
-use Rattle.listing.specs.Lines.{decimal, numbersText, lineText, linesText, headed, FUNCTIONS, orderedText, nameAt, nameIs, textAt, Puts, Room, Readable, Line, Printable, Lines, Text}
+use Rattle.listing.specs.Lines.{decimal, numbersText, lineText, linesText, headed, FUNCTIONS, orderedText, nameAt, nameIs, textAt, Puts, Room, Readable, Line, Lines, Text}
 use Rattle.listing.proofs.Bytes.{puts-both, puts-long, text-long, sets-append}
 
 -- ---- how long the pieces are

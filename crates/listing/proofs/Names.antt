@@ -13,13 +13,13 @@ use borrow.Author.Tests.{eqb-true, lt-ltb}
 use Rattle.model.specs.Outcome.{Cells, class, word}
 use Rattle.model.specs.Table.{Row, WORD, PAD, TEXT, nameRow, text, More, brings, over, more}
 use Rattle.model.specs.Tree.{Function}
-use Rattle.model.specs.Module.{Module, countAt, offsetAt, HEADER, sections, flatModule}
+use Rattle.model.specs.Module.{Module, countAt, offsetAt, sections, flatModule}
 use Rattle.model.specs.View.{recordAt}
 use Rattle.model.specs.FunctionView.{argumentsAt}
 use Rattle.model.specs.Taped.{Taped, Tape}
 use Rattle.model.specs.Carry.{Lays, lays-none, lays-next}
 use Rattle.laws.specs.Lists.{and-split}
-use Rattle.laws.specs.Views.{looked-getD, view-length, view-within, view-first, sees-name}
+use Rattle.laws.specs.Views.{looked-getD, view-length, view-within, sees-name}
 use Rattle.laws.specs.FunctionViews.{Part, part-end, part-right, part-word, part-words, parts, head-classes, taped-held, taped-write, taped-length, taped-offset, taped-functions, taped-function, taped-part, table-least}
 use Rattle.words.specs.Words.{bytesOf}
 use Rattle.words.proofs.Laws.{length-bytesOf}

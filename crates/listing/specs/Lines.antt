@@ -11,7 +11,7 @@ use lib.Seq.{sets}
 use Rattle.model.specs.Refusals.{BAD-LAYOUT, BAD-NUMBER, RING}
 use Rattle.model.specs.Outcome.{Cells, word, Laid, laid, bad, strange}
 use Rattle.model.specs.Tree.{Function}
-use Rattle.model.specs.Module.{Module, countAt, offsetAt, read}
+use Rattle.model.specs.Module.{Module, offsetAt, read}
 use Rattle.model.specs.View.{recordAt}
 use Rattle.model.specs.Taped.{Taped}
 use Rattle.model.specs.Carry.{Each}

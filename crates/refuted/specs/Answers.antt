@@ -21,6 +21,7 @@ use Rattle.model.specs.Callees.{calleesS as Callees-calleesS, calleesF as Calle
 use Rattle.model.specs.Redirect.{nameWord as Redirect-nameWord, find as Redirect-find, omitted as Redirect-omitted, allBelow as Redirect-allBelow, argumentTypes as Redirect-argumentTypes, agree as Redirect-agree, typeBehind as Redirect-typeBehind, resultType as Redirect-resultType, same as Redirect-same, redirecting as Redirect-redirecting, redirectFn as Redirect-redirectFn, redirectEntry as Redirect-redirectEntry, stays as Redirect-stays, redirectFns as Redirect-redirectFns, withFunctions as Redirect-withFunctions, withEntries as Redirect-withEntries, redirect as Redirect-redirect, refusal as Redirect-refusal, after as Redirect-after, nothing as Redirect-nothing, function as Redirect-function, compared as Redirect-compared, withReplacement as Redirect-withReplacement, withOriginal as Redirect-withOriginal, redirectFunction as Redirect-redirectFunction}
 use Rattle.redirect.specs.Passes.{told as redirect-told, imageAfter}
 use Rattle.basic.specs.Images.{told, ofModule, afterIntake, orderImage, packed, written}
+use Rattle.listing.specs.Lines.{decimal, nameText, nameIn, nameOf, numbersText, lineText, linesText, headed, orderedText, refusing, telling, ofModule as told-ofModule, afterIntake as told-afterIntake, tellingOf}
 use Rattle.layered.specs.Images.{ofModule as redirect-ofModule, afterIntake as redirect-afterIntake, redirectImage, packed as redirect-packed}
 
 unfoldable pub p5 : List ℕ
@@ -36,29 +37,41 @@ unfoldable pub twice : List ℕ
 twice = 1 ∷ 0 ∷ 0 ∷ 0 ∷ 77 ∷ 0 ∷ 0 ∷ 0 ∷ 3 ∷ 0 ∷ 0 ∷ 0 ∷ 20 ∷ 0 ∷ 0 ∷ 0 ∷ 0 ∷ 0 ∷ 0 ∷ 0 ∷ 30 ∷ 0 ∷ 0 ∷ 0 ∷ 0 ∷ 0 ∷ 0 ∷ 0 ∷ 30 ∷ 0 ∷ 0 ∷ 0 ∷ 0 ∷ 0 ∷ 0 ∷ 0 ∷ 30 ∷ 0 ∷ 0 ∷ 0 ∷ 0 ∷ 0 ∷ 0 ∷ 0 ∷ 30 ∷ 0 ∷ 0 ∷ 0 ∷ 0 ∷ 0 ∷ 0 ∷ 0 ∷ 30 ∷ 0 ∷ 0 ∷ 0 ∷ 3 ∷ 0 ∷ 0 ∷ 0 ∷ 30 ∷ 0 ∷ 0 ∷ 0 ∷ 0 ∷ 0 ∷ 0 ∷ 0 ∷ 74 ∷ 0 ∷ 0 ∷ 0 ∷ 0 ∷ 0 ∷ 0 ∷ 0 ∷ 74 ∷ 0 ∷ 0 ∷ 0 ∷ 3 ∷ 0 ∷ 0 ∷ 0 ∷ 6 ∷ 0 ∷ 0 ∷ 0 ∷ 8 ∷ 0 ∷ 0 ∷ 0 ∷ 5 ∷ 0 ∷ 0 ∷ 0 ∷ 115 ∷ 104 ∷ 97 ∷ 100 ∷ 101 ∷ 0 ∷ 0 ∷ 0 ∷ 4 ∷ 0 ∷ 0 ∷ 0 ∷ 116 ∷ 111 ∷ 110 ∷ 101 ∷ 3 ∷ 0 ∷ 0 ∷ 0 ∷ 102 ∷ 111 ∷ 103 ∷ 0 ∷ 3 ∷ 0 ∷ 0 ∷ 0 ∷ 19 ∷ 0 ∷ 0 ∷ 0 ∷ 28 ∷ 0 ∷ 0 ∷ 0 ∷ 1 ∷ 0 ∷ 0 ∷ 0 ∷ 0 ∷ 0 ∷ 0 ∷ 0 ∷ 0 ∷ 0 ∷ 0 ∷ 0 ∷ 0 ∷ 0 ∷ 0 ∷ 0 ∷ 0 ∷ 0 ∷ 0 ∷ 0 ∷ 0 ∷ 0 ∷ 0 ∷ 0 ∷ 0 ∷ 0 ∷ 0 ∷ 0 ∷ 0 ∷ 0 ∷ 0 ∷ 0 ∷ 1 ∷ 0 ∷ 0 ∷ 0 ∷ 7 ∷ 0 ∷ 0 ∷ 0 ∷ 15 ∷ 0 ∷ 0 ∷ 0 ∷ 0 ∷ 0 ∷ 0 ∷ 0 ∷ 0 ∷ 0 ∷ 0 ∷ 0 ∷ 2 ∷ 0 ∷ 0 ∷ 0 ∷ 0 ∷ 0 ∷ 0 ∷ 0 ∷ 0 ∷ 0 ∷ 0 ∷ 0 ∷ 1 ∷ 0 ∷ 0 ∷ 0 ∷ 0 ∷ 0 ∷ 0 ∷ 0 ∷ 0 ∷ 0 ∷ 0 ∷ 0 ∷ 0 ∷ 0 ∷ 0 ∷ 0 ∷ 0 ∷ 0 ∷ 0 ∷ 0 ∷ 0 ∷ 0 ∷ 0 ∷ 0 ∷ 0 ∷ 0 ∷ 0 ∷ 0 ∷ 0 ∷ 0 ∷ 0 ∷ 0 ∷ 0 ∷ 0 ∷ 0 ∷ 0 ∷ 3 ∷ 0 ∷ 0 ∷ 0 ∷ 0 ∷ 0 ∷ 0 ∷ 0 ∷ 0 ∷ 0 ∷ 0 ∷ 0 ∷ 0 ∷ 0 ∷ 0 ∷ 0 ∷ 0 ∷ 0 ∷ 0 ∷ 0 ∷ 0 ∷ 0 ∷ 0 ∷ 0 ∷ 0 ∷ 0 ∷ 0 ∷ 0 ∷ 0 ∷ 0 ∷ 0 ∷ 0 ∷ 1 ∷ 0 ∷ 0 ∷ 0 ∷ 7 ∷ 0 ∷ 0 ∷ 0 ∷ 15 ∷ 0 ∷ 0 ∷ 0 ∷ 0 ∷ 0 ∷ 0 ∷ 0 ∷ 0 ∷ 0 ∷ 0 ∷ 0 ∷ 1 ∷ 0 ∷ 0 ∷ 0 ∷ 0 ∷ 0 ∷ 0 ∷ 0 ∷ 0 ∷ 0 ∷ 0 ∷ 0 ∷ 0 ∷ 0 ∷ 0 ∷ 0 ∷ 0 ∷ 0 ∷ 0 ∷ 0 ∷ 0 ∷ 0 ∷ 0 ∷ 0 ∷ []
 
 pub p6-accepted : Intake-intakeOf (length p6) (wordsOf p6) ≡ 0
-unfolding wordOf wordsOf _⟫_ Outcome-eat Outcome-mapO Outcome-exact Outcome-both Outcome-mapL Table-types Table-expressions Table-levels Table-queries Table-values Table-atomics Table-results Table-statements Table-nameRow Table-typeRow Table-constantRow Table-overrideRow Table-globalRow Table-expressionRow Table-functionHead Table-entryHead Table-counted Table-limit Table-variants Table-repeat Table-text Table-variant Table-more Table-follow Table-run Tree-optOf Tree-wordOf Tree-kindOf Tree-sizeB Tree-sizeC Tree-flatAll Tree-flatList Tree-flatX Tree-flatS Tree-flatF Tree-flatB Tree-flatK Tree-flatC Tree-flatBlock Tree-flat Tree-flatEntry Tree-rows Tree-listed Tree-operands Tree-stmts Tree-caseAt Tree-cases Tree-form Tree-checked Tree-shaped Tree-statement Tree-blockAt Tree-functionAt Tree-entryAt Module-next Module-records Module-table Module-specialAt Module-countAt Module-offsetAt Module-endAt Module-limits Module-placed Module-section Module-tableAt _⊛_ Module-read Module-places Module-flatTable Module-flatSpecial Module-sections Module-pairsFrom Module-bodies Module-flatModule Module-write Module-sized Carry-carryCell Carry-carryOpt Carry-carryRange Carry-carryS Carry-carryF Carry-carryB Carry-carryK Carry-carryC Carry-carryFunction Carry-carryEntry Carry-carrySpecial Carry-carry Operands-optional Operands-operand Operands-opsOf Operands-resultOf Operands-functionOf Operands-kind Operands-standingKind Operands-resultKind Operands-emittedKind Operands-constantKind Operands-ops Operands-kindAt Operands-standing Lower-below Lower-basesOf Lower-typesLower Lower-operandsLower Lower-functionsLower Lower-entriesLower Lower-initOf Lower-initsOf Lower-initsLower Lower-lower Names-field Names-present Names-absent Names-distinct Names-same Names-unlike Names-differ Names-expressionsNamed Names-functionsNamed Names-entriesNamed Names-functionNames Names-entryNames Names-named Initial-initsOf Initial-roots Initial-marked Initial-mark Initial-unmarked Initial-readBy Initial-close Initial-reachedMarks Initial-reached Initial-moving Initial-initials Initial-initial Initial-constantAt Initial-initialised Numbers-caps Numbers-bound Numbers-below Numbers-within Numbers-rising Numbers-ordered Numbers-every Numbers-outside Numbers-inside Numbers-sound Numbers-constantOnly Numbers-numbered Scope-upFrom Scope-inRange Scope-live Scope-expandS Scope-expandF Scope-expand Scope-expandK Scope-expandC Scope-shapeS Scope-shapeF Scope-shapeB Scope-shapeK Scope-shapeC Scope-emitted Scope-isOf Scope-callResult Scope-effectResult Scope-kindsS Scope-kindsF Scope-kindsB Scope-kindsK Scope-kindsC Scope-evalsOpt Scope-evalsS Scope-evalsF Scope-evalsB Scope-evalsK Scope-evalsC Scope-has Scope-distinct Scope-addE Scope-addOpt Scope-addF Scope-addS Scope-topB Scope-holdsS Scope-holdsF Scope-holdsB Scope-holdsK Scope-holdsC Scope-contB Scope-vis Scope-allVis Scope-optVis Scope-okE Scope-okS Scope-okF Scope-okB Scope-okK Scope-okC Scope-allOf Scope-seen Scope-scopedAs Scope-scoped Scope-allScoped Scope-entriesScoped Scope-inScope Intake-tested Intake-verdict Intake-intakeOf Calls-numbers Calls-any Calls-keep Calls-free Calls-held Calls-round Calls-rounds Calls-answer Calls-order Callees-calleesS Callees-calleesF Callees-calleesB Callees-calleesK Callees-calleesC Callees-calleesAt Callees-calls Callees-orderOf Redirect-nameWord Redirect-find Redirect-omitted Redirect-allBelow Redirect-argumentTypes Redirect-agree Redirect-typeBehind Redirect-resultType Redirect-same Redirect-redirecting Redirect-redirectFn Redirect-redirectEntry Redirect-stays Redirect-redirectFns Redirect-withFunctions Redirect-withEntries Redirect-redirect Redirect-refusal Redirect-after Redirect-nothing Redirect-function Redirect-compared Redirect-withReplacement Redirect-withOriginal Redirect-redirectFunction bytesOf redirect-told imageAfter told ofModule afterIntake orderImage packed written redirect-ofModule redirect-afterIntake redirectImage redirect-packed p6
+unfolding wordOf wordsOf _⟫_ Outcome-eat Outcome-mapO Outcome-exact Outcome-both Outcome-mapL Table-types Table-expressions Table-levels Table-queries Table-values Table-atomics Table-results Table-statements Table-nameRow Table-typeRow Table-constantRow Table-overrideRow Table-globalRow Table-expressionRow Table-functionHead Table-entryHead Table-counted Table-limit Table-variants Table-repeat Table-text Table-variant Table-more Table-follow Table-run Tree-optOf Tree-wordOf Tree-kindOf Tree-sizeB Tree-sizeC Tree-flatAll Tree-flatList Tree-flatX Tree-flatS Tree-flatF Tree-flatB Tree-flatK Tree-flatC Tree-flatBlock Tree-flat Tree-flatEntry Tree-rows Tree-listed Tree-operands Tree-stmts Tree-caseAt Tree-cases Tree-form Tree-checked Tree-shaped Tree-statement Tree-blockAt Tree-functionAt Tree-entryAt Module-next Module-records Module-table Module-specialAt Module-countAt Module-offsetAt Module-endAt Module-limits Module-placed Module-section Module-tableAt _⊛_ Module-read Module-places Module-flatTable Module-flatSpecial Module-sections Module-pairsFrom Module-bodies Module-flatModule Module-write Module-sized Carry-carryCell Carry-carryOpt Carry-carryRange Carry-carryS Carry-carryF Carry-carryB Carry-carryK Carry-carryC Carry-carryFunction Carry-carryEntry Carry-carrySpecial Carry-carry Operands-optional Operands-operand Operands-opsOf Operands-resultOf Operands-functionOf Operands-kind Operands-standingKind Operands-resultKind Operands-emittedKind Operands-constantKind Operands-ops Operands-kindAt Operands-standing Lower-below Lower-basesOf Lower-typesLower Lower-operandsLower Lower-functionsLower Lower-entriesLower Lower-initOf Lower-initsOf Lower-initsLower Lower-lower Names-field Names-present Names-absent Names-distinct Names-same Names-unlike Names-differ Names-expressionsNamed Names-functionsNamed Names-entriesNamed Names-functionNames Names-entryNames Names-named Initial-initsOf Initial-roots Initial-marked Initial-mark Initial-unmarked Initial-readBy Initial-close Initial-reachedMarks Initial-reached Initial-moving Initial-initials Initial-initial Initial-constantAt Initial-initialised Numbers-caps Numbers-bound Numbers-below Numbers-within Numbers-rising Numbers-ordered Numbers-every Numbers-outside Numbers-inside Numbers-sound Numbers-constantOnly Numbers-numbered Scope-upFrom Scope-inRange Scope-live Scope-expandS Scope-expandF Scope-expand Scope-expandK Scope-expandC Scope-shapeS Scope-shapeF Scope-shapeB Scope-shapeK Scope-shapeC Scope-emitted Scope-isOf Scope-callResult Scope-effectResult Scope-kindsS Scope-kindsF Scope-kindsB Scope-kindsK Scope-kindsC Scope-evalsOpt Scope-evalsS Scope-evalsF Scope-evalsB Scope-evalsK Scope-evalsC Scope-has Scope-distinct Scope-addE Scope-addOpt Scope-addF Scope-addS Scope-topB Scope-holdsS Scope-holdsF Scope-holdsB Scope-holdsK Scope-holdsC Scope-contB Scope-vis Scope-allVis Scope-optVis Scope-okE Scope-okS Scope-okF Scope-okB Scope-okK Scope-okC Scope-allOf Scope-seen Scope-scopedAs Scope-scoped Scope-allScoped Scope-entriesScoped Scope-inScope Intake-tested Intake-verdict Intake-intakeOf Calls-numbers Calls-any Calls-keep Calls-free Calls-held Calls-round Calls-rounds Calls-answer Calls-order Callees-calleesS Callees-calleesF Callees-calleesB Callees-calleesK Callees-calleesC Callees-calleesAt Callees-calls Callees-orderOf Redirect-nameWord Redirect-find Redirect-omitted Redirect-allBelow Redirect-argumentTypes Redirect-agree Redirect-typeBehind Redirect-resultType Redirect-same Redirect-redirecting Redirect-redirectFn Redirect-redirectEntry Redirect-stays Redirect-redirectFns Redirect-withFunctions Redirect-withEntries Redirect-redirect Redirect-refusal Redirect-after Redirect-nothing Redirect-function Redirect-compared Redirect-withReplacement Redirect-withOriginal Redirect-redirectFunction bytesOf redirect-told imageAfter told ofModule afterIntake orderImage packed written redirect-ofModule redirect-afterIntake redirectImage redirect-packed decimal nameText nameIn nameOf numbersText lineText linesText headed orderedText refusing telling told-ofModule told-afterIntake tellingOf p6
 p6-accepted = refl
 
 pub twice-refused : Intake-intakeOf (length twice) (wordsOf twice) ≡ 5
-unfolding wordOf wordsOf _⟫_ Outcome-eat Outcome-mapO Outcome-exact Outcome-both Outcome-mapL Table-types Table-expressions Table-levels Table-queries Table-values Table-atomics Table-results Table-statements Table-nameRow Table-typeRow Table-constantRow Table-overrideRow Table-globalRow Table-expressionRow Table-functionHead Table-entryHead Table-counted Table-limit Table-variants Table-repeat Table-text Table-variant Table-more Table-follow Table-run Tree-optOf Tree-wordOf Tree-kindOf Tree-sizeB Tree-sizeC Tree-flatAll Tree-flatList Tree-flatX Tree-flatS Tree-flatF Tree-flatB Tree-flatK Tree-flatC Tree-flatBlock Tree-flat Tree-flatEntry Tree-rows Tree-listed Tree-operands Tree-stmts Tree-caseAt Tree-cases Tree-form Tree-checked Tree-shaped Tree-statement Tree-blockAt Tree-functionAt Tree-entryAt Module-next Module-records Module-table Module-specialAt Module-countAt Module-offsetAt Module-endAt Module-limits Module-placed Module-section Module-tableAt _⊛_ Module-read Module-places Module-flatTable Module-flatSpecial Module-sections Module-pairsFrom Module-bodies Module-flatModule Module-write Module-sized Carry-carryCell Carry-carryOpt Carry-carryRange Carry-carryS Carry-carryF Carry-carryB Carry-carryK Carry-carryC Carry-carryFunction Carry-carryEntry Carry-carrySpecial Carry-carry Operands-optional Operands-operand Operands-opsOf Operands-resultOf Operands-functionOf Operands-kind Operands-standingKind Operands-resultKind Operands-emittedKind Operands-constantKind Operands-ops Operands-kindAt Operands-standing Lower-below Lower-basesOf Lower-typesLower Lower-operandsLower Lower-functionsLower Lower-entriesLower Lower-initOf Lower-initsOf Lower-initsLower Lower-lower Names-field Names-present Names-absent Names-distinct Names-same Names-unlike Names-differ Names-expressionsNamed Names-functionsNamed Names-entriesNamed Names-functionNames Names-entryNames Names-named Initial-initsOf Initial-roots Initial-marked Initial-mark Initial-unmarked Initial-readBy Initial-close Initial-reachedMarks Initial-reached Initial-moving Initial-initials Initial-initial Initial-constantAt Initial-initialised Numbers-caps Numbers-bound Numbers-below Numbers-within Numbers-rising Numbers-ordered Numbers-every Numbers-outside Numbers-inside Numbers-sound Numbers-constantOnly Numbers-numbered Scope-upFrom Scope-inRange Scope-live Scope-expandS Scope-expandF Scope-expand Scope-expandK Scope-expandC Scope-shapeS Scope-shapeF Scope-shapeB Scope-shapeK Scope-shapeC Scope-emitted Scope-isOf Scope-callResult Scope-effectResult Scope-kindsS Scope-kindsF Scope-kindsB Scope-kindsK Scope-kindsC Scope-evalsOpt Scope-evalsS Scope-evalsF Scope-evalsB Scope-evalsK Scope-evalsC Scope-has Scope-distinct Scope-addE Scope-addOpt Scope-addF Scope-addS Scope-topB Scope-holdsS Scope-holdsF Scope-holdsB Scope-holdsK Scope-holdsC Scope-contB Scope-vis Scope-allVis Scope-optVis Scope-okE Scope-okS Scope-okF Scope-okB Scope-okK Scope-okC Scope-allOf Scope-seen Scope-scopedAs Scope-scoped Scope-allScoped Scope-entriesScoped Scope-inScope Intake-tested Intake-verdict Intake-intakeOf Calls-numbers Calls-any Calls-keep Calls-free Calls-held Calls-round Calls-rounds Calls-answer Calls-order Callees-calleesS Callees-calleesF Callees-calleesB Callees-calleesK Callees-calleesC Callees-calleesAt Callees-calls Callees-orderOf Redirect-nameWord Redirect-find Redirect-omitted Redirect-allBelow Redirect-argumentTypes Redirect-agree Redirect-typeBehind Redirect-resultType Redirect-same Redirect-redirecting Redirect-redirectFn Redirect-redirectEntry Redirect-stays Redirect-redirectFns Redirect-withFunctions Redirect-withEntries Redirect-redirect Redirect-refusal Redirect-after Redirect-nothing Redirect-function Redirect-compared Redirect-withReplacement Redirect-withOriginal Redirect-redirectFunction bytesOf redirect-told imageAfter told ofModule afterIntake orderImage packed written redirect-ofModule redirect-afterIntake redirectImage redirect-packed twice
+unfolding wordOf wordsOf _⟫_ Outcome-eat Outcome-mapO Outcome-exact Outcome-both Outcome-mapL Table-types Table-expressions Table-levels Table-queries Table-values Table-atomics Table-results Table-statements Table-nameRow Table-typeRow Table-constantRow Table-overrideRow Table-globalRow Table-expressionRow Table-functionHead Table-entryHead Table-counted Table-limit Table-variants Table-repeat Table-text Table-variant Table-more Table-follow Table-run Tree-optOf Tree-wordOf Tree-kindOf Tree-sizeB Tree-sizeC Tree-flatAll Tree-flatList Tree-flatX Tree-flatS Tree-flatF Tree-flatB Tree-flatK Tree-flatC Tree-flatBlock Tree-flat Tree-flatEntry Tree-rows Tree-listed Tree-operands Tree-stmts Tree-caseAt Tree-cases Tree-form Tree-checked Tree-shaped Tree-statement Tree-blockAt Tree-functionAt Tree-entryAt Module-next Module-records Module-table Module-specialAt Module-countAt Module-offsetAt Module-endAt Module-limits Module-placed Module-section Module-tableAt _⊛_ Module-read Module-places Module-flatTable Module-flatSpecial Module-sections Module-pairsFrom Module-bodies Module-flatModule Module-write Module-sized Carry-carryCell Carry-carryOpt Carry-carryRange Carry-carryS Carry-carryF Carry-carryB Carry-carryK Carry-carryC Carry-carryFunction Carry-carryEntry Carry-carrySpecial Carry-carry Operands-optional Operands-operand Operands-opsOf Operands-resultOf Operands-functionOf Operands-kind Operands-standingKind Operands-resultKind Operands-emittedKind Operands-constantKind Operands-ops Operands-kindAt Operands-standing Lower-below Lower-basesOf Lower-typesLower Lower-operandsLower Lower-functionsLower Lower-entriesLower Lower-initOf Lower-initsOf Lower-initsLower Lower-lower Names-field Names-present Names-absent Names-distinct Names-same Names-unlike Names-differ Names-expressionsNamed Names-functionsNamed Names-entriesNamed Names-functionNames Names-entryNames Names-named Initial-initsOf Initial-roots Initial-marked Initial-mark Initial-unmarked Initial-readBy Initial-close Initial-reachedMarks Initial-reached Initial-moving Initial-initials Initial-initial Initial-constantAt Initial-initialised Numbers-caps Numbers-bound Numbers-below Numbers-within Numbers-rising Numbers-ordered Numbers-every Numbers-outside Numbers-inside Numbers-sound Numbers-constantOnly Numbers-numbered Scope-upFrom Scope-inRange Scope-live Scope-expandS Scope-expandF Scope-expand Scope-expandK Scope-expandC Scope-shapeS Scope-shapeF Scope-shapeB Scope-shapeK Scope-shapeC Scope-emitted Scope-isOf Scope-callResult Scope-effectResult Scope-kindsS Scope-kindsF Scope-kindsB Scope-kindsK Scope-kindsC Scope-evalsOpt Scope-evalsS Scope-evalsF Scope-evalsB Scope-evalsK Scope-evalsC Scope-has Scope-distinct Scope-addE Scope-addOpt Scope-addF Scope-addS Scope-topB Scope-holdsS Scope-holdsF Scope-holdsB Scope-holdsK Scope-holdsC Scope-contB Scope-vis Scope-allVis Scope-optVis Scope-okE Scope-okS Scope-okF Scope-okB Scope-okK Scope-okC Scope-allOf Scope-seen Scope-scopedAs Scope-scoped Scope-allScoped Scope-entriesScoped Scope-inScope Intake-tested Intake-verdict Intake-intakeOf Calls-numbers Calls-any Calls-keep Calls-free Calls-held Calls-round Calls-rounds Calls-answer Calls-order Callees-calleesS Callees-calleesF Callees-calleesB Callees-calleesK Callees-calleesC Callees-calleesAt Callees-calls Callees-orderOf Redirect-nameWord Redirect-find Redirect-omitted Redirect-allBelow Redirect-argumentTypes Redirect-agree Redirect-typeBehind Redirect-resultType Redirect-same Redirect-redirecting Redirect-redirectFn Redirect-redirectEntry Redirect-stays Redirect-redirectFns Redirect-withFunctions Redirect-withEntries Redirect-redirect Redirect-refusal Redirect-after Redirect-nothing Redirect-function Redirect-compared Redirect-withReplacement Redirect-withOriginal Redirect-redirectFunction bytesOf redirect-told imageAfter told ofModule afterIntake orderImage packed written redirect-ofModule redirect-afterIntake redirectImage redirect-packed decimal nameText nameIn nameOf numbersText lineText linesText headed orderedText refusing telling told-ofModule told-afterIntake tellingOf twice
 twice-refused = refl
 
 pub p5-ordered : written (orderImage p5) (9 ∷ 9 ∷ 9 ∷ []) ≡ 1 ∷ 2 ∷ 0 ∷ []
-unfolding wordOf wordsOf _⟫_ Outcome-eat Outcome-mapO Outcome-exact Outcome-both Outcome-mapL Table-types Table-expressions Table-levels Table-queries Table-values Table-atomics Table-results Table-statements Table-nameRow Table-typeRow Table-constantRow Table-overrideRow Table-globalRow Table-expressionRow Table-functionHead Table-entryHead Table-counted Table-limit Table-variants Table-repeat Table-text Table-variant Table-more Table-follow Table-run Tree-optOf Tree-wordOf Tree-kindOf Tree-sizeB Tree-sizeC Tree-flatAll Tree-flatList Tree-flatX Tree-flatS Tree-flatF Tree-flatB Tree-flatK Tree-flatC Tree-flatBlock Tree-flat Tree-flatEntry Tree-rows Tree-listed Tree-operands Tree-stmts Tree-caseAt Tree-cases Tree-form Tree-checked Tree-shaped Tree-statement Tree-blockAt Tree-functionAt Tree-entryAt Module-next Module-records Module-table Module-specialAt Module-countAt Module-offsetAt Module-endAt Module-limits Module-placed Module-section Module-tableAt _⊛_ Module-read Module-places Module-flatTable Module-flatSpecial Module-sections Module-pairsFrom Module-bodies Module-flatModule Module-write Module-sized Carry-carryCell Carry-carryOpt Carry-carryRange Carry-carryS Carry-carryF Carry-carryB Carry-carryK Carry-carryC Carry-carryFunction Carry-carryEntry Carry-carrySpecial Carry-carry Operands-optional Operands-operand Operands-opsOf Operands-resultOf Operands-functionOf Operands-kind Operands-standingKind Operands-resultKind Operands-emittedKind Operands-constantKind Operands-ops Operands-kindAt Operands-standing Lower-below Lower-basesOf Lower-typesLower Lower-operandsLower Lower-functionsLower Lower-entriesLower Lower-initOf Lower-initsOf Lower-initsLower Lower-lower Names-field Names-present Names-absent Names-distinct Names-same Names-unlike Names-differ Names-expressionsNamed Names-functionsNamed Names-entriesNamed Names-functionNames Names-entryNames Names-named Initial-initsOf Initial-roots Initial-marked Initial-mark Initial-unmarked Initial-readBy Initial-close Initial-reachedMarks Initial-reached Initial-moving Initial-initials Initial-initial Initial-constantAt Initial-initialised Numbers-caps Numbers-bound Numbers-below Numbers-within Numbers-rising Numbers-ordered Numbers-every Numbers-outside Numbers-inside Numbers-sound Numbers-constantOnly Numbers-numbered Scope-upFrom Scope-inRange Scope-live Scope-expandS Scope-expandF Scope-expand Scope-expandK Scope-expandC Scope-shapeS Scope-shapeF Scope-shapeB Scope-shapeK Scope-shapeC Scope-emitted Scope-isOf Scope-callResult Scope-effectResult Scope-kindsS Scope-kindsF Scope-kindsB Scope-kindsK Scope-kindsC Scope-evalsOpt Scope-evalsS Scope-evalsF Scope-evalsB Scope-evalsK Scope-evalsC Scope-has Scope-distinct Scope-addE Scope-addOpt Scope-addF Scope-addS Scope-topB Scope-holdsS Scope-holdsF Scope-holdsB Scope-holdsK Scope-holdsC Scope-contB Scope-vis Scope-allVis Scope-optVis Scope-okE Scope-okS Scope-okF Scope-okB Scope-okK Scope-okC Scope-allOf Scope-seen Scope-scopedAs Scope-scoped Scope-allScoped Scope-entriesScoped Scope-inScope Intake-tested Intake-verdict Intake-intakeOf Calls-numbers Calls-any Calls-keep Calls-free Calls-held Calls-round Calls-rounds Calls-answer Calls-order Callees-calleesS Callees-calleesF Callees-calleesB Callees-calleesK Callees-calleesC Callees-calleesAt Callees-calls Callees-orderOf Redirect-nameWord Redirect-find Redirect-omitted Redirect-allBelow Redirect-argumentTypes Redirect-agree Redirect-typeBehind Redirect-resultType Redirect-same Redirect-redirecting Redirect-redirectFn Redirect-redirectEntry Redirect-stays Redirect-redirectFns Redirect-withFunctions Redirect-withEntries Redirect-redirect Redirect-refusal Redirect-after Redirect-nothing Redirect-function Redirect-compared Redirect-withReplacement Redirect-withOriginal Redirect-redirectFunction bytesOf redirect-told imageAfter told ofModule afterIntake orderImage packed written redirect-ofModule redirect-afterIntake redirectImage redirect-packed p5
+unfolding wordOf wordsOf _⟫_ Outcome-eat Outcome-mapO Outcome-exact Outcome-both Outcome-mapL Table-types Table-expressions Table-levels Table-queries Table-values Table-atomics Table-results Table-statements Table-nameRow Table-typeRow Table-constantRow Table-overrideRow Table-globalRow Table-expressionRow Table-functionHead Table-entryHead Table-counted Table-limit Table-variants Table-repeat Table-text Table-variant Table-more Table-follow Table-run Tree-optOf Tree-wordOf Tree-kindOf Tree-sizeB Tree-sizeC Tree-flatAll Tree-flatList Tree-flatX Tree-flatS Tree-flatF Tree-flatB Tree-flatK Tree-flatC Tree-flatBlock Tree-flat Tree-flatEntry Tree-rows Tree-listed Tree-operands Tree-stmts Tree-caseAt Tree-cases Tree-form Tree-checked Tree-shaped Tree-statement Tree-blockAt Tree-functionAt Tree-entryAt Module-next Module-records Module-table Module-specialAt Module-countAt Module-offsetAt Module-endAt Module-limits Module-placed Module-section Module-tableAt _⊛_ Module-read Module-places Module-flatTable Module-flatSpecial Module-sections Module-pairsFrom Module-bodies Module-flatModule Module-write Module-sized Carry-carryCell Carry-carryOpt Carry-carryRange Carry-carryS Carry-carryF Carry-carryB Carry-carryK Carry-carryC Carry-carryFunction Carry-carryEntry Carry-carrySpecial Carry-carry Operands-optional Operands-operand Operands-opsOf Operands-resultOf Operands-functionOf Operands-kind Operands-standingKind Operands-resultKind Operands-emittedKind Operands-constantKind Operands-ops Operands-kindAt Operands-standing Lower-below Lower-basesOf Lower-typesLower Lower-operandsLower Lower-functionsLower Lower-entriesLower Lower-initOf Lower-initsOf Lower-initsLower Lower-lower Names-field Names-present Names-absent Names-distinct Names-same Names-unlike Names-differ Names-expressionsNamed Names-functionsNamed Names-entriesNamed Names-functionNames Names-entryNames Names-named Initial-initsOf Initial-roots Initial-marked Initial-mark Initial-unmarked Initial-readBy Initial-close Initial-reachedMarks Initial-reached Initial-moving Initial-initials Initial-initial Initial-constantAt Initial-initialised Numbers-caps Numbers-bound Numbers-below Numbers-within Numbers-rising Numbers-ordered Numbers-every Numbers-outside Numbers-inside Numbers-sound Numbers-constantOnly Numbers-numbered Scope-upFrom Scope-inRange Scope-live Scope-expandS Scope-expandF Scope-expand Scope-expandK Scope-expandC Scope-shapeS Scope-shapeF Scope-shapeB Scope-shapeK Scope-shapeC Scope-emitted Scope-isOf Scope-callResult Scope-effectResult Scope-kindsS Scope-kindsF Scope-kindsB Scope-kindsK Scope-kindsC Scope-evalsOpt Scope-evalsS Scope-evalsF Scope-evalsB Scope-evalsK Scope-evalsC Scope-has Scope-distinct Scope-addE Scope-addOpt Scope-addF Scope-addS Scope-topB Scope-holdsS Scope-holdsF Scope-holdsB Scope-holdsK Scope-holdsC Scope-contB Scope-vis Scope-allVis Scope-optVis Scope-okE Scope-okS Scope-okF Scope-okB Scope-okK Scope-okC Scope-allOf Scope-seen Scope-scopedAs Scope-scoped Scope-allScoped Scope-entriesScoped Scope-inScope Intake-tested Intake-verdict Intake-intakeOf Calls-numbers Calls-any Calls-keep Calls-free Calls-held Calls-round Calls-rounds Calls-answer Calls-order Callees-calleesS Callees-calleesF Callees-calleesB Callees-calleesK Callees-calleesC Callees-calleesAt Callees-calls Callees-orderOf Redirect-nameWord Redirect-find Redirect-omitted Redirect-allBelow Redirect-argumentTypes Redirect-agree Redirect-typeBehind Redirect-resultType Redirect-same Redirect-redirecting Redirect-redirectFn Redirect-redirectEntry Redirect-stays Redirect-redirectFns Redirect-withFunctions Redirect-withEntries Redirect-redirect Redirect-refusal Redirect-after Redirect-nothing Redirect-function Redirect-compared Redirect-withReplacement Redirect-withOriginal Redirect-redirectFunction bytesOf redirect-told imageAfter told ofModule afterIntake orderImage packed written redirect-ofModule redirect-afterIntake redirectImage redirect-packed decimal nameText nameIn nameOf numbersText lineText linesText headed orderedText refusing telling told-ofModule told-afterIntake tellingOf p5
 p5-ordered = refl
 
 pub p8-left : packed (orderImage p8) ≡ 8589934604
-unfolding wordOf wordsOf _⟫_ Outcome-eat Outcome-mapO Outcome-exact Outcome-both Outcome-mapL Table-types Table-expressions Table-levels Table-queries Table-values Table-atomics Table-results Table-statements Table-nameRow Table-typeRow Table-constantRow Table-overrideRow Table-globalRow Table-expressionRow Table-functionHead Table-entryHead Table-counted Table-limit Table-variants Table-repeat Table-text Table-variant Table-more Table-follow Table-run Tree-optOf Tree-wordOf Tree-kindOf Tree-sizeB Tree-sizeC Tree-flatAll Tree-flatList Tree-flatX Tree-flatS Tree-flatF Tree-flatB Tree-flatK Tree-flatC Tree-flatBlock Tree-flat Tree-flatEntry Tree-rows Tree-listed Tree-operands Tree-stmts Tree-caseAt Tree-cases Tree-form Tree-checked Tree-shaped Tree-statement Tree-blockAt Tree-functionAt Tree-entryAt Module-next Module-records Module-table Module-specialAt Module-countAt Module-offsetAt Module-endAt Module-limits Module-placed Module-section Module-tableAt _⊛_ Module-read Module-places Module-flatTable Module-flatSpecial Module-sections Module-pairsFrom Module-bodies Module-flatModule Module-write Module-sized Carry-carryCell Carry-carryOpt Carry-carryRange Carry-carryS Carry-carryF Carry-carryB Carry-carryK Carry-carryC Carry-carryFunction Carry-carryEntry Carry-carrySpecial Carry-carry Operands-optional Operands-operand Operands-opsOf Operands-resultOf Operands-functionOf Operands-kind Operands-standingKind Operands-resultKind Operands-emittedKind Operands-constantKind Operands-ops Operands-kindAt Operands-standing Lower-below Lower-basesOf Lower-typesLower Lower-operandsLower Lower-functionsLower Lower-entriesLower Lower-initOf Lower-initsOf Lower-initsLower Lower-lower Names-field Names-present Names-absent Names-distinct Names-same Names-unlike Names-differ Names-expressionsNamed Names-functionsNamed Names-entriesNamed Names-functionNames Names-entryNames Names-named Initial-initsOf Initial-roots Initial-marked Initial-mark Initial-unmarked Initial-readBy Initial-close Initial-reachedMarks Initial-reached Initial-moving Initial-initials Initial-initial Initial-constantAt Initial-initialised Numbers-caps Numbers-bound Numbers-below Numbers-within Numbers-rising Numbers-ordered Numbers-every Numbers-outside Numbers-inside Numbers-sound Numbers-constantOnly Numbers-numbered Scope-upFrom Scope-inRange Scope-live Scope-expandS Scope-expandF Scope-expand Scope-expandK Scope-expandC Scope-shapeS Scope-shapeF Scope-shapeB Scope-shapeK Scope-shapeC Scope-emitted Scope-isOf Scope-callResult Scope-effectResult Scope-kindsS Scope-kindsF Scope-kindsB Scope-kindsK Scope-kindsC Scope-evalsOpt Scope-evalsS Scope-evalsF Scope-evalsB Scope-evalsK Scope-evalsC Scope-has Scope-distinct Scope-addE Scope-addOpt Scope-addF Scope-addS Scope-topB Scope-holdsS Scope-holdsF Scope-holdsB Scope-holdsK Scope-holdsC Scope-contB Scope-vis Scope-allVis Scope-optVis Scope-okE Scope-okS Scope-okF Scope-okB Scope-okK Scope-okC Scope-allOf Scope-seen Scope-scopedAs Scope-scoped Scope-allScoped Scope-entriesScoped Scope-inScope Intake-tested Intake-verdict Intake-intakeOf Calls-numbers Calls-any Calls-keep Calls-free Calls-held Calls-round Calls-rounds Calls-answer Calls-order Callees-calleesS Callees-calleesF Callees-calleesB Callees-calleesK Callees-calleesC Callees-calleesAt Callees-calls Callees-orderOf Redirect-nameWord Redirect-find Redirect-omitted Redirect-allBelow Redirect-argumentTypes Redirect-agree Redirect-typeBehind Redirect-resultType Redirect-same Redirect-redirecting Redirect-redirectFn Redirect-redirectEntry Redirect-stays Redirect-redirectFns Redirect-withFunctions Redirect-withEntries Redirect-redirect Redirect-refusal Redirect-after Redirect-nothing Redirect-function Redirect-compared Redirect-withReplacement Redirect-withOriginal Redirect-redirectFunction bytesOf redirect-told imageAfter told ofModule afterIntake orderImage packed written redirect-ofModule redirect-afterIntake redirectImage redirect-packed p8
+unfolding wordOf wordsOf _⟫_ Outcome-eat Outcome-mapO Outcome-exact Outcome-both Outcome-mapL Table-types Table-expressions Table-levels Table-queries Table-values Table-atomics Table-results Table-statements Table-nameRow Table-typeRow Table-constantRow Table-overrideRow Table-globalRow Table-expressionRow Table-functionHead Table-entryHead Table-counted Table-limit Table-variants Table-repeat Table-text Table-variant Table-more Table-follow Table-run Tree-optOf Tree-wordOf Tree-kindOf Tree-sizeB Tree-sizeC Tree-flatAll Tree-flatList Tree-flatX Tree-flatS Tree-flatF Tree-flatB Tree-flatK Tree-flatC Tree-flatBlock Tree-flat Tree-flatEntry Tree-rows Tree-listed Tree-operands Tree-stmts Tree-caseAt Tree-cases Tree-form Tree-checked Tree-shaped Tree-statement Tree-blockAt Tree-functionAt Tree-entryAt Module-next Module-records Module-table Module-specialAt Module-countAt Module-offsetAt Module-endAt Module-limits Module-placed Module-section Module-tableAt _⊛_ Module-read Module-places Module-flatTable Module-flatSpecial Module-sections Module-pairsFrom Module-bodies Module-flatModule Module-write Module-sized Carry-carryCell Carry-carryOpt Carry-carryRange Carry-carryS Carry-carryF Carry-carryB Carry-carryK Carry-carryC Carry-carryFunction Carry-carryEntry Carry-carrySpecial Carry-carry Operands-optional Operands-operand Operands-opsOf Operands-resultOf Operands-functionOf Operands-kind Operands-standingKind Operands-resultKind Operands-emittedKind Operands-constantKind Operands-ops Operands-kindAt Operands-standing Lower-below Lower-basesOf Lower-typesLower Lower-operandsLower Lower-functionsLower Lower-entriesLower Lower-initOf Lower-initsOf Lower-initsLower Lower-lower Names-field Names-present Names-absent Names-distinct Names-same Names-unlike Names-differ Names-expressionsNamed Names-functionsNamed Names-entriesNamed Names-functionNames Names-entryNames Names-named Initial-initsOf Initial-roots Initial-marked Initial-mark Initial-unmarked Initial-readBy Initial-close Initial-reachedMarks Initial-reached Initial-moving Initial-initials Initial-initial Initial-constantAt Initial-initialised Numbers-caps Numbers-bound Numbers-below Numbers-within Numbers-rising Numbers-ordered Numbers-every Numbers-outside Numbers-inside Numbers-sound Numbers-constantOnly Numbers-numbered Scope-upFrom Scope-inRange Scope-live Scope-expandS Scope-expandF Scope-expand Scope-expandK Scope-expandC Scope-shapeS Scope-shapeF Scope-shapeB Scope-shapeK Scope-shapeC Scope-emitted Scope-isOf Scope-callResult Scope-effectResult Scope-kindsS Scope-kindsF Scope-kindsB Scope-kindsK Scope-kindsC Scope-evalsOpt Scope-evalsS Scope-evalsF Scope-evalsB Scope-evalsK Scope-evalsC Scope-has Scope-distinct Scope-addE Scope-addOpt Scope-addF Scope-addS Scope-topB Scope-holdsS Scope-holdsF Scope-holdsB Scope-holdsK Scope-holdsC Scope-contB Scope-vis Scope-allVis Scope-optVis Scope-okE Scope-okS Scope-okF Scope-okB Scope-okK Scope-okC Scope-allOf Scope-seen Scope-scopedAs Scope-scoped Scope-allScoped Scope-entriesScoped Scope-inScope Intake-tested Intake-verdict Intake-intakeOf Calls-numbers Calls-any Calls-keep Calls-free Calls-held Calls-round Calls-rounds Calls-answer Calls-order Callees-calleesS Callees-calleesF Callees-calleesB Callees-calleesK Callees-calleesC Callees-calleesAt Callees-calls Callees-orderOf Redirect-nameWord Redirect-find Redirect-omitted Redirect-allBelow Redirect-argumentTypes Redirect-agree Redirect-typeBehind Redirect-resultType Redirect-same Redirect-redirecting Redirect-redirectFn Redirect-redirectEntry Redirect-stays Redirect-redirectFns Redirect-withFunctions Redirect-withEntries Redirect-redirect Redirect-refusal Redirect-after Redirect-nothing Redirect-function Redirect-compared Redirect-withReplacement Redirect-withOriginal Redirect-redirectFunction bytesOf redirect-told imageAfter told ofModule afterIntake orderImage packed written redirect-ofModule redirect-afterIntake redirectImage redirect-packed decimal nameText nameIn nameOf numbersText lineText linesText headed orderedText refusing telling told-ofModule told-afterIntake tellingOf p8
 p8-left = refl
 
 pub p6-called : getD p6 184 0 ≡ 2
-unfolding wordOf wordsOf _⟫_ Outcome-eat Outcome-mapO Outcome-exact Outcome-both Outcome-mapL Table-types Table-expressions Table-levels Table-queries Table-values Table-atomics Table-results Table-statements Table-nameRow Table-typeRow Table-constantRow Table-overrideRow Table-globalRow Table-expressionRow Table-functionHead Table-entryHead Table-counted Table-limit Table-variants Table-repeat Table-text Table-variant Table-more Table-follow Table-run Tree-optOf Tree-wordOf Tree-kindOf Tree-sizeB Tree-sizeC Tree-flatAll Tree-flatList Tree-flatX Tree-flatS Tree-flatF Tree-flatB Tree-flatK Tree-flatC Tree-flatBlock Tree-flat Tree-flatEntry Tree-rows Tree-listed Tree-operands Tree-stmts Tree-caseAt Tree-cases Tree-form Tree-checked Tree-shaped Tree-statement Tree-blockAt Tree-functionAt Tree-entryAt Module-next Module-records Module-table Module-specialAt Module-countAt Module-offsetAt Module-endAt Module-limits Module-placed Module-section Module-tableAt _⊛_ Module-read Module-places Module-flatTable Module-flatSpecial Module-sections Module-pairsFrom Module-bodies Module-flatModule Module-write Module-sized Carry-carryCell Carry-carryOpt Carry-carryRange Carry-carryS Carry-carryF Carry-carryB Carry-carryK Carry-carryC Carry-carryFunction Carry-carryEntry Carry-carrySpecial Carry-carry Operands-optional Operands-operand Operands-opsOf Operands-resultOf Operands-functionOf Operands-kind Operands-standingKind Operands-resultKind Operands-emittedKind Operands-constantKind Operands-ops Operands-kindAt Operands-standing Lower-below Lower-basesOf Lower-typesLower Lower-operandsLower Lower-functionsLower Lower-entriesLower Lower-initOf Lower-initsOf Lower-initsLower Lower-lower Names-field Names-present Names-absent Names-distinct Names-same Names-unlike Names-differ Names-expressionsNamed Names-functionsNamed Names-entriesNamed Names-functionNames Names-entryNames Names-named Initial-initsOf Initial-roots Initial-marked Initial-mark Initial-unmarked Initial-readBy Initial-close Initial-reachedMarks Initial-reached Initial-moving Initial-initials Initial-initial Initial-constantAt Initial-initialised Numbers-caps Numbers-bound Numbers-below Numbers-within Numbers-rising Numbers-ordered Numbers-every Numbers-outside Numbers-inside Numbers-sound Numbers-constantOnly Numbers-numbered Scope-upFrom Scope-inRange Scope-live Scope-expandS Scope-expandF Scope-expand Scope-expandK Scope-expandC Scope-shapeS Scope-shapeF Scope-shapeB Scope-shapeK Scope-shapeC Scope-emitted Scope-isOf Scope-callResult Scope-effectResult Scope-kindsS Scope-kindsF Scope-kindsB Scope-kindsK Scope-kindsC Scope-evalsOpt Scope-evalsS Scope-evalsF Scope-evalsB Scope-evalsK Scope-evalsC Scope-has Scope-distinct Scope-addE Scope-addOpt Scope-addF Scope-addS Scope-topB Scope-holdsS Scope-holdsF Scope-holdsB Scope-holdsK Scope-holdsC Scope-contB Scope-vis Scope-allVis Scope-optVis Scope-okE Scope-okS Scope-okF Scope-okB Scope-okK Scope-okC Scope-allOf Scope-seen Scope-scopedAs Scope-scoped Scope-allScoped Scope-entriesScoped Scope-inScope Intake-tested Intake-verdict Intake-intakeOf Calls-numbers Calls-any Calls-keep Calls-free Calls-held Calls-round Calls-rounds Calls-answer Calls-order Callees-calleesS Callees-calleesF Callees-calleesB Callees-calleesK Callees-calleesC Callees-calleesAt Callees-calls Callees-orderOf Redirect-nameWord Redirect-find Redirect-omitted Redirect-allBelow Redirect-argumentTypes Redirect-agree Redirect-typeBehind Redirect-resultType Redirect-same Redirect-redirecting Redirect-redirectFn Redirect-redirectEntry Redirect-stays Redirect-redirectFns Redirect-withFunctions Redirect-withEntries Redirect-redirect Redirect-refusal Redirect-after Redirect-nothing Redirect-function Redirect-compared Redirect-withReplacement Redirect-withOriginal Redirect-redirectFunction bytesOf redirect-told imageAfter told ofModule afterIntake orderImage packed written redirect-ofModule redirect-afterIntake redirectImage redirect-packed p6
+unfolding wordOf wordsOf _⟫_ Outcome-eat Outcome-mapO Outcome-exact Outcome-both Outcome-mapL Table-types Table-expressions Table-levels Table-queries Table-values Table-atomics Table-results Table-statements Table-nameRow Table-typeRow Table-constantRow Table-overrideRow Table-globalRow Table-expressionRow Table-functionHead Table-entryHead Table-counted Table-limit Table-variants Table-repeat Table-text Table-variant Table-more Table-follow Table-run Tree-optOf Tree-wordOf Tree-kindOf Tree-sizeB Tree-sizeC Tree-flatAll Tree-flatList Tree-flatX Tree-flatS Tree-flatF Tree-flatB Tree-flatK Tree-flatC Tree-flatBlock Tree-flat Tree-flatEntry Tree-rows Tree-listed Tree-operands Tree-stmts Tree-caseAt Tree-cases Tree-form Tree-checked Tree-shaped Tree-statement Tree-blockAt Tree-functionAt Tree-entryAt Module-next Module-records Module-table Module-specialAt Module-countAt Module-offsetAt Module-endAt Module-limits Module-placed Module-section Module-tableAt _⊛_ Module-read Module-places Module-flatTable Module-flatSpecial Module-sections Module-pairsFrom Module-bodies Module-flatModule Module-write Module-sized Carry-carryCell Carry-carryOpt Carry-carryRange Carry-carryS Carry-carryF Carry-carryB Carry-carryK Carry-carryC Carry-carryFunction Carry-carryEntry Carry-carrySpecial Carry-carry Operands-optional Operands-operand Operands-opsOf Operands-resultOf Operands-functionOf Operands-kind Operands-standingKind Operands-resultKind Operands-emittedKind Operands-constantKind Operands-ops Operands-kindAt Operands-standing Lower-below Lower-basesOf Lower-typesLower Lower-operandsLower Lower-functionsLower Lower-entriesLower Lower-initOf Lower-initsOf Lower-initsLower Lower-lower Names-field Names-present Names-absent Names-distinct Names-same Names-unlike Names-differ Names-expressionsNamed Names-functionsNamed Names-entriesNamed Names-functionNames Names-entryNames Names-named Initial-initsOf Initial-roots Initial-marked Initial-mark Initial-unmarked Initial-readBy Initial-close Initial-reachedMarks Initial-reached Initial-moving Initial-initials Initial-initial Initial-constantAt Initial-initialised Numbers-caps Numbers-bound Numbers-below Numbers-within Numbers-rising Numbers-ordered Numbers-every Numbers-outside Numbers-inside Numbers-sound Numbers-constantOnly Numbers-numbered Scope-upFrom Scope-inRange Scope-live Scope-expandS Scope-expandF Scope-expand Scope-expandK Scope-expandC Scope-shapeS Scope-shapeF Scope-shapeB Scope-shapeK Scope-shapeC Scope-emitted Scope-isOf Scope-callResult Scope-effectResult Scope-kindsS Scope-kindsF Scope-kindsB Scope-kindsK Scope-kindsC Scope-evalsOpt Scope-evalsS Scope-evalsF Scope-evalsB Scope-evalsK Scope-evalsC Scope-has Scope-distinct Scope-addE Scope-addOpt Scope-addF Scope-addS Scope-topB Scope-holdsS Scope-holdsF Scope-holdsB Scope-holdsK Scope-holdsC Scope-contB Scope-vis Scope-allVis Scope-optVis Scope-okE Scope-okS Scope-okF Scope-okB Scope-okK Scope-okC Scope-allOf Scope-seen Scope-scopedAs Scope-scoped Scope-allScoped Scope-entriesScoped Scope-inScope Intake-tested Intake-verdict Intake-intakeOf Calls-numbers Calls-any Calls-keep Calls-free Calls-held Calls-round Calls-rounds Calls-answer Calls-order Callees-calleesS Callees-calleesF Callees-calleesB Callees-calleesK Callees-calleesC Callees-calleesAt Callees-calls Callees-orderOf Redirect-nameWord Redirect-find Redirect-omitted Redirect-allBelow Redirect-argumentTypes Redirect-agree Redirect-typeBehind Redirect-resultType Redirect-same Redirect-redirecting Redirect-redirectFn Redirect-redirectEntry Redirect-stays Redirect-redirectFns Redirect-withFunctions Redirect-withEntries Redirect-redirect Redirect-refusal Redirect-after Redirect-nothing Redirect-function Redirect-compared Redirect-withReplacement Redirect-withOriginal Redirect-redirectFunction bytesOf redirect-told imageAfter told ofModule afterIntake orderImage packed written redirect-ofModule redirect-afterIntake redirectImage redirect-packed decimal nameText nameIn nameOf numbersText lineText linesText headed orderedText refusing telling told-ofModule told-afterIntake tellingOf p6
 p6-called = refl
 
 pub p6-redirected : getD (redirectImage p6 2 1 [] .1) 184 0 ≡ 1
-unfolding wordOf wordsOf _⟫_ Outcome-eat Outcome-mapO Outcome-exact Outcome-both Outcome-mapL Table-types Table-expressions Table-levels Table-queries Table-values Table-atomics Table-results Table-statements Table-nameRow Table-typeRow Table-constantRow Table-overrideRow Table-globalRow Table-expressionRow Table-functionHead Table-entryHead Table-counted Table-limit Table-variants Table-repeat Table-text Table-variant Table-more Table-follow Table-run Tree-optOf Tree-wordOf Tree-kindOf Tree-sizeB Tree-sizeC Tree-flatAll Tree-flatList Tree-flatX Tree-flatS Tree-flatF Tree-flatB Tree-flatK Tree-flatC Tree-flatBlock Tree-flat Tree-flatEntry Tree-rows Tree-listed Tree-operands Tree-stmts Tree-caseAt Tree-cases Tree-form Tree-checked Tree-shaped Tree-statement Tree-blockAt Tree-functionAt Tree-entryAt Module-next Module-records Module-table Module-specialAt Module-countAt Module-offsetAt Module-endAt Module-limits Module-placed Module-section Module-tableAt _⊛_ Module-read Module-places Module-flatTable Module-flatSpecial Module-sections Module-pairsFrom Module-bodies Module-flatModule Module-write Module-sized Carry-carryCell Carry-carryOpt Carry-carryRange Carry-carryS Carry-carryF Carry-carryB Carry-carryK Carry-carryC Carry-carryFunction Carry-carryEntry Carry-carrySpecial Carry-carry Operands-optional Operands-operand Operands-opsOf Operands-resultOf Operands-functionOf Operands-kind Operands-standingKind Operands-resultKind Operands-emittedKind Operands-constantKind Operands-ops Operands-kindAt Operands-standing Lower-below Lower-basesOf Lower-typesLower Lower-operandsLower Lower-functionsLower Lower-entriesLower Lower-initOf Lower-initsOf Lower-initsLower Lower-lower Names-field Names-present Names-absent Names-distinct Names-same Names-unlike Names-differ Names-expressionsNamed Names-functionsNamed Names-entriesNamed Names-functionNames Names-entryNames Names-named Initial-initsOf Initial-roots Initial-marked Initial-mark Initial-unmarked Initial-readBy Initial-close Initial-reachedMarks Initial-reached Initial-moving Initial-initials Initial-initial Initial-constantAt Initial-initialised Numbers-caps Numbers-bound Numbers-below Numbers-within Numbers-rising Numbers-ordered Numbers-every Numbers-outside Numbers-inside Numbers-sound Numbers-constantOnly Numbers-numbered Scope-upFrom Scope-inRange Scope-live Scope-expandS Scope-expandF Scope-expand Scope-expandK Scope-expandC Scope-shapeS Scope-shapeF Scope-shapeB Scope-shapeK Scope-shapeC Scope-emitted Scope-isOf Scope-callResult Scope-effectResult Scope-kindsS Scope-kindsF Scope-kindsB Scope-kindsK Scope-kindsC Scope-evalsOpt Scope-evalsS Scope-evalsF Scope-evalsB Scope-evalsK Scope-evalsC Scope-has Scope-distinct Scope-addE Scope-addOpt Scope-addF Scope-addS Scope-topB Scope-holdsS Scope-holdsF Scope-holdsB Scope-holdsK Scope-holdsC Scope-contB Scope-vis Scope-allVis Scope-optVis Scope-okE Scope-okS Scope-okF Scope-okB Scope-okK Scope-okC Scope-allOf Scope-seen Scope-scopedAs Scope-scoped Scope-allScoped Scope-entriesScoped Scope-inScope Intake-tested Intake-verdict Intake-intakeOf Calls-numbers Calls-any Calls-keep Calls-free Calls-held Calls-round Calls-rounds Calls-answer Calls-order Callees-calleesS Callees-calleesF Callees-calleesB Callees-calleesK Callees-calleesC Callees-calleesAt Callees-calls Callees-orderOf Redirect-nameWord Redirect-find Redirect-omitted Redirect-allBelow Redirect-argumentTypes Redirect-agree Redirect-typeBehind Redirect-resultType Redirect-same Redirect-redirecting Redirect-redirectFn Redirect-redirectEntry Redirect-stays Redirect-redirectFns Redirect-withFunctions Redirect-withEntries Redirect-redirect Redirect-refusal Redirect-after Redirect-nothing Redirect-function Redirect-compared Redirect-withReplacement Redirect-withOriginal Redirect-redirectFunction bytesOf redirect-told imageAfter told ofModule afterIntake orderImage packed written redirect-ofModule redirect-afterIntake redirectImage redirect-packed p6
+unfolding wordOf wordsOf _⟫_ Outcome-eat Outcome-mapO Outcome-exact Outcome-both Outcome-mapL Table-types Table-expressions Table-levels Table-queries Table-values Table-atomics Table-results Table-statements Table-nameRow Table-typeRow Table-constantRow Table-overrideRow Table-globalRow Table-expressionRow Table-functionHead Table-entryHead Table-counted Table-limit Table-variants Table-repeat Table-text Table-variant Table-more Table-follow Table-run Tree-optOf Tree-wordOf Tree-kindOf Tree-sizeB Tree-sizeC Tree-flatAll Tree-flatList Tree-flatX Tree-flatS Tree-flatF Tree-flatB Tree-flatK Tree-flatC Tree-flatBlock Tree-flat Tree-flatEntry Tree-rows Tree-listed Tree-operands Tree-stmts Tree-caseAt Tree-cases Tree-form Tree-checked Tree-shaped Tree-statement Tree-blockAt Tree-functionAt Tree-entryAt Module-next Module-records Module-table Module-specialAt Module-countAt Module-offsetAt Module-endAt Module-limits Module-placed Module-section Module-tableAt _⊛_ Module-read Module-places Module-flatTable Module-flatSpecial Module-sections Module-pairsFrom Module-bodies Module-flatModule Module-write Module-sized Carry-carryCell Carry-carryOpt Carry-carryRange Carry-carryS Carry-carryF Carry-carryB Carry-carryK Carry-carryC Carry-carryFunction Carry-carryEntry Carry-carrySpecial Carry-carry Operands-optional Operands-operand Operands-opsOf Operands-resultOf Operands-functionOf Operands-kind Operands-standingKind Operands-resultKind Operands-emittedKind Operands-constantKind Operands-ops Operands-kindAt Operands-standing Lower-below Lower-basesOf Lower-typesLower Lower-operandsLower Lower-functionsLower Lower-entriesLower Lower-initOf Lower-initsOf Lower-initsLower Lower-lower Names-field Names-present Names-absent Names-distinct Names-same Names-unlike Names-differ Names-expressionsNamed Names-functionsNamed Names-entriesNamed Names-functionNames Names-entryNames Names-named Initial-initsOf Initial-roots Initial-marked Initial-mark Initial-unmarked Initial-readBy Initial-close Initial-reachedMarks Initial-reached Initial-moving Initial-initials Initial-initial Initial-constantAt Initial-initialised Numbers-caps Numbers-bound Numbers-below Numbers-within Numbers-rising Numbers-ordered Numbers-every Numbers-outside Numbers-inside Numbers-sound Numbers-constantOnly Numbers-numbered Scope-upFrom Scope-inRange Scope-live Scope-expandS Scope-expandF Scope-expand Scope-expandK Scope-expandC Scope-shapeS Scope-shapeF Scope-shapeB Scope-shapeK Scope-shapeC Scope-emitted Scope-isOf Scope-callResult Scope-effectResult Scope-kindsS Scope-kindsF Scope-kindsB Scope-kindsK Scope-kindsC Scope-evalsOpt Scope-evalsS Scope-evalsF Scope-evalsB Scope-evalsK Scope-evalsC Scope-has Scope-distinct Scope-addE Scope-addOpt Scope-addF Scope-addS Scope-topB Scope-holdsS Scope-holdsF Scope-holdsB Scope-holdsK Scope-holdsC Scope-contB Scope-vis Scope-allVis Scope-optVis Scope-okE Scope-okS Scope-okF Scope-okB Scope-okK Scope-okC Scope-allOf Scope-seen Scope-scopedAs Scope-scoped Scope-allScoped Scope-entriesScoped Scope-inScope Intake-tested Intake-verdict Intake-intakeOf Calls-numbers Calls-any Calls-keep Calls-free Calls-held Calls-round Calls-rounds Calls-answer Calls-order Callees-calleesS Callees-calleesF Callees-calleesB Callees-calleesK Callees-calleesC Callees-calleesAt Callees-calls Callees-orderOf Redirect-nameWord Redirect-find Redirect-omitted Redirect-allBelow Redirect-argumentTypes Redirect-agree Redirect-typeBehind Redirect-resultType Redirect-same Redirect-redirecting Redirect-redirectFn Redirect-redirectEntry Redirect-stays Redirect-redirectFns Redirect-withFunctions Redirect-withEntries Redirect-redirect Redirect-refusal Redirect-after Redirect-nothing Redirect-function Redirect-compared Redirect-withReplacement Redirect-withOriginal Redirect-redirectFunction bytesOf redirect-told imageAfter told ofModule afterIntake orderImage packed written redirect-ofModule redirect-afterIntake redirectImage redirect-packed decimal nameText nameIn nameOf numbersText lineText linesText headed orderedText refusing telling told-ofModule told-afterIntake tellingOf p6
 p6-redirected = refl
 
+pub p6-told : tellingOf p6 .text ≡ 102 ∷ 117 ∷ 110 ∷ 99 ∷ 116 ∷ 105 ∷ 111 ∷ 110 ∷ 115 ∷ 32 ∷ 51 ∷ 10 ∷ 48 ∷ 32 ∷ 49 ∷ 32 ∷ 116 ∷ 111 ∷ 110 ∷ 101 ∷ 10 ∷ 49 ∷ 32 ∷ 50 ∷ 32 ∷ 102 ∷ 111 ∷ 103 ∷ 10 ∷ 50 ∷ 32 ∷ 48 ∷ 32 ∷ 115 ∷ 104 ∷ 97 ∷ 100 ∷ 101 ∷ 10 ∷ []
+unfolding wordOf wordsOf _⟫_ Outcome-eat Outcome-mapO Outcome-exact Outcome-both Outcome-mapL Table-types Table-expressions Table-levels Table-queries Table-values Table-atomics Table-results Table-statements Table-nameRow Table-typeRow Table-constantRow Table-overrideRow Table-globalRow Table-expressionRow Table-functionHead Table-entryHead Table-counted Table-limit Table-variants Table-repeat Table-text Table-variant Table-more Table-follow Table-run Tree-optOf Tree-wordOf Tree-kindOf Tree-sizeB Tree-sizeC Tree-flatAll Tree-flatList Tree-flatX Tree-flatS Tree-flatF Tree-flatB Tree-flatK Tree-flatC Tree-flatBlock Tree-flat Tree-flatEntry Tree-rows Tree-listed Tree-operands Tree-stmts Tree-caseAt Tree-cases Tree-form Tree-checked Tree-shaped Tree-statement Tree-blockAt Tree-functionAt Tree-entryAt Module-next Module-records Module-table Module-specialAt Module-countAt Module-offsetAt Module-endAt Module-limits Module-placed Module-section Module-tableAt _⊛_ Module-read Module-places Module-flatTable Module-flatSpecial Module-sections Module-pairsFrom Module-bodies Module-flatModule Module-write Module-sized Carry-carryCell Carry-carryOpt Carry-carryRange Carry-carryS Carry-carryF Carry-carryB Carry-carryK Carry-carryC Carry-carryFunction Carry-carryEntry Carry-carrySpecial Carry-carry Operands-optional Operands-operand Operands-opsOf Operands-resultOf Operands-functionOf Operands-kind Operands-standingKind Operands-resultKind Operands-emittedKind Operands-constantKind Operands-ops Operands-kindAt Operands-standing Lower-below Lower-basesOf Lower-typesLower Lower-operandsLower Lower-functionsLower Lower-entriesLower Lower-initOf Lower-initsOf Lower-initsLower Lower-lower Names-field Names-present Names-absent Names-distinct Names-same Names-unlike Names-differ Names-expressionsNamed Names-functionsNamed Names-entriesNamed Names-functionNames Names-entryNames Names-named Initial-initsOf Initial-roots Initial-marked Initial-mark Initial-unmarked Initial-readBy Initial-close Initial-reachedMarks Initial-reached Initial-moving Initial-initials Initial-initial Initial-constantAt Initial-initialised Numbers-caps Numbers-bound Numbers-below Numbers-within Numbers-rising Numbers-ordered Numbers-every Numbers-outside Numbers-inside Numbers-sound Numbers-constantOnly Numbers-numbered Scope-upFrom Scope-inRange Scope-live Scope-expandS Scope-expandF Scope-expand Scope-expandK Scope-expandC Scope-shapeS Scope-shapeF Scope-shapeB Scope-shapeK Scope-shapeC Scope-emitted Scope-isOf Scope-callResult Scope-effectResult Scope-kindsS Scope-kindsF Scope-kindsB Scope-kindsK Scope-kindsC Scope-evalsOpt Scope-evalsS Scope-evalsF Scope-evalsB Scope-evalsK Scope-evalsC Scope-has Scope-distinct Scope-addE Scope-addOpt Scope-addF Scope-addS Scope-topB Scope-holdsS Scope-holdsF Scope-holdsB Scope-holdsK Scope-holdsC Scope-contB Scope-vis Scope-allVis Scope-optVis Scope-okE Scope-okS Scope-okF Scope-okB Scope-okK Scope-okC Scope-allOf Scope-seen Scope-scopedAs Scope-scoped Scope-allScoped Scope-entriesScoped Scope-inScope Intake-tested Intake-verdict Intake-intakeOf Calls-numbers Calls-any Calls-keep Calls-free Calls-held Calls-round Calls-rounds Calls-answer Calls-order Callees-calleesS Callees-calleesF Callees-calleesB Callees-calleesK Callees-calleesC Callees-calleesAt Callees-calls Callees-orderOf Redirect-nameWord Redirect-find Redirect-omitted Redirect-allBelow Redirect-argumentTypes Redirect-agree Redirect-typeBehind Redirect-resultType Redirect-same Redirect-redirecting Redirect-redirectFn Redirect-redirectEntry Redirect-stays Redirect-redirectFns Redirect-withFunctions Redirect-withEntries Redirect-redirect Redirect-refusal Redirect-after Redirect-nothing Redirect-function Redirect-compared Redirect-withReplacement Redirect-withOriginal Redirect-redirectFunction bytesOf redirect-told imageAfter told ofModule afterIntake orderImage packed written redirect-ofModule redirect-afterIntake redirectImage redirect-packed decimal nameText nameIn nameOf numbersText lineText linesText headed orderedText refusing telling told-ofModule told-afterIntake tellingOf p6
+p6-told = refl
+
+pub p8-told : tellingOf p8 .text ≡ 114 ∷ 101 ∷ 102 ∷ 117 ∷ 115 ∷ 101 ∷ 100 ∷ 32 ∷ 49 ∷ 50 ∷ 32 ∷ 108 ∷ 101 ∷ 102 ∷ 116 ∷ 32 ∷ 50 ∷ 10 ∷ []
+unfolding wordOf wordsOf _⟫_ Outcome-eat Outcome-mapO Outcome-exact Outcome-both Outcome-mapL Table-types Table-expressions Table-levels Table-queries Table-values Table-atomics Table-results Table-statements Table-nameRow Table-typeRow Table-constantRow Table-overrideRow Table-globalRow Table-expressionRow Table-functionHead Table-entryHead Table-counted Table-limit Table-variants Table-repeat Table-text Table-variant Table-more Table-follow Table-run Tree-optOf Tree-wordOf Tree-kindOf Tree-sizeB Tree-sizeC Tree-flatAll Tree-flatList Tree-flatX Tree-flatS Tree-flatF Tree-flatB Tree-flatK Tree-flatC Tree-flatBlock Tree-flat Tree-flatEntry Tree-rows Tree-listed Tree-operands Tree-stmts Tree-caseAt Tree-cases Tree-form Tree-checked Tree-shaped Tree-statement Tree-blockAt Tree-functionAt Tree-entryAt Module-next Module-records Module-table Module-specialAt Module-countAt Module-offsetAt Module-endAt Module-limits Module-placed Module-section Module-tableAt _⊛_ Module-read Module-places Module-flatTable Module-flatSpecial Module-sections Module-pairsFrom Module-bodies Module-flatModule Module-write Module-sized Carry-carryCell Carry-carryOpt Carry-carryRange Carry-carryS Carry-carryF Carry-carryB Carry-carryK Carry-carryC Carry-carryFunction Carry-carryEntry Carry-carrySpecial Carry-carry Operands-optional Operands-operand Operands-opsOf Operands-resultOf Operands-functionOf Operands-kind Operands-standingKind Operands-resultKind Operands-emittedKind Operands-constantKind Operands-ops Operands-kindAt Operands-standing Lower-below Lower-basesOf Lower-typesLower Lower-operandsLower Lower-functionsLower Lower-entriesLower Lower-initOf Lower-initsOf Lower-initsLower Lower-lower Names-field Names-present Names-absent Names-distinct Names-same Names-unlike Names-differ Names-expressionsNamed Names-functionsNamed Names-entriesNamed Names-functionNames Names-entryNames Names-named Initial-initsOf Initial-roots Initial-marked Initial-mark Initial-unmarked Initial-readBy Initial-close Initial-reachedMarks Initial-reached Initial-moving Initial-initials Initial-initial Initial-constantAt Initial-initialised Numbers-caps Numbers-bound Numbers-below Numbers-within Numbers-rising Numbers-ordered Numbers-every Numbers-outside Numbers-inside Numbers-sound Numbers-constantOnly Numbers-numbered Scope-upFrom Scope-inRange Scope-live Scope-expandS Scope-expandF Scope-expand Scope-expandK Scope-expandC Scope-shapeS Scope-shapeF Scope-shapeB Scope-shapeK Scope-shapeC Scope-emitted Scope-isOf Scope-callResult Scope-effectResult Scope-kindsS Scope-kindsF Scope-kindsB Scope-kindsK Scope-kindsC Scope-evalsOpt Scope-evalsS Scope-evalsF Scope-evalsB Scope-evalsK Scope-evalsC Scope-has Scope-distinct Scope-addE Scope-addOpt Scope-addF Scope-addS Scope-topB Scope-holdsS Scope-holdsF Scope-holdsB Scope-holdsK Scope-holdsC Scope-contB Scope-vis Scope-allVis Scope-optVis Scope-okE Scope-okS Scope-okF Scope-okB Scope-okK Scope-okC Scope-allOf Scope-seen Scope-scopedAs Scope-scoped Scope-allScoped Scope-entriesScoped Scope-inScope Intake-tested Intake-verdict Intake-intakeOf Calls-numbers Calls-any Calls-keep Calls-free Calls-held Calls-round Calls-rounds Calls-answer Calls-order Callees-calleesS Callees-calleesF Callees-calleesB Callees-calleesK Callees-calleesC Callees-calleesAt Callees-calls Callees-orderOf Redirect-nameWord Redirect-find Redirect-omitted Redirect-allBelow Redirect-argumentTypes Redirect-agree Redirect-typeBehind Redirect-resultType Redirect-same Redirect-redirecting Redirect-redirectFn Redirect-redirectEntry Redirect-stays Redirect-redirectFns Redirect-withFunctions Redirect-withEntries Redirect-redirect Redirect-refusal Redirect-after Redirect-nothing Redirect-function Redirect-compared Redirect-withReplacement Redirect-withOriginal Redirect-redirectFunction bytesOf redirect-told imageAfter told ofModule afterIntake orderImage packed written redirect-ofModule redirect-afterIntake redirectImage redirect-packed decimal nameText nameIn nameOf numbersText lineText linesText headed orderedText refusing telling told-ofModule told-afterIntake tellingOf p8
+p8-told = refl
+
+pub twice-told : tellingOf twice .text ≡ 114 ∷ 101 ∷ 102 ∷ 117 ∷ 115 ∷ 101 ∷ 100 ∷ 32 ∷ 53 ∷ 10 ∷ []
+unfolding wordOf wordsOf _⟫_ Outcome-eat Outcome-mapO Outcome-exact Outcome-both Outcome-mapL Table-types Table-expressions Table-levels Table-queries Table-values Table-atomics Table-results Table-statements Table-nameRow Table-typeRow Table-constantRow Table-overrideRow Table-globalRow Table-expressionRow Table-functionHead Table-entryHead Table-counted Table-limit Table-variants Table-repeat Table-text Table-variant Table-more Table-follow Table-run Tree-optOf Tree-wordOf Tree-kindOf Tree-sizeB Tree-sizeC Tree-flatAll Tree-flatList Tree-flatX Tree-flatS Tree-flatF Tree-flatB Tree-flatK Tree-flatC Tree-flatBlock Tree-flat Tree-flatEntry Tree-rows Tree-listed Tree-operands Tree-stmts Tree-caseAt Tree-cases Tree-form Tree-checked Tree-shaped Tree-statement Tree-blockAt Tree-functionAt Tree-entryAt Module-next Module-records Module-table Module-specialAt Module-countAt Module-offsetAt Module-endAt Module-limits Module-placed Module-section Module-tableAt _⊛_ Module-read Module-places Module-flatTable Module-flatSpecial Module-sections Module-pairsFrom Module-bodies Module-flatModule Module-write Module-sized Carry-carryCell Carry-carryOpt Carry-carryRange Carry-carryS Carry-carryF Carry-carryB Carry-carryK Carry-carryC Carry-carryFunction Carry-carryEntry Carry-carrySpecial Carry-carry Operands-optional Operands-operand Operands-opsOf Operands-resultOf Operands-functionOf Operands-kind Operands-standingKind Operands-resultKind Operands-emittedKind Operands-constantKind Operands-ops Operands-kindAt Operands-standing Lower-below Lower-basesOf Lower-typesLower Lower-operandsLower Lower-functionsLower Lower-entriesLower Lower-initOf Lower-initsOf Lower-initsLower Lower-lower Names-field Names-present Names-absent Names-distinct Names-same Names-unlike Names-differ Names-expressionsNamed Names-functionsNamed Names-entriesNamed Names-functionNames Names-entryNames Names-named Initial-initsOf Initial-roots Initial-marked Initial-mark Initial-unmarked Initial-readBy Initial-close Initial-reachedMarks Initial-reached Initial-moving Initial-initials Initial-initial Initial-constantAt Initial-initialised Numbers-caps Numbers-bound Numbers-below Numbers-within Numbers-rising Numbers-ordered Numbers-every Numbers-outside Numbers-inside Numbers-sound Numbers-constantOnly Numbers-numbered Scope-upFrom Scope-inRange Scope-live Scope-expandS Scope-expandF Scope-expand Scope-expandK Scope-expandC Scope-shapeS Scope-shapeF Scope-shapeB Scope-shapeK Scope-shapeC Scope-emitted Scope-isOf Scope-callResult Scope-effectResult Scope-kindsS Scope-kindsF Scope-kindsB Scope-kindsK Scope-kindsC Scope-evalsOpt Scope-evalsS Scope-evalsF Scope-evalsB Scope-evalsK Scope-evalsC Scope-has Scope-distinct Scope-addE Scope-addOpt Scope-addF Scope-addS Scope-topB Scope-holdsS Scope-holdsF Scope-holdsB Scope-holdsK Scope-holdsC Scope-contB Scope-vis Scope-allVis Scope-optVis Scope-okE Scope-okS Scope-okF Scope-okB Scope-okK Scope-okC Scope-allOf Scope-seen Scope-scopedAs Scope-scoped Scope-allScoped Scope-entriesScoped Scope-inScope Intake-tested Intake-verdict Intake-intakeOf Calls-numbers Calls-any Calls-keep Calls-free Calls-held Calls-round Calls-rounds Calls-answer Calls-order Callees-calleesS Callees-calleesF Callees-calleesB Callees-calleesK Callees-calleesC Callees-calleesAt Callees-calls Callees-orderOf Redirect-nameWord Redirect-find Redirect-omitted Redirect-allBelow Redirect-argumentTypes Redirect-agree Redirect-typeBehind Redirect-resultType Redirect-same Redirect-redirecting Redirect-redirectFn Redirect-redirectEntry Redirect-stays Redirect-redirectFns Redirect-withFunctions Redirect-withEntries Redirect-redirect Redirect-refusal Redirect-after Redirect-nothing Redirect-function Redirect-compared Redirect-withReplacement Redirect-withOriginal Redirect-redirectFunction bytesOf redirect-told imageAfter told ofModule afterIntake orderImage packed written redirect-ofModule redirect-afterIntake redirectImage redirect-packed decimal nameText nameIn nameOf numbersText lineText linesText headed orderedText refusing telling told-ofModule told-afterIntake tellingOf twice
+twice-told = refl
+
 pub p6-answered : redirect-packed (redirectImage p6 2 1 [] .0) ≡ 281483566645248
-unfolding wordOf wordsOf _⟫_ Outcome-eat Outcome-mapO Outcome-exact Outcome-both Outcome-mapL Table-types Table-expressions Table-levels Table-queries Table-values Table-atomics Table-results Table-statements Table-nameRow Table-typeRow Table-constantRow Table-overrideRow Table-globalRow Table-expressionRow Table-functionHead Table-entryHead Table-counted Table-limit Table-variants Table-repeat Table-text Table-variant Table-more Table-follow Table-run Tree-optOf Tree-wordOf Tree-kindOf Tree-sizeB Tree-sizeC Tree-flatAll Tree-flatList Tree-flatX Tree-flatS Tree-flatF Tree-flatB Tree-flatK Tree-flatC Tree-flatBlock Tree-flat Tree-flatEntry Tree-rows Tree-listed Tree-operands Tree-stmts Tree-caseAt Tree-cases Tree-form Tree-checked Tree-shaped Tree-statement Tree-blockAt Tree-functionAt Tree-entryAt Module-next Module-records Module-table Module-specialAt Module-countAt Module-offsetAt Module-endAt Module-limits Module-placed Module-section Module-tableAt _⊛_ Module-read Module-places Module-flatTable Module-flatSpecial Module-sections Module-pairsFrom Module-bodies Module-flatModule Module-write Module-sized Carry-carryCell Carry-carryOpt Carry-carryRange Carry-carryS Carry-carryF Carry-carryB Carry-carryK Carry-carryC Carry-carryFunction Carry-carryEntry Carry-carrySpecial Carry-carry Operands-optional Operands-operand Operands-opsOf Operands-resultOf Operands-functionOf Operands-kind Operands-standingKind Operands-resultKind Operands-emittedKind Operands-constantKind Operands-ops Operands-kindAt Operands-standing Lower-below Lower-basesOf Lower-typesLower Lower-operandsLower Lower-functionsLower Lower-entriesLower Lower-initOf Lower-initsOf Lower-initsLower Lower-lower Names-field Names-present Names-absent Names-distinct Names-same Names-unlike Names-differ Names-expressionsNamed Names-functionsNamed Names-entriesNamed Names-functionNames Names-entryNames Names-named Initial-initsOf Initial-roots Initial-marked Initial-mark Initial-unmarked Initial-readBy Initial-close Initial-reachedMarks Initial-reached Initial-moving Initial-initials Initial-initial Initial-constantAt Initial-initialised Numbers-caps Numbers-bound Numbers-below Numbers-within Numbers-rising Numbers-ordered Numbers-every Numbers-outside Numbers-inside Numbers-sound Numbers-constantOnly Numbers-numbered Scope-upFrom Scope-inRange Scope-live Scope-expandS Scope-expandF Scope-expand Scope-expandK Scope-expandC Scope-shapeS Scope-shapeF Scope-shapeB Scope-shapeK Scope-shapeC Scope-emitted Scope-isOf Scope-callResult Scope-effectResult Scope-kindsS Scope-kindsF Scope-kindsB Scope-kindsK Scope-kindsC Scope-evalsOpt Scope-evalsS Scope-evalsF Scope-evalsB Scope-evalsK Scope-evalsC Scope-has Scope-distinct Scope-addE Scope-addOpt Scope-addF Scope-addS Scope-topB Scope-holdsS Scope-holdsF Scope-holdsB Scope-holdsK Scope-holdsC Scope-contB Scope-vis Scope-allVis Scope-optVis Scope-okE Scope-okS Scope-okF Scope-okB Scope-okK Scope-okC Scope-allOf Scope-seen Scope-scopedAs Scope-scoped Scope-allScoped Scope-entriesScoped Scope-inScope Intake-tested Intake-verdict Intake-intakeOf Calls-numbers Calls-any Calls-keep Calls-free Calls-held Calls-round Calls-rounds Calls-answer Calls-order Callees-calleesS Callees-calleesF Callees-calleesB Callees-calleesK Callees-calleesC Callees-calleesAt Callees-calls Callees-orderOf Redirect-nameWord Redirect-find Redirect-omitted Redirect-allBelow Redirect-argumentTypes Redirect-agree Redirect-typeBehind Redirect-resultType Redirect-same Redirect-redirecting Redirect-redirectFn Redirect-redirectEntry Redirect-stays Redirect-redirectFns Redirect-withFunctions Redirect-withEntries Redirect-redirect Redirect-refusal Redirect-after Redirect-nothing Redirect-function Redirect-compared Redirect-withReplacement Redirect-withOriginal Redirect-redirectFunction bytesOf redirect-told imageAfter told ofModule afterIntake orderImage packed written redirect-ofModule redirect-afterIntake redirectImage redirect-packed p6
+unfolding wordOf wordsOf _⟫_ Outcome-eat Outcome-mapO Outcome-exact Outcome-both Outcome-mapL Table-types Table-expressions Table-levels Table-queries Table-values Table-atomics Table-results Table-statements Table-nameRow Table-typeRow Table-constantRow Table-overrideRow Table-globalRow Table-expressionRow Table-functionHead Table-entryHead Table-counted Table-limit Table-variants Table-repeat Table-text Table-variant Table-more Table-follow Table-run Tree-optOf Tree-wordOf Tree-kindOf Tree-sizeB Tree-sizeC Tree-flatAll Tree-flatList Tree-flatX Tree-flatS Tree-flatF Tree-flatB Tree-flatK Tree-flatC Tree-flatBlock Tree-flat Tree-flatEntry Tree-rows Tree-listed Tree-operands Tree-stmts Tree-caseAt Tree-cases Tree-form Tree-checked Tree-shaped Tree-statement Tree-blockAt Tree-functionAt Tree-entryAt Module-next Module-records Module-table Module-specialAt Module-countAt Module-offsetAt Module-endAt Module-limits Module-placed Module-section Module-tableAt _⊛_ Module-read Module-places Module-flatTable Module-flatSpecial Module-sections Module-pairsFrom Module-bodies Module-flatModule Module-write Module-sized Carry-carryCell Carry-carryOpt Carry-carryRange Carry-carryS Carry-carryF Carry-carryB Carry-carryK Carry-carryC Carry-carryFunction Carry-carryEntry Carry-carrySpecial Carry-carry Operands-optional Operands-operand Operands-opsOf Operands-resultOf Operands-functionOf Operands-kind Operands-standingKind Operands-resultKind Operands-emittedKind Operands-constantKind Operands-ops Operands-kindAt Operands-standing Lower-below Lower-basesOf Lower-typesLower Lower-operandsLower Lower-functionsLower Lower-entriesLower Lower-initOf Lower-initsOf Lower-initsLower Lower-lower Names-field Names-present Names-absent Names-distinct Names-same Names-unlike Names-differ Names-expressionsNamed Names-functionsNamed Names-entriesNamed Names-functionNames Names-entryNames Names-named Initial-initsOf Initial-roots Initial-marked Initial-mark Initial-unmarked Initial-readBy Initial-close Initial-reachedMarks Initial-reached Initial-moving Initial-initials Initial-initial Initial-constantAt Initial-initialised Numbers-caps Numbers-bound Numbers-below Numbers-within Numbers-rising Numbers-ordered Numbers-every Numbers-outside Numbers-inside Numbers-sound Numbers-constantOnly Numbers-numbered Scope-upFrom Scope-inRange Scope-live Scope-expandS Scope-expandF Scope-expand Scope-expandK Scope-expandC Scope-shapeS Scope-shapeF Scope-shapeB Scope-shapeK Scope-shapeC Scope-emitted Scope-isOf Scope-callResult Scope-effectResult Scope-kindsS Scope-kindsF Scope-kindsB Scope-kindsK Scope-kindsC Scope-evalsOpt Scope-evalsS Scope-evalsF Scope-evalsB Scope-evalsK Scope-evalsC Scope-has Scope-distinct Scope-addE Scope-addOpt Scope-addF Scope-addS Scope-topB Scope-holdsS Scope-holdsF Scope-holdsB Scope-holdsK Scope-holdsC Scope-contB Scope-vis Scope-allVis Scope-optVis Scope-okE Scope-okS Scope-okF Scope-okB Scope-okK Scope-okC Scope-allOf Scope-seen Scope-scopedAs Scope-scoped Scope-allScoped Scope-entriesScoped Scope-inScope Intake-tested Intake-verdict Intake-intakeOf Calls-numbers Calls-any Calls-keep Calls-free Calls-held Calls-round Calls-rounds Calls-answer Calls-order Callees-calleesS Callees-calleesF Callees-calleesB Callees-calleesK Callees-calleesC Callees-calleesAt Callees-calls Callees-orderOf Redirect-nameWord Redirect-find Redirect-omitted Redirect-allBelow Redirect-argumentTypes Redirect-agree Redirect-typeBehind Redirect-resultType Redirect-same Redirect-redirecting Redirect-redirectFn Redirect-redirectEntry Redirect-stays Redirect-redirectFns Redirect-withFunctions Redirect-withEntries Redirect-redirect Redirect-refusal Redirect-after Redirect-nothing Redirect-function Redirect-compared Redirect-withReplacement Redirect-withOriginal Redirect-redirectFunction bytesOf redirect-told imageAfter told ofModule afterIntake orderImage packed written redirect-ofModule redirect-afterIntake redirectImage redirect-packed decimal nameText nameIn nameOf numbersText lineText linesText headed orderedText refusing telling told-ofModule told-afterIntake tellingOf p6
 p6-answered = refl

@@ -1,13 +1,16 @@
 -- Wrong answers of the exported functions contradict their contracts, on document 01's marked cases: so a function that gave one would not be proved. Assumes nothing.
 use mathlib.Core.Path.{_≡_, sym, ap, _∙_}
-use mathlib.Core.List.{List, [], _∷_}
+use mathlib.Core.List.{List, [], _∷_, _++_}
 use Prim.Native.Nat.{ℕ, suc, _+_, _*_}
 use native.Mathlib.Omega.{arith}
-use lib.ListN.{getD}
+use lib.ListN.{length, getD, drop}
+use lib.Seq.{sets}
+use Rattle.words.proofs.Laws.{sets-front}
 use Rattle.intake.specs.Taken.{Answers}
 use Rattle.basic.specs.Images.{Orders}
 use Rattle.layered.specs.Images.{Answers as Redirects}
-use Rattle.refuted.specs.Answers.{p5, p6, p8, twice, p6-accepted, twice-refused, p5-ordered, p8-left, p6-called, p6-redirected, p6-answered}
+use Rattle.listing.specs.Lines.{tellingOf, Says}
+use Rattle.refuted.specs.Answers.{p5, p6, p8, twice, p6-accepted, twice-refused, p5-ordered, p8-left, p6-called, p6-redirected, p6-answered, p6-told}
 
 -- ---- intake
 -- one that refuses P6, whatever the number
@@ -54,3 +57,19 @@ not-swapped image a = let e : (1 + 65536 * 2) * 4294967296 ≡ 281483566645248 =
 
 pub not-numberless : (image : List ℕ) → Redirects 0 image p6 2 1 [] → ⊥
 not-numberless image a = let e : _≡_ {A = ℕ} 0 281483566645248 = a .same .0 ∙ p6-answered in absurd (omega arith)
+
+-- ---- the text of `order`
+-- P6's lines counted from 1, in a buffer as long as they are
+abbrev from-one : List ℕ
+from-one = 102 ∷ 117 ∷ 110 ∷ 99 ∷ 116 ∷ 105 ∷ 111 ∷ 110 ∷ 115 ∷ 32 ∷ 51 ∷ 10 ∷ 49 ∷ 32 ∷ 49 ∷ 32 ∷ 116 ∷ 111 ∷ 110 ∷ 101 ∷ 10 ∷ 50 ∷ 32 ∷ 50 ∷ 32 ∷ 102 ∷ 111 ∷ 103 ∷ 10 ∷ 51 ∷ 32 ∷ 48 ∷ 32 ∷ 115 ∷ 104 ∷ 97 ∷ 100 ∷ 101 ∷ 10 ∷ []
+
+pub not-from-one : (out : List ℕ) (count refusal left : ℕ) → length out ≡ 39 → Says (tellingOf p6) out from-one count refusal left → ⊥
+not-from-one out count refusal left h a =
+    let e : from-one ≡ sets out 0 (tellingOf p6 .text) = a .puts .is in
+    let f : sets out 0 (tellingOf p6 .text) ≡ tellingOf p6 .text ++ drop (length (tellingOf p6 .text)) out = sets-front (tellingOf p6 .text) out (omega (arith, ap length p6-told)) in
+    let g : _≡_ {A = ℕ} 49 48 = ap (λ l. getD l 12 0) (e ∙ f ∙ ap (λ t. t ++ drop (length (tellingOf p6 .text)) out) p6-told) in
+    absurd (omega arith)
+
+-- the text without its last line
+pub not-cut : (out out′ : List ℕ) (refusal left : ℕ) → Says (tellingOf p6) out out′ 29 refusal left → ⊥
+not-cut out out′ refusal left a = absurd (omega (arith, a .puts .ends, ap length p6-told))
