@@ -26,9 +26,10 @@ use Rattle.sessions.specs.Entering.{EntryPiece, all-entered, entries-sound}
 use Rattle.sessions.specs.Ending.{parts, three}
 use Rattle.sessions.specs.Operating.{GoodBy, Good, good-holds}
 use Rattle.state.specs.Flats.{functionOf, entryOf, specialOf}
-use Rattle.state.specs.Held.{recsAt, tableOf, recsOf, functionsOf, entriesOf, stOf, sizeR, Over, long, many, crowd, keys, Kept}
+use Rattle.state.specs.Held.{tableOf, recsOf, functionsOf, entriesOf, stOf, sizeR, Over, long, many, crowd, keys, Kept}
 use Rattle.state.specs.declared.Ends.{Ends}
 use Rattle.state.proofs.State.{code-low, table-long, pairs-long, words-are}
+use Rattle.state.proofs.Laws.{none-held}
 use Rattle.limits.specs.Full.{Full, over, entries, full-large, large-full}
 use Rattle.limits.specs.Reached.{Reached, At}
 
@@ -120,11 +121,7 @@ kept-fits {log} {tags} {starts} {maps} {marks} {e} K words special = go
     go (over (keys h)) = omega (arith, pairs-long special (e .pairs) 3, K .few-pairs)
     go (entries h) = omega (arith, length-map (tableOf log tags starts (e .counts) 7) entryOf, table 7 (omega arith), K .few-entries)
 
--- where they hold no entry points
-pub none-held : (log tags : List ℕ) (starts : List (List ℕ)) (counts : List ℕ) → getD counts 7 0 ≡ 0 → (entriesOf log tags starts counts ≡ []) × (sizeR (tableOf log tags starts counts 7) ≡ 0)
-unfolding entriesOf sizeR recsAt
-none-held log tags starts counts e = (rw e, rw e)
-
+-- where they hold no entry points, that is `Over` with no words beside it
 pub kept-not-over : {log tags : List ℕ} {starts maps : List (List ℕ)} {marks : List ℕ} {e : Ends} → Kept log tags starts maps marks e → getD (e .counts) 7 0 ≡ 0 → (words special : List ℕ) → Over 0 (stOf words log tags starts maps special e) → ⊥
 unfolding sizeR
 kept-not-over {log} {tags} {starts} {maps} {e} K z words special h = kept-fits K words special (rw (none-held log tags starts (e .counts) z .0) (over h))
