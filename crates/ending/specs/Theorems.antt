@@ -47,5 +47,5 @@ told-writes s (refused k) output = refl
 
 -- ---- arrays that meet what finish asks for: those of a session that has nothing yet
 pub held-nothing : (log tags : List ℕ) (starts : List (List ℕ)) → length log ≡ 16384 → length tags ≡ 16384 → length starts ≡ 8 → ((t : ℕ) → t < 8 → length (getD starts t []) ≡ 512)
-    → Held log tags starts (record { full = false; used = 0; counts = replicate 8 0; pairs = 0; et = 0; bt = 0 })
+    → Held log tags starts (record { full = false; used = 0; counts = replicate 8 0; pairs = 0; et = 0; bt = 0; made = 0 })
 held-nothing log tags starts hl ht hs hr = record { maps = replicate 6 (replicate 512 0); marks = replicate 16384 0; kept = kept-nothing log tags starts (replicate 16384 0) hl ht (length-replicate {A = ℕ} 16384 0) hs hr }
