@@ -4,34 +4,32 @@ use mathlib.Core.Bool.{false}
 use mathlib.Core.List.{List, [], _∷_, map}
 use Prim.Native.Nat.{ℕ, zero, suc, _+_, _*_, _≤_, _<_}
 use native.Mathlib.Omega.{arith}
-use lib.Dec.{eqb, ltb}
 use lib.ListN.{length, getD, take}
-use lib.Seq.{sets, ext-getD, length-take-le, getD-take}
+use lib.Seq.{ext-getD, length-take-le, getD-take}
 use borrow.Author.Tests.{ne-eqb, lt-ltb, le-ltb}
-use Rattle.words.specs.Words.{bytesOf}
 use Rattle.model.specs.Outcome.{Cells, class, word}
-use Rattle.model.specs.Table.{NAME, KEY, TYPE, OPT-TYPE}
-use Rattle.model.specs.Tree.{Entry, flat, flatEntry, flatAll}
+use Rattle.model.specs.Table.{NAME}
+use Rattle.model.specs.Tree.{Entry, flatAll}
 use Rattle.model.specs.Module.{Module, flatSpecial, write}
 use Rattle.model.specs.Carry.{Each, each-none, each-next}
 use Rattle.model.specs.Tables.{codeT, six}
 use Rattle.model.specs.Imports.{St}
 use Rattle.model.specs.Finish.{appearing, namedBy, gathered, finished, tooLarge}
-use Rattle.model.specs.Session.{new, answered, refused, ending}
+use Rattle.model.specs.Session.{ending}
 use Rattle.finishing.specs.Classes.{Not}
 use Rattle.laws.specs.Quiet.{each-map}
 use Rattle.state.specs.Flats.{pairsAt, specialOf}
-use Rattle.state.specs.Held.{row, cell, recAt, recsAt, tableOf, recsOf, functionsOf, entriesOf, stOf, Nameless, Kept}
+use Rattle.state.specs.Held.{row, cell, recAt, recsAt, tableOf, recsOf, entriesOf, stOf, Nameless, Kept}
 use Rattle.state.specs.declared.Ends.{Ends}
 use Rattle.state.proofs.State.{table-long, pairs-long}
 use Rattle.state.proofs.Laws.{nameless-none, name-low, special-words}
 use Rattle.writing.specs.Flat.{total, ordered, finishedWords, cellsOf}
-use Rattle.writing.specs.Held.{tabsOf, Rec, Row, Rows, Derived, Fits, Stored, large, short, done}
+use Rattle.writing.specs.Held.{tabsOf, Rec, Derived, Fits, Stored, large, short, done}
 use Rattle.writing.proofs.Whole.{length-tabs}
 use Rattle.writing.proofs.Storing.{tabs-at, length-finished}
 use Rattle.writing.proofs.Bridge.{finished-cells}
 use Rattle.writing.proofs.Limits.{large-is, fits-is}
-use Rattle.ending.specs.Told.{told, Held, Ended}
+use Rattle.ending.specs.Told.{told, Ended}
 
 -- a fact of the records at these starts
 each-recs : {P : Cells → Type 0} (log tags ss : List ℕ) → ((k : ℕ) → k < length ss → P (recAt log tags (getD ss k 0))) → Each P (recsAt log tags ss)

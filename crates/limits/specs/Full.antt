@@ -1,12 +1,12 @@
 -- FULL, as the code means it, is refusal 21, as the model says it, of what is gathered: the words that the code counts are the image's, and the counts that it looks at are those that the limits bound.
-use mathlib.Core.Path.{_≡_, refl, ap, _∙_}
+use mathlib.Core.Path.{_≡_, refl, _∙_}
 use mathlib.Core.Logic.{⊎-elim}
-use mathlib.Core.Bool.{Bool, true, false, _||_, false≢true}
+use mathlib.Core.Bool.{true, false, false≢true}
 use mathlib.Core.List.{List, [], _∷_, map}
-use Prim.Native.Nat.{ℕ, suc, _+_, _*_, _<_}
+use Prim.Native.Nat.{ℕ, _+_, _*_, _<_}
 use native.Mathlib.Omega.{arith}
 use lib.Dec.{ltb}
-use lib.ListN.{length, length-append, length-map}
+use lib.ListN.{length, length-append}
 use borrow.Author.Tests.{lt-ltb, ltb-true}
 use Rattle.model.specs.Outcome.{Cells}
 use Rattle.model.specs.Tree.{Entry, flat, flatEntry, flatAll}

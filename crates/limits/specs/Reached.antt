@@ -14,7 +14,7 @@ use Rattle.model.specs.Tables.{Tab, names, types, isT, tables, count}
 use Rattle.model.specs.Imports.{St, importT, renamed}
 use Rattle.model.specs.Special.{sourced}
 use Rattle.model.specs.Bodies.{append, follow}
-use Rattle.model.specs.Session.{Source, Session, new, ringing, finish}
+use Rattle.model.specs.Session.{Source, Session, new, ringing}
 use Rattle.finishing.specs.Shown.{Shown}
 use Rattle.finishing.specs.ShownSource.{None, nowhere, source-sound, rename-shown, record-shown, call-shown, import-function-shown, sourced-shown}
 use Rattle.finishing.specs.NamedSession.{NamedBy, Named, new-named, set-named, clear-named, span-named, import-named, rename-named, function-named, handle-named, finish-named, end-named}

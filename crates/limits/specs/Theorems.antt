@@ -9,7 +9,7 @@ use lib.ListN.{length, getD, length-map}
 use Rattle.model.specs.Tree.{Entry, flatEntry, flatAll}
 use Rattle.model.specs.Carry.{Each, each-none}
 use Rattle.model.specs.Initial.{Mem}
-use Rattle.model.specs.Tables.{Tab, codeT, Tables, tables, count}
+use Rattle.model.specs.Tables.{Tab, codeT, Tables, count}
 use Rattle.model.specs.Imports.{St}
 use Rattle.model.specs.Bodies.{enterAll, entriesMade}
 use Rattle.model.specs.Finish.{namesIn, gathered, finished, tooLarge}
