@@ -3,3 +3,6 @@ pub mod Went
 pub mod Growth
 pub mod Then
 pub mod Appends
+pub mod Carries
+pub mod Stacked
+pub mod Writes
