@@ -12,10 +12,11 @@ use Rattle.model.specs.Table.{EXPR}
 use Rattle.model.specs.Module.{Module, countAt}
 use Rattle.model.specs.Between.{between}
 use Rattle.model.specs.References.{target}
-use Rattle.model.specs.Bodies.{Making, bring}
+use Rattle.model.specs.Bodies.{Making, bring, join, unique}
+use Rattle.bodies.specs.Shallow.{peek, glance}
 use Rattle.passes.specs.Pass.{arrive}
 use Rattle.passes.specs.Cases.{along}
-use Rattle.passes.specs.Growth.{grow-all, grow-arrive}
+use Rattle.passes.specs.Growth.{grow-all, grow-arrive, grow-peek, grow-unique}
 use Rattle.passes.specs.Light.{still}
 use Rattle.laws.specs.Betweens.{between-none, between-next}
 use Rattle.state.specs.Source.{modOf, srcOf, refersTo, numberOf}
@@ -24,11 +25,12 @@ use Rattle.state.specs.declared.Ends.{Ends}
 use Rattle.ground.specs.Fits.{Legible, recordOf}
 use Rattle.outside.proofs.Cells.{arrive-own, arrive-none, arrive-still, fit-own, fit-table}
 use Rattle.outside.proofs.Passing.{legible-next, legible-here}
-use Rattle.making.specs.Stacks.{makingOf, Under}
-use Rattle.making.specs.Makes.{Makes}
+use Rattle.making.specs.Stacks.{exprsOf, Expressions, makingOf, Under}
+use Rattle.making.specs.Makes.{Makes, Lays}
 use Rattle.making.proofs.Stack.{between-join}
 use Rattle.making.proofs.Growth.{GrowM, growing}
 use Rattle.making.proofs.Then.{makes-then, makes-full, makes-none, makes-lift}
+use Rattle.operands.proofs.Needs.{glance-is, unique-is}
 
 -- ---- h imports an expression
 module _ (o : ℕ) (M : Module) (h : ℕ → Making → Making) where
@@ -54,25 +56,25 @@ pub record Alongs (words tags : List ℕ) (n k o b at end : ℕ) (h : ℕ → Ma
   pub passed : Makes words k (along o (modOf words n) still h h (between tags words at i)) log₀ classes₀ starts₀ maps₀ marks₀ em₀ stacks₀ e₁ e₀ e log classes starts maps marks em stacks
 
 module _ {words tags : List ℕ} {n k o b at end : ℕ} {h : ℕ → Making → Making} {log₀ classes₀ : List ℕ} {starts₀ maps₀ : List (List ℕ)} {marks₀ em₀ : List ℕ} {stacks₀ : List (List ℕ)} {e₁ : ℕ} {e₀ : Ends} (K₀ : Kept log₀ classes₀ starts₀ maps₀ marks₀ e₀) where
-  abbrev M : Module
-  M = modOf words n
-
-  abbrev m₀ : List ℕ → Making
-  m₀ special = makingOf words k log₀ classes₀ starts₀ maps₀ special e₀ em₀ stacks₀ e₁
-
   pub along-begin : Legible words tags b at end → e₀ .full ≡ false → Under k em₀ stacks₀ e₁ e₀ → Alongs words tags n k o b at end h log₀ classes₀ starts₀ maps₀ marks₀ em₀ stacks₀ e₁ e₀ log₀ classes₀ starts₀ maps₀ marks₀ em₀ stacks₀ e₀ at
+  unfolding along
   along-begin L nf U = record {
     left = L;
     behind = le-refl at;
     going = nf;
-    passed = makes-none words k e₁ log₀ classes₀ starts₀ maps₀ marks₀ em₀ stacks₀ e₀ K₀ U nf (along o M still h h (between tags words at at)) (λ special. nothing (m₀ special));
+    passed = makes-none words k e₁ log₀ classes₀ starts₀ maps₀ marks₀ em₀ stacks₀ e₀ K₀ U nf (along o (modOf words n) still h h (between tags words at at)) (λ special. nothing (makingOf words k log₀ classes₀ starts₀ maps₀ special e₀ em₀ stacks₀ e₁));
   }
     where
-      nothing : (m : Making) → along o M still h h (between tags words at at) m ≡ m
-      unfolding along
+      nothing : (m : Making) → along o (modOf words n) still h h (between tags words at at) m ≡ m
       nothing m = rw (between-none tags words at at (le-refl at))
 
   module _ {log classes : List ℕ} {starts maps : List (List ℕ)} {marks em : List ℕ} {stacks : List (List ℕ)} {e : Ends} {i : ℕ} (inv : Alongs words tags n k o b at end h log₀ classes₀ starts₀ maps₀ marks₀ em₀ stacks₀ e₁ e₀ log classes starts maps marks em stacks e i) where
+    abbrev M : Module
+    M = modOf words n
+
+    abbrev m₀ : List ℕ → Making
+    m₀ special = makingOf words k log₀ classes₀ starts₀ maps₀ special e₀ em₀ stacks₀ e₁
+
     pub along-kept : Kept log classes starts maps marks e
     along-kept = inv .passed .kept (inv .going)
 
@@ -114,12 +116,12 @@ module _ {words tags : List ℕ} {n k o b at end : ℕ} {h : ℕ → Making → 
         along-number low l = rw (ht, hj) (fit-table words b s (getD words i 0) low (rw ht at l) (rw hs (legible-here (inv .left) less)) .0)
 
         pub along-record : s < EXPR → {r : Ends} {log′ classes′ : List ℕ} {starts′ maps′ : List (List ℕ)} {marks′ : List ℕ} → Lands words (recordOf o (srcOf words n) t j) log classes starts maps marks e r log′ classes′ starts′ maps′ marks′ → Turned r log′ classes′ starts′ maps′ marks′ em stacks
+        unfolding srcOf
         along-record low {r} {log′} {classes′} {starts′} {maps′} {marks′} L =
             turn (bring (recordOf o (srcOf words n) t j)) brings r log′ classes′ starts′ maps′ marks′ em stacks
             (makes-lift words k e₁ log classes starts maps marks em stacks e along-kept along-under (recordOf o (srcOf words n) t j) r log′ classes′ starts′ maps′ marks′ L)
           where
             brings : (m : Making) → arrive o M still h h (target (getD tags i 0)) (getD words i 0) m ≡ bring (recordOf o (srcOf words n) t j) m
-            unfolding srcOf
             brings m = rw (ht, hj, ← hs) (arrive-still o M h h s (getD words i 0) m low)
 
         -- an operand
@@ -158,3 +160,34 @@ module _ {words tags : List ℕ} {n k o b at end : ℕ} {h : ℕ → Making → 
       -- nothing is behind them
       pub along-done : (f : Making → Making) → ((special : List ℕ) → f (m₀ special) ≡ along o M still h h (between tags words at end) (m₀ special)) → Makes words k f log₀ classes₀ starts₀ maps₀ marks₀ em₀ stacks₀ e₁ e₀ e log classes starts maps marks em stacks
       along-done f is = along-then f (λ m. m) is stay
+
+-- ---- expression e, which is new
+module _ {words tags places : List ℕ} {k : ℕ} (X : Expressions words tags places k) (n o : ℕ)
+    {log₀ classes₀ : List ℕ} {starts₀ maps₀ : List (List ℕ)} {marks₀ em₀ : List ℕ} {stacks₀ : List (List ℕ)} {e₁ : ℕ} {d : Ends} (nf : d .full ≡ false) (K : Kept log₀ classes₀ starts₀ maps₀ marks₀ d) (U : Under k em₀ stacks₀ e₁ d)
+    {x : ℕ} (hx : x < k) (new : getD em₀ x 0 ≡ 0) {at end : ℕ} (ha : at ≡ getD places x 0) (he : end ≡ getD places (x + 1) 0) where
+  abbrev T : Module
+  T = modOf words n
+
+  abbrev xs : List Cells
+  xs = exprsOf words tags places k
+
+  -- in an Emit's first pass, its operands that stand
+  module _ {log classes : List ℕ} {starts maps : List (List ℕ)} {marks em : List ℕ} {stacks : List (List ℕ)} {e : Ends} {i : ℕ}
+      (inv : Alongs words tags n k o x at end (peek o T still xs) log₀ classes₀ starts₀ maps₀ marks₀ em₀ stacks₀ e₁ d log classes starts maps marks em stacks e i) where
+    pub glance-full : (less : i < end) {r : Ends} {log′ classes′ : List ℕ} {starts′ maps′ : List (List ℕ)} {marks′ em′ : List ℕ} {stacks′ : List (List ℕ)} → Turned K inv less r log′ classes′ starts′ maps′ marks′ em′ stacks′
+        → r .full ≡ true → Makes words k (glance o T still xs x) log₀ classes₀ starts₀ maps₀ marks₀ em₀ stacks₀ e₁ d r log′ classes′ starts′ maps′ marks′ em′ stacks′
+    glance-full less A q = along-full K inv less A xs (grow-peek o T still xs GrowM (growing o T xs)) (glance o T still xs x) (λ m. m) (growing o T xs .same) (glance-is X n o nf K U hx new ha he) q
+
+    pub glance-done : end ≤ i → Makes words k (glance o T still xs x) log₀ classes₀ starts₀ maps₀ marks₀ em₀ stacks₀ e₁ d e log classes starts maps marks em stacks
+    glance-done past = along-done K inv past (glance o T still xs x) (glance-is X n o nf K U hx new ha he)
+
+  -- of an initialiser, all of them, and it is merged behind them
+  module _ {log classes : List ℕ} {starts maps : List (List ℕ)} {marks em : List ℕ} {stacks : List (List ℕ)} {e : Ends} {i : ℕ}
+      (inv : Alongs words tags n k o x at end (unique o T still xs) log₀ classes₀ starts₀ maps₀ marks₀ em₀ stacks₀ e₁ d log classes starts maps marks em stacks e i) where
+    pub unique-full : (less : i < end) {r : Ends} {log′ classes′ : List ℕ} {starts′ maps′ : List (List ℕ)} {marks′ em′ : List ℕ} {stacks′ : List (List ℕ)} → Turned K inv less r log′ classes′ starts′ maps′ marks′ em′ stacks′
+        → r .full ≡ true → Makes words k (unique o T still xs x) log₀ classes₀ starts₀ maps₀ marks₀ em₀ stacks₀ e₁ d r log′ classes′ starts′ maps′ marks′ em′ stacks′
+    unique-full less A q = along-full K inv less A xs (grow-unique o T still xs GrowM (growing o T xs)) (unique o T still xs x) (join o T still xs x) (growing o T xs .merges x) (unique-is X n o nf K U hx new ha he) q
+
+    pub unique-done : end ≤ i → {r : Ends} {em′ : List ℕ} {stacks′ : List (List ℕ)} → Lays words k (join o T still xs x) log classes starts maps em stacks e₁ e r em′ stacks′
+        → Makes words k (unique o T still xs x) log₀ classes₀ starts₀ maps₀ marks₀ em₀ stacks₀ e₁ d r log classes starts maps marks em′ stacks′
+    unique-done past A = along-then K inv past (unique o T still xs x) (join o T still xs x) (unique-is X n o nf K U hx new ha he) (A .lays marks (along-kept K inv))

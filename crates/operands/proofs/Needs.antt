@@ -66,6 +66,9 @@ module _ {words tags places : List ℕ} {k : ℕ} (X : Expressions words tags pl
           let L = expr-legible X e h in
           rw (ha, he′) (record { stretch = L .stretch; words-long = L .words-long; tags-long = L .tags-long; fits = expr-fits X e h e (le-refl e) })
 
+    pub first-in : {at : ℕ} → at ≡ getD places e 0 → at < 16384
+    first-in ha = let a = expr-some X e h in let b = expr-low X e h in omega arith
+
     -- whether it stands is told by its first word
     module _ {at w : ℕ} (ha : at ≡ getD places e 0) (hw : w ≡ getD words at 0) where
       kind-is : kindAt (exprsOf words tags places k) e ≡ w
