@@ -1,22 +1,21 @@
 -- One expression: it is mapped and nothing is done; or it is new, and what it refers to outside the function comes, and then the expression itself. And whether it stands. Assumes nothing.
 use mathlib.Core.Path.{_≡_, refl, sym, ap, _∙_}
 use mathlib.Core.Bool.{Bool, true, false}
-use mathlib.Core.List.{List, [], _∷_}
-use Prim.Native.Nat.{ℕ, suc, _+_, _≤_, _<_}
+use mathlib.Core.List.{List, []}
+use Prim.Native.Nat.{ℕ, suc, _+_, _<_}
 use native.Mathlib.Nat.{le-refl}
 use native.Mathlib.Numerals.{add-one}
 use native.Mathlib.Omega.{arith}
 use lib.ListN.{length, getD, take}
 use lib.Seq.{getD-take, length-take-le}
 use Rattle.model.specs.Outcome.{Cells}
-use Rattle.model.specs.Table.{EXPR-KIND}
 use Rattle.model.specs.Module.{Module}
 use Rattle.model.specs.Between.{between}
-use Rattle.model.specs.References.{Place, table, own, function, Node, refs}
+use Rattle.model.specs.References.{Place, table, own, function, refs}
 use Rattle.model.specs.Operands.{kind, standingKind, kindAt, standing}
 use Rattle.model.specs.Bodies.{Making, bring, push, join, unique}
 use Rattle.imports.specs.RecordLaws.{all-map}
-use Rattle.bodies.specs.Context.{OwnP, Own}
+use Rattle.bodies.specs.Context.{OwnP}
 use Rattle.bodies.specs.Shallow.{need, peek, glance}
 use Rattle.passes.specs.Cases.{along}
 use Rattle.passes.specs.Operands.{Lower, outward, need-mapped, need-new, peek-moving, peek-standing, glance-mapped, glance-new, unique-mapped, unique-new}
@@ -25,7 +24,7 @@ use Rattle.laws.specs.Betweens.{between-next}
 use Rattle.state.specs.Source.{modOf}
 use Rattle.state.specs.Held.{Kept, Lands}
 use Rattle.state.specs.declared.Ends.{Ends}
-use Rattle.ground.specs.Fits.{Fits, FitN, Legible}
+use Rattle.ground.specs.Fits.{Fits, Legible}
 use Rattle.making.specs.Stacks.{exprsOf, Expressions, makingOf, Under}
 use Rattle.making.specs.Makes.{Makes, Lays}
 use Rattle.making.proofs.Stack.{cut-long, expr-is, expr-some, expr-low, expr-fits, expr-legible}
