@@ -1,1 +1,4 @@
 pub mod Stack
+pub mod Went
+pub mod Growth
+pub mod Then
