@@ -8,7 +8,7 @@ use native.Mathlib.Nat.{le-refl, le-trans}
 use native.Mathlib.Numerals.{add-one}
 use native.Mathlib.Omega.{arith}
 use lib.ListN.{length, getD, set, take, drop, length-append, length-set, length-map, take-append-drop}
-use lib.Seq.{slice, sets, sets-eq, length-sets, length-slice, length-take-le, take-take, take-append-le, drop-append-le, take-at, drop-at, take-suc-set, getD-take, getD-set-same, getD-set-other}
+use lib.Seq.{slice, sets, sets-eq, length-sets, length-slice, length-take-le, take-take, take-append-le, drop-append-le, take-at, drop-at, take-suc-set, take-set-le, getD-take, getD-set-same, getD-set-other}
 use Rattle.model.specs.Outcome.{Cells, class, word}
 use Rattle.model.specs.Tree.{flatAll}
 use Rattle.model.specs.Between.{beside, between, Stretch}
@@ -18,10 +18,10 @@ use Rattle.laws.specs.Betweens.{beside-cells, between-none}
 use Rattle.state.specs.Held.{row, put, Written}
 use Rattle.state.specs.declared.Ends.{Ends}
 use Rattle.state.proofs.Passes.{length-between}
-use Rattle.state.proofs.State.{same-or, row-other, put-row}
+use Rattle.state.proofs.State.{same-or, row-other}
 use Rattle.ground.specs.Fits.{Fits, FitN, Legible}
 use Rattle.making.specs.Stacks.{nextOf, cut, Rising, exprsOf, Expressions, seatsOf, madeOf, Stacks, Under}
-use Rattle.making.specs.Makes.{Wrote}
+use Rattle.making.specs.Makes.{Stays, Wrote}
 
 -- ---- stretches
 pub take-less : {A : Type 0} (m n : ℕ) (a b : List A) → m ≤ n → take n a ≡ take n b → take m a ≡ take m b
@@ -235,3 +235,109 @@ module _ {k : ℕ} {em : List ℕ} {stacks : List (List ℕ)} {e₁ : ℕ} {e : 
       made-is = rw seats-same (U .made-is ∙ sym made-is);
       within = λ x. rw made-is (U .within x);
     }
+
+-- ---- cells written from p on
+module _ (cs : Cells) (p : ℕ) (words tags words′ tags′ : List ℕ) (hw : length words ≡ 16384) (ht : length tags ≡ 16384) (fits : p + length cs ≤ 16384) (W : Written cs p words tags words′ tags′) where
+  below : (l vs : List ℕ) → p + length vs ≤ length l → take p (sets l p vs) ≡ take p l
+  below l vs h =
+      let a = length-take-le p l (omega arith) in
+      rw (sets-eq vs l p h, take-append-le p (take p l ++ vs) (drop (p + length vs) l) (omega (arith, length-append (take p l) vs))) (take-at (take p l) vs p a)
+
+  there : (l vs : List ℕ) → p + length vs ≤ length l → slice p (p + length vs) (sets l p vs) ≡ vs
+  there l vs h =
+      let a = length-take-le p l (omega arith) in
+      let b = length-append (take p l) vs in
+      rw (sets-eq vs l p h, take-at (take p l ++ vs) (drop (p + length vs) l) (p + length vs) (omega arith), drop-at (take p l) vs p a)
+
+  pub wrote-words : take p words′ ≡ take p words
+  wrote-words = rw (W .words-are) (below words (map word cs) (omega (arith, length-map cs word)))
+
+  pub wrote-tags : take p tags′ ≡ take p tags
+  wrote-tags = rw (W .tags-are) (below tags (map class cs) (omega (arith, length-map cs class)))
+
+  pub wrote-long : length words′ ≡ 16384
+  wrote-long = rw (W .words-are) (length-sets words p (map word cs) ∙ hw)
+
+  pub wrote-long′ : length tags′ ≡ 16384
+  wrote-long′ = rw (W .tags-are) (length-sets tags p (map class cs) ∙ ht)
+
+  pub wrote-cells : between tags′ words′ p (p + length cs) ≡ cs
+  unfolding between
+  wrote-cells =
+      let a : slice p (p + length cs) (sets tags p (map class cs)) ≡ map class cs = rw (length-map cs class) at (there tags (map class cs) (omega (arith, length-map cs class))) in
+      let b : slice p (p + length cs) (sets words p (map word cs)) ≡ map word cs = rw (length-map cs word) at (there words (map word cs) (omega (arith, length-map cs word))) in
+      rw (W .words-are, W .tags-are) (ap₂ beside a b ∙ beside-cells cs)
+
+-- ---- one expression more on the top
+pub set-low : (ms : List ℕ) (i v n : ℕ) → i < length ms → ((y : ℕ) → getD ms y 0 ≤ n) → v ≤ n → (y : ℕ) → getD (set ms i v) y 0 ≤ n
+set-low ms i v n l h hv y = ⊎-elim (λ (q : y ≡ i). rw (q, getD-set-same ms i v 0 l) hv) (λ (ne : y ≡ i → ⊥). rw (getD-set-other ms i y v 0 ne) (h y)) (same-or y i)
+
+module _ {k : ℕ} {em : List ℕ} {stacks : List (List ℕ)} {e₁ : ℕ} {e : Ends} (U : Under k em stacks e₁ e) (cs : Cells) (some : 0 < length cs) (fits : e .et + length cs ≤ 16384) (stacks′ : List (List ℕ)) (W : Wrote cs (e .et) stacks stacks′) where
+  abbrev pub seated : List (List ℕ)
+  seated = put stacks′ 2 (e₁ + e .made) (e .et)
+
+  others : (t : ℕ) → (t ≡ 2 → ⊥) → row seated t ≡ row stacks′ t
+  others t ne = row-other stacks′ 2 t (e₁ + e .made) (e .et) ne
+
+  seats : row seated 2 ≡ set (row stacks 2) (e₁ + e .made) (e .et)
+  seats = let f = W .four in rw (← W .seats-same) (getD-set-same stacks′ 2 (set (getD stacks′ 2 []) (e₁ + e .made) (e .et)) [] (omega arith))
+
+  abbrev R : (t : ℕ) → t < 4 → length (row stacks t) ≡ 16384
+  R = U .stacks-are .rows
+
+  words-below : take (e .et) (row seated 0) ≡ take (e .et) (row stacks 0)
+  words-below = rw (others 0 (λ q. omega arith)) (wrote-words cs (e .et) (row stacks 0) (row stacks 1) (row stacks′ 0) (row stacks′ 1) (R 0 (omega arith)) (R 1 (omega arith)) fits (W .cells))
+
+  tags-below : take (e .et) (row seated 1) ≡ take (e .et) (row stacks 1)
+  tags-below = rw (others 1 (λ q. omega arith)) (wrote-tags cs (e .et) (row stacks 0) (row stacks 1) (row stacks′ 0) (row stacks′ 1) (R 0 (omega arith)) (R 1 (omega arith)) fits (W .cells))
+
+  room : e₁ + e .made < 16384
+  room = let a = made-low U in omega arith
+
+  -- what was below the function's first expression is there
+  pub stays-more : Stays e₁ stacks seated
+  stays-more = record { expressions = kept; body = others 3 (λ q. omega arith) ∙ W .body-same }
+    where
+      low : e₁ ≤ e .et
+      low = let a = made-low U in omega arith
+
+      kept : (t : ℕ) → t < 3 → take e₁ (row seated t) ≡ take e₁ (row stacks t)
+      kept zero h = take-less e₁ (e .et) (row seated 0) (row stacks 0) low words-below
+      kept (suc zero) h = take-less e₁ (e .et) (row seated 1) (row stacks 1) low tags-below
+      kept (suc (suc zero)) h = rw seats (take-set-le e₁ (row stacks 2) (e₁ + e .made) (e .et) (omega arith))
+      kept (suc (suc (suc t))) h = absurd (omega arith)
+
+  module _ (r : Ends) (et-is : r .et ≡ e .et + length cs) (made-is : r .made ≡ e .made + 1) where
+    pub seats-more : seatsOf seated e₁ r ≡ seatsOf stacks e₁ e ++ (e .et ∷ [])
+    unfolding seatsOf
+    seats-more =
+        let l = R 2 (omega arith) in
+        let b = room in
+        let t = length-take-le (e₁ + e .made) (row stacks 2) (omega arith) in
+        let n : e₁ + r .made ≡ suc (e₁ + e .made) = omega arith in
+        rw (seats, n, take-suc-set (row stacks 2) (e₁ + e .made) (e .et) (omega arith)) (drop-append-le e₁ (take (e₁ + e .made) (row stacks 2)) (e .et ∷ []) (omega arith))
+
+    pub made-more : madeOf seated e₁ r ≡ madeOf stacks e₁ e ++ (cs ∷ [])
+    unfolding madeOf
+    made-more =
+        let a = cut-same (seatsOf stacks e₁ e) e₁ (e .et) (row stacks 1) (row stacks 0) (row seated 1) (row seated 0) (U .rising) tags-below words-below in
+        let b = wrote-cells cs (e .et) (row stacks 0) (row stacks 1) (row stacks′ 0) (row stacks′ 1) (R 0 (omega arith)) (R 1 (omega arith)) fits (W .cells) in
+        let c : between (row seated 1) (row seated 0) (e .et) (e .et + length cs) ≡ cs = rw (others 0 (λ q. omega arith), others 1 (λ q. omega arith)) b in
+        rw (seats-more, et-is, cut-more (seatsOf stacks e₁ e) (e .et) (e .et + length cs) (row seated 1) (row seated 0), a, c)
+
+    pub under-more : r .bt ≡ e .bt → (i : ℕ) → i < 1024 → Under k (set em i (e .made + 1)) seated e₁ r
+    under-more bt-is i hi = record {
+      few = U .few;
+      em-long = length-set em i (e .made + 1) ∙ U .em-long;
+      stacks-are = record { four = length-set stacks′ 2 _ ∙ W .four; rows = rows; high = rw et-is fits; high′ = rw bt-is (U .stacks-are .high′) };
+      rising = rw (seats-more, et-is) (rising-more (seatsOf stacks e₁ e) e₁ (e .et) (e .et + length cs) (U .rising) (omega arith));
+      made-is = rw seats-more (length-append (seatsOf stacks e₁ e) (e .et ∷ []) ∙ (let z = U .made-is in omega arith));
+      within = λ x. rw made-is (set-low em i (e .made + 1) (e .made + 1) (let z = U .em-long in omega arith) (λ y. let z = U .within y in omega arith) (le-refl _) x);
+    }
+      where
+        rows : (t : ℕ) → t < 4 → length (row seated t) ≡ 16384
+        rows zero h = rw (others 0 (λ q. omega arith)) (wrote-long cs (e .et) (row stacks 0) (row stacks 1) (row stacks′ 0) (row stacks′ 1) (R 0 (omega arith)) (R 1 (omega arith)) fits (W .cells))
+        rows (suc zero) h = rw (others 1 (λ q. omega arith)) (wrote-long′ cs (e .et) (row stacks 0) (row stacks 1) (row stacks′ 0) (row stacks′ 1) (R 0 (omega arith)) (R 1 (omega arith)) fits (W .cells))
+        rows (suc (suc zero)) h = rw seats (length-set (row stacks 2) (e₁ + e .made) (e .et) ∙ R 2 (omega arith))
+        rows (suc (suc (suc zero))) h = rw (others 3 (λ q. omega arith), W .body-same) (R 3 (omega arith))
+        rows (suc (suc (suc (suc t)))) h = absurd (omega arith)
