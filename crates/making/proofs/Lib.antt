@@ -2,4 +2,4 @@ pub mod Stack
 pub mod Went
 pub mod Growth
 pub mod Then
-pub mod Append
+pub mod Appends

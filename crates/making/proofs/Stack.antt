@@ -2,16 +2,15 @@
 -- on their end; and what lies above the end does not count. Assumes nothing.
 use mathlib.Core.Path.{_≡_, refl, sym, ap, ap₂, _∙_}
 use mathlib.Core.Logic.{⊎-elim}
-use mathlib.Core.List.{List, [], _∷_, _++_, map, append-assoc}
+use mathlib.Core.List.{List, [], _∷_, _++_, map}
 use Prim.Native.Nat.{ℕ, zero, suc, _+_, _-_, _≤_, _<_}
-use native.Mathlib.Nat.{le-refl, le-trans}
-use native.Mathlib.Numerals.{add-one}
+use native.Mathlib.Nat.{le-refl}
 use native.Mathlib.Omega.{arith}
 use lib.ListN.{length, getD, set, take, drop, length-append, length-set, length-map, take-append-drop}
 use lib.Seq.{slice, sets, sets-eq, length-sets, length-slice, length-take-le, take-take, take-append-le, drop-append-le, take-at, drop-at, take-suc-set, take-set-le, getD-take, getD-set-same, getD-set-other}
 use Rattle.model.specs.Outcome.{Cells, class, word}
 use Rattle.model.specs.Tree.{flatAll}
-use Rattle.model.specs.Between.{beside, between, Stretch}
+use Rattle.model.specs.Between.{beside, between}
 use Rattle.model.specs.References.{Place, table, own, function, Node, refs}
 use Rattle.imports.specs.RecordLaws.{All, all-map}
 use Rattle.laws.specs.Betweens.{beside-cells, between-none}

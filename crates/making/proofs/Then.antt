@@ -2,15 +2,14 @@
 use mathlib.Core.Path.{_≡_, refl, sym, ap, _∙_}
 use mathlib.Core.Bool.{true, false, false≢true}
 use mathlib.Core.List.{List}
-use Prim.Native.Nat.{ℕ, _+_, _≤_, _<_}
+use Prim.Native.Nat.{ℕ, _+_}
 use native.Mathlib.Nat.{le-refl, le-trans}
 use native.Mathlib.Omega.{arith}
-use lib.ListN.{length, take}
+use lib.ListN.{length}
 use Rattle.model.specs.Tree.{flatAll}
 use Rattle.model.specs.Imports.{St}
 use Rattle.model.specs.Bodies.{Making, bring}
-use Rattle.state.specs.Held.{row, tableOf, stOf, sizeR, Over, Kept, Beside, Lands}
-use Rattle.state.specs.Marks.{Marks}
+use Rattle.state.specs.Held.{tableOf, sizeR, Over, Kept, Beside, Lands}
 use Rattle.state.specs.declared.Ends.{Ends}
 use Rattle.state.proofs.State.{same-refl, same-then, marks-refl, marks-then, table-stays}
 use Rattle.making.specs.Stacks.{madeOf, makingOf, Stacks, Under}

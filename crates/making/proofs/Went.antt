@@ -1,9 +1,8 @@
 -- Words whose numbers lie in their tables go where the arrays say, as they go by what is under way. Assumes nothing.
 use mathlib.Core.Path.{_≡_, refl}
 use mathlib.Core.Bool.{false}
-use mathlib.Core.List.{List, []}
+use mathlib.Core.List.{List}
 use Prim.Native.Nat.{ℕ}
-use lib.ListN.{getD, take}
 use lib.Seq.{getD-take}
 use Rattle.model.specs.Outcome.{Cells}
 use Rattle.model.specs.Carry.{carryCells}
