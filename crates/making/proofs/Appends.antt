@@ -1,6 +1,6 @@
 -- An expression appended to a function under way, or found there: what the arrays hold then, or that it is too large. Assumes nothing.
-use mathlib.Core.Path.{_≡_, refl, sym, ap, subst, _∙_}
-use mathlib.Core.Bool.{Bool, true, false, false≢true}
+use mathlib.Core.Path.{_≡_, refl, sym, ap, _∙_}
+use mathlib.Core.Bool.{true, false, false≢true}
 use mathlib.Core.List.{List, [], _∷_, _++_}
 use Prim.Native.Nat.{ℕ, suc, _+_, _-_, _≤_, _<_}
 use native.Mathlib.Nat.{le-refl}
@@ -13,7 +13,6 @@ use Rattle.model.specs.Tree.{flatAll}
 use Rattle.model.specs.Module.{Module}
 use Rattle.model.specs.Between.{between}
 use Rattle.model.specs.References.{shift, seat}
-use Rattle.model.specs.Imports.{St}
 use Rattle.model.specs.Bodies.{Making, carried, push, join}
 use Rattle.imports.specs.RecordLaws.{length-shift, length-carry}
 use Rattle.passes.specs.Light.{still}
@@ -25,50 +24,14 @@ use Rattle.state.proofs.State.{same-refl, marks-refl, seat-low, seat-shift, mer
 use Rattle.ground.specs.Fits.{Legible}
 use Rattle.making.specs.Stacks.{exprsOf, Expressions, wentOf, madeOf, makingOf, Under}
 use Rattle.making.specs.Makes.{Lays, Wrote}
-use Rattle.making.proofs.Stack.{expr-is, expr-some, expr-low, expr-fits, expr-legible, made-many, made-words, set-low, stays-more, made-more, under-more}
+use Rattle.making.proofs.Stack.{expr-is, expr-some, expr-low, expr-fits, expr-legible, made-low, made-many, made-words, set-low, stays-more, made-more, under-more}
 use Rattle.making.proofs.Went.{moved-is}
-use Rattle.making.proofs.Then.{aside-refl, stays-refl}
-
--- ---- the tops of the stacks have no part in a good state
-kept-beside : {log tags : List ℕ} {starts maps : List (List ℕ)} {marks : List ℕ} {e : Ends} → Kept log tags starts maps marks e
-    → (full : Bool) (et bt made : ℕ) → Kept log tags starts maps marks (record { full = full; used = e .used; counts = e .counts; pairs = e .pairs; et = et; bt = bt; made = made })
-kept-beside K full et bt made = record {
-  room = K .room;
-  few = K .few;
-  few-functions = K .few-functions;
-  few-entries = K .few-entries;
-  few-pairs = K .few-pairs;
-  log-long = K .log-long;
-  tags-long = K .tags-long;
-  marks-long = K .marks-long;
-  starts-eight = K .starts-eight;
-  maps-six = K .maps-six;
-  counts-eight = K .counts-eight;
-  rows = K .rows;
-  rows′ = K .rows′;
-  within = K .within;
-  size = K .size;
-  flats = K .flats;
-  flats′ = K .flats′;
-  named = K .named;
-  plain = K .plain;
-  mapped = K .mapped;
-  marked = K .marked;
-}
-
-pub kept-tops : {log tags : List ℕ} {starts maps : List (List ℕ)} {marks : List ℕ} {e : Ends} → Kept log tags starts maps marks e → (r : Ends) → r .used ≡ e .used → r .counts ≡ e .counts → r .pairs ≡ e .pairs → Kept log tags starts maps marks r
-kept-tops {log} {tags} {starts} {maps} {marks} {e} K r u c p = subst (λ (x : Ends). Kept log tags starts maps marks x) (sym parts) (kept-beside K (r .full) (r .et) (r .bt) (r .made))
-  where
-    parts : r ≡ record { full = r .full; used = e .used; counts = e .counts; pairs = e .pairs; et = r .et; bt = r .bt; made = r .made }
-    parts i = record { full = r .full; used = u i; counts = c i; pairs = p i; et = r .et; bt = r .bt; made = r .made }
+use Rattle.making.proofs.Then.{aside-refl, stays-refl, kept-tops, making-is}
 
 flat-more : (a : List Cells) (c : Cells) → length (flatAll (a ++ (c ∷ []))) ≡ length (flatAll a) + length c
 unfolding flatAll
 flat-more [] c = omega (arith, length-append c [])
 flat-more (r ∷ a) c = omega (arith, flat-more a c, length-append r (flatAll (a ++ (c ∷ []))), length-append r (flatAll a))
-
-making-is : {s s′ : St} {a b : List ℕ} {x y : List Cells} → s ≡ s′ → a ≡ b → x ≡ y → _≡_ {A = Making} (record { out = s; memo = a; made = x }) (record { out = s′; memo = b; made = y })
-making-is p q r i = record { out = p i; memo = q i; made = r i }
 
 -- ---- expression e, as its places are read
 module _ {words tags places : List ℕ} {k : ℕ} (X : Expressions words tags places k) {e at end : ℕ} (h : e < k) (ha : at ≡ getD places e 0) (he : end ≡ getD places (e + 1) 0) where
@@ -80,6 +43,19 @@ module _ {words tags places : List ℕ} {k : ℕ} (X : Expressions words tags pl
 
   pub legible : Legible words tags 1024 at end
   legible = rw (ha, next-place) (expr-legible X e h)
+
+-- there is room for it
+pub record Room (d : Ends) (e₁ at end : ℕ) : Type 0 where
+  pub some : at < end
+  pub low : end ≤ 16384
+  pub fits : d .et + (end - at) ≤ 16384
+  pub seat : e₁ + d .made ≤ d .et
+
+pub room : {words tags places : List ℕ} {k : ℕ} → Expressions words tags places k → {e at end : ℕ} → e < k → at ≡ getD places e 0 → end ≡ getD places (e + 1) 0 → {em : List ℕ} {stacks : List (List ℕ)} {d : Ends} {e₁ : ℕ} → Under k em stacks e₁ d → end - at ≤ 16384 - d .et → Room d e₁ at end
+room X h ha he U l =
+    let r = rises X h ha he in
+    let t = U .stacks-are .high in
+    record { some = r .0; low = r .1; fits = omega arith; seat = made-low U }
 
 -- ---- expression e, which stands from at to end
 module _ (words tags places : List ℕ) (n k : ℕ) (X : Expressions words tags places k) (log classes : List ℕ) (starts maps : List (List ℕ)) (em : List ℕ) (stacks : List (List ℕ)) (d : Ends) (o e₁ e : ℕ) (h : e < k) (nf : d .full ≡ false) (U : Under k em stacks e₁ d)

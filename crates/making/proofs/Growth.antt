@@ -19,16 +19,19 @@ pub record GrowM (m m′ : Making) : Type 0 where
   pub out-grows : Grow (m .out) (m′ .out)
   pub made-grows : length (flatAll (m .made)) ≤ length (flatAll (m′ .made))
 
-pub growing : (o : ℕ) (M : Module) (xs : List Cells) → Growing o M still xs GrowM
+pub growing-by : (o : ℕ) (M : Module) (follow : ℕ → St → St) (xs : List Cells) → ((f : ℕ) (s : St) → Grow s (follow f s)) → Growing o M follow xs GrowM
 unfolding bring push join
-growing o M xs = record {
+growing-by o M follow xs calls = record {
   same = λ m. record { out-grows = stay (m .out); made-grows = le-refl _ };
   next = λ a b c p q. record { out-grows = then (p .out-grows) (q .out-grows); made-grows = le-trans (p .made-grows) (q .made-grows) };
   tables = λ t n m. record { out-grows = grow-T o (tables M) t n (m .out); made-grows = le-refl _ };
-  functions = λ f m. record { out-grows = stay (m .out); made-grows = le-refl _ };
-  appends = λ e m. record { out-grows = stay (m .out); made-grows = longer o M still xs .appends e m .long };
-  merges = λ e m. record { out-grows = stay (m .out); made-grows = longer o M still xs .merges e m .long };
+  functions = λ f m. record { out-grows = calls f (m .out); made-grows = le-refl _ };
+  appends = λ e m. record { out-grows = stay (m .out); made-grows = longer o M follow xs .appends e m .long };
+  merges = λ e m. record { out-grows = stay (m .out); made-grows = longer o M follow xs .merges e m .long };
 }
+
+pub growing : (o : ℕ) (M : Module) (xs : List Cells) → Growing o M still xs GrowM
+growing o M xs = growing-by o M still xs (λ f s. stay s)
 
 -- with more words beside it
 pub over-more : (a b : ℕ) {s : St} → a ≤ b → Over a s → Over b s

@@ -1,11 +1,12 @@
 -- One operation on a function under way behind another; behind one that is full; an operation on the tables alone; and none. Assumes nothing.
-use mathlib.Core.Path.{_≡_, refl, sym, ap, _∙_}
-use mathlib.Core.Bool.{true, false, false≢true}
+use mathlib.Core.Path.{_≡_, refl, sym, ap, subst, _∙_}
+use mathlib.Core.Bool.{Bool, true, false, false≢true}
 use mathlib.Core.List.{List}
 use Prim.Native.Nat.{ℕ, _+_}
 use native.Mathlib.Nat.{le-refl, le-trans}
 use native.Mathlib.Omega.{arith}
 use lib.ListN.{length}
+use Rattle.model.specs.Outcome.{Cells}
 use Rattle.model.specs.Tree.{flatAll}
 use Rattle.model.specs.Imports.{St}
 use Rattle.model.specs.Bodies.{Making, bring}
@@ -39,6 +40,42 @@ stays-refl low a = record { expressions = λ t h. refl; body = refl }
 
 pub stays-then : (low : ℕ) (a b c : List (List ℕ)) → Stays low a b → Stays low b c → Stays low a c
 stays-then low a b c x y = record { expressions = λ t h. y .expressions t h ∙ x .expressions t h; body = y .body ∙ x .body }
+
+-- ---- the tops of the stacks have no part in a good state
+kept-beside : {log tags : List ℕ} {starts maps : List (List ℕ)} {marks : List ℕ} {e : Ends} → Kept log tags starts maps marks e
+    → (full : Bool) (et bt made : ℕ) → Kept log tags starts maps marks (record { full = full; used = e .used; counts = e .counts; pairs = e .pairs; et = et; bt = bt; made = made })
+kept-beside K full et bt made = record {
+  room = K .room;
+  few = K .few;
+  few-functions = K .few-functions;
+  few-entries = K .few-entries;
+  few-pairs = K .few-pairs;
+  log-long = K .log-long;
+  tags-long = K .tags-long;
+  marks-long = K .marks-long;
+  starts-eight = K .starts-eight;
+  maps-six = K .maps-six;
+  counts-eight = K .counts-eight;
+  rows = K .rows;
+  rows′ = K .rows′;
+  within = K .within;
+  size = K .size;
+  flats = K .flats;
+  flats′ = K .flats′;
+  named = K .named;
+  plain = K .plain;
+  mapped = K .mapped;
+  marked = K .marked;
+}
+
+pub kept-tops : {log tags : List ℕ} {starts maps : List (List ℕ)} {marks : List ℕ} {e : Ends} → Kept log tags starts maps marks e → (r : Ends) → r .used ≡ e .used → r .counts ≡ e .counts → r .pairs ≡ e .pairs → Kept log tags starts maps marks r
+kept-tops {log} {tags} {starts} {maps} {marks} {e} K r u c p = subst (λ (x : Ends). Kept log tags starts maps marks x) (sym parts) (kept-beside K (r .full) (r .et) (r .bt) (r .made))
+  where
+    parts : r ≡ record { full = r .full; used = e .used; counts = e .counts; pairs = e .pairs; et = r .et; bt = r .bt; made = r .made }
+    parts i = record { full = r .full; used = u i; counts = c i; pairs = p i; et = r .et; bt = r .bt; made = r .made }
+
+pub making-is : {s s′ : St} {a b : List ℕ} {x y : List Cells} → s ≡ s′ → a ≡ b → x ≡ y → _≡_ {A = Making} (record { out = s; memo = a; made = x }) (record { out = s′; memo = b; made = y })
+making-is p q r i = record { out = p i; memo = q i; made = r i }
 
 -- ---- from an entry
 module _ (words : List ℕ) (k e₁ : ℕ) (log₀ tags₀ : List ℕ) (starts₀ maps₀ : List (List ℕ)) (marks₀ em₀ : List ℕ) (stacks₀ : List (List ℕ)) (e₀ : Ends) (K₀ : Kept log₀ tags₀ starts₀ maps₀ marks₀ e₀) where
@@ -114,7 +151,7 @@ module _ (words : List ℕ) (k e₁ : ℕ) (log₀ tags₀ : List ℕ) (starts�
     unfolding bring makingOf
     makes-lift f r log tags starts maps marks L = record {
       over = λ q special. over-more _ _ (omega arith) (L .over q special);
-      is = λ q special. making-is (L .is q special) (sym (made q));
+      is = λ q special. making-is (L .is q special) refl (sym (made q));
       kept = L .kept;
       under = λ q. under-same U₀ stacks₀ r (λ t h. refl) (L .beside q .tops-same .0) (L .beside q .tops-same .2) (tops q);
       aside = λ q. aside-beside starts₀ starts e₀ r (L .beside q);
@@ -126,9 +163,6 @@ module _ (words : List ℕ) (k e₁ : ℕ) (log₀ tags₀ : List ℕ) (starts�
       marks-stay = L .marks-stay;
     }
       where
-        making-is : {s s′ : St} {memo : List ℕ} {a b : List _} → s ≡ s′ → a ≡ b → _≡_ {A = Making} (record { out = s; memo = memo; made = a }) (record { out = s′; memo = memo; made = b })
-        making-is {memo} p q i = record { out = p i; memo = memo; made = q i }
-
         made : r .full ≡ false → madeOf stacks₀ e₁ r ≡ madeOf stacks₀ e₁ e₀
         made q = made-same U₀ stacks₀ r (λ t h. refl) (L .beside q .tops-same .0) (L .beside q .tops-same .2)
 

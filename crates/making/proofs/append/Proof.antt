@@ -2,8 +2,7 @@
 use mathlib.Core.Path.{refl}
 use native.Mathlib.Omega.{arith}
 use borrow.Author.Needs.{needs}
-use Rattle.making.proofs.Stack.{made-low}
-use Rattle.making.proofs.Appends.{rises, legible, append-full, append-done}
+use Rattle.making.proofs.Appends.{rises, legible, room, append-full, append-done}
 use Rattle.making.proofs.append.Statement.{statement}
 use Rattle.making.proofs.append.Tie as tie
 
@@ -32,37 +31,62 @@ sub-if1 : tie.Need-sub-if1
 sub-if1 c = search needs
 
 sub-if1-2 : tie.Need-sub-if1-2
-sub-if1-2 c = let a = c .before .before .before .before .args in let p = c .before .before .before .before .pre in let X = p .1 .1 .1 .0 in let h = p .1 .1 .1 .1 .0 .0 in let U = p .1 .1 .1 .1 .1 in let z = rises X h (c .before .before .slot .ensures .0) (c .slot2 .ensures .0) in omega arith
+sub-if1-2 c =
+    let X = c .before .before .before .before .pre .1 .1 .1 .0 in
+    let h = c .before .before .before .before .pre .1 .1 .1 .1 .0 .0 in
+    let r = rises X h (c .before .before .slot .ensures .0) (c .slot2 .ensures .0) in
+    omega arith
 
 refuse-requires : tie.Need-refuse-requires
 refuse-requires c κs = search needs
 
 returns : tie.Need-returns
-returns c = let a = c .before .before .before .before .before .before .args in let p = c .before .before .before .before .before .before .pre in let X = p .1 .1 .1 .0 in let h = p .1 .1 .1 .1 .0 .0 in let U = p .1 .1 .1 .1 .1 in append-full (a .words .now) (a .tags .now) (a .places .now) (a .n) (a .k) X (a .log .now) (a .classes .now) (a .starts .now) (a .maps .now) (a .em .now) (a .stacks .now) (a .ends) (a .offset) (a .e1) (a .e) h (p .1 .1 .1 .1 .0 .1) U (c .before .before .before .before .slot .result) (c .before .before .slot2 .result) (c .before .before .before .before .slot .ensures .0) (c .before .before .slot2 .ensures .0) _ (c .refuse .ensures) (c .before .if1 .taken)
+returns c =
+    let a = c .before .before .before .before .before .before .args in
+    let p = c .before .before .before .before .before .before .pre in
+    append-full (a .words .now) (a .tags .now) (a .places .now) (a .n) (a .k) (p .1 .1 .1 .0) (a .log .now) (a .classes .now) (a .starts .now) (a .maps .now) (a .em .now) (a .stacks .now) (a .ends) (a .offset) (a .e1) (a .e) (p .1 .1 .1 .1 .0 .0) (p .1 .1 .1 .1 .0 .1) (p .1 .1 .1 .1 .1) (c .before .before .before .before .slot .result) (c .before .before .slot2 .result) (c .before .before .before .before .slot .ensures .0) (c .before .before .slot2 .ensures .0) _ (c .refuse .ensures) (c .before .if1 .taken)
 
 write-requires : tie.Need-write-requires
-write-requires c κs = let a = c .before .before .before .before .before .before .before .args in let p = c .before .before .before .before .before .before .before .pre in let X = p .1 .1 .1 .0 in let h = p .1 .1 .1 .1 .0 .0 in let U = p .1 .1 .1 .1 .1 in let S = U .stacks-are in (p .0, (p .1 .0, (p .1 .1 .0, (legible X h (c .before .before .before .before .before .slot .ensures .0) (c .before .before .before .slot2 .ensures .0), (S, let t = S .high in let y = c .before .before .if1 .left in omega arith)))))
+write-requires c κs =
+    let p = c .before .before .before .before .before .before .before .pre in
+    let r = room (p .1 .1 .1 .0) (p .1 .1 .1 .1 .0 .0) (c .before .before .before .before .before .slot .ensures .0) (c .before .before .before .slot2 .ensures .0) (p .1 .1 .1 .1 .1) (c .before .before .if1 .left) in
+    (p .0, (p .1 .0, (p .1 .1 .0, (legible (p .1 .1 .1 .0) (p .1 .1 .1 .1 .0 .0) (c .before .before .before .before .before .slot .ensures .0) (c .before .before .before .slot2 .ensures .0), (p .1 .1 .1 .1 .1 .stacks-are, r .fits)))))
 
 cast-stacks : tie.Need-cast-stacks
 cast-stacks c = search needs
 
 add-stacks : tie.Need-add-stacks
-add-stacks c = let a = c .before .before .before .before .before .before .before .before .args in let p = c .before .before .before .before .before .before .before .before .pre in let X = p .1 .1 .1 .0 in let h = p .1 .1 .1 .1 .0 .0 in let U = p .1 .1 .1 .1 .1 in let S = U .stacks-are in let t = S .high in let l = made-low U in let z = rises X h (c .before .before .before .before .before .before .slot .ensures .0) (c .before .before .before .before .slot2 .ensures .0) in let y = c .before .before .before .if1 .left in omega arith
+add-stacks c =
+    let p = c .before .before .before .before .before .before .before .before .pre in
+    let r = room (p .1 .1 .1 .0) (p .1 .1 .1 .1 .0 .0) (c .before .before .before .before .before .before .slot .ensures .0) (c .before .before .before .before .slot2 .ensures .0) (p .1 .1 .1 .1 .1) (c .before .before .before .if1 .left) in
+    omega arith
 
 mul-stacks : tie.Need-mul-stacks
-mul-stacks c = let a = c .before .before .before .before .before .before .before .before .args in let p = c .before .before .before .before .before .before .before .before .pre in let X = p .1 .1 .1 .0 in let h = p .1 .1 .1 .1 .0 .0 in let U = p .1 .1 .1 .1 .1 in let S = U .stacks-are in let t = S .high in let l = made-low U in let z = rises X h (c .before .before .before .before .before .before .slot .ensures .0) (c .before .before .before .before .slot2 .ensures .0) in let y = c .before .before .before .if1 .left in omega arith
+mul-stacks c =
+    let p = c .before .before .before .before .before .before .before .before .pre in
+    let r = room (p .1 .1 .1 .0) (p .1 .1 .1 .1 .0 .0) (c .before .before .before .before .before .before .slot .ensures .0) (c .before .before .before .before .slot2 .ensures .0) (p .1 .1 .1 .1 .1) (c .before .before .before .if1 .left) in
+    omega arith
 
 index-1-stacks : tie.Need-index-1-stacks
 index-1-stacks c = search needs
 
 index-2-stacks : tie.Need-index-2-stacks
-index-2-stacks c = let a = c .before .before .before .before .before .before .before .before .args in let p = c .before .before .before .before .before .before .before .before .pre in let X = p .1 .1 .1 .0 in let h = p .1 .1 .1 .1 .0 .0 in let U = p .1 .1 .1 .1 .1 in let S = U .stacks-are in let t = S .high in let l = made-low U in let z = rises X h (c .before .before .before .before .before .before .slot .ensures .0) (c .before .before .before .before .slot2 .ensures .0) in let y = c .before .before .before .if1 .left in omega arith
+index-2-stacks c =
+    let p = c .before .before .before .before .before .before .before .before .pre in
+    let r = room (p .1 .1 .1 .0) (p .1 .1 .1 .1 .0 .0) (c .before .before .before .before .before .before .slot .ensures .0) (c .before .before .before .before .slot2 .ensures .0) (p .1 .1 .1 .1 .1) (c .before .before .before .if1 .left) in
+    omega arith
 
 add-em : tie.Need-add-em
-add-em c = let a = c .before .before .before .before .before .before .before .before .args in let p = c .before .before .before .before .before .before .before .before .pre in let X = p .1 .1 .1 .0 in let h = p .1 .1 .1 .1 .0 .0 in let U = p .1 .1 .1 .1 .1 in let S = U .stacks-are in let t = S .high in let l = made-low U in let z = rises X h (c .before .before .before .before .before .before .slot .ensures .0) (c .before .before .before .before .slot2 .ensures .0) in let y = c .before .before .before .if1 .left in omega arith
+add-em c =
+    let p = c .before .before .before .before .before .before .before .before .pre in
+    let r = room (p .1 .1 .1 .0) (p .1 .1 .1 .1 .0 .0) (c .before .before .before .before .before .before .slot .ensures .0) (c .before .before .before .before .slot2 .ensures .0) (p .1 .1 .1 .1 .1) (c .before .before .before .if1 .left) in
+    omega arith
 
 cast-em : tie.Need-cast-em
-cast-em c = let a = c .before .before .before .before .before .before .before .before .args in let p = c .before .before .before .before .before .before .before .before .pre in let X = p .1 .1 .1 .0 in let h = p .1 .1 .1 .1 .0 .0 in let U = p .1 .1 .1 .1 .1 in let S = U .stacks-are in let t = S .high in let l = made-low U in let z = rises X h (c .before .before .before .before .before .before .slot .ensures .0) (c .before .before .before .before .slot2 .ensures .0) in let y = c .before .before .before .if1 .left in omega arith
+cast-em c =
+    let p = c .before .before .before .before .before .before .before .before .pre in
+    let r = room (p .1 .1 .1 .0) (p .1 .1 .1 .1 .0 .0) (c .before .before .before .before .before .before .slot .ensures .0) (c .before .before .before .before .slot2 .ensures .0) (p .1 .1 .1 .1 .1) (c .before .before .before .if1 .left) in
+    omega arith
 
 mul-em : tie.Need-mul-em
 mul-em c = search needs
@@ -71,16 +95,28 @@ element-write-em : tie.Need-element-write-em
 element-write-em c = search needs
 
 sub-t22 : tie.Need-sub-t22
-sub-t22 c = let a = c .before .before .before .before .before .before .before .before .before .args in let p = c .before .before .before .before .before .before .before .before .before .pre in let X = p .1 .1 .1 .0 in let h = p .1 .1 .1 .1 .0 .0 in let U = p .1 .1 .1 .1 .1 in let S = U .stacks-are in let t = S .high in let l = made-low U in let z = rises X h (c .before .before .before .before .before .before .before .slot .ensures .0) (c .before .before .before .before .before .slot2 .ensures .0) in let y = c .before .before .before .before .if1 .left in omega arith
+sub-t22 c =
+    let p = c .before .before .before .before .before .before .before .before .before .pre in
+    let r = room (p .1 .1 .1 .0) (p .1 .1 .1 .1 .0 .0) (c .before .before .before .before .before .before .before .slot .ensures .0) (c .before .before .before .before .before .slot2 .ensures .0) (p .1 .1 .1 .1 .1) (c .before .before .before .before .if1 .left) in
+    omega arith
 
 add-t26 : tie.Need-add-t26
-add-t26 c = let a = c .before .before .before .before .before .before .before .before .before .args in let p = c .before .before .before .before .before .before .before .before .before .pre in let X = p .1 .1 .1 .0 in let h = p .1 .1 .1 .1 .0 .0 in let U = p .1 .1 .1 .1 .1 in let S = U .stacks-are in let t = S .high in let l = made-low U in let z = rises X h (c .before .before .before .before .before .before .before .slot .ensures .0) (c .before .before .before .before .before .slot2 .ensures .0) in let y = c .before .before .before .before .if1 .left in omega arith
+add-t26 c =
+    let p = c .before .before .before .before .before .before .before .before .before .pre in
+    let r = room (p .1 .1 .1 .0) (p .1 .1 .1 .1 .0 .0) (c .before .before .before .before .before .before .before .slot .ensures .0) (c .before .before .before .before .before .slot2 .ensures .0) (p .1 .1 .1 .1 .1) (c .before .before .before .before .if1 .left) in
+    omega arith
 
 add-t40 : tie.Need-add-t40
-add-t40 c = let a = c .before .before .before .before .before .before .before .before .before .args in let p = c .before .before .before .before .before .before .before .before .before .pre in let X = p .1 .1 .1 .0 in let h = p .1 .1 .1 .1 .0 .0 in let U = p .1 .1 .1 .1 .1 in let S = U .stacks-are in let t = S .high in let l = made-low U in let z = rises X h (c .before .before .before .before .before .before .before .slot .ensures .0) (c .before .before .before .before .before .slot2 .ensures .0) in let y = c .before .before .before .before .if1 .left in omega arith
+add-t40 c =
+    let p = c .before .before .before .before .before .before .before .before .before .pre in
+    let r = room (p .1 .1 .1 .0) (p .1 .1 .1 .1 .0 .0) (c .before .before .before .before .before .before .before .slot .ensures .0) (c .before .before .before .before .before .slot2 .ensures .0) (p .1 .1 .1 .1 .1) (c .before .before .before .before .if1 .left) in
+    omega arith
 
 returns-2 : tie.Need-returns-2
-returns-2 c = let a = c .before .before .before .before .before .before .before .before .before .args in let p = c .before .before .before .before .before .before .before .before .before .pre in let X = p .1 .1 .1 .0 in let h = p .1 .1 .1 .1 .0 .0 in let U = p .1 .1 .1 .1 .1 in append-done (a .words .now) (a .tags .now) (a .places .now) (a .n) (a .k) X (a .log .now) (a .classes .now) (a .starts .now) (a .maps .now) (a .em .now) (a .stacks .now) (a .ends) (a .offset) (a .e1) (a .e) h (p .1 .1 .1 .1 .0 .1) U (c .before .before .before .before .before .before .before .slot .result) (c .before .before .before .before .before .slot2 .result) (c .before .before .before .before .before .before .before .slot .ensures .0) (c .before .before .before .before .before .slot2 .ensures .0) (c .before .before .before .before .if1 .left) _ (c .before .write .ensures) _ refl
+returns-2 c =
+    let a = c .before .before .before .before .before .before .before .before .before .args in
+    let p = c .before .before .before .before .before .before .before .before .before .pre in
+    append-done (a .words .now) (a .tags .now) (a .places .now) (a .n) (a .k) (p .1 .1 .1 .0) (a .log .now) (a .classes .now) (a .starts .now) (a .maps .now) (a .em .now) (a .stacks .now) (a .ends) (a .offset) (a .e1) (a .e) (p .1 .1 .1 .1 .0 .0) (p .1 .1 .1 .1 .0 .1) (p .1 .1 .1 .1 .1) (c .before .before .before .before .before .before .before .slot .result) (c .before .before .before .before .before .slot2 .result) (c .before .before .before .before .before .before .before .slot .ensures .0) (c .before .before .before .before .before .slot2 .ensures .0) (c .before .before .before .before .if1 .left) _ (c .before .write .ensures) _ refl
 
 pub append-spec : {M : Type 1} → statement M
 append-spec =

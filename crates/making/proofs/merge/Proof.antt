@@ -28,28 +28,50 @@ slot-requires-2 : tie.Need-slot-requires-2
 slot-requires-2 c κs = search needs
 
 seat-requires : tie.Need-seat-requires
-seat-requires c κs = let a = c .before .before .before .before .before .before .args in let p = c .before .before .before .before .before .before .pre in let X = p .1 .1 .1 .0 in let h = p .1 .1 .1 .1 .0 .0 in let U = p .1 .1 .1 .1 .1 in (p .0, (p .1 .0, (p .1 .1 .0, (legible X h (c .before .before .before .before .slot .ensures .0) (c .before .before .slot2 .ensures .0), (U .stacks-are, U .rising, U .made-is)))))
+seat-requires c κs =
+    let p = c .before .before .before .before .before .before .pre in
+    let U = c .before .before .before .before .before .before .pre .1 .1 .1 .1 .1 in
+    (p .0, (p .1 .0, (p .1 .1 .0, (legible (p .1 .1 .1 .0) (p .1 .1 .1 .1 .0 .0) (c .before .before .before .before .slot .ensures .0) (c .before .before .slot2 .ensures .0), (U .stacks-are, U .rising, U .made-is)))))
 
 add-em : tie.Need-add-em
 add-em c = search needs
 
 cast-em : tie.Need-cast-em
-cast-em c = let a = c .before .before .before .before .before .before .before .before .before .args in let p = c .before .before .before .before .before .before .before .before .before .pre in let X = p .1 .1 .1 .0 in let h = p .1 .1 .1 .1 .0 .0 in let U = p .1 .1 .1 .1 .1 in let S = U .stacks-are in let t = S .high in let l = made-low U in let y = c .if1 .taken in omega arith
+cast-em c =
+    let U = c .before .before .before .before .before .before .before .before .before .pre .1 .1 .1 .1 .1 in
+    let t = U .stacks-are .high in
+    let l = made-low U in
+    let y = c .if1 .taken in
+    omega arith
 
 mul-em : tie.Need-mul-em
-mul-em c = let a = c .before .before .before .before .before .before .before .before .before .args in let p = c .before .before .before .before .before .before .before .before .before .pre in let X = p .1 .1 .1 .0 in let h = p .1 .1 .1 .1 .0 .0 in let U = p .1 .1 .1 .1 .1 in let f = X .few in omega arith
+mul-em c =
+    let X = c .before .before .before .before .before .before .before .before .before .pre .1 .1 .1 .0 in
+    let h = c .before .before .before .before .before .before .before .before .before .pre .1 .1 .1 .1 .0 .0 in
+    let f = X .few in
+    omega arith
 
 element-write-em : tie.Need-element-write-em
-element-write-em c = let a = c .before .before .before .before .before .before .before .before .before .args in let p = c .before .before .before .before .before .before .before .before .before .pre in let X = p .1 .1 .1 .0 in let h = p .1 .1 .1 .1 .0 .0 in let U = p .1 .1 .1 .1 .1 in let f = X .few in omega arith
+element-write-em c =
+    let X = c .before .before .before .before .before .before .before .before .before .pre .1 .1 .1 .0 in
+    let h = c .before .before .before .before .before .before .before .before .before .pre .1 .1 .1 .1 .0 .0 in
+    let f = X .few in
+    omega arith
 
 returns : tie.Need-returns
-returns c = let a = c .before .before .before .before .before .before .before .before .before .args in let p = c .before .before .before .before .before .before .before .before .before .pre in let X = p .1 .1 .1 .0 in let h = p .1 .1 .1 .1 .0 .0 in let U = p .1 .1 .1 .1 .1 in merge-old (a .words .now) (a .tags .now) (a .places .now) (a .n) (a .k) X (a .log .now) (a .classes .now) (a .starts .now) (a .maps .now) (a .em .now) (a .stacks .now) (a .ends) (a .offset) (a .e1) (a .e) h (p .1 .1 .1 .1 .0 .1) U (c .before .before .before .before .before .before .before .slot .result) (c .before .before .before .before .before .slot2 .result) (c .before .before .before .before .before .before .before .slot .ensures .0) (c .before .before .before .before .before .slot2 .ensures .0) (c .before .before .seat .result) (c .before .before .seat .ensures) (c .if1 .taken)
+returns c =
+    let a = c .before .before .before .before .before .before .before .before .before .args in
+    let p = c .before .before .before .before .before .before .before .before .before .pre in
+    merge-old (a .words .now) (a .tags .now) (a .places .now) (a .n) (a .k) (p .1 .1 .1 .0) (a .log .now) (a .classes .now) (a .starts .now) (a .maps .now) (a .em .now) (a .stacks .now) (a .ends) (a .offset) (a .e1) (a .e) (p .1 .1 .1 .1 .0 .0) (p .1 .1 .1 .1 .0 .1) (p .1 .1 .1 .1 .1) (c .before .before .before .before .before .before .before .slot .result) (c .before .before .before .before .before .slot2 .result) (c .before .before .before .before .before .before .before .slot .ensures .0) (c .before .before .before .before .before .slot2 .ensures .0) (c .before .before .seat .result) (c .before .before .seat .ensures) (c .if1 .taken)
 
 append-requires : tie.Need-append-requires
 append-requires c κs = search needs
 
 returns-2 : tie.Need-returns-2
-returns-2 c = let a = c .before .before .before .before .before .before .before .before .before .before .before .before .args in let p = c .before .before .before .before .before .before .before .before .before .before .before .before .pre in let X = p .1 .1 .1 .0 in let h = p .1 .1 .1 .1 .0 .0 in let U = p .1 .1 .1 .1 .1 in merge-new (a .words .now) (a .tags .now) (a .places .now) (a .n) (a .k) X (a .log .now) (a .classes .now) (a .starts .now) (a .maps .now) (a .em .now) (a .stacks .now) (a .ends) (a .offset) (a .e1) (a .e) h (p .1 .1 .1 .1 .0 .1) U (c .before .before .before .before .before .before .before .before .before .before .slot .result) (c .before .before .before .before .before .before .before .before .slot2 .result) (c .before .before .before .before .before .before .before .before .before .before .slot .ensures .0) (c .before .before .before .before .before .before .before .before .slot2 .ensures .0) (c .before .before .before .before .before .seat .result) (c .before .before .before .before .before .seat .ensures) (c .before .before .before .if1 .left) _ _ _ (c .append .ensures)
+returns-2 c =
+    let a = c .before .before .before .before .before .before .before .before .before .before .before .before .args in
+    let p = c .before .before .before .before .before .before .before .before .before .before .before .before .pre in
+    merge-new (a .words .now) (a .tags .now) (a .places .now) (a .n) (a .k) (p .1 .1 .1 .0) (a .log .now) (a .classes .now) (a .starts .now) (a .maps .now) (a .em .now) (a .stacks .now) (a .ends) (a .offset) (a .e1) (a .e) (p .1 .1 .1 .1 .0 .0) (p .1 .1 .1 .1 .0 .1) (p .1 .1 .1 .1 .1) (c .before .before .before .before .before .before .before .before .before .before .slot .result) (c .before .before .before .before .before .before .before .before .slot2 .result) (c .before .before .before .before .before .before .before .before .before .before .slot .ensures .0) (c .before .before .before .before .before .before .before .before .slot2 .ensures .0) (c .before .before .before .before .before .seat .result) (c .before .before .before .before .before .seat .ensures) (c .before .before .before .if1 .left) _ _ _ (c .append .ensures)
 
 pub merge-spec : {M : Type 1} → statement M
 merge-spec =
