@@ -17,7 +17,7 @@ use Rattle.model.specs.Bodies.{Making, carried, push, join}
 use Rattle.imports.specs.RecordLaws.{length-shift, length-carry}
 use Rattle.passes.specs.Light.{still}
 use Rattle.state.specs.Source.{modOf}
-use Rattle.state.specs.Held.{put, stOf, long, Kept, carriedBy}
+use Rattle.state.specs.Held.{put, stOf, long, carriedBy}
 use Rattle.state.specs.declared.Ends.{Ends}
 use Rattle.state.proofs.Passes.{length-between}
 use Rattle.state.proofs.State.{same-refl, marks-refl, seat-low, seat-shift, merged-old, merged-new}
