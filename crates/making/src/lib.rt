@@ -174,7 +174,8 @@ fn undefined_at(
             ends,
             tags[i],
             words[i],
-        ) == 0;
+        )
+            == 0;
     }
     true
 }

@@ -1,25 +1,20 @@
+-- `making::alike_cell` meets its contract. Assumes nothing.
 use mathlib.Core.Path.{sym, ap, _∙_}
 use lib.Dec.{eqb}
 use borrow.Author.Needs.{needs}
 use Rattle.state.proofs.Classes.{alike-class, alike-word, alike-start, alike-upto}
 use Rattle.making.proofs.alike_cell.Statement.{statement}
 use Rattle.making.proofs.alike_cell.Tie as tie
-use Rattle.making.proofs.alike_cell.Reads as reads
-use Rattle.making.proofs.alike_cell.Lts as lts
 
--- src/lib.rt:307:9
 returns : tie.Need-returns
 returns c = search (alike-class, needs)
 
--- src/lib.rt:310:9
 returns-2 : tie.Need-returns-2
 returns-2 c = search (alike-word, needs)
 
--- src/lib.rt:313:9
 returns-3 : tie.Need-returns-3
 returns-3 c = let a = c .before .before .before .args in let e = c .before .before .if1 .left in let g = c .if3 .taken in alike-start (a .a) (a .x) (a .b) (a .y) e (c .before .if2 .left) (e ∙ g)
 
--- src/lib.rt:303:1
 returns-4 : tie.Need-returns-4
 returns-4 c = let a = c .before .before .before .args in let e = c .before .before .if1 .left in let g = c .if3 .left in ap (λ z. eqb z 82) (sym e) ∙ alike-upto (a .a) (a .x) (a .b) (a .y) e (c .before .if2 .left) (λ q. g (sym e ∙ q))
 

@@ -1,103 +1,74 @@
+-- `making::carried` meets its contract. Each return is one kind of class. Assumes nothing.
 use mathlib.Core.Path.{sym, ap, _∙_}
 use Prim.Native.Nat.{pred}
 use Rattle.making.proofs.Carries.{carries-known, carries-named, carries-small, carries-row, carries-in, carries-own, carries-none, carries-opt-in, carries-opt, carries-copied}
 use borrow.Author.Needs.{needs}
 use Rattle.making.proofs.carried.Statement.{statement}
 use Rattle.making.proofs.carried.Tie as tie
-use Rattle.making.proofs.carried.Reads as reads
-use Rattle.making.proofs.carried.Lts as lts
-use Rattle.known.proofs.known.Reads as known-reads
-use Rattle.making.proofs.less.Reads as less-reads
-use Rattle.making.proofs.mapped.Reads as mapped-reads
-use Rattle.state.proofs.carried.Reads as carried-reads
-use Rattle.state.proofs.kind_of.Reads as kind-of-reads
-use Rattle.words.proofs.wide.Reads as wide-reads
 
--- src/lib.rt:114:8
 kind-of-requires : tie.Need-kind-of-requires
 kind-of-requires c κs = search needs
 
--- src/lib.rt:115:71
 wide-requires : tie.Need-wide-requires
 wide-requires c κs = search needs
 
--- src/lib.rt:115:21
 known-requires : tie.Need-known-requires
 known-requires c κs = let a = c .before .before .before .args in let p = c .before .before .before .pre in let u = c .before .before .kind-of in (p .0 .source, (p .0 .names, (carries-known (a .words .now) (a .n) (a .log .now) (a .classes .now) (a .starts .now) (a .maps .now) (a .ends) (a .em .now) (a .s) (a .w) (u .result) (u .ensures) (p .1 .1 .1) (c .before .if1 .taken) _ (c .wide .ensures .0), p .1 .0)))
 
--- src/lib.rt:115:9
 less-requires : tie.Need-less-requires
 less-requires c κs = search needs
 
--- src/lib.rt:115:9
 returns : tie.Need-returns
 returns c = let a = c .before .before .before .before .before .args in let p = c .before .before .before .before .before .pre in let u = c .before .before .before .before .kind-of in carries-named (a .words .now) (a .n) (a .log .now) (a .classes .now) (a .starts .now) (a .maps .now) (a .ends) (a .em .now) (a .s) (a .w) (u .result) (u .ensures) (p .1 .1 .1) (c .before .before .before .if1 .taken) _ (c .before .before .wide .ensures .0) _ (c .before .known .ensures) _ (c .less .ensures)
 
--- src/lib.rt:118:9
 carried-requires : tie.Need-carried-requires
 carried-requires c κs = let a = c .before .before .before .args in let p = c .before .before .before .pre in let u = c .before .before .kind-of in (carries-small (a .words .now) (a .n) (a .log .now) (a .classes .now) (a .starts .now) (a .maps .now) (a .ends) (a .em .now) (a .s) (a .w) (u .result) (u .ensures) (p .1 .1 .1) (c .before .if1 .left) (c .if2 .taken), (p .1 .1 .0, p .0 .kinds-are))
 
--- src/lib.rt:118:9
 returns-2 : tie.Need-returns-2
 returns-2 c = let a = c .before .before .before .before .args in let p = c .before .before .before .before .pre in let u = c .before .before .before .kind-of in carries-row (a .words .now) (a .n) (a .log .now) (a .classes .now) (a .starts .now) (a .maps .now) (a .ends) (a .em .now) (a .s) (a .w) (u .result) (u .ensures) (p .1 .1 .1) (c .before .before .if1 .left) (c .before .if2 .taken) _ (c .carried .ensures)
 
--- src/lib.rt:120:9
 kind-of-requires-2 : tie.Need-kind-of-requires-2
 kind-of-requires-2 c κs = search needs
 
--- src/lib.rt:122:31
 wide-requires-2 : tie.Need-wide-requires-2
 wide-requires-2 c κs = search needs
 
--- src/lib.rt:122:28
 mul-mapped : tie.Need-mul-mapped
 mul-mapped c = search needs
 
--- src/lib.rt:122:28
 element-copy-out-mapped : tie.Need-element-copy-out-mapped
 element-copy-out-mapped c = let a = c .before .before .before .before .before .before .args in let p = c .before .before .before .before .before .before .pre in let u = c .before .before .kind-of2 in let k = c .before .before .before .before .before .kind-of in carries-in (a .words .now) (a .n) (a .log .now) (a .classes .now) (a .starts .now) (a .maps .now) (a .ends) (a .em .now) (a .s) (a .w) (u .result) (u .ensures) (p .1 .1 .1) (λ q. c .before .before .before .before .if1 .left (k .ensures .0 ∙ sym (u .ensures .0) ∙ q)) (c .before .before .before .if2 .left) (c .before .if3 .taken) _ (c .wide2 .ensures .0)
 
--- src/lib.rt:122:21
 mapped-requires : tie.Need-mapped-requires
 mapped-requires c κs = search needs
 
--- src/lib.rt:122:9
 less-requires-2 : tie.Need-less-requires-2
 less-requires-2 c κs = search needs
 
--- src/lib.rt:122:9
 returns-3 : tie.Need-returns-3
 returns-3 c = let a = c .before .before .before .before .before .before .before .before .before .args in let p = c .before .before .before .before .before .before .before .before .before .pre in let u = c .before .before .before .before .before .kind-of2 in let k = c .before .before .before .before .before .before .before .before .kind-of in carries-own (a .words .now) (a .n) (a .log .now) (a .classes .now) (a .starts .now) (a .maps .now) (a .ends) (a .em .now) (a .s) (a .w) (u .result) (u .ensures) (p .1 .1 .1) (λ q. c .before .before .before .before .before .before .before .if1 .left (k .ensures .0 ∙ sym (u .ensures .0) ∙ q)) (c .before .before .before .before .before .before .if2 .left) (c .before .before .before .before .if3 .taken) _ (c .before .before .before .wide2 .ensures .0) _ (c .less2 .ensures ∙ ap pred (c .before .mapped .ensures))
 
--- src/lib.rt:126:13
 returns-4 : tie.Need-returns-4
 returns-4 c = let a = c .before .before .before .before .before .before .before .args in let p = c .before .before .before .before .before .before .before .pre in let u = c .before .before .before .kind-of2 in let k = c .before .before .before .before .before .before .kind-of in carries-none (a .words .now) (a .n) (a .log .now) (a .classes .now) (a .starts .now) (a .maps .now) (a .ends) (a .em .now) (a .s) (a .w) (u .result) (u .ensures) (p .1 .1 .1) (λ q. c .before .before .before .before .before .if1 .left (k .ensures .0 ∙ sym (u .ensures .0) ∙ q)) (c .before .before .before .before .if2 .left) (c .before .if4 .taken) (c .if5 .taken)
 
--- src/lib.rt:128:31
 sub-wide : tie.Need-sub-wide
 sub-wide c = search needs
 
--- src/lib.rt:128:26
 wide-requires-3 : tie.Need-wide-requires-3
 wide-requires-3 c κs = search needs
 
--- src/lib.rt:128:23
 mul-mapped-2 : tie.Need-mul-mapped-2
 mul-mapped-2 c = search needs
 
--- src/lib.rt:128:23
 element-copy-out-mapped-2 : tie.Need-element-copy-out-mapped-2
 element-copy-out-mapped-2 c = let a = c .before .before .before .before .before .before .before .before .args in let p = c .before .before .before .before .before .before .before .before .pre in let u = c .before .before .before .before .kind-of2 in let k = c .before .before .before .before .before .before .before .kind-of in carries-opt-in (a .words .now) (a .n) (a .log .now) (a .classes .now) (a .starts .now) (a .maps .now) (a .ends) (a .em .now) (a .s) (a .w) (u .result) (u .ensures) (p .1 .1 .1) (λ q. c .before .before .before .before .before .before .if1 .left (k .ensures .0 ∙ sym (u .ensures .0) ∙ q)) (c .before .before .before .before .before .if2 .left) (c .before .if5 .left) _ (c .wide3 .ensures .0) (c .before .before .if4 .taken)
 
--- src/lib.rt:128:9
 mapped-requires-2 : tie.Need-mapped-requires-2
 mapped-requires-2 c κs = search needs
 
--- src/lib.rt:128:9
 returns-5 : tie.Need-returns-5
 returns-5 c = let a = c .before .before .before .before .before .before .before .before .before .before .args in let p = c .before .before .before .before .before .before .before .before .before .before .pre in let u = c .before .before .before .before .before .before .kind-of2 in let k = c .before .before .before .before .before .before .before .before .before .kind-of in c .mapped2 .ensures ∙ carries-opt (a .words .now) (a .n) (a .log .now) (a .classes .now) (a .starts .now) (a .maps .now) (a .ends) (a .em .now) (a .s) (a .w) (u .result) (u .ensures) (p .1 .1 .1) (λ q. c .before .before .before .before .before .before .before .before .if1 .left (k .ensures .0 ∙ sym (u .ensures .0) ∙ q)) (c .before .before .before .before .before .before .before .if2 .left) (c .before .before .before .if5 .left) _ (c .before .before .wide3 .ensures .0) (c .before .before .before .before .if4 .taken)
 
--- src/lib.rt:94:1
 returns-6 : tie.Need-returns-6
 returns-6 c = let a = c .before .before .before .before .before .before .args in let p = c .before .before .before .before .before .before .pre in let u = c .before .before .kind-of2 in let k = c .before .before .before .before .before .kind-of in carries-copied (a .words .now) (a .n) (a .log .now) (a .classes .now) (a .starts .now) (a .maps .now) (a .ends) (a .em .now) (a .s) (a .w) (u .result) (u .ensures) (p .1 .1 .1) (λ q. c .before .before .before .before .if1 .left (k .ensures .0 ∙ sym (u .ensures .0) ∙ q)) (c .before .before .before .if2 .left) (c .before .if3 .left) (c .if4 .left)
 

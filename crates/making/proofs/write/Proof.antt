@@ -1,3 +1,4 @@
+-- `making::write` meets its contract. Words and classes go to the top of the stack, one after the other. Assumes nothing.
 use Prim.Native.Nat.{_-_}
 use native.Mathlib.Omega.{arith}
 use borrow.Author.Needs.{needs}
@@ -5,12 +6,6 @@ use Rattle.making.specs.Stacks.{wentOf}
 use Rattle.making.proofs.Writes.{Laying, lay-begin, lay-done, lay-in, lay-word, lay-fits, lay-rest, lay-next}
 use Rattle.making.proofs.write.Statement.{statement}
 use Rattle.making.proofs.write.Tie as tie
-use Rattle.making.proofs.write.Reads as reads
-use Rattle.making.proofs.write.Lts as lts
-use Rattle.making.proofs.carried.Reads as carried-reads
-use Rattle.making.proofs.class_word.Reads as class-word-reads
-use Rattle.making.proofs.undefined_at.Reads as undefined-at-reads
-use Rattle.state.proofs.moved.Reads as moved-reads
 
 abbrev Inv-loop : tie.InvT-loop
 Inv-loop words tags kinds n log classes starts maps em stacks₀ ends offset at end i₀ p₀ u₀ stacks i p u = Laying words tags (wentOf words n log classes starts maps ends em) at end offset stacks₀ ends stacks i p u
@@ -18,79 +13,60 @@ Inv-loop words tags kinds n log classes starts maps em stacks₀ ends offset at 
 abbrev μ-loop : tie.MeasureT-loop
 μ-loop words tags kinds n log classes starts maps em stacks₀ ends offset at end i₀ p₀ u₀ stacks i p u = end - i
 
--- src/lib.rt:209:5
 loop-holds : tie.Need-loop-holds Inv-loop μ-loop
 loop-holds c = let a = c .args in let p = c .pre in lay-begin (a .words .now) (a .tags .now) (wentOf (a .words .now) (a .n) (a .log .now) (a .classes .now) (a .starts .now) (a .maps .now) (a .ends) (a .em .now)) (a .at) (a .end) (a .offset) (a .stacks .now) (a .ends) (p .1 .1 .1 .0) (p .1 .1 .1 .1 .0) (p .1 .1 .1 .1 .1)
 
--- src/lib.rt:212:9
 add-i : tie.Need-add-i Inv-loop μ-loop
 add-i c = search needs
 
--- src/lib.rt:213:9
 add-p : tie.Need-add-p Inv-loop μ-loop
 add-p c = let a = c .before .before .args in let p = c .before .before .pre in let l = c .before .loop in let q = lay-in (a .words .now) (a .tags .now) (wentOf (a .words .now) (a .n) (a .log .now) (a .classes .now) (a .starts .now) (a .maps .now) (a .ends) (a .em .now)) (a .at) (a .end) (a .offset) (a .stacks .now) (a .ends) (p .1 .1 .1 .0) (p .1 .1 .1 .1 .0) (p .1 .1 .1 .1 .1) (l .stacks) (l .i) (l .p) (l .u) (l .inv) (c .loop-test .taken) in omega arith
 
--- src/lib.rt:214:17
 element-copy-out-s : tie.Need-element-copy-out-s Inv-loop μ-loop
 element-copy-out-s c = let a = c .before .before .args in let p = c .before .before .pre in let l = c .before .loop in lay-word (a .words .now) (a .tags .now) (wentOf (a .words .now) (a .n) (a .log .now) (a .classes .now) (a .starts .now) (a .maps .now) (a .ends) (a .em .now)) (a .at) (a .end) (a .offset) (a .stacks .now) (a .ends) (p .1 .1 .1 .0) (p .1 .1 .1 .1 .0) (p .1 .1 .1 .1 .1) (l .stacks) (l .i) (l .p) (l .u) (l .inv) (c .loop-test .taken)
 
--- src/lib.rt:227:13
 mul-carried : tie.Need-mul-carried Inv-loop μ-loop
 mul-carried c = let a = c .before .before .before .args in let p = c .before .before .before .pre in let l = c .before .before .loop in let q = lay-word (a .words .now) (a .tags .now) (wentOf (a .words .now) (a .n) (a .log .now) (a .classes .now) (a .starts .now) (a .maps .now) (a .ends) (a .em .now)) (a .at) (a .end) (a .offset) (a .stacks .now) (a .ends) (p .1 .1 .1 .0) (p .1 .1 .1 .1 .0) (p .1 .1 .1 .1 .1) (l .stacks) (l .i) (l .p) (l .u) (l .inv) (c .before .loop-test .taken) in omega arith
 
--- src/lib.rt:227:13
 element-copy-out-carried : tie.Need-element-copy-out-carried Inv-loop μ-loop
 element-copy-out-carried c = let a = c .before .before .before .args in let p = c .before .before .before .pre in let l = c .before .before .loop in lay-word (a .words .now) (a .tags .now) (wentOf (a .words .now) (a .n) (a .log .now) (a .classes .now) (a .starts .now) (a .maps .now) (a .ends) (a .em .now)) (a .at) (a .end) (a .offset) (a .stacks .now) (a .ends) (p .1 .1 .1 .0) (p .1 .1 .1 .1 .0) (p .1 .1 .1 .1 .1) (l .stacks) (l .i) (l .p) (l .u) (l .inv) (c .before .loop-test .taken)
 
--- src/lib.rt:215:13
 carried-requires : tie.Need-carried-requires Inv-loop μ-loop
 carried-requires c κs = let a = c .before .before .before .before .args in let p = c .before .before .before .before .pre in let l = c .before .before .before .loop in (p .0, (p .1 .0, (p .1 .1 .0, lay-fits (a .words .now) (a .tags .now) (wentOf (a .words .now) (a .n) (a .log .now) (a .classes .now) (a .starts .now) (a .maps .now) (a .ends) (a .em .now)) (a .at) (a .end) (a .offset) (a .stacks .now) (a .ends) (p .1 .1 .1 .0) (p .1 .1 .1 .1 .0) (p .1 .1 .1 .1 .1) (l .stacks) (l .i) (l .p) (l .u) (l .inv) (c .before .before .loop-test .taken))))
 
--- src/lib.rt:229:9
 undefined-at-requires : tie.Need-undefined-at-requires Inv-loop μ-loop
 undefined-at-requires c κs = let a = c .before .before .before .before .before .args in let p = c .before .before .before .before .before .pre in let l = c .before .before .before .before .loop in (p .0, (p .1 .0, (p .1 .1 .0, lay-rest (a .words .now) (a .tags .now) (wentOf (a .words .now) (a .n) (a .log .now) (a .classes .now) (a .starts .now) (a .maps .now) (a .ends) (a .em .now)) (a .at) (a .end) (a .offset) (a .stacks .now) (a .ends) (p .1 .1 .1 .0) (p .1 .1 .1 .1 .0) (p .1 .1 .1 .1 .1) (l .stacks) (l .i) (l .p) (l .u) (l .inv) (c .before .before .before .loop-test .taken))))
 
--- src/lib.rt:246:28
 moved-requires : tie.Need-moved-requires Inv-loop μ-loop
 moved-requires c κs = search needs
 
--- src/lib.rt:246:9
 mul-stacks : tie.Need-mul-stacks Inv-loop μ-loop
 mul-stacks c = let a = c .before .before .before .before .before .before .before .args in let p = c .before .before .before .before .before .before .before .pre in let l = c .before .before .before .before .before .before .loop in let q = lay-in (a .words .now) (a .tags .now) (wentOf (a .words .now) (a .n) (a .log .now) (a .classes .now) (a .starts .now) (a .maps .now) (a .ends) (a .em .now)) (a .at) (a .end) (a .offset) (a .stacks .now) (a .ends) (p .1 .1 .1 .0) (p .1 .1 .1 .1 .0) (p .1 .1 .1 .1 .1) (l .stacks) (l .i) (l .p) (l .u) (l .inv) (c .before .before .before .before .before .loop-test .taken) in omega arith
 
--- src/lib.rt:246:9
 index-1-stacks : tie.Need-index-1-stacks Inv-loop μ-loop
 index-1-stacks c = search needs
 
--- src/lib.rt:246:9
 index-2-stacks : tie.Need-index-2-stacks Inv-loop μ-loop
 index-2-stacks c = let a = c .before .before .before .before .before .before .before .args in let p = c .before .before .before .before .before .before .before .pre in let l = c .before .before .before .before .before .before .loop in lay-in (a .words .now) (a .tags .now) (wentOf (a .words .now) (a .n) (a .log .now) (a .classes .now) (a .starts .now) (a .maps .now) (a .ends) (a .em .now)) (a .at) (a .end) (a .offset) (a .stacks .now) (a .ends) (p .1 .1 .1 .0) (p .1 .1 .1 .1 .0) (p .1 .1 .1 .1 .1) (l .stacks) (l .i) (l .p) (l .u) (l .inv) (c .before .before .before .before .before .loop-test .taken)
 
--- src/lib.rt:247:30
 class-word-requires : tie.Need-class-word-requires Inv-loop μ-loop
 class-word-requires c κs = search needs
 
--- src/lib.rt:247:9
 mul-stacks-2 : tie.Need-mul-stacks-2 Inv-loop μ-loop
 mul-stacks-2 c = let a = c .before .before .before .before .before .before .before .before .args in let p = c .before .before .before .before .before .before .before .before .pre in let l = c .before .before .before .before .before .before .before .loop in let q = lay-in (a .words .now) (a .tags .now) (wentOf (a .words .now) (a .n) (a .log .now) (a .classes .now) (a .starts .now) (a .maps .now) (a .ends) (a .em .now)) (a .at) (a .end) (a .offset) (a .stacks .now) (a .ends) (p .1 .1 .1 .0) (p .1 .1 .1 .1 .0) (p .1 .1 .1 .1 .1) (l .stacks) (l .i) (l .p) (l .u) (l .inv) (c .before .before .before .before .before .before .loop-test .taken) in omega arith
 
--- src/lib.rt:247:9
 index-1-stacks-2 : tie.Need-index-1-stacks-2 Inv-loop μ-loop
 index-1-stacks-2 c = search needs
 
--- src/lib.rt:247:9
 index-2-stacks-2 : tie.Need-index-2-stacks-2 Inv-loop μ-loop
 index-2-stacks-2 c = let a = c .before .before .before .before .before .before .before .before .args in let p = c .before .before .before .before .before .before .before .before .pre in let l = c .before .before .before .before .before .before .before .loop in lay-in (a .words .now) (a .tags .now) (wentOf (a .words .now) (a .n) (a .log .now) (a .classes .now) (a .starts .now) (a .maps .now) (a .ends) (a .em .now)) (a .at) (a .end) (a .offset) (a .stacks .now) (a .ends) (p .1 .1 .1 .0) (p .1 .1 .1 .1 .0) (p .1 .1 .1 .1 .1) (l .stacks) (l .i) (l .p) (l .u) (l .inv) (c .before .before .before .before .before .before .loop-test .taken)
 
--- src/lib.rt:209:5
 loop-less : tie.Need-loop-less Inv-loop μ-loop
 loop-less c = search needs
 
--- src/lib.rt:209:5
 loop-again : tie.Need-loop-again Inv-loop μ-loop
 loop-again c = let a = c .before .before .before .before .before .before .before .before .args in let p = c .before .before .before .before .before .before .before .before .pre in let l = c .before .before .before .before .before .before .before .loop in lay-next (a .words .now) (a .tags .now) (wentOf (a .words .now) (a .n) (a .log .now) (a .classes .now) (a .starts .now) (a .maps .now) (a .ends) (a .em .now)) (a .at) (a .end) (a .offset) (a .stacks .now) (a .ends) (p .1 .1 .1 .0) (p .1 .1 .1 .1 .0) (p .1 .1 .1 .1 .1) (l .stacks) (l .i) (l .p) (l .u) (l .inv) (c .before .before .before .before .before .before .loop-test .taken) _ (c .before .before .before .carried .ensures) _ (c .before .before .undefined-at .ensures) _ (c .before .moved .ensures) _ (c .class-word .ensures)
 
--- src/lib.rt:183:1
 returns : tie.Need-returns Inv-loop μ-loop
 returns c = let a = c .before .before .args in let p = c .before .before .pre in let l = c .before .loop in lay-done (a .words .now) (a .tags .now) (wentOf (a .words .now) (a .n) (a .log .now) (a .classes .now) (a .starts .now) (a .maps .now) (a .ends) (a .em .now)) (a .at) (a .end) (a .offset) (a .stacks .now) (a .ends) (p .1 .1 .1 .0) (p .1 .1 .1 .1 .0) (p .1 .1 .1 .1 .1) (l .stacks) (l .i) (l .p) (l .u) (l .inv) (c .loop-test .left)
 
