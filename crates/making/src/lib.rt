@@ -44,6 +44,19 @@ pub fn slot(x: u16) -> usize
     x as usize
 }
 
+// A word of the function's own map, and a class, as the stacks have words.
+fn mapped(x: u16) -> u32
+    ensures { λ r. ⌜ r ≡ x ⌝ }
+{
+    x as u32
+}
+
+fn class_word(s: u8) -> u32
+    ensures { λ r. ⌜ r ≡ s ⌝ }
+{
+    s as u32
+}
+
 // Where each expression record starts, from `at` on, and where the last one ends: a record starts with its kind, and behind the last stands the number of
 // named expressions.
 pub fn index(tags: &[u8; 16384], at: usize, end: usize, places: &mut [u16; 1025])
@@ -106,13 +119,13 @@ pub fn carried(
     }
     let u = kind_of(kinds, s);
     if u == 5 {
-        return less(em[wide(w)] as u32);
+        return less(mapped(em[wide(w)]));
     }
     if u == 13 {
         if w == 0 {
             return 0;
         }
-        return em[wide(w - 1)] as u32;
+        return mapped(em[wide(w - 1)]);
     }
     w
 }
@@ -161,7 +174,8 @@ fn undefined_at(
             ends,
             tags[i],
             words[i],
-        ) == 0;
+        )
+            == 0;
     }
     true
 }
@@ -231,7 +245,7 @@ fn write(
             u,
         );
         stacks[WORDS][q] = moved(s, w, offset, u);
-        stacks[CLASSES][q] = s as u32;
+        stacks[CLASSES][q] = class_word(s);
     }
 }
 
