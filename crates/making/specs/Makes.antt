@@ -20,9 +20,9 @@ pub record Aside (starts starts′ : List (List ℕ)) (e r : Ends) : Type 0 wher
   pub bt-same : r .bt ≡ e .bt
   pub et-more : e .et ≤ r .et
 
--- what was on the stacks is there
-pub record Stays (et : ℕ) (stacks stacks′ : List (List ℕ)) : Type 0 where
-  pub expressions : (t : ℕ) → t < 3 → take et (row stacks′ t) ≡ take et (row stacks t)
+-- what was on the stacks is there: of expressions what lies below `low`
+pub record Stays (low : ℕ) (stacks stacks′ : List (List ℕ)) : Type 0 where
+  pub expressions : (t : ℕ) → t < 3 → take low (row stacks′ t) ≡ take low (row stacks t)
   pub body : row stacks′ 3 ≡ row stacks 3
 
 -- what f makes of what the arrays held is what they hold, or that is too large, with what waits below it on the stacks; what the log held is there
@@ -35,7 +35,7 @@ pub record Makes (words : List ℕ) (k : ℕ) (f : Making → Making) (log₀ ta
   pub under : r .full ≡ false → Under k em stacks e₁ r
   pub aside : r .full ≡ false → Aside starts₀ starts e r
   pub more : r .full ≡ false → e .used ≤ r .used
-  pub stays : r .full ≡ false → Stays (e .et) stacks₀ stacks
+  pub stays : r .full ≡ false → Stays e₁ stacks₀ stacks
   pub below : Same (e .used) log₀ tags₀ log tags
   pub log-long : length log ≡ 16384
   pub tags-long : length tags ≡ 16384

@@ -181,7 +181,7 @@ fn undefined_at(
 }
 
 // What the source's words from `at` to `end` become, on the top of the stack of expressions.
-fn write(
+pub fn write(
     words: &[u32; 16384],
     tags: &[u8; 16384],
     kinds: &[u8; 256],
