@@ -1,0 +1,3 @@
+pub mod Part
+pub mod Fitting
+pub mod Exprs
