@@ -1,28 +1,28 @@
 -- The expressions of a function of the source: by the places that the code found they are cut out of the words, one behind the other (`Expressions`).
 use mathlib.Core.Path.{_≡_, refl, sym, ap, _∙_}
-use mathlib.Core.List.{List, [], _∷_}
-use Prim.Native.Nat.{ℕ, zero, suc, _+_, _≤_, _<_}
-use native.Mathlib.Numerals.{add-one}
+use mathlib.Core.Bool.{Bool, true, false}
+use mathlib.Core.List.{List, [], _∷_, _++_, map, append-assoc}
+use Prim.Native.Nat.{ℕ, suc, _+_, _≤_, _<_}
 use native.Mathlib.Omega.{arith}
+use lib.Dec.{eqb}
 use lib.ListN.{length, getD, take, replicate, length-replicate}
-use lib.Seq.{sets, slice, getD-take, length-take-le, length-sets}
-use Rattle.model.specs.Outcome.{Cells}
-use Rattle.model.specs.Table.{EXPR-KIND}
-use Rattle.model.specs.Tree.{Function, flatAll}
-use Rattle.model.specs.FunctionView.{expressionsAt}
+use lib.Seq.{slice, getD-take, length-take-le, length-sets}
+use Rattle.model.specs.Outcome.{Cells, class}
+use Rattle.model.specs.Table.{NAMED, EXPR-KIND}
+use Rattle.model.specs.Tree.{Function, flatAll, flatList, flatBlock}
 use Rattle.model.specs.Module.{flatModule}
-use Rattle.model.specs.Between.{between}
 use Rattle.model.specs.Carry.{Each, each-none, each-next}
 use Rattle.model.specs.References.{refs}
+use Rattle.laws.specs.Lists.{map-append}
 use Rattle.laws.specs.Sections.{startOf, start-zero}
 use Rattle.laws.specs.Betweens.{held-between}
-use Rattle.laws.specs.FunctionViews.{Held, Part as Run, part-end, part-left, part-right, Expression, expression-first, namedAt, exprs-all, exprs-shapes, expr-part, expr-class}
-use Rattle.initial.specs.Marks.{finds, Starting}
+use Rattle.laws.specs.FunctionViews.{Held, Part as Run, part-end, part-left, part-right, part-tags, Field, field-not, Expression, expression, expression-first, exprs-all, exprs-shapes, expr-class}
+use Rattle.initial.specs.Marks.{finds}
 use Rattle.imports.specs.RecordLaws.{All}
 use Rattle.state.specs.Source.{modOf}
-use Rattle.ground.specs.Fits.{FitN, Legible}
+use Rattle.ground.specs.Fits.{FitN}
 use Rattle.ground.specs.Cuts.{nextOf, cut, Rising, exprsOf, Expressions}
-use Rattle.parts.specs.Part.{Part, placesOf, Indexed, long, stretch, k-many, k-few, starts, named-here, order}
+use Rattle.parts.specs.Part.{Part, tail, Indexed, long, k-many, k-few, starts, named-here, order}
 use Rattle.parts.specs.Fitting.{expr-fits}
 
 -- ---- runs of cells, by the places where they start
@@ -67,11 +67,48 @@ module _ {words tags : List ℕ} {cells : Cells} (o : Held words tags cells) whe
       let n = next rs ss (p + length r) q w g in
       (first r rs a ss p h, omega (arith, n, expression-first e), rw n (cut-rising es ss (p + length r) q w g))
 
+-- ---- how many places are found: one for each expression, and that of the count behind them
+free : (a b : ℕ) (ss : List ℕ) → length (finds a ss) ≡ length (finds b ss)
+unfolding finds
+free a b [] = refl
+free a b (s ∷ ss) = go (eqb s NAMED) (eqb s EXPR-KIND) (free (suc a) (suc b) ss)
+  where
+    go : (x y : Bool) → length (finds (suc a) ss) ≡ length (finds (suc b) ss)
+        → length {A = ℕ} (elim x [ true ↦ a ∷ [] | false ↦ elim y [ true ↦ a ∷ finds (suc a) ss | false ↦ finds (suc a) ss ] ]) ≡ length {A = ℕ} (elim x [ true ↦ b ∷ [] | false ↦ elim y [ true ↦ b ∷ finds (suc b) ss | false ↦ finds (suc b) ss ] ])
+    go true y h = refl
+    go false true h = ap suc h
+    go false false h = h
+
+over-fields : {cs : Cells} → Each Field cs → (a : ℕ) (ss : List ℕ) → length (finds a (map class cs ++ ss)) ≡ length (finds a ss)
+unfolding finds
+over-fields each-none a ss = refl
+over-fields (each-next {a = c} {l = cs} f fs) a ss = rw (field-not (class c) NAMED f refl, finds, field-not (class c) EXPR-KIND f refl) (free (suc a) a (map class cs ++ ss) ∙ over-fields fs a ss)
+
+over-exprs : {rs : List Cells} → Each Expression rs → (a : ℕ) (ss : List ℕ) → length (finds a (map class (flatAll rs) ++ (NAMED ∷ ss))) ≡ suc (length rs)
+unfolding finds flatAll
+over-exprs each-none a ss = refl
+over-exprs (each-next {l = rs} (expression {k} {cs = cs} h e l fs) es) a ss =
+    let t = map class (flatAll rs) ++ (NAMED ∷ ss) in
+    rw (map-append class cs (flatAll rs), append-assoc (map class cs) (map class (flatAll rs)) (NAMED ∷ ss)) (ap suc (over-fields fs (suc a) t ∙ over-exprs es (suc a) ss))
+
 -- ---- of a function
 module _ {words tags : List ℕ} {n s end : ℕ} {F : Function} (p : Part words tags n s end F) {ea : ℕ} {places : List ℕ} {k named body : ℕ} (x : Indexed words tags s end ea places k named body) where
   pub places-long : length places ≡ 1025
-  unfolding placesOf
-  places-long = ap length (x .places-are) ∙ length-sets (replicate 1025 0) 0 (finds (suc ea) (slice (suc ea) end tags)) ∙ length-replicate {A = ℕ} 1025 0
+  places-long = ap length (x .places-are) ∙ length-sets (replicate 1025 0) 0 (finds (ea + 1) (slice (ea + 1) end tags)) ∙ length-replicate {A = ℕ} 1025 0
+
+  tail-run : Run (flatModule (modOf words n)) (ea + 1) end (flatAll (F .exprs) ++ (flatList NAMED (F .named) ++ flatBlock (F .body)))
+  tail-run = rw (x .ea-is) (tail p)
+
+  -- LAW: as many as there are expressions, and one
+  pub finds-many : length (finds (ea + 1) (slice (ea + 1) end tags)) ≡ k + 1
+  unfolding flatList
+  finds-many =
+      ap (λ l. length (finds (ea + 1) l)) (part-tags (p .stands .held) tail-run ∙ map-append class (flatAll (F .exprs)) (flatList NAMED (F .named) ++ flatBlock (F .body)))
+      ∙ over-exprs (exprs-shapes (p .stands)) (ea + 1) (map class (flatAll (F .named) ++ flatBlock (F .body)))
+      ∙ omega (arith, k-many p x)
+
+  pub finds-few : length (finds (ea + 1) (slice (ea + 1) end tags)) ≤ 1025
+  finds-few = omega (arith, finds-many, k-few p x)
 
   taken : Starts (ea + 1) (F .exprs) (take k places)
   taken = record {

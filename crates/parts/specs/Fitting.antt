@@ -1,7 +1,7 @@
 -- The numbers that the words of a function refer to are in range: of a table below its count, of expressions below theirs, of functions below theirs (tests 3 and 4).
 -- A class's bound (test 3) and what the class refers to are two lists in the same order, so one check of both lists serves every word.
-use mathlib.Core.Path.{_≡_, refl, sym, ap, _∙_}
-use mathlib.Core.Bool.{Bool, true, false, _&&_}
+use mathlib.Core.Path.{_≡_, refl, sym}
+use mathlib.Core.Bool.{Bool, true, false}
 use mathlib.Core.Option.{Option, none, some}
 use mathlib.Core.List.{List, [], _∷_, _++_}
 use Prim.Native.Nat.{ℕ, zero, suc, _+_, _-_, _≤_, _<_}
@@ -13,16 +13,15 @@ use borrow.Author.Tests.{ltb-true, ltb-false, le-ltb}
 use Rattle.model.specs.Outcome.{Cells, class, word}
 use Rattle.model.specs.Table.{WORD, SPAN, NAME, EXPRESSIONS, NAMED, binding, entryHead, expressionRow, counted}
 use Rattle.model.specs.Tree.{Function, Entry, flat, flatAll, flatList, flatBlock, flatEntry}
-use Rattle.model.specs.Module.{Module, countAt}
+use Rattle.model.specs.Module.{Module}
 use Rattle.model.specs.View.{recordAt, tables as tablesL}
 use Rattle.model.specs.FunctionView.{ENTRY-HEAD}
 use Rattle.model.specs.Between.{between}
-use Rattle.model.specs.Carry.{Lays}
 use Rattle.model.specs.Numbers.{Bounds, caps, bound, below as under, within, ordered, every, outside, inside, constantOnly, sound, soundFunction, soundEntry, numbered}
 use Rattle.model.specs.Initial.{initialised}
 use Rattle.model.specs.Lower.{below, operandsLower}
 use Rattle.model.specs.Operands.{opsOf}
-use Rattle.model.specs.Tables.{Tab, names, types, constants, overrides, globals, exprs, codeT}
+use Rattle.model.specs.Tables.{names, types, constants, overrides, globals, exprs, codeT}
 use Rattle.model.specs.References.{Place, table, own, function, Target, copied, start, upto, ref, opt, targets, target, Node, refOf, refs}
 use Rattle.laws.specs.Lists.{and-split}
 use Rattle.laws.specs.Plain.{plain?}
@@ -34,7 +33,7 @@ use Rattle.imports.specs.RecordLaws.{All, all-map, all-both}
 use Rattle.imports.specs.Tested.{every-at, cons-all}
 use Rattle.imports.specs.Functions.{within-append}
 use Rattle.bodies.specs.Lists.{All as AllE, all-map as alle-map}
-use Rattle.bodies.specs.Context.{OwnP, Own, owns-all}
+use Rattle.bodies.specs.Context.{OwnP, owns-all}
 use Rattle.bodies.specs.Classes.{expr-owned}
 use Rattle.bodies.specs.Passing.{row-in}
 use Rattle.passes.specs.Pass.{front}

@@ -3,16 +3,15 @@
 use mathlib.Core.Path.{_≡_, refl, sym, ap, _∙_}
 use mathlib.Core.Bool.{true}
 use mathlib.Core.Option.{some}
-use mathlib.Core.List.{List, _++_}
-use Prim.Native.Nat.{ℕ, suc, _+_, _*_, _^_, _≤_, _<_}
-use native.Mathlib.Numerals.{add-one}
+use mathlib.Core.List.{List, [], _∷_, _++_, append-assoc}
+use Prim.Native.Nat.{ℕ, _+_, _*_, _≤_, _<_}
 use native.Mathlib.Omega.{arith}
 use lib.ListN.{length, getD, getElem?, replicate, length-append, length-replicate}
 use lib.Seq.{slice, sets}
 use Rattle.model.specs.Outcome.{Cells}
-use Rattle.model.specs.Table.{ARGUMENTS, LOCALS, EXPRESSIONS, NAMED, limit}
+use Rattle.model.specs.Table.{ARGUMENTS, LOCALS, EXPRESSIONS, NAMED}
 use Rattle.model.specs.Tree.{Function, Entry, flat, flatAll, flatList, flatBlock}
-use Rattle.model.specs.Module.{countAt, flatModule}
+use Rattle.model.specs.Module.{Module, countAt, flatModule}
 use Rattle.model.specs.View.{recordAt, recordEnd}
 use Rattle.model.specs.FunctionView.{ENTRY-HEAD, localsAt, expressionsAt}
 use Rattle.model.specs.Between.{between, Long, Stretch}
@@ -20,13 +19,14 @@ use Rattle.model.specs.Redirect.{nothing, function as functionAt}
 use Rattle.model.specs.Scope.{inScope}
 use Rattle.laws.specs.Sections.{startOf, start-end}
 use Rattle.laws.specs.Betweens.{held-between}
-use Rattle.laws.specs.FunctionViews.{Part as Run, part-end, part-left, Stands, namedAt, bodyAt, parts, exprs-count, named-count, locals-count, stands-end, looked-at, taped-length, taped-functions, taped-function, taped-entry}
-use Rattle.initial.specs.Lists.{Lists, Listed}
+use Rattle.laws.specs.FunctionViews.{Part as Run, part-end, part-left, part-right, Stands, namedAt, bodyAt, parts, named-count, stands-end, looked-at, taped-length, taped-functions, taped-entries, taped-function, taped-entry}
+use Rattle.initial.specs.Lists.{Lists}
 use Rattle.initial.specs.Marks.{finds, Starting}
-use Rattle.initial.proofs.Reaching.{starting, many-is, many-few, end-in, init-few}
+use Rattle.initial.proofs.Reaching.{starting, many-is, many-few}
 use Rattle.bodies.specs.Passing.{Passes}
 use Rattle.bodies.specs.Source.{function-passes, entry-passes}
 use Rattle.passes.specs.Pass.{front}
+use Rattle.state.specs.Flats.{noEntry}
 use Rattle.state.specs.Source.{modOf, Source}
 
 -- F stands from s to end in a source that passed intake
@@ -36,6 +36,13 @@ pub record Part (words tags : List ℕ) (n s end : ℕ) (F : Function) : Type 0 
   pub pass : Passes (modOf words n) F
 
 -- ---- what there is
+unfoldable pub entry : Module → ℕ → Entry
+entry m j = getD (m .entries) j noEntry
+
+pub entry-there : {words tags : List ℕ} {n : ℕ} → Source words tags n → (j : ℕ) → j < countAt 7 words → getElem? (modOf words n .entries) j ≡ some (entry (modOf words n) j)
+unfolding entry
+entry-there {words} {n = n} src j h = looked-at (modOf words n .entries) j noEntry (omega (arith, taped-entries (src .taped)))
+
 module _ {words tags : List ℕ} {n : ℕ} (src : Source words tags n) (six : inScope (modOf words n) ≡ true) where
   pub part-of-function : (j : ℕ) (F : Function) → getElem? (modOf words n .functions) j ≡ some F → Part words tags n (recordAt 6 j words) (recordEnd 6 j words) F
   part-of-function j F e = record {
@@ -48,16 +55,19 @@ module _ {words tags : List ℕ} {n : ℕ} (src : Source words tags n) (six : in
   unfolding functionAt
   function-part j h = part-of-function j _ (looked-at (modOf words n .functions) j nothing (omega (arith, taped-functions (src .taped))))
 
-  pub entry-part : (j : ℕ) (E : Entry) → getElem? (modOf words n .entries) j ≡ some E → Part words tags n (recordAt 7 j words + ENTRY-HEAD) (recordEnd 7 j words) (E .function)
-  entry-part j E e = record {
+  pub part-of-entry : (j : ℕ) (E : Entry) → getElem? (modOf words n .entries) j ≡ some E → Part words tags n (recordAt 7 j words + ENTRY-HEAD) (recordEnd 7 j words) (E .function)
+  part-of-entry j E e = record {
     source = src;
     stands = taped-entry (src .taped) j E e;
     pass = entry-passes (modOf words n) (src .taped .well) (src .three) (src .four) six j E e;
   }
 
+  pub entry-part : (j : ℕ) → j < countAt 7 words → Part words tags n (recordAt 7 j words + ENTRY-HEAD) (recordEnd 7 j words) (entry (modOf words n) j .function)
+  entry-part j h = part-of-entry j _ (entry-there src j h)
+
 -- ---- as the code reads the words: the count of expressions stands at ea, the places where they start are found in the tape, and behind the last stands the count of named expressions
-unfoldable pub placesOf : List ℕ → ℕ → ℕ → List ℕ
-placesOf tags ea end = sets (replicate 1025 0) 0 (finds (suc ea) (slice (suc ea) end tags))
+abbrev pub placesOf : List ℕ → ℕ → ℕ → List ℕ
+placesOf tags ea end = sets (replicate 1025 0) 0 (finds (ea + 1) (slice (ea + 1) end tags))
 
 pub record Indexed (words tags : List ℕ) (s end ea : ℕ) (places : List ℕ) (k named body : ℕ) : Type 0 where
   pub ea-is : ea ≡ expressionsAt s words
@@ -66,17 +76,21 @@ pub record Indexed (words tags : List ℕ) (s end ea : ℕ) (places : List ℕ) 
   pub named-is : named ≡ getD places k 0
   pub body-is : body ≡ named + 1 + 2 * getD words named 0
 
+-- what it is, of any words
+abbrev pub namedOf : List ℕ → List ℕ → ℕ → ℕ → ℕ
+namedOf words tags s end = getD (placesOf tags (expressionsAt s words) end) (getD words (expressionsAt s words) 0) 0
+
+pub indexed : (words tags : List ℕ) (s end : ℕ)
+    → Indexed words tags s end (expressionsAt s words) (placesOf tags (expressionsAt s words) end) (getD words (expressionsAt s words) 0) (namedOf words tags s end) (namedOf words tags s end + 1 + 2 * getD words (namedOf words tags s end) 0)
+indexed words tags s end = record { ea-is = refl; places-are = refl; k-is = refl; named-is = refl; body-is = refl }
+
+-- where its parts stand
 pub record InOrder (s ea named body end : ℕ) : Type 0 where
   pub to-exprs : s ≤ ea
   pub to-named : ea < named
   pub to-body : named < body
   pub to-end : body < end
   pub in-words : end ≤ 16384
-
--- as a place is stepped
-pub places-next : (tags : List ℕ) (ea end : ℕ) → sets (replicate 1025 0) 0 (finds (ea + 1) (slice (ea + 1) end tags)) ≡ placesOf tags ea end
-unfolding placesOf
-places-next tags ea end = rw (add-one ea)
 
 -- ---- where they are
 module _ {words tags : List ℕ} {n s end : ℕ} {F : Function} (p : Part words tags n s end F) where
@@ -119,6 +133,16 @@ module _ {words tags : List ℕ} {n s end : ℕ} {F : Function} (p : Part words 
       let c = flatList NAMED (F .named) in
       rw front-end at (part-left a b (part-left (a ++ b) c (part-left (a ++ b ++ c) (flatBlock (F .body)) (rw split at (p .stands .part)))))
 
+  -- behind the count of expressions
+  pub tail : Run (flatModule (modOf words n)) (expressionsAt s words + 1) end (flatAll (F .exprs) ++ (flatList NAMED (F .named) ++ flatBlock (F .body)))
+  unfolding flatList
+  tail =
+      let a = front F in
+      let b = flatList EXPRESSIONS (F .exprs) in
+      let c = flatList NAMED (F .named) in
+      let q : flat F ≡ a ++ (b ++ (c ++ flatBlock (F .body))) = split ∙ append-assoc (a ++ b) c (flatBlock (F .body)) ∙ append-assoc a b (c ++ flatBlock (F .body)) in
+      part-right ((EXPRESSIONS, length (F .exprs)) ∷ []) (flatAll (F .exprs) ++ (c ++ flatBlock (F .body))) (rw front-end at (part-right a (b ++ (c ++ flatBlock (F .body))) (rw q at (p .stands .part))))
+
 -- ---- the parts of F, by what the code read
 module _ {words tags : List ℕ} {n s end : ℕ} {F : Function} (p : Part words tags n s end F) {ea : ℕ} {places : List ℕ} {k named body : ℕ} (x : Indexed words tags s end ea places k named body) where
   -- how many expressions there are, and where they start
@@ -131,19 +155,8 @@ module _ {words tags : List ℕ} {n s end : ℕ} {F : Function} (p : Part words 
   pub k-few : k ≤ 1024
   k-few = many-few (lists p) k k-word
 
-  places-at : places ≡ sets (replicate 1025 0) 0 (finds (expressionsAt s words + 1) (slice (expressionsAt s words + 1) end tags))
-  places-at = x .places-are ∙ ap (λ i. placesOf tags i end) (x .ea-is) ∙ sym (places-next tags (expressionsAt s words) end)
-
   pub starts : Starting F k (ea + 1) places
-  starts = rw (x .ea-is) (starting (lists p) k k-word (replicate 1025 0) places (length-replicate {A = ℕ} 1025 0) places-at)
-
-  -- they are found, and there is room for their places
-  locals-few : getD words (localsAt s words) 0 ≤ 128
-  unfolding limit
-  locals-few = rw (locals-count (p .stands)) (p .stands .well .locals-ok .few)
-
-  pub finds-few : length (finds (ea + 1) (slice (ea + 1) end tags)) ≤ 1025
-  finds-few = rw (x .ea-is) (init-few words tags (localsAt s words) (expressionsAt s words) end (record { function = F; lists = lists p }) (getD words (localsAt s words) 0) k (refl, omega (arith, locals-few)) (k-word, omega (arith, k-few)))
+  starts = rw (x .ea-is) (starting (lists p) k k-word (replicate 1025 0) places (length-replicate {A = ℕ} 1025 0) (x .places-are ∙ ap (λ i. placesOf tags i end) (x .ea-is)))
 
   -- the count of named expressions, and the body
   pub named-here : named ≡ namedAt s words F
