@@ -203,4 +203,3 @@ pub fn import_outside(
     }
     e
 }
-
