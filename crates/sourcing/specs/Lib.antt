@@ -1,0 +1,3 @@
+pub mod Derives
+pub mod Cleared
+pub mod Examples
