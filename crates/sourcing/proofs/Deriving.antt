@@ -1,39 +1,36 @@
 -- What each step of setting a source does to the arrays: a type that is mapped to the derived one, a type that is imported for its place or its key, and steps one
 -- behind the other. Assumes nothing.
-use mathlib.Core.Path.{_≡_, refl, sym, ap, ap₂, _∙_}
-use mathlib.Core.Logic.{_⊎_, inl, inr, ⊎-elim}
-use mathlib.Core.Bool.{Bool, true, false, false≢true}
-use mathlib.Core.List.{List, [], _∷_, _++_}
-use Prim.Native.Nat.{ℕ, zero, suc, _+_, _-_, _*_, _≤_, _<_, pred}
+use mathlib.Core.Path.{_≡_, refl, sym, ap, _∙_}
+use mathlib.Core.Logic.{_⊎_, ⊎-elim}
+use mathlib.Core.Bool.{true, false, false≢true}
+use mathlib.Core.List.{List, [], _∷_}
+use Prim.Native.Nat.{ℕ, suc, _+_, _-_, _*_, _≤_, _<_, pred}
 use native.Mathlib.Nat.{le-refl, le-trans}
 use native.Mathlib.Omega.{arith}
 use lib.ListN.{length, getD, set, take, length-set, length-append}
 use lib.Seq.{getD-set-same, getD-set-other, length-take-le}
-use Rattle.model.specs.Outcome.{Cells, word}
-use Rattle.model.specs.Table.{OPT-TYPE, KEY, TYPE}
-use Rattle.model.specs.Module.{Special, countAt}
-use Rattle.model.specs.Tables.{Tab, types, codeT, at, six, Tables, count, mapAt}
+use Rattle.model.specs.Table.{KEY, TYPE}
+use Rattle.model.specs.Module.{countAt}
+use Rattle.model.specs.Tables.{types, codeT, at, Tables, count, mapAt}
 use Rattle.model.specs.Imports.{St, importT}
-use Rattle.model.specs.Special.{force, withSpecial, putRay, rayTo, ray, keyed, putPair, pairTo}
+use Rattle.model.specs.Special.{force, withSpecial, putRay, putPair}
 use Rattle.imports.specs.TableLaws.{at-six}
 use Rattle.imports.specs.Trace.{Sized, import-trace}
 use Rattle.state.specs.Refers.{tabOf}
 use Rattle.state.specs.Flats.{pairsAt, specialOf}
 use Rattle.state.specs.Source.{srcOf, Source}
-use Rattle.state.specs.Held.{row, cell, put, tableOf, recsOf, mapsOf, stOf, sizeR, wordsOf, Over, long, keys, Kept, Specials, Same, Beside, Lands}
+use Rattle.state.specs.Held.{cell, put, tableOf, mapsOf, stOf, sizeR, wordsOf, Over, long, keys, Kept, Specials, Same, Beside, Lands}
 use Rattle.state.specs.Marks.{Marks}
 use Rattle.state.specs.declared.Ends.{Ends}
-use Rattle.state.proofs.State.{tab-code, code-low, same-or, same-refl, same-then, marks-refl, marks-then, pairs-long, tab-long, words-are, table-stays, kept-point}
+use Rattle.state.proofs.State.{tab-code, code-low, same-or, same-refl, marks-refl, pairs-long, tab-long, words-are, table-stays, kept-point}
 use Rattle.import.proofs.Sources.{wf, count-is, count-few, inside, small-number}
-use Rattle.import.proofs.Growth.{Grow, then, over-grow, grow-T}
-use Rattle.sourcing.specs.Derives.{pairOf, Aside, Derives}
-use Rattle.sourcing.proofs.Keys.{keyed-low}
-use Rattle.sourcing.proofs.Growing.{grow-put-ray, grow-put-pair}
-use Rattle.sourcing.proofs.Words.{with-pair, ray-is, force-is, type-map, put-ray-is, put-pair-is, kept-paired}
+use Rattle.import.proofs.Growth.{Grow, over-grow, grow-T}
+use Rattle.sourcing.specs.Derives.{Aside, Derives}
+use Rattle.sourcing.proofs.Words.{with-pair, force-is, type-map, put-ray-is, put-pair-is, kept-paired}
 
 -- ---- what stands beside the tables
 pub aside-refl : (starts : List (List ℕ)) (e : Ends) → Aside starts starts e e
-aside-refl starts e = record { functions-same = (refl, refl); entries-same = (refl, refl); tops-same = (refl, refl) }
+aside-refl starts e = record { functions-same = (refl, refl); entries-same = (refl, refl); tops-same = (refl, refl, refl) }
 
 aside-of : {starts starts′ : List (List ℕ)} {e r : Ends} → Beside starts starts′ e r → Aside starts starts′ e r
 aside-of b = record { functions-same = b .functions-same; entries-same = b .entries-same; tops-same = b .tops-same }
@@ -42,7 +39,7 @@ pub aside-then : {a b c : List (List ℕ)} {e f g : Ends} → Aside a b e f → 
 aside-then x y = record {
   functions-same = (y .functions-same .0 ∙ x .functions-same .0, y .functions-same .1 ∙ x .functions-same .1);
   entries-same = (y .entries-same .0 ∙ x .entries-same .0, y .entries-same .1 ∙ x .entries-same .1);
-  tops-same = (y .tops-same .0 ∙ x .tops-same .0, y .tops-same .1 ∙ x .tops-same .1);
+  tops-same = (y .tops-same .0 ∙ x .tops-same .0, y .tops-same .1 ∙ x .tops-same .1, y .tops-same .2 ∙ x .tops-same .2);
 }
 
 -- ---- special types
@@ -59,7 +56,7 @@ specials-ray special e k v S h l =
       pairs-in = λ i q. rw (getD-set-other special k (4 + 2 * i) v 0 (λ p. omega arith)) (S .pairs-in i q);
     }
 
-specials-pair : (special : List ℕ) (e : Ends) (key v : ℕ) → Specials special e → e .pairs < 512 → v < getD (e .counts) 1 0 → (r : Ends) → r ≡ record { full = false; used = e .used; counts = e .counts; pairs = e .pairs + 1; et = e .et; bt = e .bt } → Specials (with-pair special (e .pairs) key v) r
+specials-pair : (special : List ℕ) (e : Ends) (key v : ℕ) → Specials special e → e .pairs < 512 → v < getD (e .counts) 1 0 → (r : Ends) → r ≡ record { full = false; used = e .used; counts = e .counts; pairs = e .pairs + 1; et = e .et; bt = e .bt; made = e .made } → Specials (with-pair special (e .pairs) key v) r
 specials-pair special e key v S h l r er =
     let z = S .special-long in
     let y = length-set special (3 + 2 * e .pairs) key in
@@ -117,9 +114,6 @@ module _ (words tags : List ℕ) (n : ℕ) (src : Source words tags n) (o : ℕ)
   force-derives f h v hh hv q =
       maps-derive f (put maps₀ 1 h v) (q ∙ force-is words log₀ classes₀ starts₀ maps₀ special₀ e₀ h hh v (K₀ .maps-six))
       (kept-point log₀ classes₀ starts₀ maps₀ marks₀ e₀ K₀ 1 h v (omega arith) (small-number words tags n src 1 h (omega arith) hh) hv)
-
-  pub type-small : (h : ℕ) → h < countAt 1 words → h < 512
-  type-small h hh = small-number words tags n src 1 h (omega arith) hh
 
   sized : Sized (srcOf words n) (stOf words log₀ classes₀ starts₀ maps₀ special₀ e₀)
   unfolding Sized stOf mapsOf
@@ -212,7 +206,7 @@ module _ (words tags : List ℕ) (n : ℕ) (src : Source words tags n) (o : ℕ)
 
         -- a pair more
         pub key-derives : (r .pairs ≡ 512 → ⊥) → (room : ℕ) → room + (23 + 2 * r .pairs + r .used) ≡ 16384 → 2 ≤ room
-            → (r′ : Ends) → r′ ≡ record { full = false; used = r .used; counts = r .counts; pairs = r .pairs + 1; et = r .et; bt = r .bt }
+            → (r′ : Ends) → r′ ≡ record { full = false; used = r .used; counts = r .counts; pairs = r .pairs + 1; et = r .et; bt = r .bt; made = r .made }
             → Derives words f log₀ classes₀ starts₀ maps₀ marks₀ special₀ e₀ r′ log classes starts maps marks (with-pair special₀ (r .pairs) key (cell maps 1 h - 1))
         key-derives ne room hr le r′ er =
             let few = L .kept q .few-pairs in

@@ -1,13 +1,12 @@
 -- Steps one behind the other: what is left, from the state that the arrays hold, gives what the whole gives from the first state. Assumes nothing.
 use mathlib.Core.Path.{_≡_, refl, sym, ap, _∙_}
-use mathlib.Core.Bool.{Bool, true, false, false≢true}
+use mathlib.Core.Bool.{true, false, false≢true}
 use mathlib.Core.List.{List}
 use Prim.Native.Nat.{ℕ, _≤_}
 use native.Mathlib.Nat.{le-refl, le-trans}
 use native.Mathlib.Omega.{arith}
-use lib.ListN.{length, getD}
 use Rattle.model.specs.Imports.{St}
-use Rattle.state.specs.Held.{tableOf, stOf, sizeR, Over, Kept, Specials, Same}
+use Rattle.state.specs.Held.{tableOf, stOf, sizeR, Kept, Specials, Same}
 use Rattle.state.specs.Marks.{Marks}
 use Rattle.state.specs.declared.Ends.{Ends}
 use Rattle.state.proofs.State.{same-refl, same-then, marks-refl, marks-then, table-stays}

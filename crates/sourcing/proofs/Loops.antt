@@ -1,25 +1,23 @@
 -- The loops over the three places and over the pairs. Assumes nothing.
-use mathlib.Core.Path.{_≡_, refl, sym, ap, _∙_}
-use mathlib.Core.Bool.{Bool, true, false}
-use mathlib.Core.List.{List, [], _∷_}
-use Prim.Native.Nat.{ℕ, zero, suc, _+_, _-_, _*_, _≤_, _<_}
+use mathlib.Core.Path.{_≡_, sym, ap, _∙_}
+use mathlib.Core.Bool.{true, false}
+use mathlib.Core.List.{List}
+use Prim.Native.Nat.{ℕ, suc, _+_, _-_, _*_, _≤_, _<_}
 use native.Mathlib.Numerals.{add-one}
 use native.Mathlib.Omega.{arith}
-use lib.ListN.{length, getD, drop, drop-of-length-le}
+use lib.ListN.{getD, drop, drop-of-length-le}
 use lib.Seq.{drop-cons}
 use Rattle.model.specs.Outcome.{Cells, word}
-use Rattle.model.specs.Table.{KEY, TYPE}
 use Rattle.model.specs.Module.{countAt, offsetAt}
 use Rattle.model.specs.Names.{field}
 use Rattle.model.specs.Tables.{Tables}
-use Rattle.model.specs.Imports.{St}
 use Rattle.model.specs.Special.{ray, rays, pairs}
 use Rattle.state.specs.Flats.{pairsAt}
 use Rattle.state.specs.Source.{modOf, srcOf, Source}
 use Rattle.state.specs.Held.{stOf, Kept, Specials}
 use Rattle.state.specs.declared.Ends.{Ends}
 use Rattle.sourcing.specs.Derives.{pairOf, Derives}
-use Rattle.sourcing.proofs.Reading.{three, ray-word, ray-low, pairs-are, special-in, pairs-few, pair-low}
+use Rattle.sourcing.proofs.Reading.{three, ray-word, ray-low, pairs-are, special-in, pair-low}
 use Rattle.sourcing.proofs.Growing.{grow-rays, grow-pairs}
 use Rattle.sourcing.proofs.Going.{Going, going-first, going-next, going-full, going-done}
 

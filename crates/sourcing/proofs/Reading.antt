@@ -1,22 +1,24 @@
 -- The special types of the source as its words hold them: three optional types where their section starts, then the pairs; and their numbers are types of the
 -- source. Assumes nothing.
 use mathlib.Core.Path.{_≡_, refl, sym, ap, ap₂, _∙_}
-use mathlib.Core.Bool.{Bool, true}
-use mathlib.Core.List.{List, [], _∷_, _++_}
+use mathlib.Core.Bool.{true}
+use mathlib.Core.List.{List, [], _∷_}
 use Prim.Native.Nat.{ℕ, zero, suc, _+_, _*_, _≤_, _<_}
+use native.Mathlib.Nat.{le-refl}
 use native.Mathlib.Omega.{arith}
 use lib.Dec.{ltb}
-use lib.ListN.{length, getD, length-append}
+use lib.ListN.{length, getD}
 use borrow.Author.Tests.{ltb-true}
 use Rattle.model.specs.Outcome.{Cells, word}
 use Rattle.model.specs.Table.{OPT-TYPE, KEY, TYPE}
 use Rattle.model.specs.Tree.{flatAll}
 use Rattle.model.specs.Module.{Module, pairRow, countAt, offsetAt, endAt, flatSpecial, flatModule, write}
 use Rattle.model.specs.Carry.{Lays, Each, each-none, each-next}
-use Rattle.model.specs.Numbers.{bound, caps, below as under, within, every, outside}
+use Rattle.model.specs.Numbers.{bound, caps, below as under, within, outside}
 use Rattle.model.specs.Tables.{types, at, tables, count}
 use Rattle.laws.specs.Lists.{and-split}
-use Rattle.laws.specs.Plain.{plain?}
+use Rattle.laws.specs.Plain.{plain?, plain-start}
+use Rattle.laws.specs.Sections.{start-end}
 use Rattle.laws.specs.Quiet.{Plainly, plain-none, plain-next, plainly}
 use Rattle.laws.specs.Views.{length-write, ordered, sees-special}
 use Rattle.laws.specs.FunctionViews.{Held, Part, part-end, part-left, part-right, part-word, taped-length, taped-held, taped-offset, taped-count}
@@ -25,7 +27,6 @@ use Rattle.finishing.specs.Sessions.{specials-in}
 use Rattle.state.specs.Refers.{tabOf}
 use Rattle.state.specs.Flats.{pairsAt}
 use Rattle.state.specs.Source.{modOf, srcOf, Source}
-use Rattle.state.proofs.State.{pairs-long}
 use Rattle.import.proofs.Sources.{count-is}
 
 -- ---- cells laid out by their row are the row's classes and the words
@@ -59,11 +60,6 @@ module _ {words tags : List ℕ} {cells : Cells} (o : Held words tags cells) whe
       let n = pair-long s in
       let z : p + length r ≡ 2 + p = omega arith in
       ap₂ (λ (x : Cells) (xs : List Cells). x ∷ xs) (pair-held s (part-left r (flatAll rs) v)) (pairs-held ls (rw z at (part-right r (flatAll rs) v)))
-
-pairs-size : {rs : List Cells} → Each (Lays pairRow) rs → length (flatAll rs) ≡ 2 * length rs
-unfolding flatAll plain?
-pairs-size each-none = refl
-pairs-size (each-next {a = r} {l = rs} l ls) = let a = length-append r (flatAll rs) in let b = pair-long (plainly l refl) in let c = pairs-size ls in omega arith
 
 -- pair j of them
 pub pairs-at : (ws : List ℕ) (n i j : ℕ) → j < n → getD (pairsAt ws i n) j [] ≡ (KEY, getD ws (i + 2 * j) 0) ∷ (TYPE, getD ws (1 + (i + 2 * j)) 0) ∷ []
@@ -104,17 +100,15 @@ module _ (words tags : List ℕ) (n : ℕ) (src : Source words tags n) where
       (pairs-held (taped-held (src .taped)) (src .taped .well .pairs-ok .each) (rw three at (part-right (modOf words n .special .rays) (flatAll (modOf words n .special .pairs)) part)))
 
   pub special-in : offsetAt 8 words + 3 + 2 * countAt 8 words ≤ n
-  unfolding flatSpecial
+  unfolding flatSpecial plain?
   special-in =
-      let e = part-end part in
-      let l = length-append (modOf words n .special .rays) (flatAll (modOf words n .special .pairs)) in
-      let s = pairs-size (src .taped .well .pairs-ok .each) in
+      let v = part-right (modOf words n .special .rays) (flatAll (modOf words n .special .pairs)) part in
+      let e = part-end v in
+      let s = start-end (modOf words n .special .pairs) (offsetAt 8 words + 3) in
+      let p = plain-start (src .taped .well .pairs-ok .each) refl (offsetAt 8 words + 3) 2 (length (modOf words n .special .pairs)) refl (le-refl _) in
       let a = three in
       let b = keys-count in
       omega (arith, part .within, taped-length (src .taped))
-
-  pub pairs-few : countAt 8 words ≤ 512
-  pairs-few = let a = keys-count in let b = src .taped .well .pairs-ok .few in omega arith
 
   types-many : countAt 1 words ≡ length (modOf words n .types)
   unfolding srcOf count tables at tabOf

@@ -1,16 +1,15 @@
 -- The whole of setting a source: nothing is mapped, the three places, the pairs; and where it does not fit, nothing has changed. Assumes nothing.
 use mathlib.Core.Path.{_≡_, refl, sym, ap, _∙_}
-use mathlib.Core.Bool.{Bool, true, false, false≢true}
-use mathlib.Core.List.{List, [], _∷_}
-use Prim.Native.Nat.{ℕ, _+_, _≤_, _<_}
-use native.Mathlib.Omega.{arith}
-use lib.ListN.{length, replicate}
+use mathlib.Core.Bool.{true, false}
+use mathlib.Core.List.{List}
+use Prim.Native.Nat.{ℕ}
+use lib.ListN.{replicate}
 use Rattle.model.specs.Module.{Module, countAt}
-use Rattle.model.specs.Tables.{Tab, codeT, tables, Tables, count}
-use Rattle.model.specs.Imports.{St, unmapped, emptied}
+use Rattle.model.specs.Tables.{Tab, codeT, Tables, count}
+use Rattle.model.specs.Imports.{St, emptied}
 use Rattle.model.specs.Special.{rays, pairs, sourced}
 use Rattle.state.specs.Source.{modOf, srcOf, Source}
-use Rattle.state.specs.Held.{tableOf, stOf, sizeR, Over, Kept, Specials}
+use Rattle.state.specs.Held.{stOf, Kept, Specials}
 use Rattle.state.specs.declared.Ends.{Ends}
 use Rattle.state.proofs.State.{tab-code, code-low, st-stays, kept-stays}
 use Rattle.state.proofs.Fresh.{forgotten, kept-forgotten}

@@ -1,6 +1,6 @@
 -- One special type of the source, by its place or by its key, as the code takes it. Assumes nothing.
 use mathlib.Core.Path.{_≡_, refl, sym, ap, _∙_}
-use mathlib.Core.Bool.{Bool, true, false}
+use mathlib.Core.Bool.{true, false}
 use mathlib.Core.List.{List}
 use Prim.Native.Nat.{ℕ, zero, suc, _+_, _-_, _*_, _≤_, _<_}
 use native.Mathlib.Omega.{arith}
@@ -14,9 +14,9 @@ use Rattle.state.specs.Flats.{pairsAt, specialOf}
 use Rattle.state.specs.Source.{srcOf, Source}
 use Rattle.state.specs.Held.{cell, put, stOf, Kept, Specials, Lands}
 use Rattle.state.specs.declared.Ends.{Ends}
+use Rattle.import.proofs.Growth.{grow-ray, grow-pair}
 use Rattle.sourcing.specs.Derives.{pairOf, Derives}
 use Rattle.sourcing.proofs.Keys.{keyed-low}
-use Rattle.sourcing.proofs.Growing.{grow-put-ray, grow-put-pair}
 use Rattle.sourcing.proofs.Words.{with-pair, ray-is}
 use Rattle.sourcing.proofs.Deriving.{maps-derive, force-derives, import-full, import-mapped, put-derives, key-many, key-left, key-derives}
 
@@ -50,9 +50,6 @@ module _ (words tags : List ℕ) (n : ℕ) (src : Source words tags n) (o : ℕ)
     ray-none z = maps-derive words tags n src o log₀ classes₀ starts₀ maps₀ marks₀ special₀ e₀ nf K₀ P₀ (ray w k o (srcOf words n)) maps₀ (rw z) K₀
 
     module _ (ne : w ≡ 0 → ⊥) (i : ℕ) (hi : i ≡ w - 1) where
-      pub ray-type : i < countAt 1 words
-      ray-type = omega arith
-
       is-to : ray w k o (srcOf words n) S₀ ≡ rayTo (getD special₀ k 0) k (w - 1) o (srcOf words n) S₀
       unfolding stOf
       is-to = ray-some w k o (srcOf words n) S₀ ne ∙ ap (λ (v : ℕ). rayTo v k (w - 1) o (srcOf words n) S₀) (ray-is special₀ (e₀ .pairs) k hk)
@@ -68,7 +65,7 @@ module _ (words tags : List ℕ) (n : ℕ) (src : Source words tags n) (o : ℕ)
         is-put = is-to ∙ ap (λ (v : ℕ). rayTo v k (w - 1) o (srcOf words n) S₀) zv
 
         pub ray-full : r .full ≡ true → Derives words (ray w k o (srcOf words n)) log₀ classes₀ starts₀ maps₀ marks₀ special₀ e₀ r log classes starts maps marks special₀
-        ray-full q = import-full words tags n src o log₀ classes₀ starts₀ maps₀ marks₀ special₀ e₀ nf K₀ P₀ (w - 1) (omega arith) r log classes starts maps marks L (ray w k o (srcOf words n)) (rw is-put (grow-put-ray k (w - 1) _)) q
+        ray-full q = import-full words tags n src o log₀ classes₀ starts₀ maps₀ marks₀ special₀ e₀ nf K₀ P₀ (w - 1) (omega arith) r log classes starts maps marks L (ray w k o (srcOf words n)) (rw is-put (grow-ray k (w - 1) _)) q
 
         pub ray-new : r .full ≡ false → Derives words (ray w k o (srcOf words n)) log₀ classes₀ starts₀ maps₀ marks₀ special₀ e₀ r log classes starts maps marks (set special₀ k (cell maps 1 i))
         ray-new q = rw hi (put-derives words tags n src o log₀ classes₀ starts₀ maps₀ marks₀ special₀ e₀ nf K₀ P₀ (w - 1) (omega arith) r log classes starts maps marks L q (ray w k o (srcOf words n)) k hk is-put)
@@ -91,7 +88,7 @@ module _ (words tags : List ℕ) (n : ℕ) (src : Source words tags n) (o : ℕ)
       is-put′ = is-pair ∙ ap (λ (x : ℕ). pairTo x key h o (srcOf words n) S₀) zv
 
       pub pair-full : r .full ≡ true → Derives words (pairOf key h o (srcOf words n)) log₀ classes₀ starts₀ maps₀ marks₀ special₀ e₀ r log classes starts maps marks special₀
-      pair-full q = import-full words tags n src o log₀ classes₀ starts₀ maps₀ marks₀ special₀ e₀ nf K₀ P₀ h hh r log classes starts maps marks L (pairOf key h o (srcOf words n)) (rw is-put′ (grow-put-pair key h _)) q
+      pair-full q = import-full words tags n src o log₀ classes₀ starts₀ maps₀ marks₀ special₀ e₀ nf K₀ P₀ h hh r log classes starts maps marks L (pairOf key h o (srcOf words n)) (rw is-put′ (grow-pair key h _)) q
 
       module _ (q : r .full ≡ false) where
         pub pair-mapped : 0 < cell maps 1 i
@@ -103,6 +100,6 @@ module _ (words tags : List ℕ) (n : ℕ) (src : Source words tags n) (o : ℕ)
         pub pair-left : (room : ℕ) → room + (23 + 2 * r .pairs + r .used) ≡ 16384 → room < 2 → (r′ : Ends) → r′ .full ≡ true → Derives words (pairOf key h o (srcOf words n)) log₀ classes₀ starts₀ maps₀ marks₀ special₀ e₀ r′ log classes starts maps marks special₀
         pair-left = key-left words tags n src o log₀ classes₀ starts₀ maps₀ marks₀ special₀ e₀ nf K₀ P₀ h hh r log classes starts maps marks L q (pairOf key h o (srcOf words n)) key is-put′
 
-        pub pair-new : (r .pairs ≡ 512 → ⊥) → (room : ℕ) → room + (23 + 2 * r .pairs + r .used) ≡ 16384 → 2 ≤ room → (r′ : Ends) → r′ ≡ record { full = false; used = r .used; counts = r .counts; pairs = r .pairs + 1; et = r .et; bt = r .bt }
+        pub pair-new : (r .pairs ≡ 512 → ⊥) → (room : ℕ) → room + (23 + 2 * r .pairs + r .used) ≡ 16384 → 2 ≤ room → (r′ : Ends) → r′ ≡ record { full = false; used = r .used; counts = r .counts; pairs = r .pairs + 1; et = r .et; bt = r .bt; made = r .made }
             → Derives words (pairOf key h o (srcOf words n)) log₀ classes₀ starts₀ maps₀ marks₀ special₀ e₀ r′ log classes starts maps marks (with-pair special₀ (r .pairs) key (cell maps 1 i - 1))
         pair-new = rw hi (key-derives words tags n src o log₀ classes₀ starts₀ maps₀ marks₀ special₀ e₀ nf K₀ P₀ h hh r log classes starts maps marks L q (pairOf key h o (srcOf words n)) key is-put′)

@@ -1,6 +1,6 @@
 -- The words of the special types: a place that is set, a pair more, and what the model makes of the state then. Assumes nothing.
 use mathlib.Core.Path.{_≡_, refl, sym, ap, ap₂, _∙_}
-use mathlib.Core.Bool.{Bool, true, false}
+use mathlib.Core.Bool.{false}
 use mathlib.Core.List.{List, [], _∷_, _++_}
 use Prim.Native.Nat.{ℕ, zero, suc, _+_, _-_, _*_, _≤_, _<_, pred}
 use native.Mathlib.Numerals.{add-one}
@@ -11,11 +11,10 @@ use Rattle.model.specs.Outcome.{Cells, word}
 use Rattle.model.specs.Table.{OPT-TYPE, KEY, TYPE}
 use Rattle.model.specs.Module.{Special, countAt}
 use Rattle.model.specs.Tables.{types, codeT, Maps, mapAt}
-use Rattle.model.specs.Imports.{St}
 use Rattle.model.specs.Special.{force, withSpecial, putRay, putPair}
 use Rattle.state.specs.Refers.{tabOf}
 use Rattle.state.specs.Flats.{pairsAt, specialOf}
-use Rattle.state.specs.Held.{cell, put, recsOf, functionsOf, mapsOf, stOf, Kept}
+use Rattle.state.specs.Held.{cell, put, recsOf, functionsOf, stOf, Kept}
 use Rattle.state.specs.declared.Ends.{Ends}
 use Rattle.state.proofs.State.{maps-put}
 use Rattle.import.proofs.Turns.{map-is}
@@ -99,7 +98,7 @@ module _ (words log tags : List ℕ) (starts maps : List (List ℕ)) (special : 
       ap (λ (v : ℕ). withSpecial (record { rays = set (specialOf special (e .pairs) .rays) k (OPT-TYPE, v); pairs = specialOf special (e .pairs) .pairs }) (stOf words log tags starts maps special e)) type-map
       ∙ ap (λ (p : Special). withSpecial p (stOf words log tags starts maps special e)) (special-ray special (e .pairs) k (cell maps 1 n) h l)
 
-  pub put-pair-is : (key : ℕ) → e .pairs < 512 → length special ≡ 1027 → (r : Ends) → r ≡ record { full = false; used = e .used; counts = e .counts; pairs = e .pairs + 1; et = e .et; bt = e .bt }
+  pub put-pair-is : (key : ℕ) → e .pairs < 512 → length special ≡ 1027 → (r : Ends) → r ≡ record { full = false; used = e .used; counts = e .counts; pairs = e .pairs + 1; et = e .et; bt = e .bt; made = e .made }
       → putPair key n (stOf words log tags starts maps special e) ≡ stOf words log tags starts maps (with-pair special (e .pairs) key (pred (cell maps 1 n))) r
   unfolding putPair withSpecial stOf
   put-pair-is key h l r er =
@@ -110,7 +109,7 @@ module _ (words log tags : List ℕ) (starts maps : List (List ℕ)) (special : 
 
 -- ---- one pair more fits
 pub kept-paired : (log tags : List ℕ) (starts maps : List (List ℕ)) (marks : List ℕ) (e : Ends) → Kept log tags starts maps marks e → e .pairs < 512 → 23 + 2 * (e .pairs + 1) + e .used ≤ 16384
-    → (r : Ends) → r ≡ record { full = false; used = e .used; counts = e .counts; pairs = e .pairs + 1; et = e .et; bt = e .bt } → Kept log tags starts maps marks r
+    → (r : Ends) → r ≡ record { full = false; used = e .used; counts = e .counts; pairs = e .pairs + 1; et = e .et; bt = e .bt; made = e .made } → Kept log tags starts maps marks r
 kept-paired log tags starts maps marks e K h fits r er = rw er (record {
   room = fits;
   few = K .few;

@@ -16,11 +16,11 @@ use Rattle.state.specs.declared.Ends.{Ends}
 unfoldable pub pairOf : ℕ → ℕ → ℕ → Tables → St → St
 pairOf key h o T s = pairTo (keyed (s .special .pairs) key) key h o T s
 
--- functions and entry points are as they were, and so are the tops of the stacks
+-- functions and entry points are as they were, and so are the stacks of functions in progress
 pub record Aside (starts starts′ : List (List ℕ)) (e r : Ends) : Type 0 where
   pub functions-same : (row starts′ 6 ≡ row starts 6) × (getD (r .counts) 6 0 ≡ getD (e .counts) 6 0)
   pub entries-same : (row starts′ 7 ≡ row starts 7) × (getD (r .counts) 7 0 ≡ getD (e .counts) 7 0)
-  pub tops-same : (r .et ≡ e .et) × (r .bt ≡ e .bt)
+  pub tops-same : (r .et ≡ e .et) × (r .bt ≡ e .bt) × (r .made ≡ e .made)
 
 -- the arrays hold what f makes of the state that they held, special types with it, or that is too large; what the log held is there
 pub record Derives (words : List ℕ) (f : St → St) (log₀ tags₀ : List ℕ) (starts₀ maps₀ : List (List ℕ)) (marks₀ special₀ : List ℕ) (e : Ends) (r : Ends) (log tags : List ℕ) (starts maps : List (List ℕ)) (marks special : List ℕ) : Type 0 where

@@ -2,7 +2,7 @@
 -- which was free, it is imported; then the key maps it to the type that the first source brought for the key, whatever mapping it had.
 use mathlib.Core.Path.{_≡_, refl}
 use mathlib.Core.List.{List, [], _∷_}
-use Prim.Native.Nat.{ℕ, suc}
+use Prim.Native.Nat.{ℕ}
 use lib.ListN.{length}
 use Rattle.model.specs.Outcome.{Cells}
 use Rattle.model.specs.Table.{TYPE, OPT-TYPE, KEY}

@@ -43,7 +43,7 @@ fn derived(special: &[u32; 1027], n: usize, key: u32) -> usize
 // One pair more.
 fn paired(e: Ends) -> Ends
     requires { ⌜ e .pairs < 512 ⌝ }
-    ensures { λ r. ⌜ r ≡ record { full = false; used = e .used; counts = e .counts; pairs = e .pairs + 1; et = e .et; bt = e .bt } ⌝ }
+    ensures { λ r. ⌜ r ≡ record { full = false; used = e .used; counts = e .counts; pairs = e .pairs + 1; et = e .et; bt = e .bt; made = e .made } ⌝ }
 {
     let c = e.counts;
     Ends {
@@ -53,6 +53,7 @@ fn paired(e: Ends) -> Ends
         pairs: e.pairs + 1,
         et: e.et,
         bt: e.bt,
+        made: e.made,
     }
 }
 
