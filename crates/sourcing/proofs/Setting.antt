@@ -84,4 +84,5 @@ set-of words n o log₀ classes₀ starts₀ maps₀ marks₀ special₀ e K P r
   stays = λ q. rw (t .stays q .0, t .stays q .1, c .stays q) ((λ words₁. st-stays log₀ classes₀ log classes starts₀ maps₀ marks₀ marks e K (D .below) (D .log-long) (D .tags-long) (D .marks-stay) words₁ special₀), kept-stays log₀ classes₀ log classes starts₀ maps₀ marks₀ marks e K (D .below) (D .log-long) (D .tags-long) (D .marks-stay), P);
   is = λ q. rw (t .taken q .0, t .taken q .1, c .taken q) ((λ words₁. D .is q words₁ maps₀), D .kept q, D .specials q);
   aside = λ q. rw (t .taken q .0) (D .aside q);
+  below = D .below;
 }

@@ -54,6 +54,7 @@ pub record SourceSet (words : List ℕ) (n o : ℕ) (log₀ tags₀ : List ℕ) 
   pub stays : r .full ≡ true → ((words₀ : List ℕ) → stOf words₀ log tags starts maps special e ≡ stOf words₀ log₀ tags₀ starts₀ maps₀ special₀ e) × Kept log tags starts maps marks e × Specials special e
   pub is : r .full ≡ false → ((words₀ : List ℕ) → sourced o (modOf words n) (stOf words₀ log₀ tags₀ starts₀ maps₀ special₀ e) ≡ stOf words log tags starts maps special r) × Kept log tags starts maps marks r × Specials special r
   pub aside : r .full ≡ false → Aside starts₀ starts e r
+  pub below : Same (e .used) log₀ tags₀ log tags
 
 -- a copy of the special types that is taken over, or forgotten
 pub record Replaced (full : Bool) (special₀ copy special : List ℕ) : Type 0 where
