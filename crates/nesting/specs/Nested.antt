@@ -1,6 +1,7 @@
 -- The import of a function as the code does it: passes over its cells (crate passes), where calls are followed at a Call's word alone; the record that they write is read as a function. `follow` brings a callee, and `followS` is the nested import with so
 -- much room for functions in progress. `Ready` says that each record on the way can be read. Assumes nothing: these are definitions.
 use mathlib.Core.Path.{_≡_}
+use mathlib.Core.Bool.{false}
 use mathlib.Core.List.{List, [], _∷_, _++_}
 use Prim.Native.Nat.{ℕ, zero, suc}
 use lib.ListN.{length}
