@@ -1,2 +1,0 @@
-pub mod Stacks
-pub mod Makes
