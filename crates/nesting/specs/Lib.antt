@@ -1,1 +1,3 @@
 pub mod Nested
+pub mod Kept
+pub mod Single
