@@ -1,6 +1,6 @@
 -- ONE FUNCTION, imported by passes, with a way to follow calls (`fol′`) that does to each callee, in each state that is met, what the model's (`fol`) does: the same state in the end, and the cells of the model's derived function. So its record can be read back, and so can those of its callees wherever they can.
 use Prim.Native.Nat.{ℕ, zero, suc, _<_}
-use mathlib.Core.Path.{_≡_, refl, ap, sym, _∙_, subst}
+use mathlib.Core.Path.{_≡_, refl, ap, sym, _∙_}
 use mathlib.Core.Bool.{Bool, true, false}
 use mathlib.Core.List.{List, [], _∷_, _++_, map, append-nil}
 use lib.Dec.{eqb}
@@ -9,14 +9,14 @@ use Rattle.model.specs.Outcome.{Cell, Cells, class, word}
 use Rattle.model.specs.Table.{NAME, FUNCTION, CALLEE, FROM, STMT-KIND, TO, ARGUMENTS, LOCALS, EXPRESSIONS, NAMED, functionHead, counted}
 use Rattle.model.specs.Tree.{Function, Entry, flatAll, flatList, flatBlock, flat, flatEntry, functionAt, entryAt}
 use Rattle.model.specs.Module.{Module}
-use Rattle.model.specs.Carry.{Each, each-none, each-next, WellFunction, WellEntry, WellFormed}
+use Rattle.model.specs.Carry.{Each, each-next, WellFunction, WellEntry, WellFormed}
 use Rattle.model.specs.Numbers.{Bounds, bound, below as under, within, outside, inside, sound, numbered}
 use Rattle.model.specs.Tables.{tables}
 use Rattle.model.specs.Lower.{lower}
 use Rattle.model.specs.Callees.{callees}
 use Rattle.model.specs.References.{Place, table, own, function, Target, copied, start, upto, ref, opt, targets, target, Node, refOf, refs, through, firstWord, undefinedAt, moved}
 use Rattle.model.specs.Imports.{St}
-use Rattle.model.specs.Bodies.{known, Making, bring, step, went, unique, keepNames, keptNames, declared, walked, final, derived, localized}
+use Rattle.model.specs.Bodies.{known, Making, step, went, keepNames, keptNames, declared, walked, final, localized}
 use Rattle.laws.specs.Lists.{and-split}
 use Rattle.laws.specs.Writing.{write-function, write-entry}
 use Rattle.laws.specs.Quiet.{each-append}
