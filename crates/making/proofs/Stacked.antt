@@ -12,7 +12,8 @@ use Rattle.model.specs.Between.{between}
 use Rattle.model.specs.References.{alike, seat}
 use Rattle.state.specs.Held.{row}
 use Rattle.state.specs.declared.Ends.{Ends}
-use Rattle.making.specs.Stacks.{nextOf, cut, Rising, seatsOf, madeOf, Stacks}
+use Rattle.ground.specs.Cuts.{nextOf, cut, Rising}
+use Rattle.making.specs.Stacks.{seatsOf, madeOf, Stacks}
 use Rattle.making.proofs.Stack.{rising-low}
 
 -- ---- where expressions start
