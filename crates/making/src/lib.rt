@@ -26,7 +26,8 @@ ghost use Rattle.state.specs.Source.{modOf};
 ghost use Rattle.state.specs.Held.{row, carriedBy};
 ghost use Rattle.known.specs.Bearing.{Bearing};
 ghost use Rattle.ground.specs.Fits.{FitN, Ground, Legible};
-ghost use Rattle.making.specs.Stacks.{nextOf, Rising, exprsOf, Expressions, wentOf, seatsOf, madeOf, Stacks, Under};
+ghost use Rattle.ground.specs.Cuts.{nextOf, Rising, exprsOf, Expressions};
+ghost use Rattle.making.specs.Stacks.{wentOf, seatsOf, madeOf, Stacks, Under};
 ghost use Rattle.making.specs.Makes.{Lays, Wrote, Pushed};
 
 // The rows of the stacks: words and classes of expressions, where each of them starts, and words of declarations, bodies and names.
@@ -181,7 +182,7 @@ fn undefined_at(
 }
 
 // What the source's words from `at` to `end` become, on the top of the stack of expressions.
-fn write(
+pub fn write(
     words: &[u32; 16384],
     tags: &[u8; 16384],
     kinds: &[u8; 256],

@@ -25,7 +25,8 @@ use Rattle.state.specs.declared.Ends.{Ends}
 use Rattle.ground.specs.Fits.{Legible, recordOf}
 use Rattle.outside.proofs.Cells.{arrive-own, arrive-none, arrive-still, fit-own, fit-table}
 use Rattle.outside.proofs.Passing.{legible-next, legible-here}
-use Rattle.making.specs.Stacks.{exprsOf, Expressions, makingOf, Under}
+use Rattle.ground.specs.Cuts.{exprsOf, Expressions}
+use Rattle.making.specs.Stacks.{makingOf, Under}
 use Rattle.making.specs.Makes.{Makes, Lays}
 use Rattle.making.proofs.Stack.{between-join}
 use Rattle.making.proofs.Growth.{GrowM, growing}
@@ -161,7 +162,7 @@ module _ {words tags : List ℕ} {n k o b at end : ℕ} {h : ℕ → Making → 
       pub along-done : (f : Making → Making) → ((special : List ℕ) → f (m₀ special) ≡ along o M still h h (between tags words at end) (m₀ special)) → Makes words k f log₀ classes₀ starts₀ maps₀ marks₀ em₀ stacks₀ e₁ e₀ e log classes starts maps marks em stacks
       along-done f is = along-then f (λ m. m) is stay
 
--- ---- expression e, which is new
+-- ---- expression x, which is new
 module _ {words tags places : List ℕ} {k : ℕ} (X : Expressions words tags places k) (n o : ℕ)
     {log₀ classes₀ : List ℕ} {starts₀ maps₀ : List (List ℕ)} {marks₀ em₀ : List ℕ} {stacks₀ : List (List ℕ)} {e₁ : ℕ} {d : Ends} (nf : d .full ≡ false) (K : Kept log₀ classes₀ starts₀ maps₀ marks₀ d) (U : Under k em₀ stacks₀ e₁ d)
     {x : ℕ} (hx : x < k) (new : getD em₀ x 0 ≡ 0) {at end : ℕ} (ha : at ≡ getD places x 0) (he : end ≡ getD places (x + 1) 0) where
@@ -171,7 +172,7 @@ module _ {words tags places : List ℕ} {k : ℕ} (X : Expressions words tags pl
   abbrev xs : List Cells
   xs = exprsOf words tags places k
 
-  -- in an Emit's first pass, its operands that stand
+  -- in an Emit's first pass: of its operands those that stand
   module _ {log classes : List ℕ} {starts maps : List (List ℕ)} {marks em : List ℕ} {stacks : List (List ℕ)} {e : Ends} {i : ℕ}
       (inv : Alongs words tags n k o x at end (peek o T still xs) log₀ classes₀ starts₀ maps₀ marks₀ em₀ stacks₀ e₁ d log classes starts maps marks em stacks e i) where
     pub glance-full : (less : i < end) {r : Ends} {log′ classes′ : List ℕ} {starts′ maps′ : List (List ℕ)} {marks′ em′ : List ℕ} {stacks′ : List (List ℕ)} → Turned K inv less r log′ classes′ starts′ maps′ marks′ em′ stacks′
@@ -181,7 +182,7 @@ module _ {words tags places : List ℕ} {k : ℕ} (X : Expressions words tags pl
     pub glance-done : end ≤ i → Makes words k (glance o T still xs x) log₀ classes₀ starts₀ maps₀ marks₀ em₀ stacks₀ e₁ d e log classes starts maps marks em stacks
     glance-done past = along-done K inv past (glance o T still xs x) (glance-is X n o nf K U hx new ha he)
 
-  -- of an initialiser, all of them, and it is merged behind them
+  -- of an initialiser: all its operands, and it is merged behind them
   module _ {log classes : List ℕ} {starts maps : List (List ℕ)} {marks em : List ℕ} {stacks : List (List ℕ)} {e : Ends} {i : ℕ}
       (inv : Alongs words tags n k o x at end (unique o T still xs) log₀ classes₀ starts₀ maps₀ marks₀ em₀ stacks₀ e₁ d log classes starts maps marks em stacks e i) where
     pub unique-full : (less : i < end) {r : Ends} {log′ classes′ : List ℕ} {starts′ maps′ : List (List ℕ)} {marks′ em′ : List ℕ} {stacks′ : List (List ℕ)} → Turned K inv less r log′ classes′ starts′ maps′ marks′ em′ stacks′

@@ -25,7 +25,8 @@ use Rattle.state.specs.Source.{modOf}
 use Rattle.state.specs.Held.{Kept, Lands}
 use Rattle.state.specs.declared.Ends.{Ends}
 use Rattle.ground.specs.Fits.{Fits, Legible}
-use Rattle.making.specs.Stacks.{exprsOf, Expressions, makingOf, Under}
+use Rattle.ground.specs.Cuts.{exprsOf, Expressions}
+use Rattle.making.specs.Stacks.{makingOf, Under}
 use Rattle.making.specs.Makes.{Makes, Lays}
 use Rattle.making.proofs.Stack.{cut-long, expr-is, expr-some, expr-low, expr-fits, expr-legible}
 use Rattle.making.proofs.Growth.{growing}

@@ -9,7 +9,7 @@ use Rattle.model.specs.Bodies.{unique as uniqueE}
 use Rattle.passes.specs.Light.{still}
 use Rattle.state.specs.Source.{modOf}
 use Rattle.known.proofs.Bears.{bearing}
-use Rattle.making.specs.Stacks.{exprsOf}
+use Rattle.ground.specs.Cuts.{exprsOf}
 use Rattle.operands.proofs.Needs.{cells-legible, unique-idle}
 use Rattle.operands.proofs.Alongs.{Alongs, along-begin, along-kept, along-under, along-in, along-number, along-record, along-lower, along-own, along-none, along-next, unique-full, unique-done}
 use Rattle.operands.proofs.unique.Reads as unique

@@ -6,7 +6,7 @@ use borrow.Author.Needs.{needs}
 use Rattle.bodies.specs.Shallow.{peek}
 use Rattle.passes.specs.Light.{still}
 use Rattle.state.specs.Source.{modOf}
-use Rattle.making.specs.Stacks.{exprsOf}
+use Rattle.ground.specs.Cuts.{exprsOf}
 use Rattle.operands.proofs.Needs.{cells-legible, glance-idle}
 use Rattle.operands.proofs.Alongs.{Alongs, along-begin, along-kept, along-under, along-in, along-number, along-record, along-lower, along-own, along-none, along-next, glance-full, glance-done}
 use Rattle.operands.proofs.glance.Statement.{statement}
