@@ -22,7 +22,8 @@ use Rattle.state.specs.declared.Ends.{Ends}
 use Rattle.state.proofs.Passes.{length-between}
 use Rattle.state.proofs.State.{same-refl, marks-refl, seat-low, seat-shift, merged-old, merged-new}
 use Rattle.ground.specs.Fits.{Legible}
-use Rattle.making.specs.Stacks.{exprsOf, Expressions, wentOf, madeOf, makingOf, Under}
+use Rattle.ground.specs.Cuts.{exprsOf, Expressions}
+use Rattle.making.specs.Stacks.{wentOf, madeOf, makingOf, Under}
 use Rattle.making.specs.Makes.{Lays, Wrote}
 use Rattle.making.proofs.Stack.{expr-is, expr-some, expr-low, expr-fits, expr-legible, made-low, made-many, made-words, set-low, stays-more, made-more, under-more}
 use Rattle.making.proofs.Went.{moved-is}

@@ -19,7 +19,8 @@ use Rattle.state.specs.declared.Ends.{Ends}
 use Rattle.state.proofs.Passes.{length-between}
 use Rattle.state.proofs.State.{same-or, row-other}
 use Rattle.ground.specs.Fits.{Fits, FitN, Legible}
-use Rattle.making.specs.Stacks.{nextOf, cut, Rising, exprsOf, Expressions, seatsOf, madeOf, Stacks, Under}
+use Rattle.ground.specs.Cuts.{nextOf, cut, Rising, exprsOf, Expressions}
+use Rattle.making.specs.Stacks.{seatsOf, madeOf, Stacks, Under}
 use Rattle.making.specs.Makes.{Stays, Wrote}
 
 -- ---- stretches

@@ -1,51 +1,18 @@
 -- A function under way as the arrays hold it: its expressions on a stack, one behind the other, the place of each beside them; where its expressions went in a map of
 -- its own; the words of its declarations, its body and its names on another stack. Assumes nothing: these are definitions.
 use mathlib.Core.Path.{_≡_}
-use mathlib.Core.List.{List, [], _∷_}
-use Prim.Native.Nat.{ℕ, suc, _+_, _≤_, _<_}
+use mathlib.Core.List.{List, []}
+use Prim.Native.Nat.{ℕ, _+_, _≤_, _<_}
 use lib.ListN.{length, getD, take}
 use lib.Seq.{slice}
 use Rattle.model.specs.Outcome.{Cells}
-use Rattle.model.specs.Table.{EXPR-KIND}
-use Rattle.model.specs.Between.{between}
 use Rattle.model.specs.Tables.{codeT}
-use Rattle.model.specs.References.{Place, table, own, function, refs}
+use Rattle.model.specs.References.{Place, table, own, function}
 use Rattle.model.specs.Bodies.{known, Making}
-use Rattle.imports.specs.RecordLaws.{All}
 use Rattle.state.specs.Source.{modOf}
 use Rattle.state.specs.Held.{row, cell, stOf}
 use Rattle.state.specs.declared.Ends.{Ends}
-use Rattle.ground.specs.Fits.{FitN}
-
--- ---- records one behind the other: each ends where the next one starts, the last at `end`
-unfoldable pub nextOf : List ℕ → ℕ → ℕ
-nextOf [] end = end
-nextOf (b ∷ bs) end = b
-
-unfoldable pub cut : List ℕ → ℕ → List ℕ → List ℕ → List Cells
-cut [] end tags words = []
-cut (a ∷ ss) end tags words = between tags words a (nextOf ss end) ∷ cut ss end tags words
-
--- they start at a, none is empty, and they end at `end`
-unfoldable pub Rising : List ℕ → ℕ → ℕ → Type 0
-Rising [] a end = a ≡ end
-Rising (b ∷ bs) a end = (b ≡ a) × (a < nextOf bs end) × Rising bs (nextOf bs end) end
-
--- ---- the source's side
--- its expressions, by their places
-unfoldable pub exprsOf : List ℕ → List ℕ → List ℕ → ℕ → List Cells
-exprsOf words tags places k = cut (take k places) (getD places k 0) tags words
-
-pub record Expressions (words tags places : List ℕ) (k : ℕ) : Type 0 where
-  pub few : k ≤ 1024
-  pub places-long : length places ≡ 1025
-  pub words-long : length words ≡ 16384
-  pub tags-long : length tags ≡ 16384
-  pub rising : Rising (take k places) (getD places 0 0) (getD places k 0)
-  pub inside : getD places k 0 ≤ 16384
-  -- each starts with its kind, and its operands have lower numbers
-  pub kinds : (e : ℕ) → e < k → getD tags (getD places e 0) 0 ≡ EXPR-KIND
-  pub fits : (e : ℕ) → e < k → All (FitN words e) (refs (getD (exprsOf words tags places k) e []))
+use Rattle.ground.specs.Cuts.{cut, Rising}
 
 -- ---- where numbers went: by the rows, by the function's own map, by name
 unfoldable pub wentOf : List ℕ → ℕ → List ℕ → List ℕ → List (List ℕ) → List (List ℕ) → Ends → List ℕ → Place → ℕ → ℕ

@@ -26,7 +26,8 @@ ghost use Rattle.state.specs.Source.{modOf};
 ghost use Rattle.state.specs.Held.{row, carriedBy};
 ghost use Rattle.known.specs.Bearing.{Bearing};
 ghost use Rattle.ground.specs.Fits.{FitN, Ground, Legible};
-ghost use Rattle.making.specs.Stacks.{nextOf, Rising, exprsOf, Expressions, wentOf, seatsOf, madeOf, Stacks, Under};
+ghost use Rattle.ground.specs.Cuts.{nextOf, Rising, exprsOf, Expressions};
+ghost use Rattle.making.specs.Stacks.{wentOf, seatsOf, madeOf, Stacks, Under};
 ghost use Rattle.making.specs.Makes.{Lays, Wrote, Pushed};
 
 // The rows of the stacks: words and classes of expressions, where each of them starts, and words of declarations, bodies and names.
@@ -42,6 +43,19 @@ pub fn slot(x: u16) -> usize
     ensures { λ r. ⌜ (r ≡ x) × (r < 65536) ⌝ }
 {
     x as usize
+}
+
+// A word of the function's own map, and a class, as the stacks have words.
+fn mapped(x: u16) -> u32
+    ensures { λ r. ⌜ r ≡ x ⌝ }
+{
+    x as u32
+}
+
+fn class_word(s: u8) -> u32
+    ensures { λ r. ⌜ r ≡ s ⌝ }
+{
+    s as u32
 }
 
 // Where each expression record starts, from `at` on, and where the last one ends: a record starts with its kind, and behind the last stands the number of
@@ -106,13 +120,13 @@ pub fn carried(
     }
     let u = kind_of(kinds, s);
     if u == 5 {
-        return less(em[wide(w)] as u32);
+        return less(mapped(em[wide(w)]));
     }
     if u == 13 {
         if w == 0 {
             return 0;
         }
-        return em[wide(w - 1)] as u32;
+        return mapped(em[wide(w - 1)]);
     }
     w
 }
@@ -161,13 +175,14 @@ fn undefined_at(
             ends,
             tags[i],
             words[i],
-        ) == 0;
+        )
+            == 0;
     }
     true
 }
 
 // What the source's words from `at` to `end` become, on the top of the stack of expressions.
-fn write(
+pub fn write(
     words: &[u32; 16384],
     tags: &[u8; 16384],
     kinds: &[u8; 256],
@@ -231,7 +246,7 @@ fn write(
             u,
         );
         stacks[WORDS][q] = moved(s, w, offset, u);
-        stacks[CLASSES][q] = s as u32;
+        stacks[CLASSES][q] = class_word(s);
     }
 }
 
