@@ -21,7 +21,8 @@ ghost use Rattle.passes.specs.Light.{still};
 ghost use Rattle.state.specs.Source.{modOf};
 ghost use Rattle.state.specs.Held.{Kept};
 ghost use Rattle.ground.specs.Fits.{Ground};
-ghost use Rattle.making.specs.Stacks.{exprsOf, Expressions, Under};
+ghost use Rattle.ground.specs.Cuts.{exprsOf, Expressions};
+ghost use Rattle.making.specs.Stacks.{Under};
 ghost use Rattle.making.specs.Makes.{Makes};
 
 // Expression e of k, where it is not mapped.
