@@ -17,7 +17,8 @@ use Rattle.state.specs.Held.{row, tableOf, sizeR, Over, Kept, Same}
 use Rattle.state.specs.Marks.{Marks}
 use Rattle.state.specs.declared.Ends.{Ends}
 use Rattle.ground.specs.Fits.{Legible}
-use Rattle.making.specs.Stacks.{exprsOf, makingOf, Under}
+use Rattle.ground.specs.Cuts.{exprsOf}
+use Rattle.making.specs.Stacks.{makingOf, Under}
 
 -- ---- how the expressions of a function are imported: those of initialisers, at a word of the body, in an Emit's first pass
 abbrev pub unites : ℕ → List ℕ → List ℕ → ℕ → List ℕ → ℕ → ℕ → Making → Making

@@ -37,7 +37,8 @@ ghost use Rattle.state.specs.Source.{modOf};
 ghost use Rattle.state.specs.Held.{Kept};
 ghost use Rattle.known.specs.Bearing.{Bearing};
 ghost use Rattle.ground.specs.Fits.{FitN, Ground, Legible};
-ghost use Rattle.making.specs.Stacks.{Expressions, wentOf, Stacks, Under};
+ghost use Rattle.ground.specs.Cuts.{Expressions};
+ghost use Rattle.making.specs.Stacks.{wentOf, Stacks, Under};
 ghost use Rattle.making.specs.Makes.{Makes, Pushed};
 ghost use Rattle.passing.specs.Runs.{unites, needs, glances, Declares, Bodied, Runs};
 
