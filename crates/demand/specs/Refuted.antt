@@ -225,7 +225,7 @@ tested-low m = go (numbered m) (lower m) (named m) (inScope m)
     go true false c d = omega arith
     go false b c d = omega arith
 
-intake-low : (bytes : ℕ) (ws : List ℕ) → intakeOf bytes ws ≤ 6
+pub intake-low : (bytes : ℕ) (ws : List ℕ) → intakeOf bytes ws ≤ 6
 unfolding intakeOf
 intake-low bytes ws = go (sized bytes ws) (judged (read ws))
   where
