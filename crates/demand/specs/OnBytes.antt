@@ -76,6 +76,15 @@ pub record Demand3 (image output : List ℕ) (m : Module) : Type 0 where
       → (os : List ℕ) × (n : ℕ) × (m′ : Module) × (packed (linkImage image output .0) ≡ n * 4294967296) × Held image output (linkImage image output .1) m os n m′
 
 -- ---- THE PROOF
+-- an image that passes intake is its words
+pub whole-words : (image : List ℕ) → intakeOf (length image) (wordsOf image) ≡ 0 → length image ≡ 4 * length (wordsOf image)
+unfolding sized
+whole-words image passes =
+    let ws = wordsOf image in
+    let s = intake-sized (length image) ws passes in
+    let e = and-split (eqb (getD ws 0 0) 1) _ (and-split (leb (length image) 65536) _ (and-split (leb 80 (length image)) _ s .1) .1) .1 in
+    omega (arith, eqb-true (length image) (4 * getD ws 1 0) e, length-wordsOf image)
+
 module _ (image output : List ℕ) (bytes : AllBelow 256 image) (passes : intakeOf (length image) (wordsOf image) ≡ 0) (roomy : length image ≤ length output) where
   abbrev ws : List ℕ
   ws = wordsOf image
@@ -84,11 +93,7 @@ module _ (image output : List ℕ) (bytes : AllBelow 256 image) (passes : intake
   room = length output
 
   long : length image ≡ 4 * length ws
-  unfolding sized
-  long =
-      let s = intake-sized (length image) ws passes in
-      let e = and-split (eqb (getD ws 0 0) 1) _ (and-split (leb (length image) 65536) _ (and-split (leb 80 (length image)) _ s .1) .1) .1 in
-      omega (arith, eqb-true (length image) (4 * getD ws 1 0) e, length-wordsOf image)
+  long = whole-words image passes
 
   -- what passes intake holds a module
   held : (x : Laid Module) → read ws ≡ x → (m : Module) × (read ws ≡ laid m)

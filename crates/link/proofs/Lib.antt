@@ -1,0 +1,4 @@
+pub mod Fresh
+pub mod Appending
+pub mod ByOrder
+pub mod Images

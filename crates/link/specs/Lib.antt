@@ -1,3 +1,4 @@
 pub mod Linked
+pub mod Appends
 pub mod Theorems
 pub mod Refuted

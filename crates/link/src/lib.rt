@@ -5,7 +5,6 @@ use functions::enter_all;
 use gather::order_of;
 use intake::Taken;
 use localize::append;
-use refusals::FULL;
 use refusals::RING;
 use refusals::SHORT_OUTPUT;
 use sourcing::source_types;
@@ -15,6 +14,14 @@ use state::nothing;
 use views::FUNCTIONS;
 use views::count;
 use words::wide;
+ghost use mathlib.Core.Bool.{true};
+ghost use lib.ListN.{take};
+ghost use Rattle.state.specs.Source.{modOf};
+ghost use Rattle.state.specs.Held.{stOf};
+ghost use Rattle.making.specs.Stacks.{Stacks};
+ghost use Rattle.operations.specs.Live.{Live};
+ghost use Rattle.link.specs.Linked.{Links};
+ghost use Rattle.link.specs.Appends.{Roomy, Sequence, AppendsAll, Linkable, LinksBy};
 
 // The first `all` functions of the order, appended.
 fn append_all(
@@ -27,11 +34,18 @@ fn append_all(
     starts: &mut [[u32; 512]; 8],
     maps: &mut [[u32; 512]; 6],
     marks: &mut [u16; 16384],
+    special: &[u32; 1027],
     stacks: &mut [[u32; 16384]; 4],
     ends: Ends,
     order: &[u32; 256],
     all: usize,
-) -> Ends {
+) -> Ends
+    requires { ⌜ Live true n 0 (now words) (now tags) (now kinds) (now log) (now classes) (now starts) (now maps) (now marks) (now special) ends ⌝ }
+    requires { ⌜ Stacks (now stacks) ends ⌝ }
+    requires { ⌜ Sequence (now words) n (now order) all ⌝ }
+    requires { ⌜ Roomy (modOf (now words) n) (take all (now order)) (stOf (now words) (now log) (now classes) (now starts) (now maps) (now special) ends) ⌝ }
+    ensures { λ r. ⌜ AppendsAll (now (words .entry)) (now (tags .entry)) (now (kinds .entry)) n (take all (now (order .entry))) (now (log .entry)) (now (classes .entry)) (now (starts .entry)) (now (maps .entry)) ends r (now (log .exit)) (now (classes .exit)) (now (starts .exit)) (now (maps .exit)) (now (marks .exit)) (now (special .entry)) (now (stacks .exit)) ⌝ }
+{
     let mut e = ends;
     let mut i = 0;
     while i < all {
@@ -53,9 +67,6 @@ fn append_all(
             wide(order[j]),
             all,
         );
-        if e.full {
-            return e;
-        }
     }
     e
 }
@@ -67,7 +78,10 @@ fn link_by(
     n: usize,
     order: &[u32; 256],
     output: &mut [u8],
-) -> u64 {
+) -> u64
+    requires { ⌜ Linkable (now words) (now tags) n (now order) (now output) ⌝ }
+    ensures { λ r. ⌜ LinksBy (now (words .entry)) n (now (order .entry)) (now (output .entry)) r (now (output .exit)) ⌝ }
+{
     let kinds = kinds();
     let mut log = [0u32; 16384];
     let mut classes = [0u8; 16384];
@@ -90,9 +104,6 @@ fn link_by(
         nothing(),
         0,
     );
-    if set.full {
-        return FULL as u64;
-    }
     let appended = append_all(
         words,
         tags,
@@ -103,14 +114,12 @@ fn link_by(
         &mut starts,
         &mut maps,
         &mut marks,
+        &special,
         &mut stacks,
         set,
         order,
         count(words, FUNCTIONS),
     );
-    if appended.full {
-        return FULL as u64;
-    }
     let ends = enter_all(
         words,
         tags,
@@ -121,19 +130,19 @@ fn link_by(
         &mut starts,
         &mut maps,
         &mut marks,
+        &special,
         &mut stacks,
         appended,
         0,
     );
-    if ends.full {
-        return FULL as u64;
-    }
     let got = ending::finish(&log, &classes, &starts, &special, ends, output);
     got.refusal as u64 + (got.bytes as u64) * 4294967296
 }
 
 // The image linked into the output: low half the refusal, 0 accepted; high half the bytes written, or with 12 the functions left.
-pub fn link(image: &[u8], output: &mut [u8]) -> u64 {
+pub fn link(image: &[u8], output: &mut [u8]) -> u64
+    ensures { λ r. ⌜ Links r (now (output .entry)) (now (output .exit)) (now (image .entry)) ⌝ }
+{
     let mut words = intake::fresh_words();
     let mut tags = intake::fresh_tags();
     let taken = intake::take_in(image, &mut words, &mut tags);

@@ -1,0 +1,202 @@
+-- One function after the other: what importing the next one asks for, that it is never full, and that the session is live behind it. Assumes nothing.
+use mathlib.Core.Path.{_≡_, refl, sym, ap, _∙_, subst}
+use mathlib.Core.Bool.{Bool, true, false}
+use mathlib.Core.List.{List, _∷_}
+use mathlib.Core.Option.{some}
+use Prim.Native.Nat.{ℕ, suc, _+_, _<_, _≤_}
+use native.Mathlib.Omega.{arith}
+use lib.ListN.{length, getD, take}
+use lib.Seq.{slice, slice-cons, slice-empty}
+use Rattle.model.specs.Module.{Module, countAt}
+use Rattle.model.specs.Tables.{types, count}
+use Rattle.model.specs.Callees.{callees}
+use Rattle.model.specs.Redirect.{function}
+use Rattle.model.specs.Imports.{St}
+use Rattle.model.specs.Bodies.{append, follow}
+use Rattle.model.specs.Session.{Source as Src, ringing}
+use Rattle.model.specs.Link.{appendAll}
+use Rattle.laws.specs.FunctionViews.{taped-functions}
+use Rattle.finishing.specs.Fresh.{source}
+use Rattle.finishing.specs.Ringless.{none-ringing}
+use Rattle.finishing.specs.NamedSession.{NamedBy}
+use Rattle.sessions.specs.Operating.{GoodBy, Good}
+use Rattle.sessions.specs.Holding.{function-next}
+use Rattle.limits.specs.Reached.{Reached, At, at-source, function-at}
+use Rattle.nesting.specs.Nested.{appendS, followS, ReadyF, Ready}
+use Rattle.nesting.specs.Theorems.{append-is}
+use Rattle.gather.proofs.Whole.{few}
+use Rattle.state.specs.Refers.{tabOf}
+use Rattle.state.specs.Source.{modOf, Source}
+use Rattle.state.specs.Held.{tableOf, stOf, sizeR, Over, Kept}
+use Rattle.state.specs.declared.Ends.{Ends}
+use Rattle.state.proofs.Laws.{none-held}
+use Rattle.state.proofs.State.{tab-long}
+use Rattle.sourcing.proofs.Deriving.{specials-more}
+use Rattle.ground.specs.Fits.{Ground}
+use Rattle.making.specs.Stacks.{Stacks}
+use Rattle.localize.specs.Localized.{NestedF, Nests}
+use Rattle.operations.specs.Live.{sessionOf, Live}
+use Rattle.link.specs.Appends.{Roomy, Sequence, AppendsAll}
+
+-- ---- a session that is live, with its source
+module _ {n o : ℕ} {words tape kinds log tags : List ℕ} {starts maps : List (List ℕ)} {marks special : List ℕ} {e : Ends} (L : Live true n o words tape kinds log tags starts maps marks special e) where
+  pub live-at : At (record { image = modOf words n; offset = o }) (stOf words log tags starts maps special e)
+  unfolding sessionOf
+  live-at = at-source (L .reached) (record { image = modOf words n; offset = o }) refl
+
+  pub live-source : Source words tape n
+  live-source = record { taped = L .taped refl; three = L .passes refl .numbers; four = L .passes refl .lowers }
+
+  pub live-ground : Ground words tape kinds n
+  live-ground = record { source = live-source; names = L .passes refl .names; kinds-are = L .kinds-are }
+
+  pub live-count : countAt 6 words ≡ length (modOf words n .functions)
+  live-count = taped-functions (L .taped refl)
+
+pub at-reached : {x : Src} {s : St} → At x s → Reached (record { source = some x; state = s })
+unfolding Good GoodBy NamedBy
+at-reached a = record { good = a .set; named = (a .set .well, a .set .passes .numbers, a .shown) }
+
+types-many : (words special log tags : List ℕ) (starts maps : List (List ℕ)) (marks : List ℕ) (e : Ends) → Kept log tags starts maps marks e → count ((stOf words log tags starts maps special e) .recs) types ≡ getD (e .counts) 1 0
+unfolding stOf count tabOf
+types-many words special log tags starts maps marks e K = tab-long log tags starts maps marks e K 1 (omega arith)
+
+-- ---- the next function
+module _ (words tape kinds : List ℕ) (n : ℕ) (order : List ℕ) (all : ℕ) (S : Sequence words n order all) (log₀ tags₀ : List ℕ) (starts₀ maps₀ : List (List ℕ)) (marks₀ special : List ℕ) (e : Ends) (L : Live true n 0 words tape kinds log₀ tags₀ starts₀ maps₀ marks₀ special e)
+    (f : ℕ) (is : List ℕ) (R : Roomy (modOf words n) (f ∷ is) (stOf words log₀ tags₀ starts₀ maps₀ special e)) where
+  abbrev m : Module
+  m = modOf words n
+
+  abbrev s : St
+  s = stOf words log₀ tags₀ starts₀ maps₀ special e
+
+  abbrev next : St
+  next = append 0 (modOf words n) (follow 0 (modOf words n)) f (stOf words log₀ tags₀ starts₀ maps₀ special e)
+
+  low : f < length (modOf words n .functions)
+  unfolding Roomy
+  low = R .0
+
+  pub next-low : f < countAt 6 words
+  next-low = omega (arith, low, live-count L)
+
+  not-over : Over 0 next → ⊥
+  unfolding Roomy
+  not-over = R .1
+
+  off-rings : ringing (f ∷ callees (function (modOf words n) f)) (modOf words n) s ≡ false
+  off-rings = none-ringing (modOf words n) (take all order) (S .is) (f ∷ callees (function (modOf words n) f)) s
+
+  rooms : length (modOf words n .functions) ≡ all
+  rooms = sym (live-count L) ∙ sym (S .counts)
+
+  appends : (appendS 0 (modOf words n) (followS 0 (modOf words n) all) f s ≡ next) × ReadyF 0 (modOf words n) (Ready 0 (modOf words n) all) (followS 0 (modOf words n) all) (function (modOf words n) f) s
+  appends = subst (λ (k : ℕ). (appendS 0 (modOf words n) (followS 0 (modOf words n) k) f s ≡ next) × ReadyF 0 (modOf words n) (Ready 0 (modOf words n) k) (followS 0 (modOf words n) k) (function (modOf words n) f) s) rooms (append-is (source (modOf words n)) s (live-at L .set) f low off-rings)
+
+  pub next-nested : NestedF words n log₀ tags₀ starts₀ maps₀ e 0 all (function (modOf words n) f)
+  next-nested = record { special = special; scopes = L .passes refl .scope; ready = appends .1 }
+
+  next-at : At (source (modOf words n)) next
+  next-at = function-at (live-at L) f low off-rings
+
+  module _ (stacks₀ : List (List ℕ)) (r : Ends) (log tags : List ℕ) (starts maps : List (List ℕ)) (marks : List ℕ) (stacks : List (List ℕ)) (N : Nests words (ReadyF 0 (modOf words n) (Ready 0 (modOf words n) all) (followS 0 (modOf words n) all) (function (modOf words n) f)) (appendS 0 (modOf words n) (followS 0 (modOf words n) all) f) log₀ tags₀ starts₀ maps₀ marks₀ stacks₀ e r log tags starts maps marks stacks) where
+    pub next-room : r .full ≡ true → ⊥
+    next-room q =
+        let z : sizeR (tableOf log₀ tags₀ starts₀ (e .counts) 7) + (e .et + e .bt) ≡ 0 = omega (arith, none-held log₀ tags₀ starts₀ (e .counts) (L .no-entries) .1, L .lowest .0, L .lowest .1) in
+        not-over (subst (λ (y : St). Over 0 y) (appends .0) (subst (λ (k : ℕ). Over k (appendS 0 (modOf words n) (followS 0 (modOf words n) all) f s)) z (N .over q special (appends .1))))
+
+    module _ (q : r .full ≡ false) where
+      next-same : next ≡ stOf words log tags starts maps special r
+      next-same = sym (appends .0) ∙ N .is q special
+
+      next-reached : Reached (sessionOf true n 0 words log tags starts maps special r)
+      unfolding sessionOf
+      next-reached = at-reached (subst (At (source (modOf words n))) next-same next-at)
+
+      more-types : getD (e .counts) 1 0 ≤ getD (r .counts) 1 0
+      more-types =
+          let g = function-next (modOf words n) (live-at L .set .well) (live-at L .set .passes) 0 f s low off-rings (live-at L .set .holds) .grown .tables .longer types in
+          let h : count (s .recs) types ≤ count (stOf words log tags starts maps special r .recs) types = subst (λ (y : St). count (s .recs) types ≤ count (y .recs) types) next-same g in
+          omega (arith, h, types-many words special log₀ tags₀ starts₀ maps₀ marks₀ e (L .kept), types-many words special log tags starts maps marks r (N .kept q))
+
+      pub next-live : Live true n 0 words tape kinds log tags starts maps marks special r
+      next-live = record {
+        reached = next-reached;
+        kept = N .kept q;
+        specials = specials-more (N .along q .pairs-same) more-types (L .specials);
+        kinds-are = L .kinds-are;
+        words-long = L .words-long;
+        tape-long = L .tape-long;
+        taped = L .taped;
+        passes = L .passes;
+        no-entries = N .along q .entries-same .1 ∙ L .no-entries;
+        lowest = (N .tops q .0 ∙ L .lowest .0, N .tops q .1 ∙ L .lowest .1);
+        going = q;
+      }
+
+      pub next-roomy : Roomy (modOf words n) is (stOf words log tags starts maps special r)
+      unfolding Roomy
+      next-roomy = subst (Roomy (modOf words n) is) next-same (R .2)
+
+      pub next-left : appendAll is 0 (modOf words n) (stOf words log tags starts maps special r) ≡ appendAll (f ∷ is) 0 (modOf words n) s
+      unfolding appendAll
+      next-left = sym (ap (appendAll is 0 (modOf words n)) next-same)
+
+-- ---- the loop
+pub never : (b : Bool) → (b ≡ true → ⊥) → b ≡ false
+never true h = absurd (h refl)
+never false h = refl
+
+-- at function i: the session is live, and what is left to append gives the whole
+pub record Along (words tape kinds : List ℕ) (n : ℕ) (order : List ℕ) (all : ℕ) (whole : St) (i : ℕ) (log tags : List ℕ) (starts maps : List (List ℕ)) (marks special : List ℕ) (stacks : List (List ℕ)) (e : Ends) : Type 0 where
+  pub upto : i ≤ all
+  pub live : Live true n 0 words tape kinds log tags starts maps marks special e
+  pub stacks-are : Stacks stacks e
+  pub roomy : Roomy (modOf words n) (slice i all order) (stOf words log tags starts maps special e)
+  pub left : appendAll (slice i all order) 0 (modOf words n) (stOf words log tags starts maps special e) ≡ whole
+
+module _ (words tape kinds : List ℕ) (n : ℕ) (order : List ℕ) (all : ℕ) (S : Sequence words n order all) where
+  module _ (log tags : List ℕ) (starts maps : List (List ℕ)) (marks special : List ℕ) (stacks : List (List ℕ)) (e : Ends) (L : Live true n 0 words tape kinds log tags starts maps marks special e) where
+    pub few-all : all ≤ 256
+    few-all = omega (arith, S .counts, live-count L, few (L .taped refl))
+
+    pub along-first : Stacks stacks e → Roomy (modOf words n) (take all order) (stOf words log tags starts maps special e) → Along words tape kinds n order all (appendAll (take all order) 0 (modOf words n) (stOf words log tags starts maps special e)) 0 log tags starts maps marks special stacks e
+    along-first K R = record { upto = omega arith; live = L; stacks-are = K; roomy = R; left = refl }
+
+  module _ (whole : St) (i : ℕ) (log₀ tags₀ : List ℕ) (starts₀ maps₀ : List (List ℕ)) (marks₀ special : List ℕ) (stacks₀ : List (List ℕ)) (e : Ends) (A : Along words tape kinds n order all whole i log₀ tags₀ starts₀ maps₀ marks₀ special stacks₀ e) where
+    module _ (go : i < all) (f : ℕ) (fs : f ≡ getD order i 0) where
+      cons : slice i all order ≡ f ∷ slice (suc i) all order
+      cons = slice-cons i all order 0 go (omega (arith, few-all log₀ tags₀ starts₀ maps₀ marks₀ special stacks₀ e (A .live), S .long)) ∙ ap (λ (k : ℕ). k ∷ slice (suc i) all order) (sym fs)
+
+      roomy-cons : Roomy (modOf words n) (f ∷ slice (suc i) all order) (stOf words log₀ tags₀ starts₀ maps₀ special e)
+      roomy-cons = subst (λ (l : List ℕ). Roomy (modOf words n) l (stOf words log₀ tags₀ starts₀ maps₀ special e)) cons (A .roomy)
+
+      pub along-asks : Ground words tape kinds n × (f < countAt 6 words) × NestedF words n log₀ tags₀ starts₀ maps₀ e 0 all (function (modOf words n) f) × ((e .full ≡ false) × (Stacks stacks₀ e)) × Kept log₀ tags₀ starts₀ maps₀ marks₀ e
+      along-asks =
+          (live-ground (A .live), next-low words tape kinds n order all S log₀ tags₀ starts₀ maps₀ marks₀ special e (A .live) f (slice (suc i) all order) roomy-cons, next-nested words tape kinds n order all S log₀ tags₀ starts₀ maps₀ marks₀ special e (A .live) f (slice (suc i) all order) roomy-cons, (A .live .going, A .stacks-are), A .live .kept)
+
+      behind : (r : Ends) (log tags : List ℕ) (starts maps : List (List ℕ)) (marks : List ℕ) (stacks : List (List ℕ)) → Nests words (ReadyF 0 (modOf words n) (Ready 0 (modOf words n) all) (followS 0 (modOf words n) all) (function (modOf words n) f)) (appendS 0 (modOf words n) (followS 0 (modOf words n) all) f) log₀ tags₀ starts₀ maps₀ marks₀ stacks₀ e r log tags starts maps marks stacks
+          → Along words tape kinds n order all whole (suc i) log tags starts maps marks special stacks r
+      behind r log tags starts maps marks stacks N =
+          let q = never (r .full) (next-room words tape kinds n order all S log₀ tags₀ starts₀ maps₀ marks₀ special e (A .live) f (slice (suc i) all order) roomy-cons stacks₀ r log tags starts maps marks stacks N) in
+          record {
+            upto = omega arith;
+            live = next-live words tape kinds n order all S log₀ tags₀ starts₀ maps₀ marks₀ special e (A .live) f (slice (suc i) all order) roomy-cons stacks₀ r log tags starts maps marks stacks N q;
+            stacks-are = N .stacks-are q;
+            roomy = next-roomy words tape kinds n order all S log₀ tags₀ starts₀ maps₀ marks₀ special e (A .live) f (slice (suc i) all order) roomy-cons stacks₀ r log tags starts maps marks stacks N q;
+            left = next-left words tape kinds n order all S log₀ tags₀ starts₀ maps₀ marks₀ special e (A .live) f (slice (suc i) all order) roomy-cons stacks₀ r log tags starts maps marks stacks N q ∙ sym (ap (λ (l : List ℕ). appendAll l 0 (modOf words n) (stOf words log₀ tags₀ starts₀ maps₀ special e)) cons) ∙ A .left;
+          }
+
+      pub along-next : (r : Ends) (log tags : List ℕ) (starts maps : List (List ℕ)) (marks : List ℕ) (stacks : List (List ℕ)) → Nests words (ReadyF 0 (modOf words n) (Ready 0 (modOf words n) all) (followS 0 (modOf words n) all) (function (modOf words n) f)) (appendS 0 (modOf words n) (followS 0 (modOf words n) all) f) log₀ tags₀ starts₀ maps₀ marks₀ stacks₀ e r log tags starts maps marks stacks
+          → Along words tape kinds n order all whole (i + 1) log tags starts maps marks special stacks r
+      along-next r log tags starts maps marks stacks N = subst (λ (k : ℕ). Along words tape kinds n order all whole k log tags starts maps marks special stacks r) (let q : suc i ≡ i + 1 = omega arith in q) (behind r log tags starts maps marks stacks N)
+
+    pub along-last : all ≤ i → (log₁ tags₁ : List ℕ) (starts₁ maps₁ : List (List ℕ)) (e₁ : Ends) → whole ≡ appendAll (take all order) 0 (modOf words n) (stOf words log₁ tags₁ starts₁ maps₁ special e₁) → AppendsAll words tape kinds n (take all order) log₁ tags₁ starts₁ maps₁ e₁ e log₀ tags₀ starts₀ maps₀ marks₀ special stacks₀
+    unfolding appendAll
+    along-last h log₁ tags₁ starts₁ maps₁ e₁ w =
+        let k : i ≡ all = omega (arith, A .upto) in
+        record {
+          same = sym w ∙ sym (A .left) ∙ ap (λ (l : List ℕ). appendAll l 0 (modOf words n) (stOf words log₀ tags₀ starts₀ maps₀ special e)) (ap (λ (j : ℕ). slice j all order) k ∙ slice-empty all order);
+          live = A .live;
+          stacks-are = A .stacks-are;
+        }
