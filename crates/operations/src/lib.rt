@@ -12,6 +12,7 @@ use refusals::NO_RECORD;
 use refusals::NO_SOURCE;
 use sourcing::set_source;
 use state::Ends;
+use state::forget;
 use state::nothing;
 use std::num::wrapping_add_u32;
 use views::CONSTANTS;
@@ -432,7 +433,7 @@ pub fn finish_plain(
     log: &[u32; 16384],
     classes: &[u8; 16384],
     starts: &[[u32; 512]; 8],
-    maps: &[[u32; 512]; 6],
+    maps: &mut [[u32; 512]; 6],
     marks: &[u16; 16384],
     special: &mut [u32; 1027],
     ends: Ends,
@@ -441,8 +442,8 @@ pub fn finish_plain(
     output: &mut [u8],
 ) -> Finished
     requires { ⌜ Live set n offset (now words) (now tags) (now kinds) (now log) (now classes) (now starts) (now maps) (now marks) (now special) ends ⌝ }
-    ensures { λ r. ⌜ Finishes (finishOf (length (now (output .entry))) (sessionOf set n offset (now (words .entry)) (now (log .entry)) (now (classes .entry)) (now (starts .entry)) (now (maps .entry)) (now (special .entry)) ends)) (sessionOf set n offset (now (words .entry)) (now (log .entry)) (now (classes .entry)) (now (starts .entry)) (now (maps .entry)) (now (special .entry)) ends) (r .refusal) (r .bytes) (now (output .entry)) (now (output .exit)) (sessionOf (r .set) n offset (now (words .entry)) (now (log .entry)) (now (classes .entry)) (now (starts .entry)) (now (maps .entry)) (now (special .exit)) (r .ends)) ⌝ }
-    ensures { λ r. ⌜ Live (r .set) n offset (now (words .entry)) (now (tags .entry)) (now (kinds .entry)) (now (log .entry)) (now (classes .entry)) (now (starts .entry)) (now (maps .entry)) (now (marks .entry)) (now (special .exit)) (r .ends) ⌝ }
+    ensures { λ r. ⌜ Finishes (finishOf (length (now (output .entry))) (sessionOf set n offset (now (words .entry)) (now (log .entry)) (now (classes .entry)) (now (starts .entry)) (now (maps .entry)) (now (special .entry)) ends)) (sessionOf set n offset (now (words .entry)) (now (log .entry)) (now (classes .entry)) (now (starts .entry)) (now (maps .entry)) (now (special .entry)) ends) (r .refusal) (r .bytes) (now (output .entry)) (now (output .exit)) (sessionOf (r .set) n offset (now (words .entry)) (now (log .entry)) (now (classes .entry)) (now (starts .entry)) (now (maps .exit)) (now (special .exit)) (r .ends)) ⌝ }
+    ensures { λ r. ⌜ Live (r .set) n offset (now (words .entry)) (now (tags .entry)) (now (kinds .entry)) (now (log .entry)) (now (classes .entry)) (now (starts .entry)) (now (maps .exit)) (now (marks .entry)) (now (special .exit)) (r .ends) ⌝ }
 {
     let got = finish(log, classes, starts, special, ends, output);
     if got.refusal != 0 {
@@ -453,6 +454,7 @@ pub fn finish_plain(
             ends: ends,
         };
     }
+    forget(maps);
     special[0] = 0;
     special[1] = 0;
     special[2] = 0;
