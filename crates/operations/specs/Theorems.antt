@@ -1,12 +1,12 @@
 -- THE START, AND CLEARING: arrays of these lengths with nothing in them hold a new session, and are what every operation asks for; and a session whose source is
 -- cleared is held by the arrays that held it before. What `Spans` says is what the model's map_span answers.
-use mathlib.Core.Path.{_≡_, refl, sym, ap, subst}
+use mathlib.Core.Path.{_≡_, refl, sym, ap, _∙_, subst}
 use mathlib.Core.Bool.{Bool, true, false, false≢true}
 use mathlib.Core.List.{List, []}
 use mathlib.Core.Option.{none}
-use Prim.Native.Nat.{ℕ, _<_}
+use Prim.Native.Nat.{ℕ, zero, suc, _<_}
 use native.Mathlib.Omega.{arith}
-use lib.ListN.{length, getD, replicate}
+use lib.ListN.{length, getD, replicate, length-replicate}
 use Rattle.model.specs.Carry.{each-none}
 use Rattle.model.specs.Tables.{six}
 use Rattle.model.specs.Imports.{St, emptied, fresh}
@@ -17,7 +17,7 @@ use Rattle.state.specs.Refers.{kindBytes}
 use Rattle.state.specs.Marks.{MARKS}
 use Rattle.state.specs.Held.{row}
 use Rattle.state.specs.declared.Ends.{Ends}
-use Rattle.state.proofs.Fresh.{kept-nothing, st-nothing}
+use Rattle.state.proofs.Fresh.{rows-at, kept-nothing, st-nothing}
 use Rattle.operations.specs.Live.{sessionOf, answerOf, Live, Does, Spans}
 
 -- ---- the start
@@ -62,6 +62,27 @@ module _ {words tape kinds log tags : List ℕ} {starts : List (List ℕ)} {mark
     lowest = (refl, refl);
     going = refl;
   }
+
+-- such arrays: zeros
+pub zeros : Empty (replicate 16384 0) (replicate 16384 0) kindBytes (replicate 16384 0) (replicate 16384 0) (replicate 8 (replicate 512 0)) (replicate 16384 0) (replicate 1027 0)
+zeros = record {
+  kinds-are = refl;
+  words-long = length-replicate {A = ℕ} 16384 0;
+  tape-long = length-replicate {A = ℕ} 16384 0;
+  log-long = length-replicate {A = ℕ} 16384 0;
+  tags-long = length-replicate {A = ℕ} 16384 0;
+  starts-eight = refl;
+  rows = λ t l. ap length (rows-at (replicate 512 0) 8 t l) ∙ length-replicate {A = ℕ} 512 0;
+  marks-long = length-replicate {A = ℕ} 16384 0;
+  special-long = length-replicate {A = ℕ} 1027 0;
+  rays-none = rays;
+}
+  where
+    rays : (i : ℕ) → i < 3 → _≡_ {A = ℕ} (getD (replicate 1027 0) i 0) 0
+    rays zero l = refl
+    rays (suc zero) l = refl
+    rays (suc (suc zero)) l = refl
+    rays (suc (suc (suc i))) l = absurd (omega arith)
 
 -- ---- clear_shader_source: nothing is written
 module _ (n o : ℕ) (words tape kinds log tags : List ℕ) (starts maps : List (List ℕ)) (marks special : List ℕ) (e : Ends) where
