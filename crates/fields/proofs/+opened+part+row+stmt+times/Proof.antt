@@ -1,34 +1,34 @@
--- `image::record::+opened+part+row+stmt+times` meets its contract. Assumes nothing.
+-- `fields::+opened+part+row+stmt+times` meets its contract. Assumes nothing.
 use Prim.Native.Nat.{_*_, _+_, _-_}
-use Rattle.image.proofs.Rows.{row-in-table, rows-few}
-use Rattle.image.specs.Rows.{ROWS, SIZE, KIND-ROW}
-use Rattle.image.proofs.Steps.{opened-short, opened-over, opened-unknown, opened-in, opened-rows, stmt-short, stmt-misfit, stmt-strange, stmt-next, stmt-wrong, part-text, part-operands, part-stmt, part-block, part-other, part-deep, Rowing, row-begin, row-done, row-symbol, row-large, row-short, row-plain, row-misfit, row-strange, row-again, Timing, times-begin, times-done, times-misfit, times-strange, times-next}
+use Rattle.fields.proofs.Rows.{row-in-table, rows-few}
+use Rattle.fields.specs.Rows.{ROWS, SIZE, KIND-ROW}
+use Rattle.fields.proofs.Steps.{opened-short, opened-over, opened-unknown, opened-in, opened-rows, stmt-short, stmt-misfit, stmt-strange, stmt-next, stmt-wrong, part-text, part-operands, part-stmt, part-block, part-other, part-deep, Rowing, row-begin, row-done, row-symbol, row-large, row-short, row-plain, row-misfit, row-strange, row-again, Timing, times-begin, times-done, times-misfit, times-strange, times-next}
 use borrow.Author.Needs.{needs}
 use Prim.Native.Nat.{ℕ, _<_}
 use borrow.Fn.Kinds.{In}
 use borrow.Fn.PlainCycle.{Measures, is, falls, and}
-use Rattle.image.proofs.record.opened.Reads as opened
-use Rattle.image.proofs.record.opened.Kinds as opened-kinds
-use Rattle.image.proofs.record.+opened+part+row+stmt+times.Lts-opened as opened-lts
-use Rattle.image.proofs.record.part.Reads as part
-use Rattle.image.proofs.record.part.Kinds as part-kinds
-use Rattle.image.proofs.record.+opened+part+row+stmt+times.Lts-part as part-lts
-use Rattle.image.proofs.record.row.Reads as row
-use Rattle.image.proofs.record.row.Kinds as row-kinds
-use Rattle.image.proofs.record.+opened+part+row+stmt+times.Lts-row as row-lts
-use Rattle.image.proofs.record.stmt.Reads as stmt
-use Rattle.image.proofs.record.stmt.Kinds as stmt-kinds
-use Rattle.image.proofs.record.+opened+part+row+stmt+times.Lts-stmt as stmt-lts
-use Rattle.image.proofs.record.times.Reads as times
-use Rattle.image.proofs.record.times.Kinds as times-kinds
-use Rattle.image.proofs.record.+opened+part+row+stmt+times.Lts-times as times-lts
-use Rattle.image.proofs.record.brings.Reads as brings-reads
-use Rattle.image.proofs.record.narrow.Reads as narrow-reads
-use Rattle.image.proofs.record.operands.Reads as operands-reads
-use Rattle.image.proofs.record.text.Reads as text-reads
+use Rattle.fields.proofs.opened.Reads as opened
+use Rattle.fields.proofs.opened.Kinds as opened-kinds
+use Rattle.fields.proofs.+opened+part+row+stmt+times.Lts-opened as opened-lts
+use Rattle.fields.proofs.part.Reads as part
+use Rattle.fields.proofs.part.Kinds as part-kinds
+use Rattle.fields.proofs.+opened+part+row+stmt+times.Lts-part as part-lts
+use Rattle.fields.proofs.row.Reads as row
+use Rattle.fields.proofs.row.Kinds as row-kinds
+use Rattle.fields.proofs.+opened+part+row+stmt+times.Lts-row as row-lts
+use Rattle.fields.proofs.stmt.Reads as stmt
+use Rattle.fields.proofs.stmt.Kinds as stmt-kinds
+use Rattle.fields.proofs.+opened+part+row+stmt+times.Lts-stmt as stmt-lts
+use Rattle.fields.proofs.times.Reads as times
+use Rattle.fields.proofs.times.Kinds as times-kinds
+use Rattle.fields.proofs.+opened+part+row+stmt+times.Lts-times as times-lts
+use Rattle.fields.proofs.brings.Reads as brings-reads
+use Rattle.fields.proofs.narrow.Reads as narrow-reads
+use Rattle.fields.proofs.operands.Reads as operands-reads
+use Rattle.fields.proofs.text.Reads as text-reads
 use Rattle.words.proofs.wide.Reads as wide-reads
-use Rattle.image.proofs.record.+opened+part+row+stmt+times.{statement}
-use Rattle.image.proofs.record.+opened+part+row+stmt+times.Tie.{close}
+use Rattle.fields.proofs.+opened+part+row+stmt+times.{statement}
+use Rattle.fields.proofs.+opened+part+row+stmt+times.Tie.{close}
 
 abbrev μ-opened : Measures 3 opened-kinds.ps ℕ
 μ-opened κs a = 4 * (a .1 .1 .1 .1 .0 - a .1 .1 .1 .0)

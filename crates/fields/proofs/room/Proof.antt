@@ -1,8 +1,8 @@
--- `image::record::room` meets its contract. Assumes nothing.
-use Rattle.image.proofs.Walk.{room-one, room-two, room-three}
+-- `fields::room` meets its contract. Assumes nothing.
+use Rattle.fields.proofs.Walk.{room-one, room-two, room-three}
 use borrow.Author.Needs.{needs}
-use Rattle.image.proofs.record.room.Statement.{statement}
-use Rattle.image.proofs.record.room.Tie as tie
+use Rattle.fields.proofs.room.Statement.{statement}
+use Rattle.fields.proofs.room.Tie as tie
 
 returns : tie.Need-returns
 returns c = search (room-one, needs)

@@ -8,8 +8,8 @@ use lib.Dec.{eqb, ltb}
 use lib.ListN.{length, getElem?}
 use Rattle.model.specs.Outcome.{Cells, word, Outcome, fits, misfit, unknown, eat, mapO}
 use Rattle.model.specs.Table.{Row, VALUE, BLOCK, CASES, LENGTH, STMT-KIND, More, brings, over, nothing, more, follow, run}
-use Rattle.image.specs.Parts.{Reader, join, times, listOf, caseOf, part, parts, statementRows, chosen, kinded, check, statementOf, blockOf, readB, piece, pieces}
-use Rattle.image.proofs.Flat.{block-none, block-some}
+use Rattle.fields.specs.Parts.{Reader, join, times, listOf, caseOf, part, parts, statementRows, chosen, kinded, check, statementOf, blockOf, readB, piece, pieces}
+use Rattle.fields.proofs.Flat.{block-none, block-some}
 
 pub data Reads (ws : List ℕ) : Outcome Cells → Type 0 where
   reads : {cs : Cells} {rest : List ℕ} → ws ≡ map word cs ++ rest → Reads ws (fits cs rest)

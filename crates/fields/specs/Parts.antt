@@ -6,7 +6,7 @@ use Prim.Native.Nat.{ℕ, zero, suc}
 use lib.Dec.{eqb, ltb, leb}
 use lib.ListN.{length, getElem?}
 use Rattle.model.specs.Outcome.{Cells, Outcome, fits, misfit, unknown, eat, mapO}
-use Rattle.model.specs.Table.{Row, SPAN, UPTO, EXPR, OPT-EXPR, FROM, TO, CALLEE, OPERANDS, OPT-RESULT, VALUE, ARGUMENTS, LOCALS, EXPRESSIONS, NAMED, RETURNS, TYPE-KIND, BLOCK, CASES, LENGTH, STMT-KIND, Shape, sEmit, sBlock, sIf, sSwitch, sLoop, sBreak, sContinue, sReturn, sKill, sCall, sEffect, statements, functionHead, entryHead, counted, limit, variants, run}
+use Rattle.model.specs.Table.{Row, SPAN, UPTO, EXPR, OPT-EXPR, FROM, TO, CALLEE, OPERANDS, OPT-RESULT, VALUE, ARGUMENTS, LOCALS, EXPRESSIONS, NAMED, RETURNS, TYPE-KIND, BLOCK, CASES, LENGTH, STMT-KIND, Shape, sEmit, sBlock, sIf, sSwitch, sLoop, sBreak, sContinue, sReturn, sKill, sCall, sEffect, statements, nameRow, typeRow, constantRow, overrideRow, globalRow, expressionRow, functionHead, entryHead, counted, limit, variants, run}
 use Rattle.model.specs.Tree.{flatBlock, blockAt}
 
 abbrev pub Reader : Type 0
@@ -128,3 +128,7 @@ functionRow = functionHead ++ ARGUMENTS ∷ RETURNS ∷ LOCALS ∷ EXPRESSIONS �
 
 unfoldable pub entryRow : Row
 entryRow = entryHead ++ functionRow
+
+-- the records of the eight tables
+unfoldable pub tableRows : List Row
+tableRows = nameRow ∷ typeRow ∷ constantRow ∷ overrideRow ∷ globalRow ∷ expressionRow ∷ functionRow ∷ entryRow ∷ []

@@ -1,9 +1,9 @@
--- `image::record::fill` meets its contract. Assumes nothing.
+-- `fields::fill` meets its contract. Assumes nothing.
 use Prim.Native.Nat.{_-_}
-use Rattle.image.proofs.Walk.{Filling, fill-misfit, fill-begin, fill-next, fill-done}
+use Rattle.fields.proofs.Walk.{Filling, fill-misfit, fill-begin, fill-next, fill-done}
 use borrow.Author.Needs.{needs}
-use Rattle.image.proofs.record.fill.Statement.{statement}
-use Rattle.image.proofs.record.fill.Tie as tie
+use Rattle.fields.proofs.fill.Statement.{statement}
+use Rattle.fields.proofs.fill.Tie as tie
 
 abbrev Inv-loop : tie.InvT-loop
 Inv-loop tags₀ at end c n m stop i₀ tags i = Filling tags₀ at stop c tags i

@@ -1,8 +1,8 @@
--- `image::record::operands` meets its contract. Assumes nothing.
-use Rattle.image.proofs.Walk.{run-misfit, operands-walk}
+-- `fields::operands` meets its contract. Assumes nothing.
+use Rattle.fields.proofs.Walk.{run-misfit, operands-walk}
 use borrow.Author.Needs.{needs}
-use Rattle.image.proofs.record.operands.Statement.{statement}
-use Rattle.image.proofs.record.operands.Tie as tie
+use Rattle.fields.proofs.operands.Statement.{statement}
+use Rattle.fields.proofs.operands.Tie as tie
 
 returns : tie.Need-returns
 returns c = search (run-misfit, needs)

@@ -1,8 +1,8 @@
--- `image::record::text` meets its contract. Assumes nothing.
-use Rattle.image.proofs.Walk.{run-misfit, text-misfit, text-strange, text-done, text-padded, text-within}
+-- `fields::text` meets its contract. Assumes nothing.
+use Rattle.fields.proofs.Walk.{run-misfit, text-misfit, text-strange, text-done, text-padded, text-within}
 use borrow.Author.Needs.{needs}
-use Rattle.image.proofs.record.text.Statement.{statement}
-use Rattle.image.proofs.record.text.Tie as tie
+use Rattle.fields.proofs.text.Statement.{statement}
+use Rattle.fields.proofs.text.Tie as tie
 
 returns : tie.Need-returns
 returns c = search (run-misfit, needs)

@@ -1,6 +1,8 @@
 // The field table as numbers: the rows of symbols, each ended by 0; where the rows of each group of codes start; for each symbol from
 // MEMBERS (110) on its row and limit, or its group and the number of codes; and the rows of the tables' records.
-// specs/Rows.antt computes the same numbers from the model's rows, and lay's proof compares them.
+// specs/Rows.antt computes the same numbers from the model's rows, and `numbers` compares them.
+ghost use mathlib.Core.Path.{_≡_};
+ghost use Rattle.fields.specs.Rows.{numbers as numbersOf};
 
 // Where the symbols' pairs stand, and where the records' rows stand.
 pub const SYMBOLS: usize = 468;
@@ -14,7 +16,7 @@ pub const RAYS_ROW: usize = 390;
 
 pub const PAIR_ROW: usize = 394;
 
-pub const TABLE: [u16; 510] = [
+const TABLE: [u16; 510] = [
     9,
     80,
     80,
@@ -526,3 +528,10 @@ pub const TABLE: [u16; 510] = [
     390,
     394,
 ];
+
+// All of them, which are the model's.
+pub fn numbers() -> [u16; 510]
+    ensures { λ r. ⌜ r ≡ numbersOf ⌝ }
+{
+    TABLE
+}

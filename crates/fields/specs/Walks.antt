@@ -7,8 +7,8 @@ use lib.Dec.{leb}
 use lib.ListN.{length, replicate}
 use lib.Seq.{sets}
 use Rattle.model.specs.Outcome.{Cells, class, Outcome, fits, misfit, unknown}
-use Rattle.image.specs.declared.record.Walked.{Walked}
-use Rattle.image.specs.declared.record.Walked.the-variants.{Next, Misfit, Strange}
+use Rattle.fields.specs.declared.Walked.{Walked}
+use Rattle.fields.specs.declared.Walked.the-variants.{Next, Misfit, Strange}
 
 pub data Final : Type 0 where
   next : ℕ → List ℕ → Final

@@ -1,8 +1,8 @@
--- `image::record::padded` meets its contract. Assumes nothing.
-use Rattle.image.proofs.Walk.{run-misfit, pad-wrong, pad-right}
+-- `fields::padded` meets its contract. Assumes nothing.
+use Rattle.fields.proofs.Walk.{run-misfit, pad-wrong, pad-right}
 use borrow.Author.Needs.{needs}
-use Rattle.image.proofs.record.padded.Statement.{statement}
-use Rattle.image.proofs.record.padded.Tie as tie
+use Rattle.fields.proofs.padded.Statement.{statement}
+use Rattle.fields.proofs.padded.Tie as tie
 
 returns : tie.Need-returns
 returns c = search (run-misfit, needs)

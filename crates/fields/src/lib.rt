@@ -1,7 +1,9 @@
 // Laying out a record: one class for each word, by one table and recursion. A walk starts at a word and ends behind the record, or finds a misfit
 // (refusal 2) or a code that is none of the listed (refusal 3). The tape has the class of each word that was passed.
-use crate::table::KIND_ROW;
-use crate::table::SYMBOLS;
+pub mod table;
+
+use table::KIND_ROW;
+use table::SYMBOLS;
 use words::wide;
 ghost use mathlib.Core.Path.{_≡_};
 ghost use mathlib.Core.List.{[], _∷_};
@@ -9,9 +11,9 @@ ghost use Prim.Native.Nat.{_+_, _*_, _%_, _^_, _≤_, _<_};
 ghost use lib.ListN.{length};
 ghost use lib.Seq.{slice};
 ghost use Rattle.model.specs.Table.{run};
-ghost use Rattle.image.specs.Parts.{readB, statementOf, piece, pieces, times as timesOf, opening};
-ghost use Rattle.image.specs.Rows.{ROWS, numbers, rowAt, MoreIs};
-ghost use Rattle.image.specs.Walks.{Walks, Fills};
+ghost use Rattle.fields.specs.Parts.{readB, statementOf, piece, pieces, times as timesOf, opening};
+ghost use Rattle.fields.specs.Rows.{ROWS, numbers, rowAt, MoreIs};
+ghost use Rattle.fields.specs.Walks.{Walks, Fills};
 
 // Classes as the table has them.
 const MEMBERS: usize = classes::MEMBERS as usize;

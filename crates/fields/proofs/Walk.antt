@@ -14,12 +14,12 @@ use Rattle.model.specs.Outcome.{Cells, class, word, Outcome, fits, misfit, unkn
 use Rattle.model.specs.Table.{Row, WORD, EXPR, PAD, TEXT, OPERANDS, brings, over, repeat, text, more, follow, run}
 use Rattle.laws.specs.Betweens.{slice-none}
 use Rattle.laws.specs.Lists.{map-append}
-use Rattle.image.specs.Parts.{Reader, join}
-use Rattle.image.specs.Walks.{Final, next, refused, strange, seen, final, Walks, filled, Fills}
-use Rattle.image.specs.declared.record.Walked.{Walked}
-use Rattle.image.specs.declared.record.Walked.the-variants.{Next, Misfit, Strange}
-use Rattle.image.proofs.Flat.{run-none, run-append, plain-more}
-use Rattle.image.proofs.Reading.{Reads, reads, reads-run}
+use Rattle.fields.specs.Parts.{Reader, join}
+use Rattle.fields.specs.Walks.{Final, next, refused, strange, seen, final, Walks, filled, Fills}
+use Rattle.fields.specs.declared.Walked.{Walked}
+use Rattle.fields.specs.declared.Walked.the-variants.{Next, Misfit, Strange}
+use Rattle.fields.proofs.Flat.{run-none, run-append, plain-more}
+use Rattle.fields.proofs.Reading.{Reads, reads, reads-run}
 
 -- ---- filling
 pub record Filling (tags₀ : List ℕ) (at stop c : ℕ) (tags : List ℕ) (i : ℕ) : Type 0 where

@@ -1,11 +1,11 @@
--- `image::record::brings` meets its contract. Assumes nothing.
-use Rattle.image.specs.Rows.{SIZE}
+-- `fields::brings` meets its contract. Assumes nothing.
+use Rattle.fields.specs.Rows.{SIZE}
 use mathlib.Core.Path.{refl}
 use native.Mathlib.Omega.{arith}
-use Rattle.image.proofs.Rows.{in-table, brings-over, brings-list, brings-block, brings-cases, brings-none, in-group, brings-row}
+use Rattle.fields.proofs.Rows.{in-table, brings-over, brings-list, brings-block, brings-cases, brings-none, in-group, brings-row}
 use borrow.Author.Needs.{needs}
-use Rattle.image.proofs.record.brings.Statement.{statement}
-use Rattle.image.proofs.record.brings.Tie as tie
+use Rattle.fields.proofs.brings.Statement.{statement}
+use Rattle.fields.proofs.brings.Tie as tie
 
 place-requires : tie.Need-place-requires
 place-requires c κs = search needs

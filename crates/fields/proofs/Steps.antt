@@ -12,17 +12,17 @@ use lib.Seq.{slice, sets, slice-cons, length-slice}
 use borrow.Author.Tests.{eq-eqb, ne-eqb, ltb-true, ltb-false, eqb-true}
 use Rattle.model.specs.Outcome.{Cells, class, Outcome, fits, misfit, unknown, mapO}
 use Rattle.model.specs.Table.{Row, PAD, LENGTH, STMT-KIND, run}
-use Rattle.image.specs.Parts.{join, times, check, statementOf, readB, piece, pieces, Brings, rows, over, nothing, bringsOf, brought, opening}
-use Rattle.image.specs.Rows.{ROWS, numbers, SIZE, KIND-ROW, row, rowAt, MoreIs}
-use Rattle.image.specs.Walks.{next, refused, strange, seen, final, Walks}
-use Rattle.image.specs.declared.record.Walked.{Walked}
-use Rattle.image.specs.declared.record.Walked.the-variants.{Next, Misfit, Strange}
-use Rattle.image.specs.declared.record.More.{More}
-use Rattle.image.specs.declared.record.More.the-variants.{Rows, Over, Unknown}
-use Rattle.image.proofs.Flat.{piece-field, piece-length, piece-list, piece-variant, piece-cases, piece-stmt-kind, piece-block, piece-block-none, statement-kind, run-word}
-use Rattle.image.proofs.Reading.{Reads, reads-piece, reads-pieces}
-use Rattle.image.proofs.Rows.{ended, further, row-next, symbol, large}
-use Rattle.image.proofs.Walk.{Taken, taken, chain-misfit, chain-strange, chain-next, final-word, eat-none, eat-some, run-short, told}
+use Rattle.fields.specs.Parts.{join, times, check, statementOf, readB, piece, pieces, Brings, rows, over, nothing, bringsOf, brought, opening}
+use Rattle.fields.specs.Rows.{ROWS, numbers, SIZE, KIND-ROW, row, rowAt, MoreIs}
+use Rattle.fields.specs.Walks.{next, refused, strange, seen, final, Walks}
+use Rattle.fields.specs.declared.Walked.{Walked}
+use Rattle.fields.specs.declared.Walked.the-variants.{Next, Misfit, Strange}
+use Rattle.fields.specs.declared.More.{More}
+use Rattle.fields.specs.declared.More.the-variants.{Rows, Over, Unknown}
+use Rattle.fields.proofs.Flat.{piece-field, piece-length, piece-list, piece-variant, piece-cases, piece-stmt-kind, piece-block, piece-block-none, statement-kind, run-word}
+use Rattle.fields.proofs.Reading.{Reads, reads-piece, reads-pieces}
+use Rattle.fields.proofs.Rows.{ended, further, row-next, symbol, large}
+use Rattle.fields.proofs.Walk.{Taken, taken, chain-misfit, chain-strange, chain-next, final-word, eat-none, eat-some, run-short, told}
 
 -- ---- tests
 below : (a b : ℕ) → ltb a b ≡ true → a < b

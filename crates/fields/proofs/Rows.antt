@@ -12,8 +12,8 @@ use lib.ListN.{length, getD, drop, take, getElem?, length-map, length-append, Li
 use lib.Seq.{drop-cons, getD-drop, getD-take}
 use borrow.Author.Tests.{lt-ltb, le-ltb, ne-eqb, le-leb, lt-leb}
 use Rattle.model.specs.Table.{Row, TYPE-KIND, BLOCK, CASES, LENGTH, limit, counted, variants}
-use Rattle.image.specs.Parts.{caseRow, statementRows, rows, over, nothing, once, bringsOf}
-use Rattle.image.specs.Rows.{laid, starts, symbols, coded, listed, records, allRows, ROWS, SYMBOLS, pairs, numbers, SIZE, row, rowAt}
+use Rattle.fields.specs.Parts.{caseRow, statementRows, rows, over, nothing, once, bringsOf}
+use Rattle.fields.specs.Rows.{laid, starts, symbols, coded, listed, records, allRows, ROWS, SYMBOLS, pairs, numbers, SIZE, row, rowAt}
 
 -- ---- a rule of a list, at each entry
 abbrev pub and : Bool → Bool → Bool

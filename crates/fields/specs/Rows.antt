@@ -1,14 +1,13 @@
--- The field table as the code has it, computed from the model's rows: the rows, each ended by 0; where the rows of each group of codes start; for each symbol from MEMBERS on its row and limit, or its group and the number of codes; and where the rows of the tables' records start. The code's array is compared with it by computation (proofs/lay).
+-- The field table as the code has it, computed from the model's rows: the rows, each ended by 0; where the rows of each group of codes start; for each symbol from MEMBERS on its row and limit, or its group and the number of codes; and where the rows of the tables' records start. The code's array is compared with it by computation (table::numbers).
 use mathlib.Core.Path.{_≡_}
 use mathlib.Core.List.{List, [], _∷_, _++_}
 use Prim.Native.Nat.{ℕ, zero, suc, _+_, _*_, _-_, _<_}
 use lib.ListN.{length, getD, drop}
 use Rattle.model.specs.Table.{Row, MEMBERS, ARGUMENTS, LOCALS, EXPRESSIONS, NAMED, LENGTH, STMT-KIND, limit, counted, types, expressions, levels, queries, values, atomics, results, statements, nameRow, typeRow, constantRow, overrideRow, globalRow, expressionRow, functionHead, entryHead}
 use Rattle.model.specs.Module.{raysRow, pairRow}
-use Rattle.image.specs.Parts.{caseRow, rowOf, rowAs, statementRows, functionRow, entryRow, bringsOf, rows, over, nothing}
-use Rattle.image.specs.Extents.{tableRows}
-use Rattle.image.specs.declared.record.More.{More}
-use Rattle.image.specs.declared.record.More.the-variants.{Rows, Over, Unknown}
+use Rattle.fields.specs.Parts.{caseRow, rowOf, rowAs, statementRows, functionRow, entryRow, tableRows, bringsOf, rows, over, nothing}
+use Rattle.fields.specs.declared.More.{More}
+use Rattle.fields.specs.declared.More.the-variants.{Rows, Over, Unknown}
 
 -- ---- rows
 -- one behind the other, each ended by 0

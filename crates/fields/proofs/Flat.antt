@@ -12,7 +12,7 @@ use borrow.Author.Tests.{ltb-true, lt-ltb, le-ltb, ne-eqb, eqb-true}
 use Rattle.model.specs.Outcome.{Cells, Outcome, fits, misfit, unknown, _⟫_, eat, mapO}
 use Rattle.model.specs.Table.{Row, SPAN, UPTO, EXPR, OPT-EXPR, FROM, TO, CALLEE, OPT-RESULT, OPERANDS, VALUE, TEXT, PAD, MEMBERS, ARGUMENTS, RETURNS, LOCALS, EXPRESSIONS, NAMED, TYPE-KIND, BLOCK, CASES, LENGTH, STMT-KIND, Shape, sEmit, sBlock, sIf, sSwitch, sLoop, sBreak, sContinue, sReturn, sKill, sCall, sEffect, statements, functionHead, entryHead, counted, limit, variants, types, expressions, levels, queries, values, atomics, results, repeat, variant, More, brings, over, nothing, more, follow, run}
 use Rattle.model.specs.Tree.{Stmt, Form, Block, Cases, Case, stmt, emit, block, branch, switch, loop, break, continue, return, kill, call, effect, _then_, _also_, case, Range, optOf, wordOf, kindOf, sizeB, sizeC, flatAll, flatList, flatX, flatS, flatF, flatB, flatC, flatK, flatBlock, flat, flatEntry, rows, listed, operands, stmts, cases, caseAt, form, checked, shaped, statement, blockAt, functionAt, entryAt, DEPTH}
-use Rattle.image.specs.Parts.{Reader, join, times, listOf, caseOf, caseRow, part, parts, rowOf, rowAs, statementRows, chosen, kinded, check, statementOf, blockOf, readB, piece, pieces, rows as brings-rows, over as brings-over, bringsOf, brought, once, opening, functionRow, entryRow}
+use Rattle.fields.specs.Parts.{Reader, join, times, listOf, caseOf, caseRow, part, parts, rowOf, rowAs, statementRows, chosen, kinded, check, statementOf, blockOf, readB, piece, pieces, rows as brings-rows, over as brings-over, bringsOf, brought, once, opening, functionRow, entryRow}
 
 -- ---- fusion
 module _ {A B C : Type 0} where
