@@ -37,14 +37,14 @@ use Rattle.import.proofs.Sources.{wf, count-is, inside, stretch, record
 
 -- ---- what stands beside the tables
 pub beside-refl : (starts : List (List ℕ)) (e : Ends) → Beside starts starts e e
-beside-refl starts e = record { functions-same = (refl, refl); entries-same = (refl, refl); pairs-same = refl; tops-same = (refl, refl) }
+beside-refl starts e = record { functions-same = (refl, refl); entries-same = (refl, refl); pairs-same = refl; tops-same = (refl, refl, refl) }
 
 pub beside-then : (a b c : List (List ℕ)) (e f g : Ends) → Beside a b e f → Beside b c f g → Beside a c e g
 beside-then a b c e f g x y = record {
   functions-same = (y .functions-same .0 ∙ x .functions-same .0, y .functions-same .1 ∙ x .functions-same .1);
   entries-same = (y .entries-same .0 ∙ x .entries-same .0, y .entries-same .1 ∙ x .entries-same .1);
   pairs-same = y .pairs-same ∙ x .pairs-same;
-  tops-same = (y .tops-same .0 ∙ x .tops-same .0, y .tops-same .1 ∙ x .tops-same .1);
+  tops-same = (y .tops-same .0 ∙ x .tops-same .0, y .tops-same .1 ∙ x .tops-same .1, y .tops-same .2 ∙ x .tops-same .2);
 }
 
 -- the same number, found another way

@@ -31,7 +31,7 @@ take-zeros (suc n) zero h = absurd (omega arith)
 take-zeros (suc n) (suc k) h = ap (λ (l : List ℕ). 0 ∷ l) (take-zeros n k (omega arith))
 
 abbrev E : Ends
-E = record { full = false; used = 0; counts = replicate 8 0; pairs = 0; et = 0; bt = 0 }
+E = record { full = false; used = 0; counts = replicate 8 0; pairs = 0; et = 0; bt = 0; made = 0 }
 
 module _ (log tags : List ℕ) (starts : List (List ℕ)) (marks : List ℕ) (hl : length log ≡ 16384) (ht : length tags ≡ 16384) (hm : length marks ≡ MARKS) (hs : length starts ≡ 8) (hr : (t : ℕ) → t < 8 → length (row starts t) ≡ 512) where
   table-none : (t : ℕ) → tableOf log tags starts (replicate 8 0) t ≡ []

@@ -510,7 +510,7 @@ module _ (log tags log′ tags′ : List ℕ) (starts maps : List (List ℕ)) (m
   counts⁺ = set (e .counts) t (getD (e .counts) t 0 + 1)
 
   abbrev E : Ends
-  E = record { full = false; used = e .used + suc (length c); counts = set (e .counts) t (getD (e .counts) t 0 + 1); pairs = e .pairs; et = e .et; bt = e .bt }
+  E = record { full = false; used = e .used + suc (length c); counts = set (e .counts) t (getD (e .counts) t 0 + 1); pairs = e .pairs; et = e .et; bt = e .bt; made = e .made }
 
   stays : (u : ℕ) → u < 8 → tableOf log′ tags′ starts (e .counts) u ≡ tableOf log tags starts (e .counts) u
   stays u hu = table-stays log tags log′ tags′ starts maps marks marks′ e K F hl hl′ M u hu
@@ -690,7 +690,7 @@ module _ (words tags₀ log tags : List ℕ) (starts maps : List (List ℕ)) (ma
   seat-is = seat-shift (at (tabOf t) (recsOf log tags starts (e .counts))) (carriedBy (wentR maps) tags₀ words at₀ end) o false ∙ rw (tab-is log tags starts maps marks e K t ht) (sym So)
 
   same-beside : Beside starts starts e e
-  same-beside = record { functions-same = (refl, refl); entries-same = (refl, refl); pairs-same = refl; tops-same = (refl, refl) }
+  same-beside = record { functions-same = (refl, refl); entries-same = (refl, refl); pairs-same = refl; tops-same = (refl, refl, refl) }
 
   pub settle-old : j < getD (e .counts) t 0 → Lands words (settle (tabOf t) k C) log tags starts maps marks e e log tags starts (put maps t k (j + 1)) marks
   unfolding settle stOf
@@ -774,7 +774,7 @@ module _ (words tags₀ log tags : List ℕ) (starts maps : List (List ℕ)) (ma
         flats′ = λ x. absurd (omega arith);
       }
 
-      pub settle-new : (r : Ends) → r ≡ record { full = false; used = e .used + (1 + (end - at₀)); counts = set (e .counts) t (getD (e .counts) t 0 + 1); pairs = e .pairs; et = e .et; bt = e .bt }
+      pub settle-new : (r : Ends) → r ≡ record { full = false; used = e .used + (1 + (end - at₀)); counts = set (e .counts) t (getD (e .counts) t 0 + 1); pairs = e .pairs; et = e .et; bt = e .bt; made = e .made }
           → Lands words (settle (tabOf t) k C) log tags starts maps marks e r log′ tags′ (put starts t (getD (e .counts) t 0) (e .used)) (put maps t k (getD (e .counts) t 0 + 1)) marks′
       unfolding settle stOf functionsOf
       settle-new r er =
@@ -786,7 +786,7 @@ module _ (words tags₀ log tags : List ℕ) (starts maps : List (List ℕ)) (ma
           let jn : j ≡ getD (e .counts) t 0 = omega arith in
           let b = K .counts-eight in
           let ce = getD-set-same (e .counts) t (getD (e .counts) t 0 + 1) 0 (omega arith) in
-          let er′ : r ≡ record { full = false; used = e .used + suc (length C); counts = set (e .counts) t (getD (e .counts) t 0 + 1); pairs = e .pairs; et = e .et; bt = e .bt } = rw x at er in
+          let er′ : r ≡ record { full = false; used = e .used + suc (length C); counts = set (e .counts) t (getD (e .counts) t 0 + 1); pairs = e .pairs; et = e .et; bt = e .bt; made = e .made } = rw x at er in
           rw er′
           (record {
             over = λ y. absurd (false≢true y);
@@ -796,7 +796,7 @@ module _ (words tags₀ log tags : List ℕ) (starts maps : List (List ℕ)) (ma
               functions-same = (row-other starts t 6 (getD (e .counts) t 0) (e .used) (λ z. omega arith), getD-set-other (e .counts) t 6 (getD (e .counts) t 0 + 1) 0 (λ z. omega arith));
               entries-same = (row-other starts t 7 (getD (e .counts) t 0) (e .used) (λ z. omega arith), getD-set-other (e .counts) t 7 (getD (e .counts) t 0 + 1) 0 (λ z. omega arith));
               pairs-same = refl;
-              tops-same = (refl, refl);
+              tops-same = (refl, refl, refl);
             };
             more = λ y. omega arith;
             below = F;

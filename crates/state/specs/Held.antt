@@ -144,12 +144,12 @@ pub record Same (used : ℕ) (log tags log′ tags′ : List ℕ) : Type 0 where
   pub words-same : take used log′ ≡ take used log
   pub tags-same : take used tags′ ≡ take used tags
 
--- functions, entry points and pairs are as they were, and so are the tops of the stacks
+-- functions, entry points and pairs are as they were, and so are the stacks of functions in progress
 pub record Beside (starts starts′ : List (List ℕ)) (e r : Ends) : Type 0 where
   pub functions-same : (row starts′ 6 ≡ row starts 6) × (getD (r .counts) 6 0 ≡ getD (e .counts) 6 0)
   pub entries-same : (row starts′ 7 ≡ row starts 7) × (getD (r .counts) 7 0 ≡ getD (e .counts) 7 0)
   pub pairs-same : r .pairs ≡ e .pairs
-  pub tops-same : (r .et ≡ e .et) × (r .bt ≡ e .bt)
+  pub tops-same : (r .et ≡ e .et) × (r .bt ≡ e .bt) × (r .made ≡ e .made)
 
 -- the arrays hold what f makes of the state that they held, or that is too large; what the log held is there
 pub record Lands (words : List ℕ) (f : St → St) (log₀ tags₀ : List ℕ) (starts₀ maps₀ : List (List ℕ)) (marks₀ : List ℕ) (e : Ends) (r : Ends) (log tags : List ℕ) (starts maps : List (List ℕ)) (marks : List ℕ) : Type 0 where

@@ -19,7 +19,8 @@ ghost use Rattle.state.specs.Refers.{kindOf, kindBytes, tabOf, wentR, Sm
 ghost use Rattle.state.specs.Marks.{MARKS, hashR, placeR, Left};
 ghost use Rattle.state.specs.Held.{row, cell, recAt, recsAt, Kept, Lands, Readable, Written, Nameless, carriedBy};
 
-// Words of the log, records of each table, pairs of special types, and the tops of the stacks of functions in progress; or that something did not fit.
+// Words of the log, records of each table, pairs of special types; of functions in progress the tops of their stacks, and how many expressions the last
+// one has; or that something did not fit.
 pub struct Ends {
     pub full: bool,
     pub used: usize,
@@ -27,11 +28,12 @@ pub struct Ends {
     pub pairs: usize,
     pub et: usize,
     pub bt: usize,
+    pub made: usize,
 }
 
 // Nothing yet.
 pub fn nothing() -> Ends
-    ensures { λ r. ⌜ r ≡ record { full = false; used = 0; counts = replicate 8 0; pairs = 0; et = 0; bt = 0 } ⌝ }
+    ensures { λ r. ⌜ r ≡ record { full = false; used = 0; counts = replicate 8 0; pairs = 0; et = 0; bt = 0; made = 0 } ⌝ }
 {
     Ends {
         full: false,
@@ -40,6 +42,7 @@ pub fn nothing() -> Ends
         pairs: 0,
         et: 0,
         bt: 0,
+        made: 0,
     }
 }
 
@@ -62,13 +65,14 @@ pub fn refuse(e: Ends) -> Ends
         pairs: e.pairs,
         et: e.et,
         bt: e.bt,
+        made: e.made,
     }
 }
 
 // One record more in table t, of n words with its count.
 pub fn grown(e: Ends, t: usize, n: usize) -> Ends
     requires { ⌜ (t < 8) × (e .used + n ≤ 16384) × (getD (e .counts) t 0 < 512) ⌝ }
-    ensures { λ r. ⌜ r ≡ record { full = false; used = e .used + n; counts = set (e .counts) t (getD (e .counts) t 0 + 1); pairs = e .pairs; et = e .et; bt = e .bt } ⌝ }
+    ensures { λ r. ⌜ r ≡ record { full = false; used = e .used + n; counts = set (e .counts) t (getD (e .counts) t 0 + 1); pairs = e .pairs; et = e .et; bt = e .bt; made = e .made } ⌝ }
 {
     let mut c = e.counts;
     c[t] = c[t] + 1;
@@ -79,6 +83,7 @@ pub fn grown(e: Ends, t: usize, n: usize) -> Ends
         pairs: e.pairs,
         et: e.et,
         bt: e.bt,
+        made: e.made,
     }
 }
 
@@ -369,7 +374,7 @@ pub fn kind_of(kinds: &[u8; 256], s: u8) -> usize
 }
 
 // A word through the maps.
-fn carried(kinds: &[u8; 256], maps: &[[u32; 512]; 6], s: u8, w: u32) -> u32
+pub fn carried(kinds: &[u8; 256], maps: &[[u32; 512]; 6], s: u8, w: u32) -> u32
     requires { ⌜ All Small (refOf (target s) w []) ⌝ }
     requires { ⌜ length (now maps) ≡ 6 ⌝ }
     requires { ⌜ now kinds ≡ kindBytes ⌝ }
@@ -396,7 +401,7 @@ fn carried(kinds: &[u8; 256], maps: &[[u32; 512]; 6], s: u8, w: u32) -> u32
 }
 
 // Whether a word of the log is a word, unless both are a span's.
-fn alike_cell(a: u8, x: u32, b: u8, y: u32) -> bool
+pub fn alike_cell(a: u8, x: u32, b: u8, y: u32) -> bool
     ensures { λ r. ⌜ r ≡ alikeC (a, x) (b, y) ⌝ }
 {
     if a != b {
@@ -631,7 +636,7 @@ fn undefined_at(
 }
 
 // A span's word moved by the offset, unless the span is undefined; any other word as it is.
-fn moved(s: u8, w: u32, offset: u32, u: bool) -> u32
+pub fn moved(s: u8, w: u32, offset: u32, u: bool) -> u32
     ensures { λ r. ⌜ r ≡ movedOf (target s) w offset u ⌝ }
 {
     if s < 81 {
