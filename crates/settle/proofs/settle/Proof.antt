@@ -2,11 +2,11 @@ use native.Mathlib.Omega.{arith}
 use borrow.Author.Needs.{needs}
 use lib.ListN.{length-set}
 use mathlib.Core.Path.{_∙_}
 use Rattle.state.proofs.State.{settle-old, settle-many, settle-long, settle-new}
-use Rattle.state.proofs.settle.Statement.{statement}
-use Rattle.state.proofs.settle.Tie as tie
-use Rattle.state.proofs.settle.Reads as reads
-use Rattle.state.proofs.settle.Lts as lts
+use Rattle.settle.proofs.settle.Statement.{statement}
+use Rattle.settle.proofs.settle.Tie as tie
+use Rattle.settle.proofs.settle.Reads as reads
+use Rattle.settle.proofs.settle.Lts as lts
 
 mul-n : tie.Need-mul-n
 mul-n c = search needs

@@ -1,10 +1,10 @@
 use native.Mathlib.Omega.{arith}
 use borrow.Author.Needs.{needs}
 use Rattle.state.proofs.State.{left-first, left-more}
-use Rattle.state.proofs.leave.Statement.{statement}
-use Rattle.state.proofs.leave.Tie as tie
-use Rattle.state.proofs.leave.Reads as reads
-use Rattle.state.proofs.leave.Lts as lts
+use Rattle.settle.proofs.leave.Statement.{statement}
+use Rattle.settle.proofs.leave.Tie as tie
+use Rattle.settle.proofs.leave.Reads as reads
+use Rattle.settle.proofs.leave.Lts as lts
 
 mul-if1 : tie.Need-mul-if1
 mul-if1 c = search needs

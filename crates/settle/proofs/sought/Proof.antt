@@ -1,12 +1,12 @@
 use native.Mathlib.Omega.{arith}
 use borrow.Author.Needs.{needs}
 use mathlib.Core.Path.{sym, _∙_}
 use Rattle.state.proofs.State.{sought-none, sought-stale, sought-one, sought-other}
 use Prim.Native.Nat.{_-_}
-use Rattle.state.proofs.sought.Statement.{statement}
-use Rattle.state.proofs.sought.Tie as tie
-use Rattle.state.proofs.sought.Reads as reads
-use Rattle.state.proofs.sought.Lts as lts
+use Rattle.settle.proofs.sought.Statement.{statement}
+use Rattle.settle.proofs.sought.Tie as tie
+use Rattle.settle.proofs.sought.Reads as reads
+use Rattle.settle.proofs.sought.Lts as lts
 
 mul-n : tie.Need-mul-n
 mul-n c = search needs

@@ -1,16 +1,16 @@
 use native.Mathlib.Omega.{arith}
 use borrow.Author.Needs.{needs}
 use Rattle.state.specs.Refers.{wentR}
 use Rattle.state.specs.Held.{carriedBy}
 use mathlib.Core.List.{[]}
 use lib.ListN.{getD}
 use Prim.Native.Nat.{_-_}
 use Rattle.state.proofs.Passes.{Seeks, seek-first, seek-found, seek-more, seek-last}
-use Rattle.state.proofs.find.Statement.{statement}
-use Rattle.state.proofs.find.Tie as tie
-use Rattle.state.proofs.find.Reads as reads
-use Rattle.state.proofs.find.Lts as lts
+use Rattle.settle.proofs.find.Statement.{statement}
+use Rattle.settle.proofs.find.Tie as tie
+use Rattle.settle.proofs.find.Reads as reads
+use Rattle.settle.proofs.find.Lts as lts
 use Rattle.state.proofs.alike.Reads as alike-reads
 use Rattle.words.proofs.wide.Reads as wide-reads
 
 abbrev Inv-loop : tie.InvT-loop
