@@ -1,9 +1,9 @@
--- `redirect::redirect_functions` meets its contract. Assumes nothing.
+-- `replace::redirect_functions` meets its contract. Assumes nothing.
 use Prim.Native.Nat.{_-_}
-use Rattle.redirect.proofs.Turning.{Turning, turning-begin, turning-asks, turning-next, turning-done}
+use Rattle.replace.proofs.Turning.{Turning, turning-begin, turning-asks, turning-next, turning-done}
 use borrow.Author.Needs.{needs}
-use Rattle.redirect.proofs.redirect_functions.Statement.{statement}
-use Rattle.redirect.proofs.redirect_functions.Tie as tie
+use Rattle.replace.proofs.redirect_functions.Statement.{statement}
+use Rattle.replace.proofs.redirect_functions.Tie as tie
 
 abbrev Inv-loop : tie.InvT-loop
 Inv-loop words₀ tags n original replacement omit count j₀ words j = Turning words₀ tags n original replacement omit count words j

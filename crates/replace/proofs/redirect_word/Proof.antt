@@ -1,8 +1,8 @@
--- `redirect::redirect_word` meets its contract. Assumes nothing.
-use Rattle.redirect.proofs.Leaves.{callee-is, callee-other, result-is, result-other, other-class}
+-- `replace::redirect_word` meets its contract. Assumes nothing.
+use Rattle.replace.proofs.Leaves.{callee-is, callee-other, result-is, result-other, other-class}
 use borrow.Author.Needs.{needs}
-use Rattle.redirect.proofs.redirect_word.Statement.{statement}
-use Rattle.redirect.proofs.redirect_word.Tie as tie
+use Rattle.replace.proofs.redirect_word.Statement.{statement}
+use Rattle.replace.proofs.redirect_word.Tie as tie
 
 returns : tie.Need-returns
 returns c = search (callee-is, needs)

@@ -1,8 +1,8 @@
--- `redirect::is_named` meets its contract. Assumes nothing.
-use Rattle.redirect.proofs.Leaves.{unnamed, is-name}
+-- `replace::is_named` meets its contract. Assumes nothing.
+use Rattle.replace.proofs.Leaves.{unnamed, is-name}
 use borrow.Author.Needs.{needs}
-use Rattle.redirect.proofs.is_named.Statement.{statement}
-use Rattle.redirect.proofs.is_named.Tie as tie
+use Rattle.replace.proofs.is_named.Statement.{statement}
+use Rattle.replace.proofs.is_named.Tie as tie
 
 returns : tie.Need-returns
 returns c = search (unnamed, needs)

@@ -1,10 +1,10 @@
--- `redirect::redirect_fn` meets its contract. Assumes nothing.
+-- `replace::redirect_fn` meets its contract. Assumes nothing.
 use Prim.Native.Nat.{_-_}
 use Rattle.model.specs.Redirect.{redirecting}
-use Rattle.redirect.proofs.Pass.{Left, begin, finish, next}
+use Rattle.replace.proofs.Pass.{Left, begin, finish, next}
 use borrow.Author.Needs.{needs}
-use Rattle.redirect.proofs.redirect_fn.Statement.{statement}
-use Rattle.redirect.proofs.redirect_fn.Tie as tie
+use Rattle.replace.proofs.redirect_fn.Statement.{statement}
+use Rattle.replace.proofs.redirect_fn.Tie as tie
 
 abbrev Inv-loop : tie.InvT-loop
 Inv-loop words₀ tags at end original replacement i₀ words i = Left (redirecting original replacement) words₀ tags at end words i

@@ -12,7 +12,7 @@ use Rattle.model.specs.FunctionView.{argumentsAt, argumentAt, returnsAt, locals
 use Rattle.model.specs.Taped.{Taped}
 use Rattle.model.specs.Redirect.{nameWord, argumentTypes, typeBehind, resultType, nothing, function}
 use Rattle.laws.specs.FunctionViews.{part-word, Stands, parts, head-classes, arguments-count, argument-part, argument-type, returns-bound, returns-zero, returns-one, looked-at, taped-length, taped-functions, taped-function}
-use Rattle.redirect.proofs.Contexts.{map-at}
+use Rattle.replace.proofs.Contexts.{map-at}
 
 -- ---- a function of a module that words and tape hold
 module _ {words tags : List ℕ} {n : ℕ} {m : Module} (t : Taped words tags n m) where

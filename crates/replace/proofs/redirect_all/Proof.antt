@@ -1,8 +1,8 @@
--- `redirect::redirect_all` meets its contract. Assumes nothing.
-use Rattle.redirect.proofs.Turning.{all-turns, all-asks}
+-- `replace::redirect_all` meets its contract. Assumes nothing.
+use Rattle.replace.proofs.Turning.{all-turns, all-asks}
 use borrow.Author.Needs.{needs}
-use Rattle.redirect.proofs.redirect_all.Statement.{statement}
-use Rattle.redirect.proofs.redirect_all.Tie as tie
+use Rattle.replace.proofs.redirect_all.Statement.{statement}
+use Rattle.replace.proofs.redirect_all.Tie as tie
 
 redirect-functions-requires : tie.Need-redirect-functions-requires
 redirect-functions-requires c κs = search needs

@@ -1,11 +1,11 @@
--- `redirect::redirect_one` meets its contract. Assumes nothing.
+-- `replace::redirect_one` meets its contract. Assumes nothing.
 use borrow.Author.Tests.{not-true, not-false}
 use native.Mathlib.Omega.{arith}
-use Rattle.redirect.proofs.Places.{start-in}
-use Rattle.redirect.proofs.Turning.{one-stays, one-turns, one-asks}
+use Rattle.replace.proofs.Places.{start-in}
+use Rattle.replace.proofs.Turning.{one-stays, one-turns, one-asks}
 use borrow.Author.Needs.{needs}
-use Rattle.redirect.proofs.redirect_one.Statement.{statement}
-use Rattle.redirect.proofs.redirect_one.Tie as tie
+use Rattle.replace.proofs.redirect_one.Statement.{statement}
+use Rattle.replace.proofs.redirect_one.Tie as tie
 
 record-at-requires : tie.Need-record-at-requires
 record-at-requires c κs = search needs

@@ -1,10 +1,10 @@
--- `redirect::omitted` meets its contract. Assumes nothing.
+-- `replace::omitted` meets its contract. Assumes nothing.
 use Prim.Native.Nat.{_-_}
 use lib.ListN.{length}
-use Rattle.redirect.proofs.Leaves.{Omits, omits-begin, omits-yes, omits-next, omits-done}
+use Rattle.replace.proofs.Leaves.{Omits, omits-begin, omits-yes, omits-next, omits-done}
 use borrow.Author.Needs.{needs}
-use Rattle.redirect.proofs.omitted.Statement.{statement}
-use Rattle.redirect.proofs.omitted.Tie as tie
+use Rattle.replace.proofs.omitted.Statement.{statement}
+use Rattle.replace.proofs.omitted.Tie as tie
 
 abbrev Inv-loop : tie.InvT-loop
 Inv-loop omit w i₀ i = Omits omit w i

@@ -1,8 +1,8 @@
--- `redirect::stays` meets its contract. Assumes nothing.
-use Rattle.redirect.proofs.Leaves.{stays-here, stays-omitted}
+-- `replace::stays` meets its contract. Assumes nothing.
+use Rattle.replace.proofs.Leaves.{stays-here, stays-omitted}
 use borrow.Author.Needs.{needs}
-use Rattle.redirect.proofs.stays.Statement.{statement}
-use Rattle.redirect.proofs.stays.Tie as tie
+use Rattle.replace.proofs.stays.Statement.{statement}
+use Rattle.replace.proofs.stays.Tie as tie
 
 wide-requires : tie.Need-wide-requires
 wide-requires c κs = search needs

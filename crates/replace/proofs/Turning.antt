@@ -21,9 +21,9 @@ use Rattle.laws.specs.Carries.{carried-classes, carried-words, flat-carry-funct
 use Rattle.laws.specs.Sections.{slice-middle}
 use Rattle.laws.specs.Views.{length-write, view-length, view-next, view-within}
 use Rattle.laws.specs.FunctionViews.{taped-write, taped-offset, taped-record, taped-count, part-end}
-use Rattle.redirect.specs.Passes.{Turns, turned, turnOne, turnAll, redirectedBy}
-use Rattle.redirect.proofs.Contexts.{function-before, function-behind, function-in, function-here, function-long, entries-before, entries-behind, entries-in, entries-long}
-use Rattle.redirect.proofs.Places.{many, standing, end-in, name-is}
+use Rattle.replace.specs.Turns.{Turns, turned, turnOne, turnAll, redirectedBy}
+use Rattle.replace.proofs.Contexts.{function-before, function-behind, function-in, function-here, function-long, entries-before, entries-behind, entries-in, entries-long}
+use Rattle.replace.proofs.Places.{many, standing, end-in, name-is}
 
 -- ---- the map keeps counts, lengths, kinds and offsets
 pub redirecting-keeps : (a b : ℕ) → Keeps (redirecting a b)
