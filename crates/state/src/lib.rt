@@ -1,7 +1,7 @@
 // The state of a session, in arrays that the caller lends: a log of derived words and their classes, where each record starts in it, where the numbers of
 // the source went, marks of the records that are there; the counts go by value. A record is a count and that many words. What a record of the source becomes
 // is compared with a record that is there, hashed, and written.
-use names::mix;
+use distinct::mix;
 use std::num::wrapping_add_u32;
 use words::wide;
 ghost use mathlib.Core.Path.{_≡_};
