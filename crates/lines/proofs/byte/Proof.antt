@@ -1,12 +1,12 @@
--- `listing::byte` meets its contract: byte k is byte k % 4 of word k / 4. Assumes nothing.
+-- `lines::byte` meets its contract: byte k is byte k % 4 of word k / 4. Assumes nothing.
 use native.Mathlib.Nat.{mod-lt, zero-lt-suc}
 use native.Mathlib.Omega.{arith}
 use Prim.Native.Nat.{ℕ, _%_, _<_}
 use mathlib.Core.Path.{_≡_}
 use borrow.Author.Needs.{needs}
-use Rattle.listing.proofs.Bytes.{byte-is}
-use Rattle.listing.proofs.byte.Statement.{statement}
-use Rattle.listing.proofs.byte.Tie as tie
+use Rattle.lines.proofs.Bytes.{byte-is}
+use Rattle.lines.proofs.byte.Statement.{statement}
+use Rattle.lines.proofs.byte.Tie as tie
 
 add-w : tie.Need-add-w
 add-w c = search needs

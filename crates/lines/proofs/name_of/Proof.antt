@@ -1,9 +1,9 @@
--- `listing::name_of` meets its contract: the first word of a function is its name. Assumes nothing.
-use Rattle.listing.proofs.Joining.{word-some, slot-is, place-is}
+-- `lines::name_of` meets its contract: the first word of a function is its name. Assumes nothing.
+use Rattle.lines.proofs.Joining.{word-some, slot-is, place-is}
 use native.Mathlib.Omega.{arith}
 use borrow.Author.Needs.{needs}
-use Rattle.listing.proofs.name_of.Statement.{statement}
-use Rattle.listing.proofs.name_of.Tie as tie
+use Rattle.lines.proofs.name_of.Statement.{statement}
+use Rattle.lines.proofs.name_of.Tie as tie
 
 start-of-requires : tie.Need-start-of-requires
 start-of-requires c κs = search needs

@@ -10,7 +10,7 @@ use lib.Seq.{sets, drop-cons, drop-length, getD-take, getD-drop, length-take-le,
 use borrow.Author.Tests.{lt-ltb, le-ltb}
 use Rattle.words.specs.Words.{bytesOf}
 use Rattle.words.proofs.Laws.{length-bytesOf}
-use Rattle.listing.specs.Lines.{decimal, textAt, Puts, Room}
+use Rattle.lines.specs.Lines.{decimal, textAt, Puts, Room}
 
 -- ---- one byte: byte s of a word
 abbrev part : ℕ → ℕ → ℕ

@@ -1,11 +1,11 @@
--- `listing::head` meets its contract. Assumes nothing.
+-- `lines::head` meets its contract. Assumes nothing.
 use mathlib.Core.Path.{_∙_}
 use native.Mathlib.Omega.{arith}
-use Rattle.listing.proofs.Bytes.{puts-long}
-use Rattle.listing.proofs.Joining.{decimal-long, headed-end}
+use Rattle.lines.proofs.Bytes.{puts-long}
+use Rattle.lines.proofs.Joining.{decimal-long, headed-end}
 use borrow.Author.Needs.{needs}
-use Rattle.listing.proofs.head.Statement.{statement}
-use Rattle.listing.proofs.head.Tie as tie
+use Rattle.lines.proofs.head.Statement.{statement}
+use Rattle.lines.proofs.head.Tie as tie
 
 put-text-requires : tie.Need-put-text-requires
 put-text-requires c κs = search needs

@@ -10,8 +10,8 @@ use lib.ListN.{length, getD, take, drop, length-append}
 use lib.Seq.{sets, drop-cons, drop-length, getD-take, length-take-le}
 use Rattle.model.specs.Module.{offsetAt}
 use Rattle.model.specs.View.{recordAt}
-use Rattle.listing.specs.Lines.{decimal, numbersText, lineText, linesText, headed, FUNCTIONS, orderedText, nameAt, nameIs, textAt, Puts, Room, Readable, Line, Lines, Text}
-use Rattle.listing.proofs.Bytes.{puts-both, puts-long, text-long, sets-append}
+use Rattle.lines.specs.Lines.{decimal, numbersText, lineText, linesText, headed, FUNCTIONS, orderedText, nameAt, nameIs, textAt, Puts, Room, Readable, Line, Lines, Text}
+use Rattle.lines.proofs.Bytes.{puts-both, puts-long, text-long, sets-append}
 
 -- ---- how long the pieces are
 pub decimal-long : (x : ℕ) → (0 < length (decimal x)) × (length (decimal x) ≤ 3)

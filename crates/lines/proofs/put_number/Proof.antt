@@ -1,8 +1,8 @@
--- `listing::put_number` meets its contract: one, two or three digits. Assumes nothing.
+-- `lines::put_number` meets its contract: one, two or three digits. Assumes nothing.
 use borrow.Author.Needs.{needs}
-use Rattle.listing.proofs.Bytes.{puts-one, puts-two, puts-three}
-use Rattle.listing.proofs.put_number.Statement.{statement}
-use Rattle.listing.proofs.put_number.Tie as tie
+use Rattle.lines.proofs.Bytes.{puts-one, puts-two, puts-three}
+use Rattle.lines.proofs.put_number.Statement.{statement}
+use Rattle.lines.proofs.put_number.Tie as tie
 
 digit-requires : tie.Need-digit-requires
 digit-requires c κs = search needs

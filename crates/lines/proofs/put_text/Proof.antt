@@ -1,12 +1,12 @@
--- `listing::put_text` meets its contract. Assumes nothing.
+-- `lines::put_text` meets its contract. Assumes nothing.
 use borrow.Author.Needs.{needs}
 use native.Mathlib.Omega.{arith}
 use mathlib.Core.Path.{refl}
-use Rattle.listing.proofs.Bytes.{Putting, begin, again, finish}
+use Rattle.lines.proofs.Bytes.{Putting, begin, again, finish}
 use Prim.Native.Nat.{_-_}
 use lib.ListN.{length}
-use Rattle.listing.proofs.put_text.Statement.{statement}
-use Rattle.listing.proofs.put_text.Tie as tie
+use Rattle.lines.proofs.put_text.Statement.{statement}
+use Rattle.lines.proofs.put_text.Tie as tie
 
 abbrev Inv-loop : tie.InvT-loop
 Inv-loop text out₀ at i₀ out i = Putting text out₀ at i out

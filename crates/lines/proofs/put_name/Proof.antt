@@ -1,11 +1,11 @@
--- `listing::put_name` meets its contract. The invariant: what is left of the text, put too, is the whole. Assumes nothing.
+-- `lines::put_name` meets its contract. The invariant: what is left of the text, put too, is the whole. Assumes nothing.
 use native.Mathlib.Omega.{arith}
 use Prim.Native.Nat.{_-_}
 use borrow.Author.Needs.{needs}
-use Rattle.listing.specs.Lines.{textAt}
-use Rattle.listing.proofs.Bytes.{Putting, begin, inside, name-again, name-finish}
-use Rattle.listing.proofs.put_name.Statement.{statement}
-use Rattle.listing.proofs.put_name.Tie as tie
+use Rattle.lines.specs.Lines.{textAt}
+use Rattle.lines.proofs.Bytes.{Putting, begin, inside, name-again, name-finish}
+use Rattle.lines.proofs.put_name.Statement.{statement}
+use Rattle.lines.proofs.put_name.Tie as tie
 
 abbrev Inv-loop : tie.InvT-loop
 Inv-loop words p out₀ at n i₀ out i = Putting (textAt words p) out₀ at i out

@@ -1,10 +1,10 @@
--- `listing::lines` meets its contract. Assumes nothing.
+-- `lines::lines` meets its contract. Assumes nothing.
 use borrow.Author.Needs.{needs}
 use native.Mathlib.Omega.{arith}
-use Rattle.listing.proofs.Joining.{Going, lines-begin, line-asks, lines-again, lines-end}
+use Rattle.lines.proofs.Joining.{Going, lines-begin, line-asks, lines-again, lines-end}
 use Prim.Native.Nat.{_-_}
-use Rattle.listing.proofs.lines.Statement.{statement}
-use Rattle.listing.proofs.lines.Tie as tie
+use Rattle.lines.proofs.lines.Statement.{statement}
+use Rattle.lines.proofs.lines.Tie as tie
 
 abbrev Inv-loop : tie.InvT-loop
 Inv-loop words order count out₀ at next₀ i₀ out next i = Going words order count out₀ at i next out

@@ -1,10 +1,10 @@
--- `listing::put_numbers` meets its contract: four pieces, one behind the other. Assumes nothing.
+-- `lines::put_numbers` meets its contract: four pieces, one behind the other. Assumes nothing.
 use mathlib.Core.Path.{_∙_}
 use native.Mathlib.Omega.{arith}
-use Rattle.listing.proofs.Bytes.{puts-long}
-use Rattle.listing.proofs.Joining.{decimal-long, numbers-long, numbers-end}
-use Rattle.listing.proofs.put_numbers.Statement.{statement}
-use Rattle.listing.proofs.put_numbers.Tie as tie
+use Rattle.lines.proofs.Bytes.{puts-long}
+use Rattle.lines.proofs.Joining.{decimal-long, numbers-long, numbers-end}
+use Rattle.lines.proofs.put_numbers.Statement.{statement}
+use Rattle.lines.proofs.put_numbers.Tie as tie
 
 put-number-requires : tie.Need-put-number-requires
 put-number-requires c κs = let p = c .before .pre in let a = c .before .args in (p .0 .0, omega (arith, p .0 .1, numbers-long (a .new) (a .s), decimal-long (a .new) .0, decimal-long (a .s) .0), p .1 .0)

@@ -1,8 +1,8 @@
--- `listing::line` meets its contract: its pieces are put one behind the other. Assumes nothing.
-use Rattle.listing.proofs.Joining.{numbers-fit, name-room, last-fits, last-long, line-end}
+-- `lines::line` meets its contract: its pieces are put one behind the other. Assumes nothing.
+use Rattle.lines.proofs.Joining.{numbers-fit, name-room, last-fits, last-long, line-end}
 use borrow.Author.Needs.{needs}
-use Rattle.listing.proofs.line.Statement.{statement}
-use Rattle.listing.proofs.line.Tie as tie
+use Rattle.lines.proofs.line.Statement.{statement}
+use Rattle.lines.proofs.line.Tie as tie
 
 put-numbers-requires : tie.Need-put-numbers-requires
 put-numbers-requires c κs = let p = c .before .pre in ((p .long, numbers-fit p), (p .new-few, p .few))

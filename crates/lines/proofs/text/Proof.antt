@@ -1,8 +1,8 @@
--- `listing::text` meets its contract: the first line, and the lines. Assumes nothing.
-use Rattle.listing.proofs.Joining.{text-lines, text-end}
+-- `lines::text` meets its contract: the first line, and the lines. Assumes nothing.
+use Rattle.lines.proofs.Joining.{text-lines, text-end}
 use borrow.Author.Needs.{needs}
-use Rattle.listing.proofs.text.Statement.{statement}
-use Rattle.listing.proofs.text.Tie as tie
+use Rattle.lines.proofs.text.Statement.{statement}
+use Rattle.lines.proofs.text.Tie as tie
 
 slice-aggregate-head : tie.Need-slice-aggregate-head
 slice-aggregate-head c = search needs
