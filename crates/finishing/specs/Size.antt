@@ -41,18 +41,18 @@ pub record Under (m t : Module) : Type 0 where
   pub rays-in : length (m .special .rays) ≤ length (t .special .rays)
   pub pairs-in : Smaller (m .special .pairs) (t .special .pairs)
 
-table-length : (rs : List Cells) → length (flatTable rs) ≡ length rs + length (flatAll rs)
+pub table-length : (rs : List Cells) → length (flatTable rs) ≡ length rs + length (flatAll rs)
 unfolding flatTable
 table-length rs = length-append (places (length rs) rs) (flatAll rs) ∙ ap (_+ length (flatAll rs)) (length-places rs (length rs))
 
 smaller-table : {a b : List Cells} → Smaller a b → length (flatTable a) ≤ length (flatTable b)
 smaller-table {a} {b} s = omega (arith, table-length a, table-length b)
 
-special-length : (t : Module) → length (flatSpecial (t .special)) ≡ length (t .special .rays) + length (flatAll (t .special .pairs))
+pub special-length : (t : Module) → length (flatSpecial (t .special)) ≡ length (t .special .rays) + length (flatAll (t .special .pairs))
 unfolding flatSpecial
 special-length t = length-append (t .special .rays) (flatAll (t .special .pairs))
 
-all-length : (t : Module) → length (flatAll (map cellsOf (sections t))) ≡ length (flatTable (t .names)) + (length (flatTable (t .types)) + (length (flatTable (t .constants)) + (length (flatTable (t .overrides)) + (length (flatTable (t .globals)) + (length (flatTable (t .exprs)) + (length (flatTable (map flat (t .functions))) + (length (flatTable (map flatEntry (t .entries))) + length (flatSpecial (t .special)))))))))
+pub all-length : (t : Module) → length (flatAll (map cellsOf (sections t))) ≡ length (flatTable (t .names)) + (length (flatTable (t .types)) + (length (flatTable (t .constants)) + (length (flatTable (t .overrides)) + (length (flatTable (t .globals)) + (length (flatTable (t .exprs)) + (length (flatTable (map flat (t .functions))) + (length (flatTable (map flatEntry (t .entries))) + length (flatSpecial (t .special)))))))))
 unfolding sections flatAll
 all-length t = simp length-append (omega arith)
 

@@ -20,7 +20,7 @@ use Rattle.model.specs.Finish.{namesIn}
 use Rattle.laws.specs.Writing.{write-function, write-entry}
 use Rattle.laws.specs.Betweens.{between-next, slice-none}
 use Rattle.state.specs.Flats.{functionIn, functionOf, entryIn, entryOf, pairsAt, specialOf}
-use Rattle.state.specs.Held.{recAt, Named, Nameless}
+use Rattle.state.specs.Held.{recAt, recsAt, tableOf, entriesOf, sizeR, Named, Nameless}
 use Rattle.state.proofs.State.{same-or}
 
 -- ---- flat records
@@ -73,3 +73,8 @@ special-words ws n h =
     let b = slice-cons 1 (3 + 2 * n) ws 0 (omega arith) h in
     let c = slice-cons 2 (3 + 2 * n) ws 0 (omega arith) h in
     rw (pairs-words ws n 3 h) (sym (a ∙ rw (b, c)))
+
+-- ---- arrays that hold no entry points
+pub none-held : (log tags : List ℕ) (starts : List (List ℕ)) (counts : List ℕ) → getD counts 7 0 ≡ 0 → (entriesOf log tags starts counts ≡ []) × (sizeR (tableOf log tags starts counts 7) ≡ 0)
+unfolding entriesOf sizeR recsAt
+none-held log tags starts counts e = (rw e, rw e)

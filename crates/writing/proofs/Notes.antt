@@ -12,7 +12,8 @@ use Rattle.model.specs.Between.{between}
 use Rattle.model.specs.Finish.{namesIn, firsts, keepN}
 use Rattle.laws.specs.Betweens.{between-none, between-next}
 use Rattle.writing.specs.Flat.{firstsR, firstsT}
-use Rattle.writing.specs.Held.{recAt, recsAt, tabsOf, Rec, Row, Rows, Noted}
+use Rattle.state.specs.Held.{recAt, recsAt}
+use Rattle.writing.specs.Held.{tabsOf, Rec, Row, Rows, Noted}
 use Rattle.writing.proofs.Names.{noted-self, firsts-cell}
 
 -- ---- a record

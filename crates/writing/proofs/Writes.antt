@@ -15,7 +15,8 @@ use Rattle.model.specs.Table.{NAME}
 use Rattle.model.specs.Between.{beside, between}
 use Rattle.laws.specs.Betweens.{between-none, between-next}
 use Rattle.writing.specs.Flat.{lengths, tableSize, offsets, joined, tableWords}
-use Rattle.writing.specs.Held.{recAt, recsAt, Rec, Row, behind, named}
+use Rattle.state.specs.Held.{recAt, recsAt}
+use Rattle.writing.specs.Held.{Rec, Row, behind, named}
 use Rattle.writing.proofs.Notes.{recs-next, recs-none}
 
 pub sets-append : (vs l : List ℕ) (i : ℕ) (us : List ℕ) → sets l i (vs ++ us) ≡ sets (sets l i vs) (i + length vs) us

@@ -16,7 +16,8 @@ ghost use lib.Seq.{sets};
 ghost use Rattle.model.specs.Table.{NAME};
 ghost use Rattle.model.specs.Finish.{namesIn, firsts, keepN};
 ghost use Rattle.writing.specs.Flat.{firstsR, firstsT, lengths, tableSize, offsets, joined, tableWords, sizes, heads, tables, total, imageWords, finishedWords};
-ghost use Rattle.writing.specs.Held.{recAt, recsAt, tabsOf, Rec, Row, Rows, Derived, Noted, behind, named, Finishes, Stored};
+ghost use Rattle.state.specs.Held.{recAt, recsAt};
+ghost use Rattle.writing.specs.Held.{tabsOf, Rec, Row, Rows, Derived, Noted, behind, named, Finishes, Stored};
 
 // How many functions and entry points an image may have.
 const MOST_FUNCTIONS: usize = 256;

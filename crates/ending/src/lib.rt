@@ -1,0 +1,25 @@
+// The end of a session: the state that the arrays hold, written out as an image.
+use state::Ends;
+use writing::Answer;
+ghost use mathlib.Core.Path.{_≡_};
+ghost use lib.ListN.{length};
+ghost use Rattle.ending.specs.Told.{Held, Ended};
+
+// The derived module in bytes, with the entry points that the arrays hold: 21 where it is too large, 7 where it does not fit in the output; then the output
+// is as it was.
+pub fn finish(
+    log: &[u32; 16384],
+    classes: &[u8; 16384],
+    starts: &[[u32; 512]; 8],
+    special: &[u32; 1027],
+    ends: Ends,
+    output: &mut [u8],
+) -> Answer
+    requires { ⌜ Held (now log) (now classes) (now starts) ends ⌝ }
+    requires { ⌜ length (now special) ≡ 1027 ⌝ }
+    ensures { λ r. ⌜ Ended (now (log .entry)) (now (classes .entry)) (now (starts .entry)) (now (special .entry)) ends (now (output .entry)) (r .refusal) (r .bytes) (now (output .exit)) ⌝ }
+{
+    let counts = ends.counts;
+    let pairs = ends.pairs;
+    writing::finish(log, classes, starts, counts, special, pairs, output)
+}

@@ -1,0 +1,205 @@
+// What a function refers to outside itself: records of tables, by the words of one of its expressions or of another stretch.
+use classes::EXPR;
+use handles::ConstantHandle;
+use handles::ExpressionHandle;
+use handles::GlobalHandle;
+use handles::OverrideHandle;
+use handles::TypeHandle;
+use import::import_const;
+use import::import_global;
+use import::import_global_expression;
+use import::import_name;
+use import::import_pipeline_override;
+use import::import_type;
+use import::refers_to;
+use state::Ends;
+use views::CONSTANTS;
+use views::EXPRESSIONS;
+use views::GLOBALS;
+use views::NAMES;
+use views::OVERRIDES;
+use views::TYPES;
+ghost use mathlib.Core.Path.{_≡_};
+ghost use mathlib.Core.Bool.{false};
+ghost use Prim.Native.Nat.{_<_};
+ghost use Rattle.model.specs.Module.{countAt};
+ghost use Rattle.model.specs.Between.{between};
+ghost use Rattle.passes.specs.Operands.{outward};
+ghost use Rattle.passes.specs.Light.{still};
+ghost use Rattle.state.specs.Source.{modOf, srcOf};
+ghost use Rattle.state.specs.Held.{Kept, Lands};
+ghost use Rattle.ground.specs.Fits.{Ground, Legible, recordOf};
+
+// Record h of table t; nothing where t is no table.
+pub fn import_record(
+    words: &[u32; 16384],
+    tags: &[u8; 16384],
+    kinds: &[u8; 256],
+    n: usize,
+    log: &mut [u32; 16384],
+    classes: &mut [u8; 16384],
+    starts: &mut [[u32; 512]; 8],
+    maps: &mut [[u32; 512]; 6],
+    marks: &mut [u16; 16384],
+    ends: Ends,
+    offset: u32,
+    t: usize,
+    h: u32,
+) -> Ends
+    requires { ⌜ Ground (now words) (now tags) (now kinds) n ⌝ }
+    requires { ⌜ (t < 6 → h < countAt t (now words)) ⌝ }
+    requires { ⌜ ends .full ≡ false ⌝ }
+    requires { ⌜ Kept (now log) (now classes) (now starts) (now maps) (now marks) ends ⌝ }
+    ensures { λ r. ⌜ Lands (now (words .entry)) (recordOf offset (srcOf (now (words .entry)) n) t h) (now (log .entry)) (now (classes .entry)) (now (starts .entry)) (now (maps .entry)) (now (marks .entry)) ends r (now (log .exit)) (now (classes .exit)) (now (starts .exit)) (now (maps .exit)) (now (marks .exit)) ⌝ }
+{
+    if t == NAMES {
+        return import_name(
+            words,
+            tags,
+            kinds,
+            n,
+            log,
+            classes,
+            starts,
+            maps,
+            marks,
+            ends,
+            offset,
+            h,
+        );
+    }
+    if t == TYPES {
+        return import_type(
+            words,
+            tags,
+            kinds,
+            n,
+            log,
+            classes,
+            starts,
+            maps,
+            marks,
+            ends,
+            offset,
+            TypeHandle(h),
+        );
+    }
+    if t == CONSTANTS {
+        return import_const(
+            words,
+            tags,
+            kinds,
+            n,
+            log,
+            classes,
+            starts,
+            maps,
+            marks,
+            ends,
+            offset,
+            ConstantHandle(h),
+        );
+    }
+    if t == OVERRIDES {
+        return import_pipeline_override(
+            words,
+            tags,
+            kinds,
+            n,
+            log,
+            classes,
+            starts,
+            maps,
+            marks,
+            ends,
+            offset,
+            OverrideHandle(h),
+        );
+    }
+    if t == GLOBALS {
+        return import_global(
+            words,
+            tags,
+            kinds,
+            n,
+            log,
+            classes,
+            starts,
+            maps,
+            marks,
+            ends,
+            offset,
+            GlobalHandle(h),
+        );
+    }
+    if t == EXPRESSIONS {
+        return import_global_expression(
+            words,
+            tags,
+            kinds,
+            n,
+            log,
+            classes,
+            starts,
+            maps,
+            marks,
+            ends,
+            offset,
+            ExpressionHandle(h),
+        );
+    }
+    ends
+}
+
+// What the words from `at` to `end` refer to outside the function.
+pub fn import_outside(
+    words: &[u32; 16384],
+    tags: &[u8; 16384],
+    kinds: &[u8; 256],
+    n: usize,
+    log: &mut [u32; 16384],
+    classes: &mut [u8; 16384],
+    starts: &mut [[u32; 512]; 8],
+    maps: &mut [[u32; 512]; 6],
+    marks: &mut [u16; 16384],
+    ends: Ends,
+    offset: u32,
+    at: usize,
+    end: usize,
+) -> Ends
+    requires { ⌜ Ground (now words) (now tags) (now kinds) n ⌝ }
+    requires { ⌜ Legible (now words) (now tags) 1024 at end ⌝ }
+    requires { ⌜ ends .full ≡ false ⌝ }
+    requires { ⌜ Kept (now log) (now classes) (now starts) (now maps) (now marks) ends ⌝ }
+    ensures { λ r. ⌜ Lands (now (words .entry)) (outward offset (modOf (now (words .entry)) n) still (between (now (tags .entry)) (now (words .entry)) at end)) (now (log .entry)) (now (classes .entry)) (now (starts .entry)) (now (maps .entry)) (now (marks .entry)) ends r (now (log .exit)) (now (classes .exit)) (now (starts .exit)) (now (maps .exit)) (now (marks .exit)) ⌝ }
+{
+    let mut e = ends;
+    let mut i = at;
+    while i < end {
+        let j = i;
+        i += 1;
+        let s = tags[j];
+        if s < EXPR {
+            let r = refers_to(kinds, s, words[j]);
+            e = import_record(
+                words,
+                tags,
+                kinds,
+                n,
+                log,
+                classes,
+                starts,
+                maps,
+                marks,
+                e,
+                offset,
+                r.table,
+                r.number,
+            );
+            if e.full {
+                return e;
+            }
+        }
+    }
+    e
+}
