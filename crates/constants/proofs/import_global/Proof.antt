@@ -9,17 +9,17 @@ use Rattle.model.specs.Imports.{importT}
 use Rattle.state.specs.Refers.{tabOf}
 use Rattle.state.specs.Source.{srcOf}
 use Prim.Native.Nat.{_<_}
 use Rattle.import.proofs.Sources.{tape, small-number, readable, plain-name}
 use Rattle.import.proofs.Steps.{past-global}
 use Rattle.import.proofs.Turns.{Turn, turn-known, turn-first, turn-in, turn-number, turn-full, turn-next, turn-skip, turn-allowed, turn-settled, ends-in, lands-at}
-use Rattle.import.proofs.import_global.Statement.{statement}
-use Rattle.import.proofs.import_global.Tie as tie
-use Rattle.import.proofs.import_global.Reads as reads
-use Rattle.import.proofs.import_global.Lts as lts
-use Rattle.import.proofs.import_global_expression.Reads as import-global-expression-reads
+use Rattle.constants.proofs.import_global.Statement.{statement}
+use Rattle.constants.proofs.import_global.Tie as tie
+use Rattle.constants.proofs.import_global.Reads as reads
+use Rattle.constants.proofs.import_global.Lts as lts
+use Rattle.constants.proofs.import_global_expression.Reads as import-global-expression-reads
 use Rattle.import.proofs.import_name.Reads as import-name-reads
 use Rattle.import.proofs.import_type.Reads as import-type-reads
 use Rattle.import.proofs.refers_to.Reads as refers-to-reads
 use Rattle.settle.proofs.settle.Reads as settle-reads
 use Rattle.views.proofs.record_at.Reads as record-at-reads
 use Rattle.views.proofs.record_end.Reads as record-end-reads

@@ -9,32 +9,32 @@ use Rattle.model.specs.Imports.{importT}
 use Rattle.state.specs.Refers.{tabOf}
 use Rattle.state.specs.Source.{srcOf}
 use Rattle.imports.specs.Well.{rank}
 use Rattle.import.proofs.Sources.{tape, small-number, readable, plain-name}
 use Rattle.import.proofs.Steps.{past-const, past-override, past-expr}
 use Rattle.import.proofs.Turns.{Turn, turn-known, turn-first, turn-in, turn-number, turn-full, turn-next, turn-skip, turn-allowed, turn-settled, ends-in, lands-at, turn-falls}
 use Prim.Native.Nat.{ℕ, _<_}
 use borrow.Fn.Kinds.{In}
 use borrow.Fn.PlainCycle.{Measures, is, falls, and}
-use Rattle.import.proofs.import_const.Reads as import-const
-use Rattle.import.proofs.import_const.Kinds as import-const-kinds
-use Rattle.import.proofs.+import_const+import_global_expression+import_pipeline_override.Lts-import_const as import-const-lts
-use Rattle.import.proofs.import_global_expression.Reads as import-global-expression
-use Rattle.import.proofs.import_global_expression.Kinds as import-global-expression-kinds
-use Rattle.import.proofs.+import_const+import_global_expression+import_pipeline_override.Lts-import_global_expression as import-global-expression-lts
-use Rattle.import.proofs.import_pipeline_override.Reads as import-pipeline-override
-use Rattle.import.proofs.import_pipeline_override.Kinds as import-pipeline-override-kinds
-use Rattle.import.proofs.+import_const+import_global_expression+import_pipeline_override.Lts-import_pipeline_override as import-pipeline-override-lts
+use Rattle.constants.proofs.import_const.Reads as import-const
+use Rattle.constants.proofs.import_const.Kinds as import-const-kinds
+use Rattle.constants.proofs.+import_const+import_global_expression+import_pipeline_override.Lts-import_const as import-const-lts
+use Rattle.constants.proofs.import_global_expression.Reads as import-global-expression
+use Rattle.constants.proofs.import_global_expression.Kinds as import-global-expression-kinds
+use Rattle.constants.proofs.+import_const+import_global_expression+import_pipeline_override.Lts-import_global_expression as import-global-expression-lts
+use Rattle.constants.proofs.import_pipeline_override.Reads as import-pipeline-override
+use Rattle.constants.proofs.import_pipeline_override.Kinds as import-pipeline-override-kinds
+use Rattle.constants.proofs.+import_const+import_global_expression+import_pipeline_override.Lts-import_pipeline_override as import-pipeline-override-lts
 use Rattle.import.proofs.import_name.Reads as import-name-reads
 use Rattle.import.proofs.import_type.Reads as import-type-reads
 use Rattle.import.proofs.refers_to.Reads as refers-to-reads
 use Rattle.settle.proofs.settle.Reads as settle-reads
 use Rattle.views.proofs.record_at.Reads as record-at-reads
 use Rattle.views.proofs.record_end.Reads as record-end-reads
 use Rattle.words.proofs.wide.Reads as wide-reads
-use Rattle.import.proofs.+import_const+import_global_expression+import_pipeline_override.{
+use Rattle.constants.proofs.+import_const+import_global_expression+import_pipeline_override.{
   statement,
 }
-use Rattle.import.proofs.+import_const+import_global_expression+import_pipeline_override.Tie.{
+use Rattle.constants.proofs.+import_const+import_global_expression+import_pipeline_override.Tie.{
   close,
 }
 
