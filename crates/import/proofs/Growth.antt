@@ -1,17 +1,18 @@
--- Importing only adds to a state, so that one that is too large stays too large. Assumes nothing.
-use mathlib.Core.Path.{_≡_, refl, sym, ap, _∙_}
+-- Importing, and putting special types, only adds to a state, so that one that is too large stays too large. Assumes nothing.
+use mathlib.Core.Path.{_≡_, refl}
 use mathlib.Core.Bool.{Bool, true, false}
 use mathlib.Core.List.{List, [], _∷_}
-use Prim.Native.Nat.{ℕ, zero, suc, _+_, _*_, _≤_, _<_}
+use Prim.Native.Nat.{ℕ, zero, suc, _+_, _≤_}
 use native.Mathlib.Nat.{le-refl, le-trans}
 use native.Mathlib.Omega.{arith}
-use lib.ListN.{length}
+use lib.ListN.{length, length-append}
 use Rattle.model.specs.Outcome.{Cells}
 use Rattle.model.specs.Tables.{Tab, exprs, at, upd, Tables, recAt, count, mapAt}
 use Rattle.model.specs.References.{Place, table, own, function, Node, refs, each, alike, merged}
 use Rattle.model.specs.Imports.{St, once, settle, commit, stepT, importF, levels, importT}
+use Rattle.model.specs.Special.{force, withSpecial, putRay, putPair}
 use Rattle.imports.specs.TableLaws.{Tab-dec, at-same, at-other}
-use Rattle.state.specs.Held.{sizeR, sizeS, wordsOf, Over, long, many, crowd, keys}
+use Rattle.state.specs.Held.{sizeR, wordsOf, Over, long, many, crowd, keys}
 use Rattle.state.proofs.State.{size-upd}
 
 pub record Grow (s s′ : St) : Type 0 where
@@ -81,3 +82,20 @@ grow-F (suc f) o T t n s =
 pub grow-T : (o : ℕ) (T : Tables) (t : Tab) (n : ℕ) (s : St) → Grow s (importT o T t n s)
 unfolding importT
 grow-T o T t n s = grow-F (levels T) o T t n s
+
+-- ---- other special types
+pub grow-special : (s r : St) → r .recs ≡ s .recs → r .functions ≡ s .functions → length (s .special .pairs) ≤ length (r .special .pairs) → Grow s r
+unfolding wordsOf
+grow-special s r p q l = record { size = rw (p, q) (omega arith); rows = λ t. rw p (le-refl _); functions = rw q (le-refl _); pairs = l }
+
+pub grow-ray : (j n : ℕ) (s : St) → Grow s (putRay j n s)
+unfolding putRay withSpecial
+grow-ray j n s = grow-special s (putRay j n s) refl refl (le-refl _)
+
+pub grow-pair : (key n : ℕ) (s : St) → Grow s (putPair key n s)
+unfolding putPair withSpecial
+grow-pair key n s = grow-special s (putPair key n s) refl refl (rw length-append (omega arith))
+
+pub grow-force : (n v : ℕ) (s : St) → Grow s (force n v s)
+unfolding force
+grow-force n v s = grow-special s (force n v s) refl refl (le-refl _)

@@ -5,20 +5,20 @@ use mathlib.Core.List.{List, [], _∷_, _++_, map}
 use Prim.Native.Nat.{ℕ, suc, _+_, _≤_}
 use native.Mathlib.Nat.{le-refl}
 use native.Mathlib.Omega.{arith}
-use lib.ListN.{length, length-append}
+use lib.ListN.{length-append}
 use Rattle.model.specs.Tree.{Function, Entry, flat, flatEntry}
 use Rattle.model.specs.Module.{Module}
 use Rattle.model.specs.Carry.{WellFormed}
 use Rattle.model.specs.Numbers.{numbered, every, outside, soundEntry}
 use Rattle.model.specs.Tables.{types, tables}
 use Rattle.model.specs.Imports.{St, importT, unmapped, emptied}
-use Rattle.model.specs.Special.{force, withSpecial, putRay, putPair, sourced}
+use Rattle.model.specs.Special.{sourced}
 use Rattle.model.specs.Bodies.{appended, append, follow, entered, entryMade, enterAll, entriesMade}
 use Rattle.laws.specs.Lists.{map-append}
 use Rattle.finishing.specs.Sessions.{Keeping, Setting, function-kept, follow-kept, enter-all-kept, sourced-kept}
 use Rattle.state.specs.Held.{sizeR, wordsOf, Over, long, many, crowd, keys}
 use Rattle.state.proofs.State.{sizeR-append}
-use Rattle.import.proofs.Growth.{Grow, stay, then, over-grow, grow-T}
+use Rattle.import.proofs.Growth.{Grow, stay, then, over-grow, grow-T, grow-special, grow-ray, grow-pair, grow-force}
 use Rattle.limits.specs.Full.{Full, over, entries}
 
 -- ---- one function more
@@ -34,23 +34,7 @@ grow-append f s = record {
 pub grow-keeping : (m : Module) (o : ℕ) (a : St) → Keeping m o (Grow a)
 grow-keeping m o a = record { imports = λ t n s l g. then g (grow-T o (tables m) t n s); appends = λ f s g. then g (grow-append f s) }
 
--- ---- other special types
-grow-special : (s r : St) → r .recs ≡ s .recs → r .functions ≡ s .functions → length (s .special .pairs) ≤ length (r .special .pairs) → Grow s r
-unfolding wordsOf
-grow-special s r p q l = record { size = rw (p, q) (omega arith); rows = λ t. rw p (le-refl _); functions = rw q (le-refl _); pairs = l }
-
-grow-ray : (j n : ℕ) (s : St) → Grow s (putRay j n s)
-unfolding putRay withSpecial
-grow-ray j n s = grow-special s (putRay j n s) refl refl (le-refl _)
-
-grow-pair : (key n : ℕ) (s : St) → Grow s (putPair key n s)
-unfolding putPair withSpecial
-grow-pair key n s = grow-special s (putPair key n s) refl refl (rw length-append (omega arith))
-
-grow-force : (n v : ℕ) (s : St) → Grow s (force n v s)
-unfolding force
-grow-force n v s = grow-special s (force n v s) refl refl (le-refl _)
-
+-- ---- maps do not count
 grow-emptied : (m : Module) (s : St) → Grow s (emptied (unmapped (tables m)) s)
 unfolding emptied
 grow-emptied m s = grow-special s (emptied (unmapped (tables m)) s) refl refl (le-refl _)

@@ -16,11 +16,11 @@ use Rattle.laws.specs.Lists.{and-split}
 use Rattle.state.specs.Refers.{codeP, kindOf, kindsFrom, kindBytes, wentR, Small}
 
 -- ---- a value that a function has on a range of numbers
-abbrev agrees : (ℕ → ℕ) → ℕ → ℕ → ℕ → Bool
+abbrev pub agrees : (ℕ → ℕ) → ℕ → ℕ → ℕ → Bool
 agrees f v lo zero = true
 agrees f v lo (suc n) = eqb v (f lo) && agrees f v (suc lo) n
 
-span-of : (f : ℕ → ℕ) (v lo n : ℕ) → agrees f v lo n ≡ true → (s : ℕ) → lo ≤ s → s < lo + n → v ≡ f s
+pub span-of : (f : ℕ → ℕ) (v lo n : ℕ) → agrees f v lo n ≡ true → (s : ℕ) → lo ≤ s → s < lo + n → v ≡ f s
 span-of f v lo zero e s a b = absurd (omega arith)
 span-of f v lo (suc n) e s a b =
     let q = and-split (eqb v (f lo)) (agrees f v (suc lo) n) e in
@@ -78,7 +78,7 @@ place-six (table t) e = omega (arith, code-low t)
 place-six own e = omega arith
 place-six function e = omega arith
 
-place-top : (p : Place) → codeP p < 8
+pub place-top : (p : Place) → codeP p < 8
 unfolding codeP
 place-top (table t) = omega (arith, code-low t)
 place-top own = omega arith

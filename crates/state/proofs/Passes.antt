@@ -123,56 +123,88 @@ alike-short (c ∷ cs) (d ∷ ds) ne = go (alikeC c d) (alike-short cs ds (λ e.
     go true e = e
     go false e = refl
 
-module _ (words tags log classes : List ℕ) (went : Place → ℕ → ℕ) (at end s : ℕ) where
-  pub record Comparing (i p : ℕ) : Type 0 where
+-- words and classes from `from` to `to` with what the source's words from `at` to `end` become; P holds of what these refer to
+module _ (P : Node → Type 0) (words tags log classes : List ℕ) (went : Place → ℕ → ℕ) (at end from to : ℕ) where
+  pub record Compares (i p : ℕ) : Type 0 where
     pub within : i ≤ end
-    pub level : p + (end - i) ≡ suc s + getD log s 0
-    pub small : All Small (refs (between tags words i end))
-    pub same : alike (between classes log p (suc s + getD log s 0)) (carriedBy went tags words i end) ≡ alike (recAt log classes s) (carriedBy went tags words at end)
+    pub level : p + (end - i) ≡ to
+    pub good : All P (refs (between tags words i end))
+    pub same : alike (between classes log p to) (carriedBy went tags words i end) ≡ alike (between classes log from to) (carriedBy went tags words at end)
 
-  module _ (st : Stretch words tags at end) (sm : All Small (refs (between tags words at end))) (in-log : s + suc (getD log s 0) ≤ 16384) (log-long : length log ≡ 16384) (classes-long : length classes ≡ 16384) where
-    pub compare-short : (n : ℕ) → n ≡ getD log s 0 → (n ≡ end - at → ⊥) → false ≡ alike (recAt log classes s) (carriedBy went tags words at end)
-    unfolding recAt carriedBy
-    compare-short n e ne =
-        sym (alike-short (recAt log classes s) (carriedBy went tags words at end) (λ q.
-        let a = length-between classes log (suc s) (suc s + getD log s 0) (omega arith) (omega arith) in
+  module _ (st : Stretch words tags at end) (gd : All P (refs (between tags words at end))) (rising : from ≤ to) (in-log : to ≤ 16384) (log-long : length log ≡ 16384) (classes-long : length classes ≡ 16384) where
+    pub compares-short : (n : ℕ) → n ≡ to - from → (n ≡ end - at → ⊥) → false ≡ alike (between classes log from to) (carriedBy went tags words at end)
+    unfolding carriedBy
+    compares-short n e ne =
+        sym (alike-short (between classes log from to) (carriedBy went tags words at end) (λ q.
+        let a = length-between classes log from to (omega arith) (omega arith) in
         let b = length-between tags words at end (st .in-tags) (st .in-words) in
         let c = length-map (between tags words at end) (carryCell (through went)) in
         ne (omega arith)))
 
-    pub compare-begin : (n : ℕ) → n ≡ getD log s 0 → n ≡ end - at → Comparing at (s + 1)
-    unfolding recAt
-    compare-begin n e f = record { within = st .rising; level = let r = st .rising in omega arith; small = sm; same = rw add-one }
+    pub compares-begin : (n : ℕ) → n ≡ to - from → n ≡ end - at → Compares at from
+    compares-begin n e f = record { within = st .rising; level = let r = st .rising in omega arith; good = gd; same = refl }
 
-    module _ (i p : ℕ) (inv : Comparing i p) (less : i < end) where
-      pub compare-in : p < 16384
-      compare-in = omega (arith, inv .level)
+    module _ (i p : ℕ) (inv : Compares i p) (less : i < end) where
+      pub compares-in : p < 16384
+      compares-in = omega (arith, inv .level)
 
-      pub compare-small : All Small (refOf (target (getD tags i 0)) (getD words i 0) [])
-      compare-small = all-here tags words i end less (st .in-tags) (st .in-words) Small (inv .small)
+      pub compares-good : All P (refOf (target (getD tags i 0)) (getD words i 0) [])
+      compares-good = all-here tags words i end less (st .in-tags) (st .in-words) P (inv .good)
 
       module _ (y : ℕ) (ye : y ≡ through went (getD tags i 0) (getD words i 0)) (r : Bool) (re : r ≡ alikeC (getD classes p 0, getD log p 0) (getD tags i 0, y)) where
-        cut : elim r [ true ↦ alike (between classes log (suc p) (suc s + getD log s 0)) (carriedBy went tags words (suc i) end) | false ↦ false ] ≡ alike (recAt log classes s) (carriedBy went tags words at end)
+        cut : elim r [ true ↦ alike (between classes log (suc p) to) (carriedBy went tags words (suc i) end) | false ↦ false ] ≡ alike (between classes log from to) (carriedBy went tags words at end)
         unfolding alike
         cut =
-            let b = between-next classes log p (suc s + getD log s 0) (omega (arith, inv .level)) (omega arith) (omega arith) in
+            let b = between-next classes log p to (omega (arith, inv .level)) (omega arith) (omega arith) in
             let c = carried-next tags words i end less (st .in-tags) (st .in-words) went in
             rw (re, ye) (rw (b, c) at (inv .same))
 
-        pub compare-not : r ≡ false → false ≡ alike (recAt log classes s) (carriedBy went tags words at end)
-        compare-not e = rw e at cut
+        pub compares-not : r ≡ false → false ≡ alike (between classes log from to) (carriedBy went tags words at end)
+        compares-not e = rw e at cut
 
-        pub compare-next : r ≡ true → Comparing (i + 1) (p + 1)
-        compare-next e =
+        pub compares-next : r ≡ true → Compares (i + 1) (p + 1)
+        compares-next e =
             rw (add-one i, add-one p)
-            (record { within = less; level = let l = inv .level in omega arith; small = all-next tags words i end less (st .in-tags) (st .in-words) Small (inv .small); same = rw e at cut })
+            (record { within = less; level = let l = inv .level in omega arith; good = all-next tags words i end less (st .in-tags) (st .in-words) P (inv .good); same = rw e at cut })
 
-    pub compare-done : (i p : ℕ) → Comparing i p → end ≤ i → true ≡ alike (recAt log classes s) (carriedBy went tags words at end)
+    pub compares-done : (i p : ℕ) → Compares i p → end ≤ i → true ≡ alike (between classes log from to) (carriedBy went tags words at end)
     unfolding alike
-    compare-done i p inv h =
-        let a = between-none classes log p (suc s + getD log s 0) (omega (arith, inv .level)) in
+    compares-done i p inv h =
+        let a = between-none classes log p to (omega (arith, inv .level)) in
         let b = carried-nothing went tags words i end h in
         rw (a, b) at (inv .same)
+
+-- the same of the record at s
+module _ (words tags log classes : List ℕ) (went : Place → ℕ → ℕ) (at end s : ℕ) where
+  abbrev pub Comparing : ℕ → ℕ → Type 0
+  Comparing i p = Compares Small words tags log classes went at end (suc s) (suc s + getD log s 0) i p
+
+  module _ (st : Stretch words tags at end) (sm : All Small (refs (between tags words at end))) (in-log : s + suc (getD log s 0) ≤ 16384) (log-long : length log ≡ 16384) (classes-long : length classes ≡ 16384) where
+    pub compare-short : (n : ℕ) → n ≡ getD log s 0 → (n ≡ end - at → ⊥) → false ≡ alike (recAt log classes s) (carriedBy went tags words at end)
+    unfolding recAt
+    compare-short n e ne = compares-short Small words tags log classes went at end (suc s) (suc s + getD log s 0) st sm (omega arith) (omega arith) log-long classes-long n (omega arith) ne
+
+    pub compare-begin : (n : ℕ) → n ≡ getD log s 0 → n ≡ end - at → Comparing at (s + 1)
+    compare-begin n e f = rw (add-one s) (compares-begin Small words tags log classes went at end (suc s) (suc s + getD log s 0) st sm (omega arith) (omega arith) log-long classes-long n (omega arith) f)
+
+    module _ (i p : ℕ) (inv : Comparing i p) (less : i < end) where
+      pub compare-in : p < 16384
+      compare-in = compares-in Small words tags log classes went at end (suc s) (suc s + getD log s 0) st sm (omega arith) (omega arith) log-long classes-long i p inv less
+
+      pub compare-small : All Small (refOf (target (getD tags i 0)) (getD words i 0) [])
+      compare-small = all-here tags words i end less (st .in-tags) (st .in-words) Small (inv .good)
+
+      module _ (y : ℕ) (ye : y ≡ through went (getD tags i 0) (getD words i 0)) (r : Bool) (re : r ≡ alikeC (getD classes p 0, getD log p 0) (getD tags i 0, y)) where
+        pub compare-not : r ≡ false → false ≡ alike (recAt log classes s) (carriedBy went tags words at end)
+        unfolding recAt
+        compare-not e = compares-not Small words tags log classes went at end (suc s) (suc s + getD log s 0) st sm (omega arith) (omega arith) log-long classes-long i p inv less y ye r re e
+
+        pub compare-next : r ≡ true → Comparing (i + 1) (p + 1)
+        compare-next e = compares-next Small words tags log classes went at end (suc s) (suc s + getD log s 0) st sm (omega arith) (omega arith) log-long classes-long i p inv less y ye r re e
+
+    pub compare-done : (i p : ℕ) → Comparing i p → end ≤ i → true ≡ alike (recAt log classes s) (carriedBy went tags words at end)
+    unfolding recAt
+    compare-done i p inv h = compares-done Small words tags log classes went at end (suc s) (suc s + getD log s 0) st sm (omega arith) (omega arith) log-long classes-long i p inv h
 
 -- ---- seeking
 pub record Seeks (log classes ss : List ℕ) (c : Cells) (n k : ℕ) : Type 0 where
@@ -204,20 +236,20 @@ module _ (log classes ss : List ℕ) (c : Cells) (n : ℕ) (hn : n ≤ length ss
         let d : drop n (take n ss) ≡ [] = drop-of-length-le (take n ss) {i = n} (omega arith) in
         sym (T .rest ∙ rw (e, d) (add-zero n))
 
--- ---- writing
-module _ (words tags : List ℕ) (went : Place → ℕ → ℕ) (at end to o : ℕ) (log₀ classes₀ : List ℕ) where
+-- ---- writing; P holds of what the source's words refer to
+module _ (P : Node → Type 0) (words tags : List ℕ) (went : Place → ℕ → ℕ) (at end to o : ℕ) (log₀ classes₀ : List ℕ) where
   pub record Writing (log classes : List ℕ) (i p : ℕ) (u : Bool) : Type 0 where
     pub within : i ≤ end
     pub level : p + (end - i) ≤ 16384
     pub long : length log ≡ 16384
     pub long′ : length classes ≡ 16384
-    pub small : All Small (refs (between tags words i end))
+    pub good : All P (refs (between tags words i end))
     pub words-are : sets log p (map word (shift (carriedBy went tags words i end) o u)) ≡ sets log₀ to (map word (shift (carriedBy went tags words at end) o false))
     pub tags-are : sets classes p (map class (shift (carriedBy went tags words i end) o u)) ≡ sets classes₀ to (map class (shift (carriedBy went tags words at end) o false))
 
-  module _ (st : Stretch words tags at end) (sm : All Small (refs (between tags words at end))) (room : to + (end - at) ≤ 16384) (log-long : length log₀ ≡ 16384) (classes-long : length classes₀ ≡ 16384) where
+  module _ (st : Stretch words tags at end) (gd : All P (refs (between tags words at end))) (room : to + (end - at) ≤ 16384) (log-long : length log₀ ≡ 16384) (classes-long : length classes₀ ≡ 16384) where
     pub write-begin : Writing log₀ classes₀ at to false
-    write-begin = record { within = st .rising; level = room; long = log-long; long′ = classes-long; small = sm; words-are = refl; tags-are = refl }
+    write-begin = record { within = st .rising; level = room; long = log-long; long′ = classes-long; good = gd; words-are = refl; tags-are = refl }
 
     module _ (log classes : List ℕ) (i p : ℕ) (u : Bool) (inv : Writing log classes i p u) where
       pub write-done : end ≤ i → Written (shift (carriedBy went tags words at end) o false) to log₀ classes₀ log classes
@@ -227,17 +259,14 @@ module _ (words tags : List ℕ) (went : Place → ℕ → ℕ) (at end to o : �
           record { words-are = rw e at (inv .words-are); tags-are = rw e at (inv .tags-are) }
 
       module _ (less : i < end) where
-        pub write-small : All Small (refOf (target (getD tags i 0)) (getD words i 0) [])
-        write-small = all-here tags words i end less (st .in-tags) (st .in-words) Small (inv .small)
+        pub write-good : All P (refOf (target (getD tags i 0)) (getD words i 0) [])
+        write-good = all-here tags words i end less (st .in-tags) (st .in-words) P (inv .good)
 
-        pub write-rest : (kinds : List ℕ) → Readable words tags kinds at end → Readable words tags kinds (i + 1) end
-        write-rest kinds R = record {
-          stretch = record { rising = omega arith; small = st .small; in-words = st .in-words; in-tags = st .in-tags };
-          words-long = R .words-long;
-          tags-long = R .tags-long;
-          small = rw add-one (all-next tags words i end less (st .in-tags) (st .in-words) Small (inv .small));
-          kinds-are = R .kinds-are;
-        }
+        pub write-stretch : Stretch words tags (i + 1) end
+        write-stretch = record { rising = omega arith; small = st .small; in-words = st .in-words; in-tags = st .in-tags }
+
+        pub write-rest : All P (refs (between tags words (i + 1) end))
+        write-rest = rw add-one (all-next tags words i end less (st .in-tags) (st .in-words) P (inv .good))
 
         pub write-next : (w : ℕ) → w ≡ through went (getD tags i 0) (getD words i 0)
             → (v : Bool) → v ≡ undefinedAt (target (getD tags i 0)) w (firstWord (carriedBy went tags words (i + 1) end)) u → (x : ℕ) → x ≡ moved (target (getD tags i 0)) w o v
@@ -254,7 +283,7 @@ module _ (words tags : List ℕ) (went : Place → ℕ → ℕ) (at end to o : �
               level = let l = inv .level in omega arith;
               long = length-set log p x ∙ inv .long;
               long′ = length-set classes p (getD tags i 0) ∙ inv .long′;
-              small = all-next tags words i end less (st .in-tags) (st .in-words) Small (inv .small);
+              good = all-next tags words i end less (st .in-tags) (st .in-words) P (inv .good);
               words-are = rw (xe, ve′, we) a;
               tags-are = rw (ve′, we) b;
             })

@@ -1,11 +1,13 @@
 // The imports as operations of a session: where the result does not fit, nothing has changed. The starts of records and the maps are copied, and the
-// copies are taken over only where it fits. What was written lies behind the log's end, and a mark that was left costs a search at most.
+// copies are taken over only where it fits. What was written lies behind the log's end, and a mark that was left costs a search at most. What an import
+// answers is the number that the maps have then.
 use handles::ConstantHandle;
 use handles::ExpressionHandle;
 use handles::GlobalHandle;
 use handles::OverrideHandle;
 use handles::TypeHandle;
 use state::Ends;
+use words::wide;
 ghost use mathlib.Core.Path.{_≡_};
 ghost use mathlib.Core.Bool.{true, false};
 ghost use Prim.Native.Nat.{_<_};
@@ -15,10 +17,10 @@ ghost use Rattle.model.specs.Imports.{importT, renamed};
 ghost use Rattle.state.specs.Refers.{kindBytes};
 ghost use Rattle.state.specs.Source.{srcOf, Source};
 ghost use Rattle.state.specs.Held.{Kept, Whole};
-ghost use Rattle.whole.specs.Taken.{TakenOver};
+ghost use Rattle.whole.specs.Taken.{TakenOver, Answers};
 
 // The copies, unless something did not fit.
-fn take_over(
+pub fn take_over(
     starts: &mut [[u32; 512]; 8],
     maps: &mut [[u32; 512]; 6],
     s: &[[u32; 512]; 8],
@@ -32,6 +34,18 @@ fn take_over(
     }
     *starts = *s;
     *maps = *m;
+}
+
+// The derived number that number h of table t is mapped to.
+pub fn handle(maps: &[[u32; 512]; 6], t: usize, h: u32) -> u32
+    requires { ⌜ (t < 6) × (h < 512) ⌝ }
+    ensures { λ r. ⌜ Answers (now (maps .entry)) t h r ⌝ }
+{
+    let v = maps[t][wide(h)];
+    if v == 0 {
+        return 0;
+    }
+    v - 1
 }
 
 // Type h.

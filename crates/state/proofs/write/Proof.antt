@@ -1,8 +1,8 @@
 use native.Mathlib.Omega.{arith}
 use borrow.Author.Needs.{needs}
-use Rattle.state.specs.Refers.{wentR}
+use Rattle.state.specs.Refers.{wentR, Small}
 use Prim.Native.Nat.{_-_}
-use Rattle.state.proofs.Passes.{Writing, write-begin, write-small, write-rest, write-next, write-done}
+use Rattle.state.proofs.Passes.{Writing, write-begin, write-good, write-stretch, write-rest, write-next, write-done}
 use Rattle.state.proofs.write.Statement.{statement}
 use Rattle.state.proofs.write.Tie as tie
 use Rattle.state.proofs.write.Reads as reads
@@ -12,14 +12,14 @@ use Rattle.state.proofs.moved.Reads as moved-reads
 use Rattle.state.proofs.undefined_at.Reads as undefined-at-reads
 
 abbrev Inv-loop : tie.InvT-loop
-Inv-loop words tags kinds log₀ classes₀ maps at end to offset i₀ p₀ u₀ log classes i p u = Writing words tags (wentR maps) at end to offset log₀ classes₀ log classes i p u
+Inv-loop words tags kinds log₀ classes₀ maps at end to offset i₀ p₀ u₀ log classes i p u = Writing Small words tags (wentR maps) at end to offset log₀ classes₀ log classes i p u
 
 abbrev μ-loop : tie.MeasureT-loop
 μ-loop words tags kinds log₀ classes₀ maps at end to offset i₀ p₀ u₀ log classes i p u = end - i
 
 -- src/lib.rt:610:5
 loop-holds : tie.Need-loop-holds Inv-loop μ-loop
-loop-holds c = let a = (c .args) in let p = (c .pre) in write-begin (a .words .now) (a .tags .now) (wentR (a .maps .now)) (a .at) (a .end) (a .to) (a .offset) (a .log .now) (a .classes .now) (p .0 .stretch) (p .0 .small) (p .1 .0) (p .1 .1) (p .1 .2)
+loop-holds c = let a = (c .args) in let p = (c .pre) in write-begin Small (a .words .now) (a .tags .now) (wentR (a .maps .now)) (a .at) (a .end) (a .to) (a .offset) (a .log .now) (a .classes .now) (p .0 .stretch) (p .0 .small) (p .1 .0) (p .1 .1) (p .1 .2)
 
 -- src/lib.rt:613:9
 add-i : tie.Need-add-i Inv-loop μ-loop
@@ -43,11 +43,11 @@ element-copy-out-carried c = search needs
 
 -- src/lib.rt:616:13
 carried-requires : tie.Need-carried-requires Inv-loop μ-loop
-carried-requires c κs = let a = (c .before .before .before .before .args) in let p = (c .before .before .before .before .pre) in let l = (c .before .before .before .loop) in let h = c .before .before .loop-test .taken in (write-small (a .words .now) (a .tags .now) (wentR (a .maps .now)) (a .at) (a .end) (a .to) (a .offset) (a .log .now) (a .classes .now) (p .0 .stretch) (p .0 .small) (p .1 .0) (p .1 .1) (p .1 .2) (l .log) (l .classes) (l .i) (l .p) (l .u) (l .inv) h, (p .1 .3, p .0 .kinds-are))
+carried-requires c κs = let a = (c .before .before .before .before .args) in let p = (c .before .before .before .before .pre) in let l = (c .before .before .before .loop) in let h = c .before .before .loop-test .taken in (write-good Small (a .words .now) (a .tags .now) (wentR (a .maps .now)) (a .at) (a .end) (a .to) (a .offset) (a .log .now) (a .classes .now) (p .0 .stretch) (p .0 .small) (p .1 .0) (p .1 .1) (p .1 .2) (l .log) (l .classes) (l .i) (l .p) (l .u) (l .inv) h, (p .1 .3, p .0 .kinds-are))
 
 -- src/lib.rt:617:9
 undefined-at-requires : tie.Need-undefined-at-requires Inv-loop μ-loop
-undefined-at-requires c κs = let a = (c .before .before .before .before .before .args) in let p = (c .before .before .before .before .before .pre) in let l = (c .before .before .before .before .loop) in let h = c .before .before .before .loop-test .taken in (write-rest (a .words .now) (a .tags .now) (wentR (a .maps .now)) (a .at) (a .end) (a .to) (a .offset) (a .log .now) (a .classes .now) (p .0 .stretch) (p .0 .small) (p .1 .0) (p .1 .1) (p .1 .2) (l .log) (l .classes) (l .i) (l .p) (l .u) (l .inv) h (a .kinds .now) (p .0), p .1 .3)
+undefined-at-requires c κs = let a = (c .before .before .before .before .before .args) in let p = (c .before .before .before .before .before .pre) in let l = (c .before .before .before .before .loop) in let h = c .before .before .before .loop-test .taken in (record { stretch = write-stretch Small (a .words .now) (a .tags .now) (wentR (a .maps .now)) (a .at) (a .end) (a .to) (a .offset) (a .log .now) (a .classes .now) (p .0 .stretch) (p .0 .small) (p .1 .0) (p .1 .1) (p .1 .2) (l .log) (l .classes) (l .i) (l .p) (l .u) (l .inv) h; words-long = p .0 .words-long; tags-long = p .0 .tags-long; small = write-rest Small (a .words .now) (a .tags .now) (wentR (a .maps .now)) (a .at) (a .end) (a .to) (a .offset) (a .log .now) (a .classes .now) (p .0 .stretch) (p .0 .small) (p .1 .0) (p .1 .1) (p .1 .2) (l .log) (l .classes) (l .i) (l .p) (l .u) (l .inv) h; kinds-are = p .0 .kinds-are }, p .1 .3)
 
 -- src/lib.rt:618:18
 moved-requires : tie.Need-moved-requires Inv-loop μ-loop
@@ -71,11 +71,11 @@ loop-less c = search needs
 
 -- src/lib.rt:610:5
 loop-again : tie.Need-loop-again Inv-loop μ-loop
-loop-again c = let a = (c .before .before .before .before .before .before .before .args) in let p = (c .before .before .before .before .before .before .before .pre) in let l = (c .before .before .before .before .before .before .loop) in let h = c .before .before .before .before .before .loop-test .taken in write-next (a .words .now) (a .tags .now) (wentR (a .maps .now)) (a .at) (a .end) (a .to) (a .offset) (a .log .now) (a .classes .now) (p .0 .stretch) (p .0 .small) (p .1 .0) (p .1 .1) (p .1 .2) (l .log) (l .classes) (l .i) (l .p) (l .u) (l .inv) h _ (c .before .before .carried .ensures) _ (c .before .undefined-at .ensures) _ (c .moved .ensures)
+loop-again c = let a = (c .before .before .before .before .before .before .before .args) in let p = (c .before .before .before .before .before .before .before .pre) in let l = (c .before .before .before .before .before .before .loop) in let h = c .before .before .before .before .before .loop-test .taken in write-next Small (a .words .now) (a .tags .now) (wentR (a .maps .now)) (a .at) (a .end) (a .to) (a .offset) (a .log .now) (a .classes .now) (p .0 .stretch) (p .0 .small) (p .1 .0) (p .1 .1) (p .1 .2) (l .log) (l .classes) (l .i) (l .p) (l .u) (l .inv) h _ (c .before .before .carried .ensures) _ (c .before .undefined-at .ensures) _ (c .moved .ensures)
 
 -- src/lib.rt:591:1
 returns : tie.Need-returns Inv-loop μ-loop
-returns c = let a = (c .before .before .args) in let p = (c .before .before .pre) in let l = (c .before .loop) in write-done (a .words .now) (a .tags .now) (wentR (a .maps .now)) (a .at) (a .end) (a .to) (a .offset) (a .log .now) (a .classes .now) (p .0 .stretch) (p .0 .small) (p .1 .0) (p .1 .1) (p .1 .2) (l .log) (l .classes) (l .i) (l .p) (l .u) (l .inv) (c .loop-test .left)
+returns c = let a = (c .before .before .args) in let p = (c .before .before .pre) in let l = (c .before .loop) in write-done Small (a .words .now) (a .tags .now) (wentR (a .maps .now)) (a .at) (a .end) (a .to) (a .offset) (a .log .now) (a .classes .now) (p .0 .stretch) (p .0 .small) (p .1 .0) (p .1 .1) (p .1 .2) (l .log) (l .classes) (l .i) (l .p) (l .u) (l .inv) (c .loop-test .left)
 
 pub write-spec : {M : Type 1} → statement M
 write-spec =

@@ -1,0 +1,544 @@
+// A function under way: its derived expressions on a stack, one behind the other, with the place of each; the words of its declarations and its body on
+// another; and where its expressions went. A word is carried through the maps of the tables, through the function's own map, or to the function of its name.
+// An expression is appended, or, where it belongs to an initialiser, merged.
+use classes::EXPR;
+use classes::EXPR_KIND;
+use classes::NAMED;
+use known::known;
+use state::Ends;
+use state::kind_of;
+use state::moved;
+use state::refuse;
+use words::wide;
+ghost use mathlib.Core.Path.{_≡_};
+ghost use mathlib.Core.Bool.{false};
+ghost use mathlib.Core.List.{[]};
+ghost use Prim.Native.Nat.{_+_, _-_, _≤_, _<_, pred};
+ghost use lib.ListN.{length, drop};
+ghost use lib.Seq.{slice, sets};
+ghost use Rattle.model.specs.References.{target, refOf, through, firstWord, undefinedAt, shift, alikeC, alike as alikeOf, seat as seatOf};
+ghost use Rattle.model.specs.Between.{between};
+ghost use Rattle.model.specs.Bodies.{push as pushE, join};
+ghost use Rattle.imports.specs.RecordLaws.{All};
+ghost use Rattle.initial.specs.Marks.{finds};
+ghost use Rattle.passes.specs.Light.{still};
+ghost use Rattle.state.specs.Source.{modOf};
+ghost use Rattle.state.specs.Held.{row, carriedBy};
+ghost use Rattle.known.specs.Bearing.{Bearing};
+ghost use Rattle.ground.specs.Fits.{FitN, Ground, Legible};
+ghost use Rattle.ground.specs.Cuts.{nextOf, Rising, exprsOf, Expressions};
+ghost use Rattle.making.specs.Stacks.{wentOf, seatsOf, madeOf, Stacks, Under};
+ghost use Rattle.making.specs.Makes.{Lays, Wrote, Pushed};
+
+// The rows of the stacks: words and classes of expressions, where each of them starts, and words of declarations, bodies and names.
+pub const WORDS: usize = 0;
+
+pub const CLASSES: usize = 1;
+
+pub const SEATS: usize = 2;
+
+pub const BODY: usize = 3;
+
+pub fn slot(x: u16) -> usize
+    ensures { λ r. ⌜ (r ≡ x) × (r < 65536) ⌝ }
+{
+    x as usize
+}
+
+// A word of the function's own map, and a class, as the stacks have words.
+fn mapped(x: u16) -> u32
+    ensures { λ r. ⌜ r ≡ x ⌝ }
+{
+    x as u32
+}
+
+fn class_word(s: u8) -> u32
+    ensures { λ r. ⌜ r ≡ s ⌝ }
+{
+    s as u32
+}
+
+// Where each expression record starts, from `at` on, and where the last one ends: a record starts with its kind, and behind the last stands the number of
+// named expressions.
+pub fn index(tags: &[u8; 16384], at: usize, end: usize, places: &mut [u16; 1025])
+    requires { ⌜ (length (now tags) ≡ 16384) × (at ≤ end) × (end ≤ 16384) × (length (finds at (slice at end (now tags))) ≤ 1025) ⌝ }
+    ensures { λ _. ⌜ now (places .exit) ≡ sets (now (places .entry)) 0 (finds at (slice at end (now (tags .entry)))) ⌝ }
+{
+    let mut k = 0;
+    let mut i = at;
+    while i < end {
+        let j = i;
+        i += 1;
+        let s = tags[j];
+        if s == NAMED {
+            places[k] = j as u16;
+            return;
+        }
+        if s == EXPR_KIND {
+            places[k] = j as u16;
+            k += 1;
+        }
+    }
+}
+
+// One less, or 0.
+fn less(v: u32) -> u32
+    ensures { λ r. ⌜ r ≡ pred v ⌝ }
+{
+    if v == 0 {
+        return 0;
+    }
+    v - 1
+}
+
+// A word through the maps.
+pub fn carried(
+    words: &[u32; 16384],
+    tags: &[u8; 16384],
+    kinds: &[u8; 256],
+    n: usize,
+    log: &[u32; 16384],
+    classes: &[u8; 16384],
+    starts: &[[u32; 512]; 8],
+    maps: &[[u32; 512]; 6],
+    em: &[u16; 1024],
+    ends: Ends,
+    s: u8,
+    w: u32,
+) -> u32
+    requires { ⌜ Ground (now words) (now tags) (now kinds) n ⌝ }
+    requires { ⌜ Bearing (now log) (now classes) (now starts) ends ⌝ }
+    requires { ⌜ length (now maps) ≡ 6 ⌝ }
+    requires { ⌜ All (FitN (now words) 1024) (refOf (target s) w []) ⌝ }
+    ensures { λ r. ⌜ r ≡ through (wentOf (now (words .entry)) n (now (log .entry)) (now (classes .entry)) (now (starts .entry)) (now (maps .entry)) ends (now (em .entry))) s w ⌝ }
+{
+    if kind_of(kinds, s) == 7 {
+        return less(known(words, tags, n, log, classes, starts, ends, wide(w)));
+    }
+    if s < EXPR {
+        return state::carried(kinds, maps, s, w);
+    }
+    let u = kind_of(kinds, s);
+    if u == 5 {
+        return less(mapped(em[wide(w)]));
+    }
+    if u == 13 {
+        if w == 0 {
+            return 0;
+        }
+        return mapped(em[wide(w - 1)]);
+    }
+    w
+}
+
+// Whether the span last met is undefined, once the word w of the class s is read, with the words from i on behind it.
+fn undefined_at(
+    words: &[u32; 16384],
+    tags: &[u8; 16384],
+    kinds: &[u8; 256],
+    n: usize,
+    log: &[u32; 16384],
+    classes: &[u8; 16384],
+    starts: &[[u32; 512]; 8],
+    maps: &[[u32; 512]; 6],
+    em: &[u16; 1024],
+    ends: Ends,
+    s: u8,
+    w: u32,
+    i: usize,
+    end: usize,
+    u: bool,
+) -> bool
+    requires { ⌜ Ground (now words) (now tags) (now kinds) n ⌝ }
+    requires { ⌜ Bearing (now log) (now classes) (now starts) ends ⌝ }
+    requires { ⌜ length (now maps) ≡ 6 ⌝ }
+    requires { ⌜ Legible (now words) (now tags) 1024 i end ⌝ }
+    ensures { λ r. ⌜ r ≡ undefinedAt (target s) w (firstWord (carriedBy (wentOf (now (words .entry)) n (now (log .entry)) (now (classes .entry)) (now (starts .entry)) (now (maps .entry)) ends (now (em .entry))) (now (tags .entry)) (now (words .entry)) i end)) u ⌝ }
+{
+    if s != 81 {
+        return u;
+    }
+    if w != 0 {
+        return false;
+    }
+    if i < end {
+        return carried(
+            words,
+            tags,
+            kinds,
+            n,
+            log,
+            classes,
+            starts,
+            maps,
+            em,
+            ends,
+            tags[i],
+            words[i],
+        )
+            == 0;
+    }
+    true
+}
+
+// What the source's words from `at` to `end` become, on the top of the stack of expressions.
+pub fn write(
+    words: &[u32; 16384],
+    tags: &[u8; 16384],
+    kinds: &[u8; 256],
+    n: usize,
+    log: &[u32; 16384],
+    classes: &[u8; 16384],
+    starts: &[[u32; 512]; 8],
+    maps: &[[u32; 512]; 6],
+    em: &[u16; 1024],
+    stacks: &mut [[u32; 16384]; 4],
+    ends: Ends,
+    offset: u32,
+    at: usize,
+    end: usize,
+)
+    requires { ⌜ Ground (now words) (now tags) (now kinds) n ⌝ }
+    requires { ⌜ Bearing (now log) (now classes) (now starts) ends ⌝ }
+    requires { ⌜ length (now maps) ≡ 6 ⌝ }
+    requires { ⌜ Legible (now words) (now tags) 1024 at end ⌝ }
+    requires { ⌜ (Stacks (now stacks) ends) × (ends .et + (end - at) ≤ 16384) ⌝ }
+    ensures { λ _. ⌜ Wrote (shift (carriedBy (wentOf (now (words .entry)) n (now (log .entry)) (now (classes .entry)) (now (starts .entry)) (now (maps .entry)) ends (now (em .entry))) (now (tags .entry)) (now (words .entry)) at end) offset false) (ends .et) (now (stacks .entry)) (now (stacks .exit)) ⌝ }
+{
+    let mut i = at;
+    let mut p = ends.et;
+    let mut u = false;
+    while i < end {
+        let j = i;
+        let q = p;
+        i += 1;
+        p += 1;
+        let s = tags[j];
+        let w = carried(
+            words,
+            tags,
+            kinds,
+            n,
+            log,
+            classes,
+            starts,
+            maps,
+            em,
+            ends,
+            s,
+            words[j],
+        );
+        u = undefined_at(
+            words,
+            tags,
+            kinds,
+            n,
+            log,
+            classes,
+            starts,
+            maps,
+            em,
+            ends,
+            s,
+            w,
+            i,
+            end,
+            u,
+        );
+        stacks[WORDS][q] = moved(s, w, offset, u);
+        stacks[CLASSES][q] = class_word(s);
+    }
+}
+
+// Expression e, of k, is appended.
+pub fn append(
+    words: &[u32; 16384],
+    tags: &[u8; 16384],
+    kinds: &[u8; 256],
+    n: usize,
+    places: &[u16; 1025],
+    log: &[u32; 16384],
+    classes: &[u8; 16384],
+    starts: &[[u32; 512]; 8],
+    maps: &[[u32; 512]; 6],
+    em: &mut [u16; 1024],
+    stacks: &mut [[u32; 16384]; 4],
+    ends: Ends,
+    offset: u32,
+    e1: usize,
+    k: usize,
+    e: usize,
+) -> Ends
+    requires { ⌜ Ground (now words) (now tags) (now kinds) n ⌝ }
+    requires { ⌜ Bearing (now log) (now classes) (now starts) ends ⌝ }
+    requires { ⌜ length (now maps) ≡ 6 ⌝ }
+    requires { ⌜ Expressions (now words) (now tags) (now places) k ⌝ }
+    requires { ⌜ (e < k) × (ends .full ≡ false) ⌝ }
+    requires { ⌜ Under k (now em) (now stacks) e1 ends ⌝ }
+    ensures { λ r. ⌜ Lays (now (words .entry)) k (pushE offset (modOf (now (words .entry)) n) still (exprsOf (now (words .entry)) (now (tags .entry)) (now (places .entry)) k) e) (now (log .entry)) (now (classes .entry)) (now (starts .entry)) (now (maps .entry)) (now (em .entry)) (now (stacks .entry)) e1 ends r (now (em .exit)) (now (stacks .exit)) ⌝ }
+{
+    let at = slot(places[e]);
+    let end = slot(places[e + 1]);
+    let et = ends.et;
+    let made = ends.made;
+    if 16384 - et < end - at {
+        return refuse(ends);
+    }
+    write(
+        words,
+        tags,
+        kinds,
+        n,
+        log,
+        classes,
+        starts,
+        maps,
+        em,
+        stacks,
+        ends,
+        offset,
+        at,
+        end,
+    );
+    stacks[SEATS][e1 + made] = et as u32;
+    em[e] = (made + 1) as u16;
+    let c = ends.counts;
+    Ends {
+        full: false,
+        used: ends.used,
+        counts: c,
+        pairs: ends.pairs,
+        et: et + (end - at),
+        bt: ends.bt,
+        made: made + 1,
+    }
+}
+
+// Whether a word of the stack is a word, unless both are a span's.
+fn alike_cell(a: u32, x: u32, b: u8, y: u32) -> bool
+    ensures { λ r. ⌜ r ≡ alikeC (a, x) (b, y) ⌝ }
+{
+    if a != b as u32 {
+        return false;
+    }
+    if x == y {
+        return true;
+    }
+    if b == 81 {
+        return true;
+    }
+    b == 82
+}
+
+// Whether the expression on the stack from a to b is what the source's words become, spans apart.
+fn alike(
+    words: &[u32; 16384],
+    tags: &[u8; 16384],
+    kinds: &[u8; 256],
+    n: usize,
+    log: &[u32; 16384],
+    classes: &[u8; 16384],
+    starts: &[[u32; 512]; 8],
+    maps: &[[u32; 512]; 6],
+    em: &[u16; 1024],
+    stacks: &[[u32; 16384]; 4],
+    ends: Ends,
+    at: usize,
+    end: usize,
+    a: usize,
+    b: usize,
+) -> bool
+    requires { ⌜ Ground (now words) (now tags) (now kinds) n ⌝ }
+    requires { ⌜ Bearing (now log) (now classes) (now starts) ends ⌝ }
+    requires { ⌜ length (now maps) ≡ 6 ⌝ }
+    requires { ⌜ Legible (now words) (now tags) 1024 at end ⌝ }
+    requires { ⌜ (Stacks (now stacks) ends) × (a ≤ b) × (b ≤ 16384) ⌝ }
+    ensures { λ r. ⌜ r ≡ alikeOf (between (row (now (stacks .entry)) 1) (row (now (stacks .entry)) 0) a b) (carriedBy (wentOf (now (words .entry)) n (now (log .entry)) (now (classes .entry)) (now (starts .entry)) (now (maps .entry)) ends (now (em .entry))) (now (tags .entry)) (now (words .entry)) at end) ⌝ }
+{
+    if b - a != end - at {
+        return false;
+    }
+    let mut i = at;
+    let mut p = a;
+    while i < end {
+        let j = i;
+        let q = p;
+        i += 1;
+        p += 1;
+        let s = tags[j];
+        let y = carried(
+            words,
+            tags,
+            kinds,
+            n,
+            log,
+            classes,
+            starts,
+            maps,
+            em,
+            ends,
+            s,
+            words[j],
+        );
+        if !alike_cell(stacks[CLASSES][q], stacks[WORDS][q], s, y) {
+            return false;
+        }
+    }
+    true
+}
+
+// Where expression k of those on the stack ends.
+fn next(stacks: &[[u32; 16384]; 4], ends: Ends, e1: usize, k: usize) -> usize
+    requires { ⌜ (Stacks (now stacks) ends) × (k < ends .made) × (e1 + ends .made ≤ 16384) ⌝ }
+    ensures { λ r. ⌜ r ≡ nextOf (drop (k + 1) (seatsOf (now (stacks .entry)) e1 ends)) (ends .et) ⌝ }
+{
+    if k + 1 < ends.made {
+        return wide(stacks[SEATS][e1 + k + 1]);
+    }
+    ends.et
+}
+
+// The first expression that is, spans apart, what the source's words become; or how many there are.
+fn seat(
+    words: &[u32; 16384],
+    tags: &[u8; 16384],
+    kinds: &[u8; 256],
+    n: usize,
+    log: &[u32; 16384],
+    classes: &[u8; 16384],
+    starts: &[[u32; 512]; 8],
+    maps: &[[u32; 512]; 6],
+    em: &[u16; 1024],
+    stacks: &[[u32; 16384]; 4],
+    ends: Ends,
+    e1: usize,
+    at: usize,
+    end: usize,
+) -> usize
+    requires { ⌜ Ground (now words) (now tags) (now kinds) n ⌝ }
+    requires { ⌜ Bearing (now log) (now classes) (now starts) ends ⌝ }
+    requires { ⌜ length (now maps) ≡ 6 ⌝ }
+    requires { ⌜ Legible (now words) (now tags) 1024 at end ⌝ }
+    requires { ⌜ (Stacks (now stacks) ends) × (Rising (seatsOf (now stacks) e1 ends) e1 (ends .et)) × (length (seatsOf (now stacks) e1 ends) ≡ ends .made) ⌝ }
+    ensures { λ r. ⌜ r ≡ seatOf (madeOf (now (stacks .entry)) e1 ends) (carriedBy (wentOf (now (words .entry)) n (now (log .entry)) (now (classes .entry)) (now (starts .entry)) (now (maps .entry)) ends (now (em .entry))) (now (tags .entry)) (now (words .entry)) at end) ⌝ }
+{
+    let made = ends.made;
+    let mut k = 0;
+    while k < made {
+        let j = k;
+        k += 1;
+        let a = wide(stacks[SEATS][e1 + j]);
+        let b = next(stacks, ends, e1, j);
+        if alike(
+            words,
+            tags,
+            kinds,
+            n,
+            log,
+            classes,
+            starts,
+            maps,
+            em,
+            stacks,
+            ends,
+            at,
+            end,
+            a,
+            b,
+        ) {
+            return j;
+        }
+    }
+    made
+}
+
+// Expression e is the equal one, or appended.
+pub fn merge(
+    words: &[u32; 16384],
+    tags: &[u8; 16384],
+    kinds: &[u8; 256],
+    n: usize,
+    places: &[u16; 1025],
+    log: &[u32; 16384],
+    classes: &[u8; 16384],
+    starts: &[[u32; 512]; 8],
+    maps: &[[u32; 512]; 6],
+    em: &mut [u16; 1024],
+    stacks: &mut [[u32; 16384]; 4],
+    ends: Ends,
+    offset: u32,
+    e1: usize,
+    k: usize,
+    e: usize,
+) -> Ends
+    requires { ⌜ Ground (now words) (now tags) (now kinds) n ⌝ }
+    requires { ⌜ Bearing (now log) (now classes) (now starts) ends ⌝ }
+    requires { ⌜ length (now maps) ≡ 6 ⌝ }
+    requires { ⌜ Expressions (now words) (now tags) (now places) k ⌝ }
+    requires { ⌜ (e < k) × (ends .full ≡ false) ⌝ }
+    requires { ⌜ Under k (now em) (now stacks) e1 ends ⌝ }
+    ensures { λ r. ⌜ Lays (now (words .entry)) k (join offset (modOf (now (words .entry)) n) still (exprsOf (now (words .entry)) (now (tags .entry)) (now (places .entry)) k) e) (now (log .entry)) (now (classes .entry)) (now (starts .entry)) (now (maps .entry)) (now (em .entry)) (now (stacks .entry)) e1 ends r (now (em .exit)) (now (stacks .exit)) ⌝ }
+{
+    let at = slot(places[e]);
+    let end = slot(places[e + 1]);
+    let j = seat(
+        words,
+        tags,
+        kinds,
+        n,
+        log,
+        classes,
+        starts,
+        maps,
+        em,
+        stacks,
+        ends,
+        e1,
+        at,
+        end,
+    );
+    if j < ends.made {
+        em[e] = (j + 1) as u16;
+        return ends;
+    }
+    append(
+        words,
+        tags,
+        kinds,
+        n,
+        places,
+        log,
+        classes,
+        starts,
+        maps,
+        em,
+        stacks,
+        ends,
+        offset,
+        e1,
+        k,
+        e,
+    )
+}
+
+// One word more of declarations, body or names.
+pub fn push(stacks: &mut [[u32; 16384]; 4], ends: Ends, w: u32) -> Ends
+    requires { ⌜ Stacks (now stacks) ends ⌝ }
+    ensures { λ r. ⌜ Pushed w (now (stacks .entry)) ends r (now (stacks .exit)) ⌝ }
+{
+    let bt = ends.bt;
+    if bt == 16384 {
+        return refuse(ends);
+    }
+    stacks[BODY][bt] = w;
+    let c = ends.counts;
+    Ends {
+        full: false,
+        used: ends.used,
+        counts: c,
+        pairs: ends.pairs,
+        et: ends.et,
+        bt: bt + 1,
+        made: ends.made,
+    }
+}

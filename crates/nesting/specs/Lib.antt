@@ -1,0 +1,6 @@
+pub mod Nested
+pub mod Kept
+pub mod Single
+pub mod Deep
+pub mod Entries
+pub mod Theorems

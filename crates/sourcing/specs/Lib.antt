@@ -1,0 +1,4 @@
+pub mod Derives
+pub mod Cleared
+pub mod Examples
+pub mod Theorems
