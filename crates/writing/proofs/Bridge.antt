@@ -20,8 +20,8 @@ use Rattle.finishing.specs.Classes.{Not, nameless, calm?, calms?}
 use Rattle.finishing.specs.Touching.{Only, only-keeps, same-cells}
 use Rattle.finishing.specs.Finished.{renumber-only}
 use Rattle.finishing.specs.Kept.{Parts}
-use Rattle.writing.specs.Flat.{firstsT, lengths, tableSize, offsets, joined, tableWords, sizes, heads, tables, total, imageWords, chosen, newName, finishedWords, cellsOf}
-use Rattle.writing.proofs.Tables.{length-table}
+use Rattle.sections.specs.Flat.{firstsT, lengths, tableSize, offsets, joined, tableWords, sizes, heads, tables, total, imageWords, chosen, newName, finishedWords, cellsOf}
+use Rattle.sections.proofs.Tables.{length-table}
 use Rattle.writing.proofs.Whole.{namesR, namesT, firsts-tabs, length-tables}
 
 map-append : {A B : Type 0} (f : A → B) (xs ys : List A) → map f (xs ++ ys) ≡ map f xs ++ map f ys
