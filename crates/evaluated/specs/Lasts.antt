@@ -10,7 +10,7 @@ use Rattle.model.specs.Outcome.{Cells}
 use Rattle.model.specs.Operands.{opsOf, resultOf, standingKind, standing}
 use Rattle.model.specs.Scope.{inRange, live, has, addE, addOpt, evalsOpt, callResult, effectResult, allVis}
 use Rattle.evaluated.specs.Fine.{fresh, oneE, nextE, fineE}
-use Rattle.evaluated.specs.Tape.{cellsIn, exprsOf, Exprs, marks}
+use Rattle.evaluated.specs.Tape.{cellsIn, exprsOf, marks}
 
 pub record Scope (count q k : ℕ) (ρ δ u : List ℕ) : Type 0 where
   pub long : length u ≡ 1024

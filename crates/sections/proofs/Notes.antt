@@ -1,15 +1,14 @@
 -- The loops that note names: what is left from here makes the whole. Assumes nothing.
-use mathlib.Core.Path.{_≡_, refl, sym, ap, _∙_}
-use mathlib.Core.List.{List, [], _∷_, _++_}
-use Prim.Native.Nat.{ℕ, zero, suc, _+_, _-_, _≤_, _<_}
+use mathlib.Core.Path.{_≡_, refl, sym, _∙_}
+use mathlib.Core.List.{List, [], _∷_}
+use Prim.Native.Nat.{ℕ, suc, _+_, _-_, _≤_, _<_}
 use native.Mathlib.Numerals.{add-one}
 use native.Mathlib.Omega.{arith}
-use lib.ListN.{length, getD, set, take, drop, drop-of-length-le}
+use lib.ListN.{length, getD, take, drop, drop-of-length-le}
 use lib.Seq.{drop-cons, length-take-le, getD-take}
-use Rattle.model.specs.Outcome.{Cell, Cells}
 use Rattle.model.specs.Table.{NAME}
 use Rattle.model.specs.Between.{between}
-use Rattle.model.specs.Finish.{namesIn, firsts, keepN}
+use Rattle.model.specs.Finish.{namesIn, firsts}
 use Rattle.laws.specs.Betweens.{between-none, between-next}
 use Rattle.sections.specs.Flat.{firstsR, firstsT}
 use Rattle.state.specs.Held.{recAt, recsAt}

@@ -1,18 +1,16 @@
 -- Tables one after the other, their sizes and the header. Assumes nothing.
 use mathlib.Core.Path.{_≡_, refl, sym, ap, ap₂, _∙_}
-use mathlib.Core.List.{List, [], _∷_, _++_, map}
-use Prim.Native.Nat.{ℕ, zero, suc, _+_, _*_, _-_, _≤_, _<_}
-use native.Mathlib.Nat.{add-zero}
-use native.Mathlib.Numerals.{add-one}
+use mathlib.Core.List.{List, [], _∷_, map}
+use Prim.Native.Nat.{ℕ, suc, _+_, _*_, _-_, _≤_, _<_}
 use native.Mathlib.Omega.{arith}
 use lib.ListN.{length, getD, set, take, drop, length-set, length-map, length-append}
 use lib.Seq.{sets, length-sets, length-take-le}
 use Rattle.model.specs.Outcome.{Cell, Cells}
 use Rattle.sections.specs.Flat.{lengths, tableSize, offsets, joined, tableWords, sizes, heads, tables}
 use Rattle.state.specs.Held.{recsAt}
-use Rattle.sections.specs.Rows.{tabsOf, Rec, Row, Rows, named}
+use Rattle.sections.specs.Rows.{tabsOf, Row, Rows, named}
 use Rattle.sections.proofs.Notes.{tabs-next, tabs-none}
-use Rattle.sections.proofs.Writes.{sets-append, length-rec, length-recs, length-offsets, row-enough}
+use Rattle.sections.proofs.Writes.{sets-append, length-recs, length-offsets}
 
 -- ---- lengths
 length-joined : (f : Cell → ℕ) (rs : List Cells) → length (joined f rs) ≡ lengths rs

@@ -1,16 +1,14 @@
 -- The loops that write records, offsets and tables: what is left from here makes the whole. Assumes nothing.
-use mathlib.Core.Path.{_≡_, refl, sym, ap, ap₂, _∙_}
-use mathlib.Core.Bool.{Bool, true, false, cond}
+use mathlib.Core.Path.{_≡_, refl, sym, ap, _∙_}
 use mathlib.Core.List.{List, [], _∷_, _++_, map}
-use Prim.Native.Nat.{ℕ, zero, suc, _+_, _*_, _-_, _≤_, _<_}
-use native.Mathlib.Nat.{add-zero, suc-add, add-suc}
+use Prim.Native.Nat.{ℕ, suc, _+_, _*_, _-_, _≤_, _<_}
+use native.Mathlib.Nat.{add-zero}
 use native.Mathlib.Numerals.{add-one}
 use native.Mathlib.Omega.{arith}
-use lib.Dec.{eqb}
-use lib.ListN.{length, getD, set, take, drop, length-set, length-map, length-append, drop-of-length-le}
-use lib.Seq.{sets, slice, length-sets, length-slice, drop-cons, length-take-le, getD-take}
-use borrow.Author.Tests.{eqb-true, eqb-false, eq-eqb, ne-eqb}
-use Rattle.model.specs.Outcome.{Cell, Cells}
+use lib.ListN.{length, getD, set, take, drop, length-set, length-map}
+use lib.Seq.{sets, slice, length-sets, length-slice, length-take-le}
+use borrow.Author.Tests.{ne-eqb}
+use Rattle.model.specs.Outcome.{Cells}
 use Rattle.model.specs.Table.{NAME}
 use Rattle.model.specs.Between.{beside, between}
 use Rattle.laws.specs.Betweens.{between-none, between-next}

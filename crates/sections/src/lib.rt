@@ -4,15 +4,15 @@ use classes::NAME;
 use views::HEADER;
 use words::wide;
 ghost use mathlib.Core.Path.{_≡_};
-ghost use mathlib.Core.List.{List, [], _∷_, map};
-ghost use Prim.Native.Nat.{ℕ, suc, _+_, _*_, _≤_, _<_};
-ghost use lib.ListN.{length, getD, take, drop, set};
+ghost use mathlib.Core.List.{[], _∷_, map};
+ghost use Prim.Native.Nat.{_+_, _*_, _≤_, _<_};
+ghost use lib.ListN.{length, getD, take, drop};
 ghost use lib.Seq.{sets};
 ghost use Rattle.model.specs.Table.{NAME};
 ghost use Rattle.model.specs.Finish.{namesIn, firsts, keepN};
 ghost use Rattle.state.specs.Held.{recAt, recsAt};
 ghost use Rattle.sections.specs.Flat.{firstsR, firstsT, lengths, tableSize, offsets, joined, tableWords, sizes, heads, tables};
-ghost use Rattle.sections.specs.Rows.{tabsOf, Rec, Row, Rows, Noted, behind, named};
+ghost use Rattle.sections.specs.Rows.{tabsOf, Rec, Row, Rows, Noted, named};
 
 // One name met: behind the n that were met, unless it is among them.
 fn note(order: &mut [u32; 512], places: &mut [u32; 512], names: usize, n: usize, m: usize) -> usize

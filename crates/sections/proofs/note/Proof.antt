@@ -1,10 +1,5 @@
-use Prim.Native.Nat.{_-_, _+_}
-use native.Mathlib.Omega.{arith}
-use lib.ListN.{getD, take, drop, set}
-use mathlib.Core.List.{[]}
-use mathlib.Core.Path.{refl, sym, ap, _∙_}
-use native.Mathlib.Numerals.{add-one}
-use Rattle.sections.proofs.Names.{note-same, note-room, note-new, word-plain, word-zero, word-low, word-name}
+use Prim.Native.Nat.{_-_}
+use Rattle.sections.proofs.Names.{note-same, note-room, note-new}
 use borrow.Author.Needs.{needs}
 use Rattle.sections.proofs.note.Statement.{statement}
 use Rattle.sections.proofs.note.Tie as tie

@@ -1,10 +1,6 @@
-use Prim.Native.Nat.{_-_, _+_}
+use Prim.Native.Nat.{_-_}
 use native.Mathlib.Omega.{arith}
-use lib.ListN.{length, getD, take, drop, set}
-use mathlib.Core.List.{[]}
-use mathlib.Core.Path.{refl, sym, ap, _∙_}
-use native.Mathlib.Numerals.{add-one}
-use Rattle.sections.proofs.Tables.{rows-row, rows-few, Tabling, tabling-begin, tabling-room, tabling-next, tabling-done, Summing, summing-begin, summing-next, summing-done, Heading, heading-begin, heading-next, heading-done}
+use Rattle.sections.proofs.Tables.{rows-row, rows-few, Heading, heading-begin, heading-next, heading-done}
 use borrow.Author.Needs.{needs}
 use Rattle.sections.proofs.write_heads.Statement.{statement}
 use Rattle.sections.proofs.write_heads.Tie as tie
