@@ -56,15 +56,12 @@ pub fn keep_names(
         if v != 0 {
             let j = slot(seats[v - 1]);
             if j == 0 {
+                if e.bt > 16382 {
+                    return refuse(e);
+                }
                 seats[v - 1] = ((e.bt - b) / 2 + 1) as u16;
                 e = push(stacks, e, (v - 1) as u32);
-                if e.full {
-                    return e;
-                }
                 e = push(stacks, e, words[q + 1]);
-                if e.full {
-                    return e;
-                }
             } else {
                 stacks[BODY][b + 2 * j - 1] = words[q + 1];
             }
