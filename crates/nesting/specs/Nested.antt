@@ -7,9 +7,10 @@ use Prim.Native.Nat.{ℕ, zero, suc}
 use lib.ListN.{length}
 use Rattle.model.specs.Outcome.{Cells, class, word}
 use Rattle.model.specs.Table.{EXPRESSIONS, NAMED, CALLEE}
-use Rattle.model.specs.Tree.{Function, flatList, flatBlock, flat, Entry, flatEntry}
+use Rattle.model.specs.Tree.{Function, flatList, flatBlock, flat, Entry}
 use Rattle.model.specs.Module.{Module}
 use Rattle.model.specs.Redirect.{function as functionAt}
+use Rattle.model.specs.Tables.{names, count}
 use Rattle.model.specs.Imports.{St, once}
 use Rattle.model.specs.Bodies.{known, Making, carried, unique, keepNames, appended}
 use Rattle.bodies.specs.Shallow.{need, glance}
@@ -17,6 +18,7 @@ use Rattle.passes.specs.Pass.{passed, after, written, named, rows, front, begin
 use Rattle.passes.specs.Light.{still}
 use Rattle.passes.specs.Operands.{outward, inside}
 use Rattle.state.specs.Flats.{functionOf, entryOf}
+use Rattle.state.specs.Held.{Named}
 
 -- o is the offset of spans, M the source
 module _ (o : ℕ) (M : Module) where
@@ -76,9 +78,10 @@ module _ (o : ℕ) (M : Module) where
   unfoldable pub entryS : (ℕ → St → St) → Entry → St → Entry
   entryS follow e s = entryOf (entryCellsS follow e s)
 
-  -- ---- records that can be read: that of a function, and those of the functions that its calls bring
-  unfoldable pub Reads : Cells → Type 0
-  Reads cs = flat (functionOf cs) ≡ cs
+  -- ---- records that can be read, whose names are among so many: that of a function, and those of the functions that its calls bring
+  pub record Reads (n : ℕ) (cs : Cells) : Type 0 where
+    pub whole : flat (functionOf cs) ≡ cs
+    pub named : Named n cs
 
   module _ (ready : ℕ → St → Type 0) (follow : ℕ → St → St) (F : Function) where
     -- from any cell of the body on
@@ -87,7 +90,7 @@ module _ (o : ℕ) (M : Module) where
     ReadyFrom (c ∷ cs) m = (class c ≡ CALLEE → ready (word c) (m .out)) × ReadyFrom cs (passed o M follow (need o M still (F .exprs)) (glance o M still (F .exprs)) c cs m)
 
     unfoldable pub ReadyF : St → Type 0
-    ReadyF s = Reads (cellsS follow F s) × ReadyFrom (flatBlock (F .body)) (declaredS follow F s)
+    ReadyF s = Reads (count (finalS follow F s .out .recs) names) (cellsS follow F s) × ReadyFrom (flatBlock (F .body)) (declaredS follow F s)
 
   unfoldable pub Ready : ℕ → ℕ → St → Type 0
   Ready zero n s = Unit {0}
