@@ -148,7 +148,7 @@ never true h = absurd (h refl)
 never false h = refl
 
 -- at function i: the session is live, and what is left to append gives the whole
-pub record Along (words tape kinds : List ℕ) (n : ℕ) (order : List ℕ) (all : ℕ) (whole : St) (i : ℕ) (log tags : List ℕ) (starts maps : List (List ℕ)) (marks special : List ℕ) (stacks : List (List ℕ)) (e : Ends) : Type 0 where
+pub record Turn (words tape kinds : List ℕ) (n : ℕ) (order : List ℕ) (all : ℕ) (whole : St) (i : ℕ) (log tags : List ℕ) (starts maps : List (List ℕ)) (marks special : List ℕ) (stacks : List (List ℕ)) (e : Ends) : Type 0 where
   pub upto : i ≤ all
   pub live : Live true n 0 words tape kinds log tags starts maps marks special e
   pub stacks-are : Stacks stacks e
@@ -160,10 +160,10 @@ module _ (words tape kinds : List ℕ) (n : ℕ) (order : List ℕ) (all : ℕ) 
     pub few-all : all ≤ 256
     few-all = omega (arith, S .counts, live-count L, few (L .taped refl))
 
-    pub along-first : Stacks stacks e → Roomy (modOf words n) (take all order) (stOf words log tags starts maps special e) → Along words tape kinds n order all (appendAll (take all order) 0 (modOf words n) (stOf words log tags starts maps special e)) 0 log tags starts maps marks special stacks e
-    along-first K R = record { upto = omega arith; live = L; stacks-are = K; roomy = R; left = refl }
+    pub turn-first : Stacks stacks e → Roomy (modOf words n) (take all order) (stOf words log tags starts maps special e) → Turn words tape kinds n order all (appendAll (take all order) 0 (modOf words n) (stOf words log tags starts maps special e)) 0 log tags starts maps marks special stacks e
+    turn-first K R = record { upto = omega arith; live = L; stacks-are = K; roomy = R; left = refl }
 
-  module _ (whole : St) (i : ℕ) (log₀ tags₀ : List ℕ) (starts₀ maps₀ : List (List ℕ)) (marks₀ special : List ℕ) (stacks₀ : List (List ℕ)) (e : Ends) (A : Along words tape kinds n order all whole i log₀ tags₀ starts₀ maps₀ marks₀ special stacks₀ e) where
+  module _ (whole : St) (i : ℕ) (log₀ tags₀ : List ℕ) (starts₀ maps₀ : List (List ℕ)) (marks₀ special : List ℕ) (stacks₀ : List (List ℕ)) (e : Ends) (A : Turn words tape kinds n order all whole i log₀ tags₀ starts₀ maps₀ marks₀ special stacks₀ e) where
     module _ (go : i < all) (f : ℕ) (fs : f ≡ getD order i 0) where
       cons : slice i all order ≡ f ∷ slice (suc i) all order
       cons = slice-cons i all order 0 go (omega (arith, few-all log₀ tags₀ starts₀ maps₀ marks₀ special stacks₀ e (A .live), S .long)) ∙ ap (λ (k : ℕ). k ∷ slice (suc i) all order) (sym fs)
@@ -171,12 +171,12 @@ module _ (words tape kinds : List ℕ) (n : ℕ) (order : List ℕ) (all : ℕ) 
       roomy-cons : Roomy (modOf words n) (f ∷ slice (suc i) all order) (stOf words log₀ tags₀ starts₀ maps₀ special e)
       roomy-cons = subst (λ (l : List ℕ). Roomy (modOf words n) l (stOf words log₀ tags₀ starts₀ maps₀ special e)) cons (A .roomy)
 
-      pub along-asks : Ground words tape kinds n × (f < countAt 6 words) × NestedF words n log₀ tags₀ starts₀ maps₀ e 0 all (function (modOf words n) f) × ((e .full ≡ false) × (Stacks stacks₀ e)) × Kept log₀ tags₀ starts₀ maps₀ marks₀ e
-      along-asks =
+      pub turn-asks : Ground words tape kinds n × (f < countAt 6 words) × NestedF words n log₀ tags₀ starts₀ maps₀ e 0 all (function (modOf words n) f) × ((e .full ≡ false) × (Stacks stacks₀ e)) × Kept log₀ tags₀ starts₀ maps₀ marks₀ e
+      turn-asks =
           (live-ground (A .live), next-low words tape kinds n order all S log₀ tags₀ starts₀ maps₀ marks₀ special e (A .live) f (slice (suc i) all order) roomy-cons, next-nested words tape kinds n order all S log₀ tags₀ starts₀ maps₀ marks₀ special e (A .live) f (slice (suc i) all order) roomy-cons, (A .live .going, A .stacks-are), A .live .kept)
 
       behind : (r : Ends) (log tags : List ℕ) (starts maps : List (List ℕ)) (marks : List ℕ) (stacks : List (List ℕ)) → Nests words (ReadyF 0 (modOf words n) (Ready 0 (modOf words n) all) (followS 0 (modOf words n) all) (function (modOf words n) f)) (appendS 0 (modOf words n) (followS 0 (modOf words n) all) f) log₀ tags₀ starts₀ maps₀ marks₀ stacks₀ e r log tags starts maps marks stacks
-          → Along words tape kinds n order all whole (suc i) log tags starts maps marks special stacks r
+          → Turn words tape kinds n order all whole (suc i) log tags starts maps marks special stacks r
       behind r log tags starts maps marks stacks N =
           let q = never (r .full) (next-room words tape kinds n order all S log₀ tags₀ starts₀ maps₀ marks₀ special e (A .live) f (slice (suc i) all order) roomy-cons stacks₀ r log tags starts maps marks stacks N) in
           record {
@@ -187,13 +187,13 @@ module _ (words tape kinds : List ℕ) (n : ℕ) (order : List ℕ) (all : ℕ) 
             left = next-left words tape kinds n order all S log₀ tags₀ starts₀ maps₀ marks₀ special e (A .live) f (slice (suc i) all order) roomy-cons stacks₀ r log tags starts maps marks stacks N q ∙ sym (ap (λ (l : List ℕ). appendAll l 0 (modOf words n) (stOf words log₀ tags₀ starts₀ maps₀ special e)) cons) ∙ A .left;
           }
 
-      pub along-next : (r : Ends) (log tags : List ℕ) (starts maps : List (List ℕ)) (marks : List ℕ) (stacks : List (List ℕ)) → Nests words (ReadyF 0 (modOf words n) (Ready 0 (modOf words n) all) (followS 0 (modOf words n) all) (function (modOf words n) f)) (appendS 0 (modOf words n) (followS 0 (modOf words n) all) f) log₀ tags₀ starts₀ maps₀ marks₀ stacks₀ e r log tags starts maps marks stacks
-          → Along words tape kinds n order all whole (i + 1) log tags starts maps marks special stacks r
-      along-next r log tags starts maps marks stacks N = subst (λ (k : ℕ). Along words tape kinds n order all whole k log tags starts maps marks special stacks r) (let q : suc i ≡ i + 1 = omega arith in q) (behind r log tags starts maps marks stacks N)
+      pub turn-next : (r : Ends) (log tags : List ℕ) (starts maps : List (List ℕ)) (marks : List ℕ) (stacks : List (List ℕ)) → Nests words (ReadyF 0 (modOf words n) (Ready 0 (modOf words n) all) (followS 0 (modOf words n) all) (function (modOf words n) f)) (appendS 0 (modOf words n) (followS 0 (modOf words n) all) f) log₀ tags₀ starts₀ maps₀ marks₀ stacks₀ e r log tags starts maps marks stacks
+          → Turn words tape kinds n order all whole (i + 1) log tags starts maps marks special stacks r
+      turn-next r log tags starts maps marks stacks N = subst (λ (k : ℕ). Turn words tape kinds n order all whole k log tags starts maps marks special stacks r) (let q : suc i ≡ i + 1 = omega arith in q) (behind r log tags starts maps marks stacks N)
 
-    pub along-last : all ≤ i → (log₁ tags₁ : List ℕ) (starts₁ maps₁ : List (List ℕ)) (e₁ : Ends) → whole ≡ appendAll (take all order) 0 (modOf words n) (stOf words log₁ tags₁ starts₁ maps₁ special e₁) → AppendsAll words tape kinds n (take all order) log₁ tags₁ starts₁ maps₁ e₁ e log₀ tags₀ starts₀ maps₀ marks₀ special stacks₀
+    pub turn-last : all ≤ i → (log₁ tags₁ : List ℕ) (starts₁ maps₁ : List (List ℕ)) (e₁ : Ends) → whole ≡ appendAll (take all order) 0 (modOf words n) (stOf words log₁ tags₁ starts₁ maps₁ special e₁) → AppendsAll words tape kinds n (take all order) log₁ tags₁ starts₁ maps₁ e₁ e log₀ tags₀ starts₀ maps₀ marks₀ special stacks₀
     unfolding appendAll
-    along-last h log₁ tags₁ starts₁ maps₁ e₁ w =
+    turn-last h log₁ tags₁ starts₁ maps₁ e₁ w =
         let k : i ≡ all = omega (arith, A .upto) in
         record {
           same = sym w ∙ sym (A .left) ∙ ap (λ (l : List ℕ). appendAll l 0 (modOf words n) (stOf words log₀ tags₀ starts₀ maps₀ special e)) (ap (λ (j : ℕ). slice j all order) k ∙ slice-empty all order);

@@ -1,10 +1,10 @@
 -- Linking by an order, call by call: what each asks for, that none is full, and the answer. The states are those of the model's fresh session. Assumes nothing.
 use mathlib.Core.Path.{_≡_, refl, sym, ap, _∙_, subst}
 use mathlib.Core.Bool.{true, false}
-use mathlib.Core.List.{List, []}
-use Prim.Native.Nat.{ℕ, _+_, _*_, _<_, _≤_}
+use mathlib.Core.List.{List}
+use Prim.Native.Nat.{ℕ, _+_, _*_, _≤_}
 use native.Mathlib.Omega.{arith}
-use lib.ListN.{length, getD, take, length-take, replicate, length-replicate, getD-replicate}
+use lib.ListN.{length, getD, take, length-take, replicate, length-replicate}
 use lib.Seq.{sets}
 use Rattle.words.specs.Words.{bytesOf}
 use Rattle.model.specs.Module.{Module, countAt, write}
@@ -23,7 +23,8 @@ use Rattle.state.specs.Source.{modOf, Source}
 use Rattle.state.specs.Held.{stOf, Over, Kept, Specials}
 use Rattle.state.specs.declared.Ends.{Ends}
 use Rattle.state.proofs.Laws.{none-held}
-use Rattle.state.proofs.Fresh.{rows-at, kept-nothing, st-nothing}
+use Rattle.state.proofs.Fresh.{rows-at, st-nothing}
+use Rattle.operations.specs.Theorems.{live-new, zeros}
 use Rattle.sourcing.specs.Derives.{Sourced}
 use Rattle.making.specs.Stacks.{Stacks}
 use Rattle.ending.specs.Told.{told, Held, Ended}
@@ -41,29 +42,21 @@ abbrev pub unmade : List (List ℕ)
 unmade = replicate 6 (replicate 512 0)
 
 -- ---- arrays of zeros
-zero-at : (k i : ℕ) → i < k → getD (replicate {A = ℕ} k 0) i 0 ≡ 0
-zero-at k i h = getD-replicate {A = ℕ} k i 0 0 h
-
-rows-long : (a k : ℕ) (t : ℕ) → t < a → length {A = ℕ} (getD (replicate a (replicate k 0)) t []) ≡ k
-rows-long a k t h = ap length (rows-at (replicate k 0) a t h) ∙ length-replicate {A = ℕ} k 0
-
 pub zeros-kept : (e : Ends) → e ≡ E → Kept (replicate 16384 0) (replicate 16384 0) (replicate 8 (replicate 512 0)) (replicate 6 (replicate 512 0)) (replicate 16384 0) e
-zeros-kept e q =
-    subst (Kept (replicate 16384 0) (replicate 16384 0) (replicate 8 (replicate 512 0)) (replicate 6 (replicate 512 0)) (replicate 16384 0)) (sym q)
-    (kept-nothing (replicate 16384 0) (replicate 16384 0) (replicate 8 (replicate 512 0)) (replicate 16384 0) (length-replicate {A = ℕ} 16384 0) (length-replicate {A = ℕ} 16384 0) (length-replicate {A = ℕ} 16384 0) (length-replicate {A = List ℕ} 8 (replicate 512 0)) (rows-long 8 512))
+zeros-kept e q = subst (Kept (replicate 16384 0) (replicate 16384 0) (replicate 8 (replicate 512 0)) (replicate 6 (replicate 512 0)) (replicate 16384 0)) (sym q) (live-new zeros 0 0 .kept)
 
 pub zeros-special : (e : Ends) → e ≡ E → Specials (replicate 1027 0) e
-zeros-special e q = subst (Specials (replicate 1027 0)) (sym q) (record { special-long = length-replicate {A = ℕ} 1027 0; rays-in = λ i h. let z = zero-at 1027 i (omega arith) in omega arith; pairs-in = λ i h. absurd (omega arith) })
+zeros-special e q = subst (Specials (replicate 1027 0)) (sym q) (live-new zeros 0 0 .specials)
 
-pub zeros-stacks : (e : Ends) → e .et ≡ 0 → e .bt ≡ 0 → Stacks (replicate 4 (replicate 16384 0)) e
-zeros-stacks e a b = record { four = length-replicate {A = List ℕ} 4 (replicate 16384 0); rows = rows-long 4 16384; high = omega (arith, a); high′ = omega (arith, b) }
+zeros-stacks : (e : Ends) → e .et ≡ 0 → e .bt ≡ 0 → Stacks (replicate 4 (replicate 16384 0)) e
+zeros-stacks e a b = record { four = length-replicate {A = List ℕ} 4 (replicate 16384 0); rows = λ t h. ap length (rows-at (replicate 16384 0) 4 t h) ∙ length-replicate {A = ℕ} 16384 0; high = omega (arith, a); high′ = omega (arith, b) }
 
 -- they hold the fresh state, but for the maps
 fresh-sourced : (m : Module) (e : Ends) → e ≡ E → (words : List ℕ) → sourced 0 m (stOf words (replicate 16384 0) (replicate 16384 0) (replicate 8 (replicate 512 0)) unmade (replicate 1027 0) e) ≡ sourced 0 m fresh
 unfolding sourced emptied
 fresh-sourced m e q words =
     ap (λ (y : Ends). sourced 0 m (stOf words (replicate 16384 0) (replicate 16384 0) (replicate 8 (replicate 512 0)) unmade (replicate 1027 0) y)) q
-    ∙ ap (sourced 0 m) (st-nothing (replicate 16384 0) (replicate 16384 0) (replicate 8 (replicate 512 0)) (replicate 16384 0) (length-replicate {A = ℕ} 16384 0) (length-replicate {A = ℕ} 16384 0) (length-replicate {A = ℕ} 16384 0) (length-replicate {A = List ℕ} 8 (replicate 512 0)) (rows-long 8 512) words (replicate 1027 0) (zero-at 1027 0 (omega arith)) (zero-at 1027 1 (omega arith)) (zero-at 1027 2 (omega arith)))
+    ∙ ap (sourced 0 m) (st-nothing (replicate 16384 0) (replicate 16384 0) (replicate 8 (replicate 512 0)) (replicate 16384 0) (zeros .log-long) (zeros .tags-long) (zeros .marks-long) (zeros .starts-eight) (zeros .rows) words (replicate 1027 0) (zeros .rays-none 0 (omega arith)) (zeros .rays-none 1 (omega arith)) (zeros .rays-none 2 (omega arith)))
 
 module _ (words tape : List ℕ) (n : ℕ) (order output₀ : List ℕ) (K : Linkable words tape n order output₀) where
   abbrev m : Module
@@ -92,7 +85,7 @@ module _ (words tape : List ℕ) (n : ℕ) (order output₀ : List ℕ) (K : Lin
     module _ (r : Ends) (log tags : List ℕ) (starts maps : List (List ℕ)) (marks special : List ℕ)
         (S : Sourced words n 0 (replicate 16384 0) (replicate 16384 0) (replicate 8 (replicate 512 0)) (replicate 16384 0) (replicate 1027 0) e r log tags starts maps marks special) where
       bare : (getD (e .counts) 7 0 ≡ 0) × (e .et ≡ 0) × (e .bt ≡ 0)
-      bare = (ap (λ (y : Ends). getD (y .counts) 7 0) es ∙ zero-at 8 7 (omega arith), ap (λ (y : Ends). y .et) es, ap (λ (y : Ends). y .bt) es)
+      bare = (ap (λ (y : Ends). getD (y .counts) 7 0) es, ap (λ (y : Ends). y .et) es, ap (λ (y : Ends). y .bt) es)
 
       set-room : r .full ≡ false
       set-room = never (r .full) λ q. set-fits (4 * length (take n words)) (take n words) (modOf words n) (K .linking .passes) (K .linking .reads) start-at (gives .session .sets)
