@@ -1,0 +1,4 @@
+pub mod Naming
+pub mod Keeping
+pub mod Copying
+pub mod Closing
