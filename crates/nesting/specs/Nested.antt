@@ -3,13 +3,15 @@
 use mathlib.Core.Path.{_≡_}
 use mathlib.Core.Bool.{false}
 use mathlib.Core.List.{List, [], _∷_, _++_}
-use Prim.Native.Nat.{ℕ, zero, suc}
+use Prim.Native.Nat.{ℕ, zero, suc, _≤_}
 use lib.ListN.{length}
 use Rattle.model.specs.Outcome.{Cells, class, word}
-use Rattle.model.specs.Table.{EXPRESSIONS, NAMED, CALLEE}
+use Rattle.model.specs.Table.{NAME, EXPRESSIONS, NAMED, CALLEE}
 use Rattle.model.specs.Tree.{Function, flatList, flatBlock, flat, Entry, flatEntry}
 use Rattle.model.specs.Module.{Module}
 use Rattle.model.specs.Redirect.{function as functionAt}
+use Rattle.model.specs.Carry.{Each}
+use Rattle.model.specs.Tables.{names, count}
 use Rattle.model.specs.Imports.{St, once}
 use Rattle.model.specs.Bodies.{known, Making, carried, unique, keepNames, appended}
 use Rattle.bodies.specs.Shallow.{need, glance}
@@ -76,9 +78,10 @@ module _ (o : ℕ) (M : Module) where
   unfoldable pub entryS : (ℕ → St → St) → Entry → St → Entry
   entryS follow e s = entryOf (entryCellsS follow e s)
 
-  -- ---- records that can be read: that of a function, and those of the functions that its calls bring
-  unfoldable pub Reads : Cells → Type 0
-  Reads cs = flat (functionOf cs) ≡ cs
+  -- ---- records that can be read, whose names are among so many: that of a function, and those of the functions that its calls bring
+  pub record Reads (n : ℕ) (cs : Cells) : Type 0 where
+    pub whole : flat (functionOf cs) ≡ cs
+    pub named : Each (λ c. class c ≡ NAME → word c ≤ n) cs
 
   module _ (ready : ℕ → St → Type 0) (follow : ℕ → St → St) (F : Function) where
     -- from any cell of the body on
@@ -87,7 +90,7 @@ module _ (o : ℕ) (M : Module) where
     ReadyFrom (c ∷ cs) m = (class c ≡ CALLEE → ready (word c) (m .out)) × ReadyFrom cs (passed o M follow (need o M still (F .exprs)) (glance o M still (F .exprs)) c cs m)
 
     unfoldable pub ReadyF : St → Type 0
-    ReadyF s = Reads (cellsS follow F s) × ReadyFrom (flatBlock (F .body)) (declaredS follow F s)
+    ReadyF s = Reads (count (finalS follow F s .out .recs) names) (cellsS follow F s) × ReadyFrom (flatBlock (F .body)) (declaredS follow F s)
 
   unfoldable pub Ready : ℕ → ℕ → St → Type 0
   Ready zero n s = Unit {0}

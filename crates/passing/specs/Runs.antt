@@ -1,0 +1,72 @@
+-- What passing over words of a function does: to what is under way, and to the stack of words. Assumes nothing: these are definitions.
+use mathlib.Core.Path.{_≡_}
+use mathlib.Core.Bool.{true, false}
+use mathlib.Core.List.{List}
+use Prim.Native.Nat.{ℕ, suc, _+_, _≤_, _<_}
+use lib.ListN.{length, getD, take}
+use lib.Seq.{slice}
+use Rattle.model.specs.Table.{FROM, TO, STMT-KIND}
+use Rattle.model.specs.Tree.{flatAll}
+use Rattle.model.specs.References.{target}
+use Rattle.model.specs.Bodies.{Making, unique}
+use Rattle.bodies.specs.Shallow.{need, glance}
+use Rattle.passes.specs.Light.{still}
+use Rattle.state.specs.Refers.{kindOf}
+use Rattle.state.specs.Source.{modOf}
+use Rattle.state.specs.Held.{row, tableOf, sizeR, Over, Kept, Same}
+use Rattle.state.specs.Marks.{Marks}
+use Rattle.state.specs.declared.Ends.{Ends}
+use Rattle.ground.specs.Fits.{Legible}
+use Rattle.ground.specs.Cuts.{exprsOf}
+use Rattle.making.specs.Stacks.{makingOf, Under}
+
+-- ---- how the expressions of a function are imported: those of initialisers, at a word of the body, in an Emit's first pass
+abbrev pub unites : ℕ → List ℕ → List ℕ → ℕ → List ℕ → ℕ → ℕ → Making → Making
+unites o words tags n places k = unique o (modOf words n) still (exprsOf words tags places k)
+
+abbrev pub needs : ℕ → List ℕ → List ℕ → ℕ → List ℕ → ℕ → ℕ → Making → Making
+needs o words tags n places k = need o (modOf words n) still (exprsOf words tags places k)
+
+abbrev pub glances : ℕ → List ℕ → List ℕ → ℕ → List ℕ → ℕ → ℕ → Making → Making
+glances o words tags n places k = glance o (modOf words n) still (exprsOf words tags places k)
+
+-- ---- words of declarations: no Emit's range, no statement, no function among them
+pub record Declares (words tags : List ℕ) (k at end : ℕ) : Type 0 where
+  pub legible : Legible words tags k at end
+  pub plain : (i : ℕ) → at ≤ i → i < end → (getD tags i 0 ≡ FROM → ⊥) × (getD tags i 0 ≡ TO → ⊥) × (getD tags i 0 ≡ STMT-KIND → ⊥) × (kindOf (target (getD tags i 0)) ≡ 7 → ⊥)
+
+-- words of a body: an Emit's range lies among the expressions
+pub record Bodied (words tags : List ℕ) (k at end : ℕ) : Type 0 where
+  pub legible : Legible words tags k at end
+  pub ranges : (i : ℕ) → at ≤ i → i < end → getD tags i 0 ≡ FROM → (suc i < end) × (getD words (suc i) 0 ≤ k)
+
+-- ---- entry points and pairs are as they were, and the stacks have not shrunk
+pub record Along (starts starts′ : List (List ℕ)) (e r : Ends) : Type 0 where
+  pub entries-same : (row starts′ 7 ≡ row starts 7) × (getD (r .counts) 7 0 ≡ getD (e .counts) 7 0)
+  pub pairs-same : r .pairs ≡ e .pairs
+  pub et-more : e .et ≤ r .et
+  pub bt-more : e .bt ≤ r .bt
+
+-- below what a function has on them the stacks are as they were
+pub record Deep (et bt : ℕ) (stacks stacks′ : List (List ℕ)) : Type 0 where
+  pub expressions : (t : ℕ) → t < 3 → take et (row stacks′ t) ≡ take et (row stacks t)
+  pub body : take bt (row stacks′ 3) ≡ take bt (row stacks 3)
+
+-- what f makes of what the arrays held is what they hold, and g says which words were pushed; or that is too large, with what waits below it on the stacks
+pub record Runs (words : List ℕ) (k : ℕ) (f : Making → Making) (g : Making → List ℕ) (log₀ tags₀ : List ℕ) (starts₀ maps₀ : List (List ℕ)) (marks₀ em₀ : List ℕ) (stacks₀ : List (List ℕ)) (e₁ : ℕ) (e : Ends)
+    (r : Ends) (log tags : List ℕ) (starts maps : List (List ℕ)) (marks em : List ℕ) (stacks : List (List ℕ)) : Type 0 where
+  pub over : r .full ≡ true → (special : List ℕ)
+      → Over (sizeR (tableOf log₀ tags₀ starts₀ (e .counts) 7)
+      + (e₁ + e .bt + length (flatAll (f (makingOf words k log₀ tags₀ starts₀ maps₀ special e em₀ stacks₀ e₁) .made)) + length (g (makingOf words k log₀ tags₀ starts₀ maps₀ special e em₀ stacks₀ e₁))))
+      (f (makingOf words k log₀ tags₀ starts₀ maps₀ special e em₀ stacks₀ e₁) .out)
+  pub is : r .full ≡ false → (special : List ℕ) → f (makingOf words k log₀ tags₀ starts₀ maps₀ special e em₀ stacks₀ e₁) ≡ makingOf words k log tags starts maps special r em stacks e₁
+  pub wrote : r .full ≡ false → (special : List ℕ) → slice (e .bt) (r .bt) (row stacks 3) ≡ g (makingOf words k log₀ tags₀ starts₀ maps₀ special e em₀ stacks₀ e₁)
+  pub kept : r .full ≡ false → Kept log tags starts maps marks r
+  pub under : r .full ≡ false → Under k em stacks e₁ r
+  pub along : r .full ≡ false → Along starts₀ starts e r
+  pub more : r .full ≡ false → e .used ≤ r .used
+  pub deep : r .full ≡ false → Deep e₁ (e .bt) stacks₀ stacks
+  pub below : Same (e .used) log₀ tags₀ log tags
+  pub log-long : length log ≡ 16384
+  pub tags-long : length tags ≡ 16384
+  pub marks-stay : Marks marks₀ marks

@@ -1,0 +1,738 @@
+// Passes over the words of a function: each is written at once on the stack of words, by the maps as they are at its turn. What a word needs of those behind it
+// is read ahead: of a span's start whether the span is undefined, of an Emit's start its end, of an atomic statement what it compares.
+use classes::ATOMIC;
+use classes::EXPR;
+use classes::FROM;
+use classes::OPT_EXPR;
+use classes::SPAN;
+use classes::STMT_KIND;
+use classes::TO;
+use import::refers_to;
+use making::carried;
+use making::push;
+use operands::glance;
+use operands::need;
+use operands::unique;
+use outside::import_record;
+use state::Ends;
+use state::moved;
+use views::EXPRESSIONS;
+use words::wide;
+ghost use mathlib.Core.Path.{_≡_};
+ghost use mathlib.Core.Bool.{false};
+ghost use mathlib.Core.List.{[], _∷_, map};
+ghost use Prim.Native.Nat.{suc, _≤_, _<_, _+_};
+ghost use lib.ListN.{length, getD};
+ghost use Rattle.model.specs.Outcome.{word};
+ghost use Rattle.model.specs.Table.{FROM as FROM′};
+ghost use Rattle.model.specs.Between.{between, Stretch};
+ghost use Rattle.model.specs.Operands.{optional};
+ghost use Rattle.model.specs.References.{target, refOf, through, firstWord, undefinedAt, moved as movedOf};
+ghost use Rattle.model.specs.Scope.{inRange};
+ghost use Rattle.model.specs.Bodies.{Making, comparesOf, eachE};
+ghost use Rattle.imports.specs.RecordLaws.{All};
+ghost use Rattle.passes.specs.Pass.{atomicKind, arrive as arriveE, first, both, early, passed, wordOf, after, written};
+ghost use Rattle.passes.specs.Light.{still};
+ghost use Rattle.state.specs.Source.{modOf};
+ghost use Rattle.state.specs.Held.{Kept};
+ghost use Rattle.known.specs.Bearing.{Bearing};
+ghost use Rattle.ground.specs.Fits.{FitN, Ground, Legible};
+ghost use Rattle.ground.specs.Cuts.{Expressions};
+ghost use Rattle.making.specs.Stacks.{wentOf, Stacks, Under};
+ghost use Rattle.making.specs.Makes.{Makes, Pushed};
+ghost use Rattle.passing.specs.Runs.{unites, needs, glances, Declares, Bodied, Runs};
+
+// Whether the span last met is undefined, once word i is read.
+pub fn flag(words: &[u32; 16384], tags: &[u8; 16384], i: usize, end: usize, u: bool) -> bool
+    requires { ⌜ (Stretch (now words) (now tags) i end) × (i < end) ⌝ }
+    ensures { λ r. ⌜ r ≡ undefinedAt (target (getD (now (tags .entry)) i 0)) (getD (now (words .entry)) i 0) (firstWord (between (now (tags .entry)) (now (words .entry)) (suc i) end)) u ⌝ }
+{
+    if tags[i] != SPAN {
+        return u;
+    }
+    if words[i] != 0 {
+        return false;
+    }
+    if i + 1 < end {
+        return words[i + 1] == 0;
+    }
+    true
+}
+
+// Word i through the maps, with its span moved, on the stack.
+pub fn put_word(
+    words: &[u32; 16384],
+    tags: &[u8; 16384],
+    kinds: &[u8; 256],
+    n: usize,
+    log: &[u32; 16384],
+    classes: &[u8; 16384],
+    starts: &[[u32; 512]; 8],
+    maps: &[[u32; 512]; 6],
+    em: &[u16; 1024],
+    stacks: &mut [[u32; 16384]; 4],
+    ends: Ends,
+    offset: u32,
+    i: usize,
+    u: bool,
+) -> Ends
+    requires { ⌜ Ground (now words) (now tags) (now kinds) n ⌝ }
+    requires { ⌜ Bearing (now log) (now classes) (now starts) ends ⌝ }
+    requires { ⌜ length (now maps) ≡ 6 ⌝ }
+    requires { ⌜ (i < 16384) × (All (FitN (now words) 1024) (refOf (target (getD (now tags) i 0)) (getD (now words) i 0) [])) ⌝ }
+    requires { ⌜ Stacks (now stacks) ends ⌝ }
+    ensures { λ r. ⌜ Pushed (movedOf (target (getD (now (tags .entry)) i 0)) (through (wentOf (now (words .entry)) n (now (log .entry)) (now (classes .entry)) (now (starts .entry)) (now (maps .entry)) ends (now (em .entry))) (getD (now (tags .entry)) i 0) (getD (now (words .entry)) i 0)) offset u) (now (stacks .entry)) ends r (now (stacks .exit)) ⌝ }
+{
+    let s = tags[i];
+    let w = carried(
+        words,
+        tags,
+        kinds,
+        n,
+        log,
+        classes,
+        starts,
+        maps,
+        em,
+        ends,
+        s,
+        words[i],
+    );
+    push(stacks, ends, moved(s, w, offset, u))
+}
+
+// What word i of declarations refers to: an expression of an initialiser, or a record of a table.
+fn unite(
+    words: &[u32; 16384],
+    tags: &[u8; 16384],
+    kinds: &[u8; 256],
+    n: usize,
+    places: &[u16; 1025],
+    log: &mut [u32; 16384],
+    classes: &mut [u8; 16384],
+    starts: &mut [[u32; 512]; 8],
+    maps: &mut [[u32; 512]; 6],
+    marks: &mut [u16; 16384],
+    em: &mut [u16; 1024],
+    stacks: &mut [[u32; 16384]; 4],
+    ends: Ends,
+    offset: u32,
+    e1: usize,
+    k: usize,
+    i: usize,
+) -> Ends
+    requires { ⌜ Ground (now words) (now tags) (now kinds) n ⌝ }
+    requires { ⌜ Expressions (now words) (now tags) (now places) k ⌝ }
+    requires { ⌜ (i < 16384) × (All (FitN (now words) k) (refOf (target (getD (now tags) i 0)) (getD (now words) i 0) [])) ⌝ }
+    requires { ⌜ ends .full ≡ false ⌝ }
+    requires { ⌜ Kept (now log) (now classes) (now starts) (now maps) (now marks) ends ⌝ }
+    requires { ⌜ Under k (now em) (now stacks) e1 ends ⌝ }
+    ensures { λ r. ⌜ Makes (now (words .entry)) k (arriveE offset (modOf (now (words .entry)) n) still (unites offset (now (words .entry)) (now (tags .entry)) n (now (places .entry)) k) (unites offset (now (words .entry)) (now (tags .entry)) n (now (places .entry)) k) (target (getD (now (tags .entry)) i 0)) (getD (now (words .entry)) i 0)) (now (log .entry)) (now (classes .entry)) (now (starts .entry)) (now (maps .entry)) (now (marks .entry)) (now (em .entry)) (now (stacks .entry)) e1 ends r (now (log .exit)) (now (classes .exit)) (now (starts .exit)) (now (maps .exit)) (now (marks .exit)) (now (em .exit)) (now (stacks .exit)) ⌝ }
+{
+    let s = tags[i];
+    let r = refers_to(kinds, s, words[i]);
+    if s < EXPR {
+        return import_record(
+            words,
+            tags,
+            kinds,
+            n,
+            log,
+            classes,
+            starts,
+            maps,
+            marks,
+            ends,
+            offset,
+            r.table,
+            r.number,
+        );
+    }
+    if r.table != EXPRESSIONS {
+        return ends;
+    }
+    unique(
+        words,
+        tags,
+        kinds,
+        n,
+        places,
+        log,
+        classes,
+        starts,
+        maps,
+        marks,
+        em,
+        stacks,
+        ends,
+        offset,
+        e1,
+        k,
+        wide(r.number),
+    )
+}
+
+// The declarations, from `at` to `end`.
+pub fn declare(
+    words: &[u32; 16384],
+    tags: &[u8; 16384],
+    kinds: &[u8; 256],
+    n: usize,
+    places: &[u16; 1025],
+    log: &mut [u32; 16384],
+    classes: &mut [u8; 16384],
+    starts: &mut [[u32; 512]; 8],
+    maps: &mut [[u32; 512]; 6],
+    marks: &mut [u16; 16384],
+    em: &mut [u16; 1024],
+    stacks: &mut [[u32; 16384]; 4],
+    ends: Ends,
+    offset: u32,
+    e1: usize,
+    k: usize,
+    at: usize,
+    end: usize,
+) -> Ends
+    requires { ⌜ Ground (now words) (now tags) (now kinds) n ⌝ }
+    requires { ⌜ Expressions (now words) (now tags) (now places) k ⌝ }
+    requires { ⌜ Declares (now words) (now tags) k at end ⌝ }
+    requires { ⌜ ends .full ≡ false ⌝ }
+    requires { ⌜ Kept (now log) (now classes) (now starts) (now maps) (now marks) ends ⌝ }
+    requires { ⌜ Under k (now em) (now stacks) e1 ends ⌝ }
+    ensures { λ r. ⌜ Runs (now (words .entry)) k (after offset (modOf (now (words .entry)) n) still (unites offset (now (words .entry)) (now (tags .entry)) n (now (places .entry)) k) (unites offset (now (words .entry)) (now (tags .entry)) n (now (places .entry)) k) (between (now (tags .entry)) (now (words .entry)) (at) end)) (λ (m : Making). map word (written offset (modOf (now (words .entry)) n) still (unites offset (now (words .entry)) (now (tags .entry)) n (now (places .entry)) k) (unites offset (now (words .entry)) (now (tags .entry)) n (now (places .entry)) k) (between (now (tags .entry)) (now (words .entry)) (at) end) false m)) (now (log .entry)) (now (classes .entry)) (now (starts .entry)) (now (maps .entry)) (now (marks .entry)) (now (em .entry)) (now (stacks .entry)) e1 ends r (now (log .exit)) (now (classes .exit)) (now (starts .exit)) (now (maps .exit)) (now (marks .exit)) (now (em .exit)) (now (stacks .exit)) ⌝ }
+{
+    let mut e = ends;
+    let mut i = at;
+    let mut u = false;
+    while i < end {
+        let j = i;
+        i += 1;
+        u = flag(words, tags, j, end, u);
+        e = unite(
+            words,
+            tags,
+            kinds,
+            n,
+            places,
+            log,
+            classes,
+            starts,
+            maps,
+            marks,
+            em,
+            stacks,
+            e,
+            offset,
+            e1,
+            k,
+            j,
+        );
+        if e.full {
+            return e;
+        }
+        e = put_word(
+            words,
+            tags,
+            kinds,
+            n,
+            log,
+            classes,
+            starts,
+            maps,
+            em,
+            stacks,
+            e,
+            offset,
+            j,
+            u,
+        );
+        if e.full {
+            return e;
+        }
+    }
+    e
+}
+
+// What word i of a body refers to: an expression of the function, or a record of a table.
+fn arrive(
+    words: &[u32; 16384],
+    tags: &[u8; 16384],
+    kinds: &[u8; 256],
+    n: usize,
+    places: &[u16; 1025],
+    log: &mut [u32; 16384],
+    classes: &mut [u8; 16384],
+    starts: &mut [[u32; 512]; 8],
+    maps: &mut [[u32; 512]; 6],
+    marks: &mut [u16; 16384],
+    em: &mut [u16; 1024],
+    stacks: &mut [[u32; 16384]; 4],
+    ends: Ends,
+    offset: u32,
+    e1: usize,
+    k: usize,
+    i: usize,
+) -> Ends
+    requires { ⌜ Ground (now words) (now tags) (now kinds) n ⌝ }
+    requires { ⌜ Expressions (now words) (now tags) (now places) k ⌝ }
+    requires { ⌜ (i < 16384) × (All (FitN (now words) k) (refOf (target (getD (now tags) i 0)) (getD (now words) i 0) [])) ⌝ }
+    requires { ⌜ ends .full ≡ false ⌝ }
+    requires { ⌜ Kept (now log) (now classes) (now starts) (now maps) (now marks) ends ⌝ }
+    requires { ⌜ Under k (now em) (now stacks) e1 ends ⌝ }
+    ensures { λ r. ⌜ Makes (now (words .entry)) k (arriveE offset (modOf (now (words .entry)) n) still (needs offset (now (words .entry)) (now (tags .entry)) n (now (places .entry)) k) (glances offset (now (words .entry)) (now (tags .entry)) n (now (places .entry)) k) (target (getD (now (tags .entry)) i 0)) (getD (now (words .entry)) i 0)) (now (log .entry)) (now (classes .entry)) (now (starts .entry)) (now (maps .entry)) (now (marks .entry)) (now (em .entry)) (now (stacks .entry)) e1 ends r (now (log .exit)) (now (classes .exit)) (now (starts .exit)) (now (maps .exit)) (now (marks .exit)) (now (em .exit)) (now (stacks .exit)) ⌝ }
+{
+    let s = tags[i];
+    let r = refers_to(kinds, s, words[i]);
+    if s < EXPR {
+        return import_record(
+            words,
+            tags,
+            kinds,
+            n,
+            log,
+            classes,
+            starts,
+            maps,
+            marks,
+            ends,
+            offset,
+            r.table,
+            r.number,
+        );
+    }
+    if r.table != EXPRESSIONS {
+        return ends;
+    }
+    need(
+        words,
+        tags,
+        kinds,
+        n,
+        places,
+        log,
+        classes,
+        starts,
+        maps,
+        marks,
+        em,
+        stacks,
+        ends,
+        offset,
+        e1,
+        k,
+        wide(r.number),
+    )
+}
+
+// An Emit's first pass over the expressions from a to b.
+fn first_pass(
+    words: &[u32; 16384],
+    tags: &[u8; 16384],
+    kinds: &[u8; 256],
+    n: usize,
+    places: &[u16; 1025],
+    log: &mut [u32; 16384],
+    classes: &mut [u8; 16384],
+    starts: &mut [[u32; 512]; 8],
+    maps: &mut [[u32; 512]; 6],
+    marks: &mut [u16; 16384],
+    em: &mut [u16; 1024],
+    stacks: &mut [[u32; 16384]; 4],
+    ends: Ends,
+    offset: u32,
+    e1: usize,
+    k: usize,
+    a: usize,
+    b: usize,
+) -> Ends
+    requires { ⌜ Ground (now words) (now tags) (now kinds) n ⌝ }
+    requires { ⌜ Expressions (now words) (now tags) (now places) k ⌝ }
+    requires { ⌜ b ≤ k ⌝ }
+    requires { ⌜ ends .full ≡ false ⌝ }
+    requires { ⌜ Kept (now log) (now classes) (now starts) (now maps) (now marks) ends ⌝ }
+    requires { ⌜ Under k (now em) (now stacks) e1 ends ⌝ }
+    ensures { λ r. ⌜ Makes (now (words .entry)) k (eachE (inRange (record { from = a; to = b })) (glances offset (now (words .entry)) (now (tags .entry)) n (now (places .entry)) k)) (now (log .entry)) (now (classes .entry)) (now (starts .entry)) (now (maps .entry)) (now (marks .entry)) (now (em .entry)) (now (stacks .entry)) e1 ends r (now (log .exit)) (now (classes .exit)) (now (starts .exit)) (now (maps .exit)) (now (marks .exit)) (now (em .exit)) (now (stacks .exit)) ⌝ }
+{
+    let mut e = ends;
+    let mut x = a;
+    while x < b {
+        let y = x;
+        x += 1;
+        e = glance(
+            words,
+            tags,
+            kinds,
+            n,
+            places,
+            log,
+            classes,
+            starts,
+            maps,
+            marks,
+            em,
+            stacks,
+            e,
+            offset,
+            e1,
+            k,
+            y,
+        );
+        if e.full {
+            return e;
+        }
+    }
+    e
+}
+
+// Its second pass.
+fn second_pass(
+    words: &[u32; 16384],
+    tags: &[u8; 16384],
+    kinds: &[u8; 256],
+    n: usize,
+    places: &[u16; 1025],
+    log: &mut [u32; 16384],
+    classes: &mut [u8; 16384],
+    starts: &mut [[u32; 512]; 8],
+    maps: &mut [[u32; 512]; 6],
+    marks: &mut [u16; 16384],
+    em: &mut [u16; 1024],
+    stacks: &mut [[u32; 16384]; 4],
+    ends: Ends,
+    offset: u32,
+    e1: usize,
+    k: usize,
+    a: usize,
+    b: usize,
+) -> Ends
+    requires { ⌜ Ground (now words) (now tags) (now kinds) n ⌝ }
+    requires { ⌜ Expressions (now words) (now tags) (now places) k ⌝ }
+    requires { ⌜ b ≤ k ⌝ }
+    requires { ⌜ ends .full ≡ false ⌝ }
+    requires { ⌜ Kept (now log) (now classes) (now starts) (now maps) (now marks) ends ⌝ }
+    requires { ⌜ Under k (now em) (now stacks) e1 ends ⌝ }
+    ensures { λ r. ⌜ Makes (now (words .entry)) k (eachE (inRange (record { from = a; to = b })) (needs offset (now (words .entry)) (now (tags .entry)) n (now (places .entry)) k)) (now (log .entry)) (now (classes .entry)) (now (starts .entry)) (now (maps .entry)) (now (marks .entry)) (now (em .entry)) (now (stacks .entry)) e1 ends r (now (log .exit)) (now (classes .exit)) (now (starts .exit)) (now (maps .exit)) (now (marks .exit)) (now (em .exit)) (now (stacks .exit)) ⌝ }
+{
+    let mut e = ends;
+    let mut x = a;
+    while x < b {
+        let y = x;
+        x += 1;
+        e = need(
+            words,
+            tags,
+            kinds,
+            n,
+            places,
+            log,
+            classes,
+            starts,
+            maps,
+            marks,
+            em,
+            stacks,
+            e,
+            offset,
+            e1,
+            k,
+            y,
+        );
+        if e.full {
+            return e;
+        }
+    }
+    e
+}
+
+// Both passes of an Emit over the expressions from a to b; its new start is what is made before the second.
+fn emit(
+    words: &[u32; 16384],
+    tags: &[u8; 16384],
+    kinds: &[u8; 256],
+    n: usize,
+    places: &[u16; 1025],
+    log: &mut [u32; 16384],
+    classes: &mut [u8; 16384],
+    starts: &mut [[u32; 512]; 8],
+    maps: &mut [[u32; 512]; 6],
+    marks: &mut [u16; 16384],
+    em: &mut [u16; 1024],
+    stacks: &mut [[u32; 16384]; 4],
+    ends: Ends,
+    offset: u32,
+    e1: usize,
+    k: usize,
+    a: usize,
+    b: usize,
+) -> Ends
+    requires { ⌜ Ground (now words) (now tags) (now kinds) n ⌝ }
+    requires { ⌜ Expressions (now words) (now tags) (now places) k ⌝ }
+    requires { ⌜ b ≤ k ⌝ }
+    requires { ⌜ ends .full ≡ false ⌝ }
+    requires { ⌜ Kept (now log) (now classes) (now starts) (now maps) (now marks) ends ⌝ }
+    requires { ⌜ Under k (now em) (now stacks) e1 ends ⌝ }
+    ensures { λ r. ⌜ Runs (now (words .entry)) k (both offset (modOf (now (words .entry)) n) still (needs offset (now (words .entry)) (now (tags .entry)) n (now (places .entry)) k) (glances offset (now (words .entry)) (now (tags .entry)) n (now (places .entry)) k) a b) (λ (m : Making). length (first offset (modOf (now (words .entry)) n) still (needs offset (now (words .entry)) (now (tags .entry)) n (now (places .entry)) k) (glances offset (now (words .entry)) (now (tags .entry)) n (now (places .entry)) k) a b m .made) ∷ []) (now (log .entry)) (now (classes .entry)) (now (starts .entry)) (now (maps .entry)) (now (marks .entry)) (now (em .entry)) (now (stacks .entry)) e1 ends r (now (log .exit)) (now (classes .exit)) (now (starts .exit)) (now (maps .exit)) (now (marks .exit)) (now (em .exit)) (now (stacks .exit)) ⌝ }
+{
+    let got = first_pass(
+        words,
+        tags,
+        kinds,
+        n,
+        places,
+        log,
+        classes,
+        starts,
+        maps,
+        marks,
+        em,
+        stacks,
+        ends,
+        offset,
+        e1,
+        k,
+        a,
+        b,
+    );
+    if got.full {
+        return got;
+    }
+    let from = got.made as u32;
+    let put = push(stacks, got, from);
+    if put.full {
+        return put;
+    }
+    second_pass(
+        words,
+        tags,
+        kinds,
+        n,
+        places,
+        log,
+        classes,
+        starts,
+        maps,
+        marks,
+        em,
+        stacks,
+        put,
+        offset,
+        e1,
+        k,
+        a,
+        b,
+    )
+}
+
+// What the first code of an atomic function, from i on, compares: the number of an expression plus 1, or 0.
+fn compared(words: &[u32; 16384], tags: &[u8; 16384], i: usize, end: usize) -> u32
+    requires { ⌜ Stretch (now words) (now tags) i end ⌝ }
+    ensures { λ r. ⌜ optional r [] ≡ comparesOf (between (now (tags .entry)) (now (words .entry)) (i) end) ⌝ }
+{
+    let mut k = i;
+    while k < end {
+        let j = k;
+        k += 1;
+        if tags[j] == ATOMIC {
+            if end <= k {
+                return 0;
+            }
+            if tags[k] == OPT_EXPR {
+                return words[k];
+            }
+            return 0;
+        }
+    }
+    0
+}
+
+// Whether a statement of the kind k is atomic.
+fn atomic(k: u32) -> bool
+    ensures { λ r. ⌜ r ≡ atomicKind k ⌝ }
+{
+    if k == 13 {
+        return true;
+    }
+    k == 16
+}
+
+// What an atomic statement compares, where its kind is word i.
+fn compare(
+    words: &[u32; 16384],
+    tags: &[u8; 16384],
+    kinds: &[u8; 256],
+    n: usize,
+    places: &[u16; 1025],
+    log: &mut [u32; 16384],
+    classes: &mut [u8; 16384],
+    starts: &mut [[u32; 512]; 8],
+    maps: &mut [[u32; 512]; 6],
+    marks: &mut [u16; 16384],
+    em: &mut [u16; 1024],
+    stacks: &mut [[u32; 16384]; 4],
+    ends: Ends,
+    offset: u32,
+    e1: usize,
+    k: usize,
+    i: usize,
+    end: usize,
+) -> Ends
+    requires { ⌜ Ground (now words) (now tags) (now kinds) n ⌝ }
+    requires { ⌜ Expressions (now words) (now tags) (now places) k ⌝ }
+    requires { ⌜ (Legible (now words) (now tags) k i end) × (i < end) ⌝ }
+    requires { ⌜ ends .full ≡ false ⌝ }
+    requires { ⌜ Kept (now log) (now classes) (now starts) (now maps) (now marks) ends ⌝ }
+    requires { ⌜ Under k (now em) (now stacks) e1 ends ⌝ }
+    ensures { λ r. ⌜ Makes (now (words .entry)) k (early offset (modOf (now (words .entry)) n) still (needs offset (now (words .entry)) (now (tags .entry)) n (now (places .entry)) k) (glances offset (now (words .entry)) (now (tags .entry)) n (now (places .entry)) k) (getD (now (words .entry)) i 0) (between (now (tags .entry)) (now (words .entry)) (suc i) end)) (now (log .entry)) (now (classes .entry)) (now (starts .entry)) (now (maps .entry)) (now (marks .entry)) (now (em .entry)) (now (stacks .entry)) e1 ends r (now (log .exit)) (now (classes .exit)) (now (starts .exit)) (now (maps .exit)) (now (marks .exit)) (now (em .exit)) (now (stacks .exit)) ⌝ }
+{
+    if !atomic(words[i]) {
+        return ends;
+    }
+    let x = compared(words, tags, i + 1, end);
+    if x == 0 {
+        return ends;
+    }
+    need(
+        words,
+        tags,
+        kinds,
+        n,
+        places,
+        log,
+        classes,
+        starts,
+        maps,
+        marks,
+        em,
+        stacks,
+        ends,
+        offset,
+        e1,
+        k,
+        wide(x - 1),
+    )
+}
+
+// Word i of a body, with the words up to `end` behind it; it names no function. u: whether the span last met is undefined.
+pub fn pass(
+    words: &[u32; 16384],
+    tags: &[u8; 16384],
+    kinds: &[u8; 256],
+    n: usize,
+    places: &[u16; 1025],
+    log: &mut [u32; 16384],
+    classes: &mut [u8; 16384],
+    starts: &mut [[u32; 512]; 8],
+    maps: &mut [[u32; 512]; 6],
+    marks: &mut [u16; 16384],
+    em: &mut [u16; 1024],
+    stacks: &mut [[u32; 16384]; 4],
+    ends: Ends,
+    offset: u32,
+    e1: usize,
+    k: usize,
+    i: usize,
+    end: usize,
+    u: bool,
+) -> Ends
+    requires { ⌜ Ground (now words) (now tags) (now kinds) n ⌝ }
+    requires { ⌜ Expressions (now words) (now tags) (now places) k ⌝ }
+    requires { ⌜ (Bodied (now words) (now tags) k i end) × (i < end) ⌝ }
+    requires { ⌜ ends .full ≡ false ⌝ }
+    requires { ⌜ Kept (now log) (now classes) (now starts) (now maps) (now marks) ends ⌝ }
+    requires { ⌜ Under k (now em) (now stacks) e1 ends ⌝ }
+    ensures { λ r. ⌜ Runs (now (words .entry)) k (passed offset (modOf (now (words .entry)) n) still (needs offset (now (words .entry)) (now (tags .entry)) n (now (places .entry)) k) (glances offset (now (words .entry)) (now (tags .entry)) n (now (places .entry)) k) (getD (now (tags .entry)) i 0, getD (now (words .entry)) i 0) (between (now (tags .entry)) (now (words .entry)) (suc i) end)) (λ (m : Making). wordOf offset (modOf (now (words .entry)) n) still (needs offset (now (words .entry)) (now (tags .entry)) n (now (places .entry)) k) (glances offset (now (words .entry)) (now (tags .entry)) n (now (places .entry)) k) (getD (now (tags .entry)) i 0, getD (now (words .entry)) i 0) (between (now (tags .entry)) (now (words .entry)) (suc i) end) u m ∷ []) (now (log .entry)) (now (classes .entry)) (now (starts .entry)) (now (maps .entry)) (now (marks .entry)) (now (em .entry)) (now (stacks .entry)) e1 ends r (now (log .exit)) (now (classes .exit)) (now (starts .exit)) (now (maps .exit)) (now (marks .exit)) (now (em .exit)) (now (stacks .exit)) ⌝ }
+{
+    let s = tags[i];
+    if s == FROM {
+        let a = wide(words[i]);
+        let b = wide(words[i + 1]);
+        return emit(
+            words,
+            tags,
+            kinds,
+            n,
+            places,
+            log,
+            classes,
+            starts,
+            maps,
+            marks,
+            em,
+            stacks,
+            ends,
+            offset,
+            e1,
+            k,
+            a,
+            b,
+        );
+    }
+    if s == TO {
+        let to = ends.made as u32;
+        return push(stacks, ends, to);
+    }
+    if s == STMT_KIND {
+        let got = compare(
+            words,
+            tags,
+            kinds,
+            n,
+            places,
+            log,
+            classes,
+            starts,
+            maps,
+            marks,
+            em,
+            stacks,
+            ends,
+            offset,
+            e1,
+            k,
+            i,
+            end,
+        );
+        if got.full {
+            return got;
+        }
+        return push(stacks, got, words[i]);
+    }
+    let got = arrive(
+        words,
+        tags,
+        kinds,
+        n,
+        places,
+        log,
+        classes,
+        starts,
+        maps,
+        marks,
+        em,
+        stacks,
+        ends,
+        offset,
+        e1,
+        k,
+        i,
+    );
+    if got.full {
+        return got;
+    }
+    put_word(
+        words,
+        tags,
+        kinds,
+        n,
+        log,
+        classes,
+        starts,
+        maps,
+        em,
+        stacks,
+        got,
+        offset,
+        i,
+        u,
+    )
+}
