@@ -1,4 +1,4 @@
--- THE NESTED IMPORT by passes does what the model's does, by induction on the room for functions in progress: where callees have heights below it, each that is brought is brought alike, and its record can be read back.
+-- THE NESTED IMPORT by passes does what the model's does, by induction on the room for functions in progress: where callees have heights below it, each that is brought is brought alike, and its record can be read back and names what is derived.
 use Prim.Native.Nat.{ℕ, zero, suc, _<_, _≤_}
 use mathlib.Core.Path.{_≡_, refl, ap₂, sym, _∙_}
 use mathlib.Core.Logic.{inl, inr}

@@ -1,20 +1,24 @@
--- ENTRY POINTS by passes: one after the other, each leaves the model's state and is the model's, and its record, with those of the functions that it brings, can be read back.
-use Prim.Native.Nat.{ℕ, zero, suc}
+-- ENTRY POINTS by passes: one after the other, each leaves the model's state and is the model's, and its record, with those of the functions that it brings, can be read back and names what is derived.
+use Prim.Native.Nat.{ℕ, zero, suc, _≤_}
+use native.Mathlib.Nat.{le-refl}
 use mathlib.Core.Path.{_≡_, refl, ap, ap₂, sym, _∙_}
 use mathlib.Core.List.{List, [], _∷_, _++_}
 use lib.ListN.{length}
-use Rattle.model.specs.Outcome.{Cells}
+use Rattle.model.specs.Outcome.{Cells, class, word}
 use Rattle.model.specs.Table.{NAME, entryHead, binding}
 use Rattle.model.specs.Tree.{Entry, flatEntry}
 use Rattle.model.specs.Module.{Module}
 use Rattle.model.specs.Carry.{Each, each-none, each-next, WellFormed}
 use Rattle.model.specs.Intake.{Passes}
 use Rattle.model.specs.Callees.{callees}
+use Rattle.model.specs.Tables.{names, count}
 use Rattle.model.specs.References.{targets, target, refOf, refs, each}
 use Rattle.model.specs.Imports.{St}
 use Rattle.model.specs.Bodies.{Making, bring, carried, step, final, followF, follow, entered, entryMade, enterAll, entriesMade}
+use Rattle.model.specs.Finish.{gathered}
 use Rattle.laws.specs.Plain.{plain?}
 use Rattle.laws.specs.Quiet.{Plainly, plain-none, plain-next, plainly}
+use Rattle.imports.specs.Imported.{gathered-tables}
 use Rattle.bodies.specs.Context.{outer}
 use Rattle.bodies.specs.Lists.{all-map}
 use Rattle.sessions.specs.Height.{low-on, unknowns}
@@ -25,7 +29,7 @@ use Rattle.passes.specs.Operands.{outward1, outward, inside}
 use Rattle.passes.specs.Light.{still}
 use Rattle.state.specs.Flats.{entryOf}
 use Rattle.nesting.specs.Nested.{followS, enteredS, entryCellsS, entryS, ReadyF, Ready}
-use Rattle.nesting.specs.Single.{entry-back}
+use Rattle.nesting.specs.Single.{entry-back, low-named}
 use Rattle.nesting.specs.Deep.{Made, made}
 
 -- ---- all entry points, as code makes them
@@ -45,6 +49,7 @@ pub record EntryMade (o : ℕ) (m : Module) (k : ℕ) (e : Entry) (s : St) : Typ
   pub entry : entryS o m (followS o m k) e s ≡ entryMade o m e s
   pub ready : ReadyF o m (Ready o m k) (followS o m k) (e .function) s
   pub reads : flatEntry (entryOf (entryCellsS o m (followS o m k) e s)) ≡ entryCellsS o m (followS o m k) e s
+  pub named : Each (λ c. class c ≡ NAME → word c ≤ count (enteredS o m (followS o m k) e s .out .recs) names) (entryCellsS o m (followS o m k) e s)
 
 unfoldable pub EntriesMade : ℕ → Module → ℕ → List Entry → St → Type 0
 EntriesMade o m k [] s = Unit {0}
@@ -84,9 +89,12 @@ module _ (m : Module) (well : WellFormed m) (ok : Passes m) (o : ℕ) (a : St) w
     unfolding entryS
     entry = ap entryOf cells ∙ entry-back (entryMade o m E s) (entry-piece m well ok o a E p s f .laid)
 
+    named : Each (λ c. class c ≡ NAME → word c ≤ count (enteredS o m (followS o m k) E s .out .recs) names) (entryCellsS o m (followS o m k) E s)
+    named = rw (ends, cells) (low-named (entered o m E s .out) (entryMade o m E s .function) (flatEntry (entryMade o m E s)) (entry-piece m well ok o a E p s f .passes (gathered (entered o m E s .out) []) (λ t. rw (gathered-tables (entered o m E s .out) []) (le-refl _)) (unfold gathered in le-refl _) .0))
+
     pub entry-alike : EntryMade o m k E s
     unfolding entryS
-    entry-alike = record { ends = ends; cells = cells; entry = entry; ready = body .ready; reads = ap flatEntry entry ∙ sym cells }
+    entry-alike = record { ends = ends; cells = cells; entry = entry; ready = body .ready; reads = ap flatEntry entry ∙ sym cells; named = named }
 
   -- ---- all of them
   pub record Alike (es : List Entry) (s : St) : Type 0 where

@@ -3,4 +3,5 @@ pub mod Kept
 pub mod Single
 pub mod Deep
 pub mod Entries
+pub mod Classes
 pub mod Theorems

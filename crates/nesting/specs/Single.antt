@@ -1,27 +1,32 @@
--- ONE FUNCTION, imported by passes, with a way to follow calls (`fol′`) that does to each callee, in each state that is met, what the model's (`fol`) does: the same state in the end, and the cells of the model's derived function. So its record can be read back, and so can those of its callees wherever they can.
-use Prim.Native.Nat.{ℕ, zero, suc, _<_}
+-- ONE FUNCTION, imported by passes, with a way to follow calls (`fol′`) that does to each callee, in each state that is met, what the model's (`fol`) does: the same state in the end, and the cells of the model's derived function. So its record can be read back and names what is derived, and so do those of its callees wherever they do.
+use Prim.Native.Nat.{ℕ, zero, suc, _<_, _≤_}
+use native.Mathlib.Nat.{le-refl, le-of-suc-le-suc}
 use mathlib.Core.Path.{_≡_, refl, ap, sym, _∙_}
 use mathlib.Core.Bool.{Bool, true, false}
 use mathlib.Core.List.{List, [], _∷_, _++_, map, append-nil}
 use lib.Dec.{eqb}
 use lib.ListN.{length, getD}
+use borrow.Author.Tests.{eq-eqb}
 use Rattle.model.specs.Outcome.{Cell, Cells, class, word}
 use Rattle.model.specs.Table.{NAME, FUNCTION, CALLEE, FROM, STMT-KIND, TO, ARGUMENTS, LOCALS, EXPRESSIONS, NAMED, functionHead, counted}
 use Rattle.model.specs.Tree.{Function, Entry, flatAll, flatList, flatBlock, flat, flatEntry, functionAt, entryAt}
 use Rattle.model.specs.Module.{Module}
 use Rattle.model.specs.Carry.{Each, each-next, WellFunction, WellEntry, WellFormed}
 use Rattle.model.specs.Numbers.{Bounds, bound, below as under, within, outside, inside, sound, numbered}
-use Rattle.model.specs.Tables.{tables}
+use Rattle.model.specs.Tables.{names, at, tables, count}
 use Rattle.model.specs.Lower.{lower}
 use Rattle.model.specs.Callees.{callees}
 use Rattle.model.specs.References.{Place, table, own, function, Target, copied, start, upto, ref, opt, targets, target, Node, refOf, refs, through, firstWord, undefinedAt, moved}
 use Rattle.model.specs.Imports.{St}
 use Rattle.model.specs.Bodies.{known, Making, step, went, keepNames, keptNames, declared, walked, final, localized}
+use Rattle.model.specs.Finish.{gathered}
 use Rattle.laws.specs.Lists.{and-split}
 use Rattle.laws.specs.Writing.{write-function, write-entry}
-use Rattle.laws.specs.Quiet.{each-append}
+use Rattle.laws.specs.Quiet.{each-append, each-map}
 use Rattle.imports.specs.RecordLaws.{All as AllN, all-map as alln-map, all-both as alln-both, rest-of}
 use Rattle.imports.specs.Functions.{TabIn, in-table, in-own, in-function, cells-in, within-append}
+use Rattle.imports.specs.Imported.{gathered-tables}
+use Rattle.finishing.specs.Finished.{within-low}
 use Rattle.finishing.specs.Classes.{Not, calm?, calms?, all-not, functionless, calleeless}
 use Rattle.finishing.specs.Called.{FunOk, fun-table, fun-own, fun-call, FunsOk, no-funs}
 use Rattle.finishing.specs.Walked as Walked
@@ -31,6 +36,7 @@ use Rattle.bodies.specs.Shallow.{need, glance}
 use Rattle.bodies.specs.Lawful.{Follows, lawful}
 use Rattle.bodies.specs.Passing.{Passes, row-in, fine, mentions-may}
 use Rattle.bodies.specs.Layout.{well-again}
+use Rattle.bodies.specs.Theorems.{sound-again}
 use Rattle.passes.specs.Pass.{arrive, first, both, early, passed, wordOf, after, written, named, rows, front, begin, namesAfter, namesWritten}
 use Rattle.passes.specs.Light.{still}
 use Rattle.passes.specs.Whole as Whole
@@ -163,6 +169,13 @@ module _ (M : Module) (F : Function) (pass : Passes M F) where
   body-refs : (Q : ℕ → Type 0) → All Q (callees F) → AllN (InN M Q) (refs (flatBlock (F .body)))
   body-refs Q calls = alln-both (refs (flatBlock (F .body))) (λ j a b. inside-of M Q a b) (cells-in M F (flatBlock (F .body)) (ranges M F pass .body-in)) (body-funs Q (pass .well .body-ok) calls)
 
+-- ---- names in range: what passes test 3 in the module that is derived has names among those derived
+pub low-named : (r : St) (f : Function) (cs : Cells) → sound (outside (gathered r [])) f cs ≡ true → Each (λ c. class c ≡ NAME → word c ≤ count (r .recs) names) cs
+unfolding sound inside outside gathered count at
+low-named r f cs h =
+    let b = inside (outside (gathered r [])) f in
+    each-map (λ c l e. le-of-suc-le-suc (l (eq-eqb (class c) NAME e))) (within-low b cs (and-split (within b cs) _ h .0))
+
 -- ---- ways to follow calls that do the same where it is asked
 module _ (M : Module) (well : WellFormed M) (three : numbered M ≡ true) (four : lower M ≡ true) (o : ℕ) (fol fol′ : ℕ → St → St) (Q : ℕ → Type 0) (G : St → Type 0) (follows : Follows o M fol Q G)
     (same : (n : ℕ) (s : St) → Q n → G s → fol′ n s ≡ fol n s) (idle : (n : ℕ) (s : St) → 0 < known M s n → fol′ n s ≡ s) where
@@ -240,9 +253,12 @@ module _ (M : Module) (well : WellFormed M) (three : numbered M ≡ true) (four 
     pub function-same : functionOf (cellsS o M fol′ F s) ≡ localized o M fol F s
     function-same = ap functionOf cells-same ∙ function-back (localized o M fol F s) (well-again o M fol Q G law F pass calls s good)
 
-    reads : Reads o M (cellsS o M fol′ F s)
-    unfolding Reads
-    reads = ap flat function-same ∙ sym cells-same
+    -- its names are derived by then: test 3 has them in range
+    names-low : Each (λ c. class c ≡ NAME → word c ≤ count (finalS o M fol′ F s .out .recs) names) (cellsS o M fol′ F s)
+    names-low = rw (ends-same, cells-same) (low-named (final o M fol F s .out) (localized o M fol F s) (flat (localized o M fol F s)) (sound-again M well three four o fol Q G follows F pass calls s good (gathered (final o M fol F s .out) []) (λ t. rw (gathered-tables (final o M fol F s .out) []) (le-refl _)) (unfold gathered in le-refl _)))
+
+    reads : Reads o M (count (finalS o M fol′ F s .out .recs) names) (cellsS o M fol′ F s)
+    reads = record { whole = ap flat function-same ∙ sym cells-same; named = names-low }
 
     declared-good : G (declaredS o M fol′ F s .out)
     unfolding declaredS

@@ -1,4 +1,4 @@
--- THE IMPORT BY PASSES IS THE MODEL'S, each theorem with its statement in full, for a source that passed intake and the states that a session reaches, where 22 is not met: a call to an unknown name (`followS`), import_function (`appendS`) and entry points (`enteredS`, `entryS`) leave the model's states and make the model's functions, and every record that is written on the way can be read back (`Ready`, `ReadyF`).
+-- THE IMPORT BY PASSES IS THE MODEL'S, each theorem with its statement in full, for a source that passed intake and the states that a session reaches, where 22 is not met: a call to an unknown name (`followS`), import_function (`appendS`) and entry points (`enteredS`, `entryS`) leave the model's states and make the model's functions, and every record that is written on the way can be read back and names what is derived by then (`Ready`, `ReadyF`).
 use Prim.Native.Nat.{ℕ, _<_, _≤_}
 use mathlib.Core.Path.{_≡_}
 use mathlib.Core.Bool.{false}
