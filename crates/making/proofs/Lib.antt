@@ -1,7 +1,7 @@
 pub mod Carries
-pub mod Stacked
 pub mod Writes
 pub mod Stack
+pub mod Stacked
 pub mod Went
 pub mod Growth
 pub mod Then

@@ -14,6 +14,7 @@ use Rattle.state.specs.Held.{row}
 use Rattle.state.specs.declared.Ends.{Ends}
 use Rattle.ground.specs.Cuts.{nextOf, cut, Rising}
 use Rattle.making.specs.Stacks.{seatsOf, madeOf, Stacks}
+use Rattle.making.proofs.Stack.{rising-low}
 
 -- ---- where expressions start
 module _ (stacks : List (List ℕ)) (e₁ : ℕ) (e : Ends) where
@@ -44,16 +45,6 @@ module _ (stacks : List (List ℕ)) (e₁ : ℕ) (e : Ends) where
     next-none k h = rw (seats-end (k + 1) h)
 
 -- ---- rising places
-rising-end : (ss : List ℕ) (a end : ℕ) → Rising ss a end → a ≤ end
-unfolding Rising
-rising-end [] a end r = omega arith
-rising-end (b ∷ bs) a end r = let h = r .1 in let t = rising-end bs (nextOf bs end) end (r .2) in omega arith
-
-pub rising-room : (ss : List ℕ) (a end : ℕ) → Rising ss a end → a + length ss ≤ end
-unfolding Rising
-rising-room [] a end r = omega arith
-rising-room (b ∷ bs) a end r = let h = r .1 in let t = rising-room bs (nextOf bs end) end (r .2) in omega arith
-
 rising-from : (ss : List ℕ) (a end k : ℕ) → Rising ss a end → k < length ss → Rising (drop k ss) (getD ss k 0) end
 unfolding Rising
 rising-from [] a end k r h = absurd (omega arith)
@@ -62,7 +53,7 @@ rising-from (b ∷ bs) a end (suc k) r h = rising-from bs (nextOf bs end) end k 
 
 rising-cons : (x : ℕ) (rest : List ℕ) (a end : ℕ) → Rising (x ∷ rest) a end → (x < nextOf rest end) × (nextOf rest end ≤ end)
 unfolding Rising
-rising-cons x rest a end r = let h = r .0 in let l = r .1 in (omega arith, rising-end rest (nextOf rest end) end (r .2))
+rising-cons x rest a end r = let h = r .0 in let l = r .1 in let t = rising-low rest (nextOf rest end) end (r .2) in (omega arith, omega arith)
 
 -- ---- seeking an expression: what is left from number k on is the whole
 pub record Seating (stacks : List (List ℕ)) (e₁ : ℕ) (e : Ends) (c : Cells) (k : ℕ) : Type 0 where
@@ -71,7 +62,7 @@ pub record Seating (stacks : List (List ℕ)) (e₁ : ℕ) (e : Ends) (c : Cells
 
 module _ (stacks : List (List ℕ)) (e₁ : ℕ) (e : Ends) (c : Cells) (S : Stacks stacks e) (R : Rising (seatsOf stacks e₁ e) e₁ (e .et)) (many : length (seatsOf stacks e₁ e) ≡ e .made) where
   pub seat-room : e₁ + e .made ≤ 16384
-  seat-room = let r = rising-room (seatsOf stacks e₁ e) e₁ (e .et) R in let h = S .high in omega arith
+  seat-room = let r = rising-low (seatsOf stacks e₁ e) e₁ (e .et) R in let h = S .high in omega arith
 
   pub seat-first : Seating stacks e₁ e c 0
   unfolding madeOf

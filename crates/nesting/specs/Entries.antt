@@ -1,10 +1,10 @@
 -- ENTRY POINTS by passes: one after the other, each leaves the model's state and is the model's, and its record, with those of the functions that it brings, can be read back and names what is derived.
-use Prim.Native.Nat.{ℕ, zero, suc, _≤_}
+use Prim.Native.Nat.{ℕ, zero, suc}
 use native.Mathlib.Nat.{le-refl}
 use mathlib.Core.Path.{_≡_, refl, ap, ap₂, sym, _∙_}
 use mathlib.Core.List.{List, [], _∷_, _++_}
 use lib.ListN.{length}
-use Rattle.model.specs.Outcome.{Cells, class, word}
+use Rattle.model.specs.Outcome.{Cells}
 use Rattle.model.specs.Table.{NAME, entryHead, binding}
 use Rattle.model.specs.Tree.{Entry, flatEntry}
 use Rattle.model.specs.Module.{Module}
@@ -28,6 +28,7 @@ use Rattle.sessions.specs.Entering.{Sound, entry-from, entry-piece}
 use Rattle.passes.specs.Operands.{outward1, outward, inside}
 use Rattle.passes.specs.Light.{still}
 use Rattle.state.specs.Flats.{entryOf}
+use Rattle.state.specs.Held.{Named}
 use Rattle.nesting.specs.Nested.{followS, enteredS, entryCellsS, entryS, ReadyF, Ready}
 use Rattle.nesting.specs.Single.{entry-back, low-named}
 use Rattle.nesting.specs.Deep.{Made, made}
@@ -49,7 +50,7 @@ pub record EntryMade (o : ℕ) (m : Module) (k : ℕ) (e : Entry) (s : St) : Typ
   pub entry : entryS o m (followS o m k) e s ≡ entryMade o m e s
   pub ready : ReadyF o m (Ready o m k) (followS o m k) (e .function) s
   pub reads : flatEntry (entryOf (entryCellsS o m (followS o m k) e s)) ≡ entryCellsS o m (followS o m k) e s
-  pub named : Each (λ c. class c ≡ NAME → word c ≤ count (enteredS o m (followS o m k) e s .out .recs) names) (entryCellsS o m (followS o m k) e s)
+  pub named : Named (count (enteredS o m (followS o m k) e s .out .recs) names) (entryCellsS o m (followS o m k) e s)
 
 unfoldable pub EntriesMade : ℕ → Module → ℕ → List Entry → St → Type 0
 EntriesMade o m k [] s = Unit {0}
@@ -89,7 +90,7 @@ module _ (m : Module) (well : WellFormed m) (ok : Passes m) (o : ℕ) (a : St) w
     unfolding entryS
     entry = ap entryOf cells ∙ entry-back (entryMade o m E s) (entry-piece m well ok o a E p s f .laid)
 
-    named : Each (λ c. class c ≡ NAME → word c ≤ count (enteredS o m (followS o m k) E s .out .recs) names) (entryCellsS o m (followS o m k) E s)
+    named : Named (count (enteredS o m (followS o m k) E s .out .recs) names) (entryCellsS o m (followS o m k) E s)
     named = rw (ends, cells) (low-named (entered o m E s .out) (entryMade o m E s .function) (flatEntry (entryMade o m E s)) (entry-piece m well ok o a E p s f .passes (gathered (entered o m E s .out) []) (λ t. rw (gathered-tables (entered o m E s .out) []) (le-refl _)) (unfold gathered in le-refl _) .0))
 
     pub entry-alike : EntryMade o m k E s

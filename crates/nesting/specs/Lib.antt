@@ -4,4 +4,5 @@ pub mod Single
 pub mod Deep
 pub mod Entries
 pub mod Classes
+pub mod Growth
 pub mod Theorems

@@ -3,14 +3,13 @@
 use mathlib.Core.Path.{_≡_}
 use mathlib.Core.Bool.{false}
 use mathlib.Core.List.{List, [], _∷_, _++_}
-use Prim.Native.Nat.{ℕ, zero, suc, _≤_}
+use Prim.Native.Nat.{ℕ, zero, suc}
 use lib.ListN.{length}
 use Rattle.model.specs.Outcome.{Cells, class, word}
-use Rattle.model.specs.Table.{NAME, EXPRESSIONS, NAMED, CALLEE}
-use Rattle.model.specs.Tree.{Function, flatList, flatBlock, flat, Entry, flatEntry}
+use Rattle.model.specs.Table.{EXPRESSIONS, NAMED, CALLEE}
+use Rattle.model.specs.Tree.{Function, flatList, flatBlock, flat, Entry}
 use Rattle.model.specs.Module.{Module}
 use Rattle.model.specs.Redirect.{function as functionAt}
-use Rattle.model.specs.Carry.{Each}
 use Rattle.model.specs.Tables.{names, count}
 use Rattle.model.specs.Imports.{St, once}
 use Rattle.model.specs.Bodies.{known, Making, carried, unique, keepNames, appended}
@@ -19,6 +18,7 @@ use Rattle.passes.specs.Pass.{passed, after, written, named, rows, front, begin
 use Rattle.passes.specs.Light.{still}
 use Rattle.passes.specs.Operands.{outward, inside}
 use Rattle.state.specs.Flats.{functionOf, entryOf}
+use Rattle.state.specs.Held.{Named}
 
 -- o is the offset of spans, M the source
 module _ (o : ℕ) (M : Module) where
@@ -81,7 +81,7 @@ module _ (o : ℕ) (M : Module) where
   -- ---- records that can be read, whose names are among so many: that of a function, and those of the functions that its calls bring
   pub record Reads (n : ℕ) (cs : Cells) : Type 0 where
     pub whole : flat (functionOf cs) ≡ cs
-    pub named : Each (λ c. class c ≡ NAME → word c ≤ n) cs
+    pub named : Named n cs
 
   module _ (ready : ℕ → St → Type 0) (follow : ℕ → St → St) (F : Function) where
     -- from any cell of the body on

@@ -1,5 +1,5 @@
 -- ONE FUNCTION, imported by passes, with a way to follow calls (`fol′`) that does to each callee, in each state that is met, what the model's (`fol`) does: the same state in the end, and the cells of the model's derived function. So its record can be read back and names what is derived, and so do those of its callees wherever they do.
-use Prim.Native.Nat.{ℕ, zero, suc, _<_, _≤_}
+use Prim.Native.Nat.{ℕ, zero, suc, _<_}
 use native.Mathlib.Nat.{le-refl, le-of-suc-le-suc}
 use mathlib.Core.Path.{_≡_, refl, ap, sym, _∙_}
 use mathlib.Core.Bool.{Bool, true, false}
@@ -42,6 +42,7 @@ use Rattle.passes.specs.Light.{still}
 use Rattle.passes.specs.Whole as Whole
 use Rattle.sessions.specs.Alike.{final-same, localized-same}
 use Rattle.state.specs.Flats.{functionIn, functionOf, entryIn, entryOf}
+use Rattle.state.specs.Held.{Named}
 use Rattle.nesting.specs.Nested.{declaredS, walkedS, keptS, finalS, frontS, namesS, bodyS, cellsS, Reads, ReadyF}
 use Rattle.nesting.specs.Kept.{Any, first-of, body-funs, after-on, ready-from}
 
@@ -170,7 +171,7 @@ module _ (M : Module) (F : Function) (pass : Passes M F) where
   body-refs Q calls = alln-both (refs (flatBlock (F .body))) (λ j a b. inside-of M Q a b) (cells-in M F (flatBlock (F .body)) (ranges M F pass .body-in)) (body-funs Q (pass .well .body-ok) calls)
 
 -- ---- names in range: what passes test 3 in the module that is derived has names among those derived
-pub low-named : (r : St) (f : Function) (cs : Cells) → sound (outside (gathered r [])) f cs ≡ true → Each (λ c. class c ≡ NAME → word c ≤ count (r .recs) names) cs
+pub low-named : (r : St) (f : Function) (cs : Cells) → sound (outside (gathered r [])) f cs ≡ true → Named (count (r .recs) names) cs
 unfolding sound inside outside gathered count at
 low-named r f cs h =
     let b = inside (outside (gathered r [])) f in
@@ -254,7 +255,7 @@ module _ (M : Module) (well : WellFormed M) (three : numbered M ≡ true) (four 
     function-same = ap functionOf cells-same ∙ function-back (localized o M fol F s) (well-again o M fol Q G law F pass calls s good)
 
     -- its names are derived by then: test 3 has them in range
-    names-low : Each (λ c. class c ≡ NAME → word c ≤ count (finalS o M fol′ F s .out .recs) names) (cellsS o M fol′ F s)
+    names-low : Named (count (finalS o M fol′ F s .out .recs) names) (cellsS o M fol′ F s)
     names-low = rw (ends-same, cells-same) (low-named (final o M fol F s .out) (localized o M fol F s) (flat (localized o M fol F s)) (sound-again M well three four o fol Q G follows F pass calls s good (gathered (final o M fol F s .out) []) (λ t. rw (gathered-tables (final o M fol F s .out) []) (le-refl _)) (unfold gathered in le-refl _)))
 
     reads : Reads o M (count (finalS o M fol′ F s .out .recs) names) (cellsS o M fol′ F s)
