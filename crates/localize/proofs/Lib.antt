@@ -1,2 +1,4 @@
 pub mod Calls
 pub mod Ways
+pub mod Starts
+pub mod Stills

@@ -5,9 +5,10 @@ use mathlib.Core.Bool.{Bool, true, false, false≢true}
 use mathlib.Core.List.{List, [], _∷_, _++_, map, append-nil, append-assoc}
 use Prim.Native.Nat.{ℕ, zero, suc, _+_, _-_, _≤_, _<_}
 use native.Mathlib.Nat.{le-refl, le-trans}
+use native.Mathlib.Numerals.{add-one}
 use native.Mathlib.Omega.{arith}
-use lib.ListN.{length, getD, take, drop, length-append, length-map, take-append-drop}
-use lib.Seq.{slice, length-slice, length-take-le, take-take, drop-append-le}
+use lib.ListN.{length, getD, take, drop, length-append, length-map}
+use lib.Seq.{slice, length-slice}
 use Rattle.model.specs.Outcome.{Cell, Cells, class, word}
 use Rattle.model.specs.Table.{EXPRESSIONS, NAMED, CALLEE}
 use Rattle.model.specs.Tree.{Function, flatAll, flatList, flatBlock}
@@ -27,20 +28,16 @@ use Rattle.state.specs.declared.Ends.{Ends}
 use Rattle.state.proofs.Passes.{length-between}
 use Rattle.state.proofs.State.{same-then, marks-then, table-stays}
 use Rattle.import.proofs.Growth.{Grow, over-grow}
+use Rattle.ground.specs.Fits.{Legible}
+use Rattle.outside.proofs.Passing.{legible-next}
 use Rattle.making.specs.Stacks.{makingOf, Under}
-use Rattle.making.proofs.Stack.{take-less}
+use Rattle.making.proofs.Stack.{take-less, slice-join}
 use Rattle.making.proofs.Growth.{GrowM, growing-by, growing, over-more, over-growM}
 use Rattle.passing.specs.Runs.{Along, Deep, Runs}
 use Rattle.nesting.specs.Nested.{declaredS, walkedS, keptS, finalS, frontS, namesS, bodyS, cellsS, ReadyFrom}
 use Rattle.localize.specs.Localized.{Localizes}
 
 -- ---- stretches
-pub slice-join : (a b c : ℕ) (l : List ℕ) → a ≤ b → b ≤ c → c ≤ length l → slice a b l ++ slice b c l ≡ slice a c l
-slice-join a b c l h i j =
-    let m = length-take-le c l j in
-    let n = length-take-le b (take c l) (omega arith) in
-    ap (λ (x : List ℕ). drop a x ++ drop b (take c l)) (sym (take-take b c l i)) ∙ sym (drop-append-le a (take b (take c l)) (drop b (take c l)) (omega arith)) ∙ ap (drop a) (take-append-drop b (take c l))
-
 pub slice-same : (a b n : ℕ) (l l′ : List ℕ) → b ≤ n → take n l′ ≡ take n l → slice a b l′ ≡ slice a b l
 slice-same a b n l l′ h e = ap (drop a) (take-less b n l′ l h e)
 
@@ -93,6 +90,7 @@ pub record Turn (words tags : List ℕ) (n o : ℕ) (follow : ℕ → St → St)
     (log classes : List ℕ) (starts maps : List (List ℕ)) (marks em : List ℕ) (stacks : List (List ℕ)) (e : Ends) (i : ℕ) (u : Bool) : Type 0 where
   pub from : body ≤ i
   pub within : i ≤ end
+  pub legible : Legible words tags k i end
   pub way : Way k log₀ tags₀ starts₀ marks₀ stacks₀ e₀ log classes starts maps marks em stacks e
   pub top : e .bt ≡ e₀ .bt + length (front F) + (i - body)
   pub fronts : (special : List ℕ) → slice (e₀ .bt) (e₀ .bt + length (front F)) (row stacks 3) ≡ map word (frontS o (modOf words n) follow F (stOf words log₀ tags₀ starts₀ maps₀ special e₀))
@@ -238,10 +236,11 @@ module _ (words tags : List ℕ) (n o : ℕ) (follow : ℕ → St → St) (calls
           unfolding written
           cons-is special = ap (λ (l : Cells). map word (written o (modOf words n) follow P Q l u (m special))) (sym next)
 
-          pub turn-next : Turn words tags n o follow ready F k body end log₀ tags₀ starts₀ maps₀ marks₀ stacks₀ e₀ log′ classes′ starts′ maps′ marks′ em′ stacks′ r (suc i) v
-          turn-next = record {
+          pub turn-next : Turn words tags n o follow ready F k body end log₀ tags₀ starts₀ maps₀ marks₀ stacks₀ e₀ log′ classes′ starts′ maps′ marks′ em′ stacks′ r (i + 1) v
+          turn-next = rw (add-one i) (record {
             from = let a = T .from in omega arith;
-            within = h;
+            within = omega arith;
+            legible = legible-next (T .legible) h;
             way = way-then (T .way) words _ _ r log′ classes′ starts′ maps′ marks′ em′ stacks′ R z;
             top = let a = step in let b = T .top in let f = T .from in omega arith;
             fronts = λ special. slice-same (e₀ .bt) (e₀ .bt + length (front F)) (e .bt) (row stacks 3) (row stacks′ 3) (let b = T .top in omega arith) (R .deep z .body) ∙ T .fronts special;
@@ -249,7 +248,7 @@ module _ (words tags : List ℕ) (n o : ℕ) (follow : ℕ → St → St) (calls
             wrote = wrote;
             special = T .special;
             left = rw (R .is z (T .special)) at rest;
-          }
+          })
             where
               wrote : (special : List ℕ) → slice (e₀ .bt + length (front F)) (r .bt) (row stacks′ 3) ++ map word (written o (modOf words n) follow P Q cs v (makingOf words k log′ classes′ starts′ maps′ special r em′ stacks′ (e₀ .et)))
                   ≡ map word (bodyS o (modOf words n) follow F (S₀ special))

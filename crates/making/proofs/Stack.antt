@@ -27,7 +27,7 @@ use Rattle.making.specs.Makes.{Stays, Wrote}
 pub take-less : {A : Type 0} (m n : ℕ) (a b : List A) → m ≤ n → take n a ≡ take n b → take m a ≡ take m b
 take-less m n a b h e = sym (take-take m n a h) ∙ ap (take m) e ∙ take-take m n b h
 
-slice-join : (a b c : ℕ) (l : List ℕ) → a ≤ b → b ≤ c → c ≤ length l → slice a b l ++ slice b c l ≡ slice a c l
+pub slice-join : (a b c : ℕ) (l : List ℕ) → a ≤ b → b ≤ c → c ≤ length l → slice a b l ++ slice b c l ≡ slice a c l
 slice-join a b c l h i j =
     let m = length-take-le c l j in
     let n = length-take-le b (take c l) (omega arith) in
