@@ -2,3 +2,5 @@ pub mod Calls
 pub mod Ways
 pub mod Starts
 pub mod Stills
+pub mod Names
+pub mod Finals
