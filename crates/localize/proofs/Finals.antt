@@ -96,9 +96,9 @@ module _ {words tags : List ℕ} {n s end : ℕ} {F : Function} (p : Part words 
   keep-words = let a = order p x in let b = x .body-is in (omega (arith, a), omega (arith, a), lengths p .words-long)
 
   module _ (r₁ : Ends) (stacks₁ : List (List ℕ)) (W : Keeps ps stacks e r₁ stacks₁) where
-    pub keep-full : r₁ .full ≡ true → Localizes words n o follow F log₀ tags₀ starts₀ maps₀ marks₀ stacks₀ e₀ r₁ log classes starts maps marks stacks₁
+    pub keep-full : r₁ .full ≡ true → Localizes words n o ready follow F log₀ tags₀ starts₀ maps₀ marks₀ stacks₀ e₀ r₁ log classes starts maps marks stacks₁
     keep-full z = way-full words tags n o follow calls ready F k body end low hw ht (body-is p x) log₀ tags₀ starts₀ maps₀ marks₀ stacks₀ e₀ K₀ log classes starts maps marks stacks₁ r₁ z
-        (λ special. let a = W .over z in let b = top in let c = cells (S₀ special) in let d = names-many special in long (omega arith))
+        (λ special _. let a = W .over z in let b = top in let c = cells (S₀ special) in let d = names-many special in long (omega arith))
         (T .way .below) (T .way .kept .log-long) (T .way .kept .tags-long) (T .way .marks-stay)
 
     module _ (z : r₁ .full ≡ false) where
@@ -183,9 +183,9 @@ module _ {words tags : List ℕ} {n s end : ℕ} {F : Function} (p : Part words 
               (N .rows-are y special ∙ ap (map word) (ap₂ (namesRows o (modOf words n)) pairs-are (st-same special) ∙ sym (names-are special)))
 
         -- the function is whole
-        pub names-done : Localizes words n o follow F log₀ tags₀ starts₀ maps₀ marks₀ stacks₀ e₀ r log′ classes′ starts′ maps′ marks′ stacks′
+        pub names-done : Localizes words n o ready follow F log₀ tags₀ starts₀ maps₀ marks₀ stacks₀ e₀ r log′ classes′ starts′ maps′ marks′ stacks′
         names-done = record {
-          over = over;
+          over = λ y special _. over y special;
           is = λ y special. sym (out-is special) ∙ N .lands .is y special;
           exprs = exprs;
           made = made;
