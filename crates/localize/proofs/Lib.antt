@@ -4,3 +4,5 @@ pub mod Starts
 pub mod Stills
 pub mod Names
 pub mod Finals
+pub mod Closings
+pub mod Appends
