@@ -1,0 +1,5 @@
+pub mod Running
+pub mod Words
+pub mod Ranges
+pub mod Declaring
+pub mod Body
