@@ -1,0 +1,4 @@
+pub mod Copying
+pub mod Closing
+pub mod Naming
+pub mod Keeping

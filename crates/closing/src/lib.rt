@@ -56,15 +56,12 @@ pub fn keep_names(
         if v != 0 {
             let j = slot(seats[v - 1]);
             if j == 0 {
+                if e.bt > 16382 {
+                    return refuse(e);
+                }
                 seats[v - 1] = ((e.bt - b) / 2 + 1) as u16;
                 e = push(stacks, e, (v - 1) as u32);
-                if e.full {
-                    return e;
-                }
                 e = push(stacks, e, words[q + 1]);
-                if e.full {
-                    return e;
-                }
             } else {
                 stacks[BODY][b + 2 * j - 1] = words[q + 1];
             }
@@ -212,7 +209,7 @@ pub fn close(
     limit: usize,
 ) -> Ends
     requires { ⌜ (s ≤ exprs) × (exprs ≤ body) × (body ≤ end) × (end ≤ 16384) × (length (now tags) ≡ 16384) ⌝ }
-    requires { ⌜ (t < 8) × (limit ≤ 512) × (getD (ends .counts) t 0 ≤ limit) × (ends .et + head ≤ 16384) × (ends .full ≡ false) ⌝ }
+    requires { ⌜ (t < 8) × (limit ≤ 512) × (getD (ends .counts) t 0 ≤ limit) × (ends .et + head ≤ 16384) × (ends .made ≤ 16384) × (ends .full ≡ false) ⌝ }
     requires { ⌜ (Stacks (now stacks) ends) × (before .et ≤ ends .et) × (before .bt + ((exprs - s) + (end - body)) ≤ ends .bt) ⌝ }
     requires { ⌜ (length (pairsIn (slice (before .bt + ((exprs - s) + (end - body))) (ends .bt) (row (now stacks) 3))) * 2 + (before .bt + ((exprs - s) + (end - body))) ≡ ends .bt) ⌝ }
     requires { ⌜ ((i : ℕ) → before .et ≤ i → i < ends .et + head → getD (row (now stacks) 1) i 0 < 256) ⌝ }
