@@ -61,7 +61,7 @@ module _ {words tags : List ℕ} {n s end : ℕ} {F : Function} (p : Part words 
   low : body ≤ end
   low = let a = order p x .to-end in omega arith
 
-  walked : (special : List ℕ) → walkedS o (modOf words n) follow F (S₀ special) ≡ makingOf words k log classes starts maps special e em stacks (e₀ .et)
+  pub walked : (special : List ℕ) → walkedS o (modOf words n) follow F (S₀ special) ≡ makingOf words k log classes starts maps special e em stacks (e₀ .et)
   walked special = walked-is words tags n o follow calls ready F k body end low hw ht (body-is p x) log₀ tags₀ starts₀ maps₀ marks₀ stacks₀ e₀ K₀ log classes starts maps marks em stacks e i u T done special
 
   bodies : (special : List ℕ) → slice (e₀ .bt + length (front F)) (e .bt) (row stacks 3) ≡ map word (bodyS o (modOf words n) follow F (S₀ special))
