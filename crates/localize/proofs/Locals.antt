@@ -28,7 +28,7 @@ use Rattle.known.specs.Bearing.{Bearing}
 use Rattle.known.proofs.Bears.{bearing}
 use Rattle.ground.specs.Fits.{FitN}
 use Rattle.outside.proofs.Passing.{legible-here}
-use Rattle.making.specs.Stacks.{wentOf, Stacks, Under}
+use Rattle.making.specs.Stacks.{wentOf, makingOf, Stacks, Under}
 use Rattle.making.specs.Makes.{Pushed}
 use Rattle.making.proofs.Stack.{made-many}
 use Rattle.making.proofs.Then.{kept-tops}
@@ -58,6 +58,14 @@ pub record Going (words tags : List ℕ) (n o room s end ea : ℕ) (places : Lis
     (log classes : List ℕ) (starts maps : List (List ℕ)) (marks em : List ℕ) (stacks : List (List ℕ)) (e : Ends) (i : ℕ) (u : Bool) : Type 0 where
   pub read : Indexed words tags s end ea places k named body
   pub turn : Turn words tags n o (followS o (modOf words n) room) (Ready o (modOf words n) room) (functionOf (between tags words s end)) k body end log₀ classes₀ starts₀ maps₀ marks₀ stacks₀ e₀ log classes starts maps marks em stacks e i u
+
+-- from one word on to another, whatever came before the first
+pub record Onward (words tags : List ℕ) (n o room s end ea : ℕ) (places : List ℕ) (k named body : ℕ) (log₁ classes₁ : List ℕ) (starts₁ maps₁ : List (List ℕ)) (marks₁ em₁ : List ℕ) (stacks₁ : List (List ℕ)) (e₁ : Ends) (i₁ : ℕ) (u₁ : Bool)
+    (log classes : List ℕ) (starts maps : List (List ℕ)) (marks em : List ℕ) (stacks : List (List ℕ)) (e : Ends) (i : ℕ) (u : Bool) : Type 0 where
+  pub on : {log₀ classes₀ : List ℕ} {starts₀ maps₀ : List (List ℕ)} {marks₀ : List ℕ} {stacks₀ : List (List ℕ)} {e₀ : Ends}
+      → Kept log₀ classes₀ starts₀ maps₀ marks₀ e₀
+      → Going words tags n o room s end ea places k named body log₀ classes₀ starts₀ maps₀ marks₀ stacks₀ e₀ log₁ classes₁ starts₁ maps₁ marks₁ em₁ stacks₁ e₁ i₁ u₁
+      → Going words tags n o room s end ea places k named body log₀ classes₀ starts₀ maps₀ marks₀ stacks₀ e₀ log classes starts maps marks em stacks e i u
 
 -- ---- reading the source
 module _ {words tags : List ℕ} {n s end : ℕ} (p : Part words tags n s end (functionOf (between tags words s end))) where
@@ -173,6 +181,7 @@ module _ {words tags : List ℕ} {n s end : ℕ} (p : Part words tags n s end (f
       ps = keepNames (namedRecords words (named + 1) (getD words named 0)) (take k em) []
 
       made-low : e .made ≤ 1024
+      unfolding makingOf
       made-low =
           let a = ap (λ (m : Making). length (m .made)) (walked p x o (followS o (modOf words n) room) (follow-grows o (modOf words n) room) (Ready o (modOf words n) room) log₀ classes₀ starts₀ maps₀ marks₀ stacks₀ e₀ K₀ log classes starts maps marks em stacks e i u T done []) in
           let b = made-many (T .way .under) in
