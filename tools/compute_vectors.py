@@ -113,7 +113,8 @@ def answers():
             "use mathlib.Core.Path.{_≡_, refl}", "use mathlib.Core.List.{List, [], _∷_}", "use Prim.Native.Nat.{ℕ}", "use lib.ListN.{length, getD}",
             "use Rattle.words.specs.Words.{wordOf, wordsOf, bytesOf}", *uses, "use Rattle.redirect.specs.Passes.{told as redirect-told, imageAfter}",
             "use Rattle.basic.specs.Images.{told, ofModule, afterIntake, orderImage, packed, written}",
-            "use Rattle.listing.specs.Lines.{decimal, nameText, nameIn, nameOf, numbersText, lineText, linesText, headed, orderedText, refusing, telling, ofModule as told-ofModule, afterIntake as told-afterIntake, tellingOf}",
+            "use Rattle.lines.specs.Lines.{decimal, nameText, nameIn, nameOf, numbersText, lineText, linesText, headed, orderedText}",
+            "use Rattle.listing.specs.Telling.{refusing, telling, ofModule as told-ofModule, afterIntake as told-afterIntake, tellingOf}",
             "use Rattle.layered.specs.Images.{ofModule as redirect-ofModule, afterIntake as redirect-afterIntake, redirectImage, packed as redirect-packed}", ""]
     unfolding += " bytesOf redirect-told imageAfter told ofModule afterIntake orderImage packed written redirect-ofModule redirect-afterIntake redirectImage redirect-packed"
     unfolding += " decimal nameText nameIn nameOf numbersText lineText linesText headed orderedText refusing telling told-ofModule told-afterIntake tellingOf"

@@ -1,4 +1,4 @@
-pub mod Naming
-pub mod Keeping
 pub mod Copying
 pub mod Closing
+pub mod Naming
+pub mod Keeping

@@ -23,8 +23,9 @@ use Rattle.state.specs.Held.{row, cell, recAt, recsAt, tableOf, recsOf, entries
 use Rattle.state.specs.declared.Ends.{Ends}
 use Rattle.state.proofs.State.{table-long, pairs-long}
 use Rattle.state.proofs.Laws.{nameless-none, name-low, special-words}
-use Rattle.writing.specs.Flat.{total, ordered, finishedWords, cellsOf}
-use Rattle.writing.specs.Held.{tabsOf, Rec, Derived, Fits, Stored, large, short, done}
+use Rattle.sections.specs.Flat.{total, ordered, finishedWords, cellsOf}
+use Rattle.sections.specs.Rows.{tabsOf, Rec}
+use Rattle.writing.specs.Held.{Derived, Fits, Stored, large, short, done}
 use Rattle.writing.proofs.Whole.{length-tabs}
 use Rattle.writing.proofs.Storing.{tabs-at, length-finished}
 use Rattle.writing.proofs.Bridge.{finished-cells}

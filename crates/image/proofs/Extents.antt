@@ -14,16 +14,16 @@ use Rattle.model.specs.Table.{PLACE}
 use Rattle.model.specs.Tree.{flatAll, DEPTH}
 use Rattle.model.specs.Module.{next, records, table, raysRow, pairRow}
 use Rattle.laws.specs.Lists.{bool-same, map-append}
-use Rattle.image.specs.Parts.{Reader, join, times, pieces}
-use Rattle.image.specs.Rows.{SIZE, RAYS-ROW, PAIR-ROW, row, rowAt}
-use Rattle.image.specs.Walks.{Final, next as next-final, refused as refused-final, strange as strange-final, seen, final, Walks, filled, Fills}
+use Rattle.fields.specs.Parts.{Reader, join, times, pieces}
+use Rattle.fields.specs.Rows.{SIZE, RAYS-ROW, PAIR-ROW, row, rowAt}
+use Rattle.fields.specs.Walks.{Final, next as next-final, refused as refused-final, strange as strange-final, seen, final, Walks, filled, Fills}
 use Rattle.image.specs.Extents.{Classes, done, refused, odd, shown, ending, Covers, after, classes, extent, recordsLeft, tableClasses, tabled, specialOf, special}
-use Rattle.image.specs.declared.record.Walked.{Walked}
-use Rattle.image.specs.declared.record.Walked.the-variants.{Next, Misfit, Strange as WalkedStrange}
+use Rattle.fields.specs.declared.Walked.{Walked}
+use Rattle.fields.specs.declared.Walked.the-variants.{Next, Misfit, Strange as WalkedStrange}
 use Rattle.image.specs.declared.section.Held.{Held}
 use Rattle.image.specs.declared.section.Held.the-variants.{Fits, Bad, Strange}
-use Rattle.image.proofs.Reading.{Reads, reads, Reading, reads-pieces, reads-times, reads-join}
-use Rattle.image.proofs.Walk.{Onto, Taken, taken, sets-append, chain-misfit, chain-strange, chain-next}
+use Rattle.fields.proofs.Reading.{Reads, reads, Reading, reads-pieces, reads-times, reads-join}
+use Rattle.fields.proofs.Walk.{Onto, Taken, taken, sets-append, chain-misfit, chain-strange, chain-next}
 
 -- ---- outcomes that a walk shows
 pub is-misfit : (tags : List ℕ) (i end : ℕ) (r : Walked) (tags₁ : List ℕ) (o : Outcome Cells) → Walks r tags₁ tags i end o → r ≡ Misfit → o ≡ misfit

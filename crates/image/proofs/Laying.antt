@@ -12,16 +12,17 @@ use Rattle.words.proofs.Laws.{length-wordsOf, word-is, sets-front}
 use Rattle.model.specs.Outcome.{class, Laid, laid, bad, strange, mapL}
 use Rattle.model.specs.Table.{PLACE}
 use Rattle.model.specs.Module.{Module, limits, placed, read, flatModule, sized}
-use Rattle.image.specs.Walks.{next as next-final, seen, filled, Fills}
-use Rattle.image.specs.Extents.{done, shown, ending, Covers, sectionsFrom, tableRows}
+use Rattle.fields.specs.Parts.{tableRows}
+use Rattle.fields.specs.Walks.{next as next-final, seen, filled, Fills}
+use Rattle.image.specs.Extents.{done, shown, ending, Covers, sectionsFrom}
 use Rattle.image.specs.Layout.{fits, shows, held, layoutOf, Lays, layed, laying, Laying}
-use Rattle.image.specs.declared.record.Walked.{Walked}
-use Rattle.image.specs.declared.record.Walked.the-variants.{Next, Misfit as WalkedMisfit, Strange as WalkedStrange}
+use Rattle.fields.specs.declared.Walked.{Walked}
+use Rattle.fields.specs.declared.Walked.the-variants.{Next, Misfit as WalkedMisfit, Strange as WalkedStrange}
 use Rattle.image.specs.declared.section.Held.{Held}
 use Rattle.image.specs.declared.section.Held.the-variants.{Fits as HeldFits, Bad, Strange as HeldStrange}
 use Rattle.image.specs.declared.Layout.{Layout}
 use Rattle.image.specs.declared.Layout.the-variants.{Fits, Size, Misfit, Strange}
-use Rattle.image.proofs.Walk.{sets-append}
+use Rattle.fields.proofs.Walk.{sets-append}
 use Rattle.image.proofs.Whole.{bodyClasses, read-sections, read-misplaced, module-classes}
 
 -- ---- the header's classes

@@ -1,8 +1,3 @@
-pub mod Flat
-pub mod Reading
-pub mod Walk
-pub mod Rows
-pub mod Steps
 pub mod Extents
 pub mod Header
 pub mod Sections

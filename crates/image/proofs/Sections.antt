@@ -15,15 +15,15 @@ use Rattle.model.specs.Table.{Row, PLACE}
 use Rattle.model.specs.Tree.{flatAll, DEPTH}
 use Rattle.model.specs.Module.{table, raysRow, pairRow, places, flatTable, limits, countAt, offsetAt, endAt, placed, section}
 use Rattle.laws.specs.Lists.{and-first, and-second}
-use Rattle.image.specs.Parts.{pieces}
-use Rattle.image.specs.Rows.{ROWS, RECORDS, numbers, SIZE, row, rowAt}
-use Rattle.image.specs.Extents.{Classes, done, refused, odd, shown, ending, Covers, after, classes, tableClasses, tabled, specialOf, special, sectionsFrom, tableRows}
+use Rattle.fields.specs.Parts.{pieces, tableRows}
+use Rattle.fields.specs.Rows.{ROWS, RECORDS, numbers, SIZE, row, rowAt}
+use Rattle.image.specs.Extents.{Classes, done, refused, odd, shown, ending, Covers, after, classes, tableClasses, tabled, specialOf, special, sectionsFrom}
 use Rattle.image.specs.declared.section.Held.{Held}
 use Rattle.image.specs.declared.section.Held.the-variants.{Fits, Bad, Strange}
 use Rattle.laws.specs.Readers.{Good, good, good-misfit, good-unknown, Took}
 use Rattle.laws.specs.Tables.{laid-of, table-took}
 use Rattle.laws.specs.Sections.{length-places}
-use Rattle.image.proofs.Reading.{Reads, reads, no-fit, no-code, reads-pieces, reads-times, reads-join}
+use Rattle.fields.proofs.Reading.{Reads, reads, no-fit, no-code, reads-pieces, reads-times, reads-join}
 use Rattle.image.proofs.Header.{count-is, offset-is, end-last, end-next}
 use Rattle.image.proofs.Extents.{then-bad, then-strange, then-fits, after-bad}
 

@@ -14,9 +14,9 @@ use Rattle.laws.specs.Readers.{Takes, run-took, function-took, entry-took}
 use Rattle.laws.specs.Tables.{laid-of, table-took}
 use Rattle.laws.specs.Modules.{ReadsAs, read-parts}
 use Rattle.laws.specs.Lists.{map-append}
-use Rattle.image.specs.Parts.{Reader, join, times, pieces, functionRow, entryRow}
-use Rattle.image.specs.Extents.{Classes, classes, tableClasses, tabled, specialOf, special, sectionsFrom, tableRows}
-use Rattle.image.proofs.Flat.{map-map, bare, step-cells, bind-fits, times-same, join-same, rows-counted, countedR, with, below?, run-pieces, parts-pieces, function-flat, entry-flat}
+use Rattle.fields.specs.Parts.{Reader, join, times, pieces, functionRow, entryRow, tableRows}
+use Rattle.image.specs.Extents.{Classes, classes, tableClasses, tabled, specialOf, special, sectionsFrom}
+use Rattle.fields.proofs.Flat.{map-map, bare, step-cells, bind-fits, times-same, join-same, rows-counted, countedR, with, below?, run-pieces, parts-pieces, function-flat, entry-flat}
 use Rattle.image.proofs.Sections.{laid-as}
 
 -- ---- the status of what is laid

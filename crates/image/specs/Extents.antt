@@ -7,10 +7,10 @@ use lib.Dec.{eqb, leb}
 use lib.ListN.{take, replicate}
 use lib.Seq.{sets, slice}
 use Rattle.model.specs.Outcome.{Cells, class, Laid, laid, bad, strange, exact, both, mapL}
-use Rattle.model.specs.Table.{Row, PLACE, nameRow, typeRow, constantRow, overrideRow, globalRow, expressionRow}
+use Rattle.model.specs.Table.{Row, PLACE}
 use Rattle.model.specs.Tree.{flatAll, DEPTH}
 use Rattle.model.specs.Module.{records, table, raysRow, pairRow, countAt, section}
-use Rattle.image.specs.Parts.{Reader, join, times, pieces, functionRow, entryRow}
+use Rattle.fields.specs.Parts.{Reader, join, times, pieces}
 use Rattle.image.specs.declared.section.Held.{Held}
 use Rattle.image.specs.declared.section.Held.the-variants.{Fits, Bad, Strange}
 
@@ -71,9 +71,6 @@ unfoldable pub special : ℕ → List ℕ → Laid Classes
 special n ws = mapL classes (exact (specialOf n ws))
 
 -- ---- all sections
-unfoldable pub tableRows : List Row
-tableRows = nameRow ∷ typeRow ∷ constantRow ∷ overrideRow ∷ globalRow ∷ expressionRow ∷ functionRow ∷ entryRow ∷ []
-
 -- the sections from number k on, whose tables have these rows
 unfoldable pub sectionsFrom : List Row → ℕ → List ℕ → Laid Classes
 sectionsFrom [] k ws = special (countAt k ws) (section k ws)

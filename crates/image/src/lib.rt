@@ -1,10 +1,8 @@
 // Reading an image: its bytes into words, and beside each word its class, the tape. Refusals 1 and 2 of document 01 are found here.
-pub mod record;
 pub mod section;
-pub mod table;
 
+use fields::table::numbers;
 use section::Held;
-use table::TABLE;
 ghost use Prim.Native.Nat.{_≤_};
 ghost use lib.ListN.{length, take};
 ghost use Rattle.image.specs.Layout.{Lays, Laying};
@@ -27,8 +25,8 @@ fn lay(words: &[u32], tags: &mut [u8; 16384], total: usize) -> Layout
     requires { ⌜ total ≤ 16384 ⌝ }
     ensures { λ r. ⌜ Laying r (now (tags .exit)) (now (tags .entry)) (take total (now (words .entry))) ⌝ }
 {
-    let table = TABLE;
-    record::fill(tags, 0, total, classes::PLACE, HEADER);
+    let table = numbers();
+    fields::fill(tags, 0, total, classes::PLACE, HEADER);
     if !section::placed(words, total) {
         return Layout::Misfit;
     }

@@ -1,12 +1,12 @@
 // Laying out the header and the sections: each record has its extent, and each section its place.
-use crate::record::Walked;
-use crate::record::fill;
-use crate::record::place;
-use crate::record::row;
-use crate::record::times;
-use crate::table::PAIR_ROW;
-use crate::table::RAYS_ROW;
-use crate::table::RECORDS;
+use fields::Walked;
+use fields::fill;
+use fields::place;
+use fields::row;
+use fields::table::PAIR_ROW;
+use fields::table::RAYS_ROW;
+use fields::table::RECORDS;
+use fields::times;
 use views::COUNTS;
 use views::HEADER;
 use views::OFFSETS;
@@ -18,9 +18,9 @@ ghost use Prim.Native.Nat.{_+_, _-_, _*_, _^_, _≤_, _<_};
 ghost use lib.ListN.{length, take, getD};
 ghost use lib.Seq.{slice};
 ghost use Rattle.model.specs.Module.{limits, placed as placedOf, endAt, next};
-ghost use Rattle.image.specs.Parts.{pieces};
-ghost use Rattle.image.specs.Rows.{ROWS, numbers, rowAt};
-ghost use Rattle.image.specs.Extents.{Covers, extent, tabled, special as specialOf, sectionsFrom, tableRows, recordsLeft};
+ghost use Rattle.fields.specs.Parts.{pieces, tableRows};
+ghost use Rattle.fields.specs.Rows.{ROWS, numbers, rowAt};
+ghost use Rattle.image.specs.Extents.{Covers, extent, tabled, special as specialOf, sectionsFrom, recordsLeft};
 
 // Where the header has the offset of the section behind section k, from which 2 k words lead on; and what it says of the special types.
 const NEXT: usize = OFFSETS + 2;

@@ -24,7 +24,7 @@ use Rattle.laws.specs.Lists.{and-split}
 use Rattle.laws.specs.FunctionViews.{each-at}
 use Rattle.laws.specs.Betweens.{table-count}
 use Rattle.gather.proofs.Numbered.{functions-sound}
-use Rattle.redirect.proofs.Places.{name-is, start-in, many}
+use Rattle.replace.proofs.Places.{name-is, start-in, many}
 use Rattle.sessions.specs.Named.{head-field, name-low}
 use Rattle.state.specs.Refers.{tabOf, kindBytes}
 use Rattle.state.specs.Flats.{functionOf}

@@ -26,9 +26,10 @@ use Rattle.laws.specs.FunctionViews.{taped-write, table-least}
 use Rattle.words.specs.Words.{bytesOf}
 use Rattle.calls.proofs.Lists.{never}
 use Rattle.gather.proofs.Whole.{found}
-use Rattle.listing.specs.Lines.{nameText, nameIn, nameOf, lineText, linesText, headed, FUNCTIONS, orderedText, NamesKnown}
+use Rattle.lines.specs.Lines.{nameText, nameIn, nameOf, lineText, linesText, headed, FUNCTIONS, orderedText}
+use Rattle.listing.specs.Telling.{NamesKnown}
 use Rattle.listing.proofs.Names.{Text, texts, text-shape}
-use Rattle.listing.proofs.Joining.{decimal-long, numbers-long, line-long, headed-long}
+use Rattle.lines.proofs.Joining.{decimal-long, numbers-long, line-long, headed-long}
 use Rattle.listing.proofs.Known.{head-field}
 
 -- ---- sums over places of which none stands twice

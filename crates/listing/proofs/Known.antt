@@ -22,7 +22,7 @@ use Rattle.gather.specs.Gathering.{Known}
 use Rattle.gather.proofs.Numbered.{functions-sound, passed-known}
 use Rattle.model.specs.Redirect.{nameWord}
 use Rattle.laws.specs.Writing.{flat-right}
-use Rattle.listing.specs.Lines.{NamesKnown, Naming, Passed}
+use Rattle.listing.specs.Telling.{NamesKnown, Naming, Passed}
 
 -- ---- in the table
 head-below : (b : Bounds) (h rest : Cells) → Lays functionHead h → within b (h ++ rest) ≡ true → word (getD h 0 (0, 0)) ≤ b .names

@@ -25,7 +25,8 @@ use Rattle.words.specs.Words.{bytesOf}
 use Rattle.words.proofs.Laws.{length-bytesOf}
 use Rattle.gather.proofs.Whole.{found, each-found, offsets}
 use Rattle.model.specs.Redirect.{nameWord}
-use Rattle.listing.specs.Lines.{nameText, nameIn, nameOf, NamesKnown, Naming, textAt, Readable}
+use Rattle.lines.specs.Lines.{nameText, nameIn, nameOf, textAt, Readable}
+use Rattle.listing.specs.Telling.{NamesKnown, Naming}
 
 -- ---- the shape of a name's record
 short? : Row → Bool

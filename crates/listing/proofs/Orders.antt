@@ -28,10 +28,11 @@ use Rattle.intake.specs.declared.Taken.{Taken}
 use Rattle.intake.specs.declared.Taken.the-variants.{Accepted, Size, Misfit, Number, Order, Name, Scope}
 use Rattle.intake.proofs.Refusals.{NotFirst, refused-by}
 use Rattle.basic.proofs.Images.{count-few, list-long}
-use Rattle.listing.specs.Lines.{nameOf, lineText, linesText, headed, FUNCTIONS, REFUSED, RINGS, orderedText, refusing, telling, ofModule, afterIntake, tellingOf, nameIs, Puts, Text, Passed, Says, Tells}
-use Rattle.listing.proofs.Bytes.{puts-long}
+use Rattle.lines.specs.Lines.{nameOf, lineText, linesText, headed, FUNCTIONS, orderedText, nameIs, Puts, Text}
+use Rattle.listing.specs.Telling.{REFUSED, RINGS, refusing, telling, ofModule, afterIntake, tellingOf, Passed, Says, Tells}
+use Rattle.lines.proofs.Bytes.{puts-long}
 use Rattle.listing.proofs.Names.{text-of, readable}
-use Rattle.listing.proofs.Joining.{decimal-long, headed-long}
+use Rattle.lines.proofs.Joining.{decimal-long, headed-long}
 use Rattle.listing.proofs.Known.{passed-naming, passed-one, functions-distinct}
 use Rattle.listing.proofs.Fits.{distinct-once, text-fits}
 

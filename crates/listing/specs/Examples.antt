@@ -8,7 +8,8 @@ use Rattle.model.specs.Module.{Module}
 use Rattle.words.specs.Words.{bytesOf}
 use Rattle.model.specs.Redirect.{nameWord}
 use Rattle.model.specs.Calls.{ordered, ring}
-use Rattle.listing.specs.Lines.{decimal, nameText, nameIn, nameOf, numbersText, lineText, linesText, headed, orderedText, refusing, telling}
+use Rattle.lines.specs.Lines.{decimal, nameText, nameIn, nameOf, numbersText, lineText, linesText, headed, orderedText}
+use Rattle.listing.specs.Telling.{refusing, telling}
 
 abbrev function : ℕ → Function
 function w = record { head = (NAME, w) ∷ (SPAN, 0) ∷ (UPTO, 0) ∷ []; arguments = []; result = []; locals = []; exprs = []; named = []; body = end }

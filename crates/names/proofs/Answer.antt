@@ -23,7 +23,8 @@ use Rattle.laws.specs.Views.{sees-name, sees-pair, sees-special}
 use Rattle.laws.specs.Tapes.{taped-same}
 use Rattle.laws.specs.FunctionViews.{Part, part-end, part-word, part-words, parts, taped-held, taped-length, taped-count, taped-offset, taped-functions, taped-entries, taped-part, taped-function, taped-entry-head, looked-each}
 use Rattle.laws.specs.Betweens.{table-between, table-count, record-offset, record-part}
-use Rattle.names.specs.Passes.{listing, placeOf, numberAt, Placed, nameAt, Spelled, NONE, marking, Small}
+use Rattle.distinct.specs.Listed.{listing, placeOf, numberAt, Placed, nameAt, Spelled}
+use Rattle.names.specs.Passes.{NONE, marking, Small}
 use Rattle.names.proofs.Marks.{functions-are, entries-are, functions-small, entries-small}
 
 place-record : (ws : List ℕ) (k j : ℕ) → k < 8 → placeOf ws k j ≡ recordAt k j ws

@@ -1,15 +1,15 @@
 // What a function refers to outside itself: records of tables, by the words of one of its expressions or of another stretch.
 use classes::EXPR;
+use constants::import_const;
+use constants::import_global;
+use constants::import_global_expression;
+use constants::import_pipeline_override;
 use handles::ConstantHandle;
 use handles::ExpressionHandle;
 use handles::GlobalHandle;
 use handles::OverrideHandle;
 use handles::TypeHandle;
-use import::import_const;
-use import::import_global;
-use import::import_global_expression;
 use import::import_name;
-use import::import_pipeline_override;
 use import::import_type;
 use import::refers_to;
 use state::Ends;

@@ -1,8 +1,12 @@
 -- The passes by example, computed: P10 and P11 of document 01, an Atomic with its compare, a call with a result, a merged initialiser, blocks in blocks, spans. What is written is the flat list of the derived function, and the state behind is the model's.
-use mathlib.Core.Path.{_≡_, refl}
+use mathlib.Core.Path.{_≡_, refl, ap₂}
 use mathlib.Core.List.{List, [], _∷_}
+use mathlib.Core.Bool.{Bool, true, false, _&&_, false≢true}
 use mathlib.Core.Option.{none, some}
-use Rattle.model.specs.Outcome.{Cells}
+use Prim.Native.Nat.{ℕ}
+use lib.Dec.{eqb}
+use borrow.Author.Tests.{eqb-true}
+use Rattle.model.specs.Outcome.{Cell, Cells, class, word}
 use Rattle.model.specs.Table.{WORD, NAME, SPAN, UPTO, TYPE, LOCAL-INIT, VALUE, RETURNS}
 use Rattle.model.specs.Tree.{stmt, block, branch, switch, loop, break, return, kill, call, end, _then_, case, nomore, _also_, Function, optOf, wordOf, kindOf, sizeB, sizeC, flatAll, flatList, flatX, flatS, flatBlock, flat}
 use Rattle.model.specs.Module.{Module}
@@ -18,6 +22,7 @@ use Rattle.model.specs.Imports.{once, settle, wentT, made, commit, stepT, impor
 use Rattle.model.specs.Bodies.{lastOf, known, Making, bring, compareOf, comparesOf, eachE, optE, went, carried, step, push, join, stand, importE, plain, unique, quiet, goS, settled, mkS, putName, nameIf, keepNames, nameCells, namedRows, declarations, declared, walked, rebuilt, keptNames, namedAfter, derived, final, localized, appended, append, followF, follow}
 use Rattle.model.specs.Special.{force, withSpecial, putRay, rayTo, ray, rays, keyed, putPair, pairTo, pairs, sourced}
 use Rattle.model.specs.ImportExamples.{leaf, module-of, function-of, named as name-of}
+use Rattle.laws.specs.Lists.{and-first, and-second}
 use Rattle.bodies.specs.Shallow.{need, peek, glance}
 use Rattle.passes.specs.Pass.{atomicKind, arrive, first, both, early, passed, wordOf as wordAt, after, written, named, rows, front, begin, frontAfter, frontWritten, bodyAfter, bodyWritten, namesAfter, namesWritten, wholeAfter, wholeWritten}
 
@@ -37,6 +42,25 @@ state M = wholeAfter 10 M (follow 10 M) (function M 0) (sourced 10 M fresh)
 
 unfoldable pub ends : Module → Making
 ends M = final 10 M (follow 10 M) (function M 0) (sourced 10 M fresh)
+
+-- equal cells, by a test: to compute it is quicker than to compare both sides step by step
+unfoldable pub equal : Cells → Cells → Bool
+equal [] [] = true
+equal [] (d ∷ ds) = false
+equal (c ∷ cs) [] = false
+equal (c ∷ cs) (d ∷ ds) = (eqb (class c) (class d) && eqb (word c) (word d)) && equal cs ds
+
+same-cell : (c d : Cell) → (eqb (class c) (class d) && eqb (word c) (word d)) ≡ true → c ≡ d
+same-cell (s, w) (t, v) e = ap₂ (λ (a b : ℕ). (a, b)) (eqb-true s t (and-first (eqb s t) (eqb w v) e)) (eqb-true w v (and-second (eqb s t) (eqb w v) e))
+
+pub equals : (cs ds : Cells) → equal cs ds ≡ true → cs ≡ ds
+unfolding equal
+equals [] [] e = refl
+equals [] (d ∷ ds) e = absurd (false≢true e)
+equals (c ∷ cs) [] e = absurd (false≢true e)
+equals (c ∷ cs) (d ∷ ds) e =
+    let t = eqb (class c) (class d) && eqb (word c) (word d) in
+    ap₂ (λ (x : Cell) (xs : Cells). x ∷ xs) (same-cell c d (and-first t (equal cs ds) e)) (equals cs ds (and-second t (equal cs ds) e))
 
 pub record Same (M : Module) : Type 0 where
   pub cells : passes M ≡ becomes M
@@ -77,29 +101,29 @@ declares =
     } ∷ [])
 
 pub of-p10 : Same p10
-unfolding passes becomes state ends atomicKind arrive first both early passed wordAt after written named rows front begin frontAfter frontWritten bodyAfter bodyWritten namesAfter namesWritten wholeAfter wholeWritten need peek glance optOf wordOf kindOf sizeB sizeC flatAll flatList flatX flatS flatBlock flat carryCell carryOpt carryRange carryS optional kind standingKind kindAt standing field upFrom inRange nameWord nothing function codeT isT at upd six tables recAt count mapAt targets target refOf refs each carryW through undefined add spanBy firstWord undefinedAt moved shift alikeC alike seat merged once settle wentT made commit stepT importF levels importT unmapped emptied fresh lastOf known bring compareOf comparesOf eachE optE went carried step push join stand importE plain unique quiet goS settled mkS putName nameIf keepNames nameCells namedRows declarations declared walked rebuilt keptNames namedAfter derived final localized appended append followF follow force withSpecial putRay rayTo ray rays keyed putPair pairTo pairs sourced
-of-p10 = record { cells = refl; memo = refl }
+unfolding equal passes becomes state ends atomicKind arrive first both early passed wordAt after written named rows front begin frontAfter frontWritten bodyAfter bodyWritten namesAfter namesWritten wholeAfter wholeWritten need peek glance optOf wordOf kindOf sizeB sizeC flatAll flatList flatX flatS flatBlock flat carryCell carryOpt carryRange carryS optional kind standingKind kindAt standing field upFrom inRange nameWord nothing function codeT isT at upd six tables recAt count mapAt targets target refOf refs each carryW through undefined add spanBy firstWord undefinedAt moved shift alikeC alike seat merged once settle wentT made commit stepT importF levels importT unmapped emptied fresh lastOf known bring compareOf comparesOf eachE optE went carried step push join stand importE plain unique quiet goS settled mkS putName nameIf keepNames nameCells namedRows declarations declared walked rebuilt keptNames namedAfter derived final localized appended append followF follow force withSpecial putRay rayTo ray rays keyed putPair pairTo pairs sourced
+of-p10 = record { cells = equals (passes p10) (becomes p10) refl; memo = refl }
 
 pub of-p11 : Same p11
-unfolding passes becomes state ends atomicKind arrive first both early passed wordAt after written named rows front begin frontAfter frontWritten bodyAfter bodyWritten namesAfter namesWritten wholeAfter wholeWritten need peek glance optOf wordOf kindOf sizeB sizeC flatAll flatList flatX flatS flatBlock flat carryCell carryOpt carryRange carryS optional kind standingKind kindAt standing field upFrom inRange nameWord nothing function codeT isT at upd six tables recAt count mapAt targets target refOf refs each carryW through undefined add spanBy firstWord undefinedAt moved shift alikeC alike seat merged once settle wentT made commit stepT importF levels importT unmapped emptied fresh lastOf known bring compareOf comparesOf eachE optE went carried step push join stand importE plain unique quiet goS settled mkS putName nameIf keepNames nameCells namedRows declarations declared walked rebuilt keptNames namedAfter derived final localized appended append followF follow force withSpecial putRay rayTo ray rays keyed putPair pairTo pairs sourced
-of-p11 = record { cells = refl; memo = refl }
+unfolding equal passes becomes state ends atomicKind arrive first both early passed wordAt after written named rows front begin frontAfter frontWritten bodyAfter bodyWritten namesAfter namesWritten wholeAfter wholeWritten need peek glance optOf wordOf kindOf sizeB sizeC flatAll flatList flatX flatS flatBlock flat carryCell carryOpt carryRange carryS optional kind standingKind kindAt standing field upFrom inRange nameWord nothing function codeT isT at upd six tables recAt count mapAt targets target refOf refs each carryW through undefined add spanBy firstWord undefinedAt moved shift alikeC alike seat merged once settle wentT made commit stepT importF levels importT unmapped emptied fresh lastOf known bring compareOf comparesOf eachE optE went carried step push join stand importE plain unique quiet goS settled mkS putName nameIf keepNames nameCells namedRows declarations declared walked rebuilt keptNames namedAfter derived final localized appended append followF follow force withSpecial putRay rayTo ray rays keyed putPair pairTo pairs sourced
+of-p11 = record { cells = equals (passes p11) (becomes p11) refl; memo = refl }
 
 pub of-compare : Same compare
-unfolding passes becomes state ends atomicKind arrive first both early passed wordAt after written named rows front begin frontAfter frontWritten bodyAfter bodyWritten namesAfter namesWritten wholeAfter wholeWritten need peek glance optOf wordOf kindOf sizeB sizeC flatAll flatList flatX flatS flatBlock flat carryCell carryOpt carryRange carryS optional kind standingKind kindAt standing field upFrom inRange nameWord nothing function codeT isT at upd six tables recAt count mapAt targets target refOf refs each carryW through undefined add spanBy firstWord undefinedAt moved shift alikeC alike seat merged once settle wentT made commit stepT importF levels importT unmapped emptied fresh lastOf known bring compareOf comparesOf eachE optE went carried step push join stand importE plain unique quiet goS settled mkS putName nameIf keepNames nameCells namedRows declarations declared walked rebuilt keptNames namedAfter derived final localized appended append followF follow force withSpecial putRay rayTo ray rays keyed putPair pairTo pairs sourced
-of-compare = record { cells = refl; memo = refl }
+unfolding equal passes becomes state ends atomicKind arrive first both early passed wordAt after written named rows front begin frontAfter frontWritten bodyAfter bodyWritten namesAfter namesWritten wholeAfter wholeWritten need peek glance optOf wordOf kindOf sizeB sizeC flatAll flatList flatX flatS flatBlock flat carryCell carryOpt carryRange carryS optional kind standingKind kindAt standing field upFrom inRange nameWord nothing function codeT isT at upd six tables recAt count mapAt targets target refOf refs each carryW through undefined add spanBy firstWord undefinedAt moved shift alikeC alike seat merged once settle wentT made commit stepT importF levels importT unmapped emptied fresh lastOf known bring compareOf comparesOf eachE optE went carried step push join stand importE plain unique quiet goS settled mkS putName nameIf keepNames nameCells namedRows declarations declared walked rebuilt keptNames namedAfter derived final localized appended append followF follow force withSpecial putRay rayTo ray rays keyed putPair pairTo pairs sourced
+of-compare = record { cells = equals (passes compare) (becomes compare) refl; memo = refl }
 
 pub of-calls : Same calls
-unfolding passes becomes state ends atomicKind arrive first both early passed wordAt after written named rows front begin frontAfter frontWritten bodyAfter bodyWritten namesAfter namesWritten wholeAfter wholeWritten need peek glance optOf wordOf kindOf sizeB sizeC flatAll flatList flatX flatS flatBlock flat carryCell carryOpt carryRange carryS optional kind standingKind kindAt standing field upFrom inRange nameWord nothing function codeT isT at upd six tables recAt count mapAt targets target refOf refs each carryW through undefined add spanBy firstWord undefinedAt moved shift alikeC alike seat merged once settle wentT made commit stepT importF levels importT unmapped emptied fresh lastOf known bring compareOf comparesOf eachE optE went carried step push join stand importE plain unique quiet goS settled mkS putName nameIf keepNames nameCells namedRows declarations declared walked rebuilt keptNames namedAfter derived final localized appended append followF follow force withSpecial putRay rayTo ray rays keyed putPair pairTo pairs sourced
-of-calls = record { cells = refl; memo = refl }
+unfolding equal passes becomes state ends atomicKind arrive first both early passed wordAt after written named rows front begin frontAfter frontWritten bodyAfter bodyWritten namesAfter namesWritten wholeAfter wholeWritten need peek glance optOf wordOf kindOf sizeB sizeC flatAll flatList flatX flatS flatBlock flat carryCell carryOpt carryRange carryS optional kind standingKind kindAt standing field upFrom inRange nameWord nothing function codeT isT at upd six tables recAt count mapAt targets target refOf refs each carryW through undefined add spanBy firstWord undefinedAt moved shift alikeC alike seat merged once settle wentT made commit stepT importF levels importT unmapped emptied fresh lastOf known bring compareOf comparesOf eachE optE went carried step push join stand importE plain unique quiet goS settled mkS putName nameIf keepNames nameCells namedRows declarations declared walked rebuilt keptNames namedAfter derived final localized appended append followF follow force withSpecial putRay rayTo ray rays keyed putPair pairTo pairs sourced
+of-calls = record { cells = equals (passes calls) (becomes calls) refl; memo = refl }
 
 pub of-nested : Same nested
-unfolding passes becomes state ends atomicKind arrive first both early passed wordAt after written named rows front begin frontAfter frontWritten bodyAfter bodyWritten namesAfter namesWritten wholeAfter wholeWritten need peek glance optOf wordOf kindOf sizeB sizeC flatAll flatList flatX flatS flatBlock flat carryCell carryOpt carryRange carryS optional kind standingKind kindAt standing field upFrom inRange nameWord nothing function codeT isT at upd six tables recAt count mapAt targets target refOf refs each carryW through undefined add spanBy firstWord undefinedAt moved shift alikeC alike seat merged once settle wentT made commit stepT importF levels importT unmapped emptied fresh lastOf known bring compareOf comparesOf eachE optE went carried step push join stand importE plain unique quiet goS settled mkS putName nameIf keepNames nameCells namedRows declarations declared walked rebuilt keptNames namedAfter derived final localized appended append followF follow force withSpecial putRay rayTo ray rays keyed putPair pairTo pairs sourced
-of-nested = record { cells = refl; memo = refl }
+unfolding equal passes becomes state ends atomicKind arrive first both early passed wordAt after written named rows front begin frontAfter frontWritten bodyAfter bodyWritten namesAfter namesWritten wholeAfter wholeWritten need peek glance optOf wordOf kindOf sizeB sizeC flatAll flatList flatX flatS flatBlock flat carryCell carryOpt carryRange carryS optional kind standingKind kindAt standing field upFrom inRange nameWord nothing function codeT isT at upd six tables recAt count mapAt targets target refOf refs each carryW through undefined add spanBy firstWord undefinedAt moved shift alikeC alike seat merged once settle wentT made commit stepT importF levels importT unmapped emptied fresh lastOf known bring compareOf comparesOf eachE optE went carried step push join stand importE plain unique quiet goS settled mkS putName nameIf keepNames nameCells namedRows declarations declared walked rebuilt keptNames namedAfter derived final localized appended append followF follow force withSpecial putRay rayTo ray rays keyed putPair pairTo pairs sourced
+of-nested = record { cells = equals (passes nested) (becomes nested) refl; memo = refl }
 
 pub of-cases : Same cases
-unfolding passes becomes state ends atomicKind arrive first both early passed wordAt after written named rows front begin frontAfter frontWritten bodyAfter bodyWritten namesAfter namesWritten wholeAfter wholeWritten need peek glance optOf wordOf kindOf sizeB sizeC flatAll flatList flatX flatS flatBlock flat carryCell carryOpt carryRange carryS optional kind standingKind kindAt standing field upFrom inRange nameWord nothing function codeT isT at upd six tables recAt count mapAt targets target refOf refs each carryW through undefined add spanBy firstWord undefinedAt moved shift alikeC alike seat merged once settle wentT made commit stepT importF levels importT unmapped emptied fresh lastOf known bring compareOf comparesOf eachE optE went carried step push join stand importE plain unique quiet goS settled mkS putName nameIf keepNames nameCells namedRows declarations declared walked rebuilt keptNames namedAfter derived final localized appended append followF follow force withSpecial putRay rayTo ray rays keyed putPair pairTo pairs sourced
-of-cases = record { cells = refl; memo = refl }
+unfolding equal passes becomes state ends atomicKind arrive first both early passed wordAt after written named rows front begin frontAfter frontWritten bodyAfter bodyWritten namesAfter namesWritten wholeAfter wholeWritten need peek glance optOf wordOf kindOf sizeB sizeC flatAll flatList flatX flatS flatBlock flat carryCell carryOpt carryRange carryS optional kind standingKind kindAt standing field upFrom inRange nameWord nothing function codeT isT at upd six tables recAt count mapAt targets target refOf refs each carryW through undefined add spanBy firstWord undefinedAt moved shift alikeC alike seat merged once settle wentT made commit stepT importF levels importT unmapped emptied fresh lastOf known bring compareOf comparesOf eachE optE went carried step push join stand importE plain unique quiet goS settled mkS putName nameIf keepNames nameCells namedRows declarations declared walked rebuilt keptNames namedAfter derived final localized appended append followF follow force withSpecial putRay rayTo ray rays keyed putPair pairTo pairs sourced
+of-cases = record { cells = equals (passes cases) (becomes cases) refl; memo = refl }
 
 pub of-declares : Same declares
-unfolding passes becomes state ends atomicKind arrive first both early passed wordAt after written named rows front begin frontAfter frontWritten bodyAfter bodyWritten namesAfter namesWritten wholeAfter wholeWritten need peek glance optOf wordOf kindOf sizeB sizeC flatAll flatList flatX flatS flatBlock flat carryCell carryOpt carryRange carryS optional kind standingKind kindAt standing field upFrom inRange nameWord nothing function codeT isT at upd six tables recAt count mapAt targets target refOf refs each carryW through undefined add spanBy firstWord undefinedAt moved shift alikeC alike seat merged once settle wentT made commit stepT importF levels importT unmapped emptied fresh lastOf known bring compareOf comparesOf eachE optE went carried step push join stand importE plain unique quiet goS settled mkS putName nameIf keepNames nameCells namedRows declarations declared walked rebuilt keptNames namedAfter derived final localized appended append followF follow force withSpecial putRay rayTo ray rays keyed putPair pairTo pairs sourced
-of-declares = record { cells = refl; memo = refl }
+unfolding equal passes becomes state ends atomicKind arrive first both early passed wordAt after written named rows front begin frontAfter frontWritten bodyAfter bodyWritten namesAfter namesWritten wholeAfter wholeWritten need peek glance optOf wordOf kindOf sizeB sizeC flatAll flatList flatX flatS flatBlock flat carryCell carryOpt carryRange carryS optional kind standingKind kindAt standing field upFrom inRange nameWord nothing function codeT isT at upd six tables recAt count mapAt targets target refOf refs each carryW through undefined add spanBy firstWord undefinedAt moved shift alikeC alike seat merged once settle wentT made commit stepT importF levels importT unmapped emptied fresh lastOf known bring compareOf comparesOf eachE optE went carried step push join stand importE plain unique quiet goS settled mkS putName nameIf keepNames nameCells namedRows declarations declared walked rebuilt keptNames namedAfter derived final localized appended append followF follow force withSpecial putRay rayTo ray rays keyed putPair pairTo pairs sourced
+of-declares = record { cells = equals (passes declares) (becomes declares) refl; memo = refl }

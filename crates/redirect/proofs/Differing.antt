@@ -16,8 +16,8 @@ use Rattle.model.specs.Redirect.{nameWord, redirecting, redirectFn, redirectEnt
 use Rattle.laws.specs.Writing.{write-function, write-entry}
 use Rattle.laws.specs.Carries.{flat-carry-function, flat-carry-entry, carry-well-function, carry-well-entry}
 use Rattle.redirect.specs.Claims.{Differs, differs-none, differs-same, differs-call, differs-result}
-use Rattle.redirect.proofs.Turning.{redirecting-keeps, well-functions, well-entries}
-use Rattle.redirect.proofs.Contexts.{functions-before, functions-behind, functions-in, entries-before, entries-behind, entries-in}
+use Rattle.replace.proofs.Turning.{redirecting-keeps, well-functions, well-entries}
+use Rattle.replace.proofs.Contexts.{functions-before, functions-behind, functions-in, entries-before, entries-behind, entries-in}
 
 -- ---- a word of any other class stays
 module _ (a b : ℕ) where

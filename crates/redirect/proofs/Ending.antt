@@ -13,11 +13,12 @@ use Rattle.model.specs.Module.{Module, write}
 use Rattle.model.specs.Taped.{Taped, Tape}
 use Rattle.model.specs.Redirect.{find, allBelow, argumentTypes, agree, resultType, same, redirect, Answer, redirected, outside, noOriginal, noReplacement, argumentsDiffer, resultsDiffer, after, function, compared, withReplacement, withOriginal, redirectFunction}
 use Rattle.laws.specs.FunctionViews.{taped-write}
-use Rattle.redirect.specs.Passes.{both, refused, shown, told, Tests, Turns, redirectedBy, Redirects}
+use Rattle.redirect.specs.Passes.{both, refused, shown, told, Tests, Redirects}
+use Rattle.replace.specs.Turns.{Turns, redirectedBy}
 use Rattle.redirect.specs.declared.Redirected.{Redirected}
 use Rattle.redirect.specs.declared.Redirected.the-variants.{Done, Outside, NoOriginal, NoReplacement, ArgumentsDiffer, ResultsDiffer}
 use Rattle.redirect.proofs.Redirected.{the-type}
-use Rattle.redirect.proofs.Turning.{sets-middle}
+use Rattle.replace.proofs.Turning.{sets-middle}
 use Rattle.handles.specs.declared.FunctionHandle.{FunctionHandle}
 
 -- ---- an answer that tells both functions is the redirected module; one that is refused leaves the module

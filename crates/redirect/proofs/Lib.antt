@@ -1,10 +1,6 @@
-pub mod Leaves
-pub mod Pass
-pub mod Contexts
-pub mod Places
+pub mod Lists
 pub mod Finding
 pub mod Testing
-pub mod Turning
 pub mod Ending
 pub mod Differing
 pub mod Kept

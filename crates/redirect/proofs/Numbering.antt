@@ -20,7 +20,7 @@ use Rattle.laws.specs.Lists.{and-true, and-split}
 use Rattle.laws.specs.Plain.{plain-more}
 use Rattle.laws.specs.Carries.{flat-carry-function, flat-carry-entry}
 use Rattle.laws.specs.FunctionViews.{Field, field-not, Expression, expression, each-expression, variant-brings}
-use Rattle.redirect.proofs.Turning.{redirecting-keeps}
+use Rattle.replace.proofs.Turning.{redirecting-keeps}
 use Rattle.redirect.proofs.Differing.{by-class, by-word, fns-long}
 use Rattle.redirect.proofs.Kept.{turn, pick, initialised-kept}
 

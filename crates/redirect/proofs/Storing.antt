@@ -13,7 +13,7 @@ use Rattle.words.specs.Words.{bytesOf}
 use Rattle.words.proofs.Laws.{length-bytesOf}
 use Rattle.redirect.specs.Passes.{both, refused, told, Redirects, imageAfter, Stores}
 use Rattle.redirect.specs.declared.Redirected.{Redirected}
-use Rattle.redirect.proofs.Turning.{sets-middle}
+use Rattle.replace.proofs.Turning.{sets-middle}
 use Rattle.redirect.proofs.Ending.{Redirecting, answered, Refused, refuses-by, Accepted, accepts}
 use Rattle.redirect.proofs.Theorems.{as-long}
 

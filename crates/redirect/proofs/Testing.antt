@@ -15,7 +15,7 @@ use Rattle.redirect.specs.declared.Found.{Found}
 use Rattle.redirect.specs.declared.Found.the-variants.{At, Nothing}
 use Rattle.redirect.specs.declared.Redirected.{Redirected}
 use Rattle.redirect.specs.declared.Redirected.the-variants.{Outside, NoOriginal, NoReplacement}
-use Rattle.redirect.proofs.Places.{many}
+use Rattle.replace.proofs.Places.{many}
 use Rattle.redirect.proofs.Finding.{find-in}
 use Rattle.handles.specs.declared.FunctionHandle.{FunctionHandle}
 

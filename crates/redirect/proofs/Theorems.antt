@@ -18,8 +18,9 @@ use Rattle.laws.specs.Carries.{flat-carry-function}
 use Rattle.laws.specs.Modules.{write-read}
 use Rattle.laws.specs.Views.{length-write, view-edition, view-total}
 use Rattle.redirect.specs.Claims.{Differs}
-use Rattle.redirect.specs.Passes.{turned, told}
-use Rattle.redirect.proofs.Turning.{redirecting-keeps}
+use Rattle.redirect.specs.Passes.{told}
+use Rattle.replace.specs.Turns.{turned}
+use Rattle.replace.proofs.Turning.{redirecting-keeps}
 use Rattle.redirect.proofs.Finding.{find-in}
 use Rattle.redirect.proofs.Ending.{answered}
 use Rattle.redirect.proofs.Differing.{differs-long, redirect-differs, redirect-well, redirect-none, redirect-itself}

@@ -1,16 +1,14 @@
 -- What the functions of this crate answer and do, in terms of the module that words and tape hold.
 use mathlib.Core.Path.{_≡_}
-use mathlib.Core.Bool.{Bool, true, false}
+use mathlib.Core.Bool.{Bool}
 use mathlib.Core.Option.{Option, none, some}
 use mathlib.Core.List.{List}
 use Prim.Native.Nat.{ℕ}
-use lib.ListN.{drop, set}
 use lib.Seq.{sets}
 use Rattle.model.specs.Refusals.{NO-ORIGINAL, NO-REPLACEMENT, OTHER-ARGUMENTS, OTHER-RESULT, NO-RECORD}
-use Rattle.model.specs.Tree.{Function}
 use Rattle.model.specs.Module.{Module, write}
 use Rattle.model.specs.Taped.{Taped}
-use Rattle.model.specs.Redirect.{nameWord, find, argumentTypes, agree, resultType, same as sameType, redirectFn, stays, redirectFns, withFunctions, redirect, Answer, redirected, outside, noOriginal, noReplacement, argumentsDiffer, resultsDiffer, after, function, compared, redirectFunction}
+use Rattle.model.specs.Redirect.{find, argumentTypes, agree, resultType, same as sameType, Answer, redirected, outside, noOriginal, noReplacement, argumentsDiffer, resultsDiffer, after, function, compared, redirectFunction}
 use Rattle.words.specs.Words.{bytesOf}
 use Rattle.redirect.specs.declared.Found.{Found}
 use Rattle.redirect.specs.declared.Found.the-variants.{At, Nothing}
@@ -60,24 +58,7 @@ pub record Compares (r : Redirected) (words tags : List ℕ) (n a b : ℕ) : Typ
 pub record Tests (r : Redirected) (words tags : List ℕ) (n original replacement : ℕ) (omit : List ℕ) : Type 0 where
   pub same : (m : Module) → Taped words tags n m → shown r ≡ told (redirectFunction m original replacement omit)
 
--- ---- changes: words that held m hold f m, by the same tape, and the words behind them stay
-pub record Turns (words₁ words tags : List ℕ) (n : ℕ) (f : Module → Module) : Type 0 where
-  pub holds : (m : Module) → Taped words tags n m → Taped words₁ tags n (f m)
-  pub rest : drop n words₁ ≡ drop n words
-
--- function j, redirected or as it is
-unfoldable pub turned : ℕ → ℕ → List ℕ → ℕ → Function → Function
-turned a b omit j f = elim (stays b omit j (nameWord f)) [ true ↦ f | false ↦ redirectFn a b f ]
-
-unfoldable pub turnOne : ℕ → ℕ → ℕ → List ℕ → Module → Module
-turnOne j a b omit m = withFunctions m (set (m .functions) j (turned a b omit j (function m j)))
-
-unfoldable pub turnAll : ℕ → ℕ → List ℕ → Module → Module
-turnAll a b omit m = withFunctions m (redirectFns (m .functions) 0 a b omit)
-
-unfoldable pub redirectedBy : ℕ → ℕ → List ℕ → Module → Module
-redirectedBy a b omit m = redirect m a b omit
-
+-- ---- the whole
 -- the words from the first on are the module's that the answer leaves: the redirected one, or, where it is refused, the one that was there
 pub record Redirects (r : Redirected) (words₁ words tags : List ℕ) (n original replacement : ℕ) (omit : List ℕ) : Type 0 where
   pub answer : (m : Module) → Taped words tags n m → shown r ≡ told (redirectFunction m original replacement omit)

@@ -21,7 +21,8 @@ use Rattle.model.specs.Callees.{calleesS as Callees-calleesS, calleesF as Calle
 use Rattle.model.specs.Redirect.{nameWord as Redirect-nameWord, find as Redirect-find, omitted as Redirect-omitted, allBelow as Redirect-allBelow, argumentTypes as Redirect-argumentTypes, agree as Redirect-agree, typeBehind as Redirect-typeBehind, resultType as Redirect-resultType, same as Redirect-same, redirecting as Redirect-redirecting, redirectFn as Redirect-redirectFn, redirectEntry as Redirect-redirectEntry, stays as Redirect-stays, redirectFns as Redirect-redirectFns, withFunctions as Redirect-withFunctions, withEntries as Redirect-withEntries, redirect as Redirect-redirect, refusal as Redirect-refusal, after as Redirect-after, nothing as Redirect-nothing, function as Redirect-function, compared as Redirect-compared, withReplacement as Redirect-withReplacement, withOriginal as Redirect-withOriginal, redirectFunction as Redirect-redirectFunction}
 use Rattle.redirect.specs.Passes.{told as redirect-told, imageAfter}
 use Rattle.basic.specs.Images.{told, ofModule, afterIntake, orderImage, packed, written}
-use Rattle.listing.specs.Lines.{decimal, nameText, nameIn, nameOf, numbersText, lineText, linesText, headed, orderedText, refusing, telling, ofModule as told-ofModule, afterIntake as told-afterIntake, tellingOf}
+use Rattle.lines.specs.Lines.{decimal, nameText, nameIn, nameOf, numbersText, lineText, linesText, headed, orderedText}
+use Rattle.listing.specs.Telling.{refusing, telling, ofModule as told-ofModule, afterIntake as told-afterIntake, tellingOf}
 use Rattle.layered.specs.Images.{ofModule as redirect-ofModule, afterIntake as redirect-afterIntake, redirectImage, packed as redirect-packed}
 
 unfoldable pub p5 : List ℕ

@@ -9,7 +9,7 @@ use Rattle.words.proofs.Laws.{sets-front}
 use Rattle.intake.specs.Taken.{Answers}
 use Rattle.basic.specs.Images.{Orders}
 use Rattle.layered.specs.Images.{Answers as Redirects}
-use Rattle.listing.specs.Lines.{tellingOf, Says}
+use Rattle.listing.specs.Telling.{tellingOf, Says}
 use Rattle.refuted.specs.Answers.{p5, p6, p8, twice, p6-accepted, twice-refused, p5-ordered, p8-left, p6-called, p6-redirected, p6-answered, p6-told}
 
 -- ---- intake

@@ -23,7 +23,7 @@ use Rattle.numbers.specs.Passes.{Says, Frame, tablesFine, kindsFine, functionsF
 use Rattle.numbers.proofs.Framing.{Word, noFunction, noEntry, Framing, framing-functions, framing-entries, functions-in, entries-in, numbered-is}
 use Rattle.laws.specs.Lists.{and-split}
 use Rattle.scope.specs.Functions.{Stated, Scoped, InRange, functionsScoped, entryPointsScoped}
-use Rattle.scope.proofs.Trees.{Runs, runs-word}
+use Rattle.blocks.proofs.Trees.{Runs, runs-word}
 use Rattle.scope.proofs.Whole.{part-runs}
 
 -- ---- numbers in range: an Emit ends at most at the number of expressions

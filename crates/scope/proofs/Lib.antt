@@ -1,11 +1,2 @@
-pub mod Restated
-pub mod Leaves
-pub mod Scopes
-pub mod Results
-pub mod Trees
-pub mod Blocks
-pub mod Parts
-pub mod Statements
-pub mod Bodies
 pub mod Whole
 pub mod Images

@@ -25,13 +25,13 @@ use Rattle.initial.specs.Marks.{finds, on, inits, Visits, Work, Starting, Reach
 use Rattle.initial.proofs.Reaching.{all, starting, begun, many-is, many-few, end-in}
 use Rattle.numbers.proofs.Framing.{lists-are}
 use Rattle.laws.specs.Lists.{and-split, bool-same}
-use Rattle.scope.specs.Fine.{fineB}
-use Rattle.scope.specs.Tape.{cellsFrom, cellsIn, blockOf, HoldsB, Ends, recordOf, tableFrom, exprsOf, Placed, Exprs, marks}
-use Rattle.scope.specs.Lasts.{BlockHere}
+use Rattle.evaluated.specs.Fine.{fineB}
+use Rattle.evaluated.specs.Tape.{cellsFrom, cellsIn, blockOf, HoldsB, Ends, recordOf, tableFrom, exprsOf, Placed, Exprs, marks}
+use Rattle.blocks.specs.Found.{BlockHere}
 use Rattle.scope.specs.Functions.{Lent, Known, Tested, Stated, Scoped}
-use Rattle.scope.proofs.Restated.{restated}
-use Rattle.scope.proofs.Scopes.{absurd-bool, expr-in}
-use Rattle.scope.proofs.Trees.{Runs, between-runs, block-is, block-held, ends-in}
+use Rattle.evaluated.proofs.Restated.{restated}
+use Rattle.evaluated.proofs.Scopes.{absurd-bool, expr-in}
+use Rattle.blocks.proofs.Trees.{Runs, between-runs, block-is, block-held, ends-in}
 
 -- a part of the cells, as the pass sees it
 pub part-runs : {ws ts : List ℕ} {cells : Cells} (o : Held ws ts cells) (cs : Cells) {p q : ℕ} → Part cells p q cs → Runs ws ts p cs

@@ -13,7 +13,7 @@ use Rattle.model.specs.Numbers.{numbered}
 use Rattle.model.specs.Scope.{scoped, allScoped, entriesScoped}
 use Rattle.numbers.specs.Passes.{Frame}
 use Rattle.initial.specs.Lists.{Lists}
-use Rattle.scope.specs.Tape.{Ends}
+use Rattle.evaluated.specs.Tape.{Ends}
 
 -- the arrays that a pass works in: where expressions start, what is still to be visited, and how long each lasts
 pub record Lent (starts list until : List ℕ) : Type 0 where

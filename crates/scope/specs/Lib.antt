@@ -1,4 +1,1 @@
-pub mod Fine
-pub mod Tape
-pub mod Lasts
 pub mod Functions

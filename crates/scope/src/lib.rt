@@ -1,9 +1,7 @@
 // Refusal 6: the Scope paragraph of document 01, in one pass over each body. The large arrays that a pass works in are made once for an image and
 // lent to one function after the other. `starts` and `list` are written before they are read, and of `until` each body clears as much as its function
 // has expressions. What is lent comes back as long as it was where the answer is yes; after a no there is no next function.
-pub mod body;
-
-use body::body;
+use blocks::body;
 use initial::places;
 use initial::reach;
 use initial::roots;

@@ -3,7 +3,7 @@
 use mathlib.Core.Path.{_≡_, refl, sym, ap, _∙_}
 use mathlib.Core.Bool.{true, false}
 use mathlib.Core.List.{List, [], _∷_, _++_}
-use mathlib.Core.Option.{none, some}
+use mathlib.Core.Option.{Option, none, some}
 use Prim.Native.Nat.{ℕ, _*_, _≤_}
 use native.Mathlib.Omega.{arith}
 use lib.ListN.{length}
@@ -23,7 +23,7 @@ use Rattle.sessions.specs.Operating.{Set, new-good, run-good, finish-wri
 use Rattle.sessions.specs.Mapped.{handIf, handRay, handRays, handPairs, taken, renamedBy, allRenamed, Stays, stays-none, stays-next, But}
 use Rattle.sessions.specs.Answers.{Appends}
 use Rattle.sessions.specs.Growing.{Grew, ends, turns, does-grow, does-keep, all-distinct, refused-keeps}
-use Rattle.model.specs.Session.{Source, Session, answered, refused}
+use Rattle.model.specs.Session.{Source, Session, Answer, answered, refused}
 use Rattle.model.specs.Bodies.{append, appended, bring, carried, compareOf, comparesOf, declarations, declared, derived, eachE, enterAll, entered, entriesMade, entryMade, final, follow as bodies-follow, followF, goS, importE, join, keepNames, keptNames, known, lastOf, localized, mkS, nameCells, nameIf, namedAfter, namedRows, optE, plain, push, putName, quiet, rebuilt, settled, stand, step, unique, walked, went}
 use Rattle.model.specs.Callees.{calleesAt, calleesS, calls}
 use Rattle.model.specs.Calls.{any, free, held, keep, numbers, round, rounds}
@@ -85,6 +85,26 @@ rings = sets (4 * length (write ring)) (write ring) 0
     ring : Module
     ring = record { names = letter 97 ∷ []; types = []; constants = []; overrides = []; globals = []; exprs = []; functions = calling 0 0 ∷ []; entries = []; special = record { rays = (OPT-TYPE, 0) ∷ (OPT-TYPE, 0) ∷ (OPT-TYPE, 0) ∷ []; pairs = [] } }
 
+-- what is answered, and that the session behind an answer is the one that the operation leaves: so that sessions need not be compared by computing them
+number : Answer ℕ → Option ℕ
+number (answered a s) = some a
+number (refused n) = none
+
+answered-is : (k : ℕ) (s : Session) (x : Answer ℕ) → number x ≡ some k → x ≡ answered k (after s x)
+unfolding number after
+answered-is k s (answered a s′) e = let q : a ≡ k = cc in ap (λ b. answered b s′) q
+answered-is k s (refused n) e = let z : _≡_ {A = ℕ} 0 1 = cc in absurd (omega arith)
+
+abbrev ready : Session
+ready = record { source = some (record { image = shades; offset = 10 }); state = run (setting-it 10 ∷ []) new .state }
+
+one-left : run (setting-it 10 ∷ []) new .source ≡ some (record { image = shades; offset = 10 }) → _≡_ {A = Answer ℕ} (answered 2 (after ready (importFunction 0 ready))) (answered 2 (run one new))
+unfolding run does
+one-left e = ap leaves (sym e)
+  where
+    leaves : Option Source → Answer ℕ
+    leaves x = let s : Session = record { source = x; state = run (setting-it 10 ∷ []) new .state } in answered 2 (after s (importFunction 0 s))
+
 pub record Computed : Type 0 where
   -- shade brings fog, which brings tone
   pub brought : functionNames (run one new .state .functions) ≡ 3 ∷ 2 ∷ 1 ∷ []
@@ -114,8 +134,8 @@ pub record Computed : Type 0 where
   pub range-refused : importFunction 3 (run one new) ≡ refused 13
 
 pub computed : Computed
-unfolding append appended bring carried compareOf comparesOf declarations declared derived eachE enterAll entered entriesMade entryMade final bodies-follow followF goS importE join keepNames keptNames known lastOf localized mkS nameCells nameIf namedAfter namedRows optE plain push putName quiet rebuilt settled stand step unique walked went calleesAt calleesS calls any free held keep numbers round rounds carry carryCell carryEntry carryFunction carryOpt carryRange carryS carrySpecial appearing finished firsts gathered indexN keepN namedBy namesIn passes renumber tooLarge withNames commit emptied fresh importF importT imports-levels made once rename renamed settle stepT unmapped wentT close constantAt initialised initials initial-initsOf mark marked moving reachedMarks readBy roots unmarked intakeOf tested verdict basesOf lower-below entriesLower functionsLower initOf initsLower lower-initsOf lower operandsLower typesLower _⊛_ bodies countAt endAt flatModule flatSpecial flatTable limits next offsetAt pairsFrom placed places read records section sections sized specialAt table tableAt write absent differ names-distinct entriesNamed entryNames expressionsNamed field functionNames functionsNamed names-named present same unlike numbers-below bound caps constantOnly every inside numbered ordered outside rising sound within constantKind emittedKind functionOf kind kindAt operand ops opsOf optional resultKind resultOf standing standingKind _⟫_ both eat exact mapL mapO function nameWord nothing add alike alikeC carryW each firstWord merged moved refOf refs seat shift spanBy target targets through undefined undefinedAt does run addE addF addOpt addS allOf allScoped allVis callResult contB scope-distinct effectResult emitted entriesScoped evalsOpt evalsS expandS has holdsS inRange inScope isOf kindsS live okE okS optVis scoped scopedAs seen shapeS topB upFrom vis after calleesOf clear ending finish finishWithEntryPoints importFunction importing kept mapFunctionHandle mapSpan needing new renameType ringing session-set setting stuck unknown withEntries force keyed pairTo pairs putPair putRay ray rayTo rays sourced withSpecial atomics constantRow counted entryHead expressionRow expressions table-follow functionHead globalRow table-levels limit more nameRow overrideRow queries repeat results table-run statements text typeRow types values variant variants at codeT count isT mapAt recAt six tables upd blockAt caseAt cases checked entryAt flat flatAll flatBlock flatEntry flatList flatS flatX form functionAt kindOf listed operands optOf rows shaped sizeB sizeC statement stmts wordOf unknowns handIf handRay handRays handPairs taken
-computed = record { brought = refl; brought-once = refl; ends-one = refl; ends-two = refl; ends-with = refl; apart = refl; twice = refl; place-taken = refl; spans-first = refl; by-hand = refl; none-at-first = refl; one-set = refl; just-set = refl; all-unknown = refl; no-ring = refl; answers-third = refl; ring-refused = refl; range-refused = refl }
+unfolding number append appended bring carried compareOf comparesOf declarations declared derived eachE enterAll entered entriesMade entryMade final bodies-follow followF goS importE join keepNames keptNames known lastOf localized mkS nameCells nameIf namedAfter namedRows optE plain push putName quiet rebuilt settled stand step unique walked went calleesAt calleesS calls any free held keep numbers round rounds carry carryCell carryEntry carryFunction carryOpt carryRange carryS carrySpecial appearing finished firsts gathered indexN keepN namedBy namesIn passes renumber tooLarge withNames commit emptied fresh importF importT imports-levels made once rename renamed settle stepT unmapped wentT close constantAt initialised initials initial-initsOf mark marked moving reachedMarks readBy roots unmarked intakeOf tested verdict basesOf lower-below entriesLower functionsLower initOf initsLower lower-initsOf lower operandsLower typesLower _⊛_ bodies countAt endAt flatModule flatSpecial flatTable limits next offsetAt pairsFrom placed places read records section sections sized specialAt table tableAt write absent differ names-distinct entriesNamed entryNames expressionsNamed field functionNames functionsNamed names-named present same unlike numbers-below bound caps constantOnly every inside numbered ordered outside rising sound within constantKind emittedKind functionOf kind kindAt operand ops opsOf optional resultKind resultOf standing standingKind _⟫_ both eat exact mapL mapO function nameWord nothing add alike alikeC carryW each firstWord merged moved refOf refs seat shift spanBy target targets through undefined undefinedAt does run addE addF addOpt addS allOf allScoped allVis callResult contB scope-distinct effectResult emitted entriesScoped evalsOpt evalsS expandS has holdsS inRange inScope isOf kindsS live okE okS optVis scoped scopedAs seen shapeS topB upFrom vis after calleesOf clear ending finish finishWithEntryPoints importFunction importing kept mapFunctionHandle mapSpan needing new renameType ringing session-set setting stuck unknown withEntries force keyed pairTo pairs putPair putRay ray rayTo rays sourced withSpecial atomics constantRow counted entryHead expressionRow expressions table-follow functionHead globalRow table-levels limit more nameRow overrideRow queries repeat results table-run statements text typeRow types values variant variants at codeT count isT mapAt recAt six tables upd blockAt caseAt cases checked entryAt flat flatAll flatBlock flatEntry flatList flatS flatX form functionAt kindOf listed operands optOf rows shaped sizeB sizeC statement stmts wordOf unknowns handIf handRay handRays handPairs taken
+computed = record { brought = refl; brought-once = refl; ends-one = refl; ends-two = refl; ends-with = refl; apart = refl; twice = refl; place-taken = refl; spans-first = refl; by-hand = refl; none-at-first = refl; one-set = refl; just-set = refl; all-unknown = refl; no-ring = refl; answers-third = answered-is 2 ready (importFunction 0 ready) refl ∙ one-left refl; ring-refused = refl; range-refused = refl }
 
 -- ---- the theorems apply
 -- what the first session writes is read back and passes all tests

@@ -13,7 +13,7 @@ use Rattle.model.specs.Between.{beside, between, Stretch}
 use Rattle.model.specs.Carry.{carryCell}
 use Rattle.model.specs.References.{Place, Target, copied, start, upto, ref, opt, target, Node, refOf, refs, through, firstWord, undefinedAt, moved, shift, alikeC, alike, seat}
 use Rattle.imports.specs.RecordLaws.{All, rest-of, bareW, bare}
-use Rattle.names.specs.Places.{mix, mixed}
+use Rattle.distinct.specs.Places.{mix, mixed}
 use Rattle.laws.specs.Betweens.{between-none, between-next}
 use Rattle.state.specs.Refers.{Small}
 use Rattle.state.specs.Marks.{hashR}

@@ -25,7 +25,7 @@ use Rattle.imports.specs.RecordLaws.{bare, alike-is, alike-self, bare-shift, le
 use Rattle.imports.specs.TableLaws.{Tab-dec, at-same, at-other, upd-at, at-six}
 use Rattle.laws.specs.Lists.{bool-same}
 use Rattle.laws.specs.Betweens.{beside-cells}
-use Rattle.names.specs.Places.{mixed}
+use Rattle.distinct.specs.Places.{mixed}
 use Rattle.laws.specs.Quiet.{each-map}
 use Rattle.state.specs.Refers.{codeP, tabOf, wentR}
 use Rattle.state.specs.Flats.{functionOf, entryOf, pairsAt, specialOf}

@@ -7,7 +7,7 @@ use Prim.Native.Nat.{ℕ, suc, _%_}
 use lib.ListN.{length, getD}
 use Rattle.model.specs.Outcome.{Cells, word}
 use Rattle.imports.specs.RecordLaws.{bare}
-use Rattle.names.specs.Places.{mixed}
+use Rattle.distinct.specs.Places.{mixed}
 
 abbrev pub MARKS : ℕ
 MARKS = 16384

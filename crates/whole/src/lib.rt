@@ -155,7 +155,7 @@ pub fn import_const(
 {
     let mut s = *starts;
     let mut m = *maps;
-    let got = import::import_const(
+    let got = constants::import_const(
         words,
         tags,
         kinds,
@@ -196,7 +196,7 @@ pub fn import_pipeline_override(
 {
     let mut s = *starts;
     let mut m = *maps;
-    let got = import::import_pipeline_override(
+    let got = constants::import_pipeline_override(
         words,
         tags,
         kinds,
@@ -237,7 +237,7 @@ pub fn import_global(
 {
     let mut s = *starts;
     let mut m = *maps;
-    let got = import::import_global(
+    let got = constants::import_global(
         words,
         tags,
         kinds,
@@ -278,7 +278,7 @@ pub fn import_global_expression(
 {
     let mut s = *starts;
     let mut m = *maps;
-    let got = import::import_global_expression(
+    let got = constants::import_global_expression(
         words,
         tags,
         kinds,

@@ -1,27 +1,26 @@
 -- The words from cells are those of the finished module. Assumes nothing.
 use mathlib.Core.Path.{_≡_, refl, sym, ap, ap₂, _∙_}
-use mathlib.Core.Bool.{Bool, true, false}
 use mathlib.Core.List.{List, [], _∷_, _++_, map, append-nil}
-use Prim.Native.Nat.{ℕ, zero, suc, _+_, _*_}
+use Prim.Native.Nat.{ℕ, zero, suc, _+_}
 use native.Mathlib.Omega.{arith}
 use lib.Dec.{eqb}
 use lib.ListN.{length, getD, drop, length-map, length-append}
-use Rattle.model.specs.Outcome.{Cell, Cells, class, word}
-use Rattle.model.specs.Table.{NAME, PLACE, nameRow}
+use Rattle.model.specs.Outcome.{Cells, class, word}
+use Rattle.model.specs.Table.{NAME, nameRow}
 use Rattle.model.specs.Tree.{Function, Entry, flat, flatEntry, flatAll}
-use Rattle.model.specs.Module.{Module, Special, Section, HEADER, raysRow, pairRow, places, flatTable, flatSpecial, sections, pairsFrom, bodies, flatModule, write}
-use Rattle.model.specs.Carry.{Keeps, carryCell, carryCells, carryFunction, carryEntry, carrySpecial, carry, Lays, Each, each-none, each-next}
+use Rattle.model.specs.Module.{Module, Section, HEADER, pairRow, places, flatTable, flatSpecial, sections, pairsFrom, bodies, flatModule, write}
+use Rattle.model.specs.Carry.{carryCell, carryCells, carryFunction, carryEntry, carrySpecial, carry, Lays, Each, each-none, each-next}
 use Rattle.model.specs.Imports.{St}
 use Rattle.model.specs.Finish.{namesIn, firsts, appearing, renumber, withNames, namedBy, gathered, finished}
 use Rattle.laws.specs.Quiet.{each-append}
 use Rattle.laws.specs.Carries.{flat-carry-function, flat-carry-entry, flat-carry-special}
 use Rattle.finishing.specs.Firsts.{either}
 use Rattle.finishing.specs.Classes.{Not, nameless, calm?, calms?}
-use Rattle.finishing.specs.Touching.{Only, only-keeps, same-cells}
+use Rattle.finishing.specs.Touching.{only-keeps, same-cells}
 use Rattle.finishing.specs.Finished.{renumber-only}
 use Rattle.finishing.specs.Kept.{Parts}
-use Rattle.writing.specs.Flat.{firstsT, lengths, tableSize, offsets, joined, tableWords, sizes, heads, tables, total, imageWords, chosen, newName, finishedWords, cellsOf}
-use Rattle.writing.proofs.Tables.{length-table}
+use Rattle.sections.specs.Flat.{firstsT, tableSize, offsets, joined, tableWords, sizes, heads, tables, total, imageWords, chosen, newName, finishedWords, cellsOf}
+use Rattle.sections.proofs.Tables.{length-table}
 use Rattle.writing.proofs.Whole.{namesR, namesT, firsts-tabs, length-tables}
 
 map-append : {A B : Type 0} (f : A → B) (xs ys : List A) → map f (xs ++ ys) ≡ map f xs ++ map f ys

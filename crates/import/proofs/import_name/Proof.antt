@@ -12,7 +12,7 @@ use Rattle.import.proofs.import_name.Statement.{statement}
 use Rattle.import.proofs.import_name.Tie as tie
 use Rattle.import.proofs.import_name.Reads as reads
 use Rattle.import.proofs.import_name.Lts as lts
-use Rattle.state.proofs.settle.Reads as settle-reads
+use Rattle.settle.proofs.settle.Reads as settle-reads
 use Rattle.views.proofs.record_at.Reads as record-at-reads
 use Rattle.views.proofs.record_end.Reads as record-end-reads
 use Rattle.words.proofs.wide.Reads as wide-reads

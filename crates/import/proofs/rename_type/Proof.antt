@@ -24,7 +24,7 @@ use Rattle.import.proofs.rename_type.Lts as lts
 use Rattle.import.proofs.import_name.Reads as import-name-reads
 use Rattle.import.proofs.import_type.Reads as import-type-reads
 use Rattle.import.proofs.refers_to.Reads as refers-to-reads
-use Rattle.state.proofs.settle.Reads as settle-reads
+use Rattle.settle.proofs.settle.Reads as settle-reads
 use Rattle.views.proofs.record_at.Reads as record-at-reads
 use Rattle.views.proofs.record_end.Reads as record-end-reads
 use Rattle.words.proofs.wide.Reads as wide-reads

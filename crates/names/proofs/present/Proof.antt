@@ -4,8 +4,9 @@ use Prim.Native.Nat.{_-_}
 use native.Mathlib.Omega.{arith}
 use Rattle.model.specs.Module.{countAt}
 use Rattle.model.specs.Names.{present}
-use Rattle.names.specs.Passes.{listing, numberAt}
-use Rattle.names.proofs.Steps.{Over, over-all, present-done, present-none, present-next}
+use Rattle.distinct.specs.Listed.{listing, numberAt}
+use Rattle.distinct.proofs.Steps.{Over, over-all}
+use Rattle.names.proofs.Steps.{present-done, present-none, present-next}
 use borrow.Author.Needs.{needs}
 use Rattle.names.proofs.present.Statement.{statement}
 use Rattle.names.proofs.present.Tie as tie

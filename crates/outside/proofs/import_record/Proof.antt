@@ -9,11 +9,11 @@ use Rattle.outside.proofs.import_record.Statement.{statement}
 use Rattle.outside.proofs.import_record.Tie as tie
 use Rattle.outside.proofs.import_record.Reads as reads
 use Rattle.outside.proofs.import_record.Lts as lts
-use Rattle.import.proofs.import_const.Reads as import-const-reads
-use Rattle.import.proofs.import_global.Reads as import-global-reads
-use Rattle.import.proofs.import_global_expression.Reads as import-global-expression-reads
+use Rattle.constants.proofs.import_const.Reads as import-const-reads
+use Rattle.constants.proofs.import_global.Reads as import-global-reads
+use Rattle.constants.proofs.import_global_expression.Reads as import-global-expression-reads
 use Rattle.import.proofs.import_name.Reads as import-name-reads
-use Rattle.import.proofs.import_pipeline_override.Reads as import-pipeline-override-reads
+use Rattle.constants.proofs.import_pipeline_override.Reads as import-pipeline-override-reads
 use Rattle.import.proofs.import_type.Reads as import-type-reads
 
 -- src/lib.rt:56:9

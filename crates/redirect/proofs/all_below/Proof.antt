@@ -1,7 +1,7 @@
 -- `redirect::all_below` meets its contract. Assumes nothing.
 use Prim.Native.Nat.{_-_}
 use lib.ListN.{length}
-use Rattle.redirect.proofs.Leaves.{Below, below-begin, below-not, below-next, below-done}
+use Rattle.redirect.proofs.Lists.{Below, below-begin, below-not, below-next, below-done}
 use borrow.Author.Needs.{needs}
 use Rattle.redirect.proofs.all_below.Statement.{statement}
 use Rattle.redirect.proofs.all_below.Tie as tie

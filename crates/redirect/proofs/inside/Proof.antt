@@ -1,5 +1,5 @@
 -- `redirect::inside` meets its contract. Assumes nothing.
-use Rattle.redirect.proofs.Leaves.{inside-first, inside-second, inside-rest}
+use Rattle.redirect.proofs.Lists.{inside-first, inside-second, inside-rest}
 use borrow.Author.Needs.{needs}
 use Rattle.redirect.proofs.inside.Statement.{statement}
 use Rattle.redirect.proofs.inside.Tie as tie

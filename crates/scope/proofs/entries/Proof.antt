@@ -5,7 +5,7 @@ use borrow.Author.Needs.{needs}
 use borrow.Author.Tests.{not-false}
 use Rattle.numbers.proofs.Framing.{entries-in}
 use Rattle.scope.specs.Functions.{Lent}
-use Rattle.scope.proofs.Scopes.{absurd-bool}
+use Rattle.evaluated.proofs.Scopes.{absurd-bool}
 use Rattle.scope.proofs.Images.{InEntries, entries-begin, entries-done, entries-stated, entries-over, entries-next, entries-small}
 use Rattle.scope.proofs.entries.Statement.{statement}
 use Rattle.scope.proofs.entries.Tie as tie

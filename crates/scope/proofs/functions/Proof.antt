@@ -5,7 +5,7 @@ use borrow.Author.Needs.{needs}
 use borrow.Author.Tests.{not-false}
 use Rattle.numbers.proofs.Framing.{functions-in}
 use Rattle.scope.specs.Functions.{Lent}
-use Rattle.scope.proofs.Scopes.{absurd-bool}
+use Rattle.evaluated.proofs.Scopes.{absurd-bool}
 use Rattle.scope.proofs.Images.{InFunctions, functions-begin, functions-done, functions-stated, functions-over, functions-next}
 use Rattle.scope.proofs.functions.Statement.{statement}
 use Rattle.scope.proofs.functions.Tie as tie

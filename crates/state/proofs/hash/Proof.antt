@@ -7,7 +7,7 @@ use Rattle.state.proofs.hash.Statement.{statement}
 use Rattle.state.proofs.hash.Tie as tie
 use Rattle.state.proofs.hash.Reads as reads
 use Rattle.state.proofs.hash.Lts as lts
-use Rattle.names.proofs.mix.Reads as mix-reads
+use Rattle.distinct.proofs.mix.Reads as mix-reads
 use Rattle.state.proofs.bare_word.Reads as bare-word-reads
 use Rattle.state.proofs.carried.Reads as carried-reads
 

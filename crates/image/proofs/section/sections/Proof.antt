@@ -1,8 +1,8 @@
 -- `image::section::sections` meets its contract. Assumes nothing.
-use Rattle.image.specs.Rows.{SIZE}
+use Rattle.fields.specs.Rows.{SIZE}
 use native.Mathlib.Omega.{arith}
 use Prim.Native.Nat.{_-_}
-use Rattle.image.proofs.Rows.{in-table}
+use Rattle.fields.proofs.Rows.{in-table}
 use Rattle.image.proofs.Sections.{Sectioning, sections-begin, sections-forth, sections-within, sections-total, sections-row, sections-bad, sections-fits, sections-strange, last-forth, last-bad, last-strange, last-odd, last-fits}
 use borrow.Author.Needs.{needs}
 use Rattle.image.proofs.section.sections.Statement.{statement}

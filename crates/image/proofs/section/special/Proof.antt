@@ -1,5 +1,5 @@
 -- `image::section::special` meets its contract. Assumes nothing.
-use Rattle.image.specs.Rows.{SIZE, RAYS-ROW, PAIR-ROW}
+use Rattle.fields.specs.Rows.{SIZE, RAYS-ROW, PAIR-ROW}
 use Rattle.image.proofs.Extents.{special-misfit, special-strange, special-within, special-fits, special-short, pairs-misfit, pairs-strange}
 use borrow.Author.Needs.{needs}
 use Rattle.image.proofs.section.special.Statement.{statement}

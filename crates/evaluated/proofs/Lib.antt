@@ -1,0 +1,4 @@
+pub mod Restated
+pub mod Leaves
+pub mod Scopes
+pub mod Results

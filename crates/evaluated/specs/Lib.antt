@@ -1,0 +1,3 @@
+pub mod Fine
+pub mod Tape
+pub mod Lasts

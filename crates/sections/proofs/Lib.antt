@@ -1,0 +1,4 @@
+pub mod Names
+pub mod Notes
+pub mod Writes
+pub mod Tables
