@@ -10,7 +10,7 @@ use lib.ListN.{length, getD, set, take, length-append}
 use lib.Seq.{slice, getD-set-same}
 use Rattle.model.specs.Outcome.{Cells, class}
 use Rattle.model.specs.Table.{EXPRESSIONS, NAMED}
-use Rattle.model.specs.Tree.{Function, Entry, flatAll, flatList, flatBlock, flatEntry}
+use Rattle.model.specs.Tree.{Function, Entry, flatAll, flatList, flatEntry}
 use Rattle.model.specs.Module.{Module, countAt, flatModule}
 use Rattle.model.specs.View.{recordAt, recordEnd}
 use Rattle.model.specs.FunctionView.{ENTRY-HEAD, expressionsAt}
@@ -50,7 +50,7 @@ use Rattle.outside.proofs.Passing.{grow-outward}
 use Rattle.parts.specs.Part.{Part, Indexed, entry, entry-there, entry-part, placesOf, indexed, k-few, body-here, order}
 use Rattle.parts.specs.Fitting.{head-is, head-fits, head-legible, legible-more}
 use Rattle.passing.specs.Runs.{Deep}
-use Rattle.nesting.specs.Nested.{walkedS, keptS, finalS, frontS, namesS, bodyS, cellsS, declaredS, enteredS, entryCellsS, ReadyFrom, ReadyF}
+use Rattle.nesting.specs.Nested.{walkedS, keptS, finalS, frontS, namesS, bodyS, cellsS, enteredS, entryCellsS, ReadyF}
 use Rattle.nesting.specs.Classes.{made-bytes, head-bytes}
 use Rattle.closing.specs.Closed.{pairsIn, closing, Closes}
 use Rattle.localize.specs.Localized.{Nested, Localizes}
@@ -131,7 +131,7 @@ module _ {words tags : List ℕ} {n : ℕ} (src : Source words tags n) (scopes :
 
     -- full on the way
     full : (r : Ends) (log classes : List ℕ) (starts maps : List (List ℕ)) (marks : List ℕ) (stacks : List (List ℕ)) → r .full ≡ true
-        → ((special : List ℕ) → ReadyFrom o M ready follow F (flatBlock (F .body)) (declaredS o M follow F (S₀ special)) → Over (rest special) (enteredS o M follow E (S₀ special) .out) ⊎ (16 ≤ getD (e .counts) 7 0))
+        → ((special : List ℕ) → ReadyF o M ready follow F (S₀ special) → Over (rest special) (enteredS o M follow E (S₀ special) .out) ⊎ (16 ≤ getD (e .counts) 7 0))
         → Same (e .used) log₀ classes₀ log classes → length log ≡ 16384 → length classes ≡ 16384 → Marks marks₀ marks
         → Enters words n o ready follow E log₀ classes₀ starts₀ maps₀ marks₀ stacks₀ e r log classes starts maps marks stacks
     full r log classes starts maps marks stacks z v b l l′ m = record {
@@ -152,11 +152,11 @@ module _ {words tags : List ℕ} {n : ℕ} (src : Source words tags n) (scopes :
     }
 
     pub function-full : got .full ≡ true → Enters words n o ready follow E log₀ classes₀ starts₀ maps₀ marks₀ stacks₀ e got log₁ classes₁ starts₁ maps₁ marks₁ stacks₁
-    unfolding enteredS
+    unfolding enteredS ReadyF
     function-full z = full got log₁ classes₁ starts₁ maps₁ marks₁ stacks₁ z over (L .below) (L .log-long) (L .tags-long) (L .marks-stay)
       where
-        over : (special : List ℕ) → ReadyFrom o M ready follow F (flatBlock (F .body)) (declaredS o M follow F (S₀ special)) → Over (rest special) (enteredS o M follow E (S₀ special) .out) ⊎ (16 ≤ getD (e .counts) 7 0)
-        over special h = let c = cells-more special in inl (over-more _ _ (omega arith) (over-grow _ (grow-outward o M (E .head) (finalS o M follow F (S₀ special) .out)) (L .over z special h)))
+        over : (special : List ℕ) → ReadyF o M ready follow F (S₀ special) → Over (rest special) (enteredS o M follow E (S₀ special) .out) ⊎ (16 ≤ getD (e .counts) 7 0)
+        over special h = let c = cells-more special in inl (over-more _ _ (omega arith) (over-grow _ (grow-outward o M (E .head) (finalS o M follow F (S₀ special) .out)) (L .over z special (h .1))))
 
     -- ---- what its head refers to
     module _ (z : got .full ≡ false) (led : Ends) (log₂ classes₂ : List ℕ) (starts₂ maps₂ : List (List ℕ)) (marks₂ : List ℕ) (O : Lands words (outward o M still (between tags words at s)) log₁ classes₁ starts₁ maps₁ marks₁ got led log₂ classes₂ starts₂ maps₂ marks₂) where
