@@ -1,14 +1,13 @@
 -- The cycle of calls: localize follows a callee with the same room, follow appends it with less, append localizes with the same. Assumes nothing.
-use mathlib.Core.Path.{_≡_, refl, sym, ap, _∙_}
+use mathlib.Core.Path.{refl, ap}
+use mathlib.Core.Logic.{⊎-elim}
 use Prim.Native.Nat.{_+_, _*_, _-_}
 use native.Mathlib.Omega.{arith}
-use borrow.Author.Needs.{needs}
-use lib.ListN.{getD}
 use Rattle.known.proofs.Bears.{bearing}
 use Rattle.import.proofs.Sources.{tape}
 use Rattle.parts.specs.Exprs.{expressions}
 use Rattle.localize.proofs.Starts.{declares}
-use Rattle.localize.proofs.Locals.{Going, Onward, exprs-in, index-in, count-in, reading, named-in, begun-kept, begun-under, declare-none, going-start, word-in, word-fits, word-bodied, callee-low, callee-ready, callee-full, callee-bearing, callee-runs, other-runs, going-full, going-next, keep-in, keep-long, keep-exprs, keep-low, names-full, names-in, names-words, names-good, names-whole}
+use Rattle.localize.proofs.Locals.{Going, Onward, runs-at, runs-from, exprs-in, index-in, count-in, reading, named-in, begun-kept, begun-under, declare-none, going-start, word-in, word-fits, word-bodied, callee-low, callee-ready, callee-full, callee-runs, other-runs, going-full, going-next, keep-in, keep-long, keep-exprs, keep-low, names-full, names-in, names-words, names-good, names-whole}
 use Rattle.localize.proofs.Follows.{follow-none, follow-old, follow-ready, follow-append}
 use Rattle.localize.proofs.Appending.{append-part, append-nested, append-standing, close-order, close-few, close-stacks, close-names, close-classes, close-room, append-done, append-none}
 use Prim.Native.Nat.{ℕ, _<_}
@@ -85,7 +84,7 @@ append-record-at-requires : (t : ℕ) → append-lts.Need-record-at-requires (
   close-reads.Asked,
   close-reads.Learnt,
 ) (append-at t) append.Post
-append-record-at-requires t c κs = let a = c .args in let p = c .pre .1 in (tape (p .0 .source), (omega arith, p .1 .0))
+append-record-at-requires t c κs = let a = c .args in let p = c .pre .1 in (tape (a .words .now) (a .tags .now) (a .n) (p .0 .source), (omega arith, p .1 .0))
 
 -- src/lib.rt:224:9
 append-record-end-requires : (t : ℕ) → append-lts.Need-record-end-requires (
@@ -102,7 +101,7 @@ append-record-end-requires : (t : ℕ) → append-lts.Need-record-end-requires (
   close-reads.Asked,
   close-reads.Learnt,
 ) (append-at t) append.Post
-append-record-end-requires t c κs = let a = c .before .args in let p = c .before .pre .1 in (tape (p .0 .source), (omega arith, p .1 .0))
+append-record-end-requires t c κs = let a = c .before .args in let p = c .before .pre .1 in (tape (a .words .now) (a .tags .now) (a .n) (p .0 .source), (omega arith, p .1 .0))
 
 -- src/lib.rt:225:9
 append-localize-requires : (t : ℕ) → append-lts.Need-localize-requires (
@@ -262,7 +261,7 @@ follow-returns-3 t c = let a = c .before .before .before .before .before .before
 
 abbrev localize-Inv-loop : localize-lts.InvT-loop
 localize-Inv-loop words tags kinds n log₀ classes₀ starts₀ maps₀ marks₀ stacks₀ offset s end room e1 exprs k places em₀ named body e₀ i₀ u₀ log classes starts maps marks stacks em e i u =
-    Onward words tags n offset room s end exprs places k named body log₀ classes₀ starts₀ maps₀ marks₀ em₀ stacks₀ e₀ i₀ u₀ log classes starts maps marks em stacks e i u
+    Onward words tags n offset room s end exprs places k named body e1 log₀ classes₀ starts₀ maps₀ marks₀ em₀ stacks₀ e₀ i₀ u₀ log classes starts maps marks em stacks e i u
 
 abbrev localize-μ-loop : localize-lts.MeasureT-loop
 localize-μ-loop words tags kinds n log₀ classes₀ starts₀ maps₀ marks₀ stacks₀ offset s end room e1 exprs k places em₀ named body e₀ i₀ u₀ log classes starts maps marks stacks em e i u =
@@ -817,7 +816,7 @@ localize-loop-holds : (t : ℕ) → localize-lts.Need-loop-holds (
   import-names-reads.Asked,
   import-names-reads.Learnt,
 ) (localize-at t) localize.Post localize-Inv-loop localize-μ-loop
-localize-loop-holds t c = record { on = λ _ g. g }
+localize-loop-holds t c = record { on = λ _ _ g. g }
 
 -- src/lib.rt:112:9
 localize-add-i : (t : ℕ) → localize-lts.Need-add-i (
@@ -846,7 +845,7 @@ localize-add-i : (t : ℕ) → localize-lts.Need-add-i (
   import-names-reads.Asked,
   import-names-reads.Learnt,
 ) (localize-at t) localize.Post localize-Inv-loop localize-μ-loop
-localize-add-i t c = let a = c .before .before .before .before .before .before .before .before .before .before .before .before .before .before .before .before .before .before .before .before .before .args in let p = c .before .before .before .before .before .before .before .before .before .before .before .before .before .before .before .before .before .before .before .before .before .pre .1 in let g = c .before .loop .inv .on (p .1 .1 .1 .1) (going-start (p .1 .0) (reading (p .1 .0) (c .before .before .before .before .before .before .before .before .before .before .before .before .before .before .before .before .before .before .before .before .expressions-at .ensures .0) (c .before .before .before .before .before .before .before .before .before .before .before .before .before .before .before .before .index .ensures) (c .before .before .before .before .before .before .before .before .before .before .before .before .before .before .before .before .before .before .wide .ensures .0) (c .before .before .before .before .before .before .before .before .before .before .before .before .before .before .before .slot .ensures .0) (c .before .before .before .before .before .before .before .before .before .before .before .before .before .wide2 .ensures .0) refl) (p .1 .1 .1 .1) (a .room) (c .before .before .before .before .begin .ensures) (c .before .before .before .declare .ensures) (c .before .before .if1 .left)) in let h = word-in (p .1 .0) (p .1 .1 .1 .1) g (c .loop-test .taken) in omega arith
+localize-add-i t c = let a = c .before .before .before .before .before .before .before .before .before .before .before .before .before .before .before .before .before .before .before .before .before .args in let p = c .before .before .before .before .before .before .before .before .before .before .before .before .before .before .before .before .before .before .before .before .before .pre .1 in let g = c .before .loop .inv .on refl (p .1 .1 .1 .1) (going-start (p .1 .0) (reading (p .1 .0) (c .before .before .before .before .before .before .before .before .before .before .before .before .before .before .before .before .before .before .before .before .expressions-at .ensures .0) (c .before .before .before .before .before .before .before .before .before .before .before .before .before .before .before .before .index .ensures) (c .before .before .before .before .before .before .before .before .before .before .before .before .before .before .before .before .before .before .wide .ensures .0) (c .before .before .before .before .before .before .before .before .before .before .before .before .before .before .before .slot .ensures .0) (c .before .before .before .before .before .before .before .before .before .before .before .before .before .wide2 .ensures .0) refl) (p .1 .1 .1 .1) (a .room) (c .before .before .before .before .begin .ensures) (c .before .before .before .declare .ensures) (c .before .before .if1 .left)) in let h = word-in (p .1 .0) (p .1 .1 .1 .1) g (c .loop-test .taken) in omega arith
 
 -- src/lib.rt:113:9
 localize-flag-requires : (t : ℕ) → localize-lts.Need-flag-requires (
@@ -875,7 +874,7 @@ localize-flag-requires : (t : ℕ) → localize-lts.Need-flag-requires (
   import-names-reads.Asked,
   import-names-reads.Learnt,
 ) (localize-at t) localize.Post localize-Inv-loop localize-μ-loop
-localize-flag-requires t c κs = let a = c .before .before .before .before .before .before .before .before .before .before .before .before .before .before .before .before .before .before .before .before .before .args in let p = c .before .before .before .before .before .before .before .before .before .before .before .before .before .before .before .before .before .before .before .before .before .pre .1 in let g = c .before .loop .inv .on (p .1 .1 .1 .1) (going-start (p .1 .0) (reading (p .1 .0) (c .before .before .before .before .before .before .before .before .before .before .before .before .before .before .before .before .before .before .before .before .expressions-at .ensures .0) (c .before .before .before .before .before .before .before .before .before .before .before .before .before .before .before .before .index .ensures) (c .before .before .before .before .before .before .before .before .before .before .before .before .before .before .before .before .before .before .wide .ensures .0) (c .before .before .before .before .before .before .before .before .before .before .before .before .before .before .before .slot .ensures .0) (c .before .before .before .before .before .before .before .before .before .before .before .before .before .wide2 .ensures .0) refl) (p .1 .1 .1 .1) (a .room) (c .before .before .before .before .begin .ensures) (c .before .before .before .declare .ensures) (c .before .before .if1 .left)) in (g .turn .legible .stretch, c .loop-test .taken)
+localize-flag-requires t c κs = let a = c .before .before .before .before .before .before .before .before .before .before .before .before .before .before .before .before .before .before .before .before .before .args in let p = c .before .before .before .before .before .before .before .before .before .before .before .before .before .before .before .before .before .before .before .before .before .pre .1 in let g = c .before .loop .inv .on refl (p .1 .1 .1 .1) (going-start (p .1 .0) (reading (p .1 .0) (c .before .before .before .before .before .before .before .before .before .before .before .before .before .before .before .before .before .before .before .before .expressions-at .ensures .0) (c .before .before .before .before .before .before .before .before .before .before .before .before .before .before .before .before .index .ensures) (c .before .before .before .before .before .before .before .before .before .before .before .before .before .before .before .before .before .before .wide .ensures .0) (c .before .before .before .before .before .before .before .before .before .before .before .before .before .before .before .slot .ensures .0) (c .before .before .before .before .before .before .before .before .before .before .before .before .before .wide2 .ensures .0) refl) (p .1 .1 .1 .1) (a .room) (c .before .before .before .before .begin .ensures) (c .before .before .before .declare .ensures) (c .before .before .if1 .left)) in (g .turn .legible .stretch, c .loop-test .taken)
 
 -- src/lib.rt:114:12
 localize-element-copy-out-if2 : (t : ℕ) → localize-lts.Need-element-copy-out-if2 (
@@ -904,7 +903,7 @@ localize-element-copy-out-if2 : (t : ℕ) → localize-lts.Need-element-copy-out
   import-names-reads.Asked,
   import-names-reads.Learnt,
 ) (localize-at t) localize.Post localize-Inv-loop localize-μ-loop
-localize-element-copy-out-if2 t c = let a = c .before .before .before .before .before .before .before .before .before .before .before .before .before .before .before .before .before .before .before .before .before .before .args in let p = c .before .before .before .before .before .before .before .before .before .before .before .before .before .before .before .before .before .before .before .before .before .before .pre .1 in let g = c .before .before .loop .inv .on (p .1 .1 .1 .1) (going-start (p .1 .0) (reading (p .1 .0) (c .before .before .before .before .before .before .before .before .before .before .before .before .before .before .before .before .before .before .before .before .before .expressions-at .ensures .0) (c .before .before .before .before .before .before .before .before .before .before .before .before .before .before .before .before .before .index .ensures) (c .before .before .before .before .before .before .before .before .before .before .before .before .before .before .before .before .before .before .before .wide .ensures .0) (c .before .before .before .before .before .before .before .before .before .before .before .before .before .before .before .before .slot .ensures .0) (c .before .before .before .before .before .before .before .before .before .before .before .before .before .before .wide2 .ensures .0) refl) (p .1 .1 .1 .1) (a .room) (c .before .before .before .before .before .begin .ensures) (c .before .before .before .before .declare .ensures) (c .before .before .before .if1 .left)) in let h = word-in (p .1 .0) (p .1 .1 .1 .1) g (c .before .loop-test .taken) in omega arith
+localize-element-copy-out-if2 t c = let a = c .before .before .before .before .before .before .before .before .before .before .before .before .before .before .before .before .before .before .before .before .before .before .args in let p = c .before .before .before .before .before .before .before .before .before .before .before .before .before .before .before .before .before .before .before .before .before .before .pre .1 in let g = c .before .before .loop .inv .on refl (p .1 .1 .1 .1) (going-start (p .1 .0) (reading (p .1 .0) (c .before .before .before .before .before .before .before .before .before .before .before .before .before .before .before .before .before .before .before .before .before .expressions-at .ensures .0) (c .before .before .before .before .before .before .before .before .before .before .before .before .before .before .before .before .before .index .ensures) (c .before .before .before .before .before .before .before .before .before .before .before .before .before .before .before .before .before .before .before .wide .ensures .0) (c .before .before .before .before .before .before .before .before .before .before .before .before .before .before .before .before .slot .ensures .0) (c .before .before .before .before .before .before .before .before .before .before .before .before .before .before .wide2 .ensures .0) refl) (p .1 .1 .1 .1) (a .room) (c .before .before .before .before .before .begin .ensures) (c .before .before .before .before .declare .ensures) (c .before .before .before .if1 .left)) in let h = word-in (p .1 .0) (p .1 .1 .1 .1) g (c .before .loop-test .taken) in omega arith
 
 -- src/lib.rt:128:22
 localize-mul-wide-3 : (t : ℕ) → localize-lts.Need-mul-wide-3 (
@@ -933,7 +932,7 @@ localize-mul-wide-3 : (t : ℕ) → localize-lts.Need-mul-wide-3 (
   import-names-reads.Asked,
   import-names-reads.Learnt,
 ) (localize-at t) localize.Post localize-Inv-loop localize-μ-loop
-localize-mul-wide-3 t c = let a = c .before .before .before .before .before .before .before .before .before .before .before .before .before .before .before .before .before .before .before .before .before .before .before .before .before .before .before .before .before .before .args in let p = c .before .before .before .before .before .before .before .before .before .before .before .before .before .before .before .before .before .before .before .before .before .before .before .before .before .before .before .before .before .before .pre .1 in let g = c .before .before .before .before .before .before .before .before .before .before .loop .inv .on (p .1 .1 .1 .1) (going-start (p .1 .0) (reading (p .1 .0) (c .before .before .before .before .before .before .before .before .before .before .before .before .before .before .before .before .before .before .before .before .before .before .before .before .before .before .before .before .before .expressions-at .ensures .0) (c .before .before .before .before .before .before .before .before .before .before .before .before .before .before .before .before .before .before .before .before .before .before .before .before .before .index .ensures) (c .before .before .before .before .before .before .before .before .before .before .before .before .before .before .before .before .before .before .before .before .before .before .before .before .before .before .before .wide .ensures .0) (c .before .before .before .before .before .before .before .before .before .before .before .before .before .before .before .before .before .before .before .before .before .before .before .before .slot .ensures .0) (c .before .before .before .before .before .before .before .before .before .before .before .before .before .before .before .before .before .before .before .before .before .before .wide2 .ensures .0) refl) (p .1 .1 .1 .1) (a .room) (c .before .before .before .before .before .before .before .before .before .before .before .before .before .begin .ensures) (c .before .before .before .before .before .before .before .before .before .before .before .before .declare .ensures) (c .before .before .before .before .before .before .before .before .before .before .before .if1 .left)) in let h = word-in (p .1 .0) (p .1 .1 .1 .1) g (c .before .before .before .before .before .before .before .before .before .loop-test .taken) in omega arith
+localize-mul-wide-3 t c = let a = c .before .before .before .before .before .before .before .before .before .before .before .before .before .before .before .before .before .before .before .before .before .before .before .before .before .before .before .before .before .before .args in let p = c .before .before .before .before .before .before .before .before .before .before .before .before .before .before .before .before .before .before .before .before .before .before .before .before .before .before .before .before .before .before .pre .1 in let g = c .before .before .before .before .before .before .before .before .before .before .loop .inv .on refl (p .1 .1 .1 .1) (going-start (p .1 .0) (reading (p .1 .0) (c .before .before .before .before .before .before .before .before .before .before .before .before .before .before .before .before .before .before .before .before .before .before .before .before .before .before .before .before .before .expressions-at .ensures .0) (c .before .before .before .before .before .before .before .before .before .before .before .before .before .before .before .before .before .before .before .before .before .before .before .before .before .index .ensures) (c .before .before .before .before .before .before .before .before .before .before .before .before .before .before .before .before .before .before .before .before .before .before .before .before .before .before .before .wide .ensures .0) (c .before .before .before .before .before .before .before .before .before .before .before .before .before .before .before .before .before .before .before .before .before .before .before .before .slot .ensures .0) (c .before .before .before .before .before .before .before .before .before .before .before .before .before .before .before .before .before .before .before .before .before .before .wide2 .ensures .0) refl) (p .1 .1 .1 .1) (a .room) (c .before .before .before .before .before .before .before .before .before .before .before .before .before .begin .ensures) (c .before .before .before .before .before .before .before .before .before .before .before .before .declare .ensures) (c .before .before .before .before .before .before .before .before .before .before .before .if1 .left)) in let h = word-in (p .1 .0) (p .1 .1 .1 .1) g (c .before .before .before .before .before .before .before .before .before .loop-test .taken) in omega arith
 
 -- src/lib.rt:128:22
 localize-element-copy-out-wide-3 : (t : ℕ) → localize-lts.Need-element-copy-out-wide-3 (
@@ -962,7 +961,7 @@ localize-element-copy-out-wide-3 : (t : ℕ) → localize-lts.Need-element-copy-
   import-names-reads.Asked,
   import-names-reads.Learnt,
 ) (localize-at t) localize.Post localize-Inv-loop localize-μ-loop
-localize-element-copy-out-wide-3 t c = let a = c .before .before .before .before .before .before .before .before .before .before .before .before .before .before .before .before .before .before .before .before .before .before .before .before .before .before .before .before .before .before .args in let p = c .before .before .before .before .before .before .before .before .before .before .before .before .before .before .before .before .before .before .before .before .before .before .before .before .before .before .before .before .before .before .pre .1 in let g = c .before .before .before .before .before .before .before .before .before .before .loop .inv .on (p .1 .1 .1 .1) (going-start (p .1 .0) (reading (p .1 .0) (c .before .before .before .before .before .before .before .before .before .before .before .before .before .before .before .before .before .before .before .before .before .before .before .before .before .before .before .before .before .expressions-at .ensures .0) (c .before .before .before .before .before .before .before .before .before .before .before .before .before .before .before .before .before .before .before .before .before .before .before .before .before .index .ensures) (c .before .before .before .before .before .before .before .before .before .before .before .before .before .before .before .before .before .before .before .before .before .before .before .before .before .before .before .wide .ensures .0) (c .before .before .before .before .before .before .before .before .before .before .before .before .before .before .before .before .before .before .before .before .before .before .before .before .slot .ensures .0) (c .before .before .before .before .before .before .before .before .before .before .before .before .before .before .before .before .before .before .before .before .before .before .wide2 .ensures .0) refl) (p .1 .1 .1 .1) (a .room) (c .before .before .before .before .before .before .before .before .before .before .before .before .before .begin .ensures) (c .before .before .before .before .before .before .before .before .before .before .before .before .declare .ensures) (c .before .before .before .before .before .before .before .before .before .before .before .if1 .left)) in let h = word-in (p .1 .0) (p .1 .1 .1 .1) g (c .before .before .before .before .before .before .before .before .before .loop-test .taken) in omega arith
+localize-element-copy-out-wide-3 t c = let a = c .before .before .before .before .before .before .before .before .before .before .before .before .before .before .before .before .before .before .before .before .before .before .before .before .before .before .before .before .before .before .args in let p = c .before .before .before .before .before .before .before .before .before .before .before .before .before .before .before .before .before .before .before .before .before .before .before .before .before .before .before .before .before .before .pre .1 in let g = c .before .before .before .before .before .before .before .before .before .before .loop .inv .on refl (p .1 .1 .1 .1) (going-start (p .1 .0) (reading (p .1 .0) (c .before .before .before .before .before .before .before .before .before .before .before .before .before .before .before .before .before .before .before .before .before .before .before .before .before .before .before .before .before .expressions-at .ensures .0) (c .before .before .before .before .before .before .before .before .before .before .before .before .before .before .before .before .before .before .before .before .before .before .before .before .before .index .ensures) (c .before .before .before .before .before .before .before .before .before .before .before .before .before .before .before .before .before .before .before .before .before .before .before .before .before .before .before .wide .ensures .0) (c .before .before .before .before .before .before .before .before .before .before .before .before .before .before .before .before .before .before .before .before .before .before .before .before .slot .ensures .0) (c .before .before .before .before .before .before .before .before .before .before .before .before .before .before .before .before .before .before .before .before .before .before .wide2 .ensures .0) refl) (p .1 .1 .1 .1) (a .room) (c .before .before .before .before .before .before .before .before .before .before .before .before .before .begin .ensures) (c .before .before .before .before .before .before .before .before .before .before .before .before .declare .ensures) (c .before .before .before .before .before .before .before .before .before .before .before .if1 .left)) in let h = word-in (p .1 .0) (p .1 .1 .1 .1) g (c .before .before .before .before .before .before .before .before .before .loop-test .taken) in omega arith
 
 -- src/lib.rt:128:17
 localize-wide-requires-3 : (t : ℕ) → localize-lts.Need-wide-requires-3 (
@@ -1020,7 +1019,7 @@ localize-follow-requires : (t : ℕ) → localize-lts.Need-follow-requires (
   import-names-reads.Asked,
   import-names-reads.Learnt,
 ) (localize-at t) localize.Post localize-Inv-loop localize-μ-loop
-localize-follow-requires t c κs = let a = c .before .before .before .before .before .before .before .before .before .before .before .before .before .before .before .before .before .before .before .before .before .before .before .before .before .before .before .before .before .before .before .before .args in let p = c .before .before .before .before .before .before .before .before .before .before .before .before .before .before .before .before .before .before .before .before .before .before .before .before .before .before .before .before .before .before .before .before .pre .1 in let g = c .before .before .before .before .before .before .before .before .before .before .before .before .loop .inv .on (p .1 .1 .1 .1) (going-start (p .1 .0) (reading (p .1 .0) (c .before .before .before .before .before .before .before .before .before .before .before .before .before .before .before .before .before .before .before .before .before .before .before .before .before .before .before .before .before .before .before .expressions-at .ensures .0) (c .before .before .before .before .before .before .before .before .before .before .before .before .before .before .before .before .before .before .before .before .before .before .before .before .before .before .before .index .ensures) (c .before .before .before .before .before .before .before .before .before .before .before .before .before .before .before .before .before .before .before .before .before .before .before .before .before .before .before .before .before .wide .ensures .0) (c .before .before .before .before .before .before .before .before .before .before .before .before .before .before .before .before .before .before .before .before .before .before .before .before .before .before .slot .ensures .0) (c .before .before .before .before .before .before .before .before .before .before .before .before .before .before .before .before .before .before .before .before .before .before .before .before .wide2 .ensures .0) refl) (p .1 .1 .1 .1) (a .room) (c .before .before .before .before .before .before .before .before .before .before .before .before .before .before .before .begin .ensures) (c .before .before .before .before .before .before .before .before .before .before .before .before .before .before .declare .ensures) (c .before .before .before .before .before .before .before .before .before .before .before .before .before .if1 .left)) in let q = c .before .before .before .before .before .before .before .before .before .before .before .before .before .before .before .before .before .before .before .before .before .before .before .before .before .before .before .before .before .before .before .before .pre .0 in (omega arith, (p .0, (callee-low (p .1 .0) (p .1 .1 .1 .1) g (c .before .before .before .before .before .before .before .before .before .before .before .loop-test .taken) (c .before .before .before .before .before .before .before .before .if2 .taken) (c .wide3 .ensures .0), (callee-ready (p .1 .0) (p .1 .1 .1 .1) g (c .before .before .before .before .before .before .before .before .before .before .before .loop-test .taken) (c .before .before .before .before .before .before .before .before .if2 .taken) (c .wide3 .ensures .0) (p .1 .1 .0), ((g .turn .way .going, g .turn .way .under .stacks-are), g .turn .way .kept)))))
+localize-follow-requires t c κs = let a = c .before .before .before .before .before .before .before .before .before .before .before .before .before .before .before .before .before .before .before .before .before .before .before .before .before .before .before .before .before .before .before .before .args in let p = c .before .before .before .before .before .before .before .before .before .before .before .before .before .before .before .before .before .before .before .before .before .before .before .before .before .before .before .before .before .before .before .before .pre .1 in let g = c .before .before .before .before .before .before .before .before .before .before .before .before .loop .inv .on refl (p .1 .1 .1 .1) (going-start (p .1 .0) (reading (p .1 .0) (c .before .before .before .before .before .before .before .before .before .before .before .before .before .before .before .before .before .before .before .before .before .before .before .before .before .before .before .before .before .before .before .expressions-at .ensures .0) (c .before .before .before .before .before .before .before .before .before .before .before .before .before .before .before .before .before .before .before .before .before .before .before .before .before .before .before .index .ensures) (c .before .before .before .before .before .before .before .before .before .before .before .before .before .before .before .before .before .before .before .before .before .before .before .before .before .before .before .before .before .wide .ensures .0) (c .before .before .before .before .before .before .before .before .before .before .before .before .before .before .before .before .before .before .before .before .before .before .before .before .before .before .slot .ensures .0) (c .before .before .before .before .before .before .before .before .before .before .before .before .before .before .before .before .before .before .before .before .before .before .before .before .wide2 .ensures .0) refl) (p .1 .1 .1 .1) (a .room) (c .before .before .before .before .before .before .before .before .before .before .before .before .before .before .before .begin .ensures) (c .before .before .before .before .before .before .before .before .before .before .before .before .before .before .declare .ensures) (c .before .before .before .before .before .before .before .before .before .before .before .before .before .if1 .left)) in let q = c .before .before .before .before .before .before .before .before .before .before .before .before .before .before .before .before .before .before .before .before .before .before .before .before .before .before .before .before .before .before .before .before .pre .0 in (omega arith, (p .0, (callee-low (p .1 .0) (p .1 .1 .1 .1) g (c .before .before .before .before .before .before .before .before .before .before .before .loop-test .taken) (c .before .before .before .before .before .before .before .before .if2 .taken) (c .wide3 .ensures .0), (callee-ready (p .1 .0) (p .1 .1 .1 .1) g (c .before .before .before .before .before .before .before .before .before .before .before .loop-test .taken) (c .before .before .before .before .before .before .before .before .if2 .taken) (c .wide3 .ensures .0) (p .1 .1 .0), ((g .turn .way .going, g .turn .way .under .stacks-are), g .turn .way .kept)))))
 
 -- src/lib.rt:132:17
 localize-returns-2 : (t : ℕ) → localize-lts.Need-returns-2 (
@@ -1049,7 +1048,7 @@ localize-returns-2 : (t : ℕ) → localize-lts.Need-returns-2 (
   import-names-reads.Asked,
   import-names-reads.Learnt,
 ) (localize-at t) localize.Post localize-Inv-loop localize-μ-loop
-localize-returns-2 t c = let a = c .before .before .before .before .before .before .before .before .before .before .before .before .before .before .before .before .before .before .before .before .before .before .before .before .before .before .before .before .before .before .before .before .before .before .args in let p = c .before .before .before .before .before .before .before .before .before .before .before .before .before .before .before .before .before .before .before .before .before .before .before .before .before .before .before .before .before .before .before .before .before .before .pre .1 in let g = c .before .before .before .before .before .before .before .before .before .before .before .before .before .before .loop .inv .on (p .1 .1 .1 .1) (going-start (p .1 .0) (reading (p .1 .0) (c .before .before .before .before .before .before .before .before .before .before .before .before .before .before .before .before .before .before .before .before .before .before .before .before .before .before .before .before .before .before .before .before .before .expressions-at .ensures .0) (c .before .before .before .before .before .before .before .before .before .before .before .before .before .before .before .before .before .before .before .before .before .before .before .before .before .before .before .before .before .index .ensures) (c .before .before .before .before .before .before .before .before .before .before .before .before .before .before .before .before .before .before .before .before .before .before .before .before .before .before .before .before .before .before .before .wide .ensures .0) (c .before .before .before .before .before .before .before .before .before .before .before .before .before .before .before .before .before .before .before .before .before .before .before .before .before .before .before .before .slot .ensures .0) (c .before .before .before .before .before .before .before .before .before .before .before .before .before .before .before .before .before .before .before .before .before .before .before .before .before .before .wide2 .ensures .0) refl) (p .1 .1 .1 .1) (a .room) (c .before .before .before .before .before .before .before .before .before .before .before .before .before .before .before .before .before .begin .ensures) (c .before .before .before .before .before .before .before .before .before .before .before .before .before .before .before .before .declare .ensures) (c .before .before .before .before .before .before .before .before .before .before .before .before .before .before .before .if1 .left)) in callee-full (p .1 .0) (p .1 .1 .1 .1) g (c .before .before .before .before .before .before .before .before .before .before .before .before .before .loop-test .taken) (c .before .before .before .before .before .before .before .before .before .before .if2 .taken) (c .before .before .wide3 .ensures .0) (c .before .follow .ensures) (c .if3 .taken)
+localize-returns-2 t c = let a = c .before .before .before .before .before .before .before .before .before .before .before .before .before .before .before .before .before .before .before .before .before .before .before .before .before .before .before .before .before .before .before .before .before .before .args in let p = c .before .before .before .before .before .before .before .before .before .before .before .before .before .before .before .before .before .before .before .before .before .before .before .before .before .before .before .before .before .before .before .before .before .before .pre .1 in let g = c .before .before .before .before .before .before .before .before .before .before .before .before .before .before .loop .inv .on refl (p .1 .1 .1 .1) (going-start (p .1 .0) (reading (p .1 .0) (c .before .before .before .before .before .before .before .before .before .before .before .before .before .before .before .before .before .before .before .before .before .before .before .before .before .before .before .before .before .before .before .before .before .expressions-at .ensures .0) (c .before .before .before .before .before .before .before .before .before .before .before .before .before .before .before .before .before .before .before .before .before .before .before .before .before .before .before .before .before .index .ensures) (c .before .before .before .before .before .before .before .before .before .before .before .before .before .before .before .before .before .before .before .before .before .before .before .before .before .before .before .before .before .before .before .wide .ensures .0) (c .before .before .before .before .before .before .before .before .before .before .before .before .before .before .before .before .before .before .before .before .before .before .before .before .before .before .before .before .slot .ensures .0) (c .before .before .before .before .before .before .before .before .before .before .before .before .before .before .before .before .before .before .before .before .before .before .before .before .before .before .wide2 .ensures .0) refl) (p .1 .1 .1 .1) (a .room) (c .before .before .before .before .before .before .before .before .before .before .before .before .before .before .before .before .before .begin .ensures) (c .before .before .before .before .before .before .before .before .before .before .before .before .before .before .before .before .declare .ensures) (c .before .before .before .before .before .before .before .before .before .before .before .before .before .before .before .if1 .left)) in callee-full (p .1 .0) (p .1 .1 .1 .1) g (c .before .before .before .before .before .before .before .before .before .before .before .before .before .loop-test .taken) (c .before .before .before .before .before .before .before .before .before .before .if2 .taken) (c .before .before .wide3 .ensures .0) (c .before .follow .ensures) (c .if3 .taken)
 
 -- src/lib.rt:134:13
 localize-put-word-requires : (t : ℕ) → localize-lts.Need-put-word-requires (
@@ -1078,7 +1077,7 @@ localize-put-word-requires : (t : ℕ) → localize-lts.Need-put-word-requires (
   import-names-reads.Asked,
   import-names-reads.Learnt,
 ) (localize-at t) localize.Post localize-Inv-loop localize-μ-loop
-localize-put-word-requires t c κs = let a = c .before .before .before .before .before .before .before .before .before .before .before .before .before .before .before .before .before .before .before .before .before .before .before .before .before .before .before .before .before .before .before .before .before .before .before .before .before .before .before .before .args in let p = c .before .before .before .before .before .before .before .before .before .before .before .before .before .before .before .before .before .before .before .before .before .before .before .before .before .before .before .before .before .before .before .before .before .before .before .before .before .before .before .before .pre .1 in let g = c .before .before .before .before .before .before .before .before .before .before .before .before .before .before .before .before .before .before .before .before .loop .inv .on (p .1 .1 .1 .1) (going-start (p .1 .0) (reading (p .1 .0) (c .before .before .before .before .before .before .before .before .before .before .before .before .before .before .before .before .before .before .before .before .before .before .before .before .before .before .before .before .before .before .before .before .before .before .before .before .before .before .before .expressions-at .ensures .0) (c .before .before .before .before .before .before .before .before .before .before .before .before .before .before .before .before .before .before .before .before .before .before .before .before .before .before .before .before .before .before .before .before .before .before .before .index .ensures) (c .before .before .before .before .before .before .before .before .before .before .before .before .before .before .before .before .before .before .before .before .before .before .before .before .before .before .before .before .before .before .before .before .before .before .before .before .before .wide .ensures .0) (c .before .before .before .before .before .before .before .before .before .before .before .before .before .before .before .before .before .before .before .before .before .before .before .before .before .before .before .before .before .before .before .before .before .before .slot .ensures .0) (c .before .before .before .before .before .before .before .before .before .before .before .before .before .before .before .before .before .before .before .before .before .before .before .before .before .before .before .before .before .before .before .before .wide2 .ensures .0) refl) (p .1 .1 .1 .1) (a .room) (c .before .before .before .before .before .before .before .before .before .before .before .before .before .before .before .before .before .before .before .before .before .before .before .begin .ensures) (c .before .before .before .before .before .before .before .before .before .before .before .before .before .before .before .before .before .before .before .before .before .before .declare .ensures) (c .before .before .before .before .before .before .before .before .before .before .before .before .before .before .before .before .before .before .before .before .before .if1 .left)) in let w = c .before .before .before .before .before .before .before .follow .ensures in let z = c .before .before .before .before .before .before .if3 .left in (p .0, (bearing (w .kept z), (w .kept z .maps-six, (word-fits (p .1 .0) (p .1 .1 .1 .1) g (c .before .before .before .before .before .before .before .before .before .before .before .before .before .before .before .before .before .before .before .loop-test .taken), w .stacks-are z))))
+localize-put-word-requires t c κs = let a = c .before .before .before .before .before .before .before .before .before .before .before .before .before .before .before .before .before .before .before .before .before .before .before .before .before .before .before .before .before .before .before .before .before .before .before .before .before .before .before .before .args in let p = c .before .before .before .before .before .before .before .before .before .before .before .before .before .before .before .before .before .before .before .before .before .before .before .before .before .before .before .before .before .before .before .before .before .before .before .before .before .before .before .before .pre .1 in let g = c .before .before .before .before .before .before .before .before .before .before .before .before .before .before .before .before .before .before .before .before .loop .inv .on refl (p .1 .1 .1 .1) (going-start (p .1 .0) (reading (p .1 .0) (c .before .before .before .before .before .before .before .before .before .before .before .before .before .before .before .before .before .before .before .before .before .before .before .before .before .before .before .before .before .before .before .before .before .before .before .before .before .before .before .expressions-at .ensures .0) (c .before .before .before .before .before .before .before .before .before .before .before .before .before .before .before .before .before .before .before .before .before .before .before .before .before .before .before .before .before .before .before .before .before .before .before .index .ensures) (c .before .before .before .before .before .before .before .before .before .before .before .before .before .before .before .before .before .before .before .before .before .before .before .before .before .before .before .before .before .before .before .before .before .before .before .before .before .wide .ensures .0) (c .before .before .before .before .before .before .before .before .before .before .before .before .before .before .before .before .before .before .before .before .before .before .before .before .before .before .before .before .before .before .before .before .before .before .slot .ensures .0) (c .before .before .before .before .before .before .before .before .before .before .before .before .before .before .before .before .before .before .before .before .before .before .before .before .before .before .before .before .before .before .before .before .wide2 .ensures .0) refl) (p .1 .1 .1 .1) (a .room) (c .before .before .before .before .before .before .before .before .before .before .before .before .before .before .before .before .before .before .before .before .before .before .before .begin .ensures) (c .before .before .before .before .before .before .before .before .before .before .before .before .before .before .before .before .before .before .before .before .before .before .declare .ensures) (c .before .before .before .before .before .before .before .before .before .before .before .before .before .before .before .before .before .before .before .before .before .if1 .left)) in let w = c .before .before .before .before .before .before .before .follow .ensures in let z = c .before .before .before .before .before .before .if3 .left in (p .0, (bearing (w .kept z), (w .kept z .maps-six, (word-fits (p .1 .0) (p .1 .1 .1 .1) g (c .before .before .before .before .before .before .before .before .before .before .before .before .before .before .before .before .before .before .before .loop-test .taken), w .stacks-are z))))
 
 -- src/lib.rt:151:13
 localize-pass-requires : (t : ℕ) → localize-lts.Need-pass-requires (
@@ -1107,7 +1106,7 @@ localize-pass-requires : (t : ℕ) → localize-lts.Need-pass-requires (
   import-names-reads.Asked,
   import-names-reads.Learnt,
 ) (localize-at t) localize.Post localize-Inv-loop localize-μ-loop
-localize-pass-requires t c κs = let a = c .before .before .before .before .before .before .before .before .before .before .before .before .before .before .before .before .before .before .before .before .before .before .before .before .before .before .before .before .before .before .before .before .args in let p = c .before .before .before .before .before .before .before .before .before .before .before .before .before .before .before .before .before .before .before .before .before .before .before .before .before .before .before .before .before .before .before .before .pre .1 in let g = c .before .before .before .before .before .before .before .before .before .before .before .before .loop .inv .on (p .1 .1 .1 .1) (going-start (p .1 .0) (reading (p .1 .0) (c .before .before .before .before .before .before .before .before .before .before .before .before .before .before .before .before .before .before .before .before .before .before .before .before .before .before .before .before .before .before .before .expressions-at .ensures .0) (c .before .before .before .before .before .before .before .before .before .before .before .before .before .before .before .before .before .before .before .before .before .before .before .before .before .before .before .index .ensures) (c .before .before .before .before .before .before .before .before .before .before .before .before .before .before .before .before .before .before .before .before .before .before .before .before .before .before .before .before .before .wide .ensures .0) (c .before .before .before .before .before .before .before .before .before .before .before .before .before .before .before .before .before .before .before .before .before .before .before .before .before .before .slot .ensures .0) (c .before .before .before .before .before .before .before .before .before .before .before .before .before .before .before .before .before .before .before .before .before .before .before .before .wide2 .ensures .0) refl) (p .1 .1 .1 .1) (a .room) (c .before .before .before .before .before .before .before .before .before .before .before .before .before .before .before .begin .ensures) (c .before .before .before .before .before .before .before .before .before .before .before .before .before .before .declare .ensures) (c .before .before .before .before .before .before .before .before .before .before .before .before .before .if1 .left)) in (p .0, (expressions (p .1 .0) (g .read), (word-bodied (p .1 .0) (p .1 .1 .1 .1) g (c .before .before .before .before .before .before .before .before .before .before .before .loop-test .taken), (g .turn .way .going, (g .turn .way .kept, g .turn .way .under)))))
+localize-pass-requires t c κs = let a = c .before .before .before .before .before .before .before .before .before .before .before .before .before .before .before .before .before .before .before .before .before .before .before .before .before .before .before .before .before .before .before .before .args in let p = c .before .before .before .before .before .before .before .before .before .before .before .before .before .before .before .before .before .before .before .before .before .before .before .before .before .before .before .before .before .before .before .before .pre .1 in let g = c .before .before .before .before .before .before .before .before .before .before .before .before .loop .inv .on refl (p .1 .1 .1 .1) (going-start (p .1 .0) (reading (p .1 .0) (c .before .before .before .before .before .before .before .before .before .before .before .before .before .before .before .before .before .before .before .before .before .before .before .before .before .before .before .before .before .before .before .expressions-at .ensures .0) (c .before .before .before .before .before .before .before .before .before .before .before .before .before .before .before .before .before .before .before .before .before .before .before .before .before .before .before .index .ensures) (c .before .before .before .before .before .before .before .before .before .before .before .before .before .before .before .before .before .before .before .before .before .before .before .before .before .before .before .before .before .wide .ensures .0) (c .before .before .before .before .before .before .before .before .before .before .before .before .before .before .before .before .before .before .before .before .before .before .before .before .before .before .slot .ensures .0) (c .before .before .before .before .before .before .before .before .before .before .before .before .before .before .before .before .before .before .before .before .before .before .before .before .wide2 .ensures .0) refl) (p .1 .1 .1 .1) (a .room) (c .before .before .before .before .before .before .before .before .before .before .before .before .before .before .before .begin .ensures) (c .before .before .before .before .before .before .before .before .before .before .before .before .before .before .declare .ensures) (c .before .before .before .before .before .before .before .before .before .before .before .before .before .if1 .left)) in (p .0, (expressions (p .1 .0) (g .read), (word-bodied (p .1 .0) (p .1 .1 .1 .1) g (c .before .before .before .before .before .before .before .before .before .before .before .loop-test .taken), (g .turn .way .going, (g .turn .way .kept, g .turn .way .under)))))
 
 -- src/lib.rt:174:13
 localize-returns-3 : (t : ℕ) → localize-lts.Need-returns-3 (
@@ -1136,7 +1135,7 @@ localize-returns-3 : (t : ℕ) → localize-lts.Need-returns-3 (
   import-names-reads.Asked,
   import-names-reads.Learnt,
 ) (localize-at t) localize.Post localize-Inv-loop localize-μ-loop
-localize-returns-3 t c = ?
+localize-returns-3 t c = let a = c .before .before .before .before .before .before .before .before .before .before .before .before .before .before .before .before .before .before .before .before .before .before .before .before .before .args in let p = c .before .before .before .before .before .before .before .before .before .before .before .before .before .before .before .before .before .before .before .before .before .before .before .before .before .pre .1 in let g = c .before .before .before .before .before .loop .inv .on refl (p .1 .1 .1 .1) (going-start (p .1 .0) (reading (p .1 .0) (c .before .before .before .before .before .before .before .before .before .before .before .before .before .before .before .before .before .before .before .before .before .before .before .before .expressions-at .ensures .0) (c .before .before .before .before .before .before .before .before .before .before .before .before .before .before .before .before .before .before .before .before .index .ensures) (c .before .before .before .before .before .before .before .before .before .before .before .before .before .before .before .before .before .before .before .before .before .before .wide .ensures .0) (c .before .before .before .before .before .before .before .before .before .before .before .before .before .before .before .before .before .before .before .slot .ensures .0) (c .before .before .before .before .before .before .before .before .before .before .before .before .before .before .before .before .before .wide2 .ensures .0) refl) (p .1 .1 .1 .1) (a .room) (c .before .before .before .before .before .before .before .before .begin .ensures) (c .before .before .before .before .before .before .before .declare .ensures) (c .before .before .before .before .before .before .if1 .left)) in ⊎-elim (λ w. going-full (p .1 .0) (p .1 .1 .1 .1) g (c .before .before .before .before .loop-test .taken) (c .before .before .before .flag .ensures) (runs-at (callee-runs (p .1 .0) (p .1 .1 .1 .1) g (c .before .before .before .before .loop-test .taken) (w .0 .taken) (w .8 .ensures .0) (w .9 .ensures) (w .10 .left) (c .before .before .before .flag .result) (w .17 .ensures)) (w .18) (w .19) (w .20) (w .21) (w .22) (w .23) (w .24) (w .25)) (c .if4 .taken)) (λ w. going-full (p .1 .0) (p .1 .1 .1 .1) g (c .before .before .before .before .loop-test .taken) (c .before .before .before .flag .ensures) (runs-at (other-runs (p .1 .0) (p .1 .1 .1 .1) g (c .before .before .before .before .loop-test .taken) (w .0 .left) (c .before .before .before .flag .result) (runs-from refl (w .9 .ensures))) (w .10) (w .11) (w .12) (w .13) (w .14) (w .15) (w .16) (w .17)) (c .if4 .taken)) (c .before .if2 .came)
 
 -- src/lib.rt:110:5
 localize-loop-less : (t : ℕ) → localize-lts.Need-loop-less (
@@ -1194,7 +1193,7 @@ localize-loop-again : (t : ℕ) → localize-lts.Need-loop-again (
   import-names-reads.Asked,
   import-names-reads.Learnt,
 ) (localize-at t) localize.Post localize-Inv-loop localize-μ-loop
-localize-loop-again t c = ?
+localize-loop-again t c = let a = c .before .before .before .before .before .before .before .before .before .before .before .before .before .before .before .before .before .before .before .before .before .before .before .before .before .args in let p = c .before .before .before .before .before .before .before .before .before .before .before .before .before .before .before .before .before .before .before .before .before .before .before .before .before .pre .1 in record { on = λ q K₀ g₀. let g = c .before .before .before .before .before .loop .inv .on q K₀ g₀ in ⊎-elim (λ w. going-next (p .1 .0) K₀ g (c .before .before .before .before .loop-test .taken) (c .before .before .before .flag .ensures) (runs-at (callee-runs (p .1 .0) K₀ g (c .before .before .before .before .loop-test .taken) (w .0 .taken) (w .8 .ensures .0) (w .9 .ensures) (w .10 .left) (c .before .before .before .flag .result) (w .17 .ensures)) (w .18) (w .19) (w .20) (w .21) (w .22) (w .23) (w .24) (w .25)) (c .if4 .left)) (λ w. going-next (p .1 .0) K₀ g (c .before .before .before .before .loop-test .taken) (c .before .before .before .flag .ensures) (runs-at (other-runs (p .1 .0) K₀ g (c .before .before .before .before .loop-test .taken) (w .0 .left) (c .before .before .before .flag .result) (runs-from q (w .9 .ensures))) (w .10) (w .11) (w .12) (w .13) (w .14) (w .15) (w .16) (w .17)) (c .if4 .left)) (c .before .if2 .came) }
 
 -- src/lib.rt:178:9
 localize-keep-names-requires : (t : ℕ) → localize-lts.Need-keep-names-requires (
@@ -1223,7 +1222,7 @@ localize-keep-names-requires : (t : ℕ) → localize-lts.Need-keep-names-requir
   import-names-reads.Asked,
   import-names-reads.Learnt,
 ) (localize-at t) localize.Post localize-Inv-loop localize-μ-loop
-localize-keep-names-requires t c κs = let a = c .before .before .before .before .before .before .before .before .before .before .before .before .before .before .before .before .before .before .before .before .before .before .before .args in let p = c .before .before .before .before .before .before .before .before .before .before .before .before .before .before .before .before .before .before .before .before .before .before .before .pre .1 in let g = c .before .before .before .loop .inv .on (p .1 .1 .1 .1) (going-start (p .1 .0) (reading (p .1 .0) (c .before .before .before .before .before .before .before .before .before .before .before .before .before .before .before .before .before .before .before .before .before .before .expressions-at .ensures .0) (c .before .before .before .before .before .before .before .before .before .before .before .before .before .before .before .before .before .before .index .ensures) (c .before .before .before .before .before .before .before .before .before .before .before .before .before .before .before .before .before .before .before .before .wide .ensures .0) (c .before .before .before .before .before .before .before .before .before .before .before .before .before .before .before .before .before .slot .ensures .0) (c .before .before .before .before .before .before .before .before .before .before .before .before .before .before .before .wide2 .ensures .0) refl) (p .1 .1 .1 .1) (a .room) (c .before .before .before .before .before .before .begin .ensures) (c .before .before .before .before .before .declare .ensures) (c .before .before .before .before .if1 .left)) in (keep-in (p .1 .0) (p .1 .1 .1 .1) g (c .before .before .loop-test .left), (keep-long (p .1 .0) (p .1 .1 .1 .1) g (c .before .before .loop-test .left), (keep-exprs (p .1 .0) (p .1 .1 .1 .1) g (c .before .before .loop-test .left), (keep-low (p .1 .0) (p .1 .1 .1 .1) g (c .before .before .loop-test .left), g .turn .way .under .stacks-are))))
+localize-keep-names-requires t c κs = let a = c .before .before .before .before .before .before .before .before .before .before .before .before .before .before .before .before .before .before .before .before .before .before .before .args in let p = c .before .before .before .before .before .before .before .before .before .before .before .before .before .before .before .before .before .before .before .before .before .before .before .pre .1 in let g = c .before .before .before .loop .inv .on refl (p .1 .1 .1 .1) (going-start (p .1 .0) (reading (p .1 .0) (c .before .before .before .before .before .before .before .before .before .before .before .before .before .before .before .before .before .before .before .before .before .before .expressions-at .ensures .0) (c .before .before .before .before .before .before .before .before .before .before .before .before .before .before .before .before .before .before .index .ensures) (c .before .before .before .before .before .before .before .before .before .before .before .before .before .before .before .before .before .before .before .before .wide .ensures .0) (c .before .before .before .before .before .before .before .before .before .before .before .before .before .before .before .before .before .slot .ensures .0) (c .before .before .before .before .before .before .before .before .before .before .before .before .before .before .before .wide2 .ensures .0) refl) (p .1 .1 .1 .1) (a .room) (c .before .before .before .before .before .before .begin .ensures) (c .before .before .before .before .before .declare .ensures) (c .before .before .before .before .if1 .left)) in (keep-in (p .1 .0) (p .1 .1 .1 .1) g (c .before .before .loop-test .left), (keep-long (p .1 .0) (p .1 .1 .1 .1) g (c .before .before .loop-test .left), (keep-exprs (p .1 .0) (p .1 .1 .1 .1) g (c .before .before .loop-test .left), (keep-low (p .1 .0) (p .1 .1 .1 .1) g (c .before .before .loop-test .left), g .turn .way .under .stacks-are))))
 
 -- src/lib.rt:180:9
 localize-returns-4 : (t : ℕ) → localize-lts.Need-returns-4 (
@@ -1252,7 +1251,7 @@ localize-returns-4 : (t : ℕ) → localize-lts.Need-returns-4 (
   import-names-reads.Asked,
   import-names-reads.Learnt,
 ) (localize-at t) localize.Post localize-Inv-loop localize-μ-loop
-localize-returns-4 t c = let a = c .before .before .before .before .before .before .before .before .before .before .before .before .before .before .before .before .before .before .before .before .before .before .before .before .before .args in let p = c .before .before .before .before .before .before .before .before .before .before .before .before .before .before .before .before .before .before .before .before .before .before .before .before .before .pre .1 in let g = c .before .before .before .before .before .loop .inv .on (p .1 .1 .1 .1) (going-start (p .1 .0) (reading (p .1 .0) (c .before .before .before .before .before .before .before .before .before .before .before .before .before .before .before .before .before .before .before .before .before .before .before .before .expressions-at .ensures .0) (c .before .before .before .before .before .before .before .before .before .before .before .before .before .before .before .before .before .before .before .before .index .ensures) (c .before .before .before .before .before .before .before .before .before .before .before .before .before .before .before .before .before .before .before .before .before .before .wide .ensures .0) (c .before .before .before .before .before .before .before .before .before .before .before .before .before .before .before .before .before .before .before .slot .ensures .0) (c .before .before .before .before .before .before .before .before .before .before .before .before .before .before .before .before .before .wide2 .ensures .0) refl) (p .1 .1 .1 .1) (a .room) (c .before .before .before .before .before .before .before .before .begin .ensures) (c .before .before .before .before .before .before .before .declare .ensures) (c .before .before .before .before .before .before .if1 .left)) in names-full (p .1 .0) (p .1 .1 .1 .1) g (c .before .before .before .before .loop-test .left) (c .before .keep-names .ensures) (c .if5 .taken)
+localize-returns-4 t c = let a = c .before .before .before .before .before .before .before .before .before .before .before .before .before .before .before .before .before .before .before .before .before .before .before .before .before .args in let p = c .before .before .before .before .before .before .before .before .before .before .before .before .before .before .before .before .before .before .before .before .before .before .before .before .before .pre .1 in let g = c .before .before .before .before .before .loop .inv .on refl (p .1 .1 .1 .1) (going-start (p .1 .0) (reading (p .1 .0) (c .before .before .before .before .before .before .before .before .before .before .before .before .before .before .before .before .before .before .before .before .before .before .before .before .expressions-at .ensures .0) (c .before .before .before .before .before .before .before .before .before .before .before .before .before .before .before .before .before .before .before .before .index .ensures) (c .before .before .before .before .before .before .before .before .before .before .before .before .before .before .before .before .before .before .before .before .before .before .wide .ensures .0) (c .before .before .before .before .before .before .before .before .before .before .before .before .before .before .before .before .before .before .before .slot .ensures .0) (c .before .before .before .before .before .before .before .before .before .before .before .before .before .before .before .before .before .wide2 .ensures .0) refl) (p .1 .1 .1 .1) (a .room) (c .before .before .before .before .before .before .before .before .begin .ensures) (c .before .before .before .before .before .before .before .declare .ensures) (c .before .before .before .before .before .before .if1 .left)) in names-full (p .1 .0) (p .1 .1 .1 .1) g (c .before .before .before .before .loop-test .left) (c .before .keep-names .ensures) (c .if5 .taken)
 
 -- src/lib.rt:182:5
 localize-import-names-requires : (t : ℕ) → localize-lts.Need-import-names-requires (
@@ -1281,7 +1280,7 @@ localize-import-names-requires : (t : ℕ) → localize-lts.Need-import-names-re
   import-names-reads.Asked,
   import-names-reads.Learnt,
 ) (localize-at t) localize.Post localize-Inv-loop localize-μ-loop
-localize-import-names-requires t c κs = let a = c .before .before .before .before .before .before .before .before .before .before .before .before .before .before .before .before .before .before .before .before .before .before .before .before .before .before .before .before .before .before .before .args in let p = c .before .before .before .before .before .before .before .before .before .before .before .before .before .before .before .before .before .before .before .before .before .before .before .before .before .before .before .before .before .before .before .pre .1 in let g = c .before .before .before .before .before .before .before .before .before .before .before .loop .inv .on (p .1 .1 .1 .1) (going-start (p .1 .0) (reading (p .1 .0) (c .before .before .before .before .before .before .before .before .before .before .before .before .before .before .before .before .before .before .before .before .before .before .before .before .before .before .before .before .before .before .expressions-at .ensures .0) (c .before .before .before .before .before .before .before .before .before .before .before .before .before .before .before .before .before .before .before .before .before .before .before .before .before .before .index .ensures) (c .before .before .before .before .before .before .before .before .before .before .before .before .before .before .before .before .before .before .before .before .before .before .before .before .before .before .before .before .wide .ensures .0) (c .before .before .before .before .before .before .before .before .before .before .before .before .before .before .before .before .before .before .before .before .before .before .before .before .before .slot .ensures .0) (c .before .before .before .before .before .before .before .before .before .before .before .before .before .before .before .before .before .before .before .before .before .before .before .wide2 .ensures .0) refl) (p .1 .1 .1 .1) (a .room) (c .before .before .before .before .before .before .before .before .before .before .before .before .before .before .begin .ensures) (c .before .before .before .before .before .before .before .before .before .before .before .before .before .declare .ensures) (c .before .before .before .before .before .before .before .before .before .before .before .before .if1 .left)) in (p .0, (names-in (p .1 .0) (p .1 .1 .1 .1) g (c .before .before .before .before .before .before .before .before .before .before .loop-test .left) (c .before .before .before .before .before .before .before .keep-names .ensures) (c .before .before .before .before .before .before .if5 .left), (names-words (p .1 .0) (p .1 .1 .1 .1) g (c .before .before .before .before .before .before .before .before .before .before .loop-test .left) (c .before .before .before .before .before .before .before .keep-names .ensures) (c .before .before .before .before .before .before .if5 .left), (c .before .before .before .before .before .before .before .keep-names .ensures .stacks-are (c .before .before .before .before .before .before .if5 .left), names-good (p .1 .0) (p .1 .1 .1 .1) g (c .before .before .before .before .before .before .before .before .before .before .loop-test .left) (c .before .before .before .before .before .before .before .keep-names .ensures) (c .before .before .before .before .before .before .if5 .left)))))
+localize-import-names-requires t c κs = let a = c .before .before .before .before .before .before .before .before .before .before .before .before .before .before .before .before .before .before .before .before .before .before .before .before .before .before .before .before .before .before .before .args in let p = c .before .before .before .before .before .before .before .before .before .before .before .before .before .before .before .before .before .before .before .before .before .before .before .before .before .before .before .before .before .before .before .pre .1 in let g = c .before .before .before .before .before .before .before .before .before .before .before .loop .inv .on refl (p .1 .1 .1 .1) (going-start (p .1 .0) (reading (p .1 .0) (c .before .before .before .before .before .before .before .before .before .before .before .before .before .before .before .before .before .before .before .before .before .before .before .before .before .before .before .before .before .before .expressions-at .ensures .0) (c .before .before .before .before .before .before .before .before .before .before .before .before .before .before .before .before .before .before .before .before .before .before .before .before .before .before .index .ensures) (c .before .before .before .before .before .before .before .before .before .before .before .before .before .before .before .before .before .before .before .before .before .before .before .before .before .before .before .before .wide .ensures .0) (c .before .before .before .before .before .before .before .before .before .before .before .before .before .before .before .before .before .before .before .before .before .before .before .before .before .slot .ensures .0) (c .before .before .before .before .before .before .before .before .before .before .before .before .before .before .before .before .before .before .before .before .before .before .before .wide2 .ensures .0) refl) (p .1 .1 .1 .1) (a .room) (c .before .before .before .before .before .before .before .before .before .before .before .before .before .before .begin .ensures) (c .before .before .before .before .before .before .before .before .before .before .before .before .before .declare .ensures) (c .before .before .before .before .before .before .before .before .before .before .before .before .if1 .left)) in (p .0, (names-in (p .1 .0) (p .1 .1 .1 .1) g (c .before .before .before .before .before .before .before .before .before .before .loop-test .left) (c .before .before .before .before .before .before .before .keep-names .ensures) (c .before .before .before .before .before .before .if5 .left), (names-words (p .1 .0) (p .1 .1 .1 .1) g (c .before .before .before .before .before .before .before .before .before .before .loop-test .left) (c .before .before .before .before .before .before .before .keep-names .ensures) (c .before .before .before .before .before .before .if5 .left), (c .before .before .before .before .before .before .before .keep-names .ensures .stacks-are (c .before .before .before .before .before .before .if5 .left), names-good (p .1 .0) (p .1 .1 .1 .1) g (c .before .before .before .before .before .before .before .before .before .before .loop-test .left) (c .before .before .before .before .before .before .before .keep-names .ensures) (c .before .before .before .before .before .before .if5 .left)))))
 
 -- src/lib.rt:53:1
 localize-returns-5 : (t : ℕ) → localize-lts.Need-returns-5 (
@@ -1310,7 +1309,7 @@ localize-returns-5 : (t : ℕ) → localize-lts.Need-returns-5 (
   import-names-reads.Asked,
   import-names-reads.Learnt,
 ) (localize-at t) localize.Post localize-Inv-loop localize-μ-loop
-localize-returns-5 t c = let a = c .before .before .before .before .before .before .before .before .before .before .before .before .before .before .before .before .before .before .before .before .before .before .before .before .before .before .before .before .before .before .before .before .args in let p = c .before .before .before .before .before .before .before .before .before .before .before .before .before .before .before .before .before .before .before .before .before .before .before .before .before .before .before .before .before .before .before .before .pre .1 in let g = c .before .before .before .before .before .before .before .before .before .before .before .before .loop .inv .on (p .1 .1 .1 .1) (going-start (p .1 .0) (reading (p .1 .0) (c .before .before .before .before .before .before .before .before .before .before .before .before .before .before .before .before .before .before .before .before .before .before .before .before .before .before .before .before .before .before .before .expressions-at .ensures .0) (c .before .before .before .before .before .before .before .before .before .before .before .before .before .before .before .before .before .before .before .before .before .before .before .before .before .before .before .index .ensures) (c .before .before .before .before .before .before .before .before .before .before .before .before .before .before .before .before .before .before .before .before .before .before .before .before .before .before .before .before .before .wide .ensures .0) (c .before .before .before .before .before .before .before .before .before .before .before .before .before .before .before .before .before .before .before .before .before .before .before .before .before .before .slot .ensures .0) (c .before .before .before .before .before .before .before .before .before .before .before .before .before .before .before .before .before .before .before .before .before .before .before .before .wide2 .ensures .0) refl) (p .1 .1 .1 .1) (a .room) (c .before .before .before .before .before .before .before .before .before .before .before .before .before .before .before .begin .ensures) (c .before .before .before .before .before .before .before .before .before .before .before .before .before .before .declare .ensures) (c .before .before .before .before .before .before .before .before .before .before .before .before .before .if1 .left)) in names-whole (p .1 .0) (p .1 .1 .1 .1) g (c .before .before .before .before .before .before .before .before .before .before .before .loop-test .left) (c .before .before .before .before .before .before .before .before .keep-names .ensures) (c .before .before .before .before .before .before .before .if5 .left) (c .import-names .ensures)
+localize-returns-5 t c = let a = c .before .before .before .before .before .before .before .before .before .before .before .before .before .before .before .before .before .before .before .before .before .before .before .before .before .before .before .before .before .before .before .before .args in let p = c .before .before .before .before .before .before .before .before .before .before .before .before .before .before .before .before .before .before .before .before .before .before .before .before .before .before .before .before .before .before .before .before .pre .1 in let g = c .before .before .before .before .before .before .before .before .before .before .before .before .loop .inv .on refl (p .1 .1 .1 .1) (going-start (p .1 .0) (reading (p .1 .0) (c .before .before .before .before .before .before .before .before .before .before .before .before .before .before .before .before .before .before .before .before .before .before .before .before .before .before .before .before .before .before .before .expressions-at .ensures .0) (c .before .before .before .before .before .before .before .before .before .before .before .before .before .before .before .before .before .before .before .before .before .before .before .before .before .before .before .index .ensures) (c .before .before .before .before .before .before .before .before .before .before .before .before .before .before .before .before .before .before .before .before .before .before .before .before .before .before .before .before .before .wide .ensures .0) (c .before .before .before .before .before .before .before .before .before .before .before .before .before .before .before .before .before .before .before .before .before .before .before .before .before .before .slot .ensures .0) (c .before .before .before .before .before .before .before .before .before .before .before .before .before .before .before .before .before .before .before .before .before .before .before .before .wide2 .ensures .0) refl) (p .1 .1 .1 .1) (a .room) (c .before .before .before .before .before .before .before .before .before .before .before .before .before .before .before .begin .ensures) (c .before .before .before .before .before .before .before .before .before .before .before .before .before .before .declare .ensures) (c .before .before .before .before .before .before .before .before .before .before .before .before .before .if1 .left)) in names-whole (p .1 .0) (p .1 .1 .1 .1) g (c .before .before .before .before .before .before .before .before .before .before .before .loop-test .left) (c .before .before .before .before .before .before .before .before .keep-names .ensures) (c .before .before .before .before .before .before .before .if5 .left) (c .import-names .ensures)
 
 pub +append+follow+localize-spec : {M : Type 1} → statement M
 +append+follow+localize-spec = close μ-append μ-follow μ-localize (λ t. append-lts.spec (
