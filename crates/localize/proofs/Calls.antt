@@ -1,6 +1,6 @@
 -- A Call: its callee is followed above what is on the stacks, then its word is pushed. That is what the pass does at its word. Assumes nothing.
 use mathlib.Core.Path.{_≡_, refl, sym, ap, _∙_}
-use mathlib.Core.Bool.{Bool, true, false, false≢true}
+use mathlib.Core.Bool.{Bool, false}
 use mathlib.Core.List.{List, [], _∷_}
 use Prim.Native.Nat.{ℕ, zero, suc, _+_, _≤_, _<_}
 use native.Mathlib.Numerals.{add-one}
@@ -9,19 +9,17 @@ use lib.ListN.{length, getD, set, take, length-set}
 use lib.Seq.{slice, length-take-le, take-suc-set, take-set-le, drop-at, getD-set-same}
 use Rattle.model.specs.Outcome.{Cells}
 use Rattle.model.specs.Table.{CALLEE}
-use Rattle.model.specs.Tree.{flatAll}
 use Rattle.model.specs.References.{target, targets, carryW, through, moved}
 use Rattle.model.specs.Imports.{St}
 use Rattle.model.specs.Bodies.{known, Making, bring, went, step}
 use Rattle.passes.specs.Pass.{arrive, passed, wordOf}
 use Rattle.state.specs.Source.{modOf}
-use Rattle.state.specs.Held.{row, put, stOf, Over, long}
+use Rattle.state.specs.Held.{row, put, stOf, long}
 use Rattle.state.specs.declared.Ends.{Ends}
 use Rattle.state.proofs.State.{row-other}
 use Rattle.making.specs.Stacks.{wentOf, madeOf, makingOf, Stacks, Under}
 use Rattle.making.specs.Makes.{Pushed}
-use Rattle.making.proofs.Stack.{take-less, made-low, made-words, made-same, under-same}
-use Rattle.making.proofs.Growth.{over-more}
+use Rattle.making.proofs.Stack.{take-less, made-low, made-same, under-same}
 use Rattle.making.proofs.Then.{kept-tops, making-is}
 use Rattle.passing.specs.Runs.{Runs}
 use Rattle.localize.specs.Localized.{Nests}
@@ -32,12 +30,12 @@ slice-set l b w h = rw (add-one b, take-suc-set l b w h) (drop-at (take b l) (w 
 
 module _ (words : List ℕ) (n k o e₁ : ℕ) (follow : ℕ → St → St) (p q : ℕ → Making → Making) (f : ℕ) (cs : Cells) (u : Bool) where
   -- the pass at its word
-  called : (m : Making) → passed o (modOf words n) follow p q (CALLEE, f) cs m ≡ record { out = follow f (m .out); memo = m .memo; made = m .made }
+  pub called : (m : Making) → passed o (modOf words n) follow p q (CALLEE, f) cs m ≡ record { out = follow f (m .out); memo = m .memo; made = m .made }
   unfolding passed arrive target targets step bring
   called m = refl
 
   module _ (log₀ tags₀ : List ℕ) (starts₀ maps₀ : List (List ℕ)) (marks₀ em : List ℕ) (stacks₀ : List (List ℕ)) (e₀ : Ends) (U₀ : Under k em stacks₀ e₁ e₀)
-      (d : Ends) (log tags : List ℕ) (starts maps : List (List ℕ)) (marks : List ℕ) (stacks : List (List ℕ)) (N : Nests words (follow f) log₀ tags₀ starts₀ maps₀ marks₀ stacks₀ e₀ d log tags starts maps marks stacks) where
+      (d : Ends) (log tags : List ℕ) (starts maps : List (List ℕ)) (marks : List ℕ) (stacks : List (List ℕ)) (ready : St → Type 0) (N : Nests words ready (follow f) log₀ tags₀ starts₀ maps₀ marks₀ stacks₀ e₀ d log tags starts maps marks stacks) where
     abbrev P : Making → Making
     P = passed o (modOf words n) follow p q (CALLEE, f) cs
 
@@ -46,24 +44,6 @@ module _ (words : List ℕ) (n k o e₁ : ℕ) (follow : ℕ → St → St) (p q
 
     abbrev m₀ : List ℕ → Making
     m₀ special = makingOf words k log₀ tags₀ starts₀ maps₀ special e₀ em stacks₀ e₁
-
-    -- the callee does not fit
-    pub call-full : d .full ≡ true → Runs words k P W log₀ tags₀ starts₀ maps₀ marks₀ em stacks₀ e₁ e₀ d log tags starts maps marks em stacks
-    unfolding makingOf
-    call-full z = record {
-      over = λ _ special. rw (called (m₀ special)) (let a = made-words U₀ in over-more _ _ (omega arith) (N .over z special));
-      is = λ y. absurd (false≢true (sym y ∙ z));
-      wrote = λ y. absurd (false≢true (sym y ∙ z));
-      kept = λ y. absurd (false≢true (sym y ∙ z));
-      under = λ y. absurd (false≢true (sym y ∙ z));
-      along = λ y. absurd (false≢true (sym y ∙ z));
-      more = λ y. absurd (false≢true (sym y ∙ z));
-      deep = λ y. absurd (false≢true (sym y ∙ z));
-      below = N .below;
-      log-long = N .log-long;
-      tags-long = N .tags-long;
-      marks-stay = N .marks-stay;
-    }
 
     module _ (z : d .full ≡ false) where
       same-made : madeOf stacks e₁ d ≡ madeOf stacks₀ e₁ e₀

@@ -2,3 +2,11 @@ pub mod Calls
 pub mod Ways
 pub mod Starts
 pub mod Stills
+pub mod Names
+pub mod Finals
+pub mod Closings
+pub mod Appends
+pub mod Follows
+pub mod Few
+pub mod Locals
+pub mod Appending

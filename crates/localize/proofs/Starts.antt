@@ -35,7 +35,7 @@ use Rattle.parts.specs.Fitting.{front-legible, body-legible}
 use Rattle.parts.specs.Front.{front-declaring}
 use Rattle.parts.specs.Body.{emit-at}
 use Rattle.passing.specs.Runs.{unites, Declares, Bodied, Along, Runs}
-use Rattle.nesting.specs.Nested.{declaredS, walkedS, finalS, frontS, bodyS, cellsS, ReadyFrom}
+use Rattle.nesting.specs.Nested.{declaredS, walkedS, finalS, frontS, bodyS, cellsS}
 use Rattle.nesting.specs.Single.{function-back}
 use Rattle.localize.specs.Localized.{Localizes}
 use Rattle.localize.proofs.Ways.{Turn, front-long, walked-over, way-full}
@@ -120,8 +120,8 @@ module _ {words tags : List ℕ} {n s end : ℕ} {F : Function} (p : Part words 
     low : body ≤ end
     low = let a = order p x .to-end in omega arith
 
-    pub declare-full : r .full ≡ true → Localizes words n o follow F log₀ tags₀ starts₀ maps₀ marks₀ stacks₀ e₀ r log classes starts maps marks stacks
-    declare-full z = way-full words tags n o follow calls ready F k body end low hw ht (body-is p x) log₀ tags₀ starts₀ maps₀ marks₀ stacks₀ e₀ K₀ log classes starts maps marks stacks r z over (R .below) (R .log-long) (R .tags-long) (R .marks-stay)
+    pub declare-full : r .full ≡ true → Localizes words n o ready follow F log₀ tags₀ starts₀ maps₀ marks₀ stacks₀ e₀ r log classes starts maps marks stacks
+    declare-full z = way-full words tags n o follow calls ready F k body end low hw ht (body-is p x) log₀ tags₀ starts₀ maps₀ marks₀ stacks₀ e₀ K₀ log classes starts maps marks stacks r z (λ special b. over special) (R .below) (R .log-long) (R .tags-long) (R .marks-stay)
       where
         over : (special : List ℕ) → Over (sizeR (tableOf log₀ tags₀ starts₀ (e₀ .counts) 7) + (e₀ .et + e₀ .bt + length (cellsS o (modOf words n) follow F (S₀ special)))) (finalS o (modOf words n) follow F (S₀ special) .out)
         over special =
@@ -167,9 +167,8 @@ module _ {words tags : List ℕ} {n s end : ℕ} {F : Function} (p : Part words 
           let a : slice (e₀ .bt + length (front F)) (r .bt) (row stacks 3) ≡ [] = ap (λ (b : ℕ). slice (e₀ .bt + length (front F)) b (row stacks 3)) top ∙ slice-empty (e₀ .bt + length (front F)) (row stacks 3) in
           rw (← body-is p x) (ap₂ (λ (l : List ℕ) (d : Making). l ++ map word (written o (modOf words n) follow P Q (flatBlock (F .body)) false d)) a (sym (R .is z special) ∙ declared-is special))
 
-      pub turn-start : (special : List ℕ) → ReadyFrom o (modOf words n) ready follow F (flatBlock (F .body)) (declaredS o (modOf words n) follow F (S₀ special))
-          → Turn words tags n o follow ready F k body end log₀ tags₀ starts₀ maps₀ marks₀ stacks₀ e₀ log classes starts maps marks em stacks r body false
-      turn-start special y = record {
+      pub turn-start : Turn words tags n o follow ready F k body end log₀ tags₀ starts₀ maps₀ marks₀ stacks₀ e₀ log classes starts maps marks em stacks r body false
+      turn-start = record {
         from = le-refl _;
         within = low;
         legible = body-legible p x;
@@ -187,6 +186,5 @@ module _ {words tags : List ℕ} {n s end : ℕ} {F : Function} (p : Part words 
         fronts = λ special. rw (← top) (front-is-there special);
         same = same;
         wrote = wrote;
-        special = special;
-        left = rw (← body-is p x, ← R .is z special, declared-is special) y;
+        left = λ special y. rw (← body-is p x, ← R .is z special, declared-is special) y;
       }

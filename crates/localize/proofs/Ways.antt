@@ -31,11 +31,12 @@ use Rattle.import.proofs.Growth.{Grow, over-grow}
 use Rattle.ground.specs.Fits.{Legible}
 use Rattle.outside.proofs.Passing.{legible-next}
 use Rattle.making.specs.Stacks.{makingOf, Under}
-use Rattle.making.proofs.Stack.{take-less, slice-join}
+use Rattle.making.proofs.Stack.{take-less, slice-join, made-words}
 use Rattle.making.proofs.Growth.{GrowM, growing-by, growing, over-more, over-growM}
 use Rattle.passing.specs.Runs.{Along, Deep, Runs}
 use Rattle.nesting.specs.Nested.{declaredS, walkedS, keptS, finalS, frontS, namesS, bodyS, cellsS, ReadyFrom}
-use Rattle.localize.specs.Localized.{Localizes}
+use Rattle.localize.specs.Localized.{Localizes, Nests}
+use Rattle.localize.proofs.Calls.{called}
 
 -- ---- stretches
 pub slice-same : (a b n : ℕ) (l l′ : List ℕ) → b ≤ n → take n l′ ≡ take n l → slice a b l′ ≡ slice a b l
@@ -99,8 +100,8 @@ pub record Turn (words tags : List ℕ) (n o : ℕ) (follow : ℕ → St → St)
   pub wrote : (special : List ℕ)
       → slice (e₀ .bt + length (front F)) (e .bt) (row stacks 3) ++ map word (written o (modOf words n) follow (need o (modOf words n) still (F .exprs)) (glance o (modOf words n) still (F .exprs)) (between tags words i end) u (makingOf words k log classes starts maps special e em stacks (e₀ .et)))
       ≡ map word (bodyS o (modOf words n) follow F (stOf words log₀ tags₀ starts₀ maps₀ special e₀))
-  pub special : List ℕ
-  pub left : ReadyFrom o (modOf words n) ready follow F (between tags words i end) (makingOf words k log classes starts maps special e em stacks (e₀ .et))
+  pub left : (special : List ℕ) → ReadyFrom o (modOf words n) ready follow F (flatBlock (F .body)) (declaredS o (modOf words n) follow F (stOf words log₀ tags₀ starts₀ maps₀ special e₀))
+      → ReadyFrom o (modOf words n) ready follow F (between tags words i end) (makingOf words k log classes starts maps special e em stacks (e₀ .et))
 
 module _ (words tags : List ℕ) (n o : ℕ) (follow : ℕ → St → St) (calls : (f : ℕ) (s : St) → Grow s (follow f s)) (ready : ℕ → St → Type 0) (F : Function) (k body end : ℕ) (low : body ≤ end) (hw : end ≤ length words) (ht : end ≤ length tags)
     (cells : flatBlock (F .body) ≡ between tags words body end) (log₀ tags₀ : List ℕ) (starts₀ maps₀ : List (List ℕ)) (marks₀ : List ℕ) (stacks₀ : List (List ℕ)) (e₀ : Ends) (K₀ : Kept log₀ tags₀ starts₀ maps₀ marks₀ e₀) where
@@ -112,6 +113,10 @@ module _ (words tags : List ℕ) (n o : ℕ) (follow : ℕ → St → St) (calls
 
   abbrev S₀ : List ℕ → St
   S₀ special = stOf words log₀ tags₀ starts₀ maps₀ special e₀
+
+  -- each callee can be imported
+  abbrev Begins : List ℕ → Type 0
+  Begins special = ReadyFrom o (modOf words n) ready follow F (flatBlock (F .body)) (declaredS o (modOf words n) follow F (stOf words log₀ tags₀ starts₀ maps₀ special e₀))
 
   abbrev size₀ : ℕ
   size₀ = sizeR (tableOf log₀ tags₀ starts₀ (e₀ .counts) 7)
@@ -147,9 +152,9 @@ module _ (words tags : List ℕ) (n o : ℕ) (follow : ℕ → St → St) (calls
 
   -- full on the way
   pub way-full : (log classes : List ℕ) (starts maps : List (List ℕ)) (marks : List ℕ) (stacks : List (List ℕ)) (r : Ends) → r .full ≡ true
-      → ((special : List ℕ) → Over (size₀ + (e₀ .et + e₀ .bt + length (cellsS o (modOf words n) follow F (S₀ special)))) (finalS o (modOf words n) follow F (S₀ special) .out))
+      → ((special : List ℕ) → Begins special → Over (size₀ + (e₀ .et + e₀ .bt + length (cellsS o (modOf words n) follow F (S₀ special)))) (finalS o (modOf words n) follow F (S₀ special) .out))
       → Same (e₀ .used) log₀ tags₀ log classes → length log ≡ 16384 → length classes ≡ 16384 → Marks marks₀ marks
-      → Localizes words n o follow F log₀ tags₀ starts₀ maps₀ marks₀ stacks₀ e₀ r log classes starts maps marks stacks
+      → Localizes words n o ready follow F log₀ tags₀ starts₀ maps₀ marks₀ stacks₀ e₀ r log classes starts maps marks stacks
   way-full log classes starts maps marks stacks r z v s l l′ m = record {
     over = λ _. v;
     is = λ y. absurd (false≢true (sym y ∙ z));
@@ -188,16 +193,16 @@ module _ (words tags : List ℕ) (n o : ℕ) (follow : ℕ → St → St) (calls
       next : between tags words i end ≡ c ∷ cs
       next = between-next tags words i end h ht hw
 
-      turn-ready : ReadyFrom o (modOf words n) ready follow F (c ∷ cs) (m (T .special))
-      turn-ready = rw next at (T .left)
+      turn-ready : (special : List ℕ) → Begins special → ReadyFrom o (modOf words n) ready follow F (c ∷ cs) (m special)
+      turn-ready special b = rw next at (T .left special b)
 
-      pub turn-callee : getD tags i 0 ≡ CALLEE → ready (getD words i 0) (m (T .special) .out)
-      unfolding ReadyFrom
-      turn-callee = turn-ready .0
+      pub turn-callee : (special : List ℕ) → Begins special → getD tags i 0 ≡ CALLEE → ready (getD words i 0) (stOf words log classes starts maps special e)
+      unfolding ReadyFrom makingOf
+      turn-callee special b = turn-ready special b .0
 
-      rest : ReadyFrom o (modOf words n) ready follow F cs (passed o (modOf words n) follow P Q c cs (m (T .special)))
+      rest : (special : List ℕ) → Begins special → ReadyFrom o (modOf words n) ready follow F cs (passed o (modOf words n) follow P Q c cs (m special))
       unfolding ReadyFrom
-      rest = turn-ready .1
+      rest special b = turn-ready special b .1
 
       same-next : (special : List ℕ) → after o (modOf words n) follow P Q cs (passed o (modOf words n) follow P Q c cs (m special)) ≡ walkedS o (modOf words n) follow F (S₀ special)
       unfolding after
@@ -206,16 +211,37 @@ module _ (words tags : List ℕ) (n o : ℕ) (follow : ℕ → St → St) (calls
       whole : end - body ≡ length (flatBlock (F .body))
       whole = sym (ap length cells ∙ length-between tags words body end ht hw)
 
+      grows : (special : List ℕ) → GrowM (passed o (modOf words n) follow P Q c cs (m special)) (walkedS o (modOf words n) follow F (S₀ special))
+      grows special = rw (same-next special) at (still-grow-body o (modOf words n) follow (F .exprs) GrowM (growing-by o (modOf words n) follow (F .exprs) calls) cs (passed o (modOf words n) follow P Q c cs (m special)))
+
+      -- the callee does not fit
+      pub call-full : getD tags i 0 ≡ CALLEE → (d : Ends) (log′ classes′ : List ℕ) (starts′ maps′ : List (List ℕ)) (marks′ : List ℕ) (stacks′ : List (List ℕ))
+          → Nests words (ready (getD words i 0)) (follow (getD words i 0)) log classes starts maps marks stacks e d log′ classes′ starts′ maps′ marks′ stacks′
+          → d .full ≡ true → Localizes words n o ready follow F log₀ tags₀ starts₀ maps₀ marks₀ stacks₀ e₀ d log′ classes′ starts′ maps′ marks′ stacks′
+      unfolding makingOf
+      call-full q d log′ classes′ starts′ maps′ marks′ stacks′ N z =
+          way-full log′ classes′ starts′ maps′ marks′ stacks′ d z over (same-then (e₀ .used) (e .used) log₀ tags₀ log classes log′ classes′ (T .way .more) (T .way .below) (N .below)) (N .log-long) (N .tags-long) (marks-then marks₀ marks marks′ (T .way .marks-stay) (N .marks-stay))
+        where
+          over : (special : List ℕ) → Begins special → Over (size₀ + (e₀ .et + e₀ .bt + length (cellsS o (modOf words n) follow F (S₀ special)))) (finalS o (modOf words n) follow F (S₀ special) .out)
+          over special y =
+              let g = rw (q, called words n k o (e₀ .et) follow P Q (getD words i 0) cs u (m special)) at (grows special) in
+              let a = T .top in
+              let b = whole in
+              let f = T .from in
+              let w = made-words (T .way .under) in
+              let t = way-entries (T .way) maps₀ K₀ in
+              walked-over (S₀ special) (record { out = follow (getD words i 0) (m special .out); memo = m special .memo; made = m special .made }) (e₀ .et + e .bt) g (omega arith) (over-more _ _ (omega arith) (N .over z special (turn-callee special y q)))
+
       module _ (r : Ends) (log′ classes′ : List ℕ) (starts′ maps′ : List (List ℕ)) (marks′ em′ : List ℕ) (stacks′ : List (List ℕ))
           (R : Runs words k (passed o (modOf words n) follow P Q c cs) (λ (m : Making). wordOf o (modOf words n) follow P Q c cs v m ∷ []) log classes starts maps marks em stacks (e₀ .et) e r log′ classes′ starts′ maps′ marks′ em′ stacks′) where
-        pub turn-full : r .full ≡ true → Localizes words n o follow F log₀ tags₀ starts₀ maps₀ marks₀ stacks₀ e₀ r log′ classes′ starts′ maps′ marks′ stacks′
+        pub turn-full : r .full ≡ true → Localizes words n o ready follow F log₀ tags₀ starts₀ maps₀ marks₀ stacks₀ e₀ r log′ classes′ starts′ maps′ marks′ stacks′
         turn-full z =
-            way-full log′ classes′ starts′ maps′ marks′ stacks′ r z over (same-then (e₀ .used) (e .used) log₀ tags₀ log classes log′ classes′ (T .way .more) (T .way .below) (R .below)) (R .log-long) (R .tags-long) (marks-then marks₀ marks marks′ (T .way .marks-stay) (R .marks-stay))
+            way-full log′ classes′ starts′ maps′ marks′ stacks′ r z (λ special b. over special) (same-then (e₀ .used) (e .used) log₀ tags₀ log classes log′ classes′ (T .way .more) (T .way .below) (R .below)) (R .log-long) (R .tags-long) (marks-then marks₀ marks marks′ (T .way .marks-stay) (R .marks-stay))
           where
             over : (special : List ℕ) → Over (size₀ + (e₀ .et + e₀ .bt + length (cellsS o (modOf words n) follow F (S₀ special)))) (finalS o (modOf words n) follow F (S₀ special) .out)
             over special =
                 let d : Making = passed o (modOf words n) follow P Q c cs (m special) in
-                let g = rw (same-next special) at (still-grow-body o (modOf words n) follow (F .exprs) GrowM (growing-by o (modOf words n) follow (F .exprs) calls) cs d) in
+                let g = grows special in
                 let a = T .top in
                 let b = whole in
                 let f = T .from in
@@ -246,8 +272,7 @@ module _ (words tags : List ℕ) (n o : ℕ) (follow : ℕ → St → St) (calls
             fronts = λ special. slice-same (e₀ .bt) (e₀ .bt + length (front F)) (e .bt) (row stacks 3) (row stacks′ 3) (let b = T .top in omega arith) (R .deep z .body) ∙ T .fronts special;
             same = λ special. ap (after o (modOf words n) follow P Q cs) (sym (R .is z special)) ∙ same-next special;
             wrote = wrote;
-            special = T .special;
-            left = rw (R .is z (T .special)) at rest;
+            left = λ special b. rw (R .is z special) at (rest special b);
           })
             where
               wrote : (special : List ℕ) → slice (e₀ .bt + length (front F)) (r .bt) (row stacks′ 3) ++ map word (written o (modOf words n) follow P Q cs v (makingOf words k log′ classes′ starts′ maps′ special r em′ stacks′ (e₀ .et)))

@@ -24,7 +24,7 @@ ghost use Prim.Native.Nat.{_<_};
 ghost use Rattle.model.specs.Module.{countAt};
 ghost use Rattle.model.specs.Between.{between};
 ghost use Rattle.model.specs.Redirect.{function};
-ghost use Rattle.nesting.specs.Nested.{appendS, followS};
+ghost use Rattle.nesting.specs.Nested.{appendS, followS, Ready, ReadyF};
 ghost use Rattle.state.specs.Flats.{functionOf};
 ghost use Rattle.state.specs.Source.{modOf};
 ghost use Rattle.state.specs.Held.{Kept};
@@ -72,7 +72,7 @@ pub fn localize(
     requires { ⌜ Nested (now words) n (now log) (now classes) (now starts) (now maps) ends offset room (functionOf (between (now tags) (now words) s end)) ⌝ }
     requires { ⌜ (ends .full ≡ false) × (Stacks (now stacks) ends) ⌝ }
     requires { ⌜ Kept (now log) (now classes) (now starts) (now maps) (now marks) ends ⌝ }
-    ensures { λ r. ⌜ Localizes (now (words .entry)) n offset (followS offset (modOf (now (words .entry)) n) room) (functionOf (between (now (tags .entry)) (now (words .entry)) s end)) (now (log .entry)) (now (classes .entry)) (now (starts .entry)) (now (maps .entry)) (now (marks .entry)) (now (stacks .entry)) ends r (now (log .exit)) (now (classes .exit)) (now (starts .exit)) (now (maps .exit)) (now (marks .exit)) (now (stacks .exit)) ⌝ }
+    ensures { λ r. ⌜ Localizes (now (words .entry)) n offset (Ready offset (modOf (now (words .entry)) n) room) (followS offset (modOf (now (words .entry)) n) room) (functionOf (between (now (tags .entry)) (now (words .entry)) s end)) (now (log .entry)) (now (classes .entry)) (now (starts .entry)) (now (maps .entry)) (now (marks .entry)) (now (stacks .entry)) ends r (now (log .exit)) (now (classes .exit)) (now (starts .exit)) (now (maps .exit)) (now (marks .exit)) (now (stacks .exit)) ⌝ }
 {
     let e1 = ends.et;
     let exprs = expressions_at(words, s);
@@ -218,7 +218,7 @@ pub fn append(
     requires { ⌜ NestedF (now words) n (now log) (now classes) (now starts) (now maps) ends offset room (function (modOf (now words) n) f) ⌝ }
     requires { ⌜ (ends .full ≡ false) × (Stacks (now stacks) ends) ⌝ }
     requires { ⌜ Kept (now log) (now classes) (now starts) (now maps) (now marks) ends ⌝ }
-    ensures { λ r. ⌜ Nests (now (words .entry)) (appendS offset (modOf (now (words .entry)) n) (followS offset (modOf (now (words .entry)) n) room) f) (now (log .entry)) (now (classes .entry)) (now (starts .entry)) (now (maps .entry)) (now (marks .entry)) (now (stacks .entry)) ends r (now (log .exit)) (now (classes .exit)) (now (starts .exit)) (now (maps .exit)) (now (marks .exit)) (now (stacks .exit)) ⌝ }
+    ensures { λ r. ⌜ Nests (now (words .entry)) (ReadyF offset (modOf (now (words .entry)) n) (Ready offset (modOf (now (words .entry)) n) room) (followS offset (modOf (now (words .entry)) n) room) (function (modOf (now (words .entry)) n) f)) (appendS offset (modOf (now (words .entry)) n) (followS offset (modOf (now (words .entry)) n) room) f) (now (log .entry)) (now (classes .entry)) (now (starts .entry)) (now (maps .entry)) (now (marks .entry)) (now (stacks .entry)) ends r (now (log .exit)) (now (classes .exit)) (now (starts .exit)) (now (maps .exit)) (now (marks .exit)) (now (stacks .exit)) ⌝ }
 {
     let s = record_at(words, tags, n, FUNCTIONS, f);
     let end = record_end(words, tags, n, FUNCTIONS, f);
@@ -284,7 +284,7 @@ pub fn follow(
     requires { ⌜ NestedAt (now words) n (now log) (now classes) (now starts) (now maps) ends offset room f ⌝ }
     requires { ⌜ (ends .full ≡ false) × (Stacks (now stacks) ends) ⌝ }
     requires { ⌜ Kept (now log) (now classes) (now starts) (now maps) (now marks) ends ⌝ }
-    ensures { λ r. ⌜ Nests (now (words .entry)) (followS offset (modOf (now (words .entry)) n) room f) (now (log .entry)) (now (classes .entry)) (now (starts .entry)) (now (maps .entry)) (now (marks .entry)) (now (stacks .entry)) ends r (now (log .exit)) (now (classes .exit)) (now (starts .exit)) (now (maps .exit)) (now (marks .exit)) (now (stacks .exit)) ⌝ }
+    ensures { λ r. ⌜ Nests (now (words .entry)) (Ready offset (modOf (now (words .entry)) n) room f) (followS offset (modOf (now (words .entry)) n) room f) (now (log .entry)) (now (classes .entry)) (now (starts .entry)) (now (maps .entry)) (now (marks .entry)) (now (stacks .entry)) ends r (now (log .exit)) (now (classes .exit)) (now (starts .exit)) (now (maps .exit)) (now (marks .exit)) (now (stacks .exit)) ⌝ }
 {
     if room == 0 {
         return ends;
