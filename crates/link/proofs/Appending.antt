@@ -15,18 +15,16 @@ use Rattle.model.specs.Imports.{St}
 use Rattle.model.specs.Bodies.{append, follow}
 use Rattle.model.specs.Session.{Source as Src, ringing}
 use Rattle.model.specs.Link.{appendAll}
-use Rattle.laws.specs.FunctionViews.{taped-functions}
 use Rattle.finishing.specs.Fresh.{source}
 use Rattle.finishing.specs.Ringless.{none-ringing}
 use Rattle.finishing.specs.NamedSession.{NamedBy}
 use Rattle.sessions.specs.Operating.{GoodBy, Good}
 use Rattle.sessions.specs.Holding.{function-next}
-use Rattle.limits.specs.Reached.{Reached, At, at-source, function-at}
+use Rattle.limits.specs.Reached.{Reached, At, function-at}
 use Rattle.nesting.specs.Nested.{appendS, followS, ReadyF, Ready}
-use Rattle.nesting.specs.Theorems.{append-is}
 use Rattle.gather.proofs.Whole.{few}
 use Rattle.state.specs.Refers.{tabOf}
-use Rattle.state.specs.Source.{modOf, Source}
+use Rattle.state.specs.Source.{modOf}
 use Rattle.state.specs.Held.{tableOf, stOf, sizeR, Over, Kept}
 use Rattle.state.specs.declared.Ends.{Ends}
 use Rattle.state.proofs.Laws.{none-held}
@@ -34,25 +32,12 @@ use Rattle.state.proofs.State.{tab-long}
 use Rattle.sourcing.proofs.Deriving.{specials-more}
 use Rattle.ground.specs.Fits.{Ground}
 use Rattle.making.specs.Stacks.{Stacks}
+use Rattle.functions.proofs.Sources.{at, ground, functions-are, ready-function, nested-function, append-same}
 use Rattle.localize.specs.Localized.{NestedF, Nests}
 use Rattle.operations.specs.Live.{sessionOf, Live}
 use Rattle.link.specs.Appends.{Roomy, Sequence, AppendsAll}
 
--- ---- a session that is live, with its source
-module _ {n o : ℕ} {words tape kinds log tags : List ℕ} {starts maps : List (List ℕ)} {marks special : List ℕ} {e : Ends} (L : Live true n o words tape kinds log tags starts maps marks special e) where
-  pub live-at : At (record { image = modOf words n; offset = o }) (stOf words log tags starts maps special e)
-  unfolding sessionOf
-  live-at = at-source (L .reached) (record { image = modOf words n; offset = o }) refl
-
-  pub live-source : Source words tape n
-  live-source = record { taped = L .taped refl; three = L .passes refl .numbers; four = L .passes refl .lowers }
-
-  pub live-ground : Ground words tape kinds n
-  live-ground = record { source = live-source; names = L .passes refl .names; kinds-are = L .kinds-are }
-
-  pub live-count : countAt 6 words ≡ length (modOf words n .functions)
-  live-count = taped-functions (L .taped refl)
-
+-- ---- a session that is reached
 pub at-reached : {x : Src} {s : St} → At x s → Reached (record { source = some x; state = s })
 unfolding Good GoodBy NamedBy
 at-reached a = record { good = a .set; named = (a .set .well, a .set .passes .numbers, a .shown) }
@@ -78,7 +63,7 @@ module _ (words tape kinds : List ℕ) (n : ℕ) (order : List ℕ) (all : ℕ) 
   low = R .0
 
   pub next-low : f < countAt 6 words
-  next-low = omega (arith, low, live-count L)
+  next-low = omega (arith, low, functions-are n 0 words tape kinds log₀ tags₀ starts₀ maps₀ marks₀ special e L)
 
   not-over : Over 0 next → ⊥
   unfolding Roomy
@@ -87,27 +72,27 @@ module _ (words tape kinds : List ℕ) (n : ℕ) (order : List ℕ) (all : ℕ) 
   off-rings : ringing (f ∷ callees (function (modOf words n) f)) (modOf words n) s ≡ false
   off-rings = none-ringing (modOf words n) (take all order) (S .is) (f ∷ callees (function (modOf words n) f)) s
 
-  rooms : length (modOf words n .functions) ≡ all
-  rooms = sym (live-count L) ∙ sym (S .counts)
-
-  appends : (appendS 0 (modOf words n) (followS 0 (modOf words n) all) f s ≡ next) × ReadyF 0 (modOf words n) (Ready 0 (modOf words n) all) (followS 0 (modOf words n) all) (function (modOf words n) f) s
-  appends = subst (λ (k : ℕ). (appendS 0 (modOf words n) (followS 0 (modOf words n) k) f s ≡ next) × ReadyF 0 (modOf words n) (Ready 0 (modOf words n) k) (followS 0 (modOf words n) k) (function (modOf words n) f) s) rooms (append-is (source (modOf words n)) s (live-at L .set) f low off-rings)
+  appends : appendS 0 (modOf words n) (followS 0 (modOf words n) all) f s ≡ next
+  appends = append-same n 0 words tape kinds log₀ tags₀ starts₀ maps₀ marks₀ special e L f all next-low (S .counts) off-rings
 
   pub next-nested : NestedF words n log₀ tags₀ starts₀ maps₀ e 0 all (function (modOf words n) f)
-  next-nested = record { special = special; scopes = L .passes refl .scope; ready = appends .1 }
+  next-nested = nested-function n 0 words tape kinds log₀ tags₀ starts₀ maps₀ marks₀ special e L f all next-low (S .counts) off-rings
+
+  here : At (source (modOf words n)) s
+  here = at n 0 words tape kinds log₀ tags₀ starts₀ maps₀ marks₀ special e L
 
   next-at : At (source (modOf words n)) next
-  next-at = function-at (live-at L) f low off-rings
+  next-at = function-at here f low off-rings
 
   module _ (stacks₀ : List (List ℕ)) (r : Ends) (log tags : List ℕ) (starts maps : List (List ℕ)) (marks : List ℕ) (stacks : List (List ℕ)) (N : Nests words (ReadyF 0 (modOf words n) (Ready 0 (modOf words n) all) (followS 0 (modOf words n) all) (function (modOf words n) f)) (appendS 0 (modOf words n) (followS 0 (modOf words n) all) f) log₀ tags₀ starts₀ maps₀ marks₀ stacks₀ e r log tags starts maps marks stacks) where
     pub next-room : r .full ≡ true → ⊥
     next-room q =
         let z : sizeR (tableOf log₀ tags₀ starts₀ (e .counts) 7) + (e .et + e .bt) ≡ 0 = omega (arith, none-held log₀ tags₀ starts₀ (e .counts) (L .no-entries) .1, L .lowest .0, L .lowest .1) in
-        not-over (subst (λ (y : St). Over 0 y) (appends .0) (subst (λ (k : ℕ). Over k (appendS 0 (modOf words n) (followS 0 (modOf words n) all) f s)) z (N .over q special (appends .1))))
+        not-over (subst (λ (y : St). Over 0 y) appends (subst (λ (k : ℕ). Over k (appendS 0 (modOf words n) (followS 0 (modOf words n) all) f s)) z (N .over q special (ready-function n 0 words tape kinds log₀ tags₀ starts₀ maps₀ marks₀ special e L f all next-low (S .counts) off-rings))))
 
     module _ (q : r .full ≡ false) where
       next-same : next ≡ stOf words log tags starts maps special r
-      next-same = sym (appends .0) ∙ N .is q special
+      next-same = sym appends ∙ N .is q special
 
       next-reached : Reached (sessionOf true n 0 words log tags starts maps special r)
       unfolding sessionOf
@@ -115,7 +100,7 @@ module _ (words tape kinds : List ℕ) (n : ℕ) (order : List ℕ) (all : ℕ) 
 
       more-types : getD (e .counts) 1 0 ≤ getD (r .counts) 1 0
       more-types =
-          let g = function-next (modOf words n) (live-at L .set .well) (live-at L .set .passes) 0 f s low off-rings (live-at L .set .holds) .grown .tables .longer types in
+          let g = function-next (modOf words n) (here .set .well) (here .set .passes) 0 f s low off-rings (here .set .holds) .grown .tables .longer types in
           let h : count (s .recs) types ≤ count (stOf words log tags starts maps special r .recs) types = subst (λ (y : St). count (s .recs) types ≤ count (y .recs) types) next-same g in
           omega (arith, h, types-many words special log₀ tags₀ starts₀ maps₀ marks₀ e (L .kept), types-many words special log tags starts maps marks r (N .kept q))
 
@@ -158,7 +143,7 @@ pub record Turn (words tape kinds : List ℕ) (n : ℕ) (order : List ℕ) (all 
 module _ (words tape kinds : List ℕ) (n : ℕ) (order : List ℕ) (all : ℕ) (S : Sequence words n order all) where
   module _ (log tags : List ℕ) (starts maps : List (List ℕ)) (marks special : List ℕ) (stacks : List (List ℕ)) (e : Ends) (L : Live true n 0 words tape kinds log tags starts maps marks special e) where
     pub few-all : all ≤ 256
-    few-all = omega (arith, S .counts, live-count L, few (L .taped refl))
+    few-all = omega (arith, S .counts, functions-are n 0 words tape kinds log tags starts maps marks special e L, few (L .taped refl))
 
     pub turn-first : Stacks stacks e → Roomy (modOf words n) (take all order) (stOf words log tags starts maps special e) → Turn words tape kinds n order all (appendAll (take all order) 0 (modOf words n) (stOf words log tags starts maps special e)) 0 log tags starts maps marks special stacks e
     turn-first K R = record { upto = omega arith; live = L; stacks-are = K; roomy = R; left = refl }
@@ -173,7 +158,7 @@ module _ (words tape kinds : List ℕ) (n : ℕ) (order : List ℕ) (all : ℕ) 
 
       pub turn-asks : Ground words tape kinds n × (f < countAt 6 words) × NestedF words n log₀ tags₀ starts₀ maps₀ e 0 all (function (modOf words n) f) × ((e .full ≡ false) × (Stacks stacks₀ e)) × Kept log₀ tags₀ starts₀ maps₀ marks₀ e
       turn-asks =
-          (live-ground (A .live), next-low words tape kinds n order all S log₀ tags₀ starts₀ maps₀ marks₀ special e (A .live) f (slice (suc i) all order) roomy-cons, next-nested words tape kinds n order all S log₀ tags₀ starts₀ maps₀ marks₀ special e (A .live) f (slice (suc i) all order) roomy-cons, (A .live .going, A .stacks-are), A .live .kept)
+          (ground n 0 words tape kinds log₀ tags₀ starts₀ maps₀ marks₀ special e (A .live), next-low words tape kinds n order all S log₀ tags₀ starts₀ maps₀ marks₀ special e (A .live) f (slice (suc i) all order) roomy-cons, next-nested words tape kinds n order all S log₀ tags₀ starts₀ maps₀ marks₀ special e (A .live) f (slice (suc i) all order) roomy-cons, (A .live .going, A .stacks-are), A .live .kept)
 
       behind : (r : Ends) (log tags : List ℕ) (starts maps : List (List ℕ)) (marks : List ℕ) (stacks : List (List ℕ)) → Nests words (ReadyF 0 (modOf words n) (Ready 0 (modOf words n) all) (followS 0 (modOf words n) all) (function (modOf words n) f)) (appendS 0 (modOf words n) (followS 0 (modOf words n) all) f) log₀ tags₀ starts₀ maps₀ marks₀ stacks₀ e r log tags starts maps marks stacks
           → Turn words tape kinds n order all whole (suc i) log tags starts maps marks special stacks r

@@ -4,7 +4,7 @@ use mathlib.Core.Bool.{true, false}
 use mathlib.Core.List.{List}
 use Prim.Native.Nat.{ℕ, _+_, _*_, _≤_}
 use native.Mathlib.Omega.{arith}
-use lib.ListN.{length, getD, take, length-take, replicate, length-replicate}
+use lib.ListN.{length, getD, take, length-take, replicate}
 use lib.Seq.{sets}
 use Rattle.words.specs.Words.{bytesOf}
 use Rattle.model.specs.Module.{Module, countAt, write}
@@ -23,17 +23,19 @@ use Rattle.state.specs.Source.{modOf, Source}
 use Rattle.state.specs.Held.{stOf, Over, Kept, Specials}
 use Rattle.state.specs.declared.Ends.{Ends}
 use Rattle.state.proofs.Laws.{none-held}
-use Rattle.state.proofs.Fresh.{rows-at, st-nothing}
+use Rattle.state.proofs.Fresh.{st-nothing}
 use Rattle.operations.specs.Theorems.{live-new, zeros}
 use Rattle.sourcing.specs.Derives.{Sourced}
 use Rattle.making.specs.Stacks.{Stacks}
 use Rattle.ending.specs.Told.{told, Held, Ended}
 use Rattle.ending.specs.Theorems.{finish-with-told}
 use Rattle.operations.specs.Live.{sessionOf, Live}
+use Rattle.functions.proofs.Sources.{at}
+use Rattle.functions.proofs.Whole.{stacks-empty}
 use Rattle.functions.specs.Brought.{EntersAll}
 use Rattle.link.specs.Appends.{Roomy, Sequence, AppendsAll, Linkable, LinksBy}
 use Rattle.link.proofs.Fresh.{fresh-at, set-fits, imported-roomy, finish-fits, link-output}
-use Rattle.link.proofs.Appending.{never, live-at, at-reached}
+use Rattle.link.proofs.Appending.{never, at-reached}
 
 abbrev pub E : Ends
 E = record { full = false; used = 0; counts = replicate 8 0; pairs = 0; et = 0; bt = 0; made = 0 }
@@ -47,9 +49,6 @@ zeros-kept e q = subst (Kept (replicate 16384 0) (replicate 16384 0) (replicate 
 
 pub zeros-special : (e : Ends) → e ≡ E → Specials (replicate 1027 0) e
 zeros-special e q = subst (Specials (replicate 1027 0)) (sym q) (live-new zeros 0 0 .specials)
-
-zeros-stacks : (e : Ends) → e .et ≡ 0 → e .bt ≡ 0 → Stacks (replicate 4 (replicate 16384 0)) e
-zeros-stacks e a b = record { four = length-replicate {A = List ℕ} 4 (replicate 16384 0); rows = λ t h. ap length (rows-at (replicate 16384 0) 4 t h) ∙ length-replicate {A = ℕ} 16384 0; high = omega (arith, a); high′ = omega (arith, b) }
 
 -- they hold the fresh state, but for the maps
 fresh-sourced : (m : Module) (e : Ends) → e ≡ E → (words : List ℕ) → sourced 0 m (stOf words (replicate 16384 0) (replicate 16384 0) (replicate 8 (replicate 512 0)) unmade (replicate 1027 0) e) ≡ sourced 0 m fresh
@@ -123,7 +122,7 @@ module _ (words tape : List ℕ) (n : ℕ) (order output₀ : List ℕ) (K : Lin
             (subst (Roomy (modOf words n) os) set-same (imported-roomy (modOf words n) os (K .sequence .is) (gives .session .imports) (sourced 0 (modOf words n) fresh) refl start-at))
 
         pub append-asks : Live true n 0 words tape kinds log tags starts maps marks special r × Stacks (replicate 4 (replicate 16384 0)) r × Sequence words n order all × Roomy (modOf words n) (take all order) (stOf words log tags starts maps special r)
-        append-asks = (set-live, zeros-stacks r (set-live .lowest .0) (set-live .lowest .1), set-sequence, set-roomy)
+        append-asks = (set-live, stacks-empty (replicate 4 (replicate 16384 0)) refl r (omega (arith, set-live .lowest .0)) (omega (arith, set-live .lowest .1)), set-sequence, set-roomy)
 
         -- ---- the functions are appended
         module _ (r₂ : Ends) (log₂ tags₂ : List ℕ) (starts₂ maps₂ : List (List ℕ)) (marks₂ : List ℕ) (stacks₂ : List (List ℕ)) (A : AppendsAll words tape kinds n (take all order) log tags starts maps r r₂ log₂ tags₂ starts₂ maps₂ marks₂ special stacks₂) where
@@ -145,7 +144,7 @@ module _ (words tape : List ℕ) (n : ℕ) (order output₀ : List ℕ) (K : Lin
           -- ---- the entry points are entered
           module _ (r₃ : Ends) (log₃ tags₃ : List ℕ) (starts₃ maps₃ : List (List ℕ)) (marks₃ : List ℕ) (stacks₃ : List (List ℕ)) (T : EntersAll words n 0 special log₂ tags₂ starts₂ maps₂ marks₂ r₂ r₃ log₃ tags₃ starts₃ maps₃ marks₃ stacks₃) where
             enter-room : r₃ .full ≡ false
-            enter-room = never (r₃ .full) λ q. finish-fits (modOf words n) os (K .sequence .is) (length output₀) s₂ vs (live-at (A .live)) finishes (T .over q)
+            enter-room = never (r₃ .full) λ q. finish-fits (modOf words n) os (K .sequence .is) (length output₀) s₂ vs (at n 0 words tape kinds log₂ tags₂ starts₂ maps₂ marks₂ special r₂ (A .live)) finishes (T .over q)
 
             pub finish-asks : Held log₃ tags₃ starts₃ r₃ × (length special ≡ 1027)
             finish-asks = (record { maps = maps₃; marks = marks₃; kept = T .kept enter-room }, A .live .specials .special-long)
