@@ -26,7 +26,7 @@ unfolding finish finished gathered emptied
 finish-cleared room s = refl
 
 -- nothing is written where it is refused
-none-written : (a : Answer (List ℕ)) (output₀ : List ℕ) (k b : ℕ) (output : List ℕ) → (k, b, output) ≡ told a output₀ → (k ≡ 0 → ⊥) → b ≡ 0
+pub none-written : (a : Answer (List ℕ)) (output₀ : List ℕ) (k b : ℕ) (output : List ℕ) → (k, b, output) ≡ told a output₀ → (k ≡ 0 → ⊥) → b ≡ 0
 unfolding told
 none-written (answered ws s) output₀ k b output h ne = absurd (ne (ap (λ (p : ℕ × ℕ × List ℕ). p .0) h))
 none-written (refused j) output₀ k b output h ne = ap (λ (p : ℕ × ℕ × List ℕ). p .1) h
@@ -36,7 +36,7 @@ abbrev pub unset : List ℕ → List ℕ
 unset special = set (set (set special 0 0) 1 0) 2 0
 
 module _ (special : List ℕ) (long : length special ≡ 1027) where
-  unset-long : length (unset special) ≡ 1027
+  pub unset-long : length (unset special) ≡ 1027
   unset-long = length-set (set (set special 0 0) 1 0) 2 0 ∙ length-set (set special 0 0) 1 0 ∙ length-set special 0 0 ∙ long
 
   unset-third : getD (unset special) 2 0 ≡ 0
@@ -48,7 +48,7 @@ module _ (special : List ℕ) (long : length special ≡ 1027) where
   unset-first : getD (unset special) 0 0 ≡ 0
   unset-first = getD-set-other (set (set special 0 0) 1 0) 2 0 0 0 (λ p. omega arith) ∙ getD-set-other (set special 0 0) 1 0 0 0 (λ p. omega arith) ∙ getD-set-same special 0 0 0 (omega arith)
 
-  unset-all : (i : ℕ) → i < 3 → getD (unset special) i 0 ≡ 0
+  pub unset-all : (i : ℕ) → i < 3 → getD (unset special) i 0 ≡ 0
   unset-all zero h = unset-first
   unset-all (suc zero) h = unset-second
   unset-all (suc (suc zero)) h = unset-third
