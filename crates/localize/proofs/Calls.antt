@@ -2,7 +2,7 @@
 use mathlib.Core.Path.{_≡_, refl, sym, ap, _∙_}
 use mathlib.Core.Bool.{Bool, false}
 use mathlib.Core.List.{List, [], _∷_}
-use Prim.Native.Nat.{ℕ, zero, suc, _+_, _≤_, _<_}
+use Prim.Native.Nat.{ℕ, zero, suc, _+_, _<_}
 use native.Mathlib.Numerals.{add-one}
 use native.Mathlib.Omega.{arith}
 use lib.ListN.{length, getD, set, take, length-set}
@@ -14,7 +14,7 @@ use Rattle.model.specs.Imports.{St}
 use Rattle.model.specs.Bodies.{known, Making, bring, went, step}
 use Rattle.passes.specs.Pass.{arrive, passed, wordOf}
 use Rattle.state.specs.Source.{modOf}
-use Rattle.state.specs.Held.{row, put, stOf, long}
+use Rattle.state.specs.Held.{row, stOf, long}
 use Rattle.state.specs.declared.Ends.{Ends}
 use Rattle.state.proofs.State.{row-other}
 use Rattle.making.specs.Stacks.{wentOf, madeOf, makingOf, Stacks, Under}
