@@ -160,7 +160,7 @@ module _ {words tags : List ℕ} {n s end : ℕ} (p : Part words tags n s end (f
 
           pub callee-runs : d .full ≡ false → (v : Bool) {r : Ends} {stacks″ : List (List ℕ)} → Pushed (moved (target (getD tags i 0)) (through (wentOf words n log′ classes′ starts′ maps′ d em) (getD tags i 0) (getD words i 0)) o v) stacks′ d r stacks″
               → Runs words k (passed o (modOf words n) (followS o (modOf words n) room) (need o (modOf words n) still (functionOf (between tags words s end) .exprs)) (glance o (modOf words n) still (functionOf (between tags words s end) .exprs)) (getD tags i 0, getD words i 0) (between tags words (suc i) end)) (λ (m : Making). wordOf o (modOf words n) (followS o (modOf words n) room) (need o (modOf words n) still (functionOf (between tags words s end) .exprs)) (glance o (modOf words n) still (functionOf (between tags words s end) .exprs)) (getD tags i 0, getD words i 0) (between tags words (suc i) end) v m ∷ []) log classes starts maps marks em stacks (e₀ .et) e r log′ classes′ starts′ maps′ marks′ em stacks″
-          callee-runs z v {r} {stacks″} B = rw q (call-put words n k o (e₀ .et) (followS o (modOf words n) room) _ _ (getD words i 0) (between tags words (suc i) end) v log classes starts maps marks em stacks e (T .way .under) d log′ classes′ starts′ maps′ marks′ stacks′ _ (rw hf at N) z r stacks″ (rw q at B))
+          callee-runs z v {r} {stacks″} B = rw q (call-put words n k o (e₀ .et) (followS o (modOf words n) room) _ _ (getD words i 0) (between tags words (suc i) end) v log classes starts maps marks em stacks e (T .way .under) (T .way .kept) d log′ classes′ starts′ maps′ marks′ stacks′ _ (rw hf at N) z r stacks″ (rw q at B))
 
       -- any other word
       pub other-runs : (getD tags i 0 ≡ CALLEE → ⊥) → (v : Bool) {r : Ends} {log′ classes′ : List ℕ} {starts′ maps′ : List (List ℕ)} {marks′ em′ : List ℕ} {stacks′ : List (List ℕ)}
