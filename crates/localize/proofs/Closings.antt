@@ -51,7 +51,7 @@ module _ (o : ℕ) (M : Module) (follow : ℕ → St → St) (p q : ℕ → Maki
   names-count (k ∷ ks) m = ap suc (names-count ks (arrive o M follow p q (target NAME) (k .1) m))
 
 -- a stretch at its places
-between-at : (tags words : List ℕ) (j a b : ℕ) → a + j < b → b ≤ length tags → b ≤ length words → class (getD (between tags words a b) j (0, 0)) ≡ getD tags (a + j) 0
+pub between-at : (tags words : List ℕ) (j a b : ℕ) → a + j < b → b ≤ length tags → b ≤ length words → class (getD (between tags words a b) j (0, 0)) ≡ getD tags (a + j) 0
 between-at tags words zero a b h t w = let q : a + 0 ≡ a = omega arith in rw (q, between-next tags words a b (omega arith) t w) refl
 between-at tags words (suc j) a b h t w = let q : a + suc j ≡ suc a + j = omega arith in rw (q, between-next tags words a b (omega arith) t w) (between-at tags words j (suc a) b (omega arith) t w)
 
