@@ -7,7 +7,6 @@ use native.Mathlib.Omega.{arith}
 use lib.ListN.{length, getD}
 use lib.Seq.{slice}
 use Rattle.model.specs.Outcome.{Cells}
-use Rattle.model.specs.Tree.{Function}
 use Rattle.model.specs.Module.{countAt, flatModule}
 use Rattle.model.specs.View.{recordAt, recordEnd}
 use Rattle.model.specs.FunctionView.{expressionsAt}

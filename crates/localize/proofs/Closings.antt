@@ -1,6 +1,6 @@
 -- The record of a function that is whole on the stacks is what the passes wrote: its declarations and its body have the classes of the source. Assumes nothing.
 use mathlib.Core.Path.{_≡_, refl, sym, ap, ap₂, _∙_}
-use mathlib.Core.Bool.{Bool, true, false}
+use mathlib.Core.Bool.{Bool, false}
 use mathlib.Core.List.{List, [], _∷_, _++_, map}
 use Prim.Native.Nat.{ℕ, zero, suc, _+_, _*_, _-_, _≤_, _<_}
 use native.Mathlib.Omega.{arith}
@@ -8,20 +8,19 @@ use lib.ListN.{length, getD, length-map}
 use lib.Seq.{slice, length-slice}
 use Rattle.model.specs.Outcome.{Cells, class, word}
 use Rattle.model.specs.Table.{NAME, NAMED-EXPR, EXPRESSIONS, NAMED}
-use Rattle.model.specs.Tree.{Function, flatAll, flatList, flatBlock}
+use Rattle.model.specs.Tree.{Function, flatList, flatBlock}
 use Rattle.model.specs.Module.{Module}
 use Rattle.model.specs.Between.{beside, between}
 use Rattle.model.specs.References.{target, through, firstWord, undefinedAt}
 use Rattle.model.specs.Imports.{St}
 use Rattle.model.specs.Bodies.{Making, went}
-use Rattle.laws.specs.Betweens.{beside-cells, between-none, between-next}
+use Rattle.laws.specs.Betweens.{beside-cells, between-next}
 use Rattle.laws.specs.FunctionViews.{each-at, part-tags}
 use Rattle.passes.specs.Pass.{arrive, passed, written, rows, front}
 use Rattle.state.specs.Source.{modOf}
 use Rattle.state.specs.Held.{row, stOf}
 use Rattle.state.specs.declared.Ends.{Ends}
 use Rattle.state.proofs.Passes.{length-between}
-use Rattle.making.specs.Stacks.{Stacks}
 use Rattle.parts.specs.Part.{Part, Indexed, front-is, front-run, body-is, body-run, order, long}
 use Rattle.closing.specs.Closed.{pairsIn, nameCells, closing}
 use Rattle.nesting.specs.Nested.{walkedS, keptS, frontS, namesS, bodyS, cellsS}

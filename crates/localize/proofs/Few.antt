@@ -1,9 +1,10 @@
 -- No more expressions are made than the source's function has: each that is made fills a place of the map that was empty. Whatever the way to follow calls and the state.
 use mathlib.Core.Path.{_≡_, refl, sym, ap, _∙_}
 use mathlib.Core.Bool.{Bool, true, false}
-use mathlib.Core.List.{List, [], _∷_, _++_}
+use mathlib.Core.List.{List, [], _∷_}
 use Prim.Native.Nat.{ℕ, zero, suc, _+_, _-_, _≤_, _<_}
 use native.Mathlib.Nat.{le-refl}
+use native.Mathlib.Numerals.{add-one}
 use native.Mathlib.Omega.{arith}
 use lib.Dec.{eqb}
 use lib.ListN.{length, getD, set, replicate, length-append, length-set, length-replicate}
@@ -28,7 +29,7 @@ use Rattle.passes.specs.Light.{still}
 use Rattle.state.specs.Source.{modOf}
 use Rattle.ground.specs.Fits.{Fits, FitN, Legible}
 use Rattle.outside.proofs.Passing.{legible-next, legible-here}
-use Rattle.passing.proofs.Words.{Lows, compares-lows}
+use Rattle.passing.proofs.Words.{first-some, Lows, compares-lows}
 use Rattle.parts.specs.Part.{Part, Indexed, k-many, front-is, body-is}
 use Rattle.parts.specs.Fitting.{expr-fits, front-legible, body-legible}
 use Rattle.nesting.specs.Nested.{declaredS, walkedS}
@@ -215,10 +216,6 @@ module _ (words : List ℕ) (o : ℕ) (M : Module) (k : ℕ) where
     after-fills (c ∷ cs) m a l = let f = passed-fills c cs m a l in fills-then k f (after-fills cs (passed o M follow p q c cs m) (a .3) (f .long ∙ l))
 
 -- ---- the words of the source
-first-word : (tags words : List ℕ) (i end : ℕ) → i < end → end ≤ length tags → end ≤ length words → firstWord (between tags words i end) ≡ getD words i 0
-unfolding firstWord
-first-word tags words i end h t w = rw (between-next tags words i end h t w) refl
-
 sound-words : (words tags : List ℕ) (o : ℕ) (M : Module) (k d i end : ℕ) → i + d ≡ end → Legible words tags k i end → ((j : ℕ) → i ≤ j → j < end → getD tags j 0 ≡ FROM → (suc j < end) × (getD words (suc j) 0 ≤ k)) → Sound words o M k (between tags words i end)
 unfolding Sound
 sound-words words tags o M k zero i end q L h = rw (between-none tags words i end (omega arith)) tt
@@ -227,7 +224,7 @@ sound-words words tags o M k (suc d) i end q L h =
     let g : i < end = omega arith in
     let N = legible-next L g in
     rw (between-next tags words i end g (st .in-tags) (st .in-words))
-    (legible-here L g, (λ e. let r = h i (le-refl _) g e in rw (first-word tags words (suc i) end (r .0) (st .in-tags) (st .in-words)) (r .1)), compares-lows words k (between tags words (suc i) end) (N .fits), sound-words words tags o M k d (suc i) end (omega arith) N (λ j b l e. h j (omega arith) l e))
+    (legible-here L g, (λ e. let r = h i (le-refl _) g e in rw (← first-some tags words i end (let z = r .0 in omega arith) (st .in-tags) (st .in-words), add-one i) (r .1)), compares-lows words k (between tags words (suc i) end) (N .fits), sound-words words tags o M k d (suc i) end (omega arith) N (λ j b l e. h j (omega arith) l e))
 
 -- LAW
 module _ {words tags : List ℕ} {n s end : ℕ} {F : Function} (p : Part words tags n s end F) {ea : ℕ} {places : List ℕ} {k named body : ℕ} (x : Indexed words tags s end ea places k named body) (o : ℕ) (follow : ℕ → St → St) (st : St) where

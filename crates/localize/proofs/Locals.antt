@@ -1,9 +1,8 @@
 -- `localize` at its places: what the calls ask for, what each turn of the loop does, and the ends. Assumes nothing.
-use mathlib.Core.Path.{_≡_, refl, sym, ap, _∙_}
+use mathlib.Core.Path.{_≡_, refl, ap}
 use mathlib.Core.Bool.{Bool, true, false}
 use mathlib.Core.List.{List, [], _∷_, map}
 use Prim.Native.Nat.{ℕ, suc, _+_, _*_, _≤_, _<_}
-use native.Mathlib.Nat.{le-refl, le-trans}
 use native.Mathlib.Omega.{arith}
 use lib.ListN.{length, getD, take, replicate}
 use lib.Seq.{slice, sets}
@@ -24,34 +23,28 @@ use Rattle.state.specs.Flats.{functionOf}
 use Rattle.state.specs.Source.{modOf}
 use Rattle.state.specs.Held.{row, stOf, Kept}
 use Rattle.state.specs.declared.Ends.{Ends}
-use Rattle.known.specs.Bearing.{Bearing}
-use Rattle.known.proofs.Bears.{bearing}
 use Rattle.ground.specs.Fits.{FitN}
 use Rattle.outside.proofs.Passing.{legible-here}
 use Rattle.making.specs.Stacks.{wentOf, makingOf, Stacks, Under}
 use Rattle.making.specs.Makes.{Pushed}
 use Rattle.making.proofs.Stack.{made-many}
 use Rattle.making.proofs.Then.{kept-tops}
-use Rattle.parts.specs.Part.{Part, Indexed, indexed, order, long, k-few, body-is, placesOf}
-use Rattle.parts.specs.Exprs.{finds-few, expressions}
+use Rattle.parts.specs.Part.{Part, Indexed, indexed, order, long, k-few, body-is}
+use Rattle.parts.specs.Exprs.{finds-few}
 use Rattle.parts.specs.Body.{callee-in}
-use Rattle.passing.specs.Runs.{unites, needs, glances, Declares, Bodied, Runs}
+use Rattle.passing.specs.Runs.{unites, needs, glances, Bodied, Runs}
 use Rattle.passing.proofs.Words.{fits-all}
 use Rattle.closing.specs.Closed.{namedRecords, Keeps, Renames}
-use Rattle.nesting.specs.Nested.{followS, Ready, walkedS}
+use Rattle.nesting.specs.Nested.{followS, Ready}
 use Rattle.nesting.specs.Growth.{follow-grows}
 use Rattle.localize.specs.Localized.{Nested, NestedAt, Localizes, Nests}
 use Rattle.localize.proofs.Calls.{call-put}
 use Rattle.localize.proofs.Ways.{Turn, turn-callee, call-full, turn-full, turn-next}
-use Rattle.localize.proofs.Starts.{begun, start-under, declares, ranges, declare-full, turn-start}
+use Rattle.localize.proofs.Starts.{begun, start-under, ranges, declare-full, turn-start}
 use Rattle.localize.proofs.Stills.{passed-runs}
 use Rattle.localize.proofs.Names.{named-exprs}
 use Rattle.localize.proofs.Finals.{walked, keep-words, keep-full, names-kept, names-high, names-low, names-done}
 use Rattle.localize.proofs.Few.{made-few}
-
--- the function that stands there
-abbrev pub here : List ℕ → List ℕ → ℕ → ℕ → Function
-here words tags s end = functionOf (between tags words s end)
 
 -- at word i, with what was read of the source
 pub record Going (words tags : List ℕ) (n o room s end ea : ℕ) (places : List ℕ) (k named body : ℕ) (log₀ classes₀ : List ℕ) (starts₀ maps₀ : List (List ℕ)) (marks₀ : List ℕ) (stacks₀ : List (List ℕ)) (e₀ : Ends)
@@ -110,7 +103,7 @@ module _ {words tags : List ℕ} {n s end : ℕ} (p : Part words tags n s end (f
 
     module _ {o : ℕ} (room : ℕ) {b : Ends} (q : b ≡ begun e₀) {stacks₀ : List (List ℕ)} {r : Ends} {log classes : List ℕ} {starts maps : List (List ℕ)} {marks em : List ℕ} {stacks : List (List ℕ)}
         (R : Runs words k (after o (modOf words n) still (unites o words tags n places k) (unites o words tags n places k) (between tags words s ea)) (λ (m : Making). map word (written o (modOf words n) still (unites o words tags n places k) (unites o words tags n places k) (between tags words s ea) false m))
-          log₀ classes₀ starts₀ maps₀ marks₀ (replicate 1024 0) stacks₀ (e₀ .et) b r log classes starts maps marks em stacks) where
+        log₀ classes₀ starts₀ maps₀ marks₀ (replicate 1024 0) stacks₀ (e₀ .et) b r log classes starts maps marks em stacks) where
       pub declare-none : r .full ≡ true → Localizes words n o (Ready o (modOf words n) room) (followS o (modOf words n) room) (functionOf (between tags words s end)) log₀ classes₀ starts₀ maps₀ marks₀ stacks₀ e₀ r log classes starts maps marks stacks
       declare-none z = declare-full p x o (followS o (modOf words n) room) (follow-grows o (modOf words n) room) (Ready o (modOf words n) room) log₀ classes₀ starts₀ maps₀ marks₀ stacks₀ e₀ K₀ r log classes starts maps marks em stacks (rw q at R) z
 
@@ -165,12 +158,9 @@ module _ {words tags : List ℕ} {n s end : ℕ} (p : Part words tags n s end (f
           pub callee-full : d .full ≡ true → Localizes words n o (Ready o (modOf words n) room) (followS o (modOf words n) room) (functionOf (between tags words s end)) log₀ classes₀ starts₀ maps₀ marks₀ stacks₀ e₀ d log′ classes′ starts′ maps′ marks′ stacks′
           callee-full z = call-full words tags n o (followS o (modOf words n) room) (follow-grows o (modOf words n) room) (Ready o (modOf words n) room) F k body end low hw ht (body-is p x) log₀ classes₀ starts₀ maps₀ marks₀ stacks₀ e₀ K₀ log classes starts maps marks em stacks e i u T h q d log′ classes′ starts′ maps′ marks′ stacks′ (rw hf at N) z
 
-          pub callee-bearing : d .full ≡ false → Bearing log′ classes′ starts′ d
-          callee-bearing z = bearing (N .kept z)
-
           pub callee-runs : d .full ≡ false → (v : Bool) {r : Ends} {stacks″ : List (List ℕ)} → Pushed (moved (target (getD tags i 0)) (through (wentOf words n log′ classes′ starts′ maps′ d em) (getD tags i 0) (getD words i 0)) o v) stacks′ d r stacks″
               → Runs words k (passed o (modOf words n) (followS o (modOf words n) room) (need o (modOf words n) still (functionOf (between tags words s end) .exprs)) (glance o (modOf words n) still (functionOf (between tags words s end) .exprs)) (getD tags i 0, getD words i 0) (between tags words (suc i) end)) (λ (m : Making). wordOf o (modOf words n) (followS o (modOf words n) room) (need o (modOf words n) still (functionOf (between tags words s end) .exprs)) (glance o (modOf words n) still (functionOf (between tags words s end) .exprs)) (getD tags i 0, getD words i 0) (between tags words (suc i) end) v m ∷ []) log classes starts maps marks em stacks (e₀ .et) e r log′ classes′ starts′ maps′ marks′ em stacks″
-          callee-runs z v {r} {stacks″} B = rw q (call-put words n k o (e₀ .et) (followS o (modOf words n) room) _ _ (getD words i 0) (between tags words (suc i) end) v log classes starts maps marks em stacks e (T .way .under) d log′ classes′ starts′ maps′ marks′ stacks′ _ (rw hf at N) z r stacks″ (rw q at B))
+          callee-runs z v {r} {stacks″} B = rw q (call-put words n k o (e₀ .et) (followS o (modOf words n) room) _ _ (getD words i 0) (between tags words (suc i) end) v log classes starts maps marks em stacks e (T .way .under) (T .way .kept) d log′ classes′ starts′ maps′ marks′ stacks′ _ (rw hf at N) z r stacks″ (rw q at B))
 
       -- any other word
       pub other-runs : (getD tags i 0 ≡ CALLEE → ⊥) → (v : Bool) {r : Ends} {log′ classes′ : List ℕ} {starts′ maps′ : List (List ℕ)} {marks′ em′ : List ℕ} {stacks′ : List (List ℕ)}

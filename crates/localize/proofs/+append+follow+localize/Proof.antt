@@ -7,7 +7,7 @@ use Rattle.known.proofs.Bears.{bearing}
 use Rattle.import.proofs.Sources.{tape}
 use Rattle.parts.specs.Exprs.{expressions}
 use Rattle.localize.proofs.Starts.{declares}
-use Rattle.localize.proofs.Locals.{Going, Onward, runs-at, runs-from, exprs-in, index-in, count-in, reading, named-in, begun-kept, begun-under, declare-none, going-start, word-in, word-fits, word-bodied, callee-low, callee-ready, callee-full, callee-runs, other-runs, going-full, going-next, keep-in, keep-long, keep-exprs, keep-low, names-full, names-in, names-words, names-good, names-whole}
+use Rattle.localize.proofs.Locals.{Onward, runs-at, runs-from, exprs-in, index-in, count-in, reading, named-in, begun-kept, begun-under, declare-none, going-start, word-in, word-fits, word-bodied, callee-low, callee-ready, callee-full, callee-runs, other-runs, going-full, going-next, keep-in, keep-long, keep-exprs, keep-low, names-full, names-in, names-words, names-good, names-whole}
 use Rattle.localize.proofs.Follows.{follow-none, follow-old, follow-ready, follow-append}
 use Rattle.localize.proofs.Appending.{append-part, append-nested, append-standing, close-order, close-few, close-stacks, close-names, close-classes, close-room, append-done, append-none}
 use Prim.Native.Nat.{ℕ, _<_}
