@@ -1,0 +1,311 @@
+// The import of a function: its declarations, its body and its names are passed from left to right and written on the stacks, then the record goes to the log. A
+// callee whose name is not known is imported at its Call, above what is on the stacks, which are then as they were.
+use classes::CALLEE;
+use closing::close;
+use closing::import_names;
+use closing::keep_names;
+use known::known;
+use making::index;
+use making::slot;
+use passing::declare;
+use passing::flag;
+use passing::pass;
+use passing::put_word;
+use state::Ends;
+use views::FUNCTIONS;
+use views::body_at;
+use views::expressions_at;
+use views::record_at;
+use views::record_end;
+use words::wide;
+ghost use mathlib.Core.Path.{_≡_};
+ghost use mathlib.Core.Bool.{false};
+ghost use Prim.Native.Nat.{_<_};
+ghost use Rattle.model.specs.Module.{countAt};
+ghost use Rattle.model.specs.Between.{between};
+ghost use Rattle.model.specs.Redirect.{function};
+ghost use Rattle.nesting.specs.Nested.{appendS, followS, Ready, ReadyF};
+ghost use Rattle.state.specs.Flats.{functionOf};
+ghost use Rattle.state.specs.Source.{modOf};
+ghost use Rattle.state.specs.Held.{Kept};
+ghost use Rattle.ground.specs.Fits.{Ground};
+ghost use Rattle.parts.specs.Part.{Part};
+ghost use Rattle.making.specs.Stacks.{Stacks};
+ghost use Rattle.localize.specs.Localized.{Nested, NestedF, NestedAt, Localizes, Nests};
+
+// Nothing is made yet.
+fn begin(e: Ends) -> Ends
+    ensures { λ r. ⌜ r ≡ record { full = false; used = e .used; counts = e .counts; pairs = e .pairs; et = e .et; bt = e .bt; made = 0 } ⌝ }
+{
+    let c = e.counts;
+    Ends {
+        full: false,
+        used: e.used,
+        counts: c,
+        pairs: e.pairs,
+        et: e.et,
+        bt: e.bt,
+        made: 0,
+    }
+}
+
+// The function that stands from s to `end`, whole on the stacks, with room for so many functions in progress.
+pub fn localize(
+    words: &[u32; 16384],
+    tags: &[u8; 16384],
+    kinds: &[u8; 256],
+    n: usize,
+    log: &mut [u32; 16384],
+    classes: &mut [u8; 16384],
+    starts: &mut [[u32; 512]; 8],
+    maps: &mut [[u32; 512]; 6],
+    marks: &mut [u16; 16384],
+    stacks: &mut [[u32; 16384]; 4],
+    ends: Ends,
+    offset: u32,
+    s: usize,
+    end: usize,
+    room: usize,
+) -> Ends
+    requires { ⌜ Ground (now words) (now tags) (now kinds) n ⌝ }
+    requires { ⌜ Part (now words) (now tags) n s end (functionOf (between (now tags) (now words) s end)) ⌝ }
+    requires { ⌜ Nested (now words) n (now log) (now classes) (now starts) (now maps) ends offset room (functionOf (between (now tags) (now words) s end)) ⌝ }
+    requires { ⌜ (ends .full ≡ false) × (Stacks (now stacks) ends) ⌝ }
+    requires { ⌜ Kept (now log) (now classes) (now starts) (now maps) (now marks) ends ⌝ }
+    ensures { λ r. ⌜ Localizes (now (words .entry)) n offset (Ready offset (modOf (now (words .entry)) n) room) (followS offset (modOf (now (words .entry)) n) room) (functionOf (between (now (tags .entry)) (now (words .entry)) s end)) (now (log .entry)) (now (classes .entry)) (now (starts .entry)) (now (maps .entry)) (now (marks .entry)) (now (stacks .entry)) ends r (now (log .exit)) (now (classes .exit)) (now (starts .exit)) (now (maps .exit)) (now (marks .exit)) (now (stacks .exit)) ⌝ }
+{
+    let e1 = ends.et;
+    let exprs = expressions_at(words, s);
+    let k = wide(words[exprs]);
+    let mut places = [0u16; 1025];
+    let mut em = [0u16; 1024];
+    index(tags, exprs + 1, end, &mut places);
+    let named = slot(places[k]);
+    let body = named + 1 + 2 * wide(words[named]);
+    let mut e = declare(
+        words,
+        tags,
+        kinds,
+        n,
+        &places,
+        log,
+        classes,
+        starts,
+        maps,
+        marks,
+        &mut em,
+        stacks,
+        begin(ends),
+        offset,
+        e1,
+        k,
+        s,
+        exprs,
+    );
+    if e.full {
+        return e;
+    }
+    let mut i = body;
+    let mut u = false;
+    while i < end {
+        let j = i;
+        i += 1;
+        u = flag(words, tags, j, end, u);
+        if tags[j] == CALLEE {
+            e = follow(
+                words,
+                tags,
+                kinds,
+                n,
+                log,
+                classes,
+                starts,
+                maps,
+                marks,
+                stacks,
+                e,
+                offset,
+                wide(words[j]),
+                room,
+            );
+            if e.full {
+                return e;
+            }
+            e = put_word(
+                words,
+                tags,
+                kinds,
+                n,
+                log,
+                classes,
+                starts,
+                maps,
+                &em,
+                stacks,
+                e,
+                offset,
+                j,
+                u,
+            );
+        } else {
+            e = pass(
+                words,
+                tags,
+                kinds,
+                n,
+                &places,
+                log,
+                classes,
+                starts,
+                maps,
+                marks,
+                &mut em,
+                stacks,
+                e,
+                offset,
+                e1,
+                k,
+                j,
+                end,
+                u,
+            );
+        }
+        if e.full {
+            return e;
+        }
+    }
+    let b = e.bt;
+    let kept = keep_names(words, &em, stacks, e, k, named);
+    if kept.full {
+        return kept;
+    }
+    import_names(
+        words,
+        tags,
+        kinds,
+        n,
+        log,
+        classes,
+        starts,
+        maps,
+        marks,
+        stacks,
+        kept,
+        offset,
+        b,
+    )
+}
+
+// Function f is appended.
+pub fn append(
+    words: &[u32; 16384],
+    tags: &[u8; 16384],
+    kinds: &[u8; 256],
+    n: usize,
+    log: &mut [u32; 16384],
+    classes: &mut [u8; 16384],
+    starts: &mut [[u32; 512]; 8],
+    maps: &mut [[u32; 512]; 6],
+    marks: &mut [u16; 16384],
+    stacks: &mut [[u32; 16384]; 4],
+    ends: Ends,
+    offset: u32,
+    f: usize,
+    room: usize,
+) -> Ends
+    requires { ⌜ Ground (now words) (now tags) (now kinds) n ⌝ }
+    requires { ⌜ f < countAt 6 (now words) ⌝ }
+    requires { ⌜ NestedF (now words) n (now log) (now classes) (now starts) (now maps) ends offset room (function (modOf (now words) n) f) ⌝ }
+    requires { ⌜ (ends .full ≡ false) × (Stacks (now stacks) ends) ⌝ }
+    requires { ⌜ Kept (now log) (now classes) (now starts) (now maps) (now marks) ends ⌝ }
+    ensures { λ r. ⌜ Nests (now (words .entry)) (ReadyF offset (modOf (now (words .entry)) n) (Ready offset (modOf (now (words .entry)) n) room) (followS offset (modOf (now (words .entry)) n) room) (function (modOf (now (words .entry)) n) f)) (appendS offset (modOf (now (words .entry)) n) (followS offset (modOf (now (words .entry)) n) room) f) (now (log .entry)) (now (classes .entry)) (now (starts .entry)) (now (maps .entry)) (now (marks .entry)) (now (stacks .entry)) ends r (now (log .exit)) (now (classes .exit)) (now (starts .exit)) (now (maps .exit)) (now (marks .exit)) (now (stacks .exit)) ⌝ }
+{
+    let s = record_at(words, tags, n, FUNCTIONS, f);
+    let end = record_end(words, tags, n, FUNCTIONS, f);
+    let got = localize(
+        words,
+        tags,
+        kinds,
+        n,
+        log,
+        classes,
+        starts,
+        maps,
+        marks,
+        stacks,
+        ends,
+        offset,
+        s,
+        end,
+        room,
+    );
+    if got.full {
+        return got;
+    }
+    let exprs = expressions_at(words, s);
+    let body = body_at(words, tags, s);
+    close(
+        tags,
+        log,
+        classes,
+        starts,
+        stacks,
+        got,
+        ends,
+        s,
+        exprs,
+        body,
+        end,
+        FUNCTIONS,
+        0,
+        256,
+    )
+}
+
+// Function f, where its name is not known, with room for so many functions in progress.
+pub fn follow(
+    words: &[u32; 16384],
+    tags: &[u8; 16384],
+    kinds: &[u8; 256],
+    n: usize,
+    log: &mut [u32; 16384],
+    classes: &mut [u8; 16384],
+    starts: &mut [[u32; 512]; 8],
+    maps: &mut [[u32; 512]; 6],
+    marks: &mut [u16; 16384],
+    stacks: &mut [[u32; 16384]; 4],
+    ends: Ends,
+    offset: u32,
+    f: usize,
+    room: usize,
+) -> Ends
+    requires { ⌜ Ground (now words) (now tags) (now kinds) n ⌝ }
+    requires { ⌜ f < countAt 6 (now words) ⌝ }
+    requires { ⌜ NestedAt (now words) n (now log) (now classes) (now starts) (now maps) ends offset room f ⌝ }
+    requires { ⌜ (ends .full ≡ false) × (Stacks (now stacks) ends) ⌝ }
+    requires { ⌜ Kept (now log) (now classes) (now starts) (now maps) (now marks) ends ⌝ }
+    ensures { λ r. ⌜ Nests (now (words .entry)) (Ready offset (modOf (now (words .entry)) n) room f) (followS offset (modOf (now (words .entry)) n) room f) (now (log .entry)) (now (classes .entry)) (now (starts .entry)) (now (maps .entry)) (now (marks .entry)) (now (stacks .entry)) ends r (now (log .exit)) (now (classes .exit)) (now (starts .exit)) (now (maps .exit)) (now (marks .exit)) (now (stacks .exit)) ⌝ }
+{
+    if room == 0 {
+        return ends;
+    }
+    if known(words, tags, n, log, classes, starts, ends, f) != 0 {
+        return ends;
+    }
+    append(
+        words,
+        tags,
+        kinds,
+        n,
+        log,
+        classes,
+        starts,
+        maps,
+        marks,
+        stacks,
+        ends,
+        offset,
+        f,
+        room - 1,
+    )
+}

@@ -1,0 +1,4 @@
+pub mod Plain
+pub mod Importing
+pub mod Setting
+pub mod Finishing
