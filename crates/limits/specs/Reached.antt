@@ -51,10 +51,14 @@ does-named (handles n) q s v = handle-named s v n
 does-named (finishes room) q s v = finish-named s v room
 does-named (finishes-with room) q s v = end-named s v room
 
+-- AN OPERATION leads from one of them to another
+pub does-reached : (p : Operation) → Public p → (s : Session) → Reached s → Reached (does p s)
+does-reached p q s r = record { good = does-good p s (r .good); named = does-named p q s (r .named) }
+
 run-reached : {ps : List Operation} → Each Public ps → (s : Session) → Reached s → Reached (run ps s)
 unfolding run
 run-reached each-none s r = r
-run-reached (each-next {a = p} q qs) s r = run-reached qs (does p s) (record { good = does-good p s (r .good); named = does-named p q s (r .named) })
+run-reached (each-next {a = p} q qs) s r = run-reached qs (does p s) (does-reached p q s r)
 
 -- ANY SESSION of such operations
 pub reached : {ps : List Operation} → Each Public ps → Reached (run ps new)

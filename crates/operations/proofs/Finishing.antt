@@ -100,8 +100,7 @@ module _ (set : Bool) (n o : ℕ) (words tape kinds log tags : List ℕ) (starts
       pub finish-done : Finishes (finish (length output₀) before) before 0 b output₀ output (sessionOf false n o words log tags starts maps′ (unset special) r) × Live false n o words tape kinds log tags starts maps′ marks (unset special) r
       unfolding run
       finish-done =
-          rw (hm, hr)
-          (
+          rw (hm, hr) (
             record { is = ap (λ (y : ℕ). (y, b, output)) (sym ok) ∙ tells; done = λ q. anew; stays = λ q. absurd (omega arith) },
             record {
               reached = subst Reached (sym anew) (reached each-none);

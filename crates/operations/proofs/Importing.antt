@@ -157,8 +157,7 @@ module _ (n o : ℕ) (words tape kinds log tags : List ℕ) (starts maps : List 
     taken-not : r .full ≡ true → Says op true n o words tape kinds log tags starts maps special e 21 0 log′ tags′ starts′ maps′ marks′ e
     unfolding sessionOf
     taken-not q =
-        let same : _≡_ {A = Session} (record { source = some x; state = stOf words log′ tags′ starts′ maps′ special e }) (record { source = some x; state = S }) = ap (λ (y : St). record { source = some x; state = y }) (w .stays q .0 special) in
-        (
+        let same : _≡_ {A = Session} (record { source = some x; state = stOf words log′ tags′ starts′ maps′ special e }) (record { source = some x; state = S }) = ap (λ (y : St). record { source = some x; state = y }) (w .stays q .0 special) in (
           refuses op _ _ 21 0 (omega arith) (is ∙ kept-full x (value (f S)) (exact-at lands) (rw (none-held log tags starts (e .counts) (L .no-entries) .1) at (w .over q special))) same,
           record {
             reached = subst Reached (sym same) (L .reached);
@@ -208,23 +207,22 @@ module _ (n o : ℕ) (words tape kinds log tags : List ℕ) (starts maps : List 
 
       taken : (v : ℕ) → v ≡ value S′ → Says op true n o words tape kinds log tags starts maps special e 0 v log′ tags′ starts′ maps′ marks′ r
       unfolding sessionOf
-      taken v hv =
-          (
-            answers op _ _ v (said ∙ ap (λ (y : ℕ). answered y (record { source = some x; state = S′ })) (sym hv)),
-            record {
-              reached = reached′;
-              kept = w .is q .1;
-              specials = specials-more (w .beside q .pairs-same) more-types (L .specials);
-              kinds-are = L .kinds-are;
-              words-long = L .words-long;
-              tape-long = L .tape-long;
-              taped = L .taped;
-              passes = L .passes;
-              no-entries = no-entries;
-              lowest = (w .beside q .tops-same .0 ∙ L .lowest .0, w .beside q .tops-same .1 ∙ L .lowest .1);
-              going = q;
-            },
-          )
+      taken v hv = (
+        answers op _ _ v (said ∙ ap (λ (y : ℕ). answered y (record { source = some x; state = S′ })) (sym hv)),
+        record {
+          reached = reached′;
+          kept = w .is q .1;
+          specials = specials-more (w .beside q .pairs-same) more-types (L .specials);
+          kinds-are = L .kinds-are;
+          words-long = L .words-long;
+          tape-long = L .tape-long;
+          taped = L .taped;
+          passes = L .passes;
+          no-entries = no-entries;
+          lowest = (w .beside q .tops-same .0 ∙ L .lowest .0, w .beside q .tops-same .1 ∙ L .lowest .1);
+          going = q;
+        },
+      )
 
   set-at : Live true n o words tape kinds log tags starts maps marks special e → At x S
   unfolding sessionOf

@@ -95,8 +95,7 @@ module _ (image w t : List ℕ) (taken : Taken) (got : Takes taken w t image) wh
       -- 21
       pub set-not : r .full ≡ true → Does {A = Unit {0}} op before 21 tt (sessionOf set n offset words log′ tags′ starts′ maps′ special′ e) × Live set n offset words tape kinds log′ tags′ starts′ maps′ marks′ special′ e
       set-not q =
-          let same = session-same set n offset words log tags log′ tags′ starts maps starts′ maps′ special special′ e (d .stays q .0 words) in
-          (
+          let same = session-same set n offset words log tags log′ tags′ starts maps starts′ maps′ special special′ e (d .stays q .0 words) in (
             refuses op before _ 21 tt (omega arith) (goes m ok o before ∙ set-full (L .reached) (taped m ok .well) (passes m ok) holding (L .no-entries) d q) same,
             record {
               reached = subst Reached (sym same) (L .reached);
@@ -124,20 +123,19 @@ module _ (image w t : List ℕ) (taken : Taken) (got : Takes taken w t image) wh
         reached′ = subst Reached (ap (after before) said) (does-reached (sets (length image) (wordsOf image) o) tt before (L .reached))
 
         pub set-so : Does {A = Unit {0}} op before 0 tt (sessionOf true m o w log′ tags′ starts′ maps′ special′ r) × Live true m o w t kinds log′ tags′ starts′ maps′ marks′ special′ r
-        set-so =
-            (
-              answers op before _ tt said,
-              record {
-                reached = reached′;
-                kept = d .is q .1;
-                specials = d .is q .2;
-                kinds-are = L .kinds-are;
-                words-long = taped m ok .words-long;
-                tape-long = taped m ok .tags-long;
-                taped = λ z. taped m ok;
-                passes = λ z. passes m ok;
-                no-entries = d .aside q .entries-same .1 ∙ L .no-entries;
-                lowest = (d .aside q .tops-same .0 ∙ L .lowest .0, d .aside q .tops-same .1 ∙ L .lowest .1);
-                going = q;
-              },
-            )
+        set-so = (
+          answers op before _ tt said,
+          record {
+            reached = reached′;
+            kept = d .is q .1;
+            specials = d .is q .2;
+            kinds-are = L .kinds-are;
+            words-long = taped m ok .words-long;
+            tape-long = taped m ok .tags-long;
+            taped = λ z. taped m ok;
+            passes = λ z. passes m ok;
+            no-entries = d .aside q .entries-same .1 ∙ L .no-entries;
+            lowest = (d .aside q .tops-same .0 ∙ L .lowest .0, d .aside q .tops-same .1 ∙ L .lowest .1);
+            going = q;
+          },
+        )

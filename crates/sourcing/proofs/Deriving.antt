@@ -44,7 +44,7 @@ aside-then x y = record {
 
 -- ---- special types
 -- there are more types now
-specials-more : {special : List ℕ} {e r : Ends} → r .pairs ≡ e .pairs → getD (e .counts) 1 0 ≤ getD (r .counts) 1 0 → Specials special e → Specials special r
+pub specials-more : {special : List ℕ} {e r : Ends} → r .pairs ≡ e .pairs → getD (e .counts) 1 0 ≤ getD (r .counts) 1 0 → Specials special e → Specials special r
 specials-more p h S = record { special-long = S .special-long; rays-in = λ i l. le-trans (S .rays-in i l) h; pairs-in = λ i l. le-trans (S .pairs-in i (rw p at l)) h }
 
 specials-ray : (special : List ℕ) (e : Ends) (k v : ℕ) → Specials special e → k < 3 → v ≤ getD (e .counts) 1 0 → Specials (set special k v) e
