@@ -14,6 +14,12 @@ use state::Ends;
 use state::kinds;
 use state::nothing;
 use words::wide;
+ghost use mathlib.Core.Path.{_≡_};
+ghost use Prim.Native.Nat.{ℕ, _≤_, min};
+ghost use lib.ListN.{length, set};
+ghost use Rattle.making.specs.Stacks.{Stacks};
+ghost use Rattle.operations.specs.Live.{sessionOf, Live};
+ghost use Rattle.session.specs.Sessions.{saying, Stepped, Quiet, Wrote, Recorded, valueOf, orElse, numbered, Sessions};
 
 // What a step says, and the session behind it: whether a source is set, its words and its offset, and the ends of the state.
 pub struct Step {
@@ -35,14 +41,188 @@ pub struct Numbers {
 }
 
 // The smaller of two.
-fn least(a: usize, b: usize) -> usize {
+fn least(a: usize, b: usize) -> usize
+    ensures { λ r. ⌜ r ≡ min a b ⌝ }
+{
     if a < b {
         return a;
     }
     b
 }
 
-fn step(
+// A value, 0 where the step is refused.
+fn value_of(refusal: u32, v: u32) -> u32
+    ensures { λ r. ⌜ r ≡ valueOf refusal v ⌝ }
+{
+    if refusal == 0 {
+        return v;
+    }
+    0
+}
+
+// A source from a part of the sources.
+fn set_step(
+    words: &mut [u32; 16384],
+    tags: &mut [u8; 16384],
+    kinds: &[u8; 256],
+    log: &mut [u32; 16384],
+    classes: &mut [u8; 16384],
+    starts: &mut [[u32; 512]; 8],
+    maps: &mut [[u32; 512]; 6],
+    marks: &mut [u16; 16384],
+    special: &mut [u32; 1027],
+    sources: &[u8],
+    n: usize,
+    ends: Ends,
+    set: bool,
+    offset: u32,
+    o: Numbers,
+) -> Step
+    requires { ⌜ Live set n offset (now words) (now tags) (now kinds) (now log) (now classes) (now starts) (now maps) (now marks) (now special) ends ⌝ }
+    ensures { λ r. ⌜ Quiet 0 (o .a) (o .b) (o .c) (now (sources .entry)) (sessionOf set n offset (now (words .entry)) (now (log .entry)) (now (classes .entry)) (now (starts .entry)) (now (maps .entry)) (now (special .entry)) ends) (r .refusal) (r .first) (r .second) (sessionOf (r .set) (r .n) (r .offset) (now (words .exit)) (now (log .exit)) (now (classes .exit)) (now (starts .exit)) (now (maps .exit)) (now (special .exit)) (r .ends)) ⌝ }
+    ensures { λ r. ⌜ Live (r .set) (r .n) (r .offset) (now (words .exit)) (now (tags .exit)) (now (kinds .entry)) (now (log .exit)) (now (classes .exit)) (now (starts .exit)) (now (maps .exit)) (now (marks .exit)) (now (special .exit)) (r .ends) ⌝ }
+{
+    let from = least(wide(o.a), sources.len());
+    let to = from + least(wide(o.b), sources.len() - from);
+    let got = set_source_of(
+        &sources[from..to],
+        words,
+        tags,
+        kinds,
+        n,
+        log,
+        classes,
+        starts,
+        maps,
+        marks,
+        special,
+        ends,
+        set,
+        offset,
+        o.c,
+    );
+    let left = got.ends;
+    Step {
+        refusal: got.refusal,
+        first: 0,
+        second: 0,
+        set: got.set,
+        n: got.n,
+        offset: got.offset,
+        ends: left,
+    }
+}
+
+// A finish without entry points into a part of the output.
+fn plain_step(
+    words: &[u32; 16384],
+    tags: &[u8; 16384],
+    kinds: &[u8; 256],
+    log: &[u32; 16384],
+    classes: &[u8; 16384],
+    starts: &[[u32; 512]; 8],
+    maps: &mut [[u32; 512]; 6],
+    marks: &[u16; 16384],
+    special: &mut [u32; 1027],
+    output: &mut [u8],
+    n: usize,
+    ends: Ends,
+    set: bool,
+    offset: u32,
+    o: Numbers,
+) -> Step
+    requires { ⌜ Live set n offset (now words) (now tags) (now kinds) (now log) (now classes) (now starts) (now maps) (now marks) (now special) ends ⌝ }
+    ensures { λ r. ⌜ Wrote 13 (o .a) (o .b) (o .c) (sessionOf set n offset (now (words .entry)) (now (log .entry)) (now (classes .entry)) (now (starts .entry)) (now (maps .entry)) (now (special .entry)) ends) (r .refusal) (r .first) (r .second) (now (output .entry)) (now (output .exit)) (sessionOf (r .set) (r .n) (r .offset) (now (words .entry)) (now (log .entry)) (now (classes .entry)) (now (starts .entry)) (now (maps .exit)) (now (special .exit)) (r .ends)) ⌝ }
+    ensures { λ r. ⌜ Live (r .set) (r .n) (r .offset) (now (words .entry)) (now (tags .entry)) (now (kinds .entry)) (now (log .entry)) (now (classes .entry)) (now (starts .entry)) (now (maps .exit)) (now (marks .entry)) (now (special .exit)) (r .ends) ⌝ }
+{
+    let from = least(wide(o.a), output.len());
+    let to = from + least(wide(o.b), output.len() - from);
+    let got = finish_plain(
+        words,
+        tags,
+        kinds,
+        n,
+        log,
+        classes,
+        starts,
+        maps,
+        marks,
+        special,
+        ends,
+        set,
+        offset,
+        &mut output[from..to],
+    );
+    let left = got.ends;
+    Step {
+        refusal: got.refusal,
+        first: got.bytes as u32,
+        second: 0,
+        set: got.set,
+        n: n,
+        offset: offset,
+        ends: left,
+    }
+}
+
+// A finish with the source's entry points into a part of the output.
+fn entries_step(
+    words: &[u32; 16384],
+    tags: &[u8; 16384],
+    kinds: &[u8; 256],
+    log: &mut [u32; 16384],
+    classes: &mut [u8; 16384],
+    starts: &[[u32; 512]; 8],
+    maps: &[[u32; 512]; 6],
+    marks: &mut [u16; 16384],
+    special: &mut [u32; 1027],
+    stacks: &mut [[u32; 16384]; 4],
+    output: &mut [u8],
+    n: usize,
+    ends: Ends,
+    set: bool,
+    offset: u32,
+    o: Numbers,
+) -> Step
+    requires { ⌜ Live set n offset (now words) (now tags) (now kinds) (now log) (now classes) (now starts) (now maps) (now marks) (now special) ends ⌝ }
+    requires { ⌜ Stacks (now stacks) ends ⌝ }
+    ensures { λ r. ⌜ Wrote 14 (o .a) (o .b) (o .c) (sessionOf set n offset (now (words .entry)) (now (log .entry)) (now (classes .entry)) (now (starts .entry)) (now (maps .entry)) (now (special .entry)) ends) (r .refusal) (r .first) (r .second) (now (output .entry)) (now (output .exit)) (sessionOf (r .set) (r .n) (r .offset) (now (words .entry)) (now (log .exit)) (now (classes .exit)) (now (starts .entry)) (now (maps .entry)) (now (special .exit)) (r .ends)) ⌝ }
+    ensures { λ r. ⌜ Live (r .set) (r .n) (r .offset) (now (words .entry)) (now (tags .entry)) (now (kinds .entry)) (now (log .exit)) (now (classes .exit)) (now (starts .entry)) (now (maps .entry)) (now (marks .exit)) (now (special .exit)) (r .ends) ⌝ }
+    ensures { λ r. ⌜ Stacks (now (stacks .exit)) (r .ends) ⌝ }
+{
+    let from = least(wide(o.a), output.len());
+    let to = from + least(wide(o.b), output.len() - from);
+    let got = finish_with_entries(
+        words,
+        tags,
+        kinds,
+        n,
+        log,
+        classes,
+        starts,
+        maps,
+        marks,
+        special,
+        stacks,
+        ends,
+        set,
+        offset,
+        &mut output[from..to],
+    );
+    let left = got.ends;
+    Step {
+        refusal: got.refusal,
+        first: got.bytes as u32,
+        second: 0,
+        set: got.set,
+        n: n,
+        offset: offset,
+        ends: left,
+    }
+}
+
+// One step of a session.
+fn perform(
     words: &mut [u32; 16384],
     tags: &mut [u8; 16384],
     kinds: &[u8; 256],
@@ -60,36 +240,31 @@ fn step(
     set: bool,
     offset: u32,
     o: Numbers,
-) -> Step {
+) -> Step
+    requires { ⌜ Live set n offset (now words) (now tags) (now kinds) (now log) (now classes) (now starts) (now maps) (now marks) (now special) ends ⌝ }
+    requires { ⌜ Stacks (now stacks) ends ⌝ }
+    ensures { λ r. ⌜ Stepped (saying (o .operation) (o .a) (o .b) (o .c) (now (sources .entry)) (now (output .entry)) (sessionOf set n offset (now (words .entry)) (now (log .entry)) (now (classes .entry)) (now (starts .entry)) (now (maps .entry)) (now (special .entry)) ends)) (r .refusal) (r .first) (r .second) (now (output .entry)) (now (output .exit)) (sessionOf (r .set) (r .n) (r .offset) (now (words .exit)) (now (log .exit)) (now (classes .exit)) (now (starts .exit)) (now (maps .exit)) (now (special .exit)) (r .ends)) ⌝ }
+    ensures { λ r. ⌜ Live (r .set) (r .n) (r .offset) (now (words .exit)) (now (tags .exit)) (now (kinds .entry)) (now (log .exit)) (now (classes .exit)) (now (starts .exit)) (now (maps .exit)) (now (marks .exit)) (now (special .exit)) (r .ends) ⌝ }
+    ensures { λ r. ⌜ Stacks (now (stacks .exit)) (r .ends) ⌝ }
+{
     if o.operation == 0 {
-        let from = least(wide(o.a), sources.len());
-        let to = from + least(wide(o.b), sources.len() - from);
-        let got = set_source_of(
-            &sources[from..to],
+        return set_step(
             words,
             tags,
             kinds,
-            n,
             log,
             classes,
             starts,
             maps,
             marks,
             special,
+            sources,
+            n,
             ends,
             set,
             offset,
-            o.c,
+            o,
         );
-        return Step {
-            refusal: got.refusal,
-            first: 0,
-            second: 0,
-            set: got.set,
-            n: got.n,
-            offset: got.offset,
-            ends: got.ends,
-        };
     }
     if o.operation == 1 {
         return Step {
@@ -127,42 +302,29 @@ fn step(
         };
     }
     if o.operation == 13 {
-        let from = least(wide(o.a), output.len());
-        let to = from + least(wide(o.b), output.len() - from);
-        let got = finish_plain(
+        return plain_step(
             words,
             tags,
             kinds,
-            n,
             log,
             classes,
             starts,
             maps,
             marks,
             special,
+            output,
+            n,
             ends,
             set,
             offset,
-            &mut output[from..to],
+            o,
         );
-        return Step {
-            refusal: got.refusal,
-            first: got.bytes as u32,
-            second: 0,
-            set: got.set,
-            n: n,
-            offset: offset,
-            ends: got.ends,
-        };
     }
     if o.operation == 14 {
-        let from = least(wide(o.a), output.len());
-        let to = from + least(wide(o.b), output.len() - from);
-        let got = finish_with_entries(
+        return entries_step(
             words,
             tags,
             kinds,
-            n,
             log,
             classes,
             starts,
@@ -170,20 +332,13 @@ fn step(
             marks,
             special,
             stacks,
+            output,
+            n,
             ends,
             set,
             offset,
-            &mut output[from..to],
+            o,
         );
-        return Step {
-            refusal: got.refusal,
-            first: got.bytes as u32,
-            second: 0,
-            set: got.set,
-            n: n,
-            offset: offset,
-            ends: got.ends,
-        };
     }
     let said = record_step(
         words,
@@ -202,14 +357,15 @@ fn step(
         offset,
         o,
     );
+    let left = said.ends;
     Step {
         refusal: said.refusal,
-        first: said.value,
+        first: value_of(said.refusal, said.value),
         second: 0,
         set: set,
         n: n,
         offset: offset,
-        ends: said.ends,
+        ends: left,
     }
 }
 
@@ -230,7 +386,14 @@ fn record_step(
     set: bool,
     offset: u32,
     o: Numbers,
-) -> operations::Said {
+) -> operations::Said
+    requires { ⌜ (3 ≤ o .operation) × (o .operation ≡ 12 → ⊥) × (o .operation ≡ 13 → ⊥) × (o .operation ≡ 14 → ⊥) ⌝ }
+    requires { ⌜ Live set n offset (now words) (now tags) (now kinds) (now log) (now classes) (now starts) (now maps) (now marks) (now special) ends ⌝ }
+    requires { ⌜ Stacks (now stacks) ends ⌝ }
+    ensures { λ r. ⌜ Recorded (o .operation) (o .a) (o .b) (o .c) (sessionOf set n offset (now (words .entry)) (now (log .entry)) (now (classes .entry)) (now (starts .entry)) (now (maps .entry)) (now (special .entry)) ends) (r .refusal) (valueOf (r .refusal) (r .value)) (sessionOf set n offset (now (words .entry)) (now (log .exit)) (now (classes .exit)) (now (starts .exit)) (now (maps .exit)) (now (special .entry)) (r .ends)) ⌝ }
+    ensures { λ r. ⌜ Live set n offset (now (words .entry)) (now (tags .entry)) (now (kinds .entry)) (now (log .exit)) (now (classes .exit)) (now (starts .exit)) (now (maps .exit)) (now (marks .exit)) (now (special .entry)) (r .ends) ⌝ }
+    ensures { λ r. ⌜ Stacks (now (stacks .exit)) (r .ends) ⌝ }
+{
     if o.operation == 3 {
         return import(
             words,
@@ -334,14 +497,31 @@ fn record_step(
 }
 
 // An answer's word, where there is room for it.
-fn tell(answers: &mut [u32], at: usize, w: u32) {
+fn tell(answers: &mut [u32], at: usize, w: u32)
+    ensures { λ r. ⌜ now (answers .exit) ≡ set (now (answers .entry)) at w ⌝ }
+{
     if at < answers.len() {
         answers[at] = w;
     }
 }
 
+// The first refusal with its step's number: the one that was, or else that of step j.
+fn first_of(first: u64, refusal: u32, j: usize) -> u64
+    ensures { λ r. ⌜ r ≡ orElse first (numbered refusal j) ⌝ }
+{
+    if first != 0 {
+        return first;
+    }
+    if refusal == 0 {
+        return 0;
+    }
+    refusal as u64 + (j % 4294967296) as u64 * 4294967296
+}
+
 // All steps. 0 if every step was accepted; else the refusal of the first refused step in the low half, and that step's number in the high half.
-pub fn session(sources: &[u8], steps: &[u32], answers: &mut [u32], output: &mut [u8]) -> u64 {
+pub fn session(sources: &[u8], steps: &[u32], answers: &mut [u32], output: &mut [u8]) -> u64
+    ensures { λ r. ⌜ Sessions (now (sources .entry)) (now (steps .entry)) (now (answers .entry)) (now (output .entry)) r (now (answers .exit)) (now (output .exit)) ⌝ }
+{
     let kinds = kinds();
     let mut words = [0u32; 16384];
     let mut tags = [0u8; 16384];
@@ -368,7 +548,7 @@ pub fn session(sources: &[u8], steps: &[u32], answers: &mut [u32], output: &mut 
             b: steps[4 * j + 2],
             c: steps[4 * j + 3],
         };
-        let said = step(
+        let said = perform(
             &mut words,
             &mut tags,
             &kinds,
@@ -394,11 +574,7 @@ pub fn session(sources: &[u8], steps: &[u32], answers: &mut [u32], output: &mut 
         tell(answers, 3 * j, said.refusal);
         tell(answers, 3 * j + 1, said.first);
         tell(answers, 3 * j + 2, said.second);
-        if first == 0 {
-            if said.refusal != 0 {
-                first = said.refusal as u64 + (j as u64) * 4294967296;
-            }
-        }
+        first = first_of(first, said.refusal, j);
     }
     first
 }
