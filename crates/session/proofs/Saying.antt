@@ -11,7 +11,7 @@ use Rattle.model.specs.Imports.{emptied}
 use Rattle.model.specs.Tables.{Tab}
 use Rattle.model.specs.References.{spanBy}
 use Rattle.model.specs.Session.{Session, Answer, answered, refused, needing, set, clear, mapSpan, importing, renameType, importFunction, mapFunctionHandle, hasRequiredSpecialTypes}
-use Rattle.model.specs.Steps.{Said, operations, unknown, says, perform, part, bit}
+use Rattle.model.specs.Steps.{Said, operations, unknown, says, perform, part}
 use Rattle.limits.specs.Reached.{Reached, does-reached, Public}
 use Rattle.sessions.specs.Operating.{does, clears}
 use Rattle.state.specs.Refers.{tabOf}
