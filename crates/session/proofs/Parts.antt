@@ -109,7 +109,7 @@ module _ (a b : ℕ) (l : List ℕ) (f d k : ℕ) (hf : f ≡ min a (length l)) 
   moved [] h = refl
   moved (v ∷ vs) h =
       let p = min-le-left a (length l) in
-      let not : f < a → ⊥ = λ q. let u = le-min {k = suc f} q (omega arith) in omega (arith, hf) in
+      let not : f < a → ⊥ = λ q. let u = le-min {k = suc f} {a = a} {b = length l} q (omega arith) in omega (arith, hf) in
       let same : f ≡ a = omega (arith, hf, not) in
       ap (λ (n : ℕ). sets l n (v ∷ vs)) same
 

@@ -154,3 +154,10 @@ module _ (set : Bool) (n o : ℕ) (words log tags : List ℕ) (starts maps : Lis
   pub required-stepped : (r : ℕ) → Requires special e r → Stepped (saying 12 a b c sources output held) 0 r 0 output output held
   unfolding operations perform says bytesOf
   required-stepped r d = record { refusal-is = refl; first-is = d .is set n o words log tags starts maps; second-is = refl; output-is = refl; session-is = refl }
+
+-- ---- a step by the number of its operation
+pub by-number : (a b c : ℕ) (sources output₀ : List ℕ) (s : Session) {o p k u v : ℕ} {output : List ℕ} {s′ : Session} → o ≡ p → Stepped (saying p a b c sources output₀ s) k u v output₀ output s′ → Stepped (saying o a b c sources output₀ s) k u v output₀ output s′
+by-number a b c sources output₀ s {k = k} {u = u} {v = v} {output = output} {s′ = s′} e h = subst (λ (y : ℕ). Stepped (saying y a b c sources output₀ s) k u v output₀ output s′) (sym e) h
+
+pub by-first : {x : Said} {k u u′ v : ℕ} {output₀ output : List ℕ} {s′ : Session} → u′ ≡ u → Stepped x k u v output₀ output s′ → Stepped x k u′ v output₀ output s′
+by-first e h = record { refusal-is = h .refusal-is; first-is = e ∙ h .first-is; second-is = h .second-is; output-is = h .output-is; session-is = h .session-is }
