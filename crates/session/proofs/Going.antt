@@ -86,9 +86,9 @@ module _ (sources steps answers₀ output₀ kinds : List ℕ) (count : ℕ) (an
   going-last h = let b = G .below in let m = G .no-more in left-end sources steps answers₀ output₀ i first answers output (sessionOf set n o words log tags starts maps special e) (omega arith) (G .left)
 
   pub going-next : i < count → (k u v : ℕ) → k < 4294967296 → (output′ words′ tape′ log′ tags′ : List ℕ) (starts′ maps′ : List (List ℕ)) (marks′ special′ : List ℕ) (stacks′ : List (List ℕ)) (e′ : Ends) (set′ : Bool) (n′ o′ first′ i′ : ℕ)
-    → Stepped (saying (getD steps (4 * i) 0) (getD steps (4 * i + 1) 0) (getD steps (4 * i + 2) 0) (getD steps (4 * i + 3) 0) sources output (sessionOf set n o words log tags starts maps special e)) k u v output output′ (sessionOf set′ n′ o′ words′ log′ tags′ starts′ maps′ special′ e′)
-    → Live set′ n′ o′ words′ tape′ kinds log′ tags′ starts′ maps′ marks′ special′ e′ → Stacks stacks′ e′ → first′ ≡ orElse first (numbered k i) → i′ ≡ suc i
-    → Going sources steps answers₀ output₀ kinds count (put (put (put answers (3 * i) k) (3 * i + 1) u) (3 * i + 2) v) output′ words′ tape′ log′ tags′ starts′ maps′ marks′ special′ stacks′ e′ set′ n′ o′ first′ i′
+      → Stepped (saying (getD steps (4 * i) 0) (getD steps (4 * i + 1) 0) (getD steps (4 * i + 2) 0) (getD steps (4 * i + 3) 0) sources output (sessionOf set n o words log tags starts maps special e)) k u v output output′ (sessionOf set′ n′ o′ words′ log′ tags′ starts′ maps′ special′ e′)
+      → Live set′ n′ o′ words′ tape′ kinds log′ tags′ starts′ maps′ marks′ special′ e′ → Stacks stacks′ e′ → first′ ≡ orElse first (numbered k i) → i′ ≡ suc i
+      → Going sources steps answers₀ output₀ kinds count (put (put (put answers (3 * i) k) (3 * i + 1) u) (3 * i + 2) v) output′ words′ tape′ log′ tags′ starts′ maps′ marks′ special′ stacks′ e′ set′ n′ o′ first′ i′
   going-next h k u v low output′ words′ tape′ log′ tags′ starts′ maps′ marks′ special′ stacks′ e′ set′ n′ o′ first′ i′ d live stacks-are f hi =
       let a = G .all in
       rw (hi)
@@ -100,3 +100,9 @@ module _ (sources steps answers₀ output₀ kinds : List ℕ) (count : ℕ) (an
         all = G .all;
         no-more = G .no-more;
       })
+
+-- answers that were told one after the other
+pub told-so : (a : List ℕ) (j k u v : ℕ) {sources steps answers₀ output₀ kinds : List ℕ} {count : ℕ} {output words tape log tags : List ℕ} {starts maps : List (List ℕ)} {marks special : List ℕ} {stacks : List (List ℕ)} {e : Ends} {set : Bool} {n o first i : ℕ} {a₁ a₂ a₃ : List ℕ} → a₁ ≡ put a j k → a₂ ≡ put a₁ (j + 1) u → a₃ ≡ put a₂ (j + 2) v
+    → Going sources steps answers₀ output₀ kinds count (put (put (put a j k) (j + 1) u) (j + 2) v) output words tape log tags starts maps marks special stacks e set n o first i
+    → Going sources steps answers₀ output₀ kinds count a₃ output words tape log tags starts maps marks special stacks e set n o first i
+told-so a j k u v h₁ h₂ h₃ g = rw (h₃, h₂, h₁) g

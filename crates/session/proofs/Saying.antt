@@ -43,10 +43,12 @@ value-refused (suc k) v h = refl
 -- ---- steps that import
 module _ (o a b c : ℕ) (s s′ : Session) (k v : ℕ) where
   recorded : (op : Session → Answer ℕ) → ((sources output : List ℕ) → saying o a b c sources output s ≡ says s (λ (n : ℕ). (n, 0)) (op s)) → Does op s k v s′ → Recorded o a b c s k (valueOf k v) s′
-  recorded op e d = record { is = λ sources output.
-    let h = says-stepped op (λ (n : ℕ). (n, 0)) s k v s′ output d in
-    subst (λ (x : Said). Stepped x k (valueOf k v) 0 output output s′) (sym (e sources output))
-    (record { refusal-is = h .refusal-is; first-is = h .first-is; second-is = sym (value-none k) ∙ h .second-is; output-is = h .output-is; session-is = h .session-is }) }
+  recorded op e d = record {
+    is = λ sources output.
+        let h = says-stepped op (λ (n : ℕ). (n, 0)) s k v s′ output d in
+        subst (λ (x : Said). Stepped x k (valueOf k v) 0 output output s′) (sym (e sources output))
+        (record { refusal-is = h .refusal-is; first-is = h .first-is; second-is = sym (value-none k) ∙ h .second-is; output-is = h .output-is; session-is = h .session-is });
+  }
 
   pub type-recorded : o ≡ 3 → Does (importing (tabOf 1) a) s k v s′ → Recorded o a b c s k (valueOf k v) s′
   unfolding operations perform tabOf
@@ -105,10 +107,12 @@ stacks-low h l = record { four = h .four; rows = h .rows; high = let p = l .0 in
 -- ---- setting a source
 pub set-quiet : (a b c : ℕ) (sources image : List ℕ) (s s′ : Session) (k : ℕ) → part a b sources ≡ image → Does (set (length image) (wordsOf image) c) s k tt s′ → Quiet 0 a b c sources s k 0 0 s′
 unfolding operations perform
-set-quiet a b c sources image s s′ k e d = record { is = λ output.
-  rw (e)
-  (let h = says-stepped (set (length image) (wordsOf image) c) (λ u. (0, 0)) s k tt s′ output d in
-  record { refusal-is = h .refusal-is; first-is = sym (value-none k) ∙ h .first-is; second-is = sym (value-none k) ∙ h .second-is; output-is = h .output-is; session-is = h .session-is }) }
+set-quiet a b c sources image s s′ k e d = record {
+  is = λ output.
+      rw (e)
+      (let h = says-stepped (set (length image) (wordsOf image) c) (λ u. (0, 0)) s k tt s′ output d in
+      record { refusal-is = h .refusal-is; first-is = sym (value-none k) ∙ h .first-is; second-is = sym (value-none k) ∙ h .second-is; output-is = h .output-is; session-is = h .session-is });
+}
 
 -- ---- operations that import nothing
 module _ (set : Bool) (n o : ℕ) (words log tags : List ℕ) (starts maps : List (List ℕ)) (special : List ℕ) (e : Ends) (a b c : ℕ) (sources output : List ℕ) where
