@@ -6,12 +6,12 @@ use mathlib.Core.List.{List, [], _∷_, _++_, map, append-assoc, map-append}
 use Prim.Native.Nat.{ℕ, zero, suc, _+_, _*_, _-_, _/_, _≤_, _<_}
 use native.Mathlib.Nat.{add-zero, div-eq-of-eq-mul-left}
 use native.Mathlib.Omega.{arith}
-use lib.ListN.{length, getD, set, length-append, length-map, length-set}
-use lib.Seq.{sets, slice, length-slice, length-sets}
+use lib.ListN.{length, getD, set, length-append, length-map}
+use lib.Seq.{sets, slice, length-slice}
 use Rattle.model.specs.Outcome.{Cell, Cells, class, word}
 use Rattle.model.specs.Table.{NAME, NAMED-EXPR, EXPRESSIONS, NAMED}
 use Rattle.model.specs.Between.{beside, between}
-use Rattle.state.specs.Held.{row, put, Same, Written}
+use Rattle.state.specs.Held.{row, put, Written}
 use Rattle.state.specs.declared.Ends.{Ends}
 use Rattle.state.proofs.State.{same-or, same-refl, wrote-same, wrote-log, wrote-tags, wrote-head, wrote-rec}
 use Rattle.making.specs.Stacks.{Stacks}
@@ -93,23 +93,53 @@ sizeOf before e s exprs body end head = head + (exprs - s) + 1 + (e .et - before
 abbrev pub whole : List ℕ → List (List ℕ) → Ends → Ends → ℕ → ℕ → ℕ → ℕ → ℕ → Cells
 whole tags stacks before e s exprs body end head = between (row stacks 1) (row stacks 0) (e .et) (e .et + head) ++ closing tags stacks before e s exprs body end
 
--- the parts of words and of classes
-abbrev spelled : List (List ℕ) → Ends → Ends → ℕ → ℕ → ℕ → ℕ → ℕ → List ℕ
-spelled stacks before e s exprs body end head =
-    seven (slice (e .et) (e .et + head) (row stacks 0))
-    (slice (before .bt) (before .bt + (exprs - s)) (row stacks 3))
-    (e .made)
-    (slice (before .et) (before .et + (e .et - before .et)) (row stacks 0))
-    (namesOf before e s exprs body end / 2)
-    (slice (before .bt + (exprs - s) + (end - body)) (before .bt + (exprs - s) + (end - body) + namesOf before e s exprs body end) (row stacks 3))
-    (slice (before .bt + (exprs - s)) (before .bt + (exprs - s) + (end - body)) (row stacks 3))
+-- where the body and the named expressions start on the stack of words
+abbrev pub tailFrom : Ends → ℕ → ℕ → ℕ
+tailFrom before s exprs = before .bt + (exprs - s)
 
-abbrev classed : List ℕ → List (List ℕ) → Ends → Ends → ℕ → ℕ → ℕ → ℕ → ℕ → List ℕ
+abbrev pub namesFrom : Ends → ℕ → ℕ → ℕ → ℕ → ℕ
+namesFrom before s exprs body end = before .bt + (exprs - s) + (end - body)
+
+-- where the counts of expressions and of named expressions go
+abbrev pub madeAt : Ends → ℕ → ℕ → ℕ → ℕ
+madeAt e s exprs head = e .used + 1 + head + (exprs - s)
+
+abbrev pub namedAt : Ends → Ends → ℕ → ℕ → ℕ → ℕ
+namedAt before e s exprs head = e .used + 1 + head + (exprs - s) + 1 + (e .et - before .et)
+
+-- the parts, by row of the stacks: the words above the expressions, declarations, expressions, named expressions, body
+abbrev pub topPart : List (List ℕ) → Ends → ℕ → ℕ → List ℕ
+topPart stacks e head t = slice (e .et) (e .et + head) (row stacks t)
+
+abbrev pub frontPart : List (List ℕ) → Ends → ℕ → ℕ → List ℕ
+frontPart stacks before s exprs = slice (before .bt) (tailFrom before s exprs) (row stacks 3)
+
+abbrev pub madePart : List (List ℕ) → Ends → Ends → ℕ → List ℕ
+madePart stacks before e t = slice (before .et) (before .et + (e .et - before .et)) (row stacks t)
+
+abbrev pub namesPart : List (List ℕ) → Ends → Ends → ℕ → ℕ → ℕ → ℕ → List ℕ
+namesPart stacks before e s exprs body end = slice (namesFrom before s exprs body end) (namesFrom before s exprs body end + namesOf before e s exprs body end) (row stacks 3)
+
+abbrev pub tailPart : List (List ℕ) → Ends → ℕ → ℕ → ℕ → ℕ → List ℕ
+tailPart stacks before s exprs body end = slice (tailFrom before s exprs) (namesFrom before s exprs body end) (row stacks 3)
+
+-- the parts of words and of classes
+abbrev pub spelled : List (List ℕ) → Ends → Ends → ℕ → ℕ → ℕ → ℕ → ℕ → List ℕ
+spelled stacks before e s exprs body end head =
+    seven (topPart stacks e head 0)
+    (frontPart stacks before s exprs)
+    (e .made)
+    (madePart stacks before e 0)
+    (namesOf before e s exprs body end / 2)
+    (namesPart stacks before e s exprs body end)
+    (tailPart stacks before s exprs body end)
+
+abbrev pub classed : List ℕ → List (List ℕ) → Ends → Ends → ℕ → ℕ → ℕ → ℕ → ℕ → List ℕ
 classed tags stacks before e s exprs body end head =
-    seven (slice (e .et) (e .et + head) (row stacks 1))
+    seven (topPart stacks e head 1)
     (slice s (s + (exprs - s)) tags)
     EXPRESSIONS
-    (slice (before .et) (before .et + (e .et - before .et)) (row stacks 1))
+    (madePart stacks before e 1)
     NAMED
     (namedClasses (namesOf before e s exprs body end / 2))
     (slice body (body + (end - body)) tags)
@@ -158,7 +188,7 @@ module _ (tags : List ℕ) (stacks : List (List ℕ)) (before e : Ends) (s exprs
   row-long : (t : ℕ) → t < 4 → length (row stacks t) ≡ 16384
   row-long t h = p₃ .0 .rows t h
 
-  names-from : before .bt + ((exprs - s) + (end - body)) ≡ before .bt + (exprs - s) + (end - body)
+  names-from : before .bt + ((exprs - s) + (end - body)) ≡ namesFrom before s exprs body end
   names-from = omega arith
 
   made-is : before .et + (e .et - before .et) ≡ e .et
@@ -170,23 +200,30 @@ module _ (tags : List ℕ) (stacks : List (List ℕ)) (before e : Ends) (s exprs
   tail-is : body + (end - body) ≡ end
   tail-is = let h = p₁ .2 in omega arith
 
-  names-is : before .bt + (exprs - s) + (end - body) + namesOf before e s exprs body end ≡ e .bt
+  names-is : namesFrom before s exprs body end + namesOf before e s exprs body end ≡ e .bt
   names-is = let h = p₃ .2 in omega arith
 
-  pairs-are : length (pairsIn (slice (before .bt + (exprs - s) + (end - body)) (e .bt) (row stacks 3))) * 2 ≡ namesOf before e s exprs body end
+  pairs-are : length (pairsIn (slice (namesFrom before s exprs body end) (e .bt) (row stacks 3))) * 2 ≡ namesOf before e s exprs body end
   pairs-are = let a = rw names-from at p₄ in let b = names-is in omega arith
 
-  pub half : namesOf before e s exprs body end / 2 ≡ length (pairsIn (slice (before .bt + (exprs - s) + (end - body)) (e .bt) (row stacks 3)))
+  half : namesOf before e s exprs body end / 2 ≡ length (pairsIn (slice (namesFrom before s exprs body end) (e .bt) (row stacks 3)))
   half = div-eq-of-eq-mul-left (omega arith) (sym pairs-are)
 
-  length-names : length (slice (before .bt + (exprs - s) + (end - body)) (e .bt) (row stacks 3)) ≡ namesOf before e s exprs body end
-  length-names = let l = row-long 3 (omega arith) in let h = p₃ .0 .high′ in let n = names-is in length-slice (before .bt + (exprs - s) + (end - body)) (e .bt) (row stacks 3) (omega arith) ∙ omega arith
+  length-names : length (slice (namesFrom before s exprs body end) (e .bt) (row stacks 3)) ≡ namesOf before e s exprs body end
+  length-names = let l = row-long 3 (omega arith) in let h = p₃ .0 .high′ in let n = names-is in length-slice (namesFrom before s exprs body end) (e .bt) (row stacks 3) (omega arith) ∙ omega arith
+
+  -- how long the parts are
+  top-long : (t : ℕ) → t < 4 → length (topPart stacks e head t) ≡ head
+  top-long t h = let a = row-long t h in length-cut (e .et) head (row stacks t) (omega arith)
+
+  made-long : (t : ℕ) → t < 4 → length (madePart stacks before e t) ≡ e .et - before .et
+  made-long t h = let a = row-long t h in let b = made-is in length-cut (before .et) (e .et - before .et) (row stacks t) (omega arith)
 
   -- as long as each other
-  even-head : length (slice (e .et) (e .et + head) (row stacks 1)) ≡ length (slice (e .et) (e .et + head) (row stacks 0))
-  even-head = let a = row-long 0 (omega arith) in let b = row-long 1 (omega arith) in length-cut (e .et) head (row stacks 1) (omega arith) ∙ sym (length-cut (e .et) head (row stacks 0) (omega arith))
+  even-top : length (topPart stacks e head 1) ≡ length (topPart stacks e head 0)
+  even-top = top-long 1 (omega arith) ∙ sym (top-long 0 (omega arith))
 
-  even-front : length (slice s exprs tags) ≡ length (slice (before .bt) (before .bt + (exprs - s)) (row stacks 3))
+  even-front : length (slice s exprs tags) ≡ length (frontPart stacks before s exprs)
   even-front =
       let a = row-long 3 (omega arith) in
       let h = p₃ .0 .high′ in
@@ -194,50 +231,40 @@ module _ (tags : List ℕ) (stacks : List (List ℕ)) (before e : Ends) (s exprs
       length-slice s exprs tags (let z = p₁ in omega arith) ∙ sym (length-cut (before .bt) (exprs - s) (row stacks 3) (omega arith))
 
   even-made : length (slice (before .et) (e .et) (row stacks 1)) ≡ length (slice (before .et) (e .et) (row stacks 0))
-  even-made =
-      let a = row-long 0 (omega arith) in
-      let b = row-long 1 (omega arith) in
-      length-slice (before .et) (e .et) (row stacks 1) (omega arith) ∙ sym (length-slice (before .et) (e .et) (row stacks 0) (omega arith))
+  even-made = rw made-is at (made-long 1 (omega arith) ∙ sym (made-long 0 (omega arith)))
 
-  even-tail : length (slice body end tags) ≡ length (slice (before .bt + (exprs - s)) (before .bt + (exprs - s) + (end - body)) (row stacks 3))
+  even-tail : length (slice body end tags) ≡ length (tailPart stacks before s exprs body end)
   even-tail =
       let a = row-long 3 (omega arith) in
       let h = p₃ .0 .high′ in
       let k = p₃ .2 in
-      length-slice body end tags (let z = p₁ in omega arith) ∙ sym (length-cut (before .bt + (exprs - s)) (end - body) (row stacks 3) (omega arith))
+      length-slice body end tags (let z = p₁ in omega arith) ∙ sym (length-cut (tailFrom before s exprs) (end - body) (row stacks 3) (omega arith))
+
+  parts-are : (g : Cell → ℕ) → map g (whole tags stacks before e s exprs body end head) ≡
+      seven (map g (beside (topPart stacks e head 1) (topPart stacks e head 0)))
+      (map g (beside (slice s exprs tags) (frontPart stacks before s exprs)))
+      (g (EXPRESSIONS, e .made))
+      (map g (beside (slice (before .et) (e .et) (row stacks 1)) (slice (before .et) (e .et) (row stacks 0))))
+      (g (NAMED, length (pairsIn (slice (namesFrom before s exprs body end) (e .bt) (row stacks 3)))))
+      (map g (nameCells (slice (namesFrom before s exprs body end) (e .bt) (row stacks 3))))
+      (map g (beside (slice body end tags) (tailPart stacks before s exprs body end)))
+  unfolding closing between
+  parts-are g = seven-map g (between (row stacks 1) (row stacks 0) (e .et) (e .et + head)) (beside (slice s exprs tags) (frontPart stacks before s exprs)) (EXPRESSIONS, e .made) (between (row stacks 1) (row stacks 0) (before .et) (e .et)) (NAMED, length (pairsIn (slice (namesFrom before s exprs body end) (e .bt) (row stacks 3)))) (nameCells (slice (namesFrom before s exprs body end) (e .bt) (row stacks 3))) (beside (slice body end tags) (tailPart stacks before s exprs body end))
 
   words-are : map word (whole tags stacks before e s exprs body end head) ≡ spelled stacks before e s exprs body end head
-  unfolding closing between
-  words-are =
-      rw (names-is, made-is, half)
-      (seven-map word (between (row stacks 1) (row stacks 0) (e .et) (e .et + head)) (beside (slice s exprs tags) (slice (before .bt) (before .bt + (exprs - s)) (row stacks 3))) (EXPRESSIONS, e .made) (between (row stacks 1) (row stacks 0) (before .et) (e .et)) (NAMED, length (pairsIn (slice (before .bt + (exprs - s) + (end - body)) (e .bt) (row stacks 3)))) (nameCells (slice (before .bt + (exprs - s) + (end - body)) (e .bt) (row stacks 3))) (beside (slice body end tags) (slice (before .bt + (exprs - s)) (before .bt + (exprs - s) + (end - body)) (row stacks 3)))
-      ∙ seven-same (word-beside _ _ even-head) (word-beside _ _ even-front) refl (word-beside _ _ even-made) refl (word-names _ (pairs-are ∙ sym length-names)) (word-beside _ _ even-tail))
+  words-are = rw (names-is, made-is, half) (parts-are word ∙ seven-same (word-beside _ _ even-top) (word-beside _ _ even-front) refl (word-beside _ _ even-made) refl (word-names _ (pairs-are ∙ sym length-names)) (word-beside _ _ even-tail))
 
   classes-are : map class (whole tags stacks before e s exprs body end head) ≡ classed tags stacks before e s exprs body end head
-  unfolding closing between
-  classes-are =
-      rw (made-is, front-is, tail-is, half)
-      (seven-map class (between (row stacks 1) (row stacks 0) (e .et) (e .et + head)) (beside (slice s exprs tags) (slice (before .bt) (before .bt + (exprs - s)) (row stacks 3))) (EXPRESSIONS, e .made) (between (row stacks 1) (row stacks 0) (before .et) (e .et)) (NAMED, length (pairsIn (slice (before .bt + (exprs - s) + (end - body)) (e .bt) (row stacks 3)))) (nameCells (slice (before .bt + (exprs - s) + (end - body)) (e .bt) (row stacks 3))) (beside (slice body end tags) (slice (before .bt + (exprs - s)) (before .bt + (exprs - s) + (end - body)) (row stacks 3)))
-      ∙ seven-same (class-beside _ _ even-head) (class-beside _ _ even-front) refl (class-beside _ _ even-made) refl (class-names _) (class-beside _ _ even-tail))
+  classes-are = rw (made-is, front-is, tail-is, half) (parts-are class ∙ seven-same (class-beside _ _ even-top) (class-beside _ _ even-front) refl (class-beside _ _ even-made) refl (class-names _) (class-beside _ _ even-tail))
 
-  -- how long the parts are
-  words-head : length (slice (e .et) (e .et + head) (row stacks 0)) ≡ head
-  words-head = let a = row-long 0 (omega arith) in length-cut (e .et) head (row stacks 0) (omega arith)
-
-  words-front : length (slice (before .bt) (before .bt + (exprs - s)) (row stacks 3)) ≡ exprs - s
+  words-front : length (frontPart stacks before s exprs) ≡ exprs - s
   words-front = sym even-front ∙ length-slice s exprs tags (let z = p₁ in omega arith)
 
-  words-made : length (slice (before .et) (before .et + (e .et - before .et)) (row stacks 0)) ≡ e .et - before .et
-  words-made = let a = row-long 0 (omega arith) in let b = made-is in length-cut (before .et) (e .et - before .et) (row stacks 0) (omega arith)
-
-  words-names : length (slice (before .bt + (exprs - s) + (end - body)) (before .bt + (exprs - s) + (end - body) + namesOf before e s exprs body end) (row stacks 3)) ≡ namesOf before e s exprs body end
+  words-names : length (namesPart stacks before e s exprs body end) ≡ namesOf before e s exprs body end
   words-names = rw names-is length-names
 
-  words-tail : length (slice (before .bt + (exprs - s)) (before .bt + (exprs - s) + (end - body)) (row stacks 3)) ≡ end - body
+  words-tail : length (tailPart stacks before s exprs body end) ≡ end - body
   words-tail = sym even-tail ∙ length-slice body end tags (let z = p₁ in omega arith)
-
-  classes-made : length (slice (before .et) (before .et + (e .et - before .et)) (row stacks 1)) ≡ e .et - before .et
-  classes-made = let a = row-long 1 (omega arith) in let b = made-is in length-cut (before .et) (e .et - before .et) (row stacks 1) (omega arith)
 
   classes-front : length (slice s (s + (exprs - s)) tags) ≡ exprs - s
   classes-front = rw front-is (even-front ∙ words-front)
@@ -245,28 +272,28 @@ module _ (tags : List ℕ) (stacks : List (List ℕ)) (before e : Ends) (s exprs
   classes-names : length (namedClasses (namesOf before e s exprs body end / 2)) ≡ namesOf before e s exprs body end
   classes-names = length-named (namesOf before e s exprs body end / 2) ∙ rw half (let a = pairs-are in omega arith)
 
-  pub size-is : length (whole tags stacks before e s exprs body end head) ≡ sizeOf before e s exprs body end head
+  size-is : length (whole tags stacks before e s exprs body end head) ≡ sizeOf before e s exprs body end head
   size-is =
       sym (length-map (whole tags stacks before e s exprs body end head) word)
       ∙ ap length words-are
-      ∙ length-seven (slice (e .et) (e .et + head) (row stacks 0)) (slice (before .bt) (before .bt + (exprs - s)) (row stacks 3)) (e .made) (slice (before .et) (before .et + (e .et - before .et)) (row stacks 0)) (namesOf before e s exprs body end / 2) (slice (before .bt + (exprs - s) + (end - body)) (before .bt + (exprs - s) + (end - body) + namesOf before e s exprs body end) (row stacks 3)) (slice (before .bt + (exprs - s)) (before .bt + (exprs - s) + (end - body)) (row stacks 3))
-      ∙ rw (words-head, words-front, words-made, words-names, words-tail)
+      ∙ length-seven (topPart stacks e head 0) (frontPart stacks before s exprs) (e .made) (madePart stacks before e 0) (namesOf before e s exprs body end / 2) (namesPart stacks before e s exprs body end) (tailPart stacks before s exprs body end)
+      ∙ rw (top-long 0 (omega arith), words-front, made-long 0 (omega arith), words-names, words-tail)
 
   module _ (log₀ classes₀ : List ℕ) {l₂ l₃ l₅ l₇ l₈ k₂ k₃ k₅ k₇ k₈ : List ℕ}
-      (w₂ : l₂ ≡ sets (set log₀ (e .used) (sizeOf before e s exprs body end head)) (e .used + 1) (slice (e .et) (e .et + head) (row stacks 0)))
-      (w₃ : l₃ ≡ sets l₂ (e .used + 1 + head) (slice (before .bt) (before .bt + (exprs - s)) (row stacks 3)))
-      (w₅ : l₅ ≡ sets (set l₃ (e .used + 1 + head + (exprs - s)) (e .made)) (e .used + 1 + head + (exprs - s) + 1) (slice (before .et) (before .et + (e .et - before .et)) (row stacks 0)))
-      (w₇ : l₇ ≡ sets (set l₅ (e .used + 1 + head + (exprs - s) + 1 + (e .et - before .et)) (namesOf before e s exprs body end / 2)) (e .used + 1 + head + (exprs - s) + 1 + (e .et - before .et) + 1) (slice (before .bt + (exprs - s) + (end - body)) (before .bt + (exprs - s) + (end - body) + namesOf before e s exprs body end) (row stacks 3)))
-      (w₈ : l₈ ≡ sets l₇ (e .used + 1 + head + (exprs - s) + 1 + (e .et - before .et) + 1 + namesOf before e s exprs body end) (slice (before .bt + (exprs - s)) (before .bt + (exprs - s) + (end - body)) (row stacks 3)))
-      (c₂ : k₂ ≡ sets classes₀ (e .used + 1) (slice (e .et) (e .et + head) (row stacks 1)))
+      (w₂ : l₂ ≡ sets (set log₀ (e .used) (sizeOf before e s exprs body end head)) (e .used + 1) (topPart stacks e head 0))
+      (w₃ : l₃ ≡ sets l₂ (e .used + 1 + head) (frontPart stacks before s exprs))
+      (w₅ : l₅ ≡ sets (set l₃ (madeAt e s exprs head) (e .made)) (madeAt e s exprs head + 1) (madePart stacks before e 0))
+      (w₇ : l₇ ≡ sets (set l₅ (namedAt before e s exprs head) (namesOf before e s exprs body end / 2)) (namedAt before e s exprs head + 1) (namesPart stacks before e s exprs body end))
+      (w₈ : l₈ ≡ sets l₇ (namedAt before e s exprs head + 1 + namesOf before e s exprs body end) (tailPart stacks before s exprs body end))
+      (c₂ : k₂ ≡ sets classes₀ (e .used + 1) (topPart stacks e head 1))
       (c₃ : k₃ ≡ sets k₂ (e .used + 1 + head) (slice s (s + (exprs - s)) tags))
-      (c₅ : k₅ ≡ sets (set k₃ (e .used + 1 + head + (exprs - s)) EXPRESSIONS) (e .used + 1 + head + (exprs - s) + 1) (slice (before .et) (before .et + (e .et - before .et)) (row stacks 1)))
-      (c₇ : k₇ ≡ sets (set k₅ (e .used + 1 + head + (exprs - s) + 1 + (e .et - before .et)) NAMED) (e .used + 1 + head + (exprs - s) + 1 + (e .et - before .et) + 1) (namedClasses (namesOf before e s exprs body end / 2)))
-      (c₈ : k₈ ≡ sets k₇ (e .used + 1 + head + (exprs - s) + 1 + (e .et - before .et) + 1 + namesOf before e s exprs body end) (slice body (body + (end - body)) tags)) where
+      (c₅ : k₅ ≡ sets (set k₃ (madeAt e s exprs head) EXPRESSIONS) (madeAt e s exprs head + 1) (madePart stacks before e 1))
+      (c₇ : k₇ ≡ sets (set k₅ (namedAt before e s exprs head) NAMED) (namedAt before e s exprs head + 1) (namedClasses (namesOf before e s exprs body end / 2)))
+      (c₈ : k₈ ≡ sets k₇ (namedAt before e s exprs head + 1 + namesOf before e s exprs body end) (slice body (body + (end - body)) tags)) where
     written : Written (whole tags stacks before e s exprs body end head) (e .used + 1) (set log₀ (e .used) (sizeOf before e s exprs body end head)) classes₀ l₈ k₈
     written = record {
-      words-are = rw words-are (seven-joined (slice (e .et) (e .et + head) (row stacks 0)) (slice (before .bt) (before .bt + (exprs - s)) (row stacks 3)) (slice (before .et) (before .et + (e .et - before .et)) (row stacks 0)) (slice (before .bt + (exprs - s) + (end - body)) (before .bt + (exprs - s) + (end - body) + namesOf before e s exprs body end) (row stacks 3)) (slice (before .bt + (exprs - s)) (before .bt + (exprs - s) + (end - body)) (row stacks 3)) (set log₀ (e .used) (sizeOf before e s exprs body end head)) l₂ l₃ l₅ l₇ l₈ (e .made) (namesOf before e s exprs body end / 2) (e .used + 1) (e .used + 1 + head) (e .used + 1 + head + (exprs - s)) (e .used + 1 + head + (exprs - s) + 1) (e .used + 1 + head + (exprs - s) + 1 + (e .et - before .et)) (e .used + 1 + head + (exprs - s) + 1 + (e .et - before .et) + 1) (e .used + 1 + head + (exprs - s) + 1 + (e .et - before .et) + 1 + namesOf before e s exprs body end) w₂ w₃ w₅ w₇ w₈ (ap (λ (n : ℕ). e .used + 1 + n) (sym words-head)) (ap (λ (n : ℕ). e .used + 1 + head + n) (sym words-front)) (omega arith) (ap (λ (n : ℕ). e .used + 1 + head + (exprs - s) + 1 + n) (sym words-made)) (omega arith) (ap (λ (n : ℕ). e .used + 1 + head + (exprs - s) + 1 + (e .et - before .et) + 1 + n) (sym words-names)));
-      tags-are = rw classes-are (seven-joined (slice (e .et) (e .et + head) (row stacks 1)) (slice s (s + (exprs - s)) tags) (slice (before .et) (before .et + (e .et - before .et)) (row stacks 1)) (namedClasses (namesOf before e s exprs body end / 2)) (slice body (body + (end - body)) tags) classes₀ k₂ k₃ k₅ k₇ k₈ EXPRESSIONS NAMED (e .used + 1) (e .used + 1 + head) (e .used + 1 + head + (exprs - s)) (e .used + 1 + head + (exprs - s) + 1) (e .used + 1 + head + (exprs - s) + 1 + (e .et - before .et)) (e .used + 1 + head + (exprs - s) + 1 + (e .et - before .et) + 1) (e .used + 1 + head + (exprs - s) + 1 + (e .et - before .et) + 1 + namesOf before e s exprs body end) c₂ c₃ c₅ c₇ c₈ (ap (λ (n : ℕ). e .used + 1 + n) (sym (even-head ∙ words-head))) (ap (λ (n : ℕ). e .used + 1 + head + n) (sym classes-front)) (omega arith) (ap (λ (n : ℕ). e .used + 1 + head + (exprs - s) + 1 + n) (sym classes-made)) (omega arith) (ap (λ (n : ℕ). e .used + 1 + head + (exprs - s) + 1 + (e .et - before .et) + 1 + n) (sym classes-names)));
+      words-are = rw words-are (seven-joined (topPart stacks e head 0) (frontPart stacks before s exprs) (madePart stacks before e 0) (namesPart stacks before e s exprs body end) (tailPart stacks before s exprs body end) (set log₀ (e .used) (sizeOf before e s exprs body end head)) l₂ l₃ l₅ l₇ l₈ (e .made) (namesOf before e s exprs body end / 2) (e .used + 1) (e .used + 1 + head) (madeAt e s exprs head) (madeAt e s exprs head + 1) (namedAt before e s exprs head) (namedAt before e s exprs head + 1) (namedAt before e s exprs head + 1 + namesOf before e s exprs body end) w₂ w₃ w₅ w₇ w₈ (ap (λ (n : ℕ). e .used + 1 + n) (sym (top-long 0 (omega arith)))) (ap (λ (n : ℕ). e .used + 1 + head + n) (sym words-front)) (omega arith) (ap (λ (n : ℕ). madeAt e s exprs head + 1 + n) (sym (made-long 0 (omega arith)))) (omega arith) (ap (λ (n : ℕ). namedAt before e s exprs head + 1 + n) (sym words-names)));
+      tags-are = rw classes-are (seven-joined (topPart stacks e head 1) (slice s (s + (exprs - s)) tags) (madePart stacks before e 1) (namedClasses (namesOf before e s exprs body end / 2)) (slice body (body + (end - body)) tags) classes₀ k₂ k₃ k₅ k₇ k₈ EXPRESSIONS NAMED (e .used + 1) (e .used + 1 + head) (madeAt e s exprs head) (madeAt e s exprs head + 1) (namedAt before e s exprs head) (namedAt before e s exprs head + 1) (namedAt before e s exprs head + 1 + namesOf before e s exprs body end) c₂ c₃ c₅ c₇ c₈ (ap (λ (n : ℕ). e .used + 1 + n) (sym (top-long 1 (omega arith)))) (ap (λ (n : ℕ). e .used + 1 + head + n) (sym classes-front)) (omega arith) (ap (λ (n : ℕ). madeAt e s exprs head + 1 + n) (sym (made-long 1 (omega arith)))) (omega arith) (ap (λ (n : ℕ). namedAt before e s exprs head + 1 + n) (sym classes-names)));
     }
 
     module _ (limit t : ℕ) (starts₀ : List (List ℕ)) (few : getD (e .counts) t 0 ≤ limit) (more : getD (e .counts) t 0 ≡ limit → ⊥) (hl : length log₀ ≡ 16384) (hk : length classes₀ ≡ 16384)

@@ -7,10 +7,10 @@ use Prim.Native.Nat.{ℕ, suc, _+_, _≤_}
 use lib.ListN.{length, getD}
 use Rattle.model.specs.Tree.{Entry}
 use Rattle.model.specs.Imports.{St}
-use Rattle.nesting.specs.Nested.{enteredS, entryCellsS, followS}
+use Rattle.nesting.specs.Nested.{enteredS, entryCellsS, ReadyF}
 use Rattle.nesting.specs.Entries.{EntryMade}
 use Rattle.state.specs.Source.{modOf}
-use Rattle.state.specs.Held.{row, tableOf, stOf, sizeR, Over, Kept, Same}
+use Rattle.state.specs.Held.{tableOf, stOf, sizeR, Over, Kept, Same}
 use Rattle.state.specs.Marks.{Marks}
 use Rattle.state.specs.declared.Ends.{Ends}
 use Rattle.making.specs.Stacks.{Stacks}
@@ -21,10 +21,10 @@ pub record NestedE (words : List ℕ) (n : ℕ) (log tags : List ℕ) (starts ma
   pub special : List ℕ
   pub made : EntryMade o (modOf words n) room E (stOf words log tags starts maps special e)
 
--- imported, or that is too large: too many words with its record, or 16 are there; where nothing waits on the stacks
-pub record Enters (words : List ℕ) (n o : ℕ) (follow : ℕ → St → St) (E : Entry) (log₀ tags₀ : List ℕ) (starts₀ maps₀ : List (List ℕ)) (marks₀ : List ℕ) (stacks₀ : List (List ℕ)) (e : Ends)
+-- imported, or, where the records of its functions can be read, that is too large: too many words with its record, or 16 are there; with what waits on the stacks, which are as they were
+pub record Enters (words : List ℕ) (n o : ℕ) (ready : ℕ → St → Type 0) (follow : ℕ → St → St) (E : Entry) (log₀ tags₀ : List ℕ) (starts₀ maps₀ : List (List ℕ)) (marks₀ : List ℕ) (stacks₀ : List (List ℕ)) (e : Ends)
     (r : Ends) (log tags : List ℕ) (starts maps : List (List ℕ)) (marks : List ℕ) (stacks : List (List ℕ)) : Type 0 where
-  pub over : r .full ≡ true → (special : List ℕ)
+  pub over : r .full ≡ true → (special : List ℕ) → ReadyF o (modOf words n) ready follow (E .function) (stOf words log₀ tags₀ starts₀ maps₀ special e)
       → Over (sizeR (tableOf log₀ tags₀ starts₀ (e .counts) 7) + suc (e .et + e .bt + length (entryCellsS o (modOf words n) follow E (stOf words log₀ tags₀ starts₀ maps₀ special e)))) (enteredS o (modOf words n) follow E (stOf words log₀ tags₀ starts₀ maps₀ special e) .out)
       ⊎ (16 ≤ getD (e .counts) 7 0)
   pub is : r .full ≡ false → (special : List ℕ) → enteredS o (modOf words n) follow E (stOf words log₀ tags₀ starts₀ maps₀ special e) .out ≡ stOf words log tags starts maps special r

@@ -16,7 +16,7 @@ ghost use mathlib.Core.Bool.{true, false};
 ghost use Prim.Native.Nat.{_<_};
 ghost use Rattle.model.specs.Module.{countAt};
 ghost use Rattle.model.specs.Scope.{inScope};
-ghost use Rattle.nesting.specs.Nested.{followS};
+ghost use Rattle.nesting.specs.Nested.{followS, Ready};
 ghost use Rattle.state.specs.Source.{modOf};
 ghost use Rattle.state.specs.Held.{Kept};
 ghost use Rattle.ground.specs.Fits.{Ground};
@@ -46,7 +46,7 @@ pub fn enter(
     requires { ⌜ NestedE (now words) n (now log) (now classes) (now starts) (now maps) ends offset room (entry (modOf (now words) n) j) ⌝ }
     requires { ⌜ (ends .full ≡ false) × (Stacks (now stacks) ends) ⌝ }
     requires { ⌜ Kept (now log) (now classes) (now starts) (now maps) (now marks) ends ⌝ }
-    ensures { λ r. ⌜ Enters (now (words .entry)) n offset (followS offset (modOf (now (words .entry)) n) room) (entry (modOf (now (words .entry)) n) j) (now (log .entry)) (now (classes .entry)) (now (starts .entry)) (now (maps .entry)) (now (marks .entry)) (now (stacks .entry)) ends r (now (log .exit)) (now (classes .exit)) (now (starts .exit)) (now (maps .exit)) (now (marks .exit)) (now (stacks .exit)) ⌝ }
+    ensures { λ r. ⌜ Enters (now (words .entry)) n offset (Ready offset (modOf (now (words .entry)) n) room) (followS offset (modOf (now (words .entry)) n) room) (entry (modOf (now (words .entry)) n) j) (now (log .entry)) (now (classes .entry)) (now (starts .entry)) (now (maps .entry)) (now (marks .entry)) (now (stacks .entry)) ends r (now (log .exit)) (now (classes .exit)) (now (starts .exit)) (now (maps .exit)) (now (marks .exit)) (now (stacks .exit)) ⌝ }
 {
     let at = record_at(words, tags, n, ENTRIES, j);
     let s = entry_function(words, tags, n, j);

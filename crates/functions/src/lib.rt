@@ -1,5 +1,5 @@
 // The operations of a session on functions, and finishing with entry points: each with its refusals in their sequence, and where it is refused the session is as it
-// was.
+// was. The stacks of functions in progress are empty between operations, and have their lengths.
 use entering::enter;
 use known::known;
 use localize::append;
@@ -14,12 +14,143 @@ use rings::entries_ring;
 use rings::follow_rings;
 use rings::import_rings;
 use state::Ends;
+use state::forget;
 use state::nothing;
 use views::ENTRIES;
 use views::FUNCTIONS;
 use views::count;
 use whole::take_over;
 use words::wide;
+ghost use mathlib.Core.Path.{_≡_};
+ghost use mathlib.Core.Bool.{true, false};
+ghost use mathlib.Core.List.{[], _∷_};
+ghost use Prim.Native.Nat.{ℕ, _<_, pred};
+ghost use lib.ListN.{length, replicate};
+ghost use Rattle.model.specs.Module.{countAt};
+ghost use Rattle.model.specs.Callees.{callees};
+ghost use Rattle.model.specs.Redirect.{function};
+ghost use Rattle.model.specs.Session.{ringing, calleesOf, importFunction, mapFunctionHandle, finishWithEntryPoints};
+ghost use Rattle.nesting.specs.Nested.{appendS, followS};
+ghost use Rattle.state.specs.Source.{modOf};
+ghost use Rattle.state.specs.Held.{stOf};
+ghost use Rattle.making.specs.Stacks.{Stacks};
+ghost use Rattle.operations.specs.Live.{sessionOf, Live, Does, Finishes};
+ghost use Rattle.functions.specs.Brought.{Brings, EntersAll};
+
+// Stacks of functions in progress, none of which is there.
+fn empty(stacks: &mut [[u32; 16384]; 4])
+    ensures { λ _. ⌜ now (stacks .exit) ≡ replicate 4 (replicate 16384 0) ⌝ }
+{
+    *stacks = [[0; 16384]; 4];
+}
+
+// The number before v, where v is not 0.
+fn before(v: u32) -> u32
+    ensures { λ r. ⌜ r ≡ pred v ⌝ }
+{
+    if v == 0 {
+        return 0;
+    }
+    v - 1
+}
+
+// Function f is appended; where it does not fit nothing has changed.
+fn append_whole(
+    words: &[u32; 16384],
+    tags: &[u8; 16384],
+    kinds: &[u8; 256],
+    n: usize,
+    log: &mut [u32; 16384],
+    classes: &mut [u8; 16384],
+    starts: &mut [[u32; 512]; 8],
+    maps: &mut [[u32; 512]; 6],
+    marks: &mut [u16; 16384],
+    special: &[u32; 1027],
+    stacks: &mut [[u32; 16384]; 4],
+    ends: Ends,
+    offset: u32,
+    f: usize,
+    room: usize,
+) -> Ends
+    requires { ⌜ Live true n offset (now words) (now tags) (now kinds) (now log) (now classes) (now starts) (now maps) (now marks) (now special) ends ⌝ }
+    requires { ⌜ (f < countAt 6 (now words)) × (room ≡ countAt 6 (now words)) × (Stacks (now stacks) ends) ⌝ }
+    requires { ⌜ ringing (f ∷ callees (function (modOf (now words) n) f)) (modOf (now words) n) (stOf (now words) (now log) (now classes) (now starts) (now maps) (now special) ends) ≡ false ⌝ }
+    ensures { λ r. ⌜ Brings (now (words .entry)) (now (special .entry)) (appendS offset (modOf (now (words .entry)) n) (followS offset (modOf (now (words .entry)) n) room) f) (now (log .entry)) (now (classes .entry)) (now (starts .entry)) (now (maps .entry)) ends r (now (log .exit)) (now (classes .exit)) (now (starts .exit)) (now (maps .exit)) (now (marks .exit)) (now (stacks .exit)) ⌝ }
+{
+    let mut s = *starts;
+    let mut m = *maps;
+    let got = append(
+        words,
+        tags,
+        kinds,
+        n,
+        log,
+        classes,
+        &mut s,
+        &mut m,
+        marks,
+        stacks,
+        ends,
+        offset,
+        f,
+        room,
+    );
+    take_over(starts, maps, &s, &m, got.full);
+    if got.full {
+        empty(stacks);
+        return got;
+    }
+    got
+}
+
+// Function f, where its name is not known; where it does not fit nothing has changed.
+fn follow_whole(
+    words: &[u32; 16384],
+    tags: &[u8; 16384],
+    kinds: &[u8; 256],
+    n: usize,
+    log: &mut [u32; 16384],
+    classes: &mut [u8; 16384],
+    starts: &mut [[u32; 512]; 8],
+    maps: &mut [[u32; 512]; 6],
+    marks: &mut [u16; 16384],
+    special: &[u32; 1027],
+    stacks: &mut [[u32; 16384]; 4],
+    ends: Ends,
+    offset: u32,
+    f: usize,
+    room: usize,
+) -> Ends
+    requires { ⌜ Live true n offset (now words) (now tags) (now kinds) (now log) (now classes) (now starts) (now maps) (now marks) (now special) ends ⌝ }
+    requires { ⌜ (f < countAt 6 (now words)) × (room ≡ countAt 6 (now words)) × (Stacks (now stacks) ends) ⌝ }
+    requires { ⌜ ringing (f ∷ []) (modOf (now words) n) (stOf (now words) (now log) (now classes) (now starts) (now maps) (now special) ends) ≡ false ⌝ }
+    ensures { λ r. ⌜ Brings (now (words .entry)) (now (special .entry)) (followS offset (modOf (now (words .entry)) n) room f) (now (log .entry)) (now (classes .entry)) (now (starts .entry)) (now (maps .entry)) ends r (now (log .exit)) (now (classes .exit)) (now (starts .exit)) (now (maps .exit)) (now (marks .exit)) (now (stacks .exit)) ⌝ }
+{
+    let mut s = *starts;
+    let mut m = *maps;
+    let got = follow(
+        words,
+        tags,
+        kinds,
+        n,
+        log,
+        classes,
+        &mut s,
+        &mut m,
+        marks,
+        stacks,
+        ends,
+        offset,
+        f,
+        room,
+    );
+    take_over(starts, maps, &s, &m, got.full);
+    if got.full {
+        empty(stacks);
+        return got;
+    }
+    got
+}
 
 // import_function: function f is appended.
 pub fn import_function(
@@ -38,7 +169,13 @@ pub fn import_function(
     set: bool,
     offset: u32,
     f: u32,
-) -> Said {
+) -> Said
+    requires { ⌜ Live set n offset (now words) (now tags) (now kinds) (now log) (now classes) (now starts) (now maps) (now marks) (now special) ends ⌝ }
+    requires { ⌜ Stacks (now stacks) ends ⌝ }
+    ensures { λ r. ⌜ Does {A = ℕ} (importFunction f) (sessionOf set n offset (now (words .entry)) (now (log .entry)) (now (classes .entry)) (now (starts .entry)) (now (maps .entry)) (now (special .entry)) ends) (r .refusal) (r .value) (sessionOf set n offset (now (words .entry)) (now (log .exit)) (now (classes .exit)) (now (starts .exit)) (now (maps .exit)) (now (special .entry)) (r .ends)) ⌝ }
+    ensures { λ r. ⌜ Live set n offset (now (words .entry)) (now (tags .entry)) (now (kinds .entry)) (now (log .exit)) (now (classes .exit)) (now (starts .exit)) (now (maps .exit)) (now (marks .exit)) (now (special .entry)) (r .ends) ⌝ }
+    ensures { λ r. ⌜ Stacks (now (stacks .exit)) (r .ends) ⌝ }
+{
     if !set {
         return Said {
             refusal: NO_SOURCE,
@@ -61,25 +198,23 @@ pub fn import_function(
             ends: ends,
         };
     }
-    let mut s = *starts;
-    let mut m = *maps;
-    let got = append(
+    let got = append_whole(
         words,
         tags,
         kinds,
         n,
         log,
         classes,
-        &mut s,
-        &mut m,
+        starts,
+        maps,
         marks,
+        special,
         stacks,
         ends,
         offset,
         wide(f),
         room,
     );
-    take_over(starts, maps, &s, &m, got.full);
     if got.full {
         return Said {
             refusal: FULL,
@@ -87,7 +222,7 @@ pub fn import_function(
             ends: ends,
         };
     }
-    let v = (got.counts[FUNCTIONS] - 1) as u32;
+    let v = before(got.counts[FUNCTIONS] as u32);
     Said {
         refusal: 0,
         value: v,
@@ -112,7 +247,13 @@ pub fn map_function_handle(
     set: bool,
     offset: u32,
     f: u32,
-) -> Said {
+) -> Said
+    requires { ⌜ Live set n offset (now words) (now tags) (now kinds) (now log) (now classes) (now starts) (now maps) (now marks) (now special) ends ⌝ }
+    requires { ⌜ Stacks (now stacks) ends ⌝ }
+    ensures { λ r. ⌜ Does {A = ℕ} (mapFunctionHandle f) (sessionOf set n offset (now (words .entry)) (now (log .entry)) (now (classes .entry)) (now (starts .entry)) (now (maps .entry)) (now (special .entry)) ends) (r .refusal) (r .value) (sessionOf set n offset (now (words .entry)) (now (log .exit)) (now (classes .exit)) (now (starts .exit)) (now (maps .exit)) (now (special .entry)) (r .ends)) ⌝ }
+    ensures { λ r. ⌜ Live set n offset (now (words .entry)) (now (tags .entry)) (now (kinds .entry)) (now (log .exit)) (now (classes .exit)) (now (starts .exit)) (now (maps .exit)) (now (marks .exit)) (now (special .entry)) (r .ends) ⌝ }
+    ensures { λ r. ⌜ Stacks (now (stacks .exit)) (r .ends) ⌝ }
+{
     if !set {
         return Said {
             refusal: NO_SOURCE,
@@ -135,25 +276,23 @@ pub fn map_function_handle(
             ends: ends,
         };
     }
-    let mut s = *starts;
-    let mut m = *maps;
-    let got = follow(
+    let got = follow_whole(
         words,
         tags,
         kinds,
         n,
         log,
         classes,
-        &mut s,
-        &mut m,
+        starts,
+        maps,
         marks,
+        special,
         stacks,
         ends,
         offset,
         wide(f),
         room,
     );
-    take_over(starts, maps, &s, &m, got.full);
     if got.full {
         return Said {
             refusal: FULL,
@@ -161,7 +300,7 @@ pub fn map_function_handle(
             ends: ends,
         };
     }
-    let v = known(words, tags, n, log, classes, starts, got, wide(f)) - 1;
+    let v = before(known(words, tags, n, log, classes, starts, got, wide(f)));
     Said {
         refusal: 0,
         value: v,
@@ -170,7 +309,7 @@ pub fn map_function_handle(
 }
 
 // The source's entry points, from the first on.
-pub fn enter_all(
+fn enter_all(
     words: &[u32; 16384],
     tags: &[u8; 16384],
     kinds: &[u8; 256],
@@ -180,10 +319,16 @@ pub fn enter_all(
     starts: &mut [[u32; 512]; 8],
     maps: &mut [[u32; 512]; 6],
     marks: &mut [u16; 16384],
+    special: &[u32; 1027],
     stacks: &mut [[u32; 16384]; 4],
     ends: Ends,
     offset: u32,
-) -> Ends {
+) -> Ends
+    requires { ⌜ Live true n offset (now words) (now tags) (now kinds) (now log) (now classes) (now starts) (now maps) (now marks) (now special) ends ⌝ }
+    requires { ⌜ Stacks (now stacks) ends ⌝ }
+    requires { ⌜ ringing (calleesOf (modOf (now words) n .entries)) (modOf (now words) n) (stOf (now words) (now log) (now classes) (now starts) (now maps) (now special) ends) ≡ false ⌝ }
+    ensures { λ r. ⌜ EntersAll (now (words .entry)) n offset (now (special .entry)) (now (log .entry)) (now (classes .entry)) (now (starts .entry)) (now (maps .entry)) (now (marks .entry)) ends r (now (log .exit)) (now (classes .exit)) (now (starts .exit)) (now (maps .exit)) (now (marks .exit)) (now (stacks .exit)) ⌝ }
+{
     let all = count(words, ENTRIES);
     let room = count(words, FUNCTIONS);
     let mut e = ends;
@@ -223,7 +368,7 @@ pub fn finish_with_entries(
     log: &mut [u32; 16384],
     classes: &mut [u8; 16384],
     starts: &[[u32; 512]; 8],
-    maps: &[[u32; 512]; 6],
+    maps: &mut [[u32; 512]; 6],
     marks: &mut [u16; 16384],
     special: &mut [u32; 1027],
     stacks: &mut [[u32; 16384]; 4],
@@ -231,7 +376,13 @@ pub fn finish_with_entries(
     set: bool,
     offset: u32,
     output: &mut [u8],
-) -> Finished {
+) -> Finished
+    requires { ⌜ Live set n offset (now words) (now tags) (now kinds) (now log) (now classes) (now starts) (now maps) (now marks) (now special) ends ⌝ }
+    requires { ⌜ Stacks (now stacks) ends ⌝ }
+    ensures { λ r. ⌜ Finishes (finishWithEntryPoints (length (now (output .entry))) (sessionOf set n offset (now (words .entry)) (now (log .entry)) (now (classes .entry)) (now (starts .entry)) (now (maps .entry)) (now (special .entry)) ends)) (sessionOf set n offset (now (words .entry)) (now (log .entry)) (now (classes .entry)) (now (starts .entry)) (now (maps .entry)) (now (special .entry)) ends) (r .refusal) (r .bytes) (now (output .entry)) (now (output .exit)) (sessionOf (r .set) n offset (now (words .entry)) (now (log .exit)) (now (classes .exit)) (now (starts .entry)) (now (maps .exit)) (now (special .exit)) (r .ends)) ⌝ }
+    ensures { λ r. ⌜ Live (r .set) n offset (now (words .entry)) (now (tags .entry)) (now (kinds .entry)) (now (log .exit)) (now (classes .exit)) (now (starts .entry)) (now (maps .exit)) (now (marks .exit)) (now (special .exit)) (r .ends) ⌝ }
+    ensures { λ r. ⌜ Stacks (now (stacks .exit)) (r .ends) ⌝ }
+{
     if !set {
         return Finished {
             refusal: NO_SOURCE,
@@ -260,11 +411,13 @@ pub fn finish_with_entries(
         &mut s,
         &mut m,
         marks,
+        special,
         stacks,
         ends,
         offset,
     );
     if e.full {
+        empty(stacks);
         return Finished {
             refusal: FULL,
             bytes: 0,
@@ -281,6 +434,7 @@ pub fn finish_with_entries(
             ends: ends,
         };
     }
+    forget(maps);
     special[0] = 0;
     special[1] = 0;
     special[2] = 0;

@@ -1,34 +1,29 @@
 -- import_function: the function that is whole on the stacks is closed, one record more in the table of functions; or it does not fit. Assumes nothing.
-use mathlib.Core.Path.{_≡_, refl, sym, ap, ap₂, _∙_}
+use mathlib.Core.Path.{_≡_, sym, ap, ap₂, _∙_}
 use mathlib.Core.Logic.{_⊎_, ⊎-elim}
-use mathlib.Core.Bool.{Bool, true, false, false≢true}
+use mathlib.Core.Bool.{true, false, false≢true}
 use mathlib.Core.List.{List, [], _∷_, _++_, map}
 use Prim.Native.Nat.{ℕ, suc, _+_, _*_, _-_, _≤_, _<_}
-use native.Mathlib.Nat.{le-refl}
 use native.Mathlib.Omega.{arith}
-use lib.ListN.{length, getD, set, length-append, length-map}
+use lib.ListN.{length, getD, length-append, length-map}
 use lib.Seq.{getD-set-other}
 use Rattle.model.specs.Outcome.{Cells}
 use Rattle.model.specs.Tree.{Function, flat, flatBlock}
 use Rattle.model.specs.Module.{Special}
-use Rattle.model.specs.Between.{between}
 use Rattle.model.specs.Redirect.{function as functionAt}
-use Rattle.model.specs.Tables.{Tab, names, codeT, Tables, count, Maps}
+use Rattle.model.specs.Tables.{names, codeT, Tables, count, Maps}
 use Rattle.model.specs.Imports.{St}
 use Rattle.model.specs.Bodies.{appended}
 use Rattle.imports.specs.TableLaws.{at-six}
-use Rattle.laws.specs.Betweens.{between-none}
 use Rattle.laws.specs.Lists.{map-append}
 use Rattle.state.specs.Flats.{functionOf, specialOf}
 use Rattle.state.specs.Refers.{tabOf}
 use Rattle.state.specs.Source.{modOf}
-use Rattle.state.specs.Held.{row, put, tableOf, recsOf, functionsOf, mapsOf, stOf, sizeR, Over, long, many, crowd, keys, Named, Kept, Same}
+use Rattle.state.specs.Held.{row, tableOf, recsOf, functionsOf, stOf, sizeR, Over, long, many, crowd, keys, Named, Kept}
 use Rattle.state.specs.declared.Ends.{Ends}
 use Rattle.state.proofs.State.{Joins, code-low, six-ext, row-other, tab-long, table-long, table-more, table-same, words-are, kept-more, same-then, marks-refl}
-use Rattle.making.specs.Stacks.{Stacks}
 use Rattle.making.proofs.Growth.{over-more}
 use Rattle.making.proofs.Then.{kept-tops}
-use Rattle.passing.specs.Runs.{Along, Deep}
 use Rattle.closing.specs.Closed.{Closes}
 use Rattle.nesting.specs.Nested.{declaredS, finalS, cellsS, appendS, Reads, ReadyFrom, ReadyF}
 use Rattle.nesting.specs.Growth.{appended-words}
@@ -96,7 +91,7 @@ module _ (words : List ℕ) (n o : ℕ) (ready : ℕ → St → Type 0) (follow 
     unfolding stOf count tabOf
     named =
         let c : count (finalS o (modOf words n) follow F (S₀ special₀) .out .recs) names ≡ getD (r .counts) 0 0
-              = ap (λ (x : St). count (x .recs) names) (L .is z special₀) ∙ tab-long log classes starts maps marks r K 0 (omega arith) in
+        = ap (λ (x : St). count (x .recs) names) (L .is z special₀) ∙ tab-long log classes starts maps marks r K 0 (omega arith) in
         rw (is special₀, ← c) (can-read special₀ y₀ .named)
 
     app-is : (special : List ℕ) → appendS o (modOf words n) follow f (S₀ special) ≡ appended (functionOf C) (stOf words log classes starts maps special r)
@@ -136,9 +131,6 @@ module _ (words : List ℕ) (n o : ℕ) (ready : ℕ → St → Type 0) (follow 
 
       few : getD (r .counts) 6 0 < 512
       few = let a = room in omega arith
-
-      abbrev E : Ends
-      E = record { full = false; used = r .used + suc (length C); counts = set (r .counts) 6 (getD (r .counts) 6 0 + 1); pairs = r .pairs; et = r .et; bt = r .bt; made = r .made }
 
       kept : Kept log₂ classes₂ starts₂ maps marks r₂
       kept = rw (B .starts-are y) (kept-tops (kept-more log classes log₂ classes₂ starts maps marks marks r K (B .below) (B .log-long) (B .tags-long) (marks-refl marks (K .marks-long)) 6 (omega arith) C (B .is y) (B .size y) fits few joins) r₂

@@ -1,6 +1,6 @@
 -- The record of a function that is whole on the stacks is what the passes wrote: its declarations and its body have the classes of the source. Assumes nothing.
 use mathlib.Core.Path.{_≡_, refl, sym, ap, ap₂, _∙_}
-use mathlib.Core.Bool.{Bool, true, false}
+use mathlib.Core.Bool.{Bool, false}
 use mathlib.Core.List.{List, [], _∷_, _++_, map}
 use Prim.Native.Nat.{ℕ, zero, suc, _+_, _*_, _-_, _≤_, _<_}
 use native.Mathlib.Omega.{arith}
@@ -8,20 +8,19 @@ use lib.ListN.{length, getD, length-map}
 use lib.Seq.{slice, length-slice}
 use Rattle.model.specs.Outcome.{Cells, class, word}
 use Rattle.model.specs.Table.{NAME, NAMED-EXPR, EXPRESSIONS, NAMED}
-use Rattle.model.specs.Tree.{Function, flatAll, flatList, flatBlock}
+use Rattle.model.specs.Tree.{Function, flatList, flatBlock}
 use Rattle.model.specs.Module.{Module}
 use Rattle.model.specs.Between.{beside, between}
 use Rattle.model.specs.References.{target, through, firstWord, undefinedAt}
 use Rattle.model.specs.Imports.{St}
 use Rattle.model.specs.Bodies.{Making, went}
-use Rattle.laws.specs.Betweens.{beside-cells, between-none, between-next}
+use Rattle.laws.specs.Betweens.{beside-cells, between-next}
 use Rattle.laws.specs.FunctionViews.{each-at, part-tags}
 use Rattle.passes.specs.Pass.{arrive, passed, written, rows, front}
 use Rattle.state.specs.Source.{modOf}
 use Rattle.state.specs.Held.{row, stOf}
 use Rattle.state.specs.declared.Ends.{Ends}
 use Rattle.state.proofs.Passes.{length-between}
-use Rattle.making.specs.Stacks.{Stacks}
 use Rattle.parts.specs.Part.{Part, Indexed, front-is, front-run, body-is, body-run, order, long}
 use Rattle.closing.specs.Closed.{pairsIn, nameCells, closing}
 use Rattle.nesting.specs.Nested.{walkedS, keptS, frontS, namesS, bodyS, cellsS}
@@ -52,7 +51,7 @@ module _ (o : ℕ) (M : Module) (follow : ℕ → St → St) (p q : ℕ → Maki
   names-count (k ∷ ks) m = ap suc (names-count ks (arrive o M follow p q (target NAME) (k .1) m))
 
 -- a stretch at its places
-between-at : (tags words : List ℕ) (j a b : ℕ) → a + j < b → b ≤ length tags → b ≤ length words → class (getD (between tags words a b) j (0, 0)) ≡ getD tags (a + j) 0
+pub between-at : (tags words : List ℕ) (j a b : ℕ) → a + j < b → b ≤ length tags → b ≤ length words → class (getD (between tags words a b) j (0, 0)) ≡ getD tags (a + j) 0
 between-at tags words zero a b h t w = let q : a + 0 ≡ a = omega arith in rw (q, between-next tags words a b (omega arith) t w) refl
 between-at tags words (suc j) a b h t w = let q : a + suc j ≡ suc a + j = omega arith in rw (q, between-next tags words a b (omega arith) t w) (between-at tags words j (suc a) b (omega arith) t w)
 

@@ -1,13 +1,13 @@
 -- Behind the body: the names of the expressions that stay are put on the stack and imported there, and the function is whole. Assumes nothing.
 use mathlib.Core.Path.{_≡_, refl, sym, ap, ap₂, _∙_}
-use mathlib.Core.Bool.{Bool, true, false, false≢true}
-use mathlib.Core.List.{List, [], _∷_, _++_, map}
+use mathlib.Core.Bool.{Bool, true, false}
+use mathlib.Core.List.{List, [], map}
 use Prim.Native.Nat.{ℕ, suc, _+_, _*_, _-_, _≤_, _<_}
-use native.Mathlib.Nat.{le-refl, le-trans}
+use native.Mathlib.Nat.{le-refl}
 use native.Mathlib.Omega.{arith}
-use lib.ListN.{length, getD, take, drop}
+use lib.ListN.{length, getD, take}
 use lib.Seq.{slice}
-use Rattle.model.specs.Outcome.{Cells, word}
+use Rattle.model.specs.Outcome.{word}
 use Rattle.model.specs.Tree.{Function, flatAll, flatBlock}
 use Rattle.model.specs.Module.{countAt}
 use Rattle.model.specs.Between.{between}
@@ -17,21 +17,20 @@ use Rattle.bodies.specs.Shallow.{need, glance}
 use Rattle.passes.specs.Pass.{front}
 use Rattle.passes.specs.Light.{still}
 use Rattle.state.specs.Source.{modOf}
-use Rattle.state.specs.Held.{row, tableOf, stOf, sizeR, wordsOf, Over, long, Kept}
+use Rattle.state.specs.Held.{row, tableOf, stOf, sizeR, Over, long, Kept}
 use Rattle.state.specs.declared.Ends.{Ends}
 use Rattle.state.proofs.State.{same-then, marks-then}
 use Rattle.import.proofs.Growth.{Grow}
-use Rattle.making.specs.Stacks.{madeOf, makingOf, Stacks, Under}
+use Rattle.making.specs.Stacks.{makingOf}
 use Rattle.making.proofs.Stack.{take-less, made-many, made-flat}
 use Rattle.making.proofs.Growth.{over-more}
 use Rattle.making.proofs.Then.{kept-tops}
 use Rattle.parts.specs.Part.{Part, Indexed, body-is, order, long as lengths}
-use Rattle.passing.specs.Runs.{Along, Deep}
-use Rattle.closing.specs.Closed.{pairWords, pairsIn, namedRecords, namesOut, namesRows, pairsOf, Keeps, Renames}
+use Rattle.closing.specs.Closed.{pairsIn, namedRecords, namesOut, namesRows, pairsOf, Keeps, Renames}
 use Rattle.nesting.specs.Nested.{walkedS, keptS, finalS, frontS, namesS, bodyS, cellsS}
 use Rattle.localize.specs.Localized.{Localizes}
-use Rattle.localize.proofs.Ways.{slice-same, Way, way-entries, Turn, cells-long, way-full, walked-is, body-is as body-words, body-top}
-use Rattle.localize.proofs.Names.{pairs-back, pairs-long, named-records, named-exprs, kept-low, named-is, rows-is, rows-long}
+use Rattle.localize.proofs.Ways.{slice-same, way-entries, Turn, cells-long, way-full, walked-is, body-is as body-words, body-top}
+use Rattle.localize.proofs.Names.{pairs-back, named-records, kept-low, named-is, rows-is, rows-long}
 
 module _ {words tags : List ℕ} {n s end : ℕ} {F : Function} (p : Part words tags n s end F) {ea : ℕ} {places : List ℕ} {k named body : ℕ} (x : Indexed words tags s end ea places k named body)
     (o : ℕ) (follow : ℕ → St → St) (calls : (f : ℕ) (s : St) → Grow s (follow f s)) (ready : ℕ → St → Type 0) (log₀ tags₀ : List ℕ) (starts₀ maps₀ : List (List ℕ)) (marks₀ : List ℕ) (stacks₀ : List (List ℕ)) (e₀ : Ends) (K₀ : Kept log₀ tags₀ starts₀ maps₀ marks₀ e₀)
@@ -61,7 +60,7 @@ module _ {words tags : List ℕ} {n s end : ℕ} {F : Function} (p : Part words 
   low : body ≤ end
   low = let a = order p x .to-end in omega arith
 
-  walked : (special : List ℕ) → walkedS o (modOf words n) follow F (S₀ special) ≡ makingOf words k log classes starts maps special e em stacks (e₀ .et)
+  pub walked : (special : List ℕ) → walkedS o (modOf words n) follow F (S₀ special) ≡ makingOf words k log classes starts maps special e em stacks (e₀ .et)
   walked special = walked-is words tags n o follow calls ready F k body end low hw ht (body-is p x) log₀ tags₀ starts₀ maps₀ marks₀ stacks₀ e₀ K₀ log classes starts maps marks em stacks e i u T done special
 
   bodies : (special : List ℕ) → slice (e₀ .bt + length (front F)) (e .bt) (row stacks 3) ≡ map word (bodyS o (modOf words n) follow F (S₀ special))

@@ -6,3 +6,7 @@ pub mod Names
 pub mod Finals
 pub mod Closings
 pub mod Appends
+pub mod Follows
+pub mod Few
+pub mod Locals
+pub mod Appending

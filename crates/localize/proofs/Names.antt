@@ -2,11 +2,11 @@
 -- Assumes nothing.
 use mathlib.Core.Path.{_≡_, refl, sym, ap, ap₂, _∙_}
 use mathlib.Core.Bool.{Bool, true, false}
-use mathlib.Core.List.{List, [], _∷_, _++_, map}
+use mathlib.Core.List.{List, [], _∷_}
 use Prim.Native.Nat.{ℕ, zero, suc, _+_, _*_, _≤_, _<_}
 use native.Mathlib.Omega.{arith}
 use lib.Dec.{eqb}
-use lib.ListN.{length, getD, take, drop}
+use lib.ListN.{length, getD, take}
 use lib.Seq.{slice, getD-take, getD-drop, ext-getD}
 use Rattle.model.specs.Outcome.{Cells}
 use Rattle.model.specs.Table.{NAME, NAMED-EXPR}
@@ -27,11 +27,6 @@ pub pairs-back : (ps : List (ℕ × ℕ)) → pairsIn (pairWords ps) ≡ ps
 unfolding pairsIn pairWords
 pairs-back [] = refl
 pairs-back (p ∷ ps) = ap ((p .0, p .1) ∷_) (pairs-back ps)
-
-pub pairs-long : (ps : List (ℕ × ℕ)) → length (pairWords ps) ≡ 2 * length ps
-unfolding pairWords
-pairs-long [] = refl
-pairs-long (p ∷ ps) = let h = pairs-long ps in omega arith
 
 -- whose names are among the first n
 abbrev Low : ℕ → List (ℕ × ℕ) → Type 0
@@ -97,8 +92,8 @@ module _ {words tags : List ℕ} {n s end : ℕ} {F : Function} (p : Part words 
       let l : Low (countAt 0 words) ps = keep-low (countAt 0 words) words memo (getD words named 0) (named + 1) [] (λ j g. let q : suc (named + 1 + 2 * j) ≡ named + 2 + 2 * j = omega arith in rw q (named-at p x j g .name-in)) tt in
       let j : i < length ps = omega arith in
       let g : getD stack (suc (b + 2 * i)) 0 ≡ getD (pairWords ps) (suc (2 * i)) 0
-            = (let q : suc (b + 2 * i) ≡ b + suc (2 * i) = omega arith in ap (λ (y : ℕ). getD stack y 0) q)
-            ∙ sym (ap (λ (y : List ℕ). getD y (suc (2 * i)) 0) (sym is) ∙ getD-drop b (take top stack) (suc (2 * i)) 0 ∙ getD-take top stack (b + suc (2 * i)) 0 (omega arith)) in
+      = (let q : suc (b + 2 * i) ≡ b + suc (2 * i) = omega arith in ap (λ (y : ℕ). getD stack y 0) q)
+      ∙ sym (ap (λ (y : List ℕ). getD y (suc (2 * i)) 0) (sym is) ∙ getD-drop b (take top stack) (suc (2 * i)) 0 ∙ getD-take top stack (b + suc (2 * i)) 0 (omega arith)) in
       (omega arith, rw g (pair-low (countAt 0 words) ps l i j))
 
 -- ---- their import

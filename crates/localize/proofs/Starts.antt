@@ -1,7 +1,7 @@
 -- A function of the source before its first word: nothing is made, its declarations and its body are the words that the code passes, and behind the declarations the body is
 -- to come. Assumes nothing.
 use mathlib.Core.Path.{_≡_, refl, sym, ap, ap₂, _∙_}
-use mathlib.Core.Bool.{Bool, true, false, false≢true}
+use mathlib.Core.Bool.{true, false}
 use mathlib.Core.List.{List, [], _∷_, _++_, map}
 use Prim.Native.Nat.{ℕ, zero, suc, _+_, _-_, _≤_, _<_}
 use native.Mathlib.Nat.{le-refl}
@@ -9,11 +9,10 @@ use native.Mathlib.Omega.{arith}
 use lib.ListN.{length, getD, take, replicate, length-map, length-replicate}
 use lib.Seq.{slice, length-slice, slice-empty}
 use borrow.Author.Tests.{eqb-false}
-use Rattle.model.specs.Outcome.{Cells, word}
+use Rattle.model.specs.Outcome.{word}
 use Rattle.model.specs.Table.{FROM, TO, STMT-KIND}
-use Rattle.model.specs.Tree.{Function, flatAll, flatBlock}
+use Rattle.model.specs.Tree.{Function, flatBlock}
 use Rattle.model.specs.Between.{between}
-use Rattle.model.specs.Redirect.{function as functionAt}
 use Rattle.model.specs.Imports.{St}
 use Rattle.model.specs.Bodies.{Making}
 use Rattle.laws.specs.Betweens.{held-between}
@@ -25,7 +24,7 @@ use Rattle.state.specs.Source.{modOf}
 use Rattle.state.specs.Held.{row, tableOf, stOf, sizeR, Over, Kept}
 use Rattle.state.specs.declared.Ends.{Ends}
 use Rattle.import.proofs.Growth.{Grow}
-use Rattle.ground.specs.Cuts.{cut, Rising, exprsOf}
+use Rattle.ground.specs.Cuts.{cut, Rising}
 use Rattle.making.specs.Stacks.{seatsOf, madeOf, makingOf, Stacks, Under}
 use Rattle.making.proofs.Growth.{GrowM, growing-by, over-more}
 use Rattle.making.proofs.Then.{making-is}
@@ -34,7 +33,7 @@ use Rattle.parts.specs.Exprs.{exprs-are}
 use Rattle.parts.specs.Fitting.{front-legible, body-legible}
 use Rattle.parts.specs.Front.{front-declaring}
 use Rattle.parts.specs.Body.{emit-at}
-use Rattle.passing.specs.Runs.{unites, Declares, Bodied, Along, Runs}
+use Rattle.passing.specs.Runs.{unites, Declares, Runs}
 use Rattle.nesting.specs.Nested.{declaredS, walkedS, finalS, frontS, bodyS, cellsS}
 use Rattle.nesting.specs.Single.{function-back}
 use Rattle.localize.specs.Localized.{Localizes}
@@ -93,7 +92,7 @@ module _ {words tags : List ℕ} {n s end : ℕ} {F : Function} (p : Part words 
   module _ (o : ℕ) (follow : ℕ → St → St) (calls : (f : ℕ) (s : St) → Grow s (follow f s)) (ready : ℕ → St → Type 0) (log₀ tags₀ : List ℕ) (starts₀ maps₀ : List (List ℕ)) (marks₀ : List ℕ) (stacks₀ : List (List ℕ)) (e₀ : Ends) (K₀ : Kept log₀ tags₀ starts₀ maps₀ marks₀ e₀)
       (r : Ends) (log classes : List ℕ) (starts maps : List (List ℕ)) (marks em : List ℕ) (stacks : List (List ℕ))
       (R : Runs words k (after o (modOf words n) still (unites o words tags n places k) (unites o words tags n places k) (between tags words s ea)) (λ (m : Making). map word (written o (modOf words n) still (unites o words tags n places k) (unites o words tags n places k) (between tags words s ea) false m))
-        log₀ tags₀ starts₀ maps₀ marks₀ (replicate 1024 0) stacks₀ (e₀ .et) (begun e₀) r log classes starts maps marks em stacks) where
+      log₀ tags₀ starts₀ maps₀ marks₀ (replicate 1024 0) stacks₀ (e₀ .et) (begun e₀) r log classes starts maps marks em stacks) where
     abbrev m₀ : List ℕ → Making
     m₀ special = makingOf words k log₀ tags₀ starts₀ maps₀ special (begun e₀) (replicate 1024 0) stacks₀ (e₀ .et)
 

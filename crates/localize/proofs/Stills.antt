@@ -3,11 +3,11 @@ use mathlib.Core.Path.{_≡_, refl, sym, ap, _∙_}
 use mathlib.Core.Logic.{⊎-elim}
 use mathlib.Core.Bool.{Bool, true, false}
 use mathlib.Core.List.{List, [], _∷_}
-use Prim.Native.Nat.{ℕ, suc, _+_, _≤_, _<_}
+use Prim.Native.Nat.{ℕ, suc, _≤_, _<_}
 use lib.Dec.{eqb, ltb}
 use lib.ListN.{length, getD}
 use borrow.Author.Tests.{ltb-true, ltb-false}
-use Rattle.model.specs.Outcome.{Cells, class, word}
+use Rattle.model.specs.Outcome.{Cells}
 use Rattle.model.specs.Table.{EXPR, FROM, TO, STMT-KIND, CALLEE}
 use Rattle.model.specs.Tree.{Function}
 use Rattle.model.specs.Module.{Module}

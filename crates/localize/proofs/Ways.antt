@@ -3,11 +3,11 @@
 use mathlib.Core.Path.{_≡_, refl, sym, ap, ap₂, _∙_}
 use mathlib.Core.Bool.{Bool, true, false, false≢true}
 use mathlib.Core.List.{List, [], _∷_, _++_, map, append-nil, append-assoc}
-use Prim.Native.Nat.{ℕ, zero, suc, _+_, _-_, _≤_, _<_}
+use Prim.Native.Nat.{ℕ, suc, _+_, _-_, _≤_, _<_}
 use native.Mathlib.Nat.{le-refl, le-trans}
 use native.Mathlib.Numerals.{add-one}
 use native.Mathlib.Omega.{arith}
-use lib.ListN.{length, getD, take, drop, length-append, length-map}
+use lib.ListN.{length, getD, take, drop, length-append}
 use lib.Seq.{slice, length-slice}
 use Rattle.model.specs.Outcome.{Cell, Cells, class, word}
 use Rattle.model.specs.Table.{EXPRESSIONS, NAMED, CALLEE}
@@ -283,8 +283,8 @@ module _ (words tags : List ℕ) (n o : ℕ) (follow : ℕ → St → St) (calls
                   let y : List ℕ = wordOf o (modOf words n) follow P Q c cs v (m special) ∷ [] in
                   let t : List ℕ = map word (written o (modOf words n) follow P Q cs v (passed o (modOf words n) follow P Q c cs (m special))) in
                   let l : slice (e₀ .bt + length (front F)) (r .bt) (row stacks′ 3) ≡ x ++ y
-                        = sym (slice-join (e₀ .bt + length (front F)) (e .bt) (r .bt) (row stacks′ 3) (omega arith) (R .along z .bt-more) high)
-                        ∙ ap₂ (λ (a b : List ℕ). a ++ b) (slice-same (e₀ .bt + length (front F)) (e .bt) (e .bt) (row stacks 3) (row stacks′ 3) (le-refl _) (R .deep z .body)) (one special) in
+                  = sym (slice-join (e₀ .bt + length (front F)) (e .bt) (r .bt) (row stacks′ 3) (omega arith) (R .along z .bt-more) high)
+                  ∙ ap₂ (λ (a b : List ℕ). a ++ b) (slice-same (e₀ .bt + length (front F)) (e .bt) (e .bt) (row stacks 3) (row stacks′ 3) (le-refl _) (R .deep z .body)) (one special) in
                   ap₂ (λ (a : List ℕ) (d : Making). a ++ map word (written o (modOf words n) follow P Q cs v d)) l (sym (R .is z special))
                   ∙ append-assoc x y t
                   ∙ ap (x ++_) (cons-is special)

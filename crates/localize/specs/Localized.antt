@@ -19,7 +19,7 @@ use Rattle.state.specs.declared.Ends.{Ends}
 use Rattle.making.specs.Stacks.{Stacks}
 use Rattle.passing.specs.Runs.{Along, Deep}
 
--- ---- a function of the source whose words from its start to `end` these are, with room for so many functions in progress; each callee can be imported
+-- ---- a function of a source whose functions are in scope, with room for so many functions in progress; each callee can be imported
 pub record Nested (words : List ℕ) (n : ℕ) (log tags : List ℕ) (starts maps : List (List ℕ)) (e : Ends) (o room : ℕ) (F : Function) : Type 0 where
   pub scopes : inScope (modOf words n) ≡ true
   pub special : List ℕ
@@ -35,7 +35,7 @@ pub record NestedAt (words : List ℕ) (n : ℕ) (log tags : List ℕ) (starts m
   pub special : List ℕ
   pub ready : Ready o (modOf words n) room f (stOf words log tags starts maps special e)
 
--- ---- whole on the stacks: F's declarations, its body and its names, and its expressions; the tables are what is behind it
+-- ---- whole on the stacks: F's declarations, its body and its names, and its expressions; the tables are what is behind it. It is too large in each state where each callee can be imported (`ready`)
 pub record Localizes (words : List ℕ) (n o : ℕ) (ready : ℕ → St → Type 0) (follow : ℕ → St → St) (F : Function) (log₀ tags₀ : List ℕ) (starts₀ maps₀ : List (List ℕ)) (marks₀ : List ℕ) (stacks₀ : List (List ℕ)) (e : Ends)
     (r : Ends) (log tags : List ℕ) (starts maps : List (List ℕ)) (marks : List ℕ) (stacks : List (List ℕ)) : Type 0 where
   pub over : r .full ≡ true → (special : List ℕ) → ReadyFrom o (modOf words n) ready follow F (flatBlock (F .body)) (declaredS o (modOf words n) follow F (stOf words log₀ tags₀ starts₀ maps₀ special e))
@@ -58,7 +58,7 @@ pub record Localizes (words : List ℕ) (n o : ℕ) (ready : ℕ → St → Type
   pub tags-long : length tags ≡ 16384
   pub marks-stay : Marks marks₀ marks
 
--- ---- imported: f makes of the state that the arrays held what they hold, or that is too large, with what waits on the stacks; these are as they were
+-- ---- imported: f makes of the state that the arrays held what they hold, or that is too large where the records on the way can be read (`ready`), with what waits on the stacks; these are as they were
 pub record Nests (words : List ℕ) (ready : St → Type 0) (f : St → St) (log₀ tags₀ : List ℕ) (starts₀ maps₀ : List (List ℕ)) (marks₀ : List ℕ) (stacks₀ : List (List ℕ)) (e : Ends)
     (r : Ends) (log tags : List ℕ) (starts maps : List (List ℕ)) (marks : List ℕ) (stacks : List (List ℕ)) : Type 0 where
   pub over : r .full ≡ true → (special : List ℕ) → ready (stOf words log₀ tags₀ starts₀ maps₀ special e) → Over (sizeR (tableOf log₀ tags₀ starts₀ (e .counts) 7) + (e .et + e .bt)) (f (stOf words log₀ tags₀ starts₀ maps₀ special e))

@@ -1,27 +1,24 @@
 -- What finishing does to a session whose state the arrays hold: it is told what the model answers, and a session that has nothing follows; or it is refused, and the
 -- session is as it was. Assumes nothing.
-use mathlib.Core.Path.{_≡_, refl, sym, ap, _∙_, subst}
-use mathlib.Core.Bool.{Bool, true, false, false≢true}
+use mathlib.Core.Path.{_≡_, refl, sym, ap, _∙_}
+use mathlib.Core.Bool.{Bool, true, false}
 use mathlib.Core.List.{List, []}
 use mathlib.Core.Option.{none, some}
-use Prim.Native.Nat.{ℕ, zero, suc, _≤_, _<_}
+use Prim.Native.Nat.{ℕ, zero, suc, _<_}
 use native.Mathlib.Omega.{arith}
-use lib.ListN.{length, getD, set, replicate, length-set}
+use lib.ListN.{length, getD, set, length-set}
 use lib.Seq.{getD-set-same, getD-set-other}
 use Rattle.model.specs.Tables.{six}
-use Rattle.model.specs.Imports.{St, emptied, fresh}
+use Rattle.model.specs.Imports.{St, emptied}
 use Rattle.model.specs.Finish.{gathered, finished}
-use Rattle.model.specs.Session.{Session, Answer, answered, refused, new, finish}
-use Rattle.limits.specs.Reached.{Reached, reached}
-use Rattle.model.specs.Carry.{each-none}
+use Rattle.model.specs.Session.{Session, Answer, answered, refused, finish}
 use Rattle.ending.specs.Told.{told, Held, Ended}
 use Rattle.ending.specs.Theorems.{finish-told}
 use Rattle.state.specs.Source.{modOf}
-use Rattle.state.specs.Held.{mapsOf, stOf, Kept, Specials}
+use Rattle.state.specs.Held.{stOf}
 use Rattle.state.specs.declared.Ends.{Ends}
-use Rattle.state.proofs.Fresh.{kept-nothing, st-nothing}
-use Rattle.sessions.specs.Operating.{run}
 use Rattle.operations.specs.Live.{sessionOf, Live, Finishes}
+use Rattle.operations.specs.Theorems.{Nothing, unmapped, Empty, starts-new, live-new}
 
 -- maps play no part
 finish-cleared : (room : ℕ) (s : St) → finish room (record { source = none; state = emptied (six (λ t. [])) s }) ≡ finish room (record { source = none; state = s })
@@ -29,7 +26,7 @@ unfolding finish finished gathered emptied
 finish-cleared room s = refl
 
 -- nothing is written where it is refused
-none-written : (a : Answer (List ℕ)) (output₀ : List ℕ) (k b : ℕ) (output : List ℕ) → (k, b, output) ≡ told a output₀ → (k ≡ 0 → ⊥) → b ≡ 0
+pub none-written : (a : Answer (List ℕ)) (output₀ : List ℕ) (k b : ℕ) (output : List ℕ) → (k, b, output) ≡ told a output₀ → (k ≡ 0 → ⊥) → b ≡ 0
 unfolding told
 none-written (answered ws s) output₀ k b output h ne = absurd (ne (ap (λ (p : ℕ × ℕ × List ℕ). p .0) h))
 none-written (refused j) output₀ k b output h ne = ap (λ (p : ℕ × ℕ × List ℕ). p .1) h
@@ -38,11 +35,8 @@ none-written (refused j) output₀ k b output h ne = ap (λ (p : ℕ × ℕ × L
 abbrev pub unset : List ℕ → List ℕ
 unset special = set (set (set special 0 0) 1 0) 2 0
 
-abbrev E : Ends
-E = record { full = false; used = 0; counts = replicate 8 0; pairs = 0; et = 0; bt = 0; made = 0 }
-
 module _ (special : List ℕ) (long : length special ≡ 1027) where
-  unset-long : length (unset special) ≡ 1027
+  pub unset-long : length (unset special) ≡ 1027
   unset-long = length-set (set (set special 0 0) 1 0) 2 0 ∙ length-set (set special 0 0) 1 0 ∙ length-set special 0 0 ∙ long
 
   unset-third : getD (unset special) 2 0 ≡ 0
@@ -54,14 +48,11 @@ module _ (special : List ℕ) (long : length special ≡ 1027) where
   unset-first : getD (unset special) 0 0 ≡ 0
   unset-first = getD-set-other (set (set special 0 0) 1 0) 2 0 0 0 (λ p. omega arith) ∙ getD-set-other (set special 0 0) 1 0 0 0 (λ p. omega arith) ∙ getD-set-same special 0 0 0 (omega arith)
 
-  unset-all : (i : ℕ) → i < 3 → getD (unset special) i 0 ≡ 0
+  pub unset-all : (i : ℕ) → i < 3 → getD (unset special) i 0 ≡ 0
   unset-all zero h = unset-first
   unset-all (suc zero) h = unset-second
   unset-all (suc (suc zero)) h = unset-third
   unset-all (suc (suc (suc i))) h = absurd (omega arith)
-
-  specials-none : Specials (unset special) E
-  specials-none = record { special-long = unset-long; rays-in = λ i h. let z = unset-all i h in omega arith; pairs-in = λ i h. absurd (omega arith) }
 
 module _ (set : Bool) (n o : ℕ) (words tape kinds log tags : List ℕ) (starts maps : List (List ℕ)) (marks special : List ℕ) (e : Ends) (L : Live set n o words tape kinds log tags starts maps marks special e) where
   abbrev before : Session
@@ -86,33 +77,20 @@ module _ (set : Bool) (n o : ℕ) (words tape kinds log tags : List ℕ) (starts
         (record { is = ap (λ (y : ℕ). (k, y, output)) (sym z) ∙ tells; done = λ q. absurd (ne q); stays = λ q. refl }, L)
 
     -- it starts afresh
-    module _ (ok : k ≡ 0) (maps′ : List (List ℕ)) (hm : maps′ ≡ replicate 6 (replicate 512 0)) (r : Ends) (hr : r ≡ E) where
-      kept-so : Kept log tags starts (replicate 6 (replicate 512 0)) marks E
-      kept-so = kept-nothing log tags starts marks (L .kept .log-long) (L .kept .tags-long) (L .kept .marks-long) (L .kept .starts-eight) (L .kept .rows)
-
-      anew : sessionOf false n o words log tags starts (replicate 6 (replicate 512 0)) (unset special) E ≡ new
-      unfolding sessionOf new emptied fresh
-      anew =
-          let l = L .specials .special-long in
-          ap (λ (s : St). record { source = none; state = emptied (six (λ t. [])) s })
-          (st-nothing log tags starts marks (L .kept .log-long) (L .kept .tags-long) (L .kept .marks-long) (L .kept .starts-eight) (L .kept .rows) words (unset special) (unset-first special l) (unset-second special l) (unset-third special l))
+    module _ (ok : k ≡ 0) (maps′ : List (List ℕ)) (hm : maps′ ≡ unmapped) (r : Ends) (hr : r ≡ Nothing) where
+      empty : Empty words tape kinds log tags starts marks (unset special)
+      empty = record {
+        kinds-are = L .kinds-are;
+        words-long = L .words-long;
+        tape-long = L .tape-long;
+        log-long = L .kept .log-long;
+        tags-long = L .kept .tags-long;
+        starts-eight = L .kept .starts-eight;
+        rows = L .kept .rows;
+        marks-long = L .kept .marks-long;
+        special-long = unset-long special (L .specials .special-long);
+        rays-none = unset-all special (L .specials .special-long);
+      }
 
       pub finish-done : Finishes (finish (length output₀) before) before 0 b output₀ output (sessionOf false n o words log tags starts maps′ (unset special) r) × Live false n o words tape kinds log tags starts maps′ marks (unset special) r
-      unfolding run
-      finish-done =
-          rw (hm, hr) (
-            record { is = ap (λ (y : ℕ). (y, b, output)) (sym ok) ∙ tells; done = λ q. anew; stays = λ q. absurd (omega arith) },
-            record {
-              reached = subst Reached (sym anew) (reached each-none);
-              kept = kept-so;
-              specials = specials-none special (L .specials .special-long);
-              kinds-are = L .kinds-are;
-              words-long = L .words-long;
-              tape-long = L .tape-long;
-              taped = λ q. absurd (false≢true q);
-              passes = λ q. absurd (false≢true q);
-              no-entries = refl;
-              lowest = (refl, refl);
-              going = refl;
-            },
-          )
+      finish-done = rw (hm, hr) (record { is = ap (λ (y : ℕ). (y, b, output)) (sym ok) ∙ tells; done = λ q. starts-new empty n o; stays = λ q. absurd (omega arith) }, live-new empty n o)

@@ -3,27 +3,27 @@
 use mathlib.Core.Path.{_≡_, refl, sym, ap, _∙_, subst}
 use mathlib.Core.Bool.{Bool, true, false, not, false≢true}
 use mathlib.Core.List.{List}
-use mathlib.Core.Option.{Option, none, some}
+use mathlib.Core.Option.{none, some}
 use Prim.Native.Nat.{ℕ, zero, suc, _≤_, _<_, pred}
 use native.Mathlib.Omega.{arith}
 use lib.Dec.{ltb}
-use lib.ListN.{length, getD}
-use borrow.Author.Tests.{lt-ltb, le-ltb, not-true, not-false}
-use Rattle.model.specs.Module.{Module, countAt}
+use lib.ListN.{getD}
+use borrow.Author.Tests.{lt-ltb, le-ltb, not-false}
+use Rattle.model.specs.Module.{countAt}
 use Rattle.model.specs.Tables.{Tab, names, types, isT, codeT, at, Tables, tables, count, mapAt}
-use Rattle.model.specs.Imports.{St, importT, renamed, emptied}
-use Rattle.model.specs.Refusals.{NO-RECORD, NO-SOURCE, FULL}
+use Rattle.model.specs.Imports.{St, importT, renamed}
+use Rattle.model.specs.Refusals.{NO-RECORD, NO-SOURCE}
 use Rattle.model.specs.Session.{Source, Session, Answer, answered, refused, after, needing, kept, importing, renameType}
 use Rattle.sessions.specs.Operating.{Operation, imports, renames, does}
 use Rattle.limits.specs.Reached.{Public, Reached, does-reached, At, at-source, import-at, rename-at}
 use Rattle.limits.specs.Theorems.{exact-at, kept-full, kept-room, kept-not-over}
 use Rattle.state.specs.Refers.{tabOf}
 use Rattle.state.specs.Source.{modOf, srcOf, Source as Held}
-use Rattle.state.specs.Held.{recsOf, stOf, Kept, Whole}
+use Rattle.state.specs.Held.{stOf, Kept, Whole}
 use Rattle.state.specs.declared.Ends.{Ends}
 use Rattle.state.proofs.State.{tab-long}
 use Rattle.state.proofs.Laws.{none-held}
-use Rattle.import.proofs.Sources.{count-is, count-few}
+use Rattle.import.proofs.Sources.{count-is}
 use Rattle.import.proofs.Growth.{Grow, grow-T}
 use Rattle.whole.specs.Taken.{Answers}
 use Rattle.sourcing.proofs.Deriving.{specials-more}

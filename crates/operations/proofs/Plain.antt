@@ -3,16 +3,16 @@ use mathlib.Core.Path.{_≡_, refl, sym, ap, ap₂, _∙_}
 use mathlib.Core.Logic.{_⊎_, ⊎-elim}
 use mathlib.Core.Bool.{Bool, true, false, not, _||_, false≢true}
 use mathlib.Core.List.{List}
-use Prim.Native.Nat.{ℕ, zero, suc, _+_, _%_, _^_, _≤_, _<_}
+use Prim.Native.Nat.{ℕ, zero, suc, _+_, _%_, _^_, _<_}
 use native.Mathlib.Omega.{arith}
-use lib.Dec.{eqb, ltb}
-use lib.ListN.{length, getD}
+use lib.Dec.{ltb}
+use lib.ListN.{getD}
 use borrow.Author.Tests.{eq-eqb, ne-eqb, lt-ltb, le-ltb, not-true, not-false}
 use Rattle.model.specs.Imports.{emptied}
 use Rattle.model.specs.References.{undefined, add, spanBy}
 use Rattle.model.specs.Session.{Session, Answer, answered, refused, anyRay, hasRequiredSpecialTypes}
 use Rattle.model.specs.Steps.{bit}
-use Rattle.state.specs.Flats.{pairsAt, specialOf}
+use Rattle.state.specs.Flats.{specialOf}
 use Rattle.state.specs.Held.{stOf}
 use Rattle.state.specs.declared.Ends.{Ends}
 use Rattle.state.proofs.State.{pairs-long}

@@ -4,17 +4,16 @@ use mathlib.Core.Path.{_≡_, refl, sym, ap, _∙_, subst}
 use mathlib.Core.Bool.{Bool, true, false}
 use mathlib.Core.List.{List, []}
 use mathlib.Core.Option.{none, some}
-use Prim.Native.Nat.{ℕ, zero, suc, _<_}
+use Prim.Native.Nat.{ℕ, suc}
 use native.Mathlib.Omega.{arith}
 use lib.ListN.{length}
 use Rattle.words.specs.Words.{wordsOf}
-use Rattle.model.specs.Outcome.{Laid, laid}
+use Rattle.model.specs.Outcome.{laid}
 use Rattle.model.specs.Module.{Module, read}
 use Rattle.model.specs.Taped.{Taped}
 use Rattle.model.specs.Intake.{Passes, intakeOf}
 use Rattle.model.specs.Tables.{six}
 use Rattle.model.specs.Imports.{St, emptied}
-use Rattle.model.specs.Refusals.{FULL}
 use Rattle.model.specs.Session.{Session, Answer, answered, refused, after, setting, set as setOf}
 use Rattle.sessions.specs.Operating.{sets, does}
 use Rattle.limits.specs.Reached.{Public, Reached, does-reached}

@@ -182,7 +182,7 @@ pub fn import(
             ends: ends,
         };
     }
-    let got = import_record(
+    let imported = import_record(
         words,
         tags,
         kinds,
@@ -197,7 +197,7 @@ pub fn import(
         t,
         h,
     );
-    if got.full {
+    if imported.full {
         return Said {
             refusal: FULL,
             value: 0,
@@ -208,7 +208,7 @@ pub fn import(
     Said {
         refusal: 0,
         value: v,
-        ends: got,
+        ends: imported,
     }
 }
 
@@ -255,7 +255,7 @@ pub fn rename_type(
             ends: ends,
         };
     }
-    let got = whole::rename_type(
+    let renamed = whole::rename_type(
         words,
         tags,
         kinds,
@@ -270,7 +270,7 @@ pub fn rename_type(
         TypeHandle(h),
         name,
     );
-    if got.full {
+    if renamed.full {
         return Said {
             refusal: FULL,
             value: 0,
@@ -281,7 +281,7 @@ pub fn rename_type(
     Said {
         refusal: 0,
         value: v,
-        ends: got,
+        ends: renamed,
     }
 }
 

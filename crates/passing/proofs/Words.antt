@@ -98,7 +98,7 @@ pub compared-as : (tags words : List ℕ) (i end x : ℕ) → optional x [] ≡ 
 compared-as tags words i end x e = rw (add-one i) at e
 
 -- and that is an expression of the function
-abbrev Lows : ℕ → List ℕ → Type 0
+abbrev pub Lows : ℕ → List ℕ → Type 0
 Lows k [] = Unit {0}
 Lows k (e ∷ es) = (e < k) × Lows k es
 
@@ -117,7 +117,7 @@ module _ (words : List ℕ) (k : ℕ) where
       go true e = opt-low (class c) (word c) cs (eqb-true (class c) OPT-EXPR e) a
       go false e = tt
 
-  compares-lows : (cs : Cells) → All (FitN words k) (refs cs) → Lows k (comparesOf cs)
+  pub compares-lows : (cs : Cells) → All (FitN words k) (refs cs) → Lows k (comparesOf cs)
   unfolding comparesOf refs
   compares-lows [] a = tt
   compares-lows (c ∷ cs) a = let b = rest-of (FitN words k) (target (class c)) (word c) (refs cs) a in go (eqb (class c) ATOMIC) b (compares-lows cs b)

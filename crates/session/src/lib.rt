@@ -173,7 +173,7 @@ fn entries_step(
     log: &mut [u32; 16384],
     classes: &mut [u8; 16384],
     starts: &[[u32; 512]; 8],
-    maps: &[[u32; 512]; 6],
+    maps: &mut [[u32; 512]; 6],
     marks: &mut [u16; 16384],
     special: &mut [u32; 1027],
     stacks: &mut [[u32; 16384]; 4],
@@ -186,8 +186,8 @@ fn entries_step(
 ) -> Step
     requires { ⌜ Live set n offset (now words) (now tags) (now kinds) (now log) (now classes) (now starts) (now maps) (now marks) (now special) ends ⌝ }
     requires { ⌜ Stacks (now stacks) ends ⌝ }
-    ensures { λ r. ⌜ Wrote 14 (o .a) (o .b) (o .c) (sessionOf set n offset (now (words .entry)) (now (log .entry)) (now (classes .entry)) (now (starts .entry)) (now (maps .entry)) (now (special .entry)) ends) (r .refusal) (r .first) (r .second) (now (output .entry)) (now (output .exit)) (sessionOf (r .set) (r .n) (r .offset) (now (words .entry)) (now (log .exit)) (now (classes .exit)) (now (starts .entry)) (now (maps .entry)) (now (special .exit)) (r .ends)) ⌝ }
-    ensures { λ r. ⌜ Live (r .set) (r .n) (r .offset) (now (words .entry)) (now (tags .entry)) (now (kinds .entry)) (now (log .exit)) (now (classes .exit)) (now (starts .entry)) (now (maps .entry)) (now (marks .exit)) (now (special .exit)) (r .ends) ⌝ }
+    ensures { λ r. ⌜ Wrote 14 (o .a) (o .b) (o .c) (sessionOf set n offset (now (words .entry)) (now (log .entry)) (now (classes .entry)) (now (starts .entry)) (now (maps .entry)) (now (special .entry)) ends) (r .refusal) (r .first) (r .second) (now (output .entry)) (now (output .exit)) (sessionOf (r .set) (r .n) (r .offset) (now (words .entry)) (now (log .exit)) (now (classes .exit)) (now (starts .entry)) (now (maps .exit)) (now (special .exit)) (r .ends)) ⌝ }
+    ensures { λ r. ⌜ Live (r .set) (r .n) (r .offset) (now (words .entry)) (now (tags .entry)) (now (kinds .entry)) (now (log .exit)) (now (classes .exit)) (now (starts .entry)) (now (maps .exit)) (now (marks .exit)) (now (special .exit)) (r .ends) ⌝ }
     ensures { λ r. ⌜ Stacks (now (stacks .exit)) (r .ends) ⌝ }
 {
     let from = least(wide(o.a), output.len());

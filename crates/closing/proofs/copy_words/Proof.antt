@@ -1,12 +1,11 @@
-use Prim.Native.Nat.{_+_, _*_, _-_}
+-- `copy_words` meets its contract: what is left to copy from here is the whole. Assumes nothing.
+use Prim.Native.Nat.{_-_}
 use native.Mathlib.Omega.{arith}
 use borrow.Author.Needs.{needs}
 use Rattle.state.specs.Held.{row}
 use Rattle.closing.proofs.Copying.{Copying, copying-begin, copying-next, copying-done}
 use Rattle.closing.proofs.copy_words.Statement.{statement}
 use Rattle.closing.proofs.copy_words.Tie as tie
-use Rattle.closing.proofs.copy_words.Reads as reads
-use Rattle.closing.proofs.copy_words.Lts as lts
 
 abbrev Inv-loop : tie.InvT-loop
 Inv-loop stacks t a count log₀ p i₀ log i = Copying (row stacks t) a count log₀ p log i
@@ -14,55 +13,42 @@ Inv-loop stacks t a count log₀ p i₀ log i = Copying (row stacks t) a count l
 abbrev μ-loop : tie.MeasureT-loop
 μ-loop stacks t a count log₀ p i₀ log i = count - i
 
--- src/lib.rt:142:5
 loop-holds : tie.Need-loop-holds Inv-loop μ-loop
 loop-holds c = search (copying-begin, needs)
 
--- src/lib.rt:144:9
 add-i : tie.Need-add-i Inv-loop μ-loop
 add-i c = search needs
 
--- src/lib.rt:145:32
 add-log : tie.Need-add-log Inv-loop μ-loop
 add-log c = search needs
 
--- src/lib.rt:145:22
 mul-log : tie.Need-mul-log Inv-loop μ-loop
 mul-log c = search needs
 
--- src/lib.rt:145:22
 mul-log-2 : tie.Need-mul-log-2 Inv-loop μ-loop
 mul-log-2 c = search needs
 
--- src/lib.rt:145:22
 index-1-log : tie.Need-index-1-log Inv-loop μ-loop
 index-1-log c = search needs
 
--- src/lib.rt:145:22
 index-2-log : tie.Need-index-2-log Inv-loop μ-loop
 index-2-log c = search needs
 
--- src/lib.rt:145:13
 add-log-2 : tie.Need-add-log-2 Inv-loop μ-loop
 add-log-2 c = search needs
 
--- src/lib.rt:145:9
 mul-log-3 : tie.Need-mul-log-3 Inv-loop μ-loop
 mul-log-3 c = search needs
 
--- src/lib.rt:145:9
 element-write-log : tie.Need-element-write-log Inv-loop μ-loop
 element-write-log c = search needs
 
--- src/lib.rt:142:5
 loop-less : tie.Need-loop-less Inv-loop μ-loop
 loop-less c = search needs
 
--- src/lib.rt:142:5
 loop-again : tie.Need-loop-again Inv-loop μ-loop
 loop-again c = let b = c .before .before in let s = b .before in let x = s .args in copying-next (row (x .stacks .now) (x .t)) (x .a) (x .count) (x .log .now) (x .p) (b .loop .log) (b .loop .i) (b .loop .inv) (omega (arith, s .pre)) (c .before .loop-test .taken)
 
--- src/lib.rt:130:1
 returns : tie.Need-returns Inv-loop μ-loop
 returns c = search (copying-done, needs)
 

@@ -1,3 +1,4 @@
+-- `operations::finish_plain` meets its contract. Assumes nothing.
 use borrow.Author.Needs.{needs}
 use Rattle.operations.proofs.Finishing.{finish-refused, finish-done}
 use Rattle.operations.proofs.finish_plain.Statement.{statement}
@@ -8,46 +9,36 @@ use Rattle.ending.proofs.finish.Reads as finish-reads
 use Rattle.state.proofs.forget.Reads as forget-reads
 use Rattle.state.proofs.nothing.Reads as nothing-reads
 
--- src/lib.rt:448:9
 finish-requires : tie.Need-finish-requires
 finish-requires c κs = search needs
 
--- src/lib.rt:450:9
 same-length : tie.Need-same-length
 same-length c = search needs
 
--- src/lib.rt:450:9
 returns : tie.Need-returns
 returns c =
     let st = c .before .before .before .before .before .before .before .before in
     let a = st .args in
     finish-refused (a .set) (a .n) (a .offset) (a .words .now) (a .tags .now) (a .kinds .now) (a .log .now) (a .classes .now) (a .starts .now) (a .maps .now) (a .marks .now) (a .special .now) (a .ends) (st .pre) (a .output .now) _ _ _ (c .before .before .before .before .finish .ensures) (c .if1 .taken)
 
--- src/lib.rt:457:5
 forget-requires : tie.Need-forget-requires
 forget-requires c κs = search needs
 
--- src/lib.rt:458:5
 element-write-special : tie.Need-element-write-special
 element-write-special c = search needs
 
--- src/lib.rt:459:5
 element-write-special-2 : tie.Need-element-write-special-2
 element-write-special-2 c = search needs
 
--- src/lib.rt:460:5
 element-write-special-3 : tie.Need-element-write-special-3
 element-write-special-3 c = search needs
 
--- src/lib.rt:465:15
 nothing-requires : tie.Need-nothing-requires
 nothing-requires c κs = search needs
 
--- src/lib.rt:428:1
 same-length-2 : tie.Need-same-length-2
 same-length-2 c = search needs
 
--- src/lib.rt:428:1
 returns-2 : tie.Need-returns-2
 returns-2 c =
     let st = c .before .before .before .before .before .before .before .before .before .before .before in

@@ -1,3 +1,4 @@
+-- `operations::import` meets its contract. Assumes nothing.
 use borrow.Author.Needs.{needs}
 use Rattle.state.specs.Refers.{tabOf}
 use Rattle.import.proofs.Sources.{small-number}
@@ -11,50 +12,42 @@ use Rattle.views.proofs.count.Reads as count-reads
 use Rattle.whole.proofs.handle.Reads as handle-reads
 use Rattle.words.proofs.wide.Reads as wide-reads
 
--- src/lib.rt:172:9
 returns : tie.Need-returns
 returns c =
     let st = c .before in
     let a = st .args in
     import-unset (a .n) (a .offset) (a .words .now) (a .tags .now) (a .kinds .now) (a .log .now) (a .classes .now) (a .starts .now) (a .maps .now) (a .marks .now) (a .special .now) (a .ends) (tabOf (a .t)) (a .h) (a .set) (st .pre .1) (c .if1 .taken)
 
--- src/lib.rt:178:8
 count-requires : tie.Need-count-requires
 count-requires c κs = search needs
 
--- src/lib.rt:178:27
 wide-requires : tie.Need-wide-requires
 wide-requires c κs = search needs
 
--- src/lib.rt:179:9
 returns-2 : tie.Need-returns-2
 returns-2 c =
     let st = c .before .before .before .before in
     let a = st .args in
     import-none (a .n) (a .offset) (a .words .now) (a .tags .now) (a .kinds .now) (a .log .now) (a .classes .now) (a .starts .now) (a .maps .now) (a .marks .now) (a .special .now) (a .ends) (a .set) (st .pre .1) (c .before .before .before .if1 .left) (a .t) (a .h) (st .pre .0 .1) _ _ (c .before .before .count .ensures .0) (c .before .wide .ensures .0) (c .if2 .taken)
 
--- src/lib.rt:185:9
 import-record-requires : tie.Need-import-record-requires
 import-record-requires c κs =
     let st = c .before .before .before .before .before .before .before .before .before in
     let a = st .args in
     (source-held (a .n) (a .offset) (a .words .now) (a .tags .now) (a .kinds .now) (a .log .now) (a .classes .now) (a .starts .now) (a .maps .now) (a .marks .now) (a .special .now) (a .ends) (a .set) (st .pre .1) (c .before .before .before .before .before .before .before .before .if1 .left), ((st .pre .0 .0, st .pre .0 .1, (below (c .before .before .before .before .before .before .before .count .ensures .0) (c .before .before .before .before .before .before .wide .ensures .0) (c .before .before .before .before .before .if2 .left)), st .pre .1 .going), (st .pre .1 .kinds-are, st .pre .1 .kept)))
 
--- src/lib.rt:201:9
 returns-3 : tie.Need-returns-3
 returns-3 c =
     let st = c .before .before .before .before .before .before .before .before .before .before .before in
     let a = st .args in
     import-full (a .n) (a .offset) (a .words .now) (a .tags .now) (a .kinds .now) (a .log .now) (a .classes .now) (a .starts .now) (a .maps .now) (a .marks .now) (a .special .now) (a .ends) (a .t) (a .h) (st .pre .0 .0) (st .pre .0 .1) _ _ _ _ _ _ (a .set) (st .pre .1) (c .before .before .before .before .before .before .before .before .before .before .if1 .left) (below (c .before .before .before .before .before .before .before .before .before .count .ensures .0) (c .before .before .before .before .before .before .before .before .wide .ensures .0) (c .before .before .before .before .before .before .before .if2 .left)) (c .before .import-record .ensures) (c .if3 .taken)
 
--- src/lib.rt:207:9
 handle-requires : tie.Need-handle-requires
 handle-requires c κs =
     let st = c .before .before .before .before .before .before .before .before .before .before .before .before in
     let a = st .args in
     (st .pre .0 .1, small-number (a .words .now) (a .tags .now) (a .n) (source-held (a .n) (a .offset) (a .words .now) (a .tags .now) (a .kinds .now) (a .log .now) (a .classes .now) (a .starts .now) (a .maps .now) (a .marks .now) (a .special .now) (a .ends) (a .set) (st .pre .1) (c .before .before .before .before .before .before .before .before .before .before .before .if1 .left)) (a .t) (a .h) (st .pre .0 .1) (below (c .before .before .before .before .before .before .before .before .before .before .count .ensures .0) (c .before .before .before .before .before .before .before .before .before .wide .ensures .0) (c .before .before .before .before .before .before .before .before .if2 .left)))
 
--- src/lib.rt:149:1
 returns-4 : tie.Need-returns-4
 returns-4 c =
     let st = c .before .before .before .before .before .before .before .before .before .before .before .before .before in

@@ -1,3 +1,4 @@
+-- `operations::import_record` meets its contract. Assumes nothing.
 use Rattle.state.specs.Refers.{tabOf}
 use Rattle.state.specs.Source.{srcOf}
 use Rattle.operations.proofs.Importing.{in-table, of-table, fifth}
@@ -11,7 +12,6 @@ use Rattle.whole.proofs.import_global_expression.Reads as import-global-express
 use Rattle.whole.proofs.import_pipeline_override.Reads as import-pipeline-override-reads
 use Rattle.whole.proofs.import_type.Reads as import-type-reads
 
--- src/lib.rt:69:9
 import-type-requires : tie.Need-import-type-requires
 import-type-requires c κs =
     let st = c .before .before .before .before .before .before in
@@ -19,13 +19,11 @@ import-type-requires c κs =
     let p = st .pre in
     (p .0, ((in-table (a .t) 1 (c .before .before .before .before .before .if1 .taken) (a .words .now) (a .h) (p .1 .0 .2), p .1 .0 .3), (p .1 .1 .0, p .1 .1 .1)))
 
--- src/lib.rt:69:9
 returns : tie.Need-returns
 returns c =
     let a = c .before .before .before .before .before .before .before .args in
     unfold tabOf in of-table (a .t) 1 (c .before .before .before .before .before .before .if1 .taken) (a .offset) (srcOf (a .words .now) (a .n)) (a .h) (c .import-type .ensures)
 
--- src/lib.rt:85:9
 import-const-requires : tie.Need-import-const-requires
 import-const-requires c κs =
     let st = c .before .before .before .before .before .before .before in
@@ -33,13 +31,11 @@ import-const-requires c κs =
     let p = st .pre in
     (p .0, ((in-table (a .t) 2 (c .before .before .before .before .before .if2 .taken) (a .words .now) (a .h) (p .1 .0 .2), p .1 .0 .3), (p .1 .1 .0, p .1 .1 .1)))
 
--- src/lib.rt:85:9
 returns-2 : tie.Need-returns-2
 returns-2 c =
     let a = c .before .before .before .before .before .before .before .before .args in
     unfold tabOf in of-table (a .t) 2 (c .before .before .before .before .before .before .if2 .taken) (a .offset) (srcOf (a .words .now) (a .n)) (a .h) (c .import-const .ensures)
 
--- src/lib.rt:101:9
 import-pipeline-override-requires : tie.Need-import-pipeline-override-requires
 import-pipeline-override-requires c κs =
     let st = c .before .before .before .before .before .before .before .before in
@@ -47,13 +43,11 @@ import-pipeline-override-requires c κs =
     let p = st .pre in
     (p .0, ((in-table (a .t) 3 (c .before .before .before .before .before .if3 .taken) (a .words .now) (a .h) (p .1 .0 .2), p .1 .0 .3), (p .1 .1 .0, p .1 .1 .1)))
 
--- src/lib.rt:101:9
 returns-3 : tie.Need-returns-3
 returns-3 c =
     let a = c .before .before .before .before .before .before .before .before .before .args in
     unfold tabOf in of-table (a .t) 3 (c .before .before .before .before .before .before .if3 .taken) (a .offset) (srcOf (a .words .now) (a .n)) (a .h) (c .import-pipeline-override .ensures)
 
--- src/lib.rt:117:9
 import-global-requires : tie.Need-import-global-requires
 import-global-requires c κs =
     let st = c .before .before .before .before .before .before .before .before .before in
@@ -61,13 +55,11 @@ import-global-requires c κs =
     let p = st .pre in
     (p .0, ((in-table (a .t) 4 (c .before .before .before .before .before .if4 .taken) (a .words .now) (a .h) (p .1 .0 .2), p .1 .0 .3), (p .1 .1 .0, p .1 .1 .1)))
 
--- src/lib.rt:117:9
 returns-4 : tie.Need-returns-4
 returns-4 c =
     let a = c .before .before .before .before .before .before .before .before .before .before .args in
     unfold tabOf in of-table (a .t) 4 (c .before .before .before .before .before .before .if4 .taken) (a .offset) (srcOf (a .words .now) (a .n)) (a .h) (c .import-global .ensures)
 
--- src/lib.rt:132:5
 import-global-expression-requires : tie.Need-import-global-expression-requires
 import-global-expression-requires c κs =
     let st = c .before .before .before .before .before .before .before .before .before in
@@ -75,7 +67,6 @@ import-global-expression-requires c κs =
     let p = st .pre in
     (p .0, ((in-table (a .t) 5 (fifth (c .before .before .before .before .before .before .before .before .before .args .t) (c .before .before .before .before .before .before .before .before .before .pre .1 .0 .0) (c .before .before .before .before .before .before .before .before .before .pre .1 .0 .1) (c .before .before .before .before .before .before .before .before .if1 .left) (c .before .before .before .before .before .before .before .if2 .left) (c .before .before .before .before .before .before .if3 .left) (c .before .before .before .before .before .if4 .left)) (a .words .now) (a .h) (p .1 .0 .2), p .1 .0 .3), (p .1 .1 .0, p .1 .1 .1)))
 
--- src/lib.rt:47:1
 returns-5 : tie.Need-returns-5
 returns-5 c =
     let a = c .before .before .before .before .before .before .before .before .before .before .args in

@@ -1,3 +1,4 @@
+-- `operations::map_span` meets its contract. Assumes nothing.
 use mathlib.Core.Logic.{inl, inr, ⊎-elim}
 use borrow.Author.Needs.{needs}
 use Rattle.operations.proofs.Plain.{span-none, span-undefined, span-moved}
@@ -7,23 +8,18 @@ use Rattle.operations.proofs.map_span.Reads as reads
 use Rattle.operations.proofs.map_span.Lts as lts
 use Rattle.std.proofs.num.wrapping_add_u32.Reads as wrapping-add-u32-reads
 
--- src/lib.rt:300:9
 returns : tie.Need-returns
 returns c = let a = c .before .args in span-none (a .set) (a .offset) (a .a) (a .b) (c .if1 .taken)
 
--- src/lib.rt:308:13
 returns-2 : tie.Need-returns-2
 returns-2 c = let a = c .before .before .before .args in span-undefined (a .set) (a .offset) (a .a) (a .b) (c .before .before .if1 .left) (c .before .if2 .taken) (c .if3 .taken)
 
--- src/lib.rt:317:16
 wrapping-add-u32-requires : tie.Need-wrapping-add-u32-requires
 wrapping-add-u32-requires c κs = search needs
 
--- src/lib.rt:318:14
 wrapping-add-u32-requires-2 : tie.Need-wrapping-add-u32-requires-2
 wrapping-add-u32-requires-2 c κs = search needs
 
--- src/lib.rt:296:1
 returns-3 : tie.Need-returns-3
 returns-3 c =
     let a = c .before .before .before .before .args in

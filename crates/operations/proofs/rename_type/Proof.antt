@@ -1,3 +1,4 @@
+-- `operations::rename_type` meets its contract. Assumes nothing.
 use borrow.Author.Needs.{needs}
 use native.Mathlib.Omega.{arith}
 use Rattle.import.proofs.Sources.{small-number}
@@ -11,58 +12,48 @@ use Rattle.whole.proofs.handle.Reads as handle-reads
 use Rattle.whole.proofs.rename_type.Reads as rename-type-reads
 use Rattle.words.proofs.wide.Reads as wide-reads
 
--- src/lib.rt:238:9
 returns : tie.Need-returns
 returns c =
     let st = c .before in
     let a = st .args in
     rename-unset (a .n) (a .offset) (a .words .now) (a .tags .now) (a .kinds .now) (a .log .now) (a .classes .now) (a .starts .now) (a .maps .now) (a .marks .now) (a .special .now) (a .ends) (a .h) (a .name) (a .set) (st .pre) (c .if1 .taken)
 
--- src/lib.rt:244:8
 count-requires : tie.Need-count-requires
 count-requires c κs = search needs
 
--- src/lib.rt:244:31
 wide-requires : tie.Need-wide-requires
 wide-requires c κs = search needs
 
--- src/lib.rt:245:9
 returns-2 : tie.Need-returns-2
 returns-2 c =
     let st = c .before .before .before .before in
     let a = st .args in
     rename-none (a .n) (a .offset) (a .words .now) (a .tags .now) (a .kinds .now) (a .log .now) (a .classes .now) (a .starts .now) (a .maps .now) (a .marks .now) (a .special .now) (a .ends) (a .set) (st .pre) (c .before .before .before .if1 .left) (a .h) (a .name) _ _ (c .before .before .count .ensures .0) (c .before .wide .ensures .0) (c .if2 .taken)
 
--- src/lib.rt:251:8
 count-requires-2 : tie.Need-count-requires-2
 count-requires-2 c κs = search needs
 
--- src/lib.rt:251:31
 wide-requires-2 : tie.Need-wide-requires-2
 wide-requires-2 c κs = search needs
 
--- src/lib.rt:252:9
 returns-3 : tie.Need-returns-3
 returns-3 c =
     let st = c .before .before .before .before .before .before .before in
     let a = st .args in
     rename-no-name (a .n) (a .offset) (a .words .now) (a .tags .now) (a .kinds .now) (a .log .now) (a .classes .now) (a .starts .now) (a .maps .now) (a .marks .now) (a .special .now) (a .ends) (a .set) (st .pre) (c .before .before .before .before .before .before .if1 .left) (a .h) (a .name) (below (c .before .before .before .before .before .count .ensures .0) (c .before .before .before .before .wide .ensures .0) (c .before .before .before .if2 .left)) _ _ (c .before .before .count2 .ensures .0) (c .before .wide2 .ensures .0) (c .if3 .taken)
 
--- src/lib.rt:258:9
 rename-type-requires : tie.Need-rename-type-requires
 rename-type-requires c κs =
     let st = c .before .before .before .before .before .before .before .before .before .before .before .before in
     let a = st .args in
     (source-held (a .n) (a .offset) (a .words .now) (a .tags .now) (a .kinds .now) (a .log .now) (a .classes .now) (a .starts .now) (a .maps .now) (a .marks .now) (a .special .now) (a .ends) (a .set) (st .pre) (c .before .before .before .before .before .before .before .before .before .before .before .if1 .left), (((below (c .before .before .before .before .before .before .before .before .before .before .count .ensures .0) (c .before .before .before .before .before .before .before .before .before .wide .ensures .0) (c .before .before .before .before .before .before .before .before .if2 .left)), (below (c .before .before .before .before .before .before .before .count2 .ensures .0) (c .before .before .before .before .before .before .wide2 .ensures .0) (c .before .before .before .before .before .if3 .left)), st .pre .going), (st .pre .kinds-are, st .pre .kept)))
 
--- src/lib.rt:274:9
 returns-4 : tie.Need-returns-4
 returns-4 c =
     let st = c .before .before .before .before .before .before .before .before .before .before .before .before .before .before in
     let a = st .args in
     rename-full (a .n) (a .offset) (a .words .now) (a .tags .now) (a .kinds .now) (a .log .now) (a .classes .now) (a .starts .now) (a .maps .now) (a .marks .now) (a .special .now) (a .ends) (a .h) (a .name) _ _ _ _ _ _ (a .set) (st .pre) (c .before .before .before .before .before .before .before .before .before .before .before .before .before .if1 .left) (below (c .before .before .before .before .before .before .before .before .before .before .before .before .count .ensures .0) (c .before .before .before .before .before .before .before .before .before .before .before .wide .ensures .0) (c .before .before .before .before .before .before .before .before .before .before .if2 .left)) (below (c .before .before .before .before .before .before .before .before .before .count2 .ensures .0) (c .before .before .before .before .before .before .before .before .wide2 .ensures .0) (c .before .before .before .before .before .before .before .if3 .left)) (c .before .rename-type .ensures) (c .if4 .taken)
 
--- src/lib.rt:280:9
 handle-requires : tie.Need-handle-requires
 handle-requires c κs =
     let st = c .before .before .before .before .before .before .before .before .before .before .before .before .before .before .before in
@@ -70,7 +61,6 @@ handle-requires c κs =
     let l = small-number (a .words .now) (a .tags .now) (a .n) (source-held (a .n) (a .offset) (a .words .now) (a .tags .now) (a .kinds .now) (a .log .now) (a .classes .now) (a .starts .now) (a .maps .now) (a .marks .now) (a .special .now) (a .ends) (a .set) (st .pre) (c .before .before .before .before .before .before .before .before .before .before .before .before .before .before .if1 .left)) 1 (a .h) (omega arith) (below (c .before .before .before .before .before .before .before .before .before .before .before .before .before .count .ensures .0) (c .before .before .before .before .before .before .before .before .before .before .before .before .wide .ensures .0) (c .before .before .before .before .before .before .before .before .before .before .before .if2 .left)) in
     (omega arith, l)
 
--- src/lib.rt:216:1
 returns-5 : tie.Need-returns-5
 returns-5 c =
     let st = c .before .before .before .before .before .before .before .before .before .before .before .before .before .before .before .before in

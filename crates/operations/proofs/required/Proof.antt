@@ -1,3 +1,4 @@
+-- `operations::required` meets its contract. Assumes nothing.
 use borrow.Author.Needs.{needs}
 use Rattle.operations.proofs.Plain.{by-pairs, by-first, by-second, by-third, by-none}
 use Rattle.operations.proofs.required.Statement.{statement}
@@ -5,35 +6,27 @@ use Rattle.operations.proofs.required.Tie as tie
 use Rattle.operations.proofs.required.Reads as reads
 use Rattle.operations.proofs.required.Lts as lts
 
--- src/lib.rt:328:9
 returns : tie.Need-returns
 returns c = let a = c .before .before .args in by-pairs (a .special .now) (a .ends) (c .if1 .taken)
 
--- src/lib.rt:330:8
 element-copy-out-if2 : tie.Need-element-copy-out-if2
 element-copy-out-if2 c = search needs
 
--- src/lib.rt:331:9
 returns-2 : tie.Need-returns-2
 returns-2 c = let a = c .before .before .before .before .args in by-first (a .special .now) (a .ends) (c .before .before .if1 .left) (c .if2 .taken)
 
--- src/lib.rt:333:8
 element-copy-out-if3 : tie.Need-element-copy-out-if3
 element-copy-out-if3 c = search needs
 
--- src/lib.rt:334:9
 returns-3 : tie.Need-returns-3
 returns-3 c = let a = c .before .before .before .before .before .before .args in by-second (a .special .now) (a .ends) (c .before .before .before .before .if1 .left) (c .before .before .if2 .left) (c .if3 .taken)
 
--- src/lib.rt:336:8
 element-copy-out-if4 : tie.Need-element-copy-out-if4
 element-copy-out-if4 c = search needs
 
--- src/lib.rt:337:9
 returns-4 : tie.Need-returns-4
 returns-4 c = let a = c .before .before .before .before .before .before .before .before .args in by-third (a .special .now) (a .ends) (c .before .before .before .before .before .before .if1 .left) (c .before .before .before .before .if2 .left) (c .before .before .if3 .left) (c .if4 .taken)
 
--- src/lib.rt:323:1
 returns-5 : tie.Need-returns-5
 returns-5 c = let a = c .before .before .before .before .before .before .before .before .args in by-none (a .special .now) (a .ends) (c .before .before .before .before .before .before .if1 .left) (c .before .before .before .before .if2 .left) (c .before .before .if3 .left) (c .if4 .left)
 

@@ -1,3 +1,4 @@
+-- `operations::set_source_of` meets its contract. Assumes nothing.
 use borrow.Author.Needs.{needs}
 use Rattle.operations.proofs.Setting.{accepted-source, set-refused, set-not, set-so}
 use Rattle.operations.proofs.set_source_of.Statement.{statement}
@@ -10,48 +11,39 @@ use Rattle.intake.proofs.number.Reads as number-reads
 use Rattle.intake.proofs.take_in.Reads as take-in-reads
 use Rattle.sourcing.proofs.set_source.Reads as set-source-reads
 
--- src/lib.rt:373:17
 fresh-words-requires : tie.Need-fresh-words-requires
 fresh-words-requires c κs = search needs
 
--- src/lib.rt:374:17
 fresh-tags-requires : tie.Need-fresh-tags-requires
 fresh-tags-requires c κs = search needs
 
--- src/lib.rt:375:9
 take-in-requires : tie.Need-take-in-requires
 take-in-requires c κs = search needs
 
--- src/lib.rt:376:28
 enum-known-taken : tie.Need-enum-known-taken
 enum-known-taken c = search needs
 
--- src/lib.rt:377:13
 set-source-requires : tie.Need-set-source-requires
 set-source-requires c κs =
     let st = c .before .before .before .before .before .before .before .before .before .before .before .before .before .before .before .before .before in
     let a = st .args in
     (accepted-source (a .image .now) (c .before .before .before .before .before .before .before .before .before .before .before .take-in .last .1 .0) (c .before .before .before .before .before .before .before .before .before .before .before .take-in .last .1 .1 .0) (c .before .before .before .before .before .before .before .before .before .before .before .take-in .result) (c .before .before .before .before .before .before .before .before .before .before .before .take-in .ensures) (c .before .before .before .before .before .before .before .before .before .taken .given .0 .0) (search needs), (st .pre .going, (st .pre .kinds-are, (st .pre .kept, st .pre .specials))))
 
--- src/lib.rt:392:13
 returns : tie.Need-returns
 returns c =
     let st = c .before .before .before .before .before .before .before .before .before .before .before .before .before .before .before .before .before .before .before in
     let a = st .args in
     set-not (a .image .now) (c .before .before .before .before .before .before .before .before .before .before .before .before .before .take-in .last .1 .0) (c .before .before .before .before .before .before .before .before .before .before .before .before .before .take-in .last .1 .1 .0) (c .before .before .before .before .before .before .before .before .before .before .before .before .before .take-in .result) (c .before .before .before .before .before .before .before .before .before .before .before .before .before .take-in .ensures) (a .set) (a .n) (a .offset) (a .words .now) (a .tags .now) (a .kinds .now) (a .log .now) (a .classes .now) (a .starts .now) (a .maps .now) (a .marks .now) (a .special .now) (a .ends) (st .pre) (a .o) (c .before .before .before .before .before .before .before .before .before .before .before .taken .given .0 .0) (c .before .before .before .before .before .before .before .before .before .before .before .taken .given .1) _ _ _ _ _ _ _ (c .before .set-source .ensures) (c .if1 .taken)
 
--- src/lib.rt:402:9
 returns-2 : tie.Need-returns-2
 returns-2 c =
     let st = c .before .before .before .before .before .before .before .before .before .before .before .before .before .before .before .before .before .before .before in
     let a = st .args in
     set-so (a .image .now) (c .before .before .before .before .before .before .before .before .before .before .before .before .before .take-in .last .1 .0) (c .before .before .before .before .before .before .before .before .before .before .before .before .before .take-in .last .1 .1 .0) (c .before .before .before .before .before .before .before .before .before .before .before .before .before .take-in .result) (c .before .before .before .before .before .before .before .before .before .before .before .before .before .take-in .ensures) (a .set) (a .n) (a .offset) (a .words .now) (a .tags .now) (a .kinds .now) (a .log .now) (a .classes .now) (a .starts .now) (a .maps .now) (a .marks .now) (a .special .now) (a .ends) (st .pre) (a .o) (c .before .before .before .before .before .before .before .before .before .before .before .taken .given .0 .0) (c .before .before .before .before .before .before .before .before .before .before .before .taken .given .1) _ _ _ _ _ _ _ (c .before .set-source .ensures) (c .if1 .left)
 
--- src/lib.rt:411:18
 number-requires : tie.Need-number-requires
 number-requires c κs = search needs
 
--- src/lib.rt:352:1
 returns-3 : tie.Need-returns-3
 returns-3 c =
     let st = c .before .before .before .before .before .before .before .before in

@@ -50,20 +50,20 @@ part-finish-with-entries-end c = search needs
 
 -- src/lib.rt:195:9
 finish-with-entries-requires : tie.Need-finish-with-entries-requires
-finish-with-entries-requires c κs = let st = c .before .before .before .before .before .before .before .before .before .before .before in (st .pre .0, st .pre .1)
+finish-with-entries-requires c κs = let st = c .before .before .before .before .before .before .before .before .before .before .before .before in (st .pre .0, st .pre .1)
 
 -- src/lib.rt:215:16
 cast-t33 : tie.Need-cast-t33
 cast-t33 c =
-    let st = c .before .before .before .before .before .before .before .before .before .before .before .before .before .before .before .before in
+    let st = c .before .before .before .before .before .before .before .before .before .before .before .before .before .before .before .before .before in
     let x = st .args .o in
-    let f = c .before .before .before .before .before .before .before .before .before .before .before .before .before .least in
-    let d = c .before .before .before .before .before .before .before .before .before .before .before .least2 in
+    let f = c .before .before .before .before .before .before .before .before .before .before .before .before .before .before .least in
+    let d = c .before .before .before .before .before .before .before .before .before .before .before .before .least2 in
     let l = st .args .output .now in
-    let hf = f .ensures ∙ ap (λ (n : ℕ). min n (length l)) (c .before .before .before .before .before .before .before .before .before .before .before .before .before .before .wide .ensures .0) in
-    let hd = d .ensures ∙ ap (λ (n : ℕ). min n (length l - f .result)) (c .before .before .before .before .before .before .before .before .before .before .before .before .wide2 .ensures .0) in
+    let hf = f .ensures ∙ ap (λ (n : ℕ). min n (length l)) (c .before .before .before .before .before .before .before .before .before .before .before .before .before .before .before .wide .ensures .0) in
+    let hd = d .ensures ∙ ap (λ (n : ℕ). min n (length l - f .result)) (c .before .before .before .before .before .before .before .before .before .before .before .before .before .wide2 .ensures .0) in
     let e = c .before .before .before .before .finish-with-entries .ensures in
-    let w = c .before .before .before .before .before .before .before .before .before .before .before .before .wide2 .ensures in
+    let w = c .before .before .before .before .before .before .before .before .before .before .before .before .before .wide2 .ensures in
     let h = entries-small (x .a) (x .b) l (f .result) (d .result) (f .result + d .result - f .result) hf hd (omega arith) _ _ _ _ _ (e .0) in
     omega (arith, h, w)
 
@@ -74,13 +74,13 @@ same-length c = search needs
 -- src/lib.rt:169:1
 returns : tie.Need-returns
 returns c =
-    let st = c .before .before .before .before .before .before .before .before .before .before .before .before .before .before .before .before in
+    let st = c .before .before .before .before .before .before .before .before .before .before .before .before .before .before .before .before .before in
     let x = st .args .o in
-    let f = c .before .before .before .before .before .before .before .before .before .before .before .before .before .least in
-    let d = c .before .before .before .before .before .before .before .before .before .before .before .least2 in
+    let f = c .before .before .before .before .before .before .before .before .before .before .before .before .before .before .least in
+    let d = c .before .before .before .before .before .before .before .before .before .before .before .before .least2 in
     let l = st .args .output .now in
-    let hf = f .ensures ∙ ap (λ (n : ℕ). min n (length l)) (c .before .before .before .before .before .before .before .before .before .before .before .before .before .before .wide .ensures .0) in
-    let hd = d .ensures ∙ ap (λ (n : ℕ). min n (length l - f .result)) (c .before .before .before .before .before .before .before .before .before .before .before .before .wide2 .ensures .0) in
+    let hf = f .ensures ∙ ap (λ (n : ℕ). min n (length l)) (c .before .before .before .before .before .before .before .before .before .before .before .before .before .before .before .wide .ensures .0) in
+    let hd = d .ensures ∙ ap (λ (n : ℕ). min n (length l - f .result)) (c .before .before .before .before .before .before .before .before .before .before .before .before .before .wide2 .ensures .0) in
     let e = c .before .before .before .before .finish-with-entries .ensures in
     (entries-wrote (x .a) (x .b) l (f .result) (d .result) (f .result + d .result - f .result) hf hd (omega arith) _ _ _ _ _ (x .c) (e .0), (e .1 .0, e .1 .1))
 
