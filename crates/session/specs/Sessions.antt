@@ -1,0 +1,54 @@
+-- What a step of a session tells and leaves, and what a whole session does, as the model has it (`perform`, `session`). Assumes nothing: these are definitions.
+use mathlib.Core.Path.{_≡_}
+use mathlib.Core.List.{List}
+use Prim.Native.Nat.{ℕ, zero, suc, _+_, _*_, _%_, _^_}
+use lib.ListN.{getD}
+use lib.Seq.{sets}
+use Rattle.words.specs.Words.{bytesOf}
+use Rattle.model.specs.Session.{Session}
+use Rattle.model.specs.Steps.{Said, operations, unknown, perform, session}
+
+-- what step o of the numbers a, b, c says
+abbrev pub saying : ℕ → ℕ → ℕ → ℕ → List ℕ → List ℕ → Session → Said
+saying o = perform (getD operations o unknown)
+
+-- its three words, the output behind it, and the session that the arrays hold then
+pub record Stepped (x : Said) (refusal first second : ℕ) (output₀ output : List ℕ) (behind : Session) : Type 0 where
+  pub refusal-is : refusal ≡ x .refusal
+  pub first-is : first ≡ x .first
+  pub second-is : second ≡ x .second
+  pub output-is : output ≡ sets output₀ (x .at) (bytesOf (x .written))
+  pub session-is : behind ≡ x .session
+
+-- a step that writes nothing
+pub record Quiet (o a b c : ℕ) (sources : List ℕ) (before : Session) (refusal first second : ℕ) (behind : Session) : Type 0 where
+  pub is : (output : List ℕ) → Stepped (saying o a b c sources output before) refusal first second output output behind
+
+-- a step that reads no source
+pub record Wrote (o a b c : ℕ) (before : Session) (refusal first second : ℕ) (output₀ output : List ℕ) (behind : Session) : Type 0 where
+  pub is : (sources : List ℕ) → Stepped (saying o a b c sources output₀ before) refusal first second output₀ output behind
+
+-- a step that does neither
+pub record Recorded (o a b c : ℕ) (before : Session) (refusal value : ℕ) (behind : Session) : Type 0 where
+  pub is : (sources output : List ℕ) → Stepped (saying o a b c sources output before) refusal value 0 output output behind
+
+-- a value, 0 where the step is refused
+unfoldable pub valueOf : ℕ → ℕ → ℕ
+valueOf zero v = v
+valueOf (suc k) v = 0
+
+-- the first of two that is not 0
+unfoldable pub orElse : ℕ → ℕ → ℕ
+orElse zero y = y
+orElse (suc x) y = suc x
+
+-- a refusal in the low half, and the step's number in the high half
+unfoldable pub numbered : ℕ → ℕ → ℕ
+numbered zero i = 0
+numbered (suc k) i = suc k + i % 4294967296 * 4294967296
+
+-- A SESSION: what the model's leaves; the result is of 64 bits
+pub record Sessions (sources steps answers₀ output₀ : List ℕ) (r : ℕ) (answers output : List ℕ) : Type 0 where
+  pub result-is : r ≡ session sources steps answers₀ output₀ .result % 18446744073709551616
+  pub answers-is : answers ≡ session sources steps answers₀ output₀ .answers
+  pub output-is : output ≡ session sources steps answers₀ output₀ .output

@@ -1,0 +1,580 @@
+// A session as a list of steps: one call is given all sources, all steps and the output, and keeps nothing. A step is four words, an operation and its numbers; its
+// answer is three, the refusal and two values. A refused step changes nothing, and the next one follows.
+use functions::finish_with_entries;
+use functions::import_function;
+use functions::map_function_handle;
+use operations::finish_plain;
+use operations::import;
+use operations::map_span;
+use operations::rename_type;
+use operations::required;
+use operations::set_source_of;
+use refusals::NO_RECORD;
+use state::Ends;
+use state::kinds;
+use state::nothing;
+use words::wide;
+ghost use mathlib.Core.Path.{_≡_};
+ghost use Prim.Native.Nat.{ℕ, _≤_, min};
+ghost use lib.ListN.{length, set};
+ghost use Rattle.making.specs.Stacks.{Stacks};
+ghost use Rattle.operations.specs.Live.{sessionOf, Live};
+ghost use Rattle.session.specs.Sessions.{saying, Stepped, Quiet, Wrote, Recorded, valueOf, orElse, numbered, Sessions};
+
+// What a step says, and the session behind it: whether a source is set, its words and its offset, and the ends of the state.
+pub struct Step {
+    pub refusal: u32,
+    pub first: u32,
+    pub second: u32,
+    pub set: bool,
+    pub n: usize,
+    pub offset: u32,
+    pub ends: Ends,
+}
+
+// The numbers of a step.
+pub struct Numbers {
+    pub operation: u32,
+    pub a: u32,
+    pub b: u32,
+    pub c: u32,
+}
+
+// The smaller of two.
+fn least(a: usize, b: usize) -> usize
+    ensures { λ r. ⌜ r ≡ min a b ⌝ }
+{
+    if a < b {
+        return a;
+    }
+    b
+}
+
+// A value, 0 where the step is refused.
+fn value_of(refusal: u32, v: u32) -> u32
+    ensures { λ r. ⌜ r ≡ valueOf refusal v ⌝ }
+{
+    if refusal == 0 {
+        return v;
+    }
+    0
+}
+
+// A source from a part of the sources.
+fn set_step(
+    words: &mut [u32; 16384],
+    tags: &mut [u8; 16384],
+    kinds: &[u8; 256],
+    log: &mut [u32; 16384],
+    classes: &mut [u8; 16384],
+    starts: &mut [[u32; 512]; 8],
+    maps: &mut [[u32; 512]; 6],
+    marks: &mut [u16; 16384],
+    special: &mut [u32; 1027],
+    sources: &[u8],
+    n: usize,
+    ends: Ends,
+    set: bool,
+    offset: u32,
+    o: Numbers,
+) -> Step
+    requires { ⌜ Live set n offset (now words) (now tags) (now kinds) (now log) (now classes) (now starts) (now maps) (now marks) (now special) ends ⌝ }
+    ensures { λ r. ⌜ Quiet 0 (o .a) (o .b) (o .c) (now (sources .entry)) (sessionOf set n offset (now (words .entry)) (now (log .entry)) (now (classes .entry)) (now (starts .entry)) (now (maps .entry)) (now (special .entry)) ends) (r .refusal) (r .first) (r .second) (sessionOf (r .set) (r .n) (r .offset) (now (words .exit)) (now (log .exit)) (now (classes .exit)) (now (starts .exit)) (now (maps .exit)) (now (special .exit)) (r .ends)) ⌝ }
+    ensures { λ r. ⌜ Live (r .set) (r .n) (r .offset) (now (words .exit)) (now (tags .exit)) (now (kinds .entry)) (now (log .exit)) (now (classes .exit)) (now (starts .exit)) (now (maps .exit)) (now (marks .exit)) (now (special .exit)) (r .ends) ⌝ }
+{
+    let from = least(wide(o.a), sources.len());
+    let to = from + least(wide(o.b), sources.len() - from);
+    let got = set_source_of(
+        &sources[from..to],
+        words,
+        tags,
+        kinds,
+        n,
+        log,
+        classes,
+        starts,
+        maps,
+        marks,
+        special,
+        ends,
+        set,
+        offset,
+        o.c,
+    );
+    let left = got.ends;
+    Step {
+        refusal: got.refusal,
+        first: 0,
+        second: 0,
+        set: got.set,
+        n: got.n,
+        offset: got.offset,
+        ends: left,
+    }
+}
+
+// A finish without entry points into a part of the output.
+fn plain_step(
+    words: &[u32; 16384],
+    tags: &[u8; 16384],
+    kinds: &[u8; 256],
+    log: &[u32; 16384],
+    classes: &[u8; 16384],
+    starts: &[[u32; 512]; 8],
+    maps: &mut [[u32; 512]; 6],
+    marks: &[u16; 16384],
+    special: &mut [u32; 1027],
+    output: &mut [u8],
+    n: usize,
+    ends: Ends,
+    set: bool,
+    offset: u32,
+    o: Numbers,
+) -> Step
+    requires { ⌜ Live set n offset (now words) (now tags) (now kinds) (now log) (now classes) (now starts) (now maps) (now marks) (now special) ends ⌝ }
+    ensures { λ r. ⌜ Wrote 13 (o .a) (o .b) (o .c) (sessionOf set n offset (now (words .entry)) (now (log .entry)) (now (classes .entry)) (now (starts .entry)) (now (maps .entry)) (now (special .entry)) ends) (r .refusal) (r .first) (r .second) (now (output .entry)) (now (output .exit)) (sessionOf (r .set) (r .n) (r .offset) (now (words .entry)) (now (log .entry)) (now (classes .entry)) (now (starts .entry)) (now (maps .exit)) (now (special .exit)) (r .ends)) ⌝ }
+    ensures { λ r. ⌜ Live (r .set) (r .n) (r .offset) (now (words .entry)) (now (tags .entry)) (now (kinds .entry)) (now (log .entry)) (now (classes .entry)) (now (starts .entry)) (now (maps .exit)) (now (marks .entry)) (now (special .exit)) (r .ends) ⌝ }
+{
+    let from = least(wide(o.a), output.len());
+    let to = from + least(wide(o.b), output.len() - from);
+    let got = finish_plain(
+        words,
+        tags,
+        kinds,
+        n,
+        log,
+        classes,
+        starts,
+        maps,
+        marks,
+        special,
+        ends,
+        set,
+        offset,
+        &mut output[from..to],
+    );
+    let left = got.ends;
+    Step {
+        refusal: got.refusal,
+        first: got.bytes as u32,
+        second: 0,
+        set: got.set,
+        n: n,
+        offset: offset,
+        ends: left,
+    }
+}
+
+// A finish with the source's entry points into a part of the output.
+fn entries_step(
+    words: &[u32; 16384],
+    tags: &[u8; 16384],
+    kinds: &[u8; 256],
+    log: &mut [u32; 16384],
+    classes: &mut [u8; 16384],
+    starts: &[[u32; 512]; 8],
+    maps: &mut [[u32; 512]; 6],
+    marks: &mut [u16; 16384],
+    special: &mut [u32; 1027],
+    stacks: &mut [[u32; 16384]; 4],
+    output: &mut [u8],
+    n: usize,
+    ends: Ends,
+    set: bool,
+    offset: u32,
+    o: Numbers,
+) -> Step
+    requires { ⌜ Live set n offset (now words) (now tags) (now kinds) (now log) (now classes) (now starts) (now maps) (now marks) (now special) ends ⌝ }
+    requires { ⌜ Stacks (now stacks) ends ⌝ }
+    ensures { λ r. ⌜ Wrote 14 (o .a) (o .b) (o .c) (sessionOf set n offset (now (words .entry)) (now (log .entry)) (now (classes .entry)) (now (starts .entry)) (now (maps .entry)) (now (special .entry)) ends) (r .refusal) (r .first) (r .second) (now (output .entry)) (now (output .exit)) (sessionOf (r .set) (r .n) (r .offset) (now (words .entry)) (now (log .exit)) (now (classes .exit)) (now (starts .entry)) (now (maps .exit)) (now (special .exit)) (r .ends)) ⌝ }
+    ensures { λ r. ⌜ Live (r .set) (r .n) (r .offset) (now (words .entry)) (now (tags .entry)) (now (kinds .entry)) (now (log .exit)) (now (classes .exit)) (now (starts .entry)) (now (maps .exit)) (now (marks .exit)) (now (special .exit)) (r .ends) ⌝ }
+    ensures { λ r. ⌜ Stacks (now (stacks .exit)) (r .ends) ⌝ }
+{
+    let from = least(wide(o.a), output.len());
+    let to = from + least(wide(o.b), output.len() - from);
+    let got = finish_with_entries(
+        words,
+        tags,
+        kinds,
+        n,
+        log,
+        classes,
+        starts,
+        maps,
+        marks,
+        special,
+        stacks,
+        ends,
+        set,
+        offset,
+        &mut output[from..to],
+    );
+    let left = got.ends;
+    Step {
+        refusal: got.refusal,
+        first: got.bytes as u32,
+        second: 0,
+        set: got.set,
+        n: n,
+        offset: offset,
+        ends: left,
+    }
+}
+
+// One step of a session.
+fn perform(
+    words: &mut [u32; 16384],
+    tags: &mut [u8; 16384],
+    kinds: &[u8; 256],
+    log: &mut [u32; 16384],
+    classes: &mut [u8; 16384],
+    starts: &mut [[u32; 512]; 8],
+    maps: &mut [[u32; 512]; 6],
+    marks: &mut [u16; 16384],
+    special: &mut [u32; 1027],
+    stacks: &mut [[u32; 16384]; 4],
+    sources: &[u8],
+    output: &mut [u8],
+    n: usize,
+    ends: Ends,
+    set: bool,
+    offset: u32,
+    o: Numbers,
+) -> Step
+    requires { ⌜ Live set n offset (now words) (now tags) (now kinds) (now log) (now classes) (now starts) (now maps) (now marks) (now special) ends ⌝ }
+    requires { ⌜ Stacks (now stacks) ends ⌝ }
+    ensures { λ r. ⌜ Stepped (saying (o .operation) (o .a) (o .b) (o .c) (now (sources .entry)) (now (output .entry)) (sessionOf set n offset (now (words .entry)) (now (log .entry)) (now (classes .entry)) (now (starts .entry)) (now (maps .entry)) (now (special .entry)) ends)) (r .refusal) (r .first) (r .second) (now (output .entry)) (now (output .exit)) (sessionOf (r .set) (r .n) (r .offset) (now (words .exit)) (now (log .exit)) (now (classes .exit)) (now (starts .exit)) (now (maps .exit)) (now (special .exit)) (r .ends)) ⌝ }
+    ensures { λ r. ⌜ Live (r .set) (r .n) (r .offset) (now (words .exit)) (now (tags .exit)) (now (kinds .entry)) (now (log .exit)) (now (classes .exit)) (now (starts .exit)) (now (maps .exit)) (now (marks .exit)) (now (special .exit)) (r .ends) ⌝ }
+    ensures { λ r. ⌜ Stacks (now (stacks .exit)) (r .ends) ⌝ }
+{
+    if o.operation == 0 {
+        return set_step(
+            words,
+            tags,
+            kinds,
+            log,
+            classes,
+            starts,
+            maps,
+            marks,
+            special,
+            sources,
+            n,
+            ends,
+            set,
+            offset,
+            o,
+        );
+    }
+    if o.operation == 1 {
+        return Step {
+            refusal: 0,
+            first: 0,
+            second: 0,
+            set: false,
+            n: n,
+            offset: offset,
+            ends: ends,
+        };
+    }
+    if o.operation == 2 {
+        let got = map_span(set, offset, o.a, o.b);
+        return Step {
+            refusal: got.refusal,
+            first: got.start,
+            second: got.end,
+            set: set,
+            n: n,
+            offset: offset,
+            ends: ends,
+        };
+    }
+    if o.operation == 12 {
+        let v = required(special, ends);
+        return Step {
+            refusal: 0,
+            first: v,
+            second: 0,
+            set: set,
+            n: n,
+            offset: offset,
+            ends: ends,
+        };
+    }
+    if o.operation == 13 {
+        return plain_step(
+            words,
+            tags,
+            kinds,
+            log,
+            classes,
+            starts,
+            maps,
+            marks,
+            special,
+            output,
+            n,
+            ends,
+            set,
+            offset,
+            o,
+        );
+    }
+    if o.operation == 14 {
+        return entries_step(
+            words,
+            tags,
+            kinds,
+            log,
+            classes,
+            starts,
+            maps,
+            marks,
+            special,
+            stacks,
+            output,
+            n,
+            ends,
+            set,
+            offset,
+            o,
+        );
+    }
+    let said = record_step(
+        words,
+        tags,
+        kinds,
+        n,
+        log,
+        classes,
+        starts,
+        maps,
+        marks,
+        special,
+        stacks,
+        ends,
+        set,
+        offset,
+        o,
+    );
+    let left = said.ends;
+    Step {
+        refusal: said.refusal,
+        first: value_of(said.refusal, said.value),
+        second: 0,
+        set: set,
+        n: n,
+        offset: offset,
+        ends: left,
+    }
+}
+
+// The steps that import a record of a table or a function; 13 for any other.
+fn record_step(
+    words: &[u32; 16384],
+    tags: &[u8; 16384],
+    kinds: &[u8; 256],
+    n: usize,
+    log: &mut [u32; 16384],
+    classes: &mut [u8; 16384],
+    starts: &mut [[u32; 512]; 8],
+    maps: &mut [[u32; 512]; 6],
+    marks: &mut [u16; 16384],
+    special: &[u32; 1027],
+    stacks: &mut [[u32; 16384]; 4],
+    ends: Ends,
+    set: bool,
+    offset: u32,
+    o: Numbers,
+) -> operations::Said
+    requires { ⌜ (3 ≤ o .operation) × (o .operation ≡ 12 → ⊥) × (o .operation ≡ 13 → ⊥) × (o .operation ≡ 14 → ⊥) ⌝ }
+    requires { ⌜ Live set n offset (now words) (now tags) (now kinds) (now log) (now classes) (now starts) (now maps) (now marks) (now special) ends ⌝ }
+    requires { ⌜ Stacks (now stacks) ends ⌝ }
+    ensures { λ r. ⌜ Recorded (o .operation) (o .a) (o .b) (o .c) (sessionOf set n offset (now (words .entry)) (now (log .entry)) (now (classes .entry)) (now (starts .entry)) (now (maps .entry)) (now (special .entry)) ends) (r .refusal) (valueOf (r .refusal) (r .value)) (sessionOf set n offset (now (words .entry)) (now (log .exit)) (now (classes .exit)) (now (starts .exit)) (now (maps .exit)) (now (special .entry)) (r .ends)) ⌝ }
+    ensures { λ r. ⌜ Live set n offset (now (words .entry)) (now (tags .entry)) (now (kinds .entry)) (now (log .exit)) (now (classes .exit)) (now (starts .exit)) (now (maps .exit)) (now (marks .exit)) (now (special .entry)) (r .ends) ⌝ }
+    ensures { λ r. ⌜ Stacks (now (stacks .exit)) (r .ends) ⌝ }
+{
+    if o.operation == 3 {
+        return import(
+            words,
+            tags,
+            kinds,
+            n,
+            log,
+            classes,
+            starts,
+            maps,
+            marks,
+            special,
+            ends,
+            set,
+            offset,
+            1,
+            o.a,
+        );
+    }
+    if o.operation == 4 {
+        return rename_type(
+            words,
+            tags,
+            kinds,
+            n,
+            log,
+            classes,
+            starts,
+            maps,
+            marks,
+            special,
+            ends,
+            set,
+            offset,
+            o.a,
+            o.b,
+        );
+    }
+    if o.operation < 9 {
+        return import(
+            words,
+            tags,
+            kinds,
+            n,
+            log,
+            classes,
+            starts,
+            maps,
+            marks,
+            special,
+            ends,
+            set,
+            offset,
+            wide(o.operation) - 3,
+            o.a,
+        );
+    }
+    if o.operation == 9 {
+        return import_function(
+            words,
+            tags,
+            kinds,
+            n,
+            log,
+            classes,
+            starts,
+            maps,
+            marks,
+            special,
+            stacks,
+            ends,
+            set,
+            offset,
+            o.a,
+        );
+    }
+    if o.operation < 12 {
+        return map_function_handle(
+            words,
+            tags,
+            kinds,
+            n,
+            log,
+            classes,
+            starts,
+            maps,
+            marks,
+            special,
+            stacks,
+            ends,
+            set,
+            offset,
+            o.a,
+        );
+    }
+    operations::Said {
+        refusal: NO_RECORD,
+        value: 0,
+        ends: ends,
+    }
+}
+
+// An answer's word, where there is room for it.
+fn tell(answers: &mut [u32], at: usize, w: u32)
+    ensures { λ r. ⌜ now (answers .exit) ≡ set (now (answers .entry)) at w ⌝ }
+{
+    if at < answers.len() {
+        answers[at] = w;
+    }
+}
+
+// The first refusal with its step's number: the one that was, or else that of step j.
+fn first_of(first: u64, refusal: u32, j: usize) -> u64
+    ensures { λ r. ⌜ r ≡ orElse first (numbered refusal j) ⌝ }
+{
+    if first != 0 {
+        return first;
+    }
+    if refusal == 0 {
+        return 0;
+    }
+    refusal as u64 + (j % 4294967296) as u64 * 4294967296
+}
+
+// All steps. 0 if every step was accepted; else the refusal of the first refused step in the low half, and that step's number in the high half.
+pub fn session(sources: &[u8], steps: &[u32], answers: &mut [u32], output: &mut [u8]) -> u64
+    ensures { λ r. ⌜ Sessions (now (sources .entry)) (now (steps .entry)) (now (answers .entry)) (now (output .entry)) r (now (answers .exit)) (now (output .exit)) ⌝ }
+{
+    let kinds = kinds();
+    let mut words = [0u32; 16384];
+    let mut tags = [0u8; 16384];
+    let mut log = [0u32; 16384];
+    let mut classes = [0u8; 16384];
+    let mut starts = [[0u32; 512]; 8];
+    let mut maps = [[0u32; 512]; 6];
+    let mut marks = [0u16; 16384];
+    let mut special = [0u32; 1027];
+    let mut stacks = [[0u32; 16384]; 4];
+    let mut ends = nothing();
+    let mut set = false;
+    let mut n = 0;
+    let mut offset = 0;
+    let mut first: u64 = 0;
+    let count = steps.len() / 4;
+    let mut i = 0;
+    while i < count {
+        let j = i;
+        i += 1;
+        let o = Numbers {
+            operation: steps[4 * j],
+            a: steps[4 * j + 1],
+            b: steps[4 * j + 2],
+            c: steps[4 * j + 3],
+        };
+        let said = perform(
+            &mut words,
+            &mut tags,
+            &kinds,
+            &mut log,
+            &mut classes,
+            &mut starts,
+            &mut maps,
+            &mut marks,
+            &mut special,
+            &mut stacks,
+            sources,
+            output,
+            n,
+            ends,
+            set,
+            offset,
+            o,
+        );
+        ends = said.ends;
+        set = said.set;
+        n = said.n;
+        offset = said.offset;
+        tell(answers, 3 * j, said.refusal);
+        tell(answers, 3 * j + 1, said.first);
+        tell(answers, 3 * j + 2, said.second);
+        first = first_of(first, said.refusal, j);
+    }
+    first
+}
