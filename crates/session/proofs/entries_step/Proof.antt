@@ -53,8 +53,8 @@ finish-with-entries-requires : tie.Need-finish-with-entries-requires
 finish-with-entries-requires c κs = let st = c .before .before .before .before .before .before .before .before .before .before .before .before in (st .pre .0, st .pre .1)
 
 -- src/lib.rt:215:16
-cast-t33 : tie.Need-cast-t33
-cast-t33 c =
+cast-t34 : tie.Need-cast-t34
+cast-t34 c =
     let st = c .before .before .before .before .before .before .before .before .before .before .before .before .before .before .before .before .before in
     let x = st .args .o in
     let f = c .before .before .before .before .before .before .before .before .before .before .before .before .before .before .least in
@@ -98,6 +98,6 @@ entries-step-spec =
     part-finish-with-entries-start
     part-finish-with-entries-end
     finish-with-entries-requires
-    cast-t33
+    cast-t34
     same-length
     returns)
