@@ -61,6 +61,56 @@ uint64_t wuldgisp_order(const uint8_t *image, size_t image_len, uint32_t *order,
  */
 uint64_t wuldgisp_redirect(uint8_t *image, size_t image_len, uint32_t original, uint32_t replacement, const uint32_t *omit, size_t omit_len);
 
+/* Link: the functions of an image in the order of wuldgisp_order, each with what it refers to, as one image (docs/RULES.md, 11).
+ *
+ * image, image_len: the bytes of a module image; they are only read.
+ * output, output_len: where the linked image goes; image_len bytes are always enough. Bytes behind it stay as they were, and where the call is refused
+ *   every byte does. It may not overlap the image.
+ * Answers in the low half 0 if it is accepted, and then in the high half the count of bytes written. Else the low half is a refusal:
+ *   1 to 6  as intake answers
+ *   7       the output is shorter than the image
+ *   12      a ring of calls; the high half is the count of functions from which a chain of calls reaches a ring
+ */
+uint64_t wuldgisp_link(const uint8_t *image, size_t image_len, uint8_t *output, size_t output_len);
+
+/* Session: records and functions of several images drawn into derived images, by a list of steps (docs/RULES.md, 12).
+ *
+ * sources, sources_len: the images that steps set, one behind the other; they are only read.
+ * steps, steps_len: four words a step: its operation, a, b and c. Words behind the last whole step are not read.
+ * answers, answers_len: three words a step: the refusal or 0, and two values, which are 0 where there are none and where the step is refused. They are
+ *   written as far as there is room.
+ * output, output_len: where steps write derived images. All other bytes stay as they were. None of the four may overlap another that is written.
+ *
+ *   operation                      a, b, c                                             values                    refusals
+ *    0  set                        a part of sources: start and length; span offset                              1 to 6, 21
+ *    1  clear
+ *    2  map_span                   start, end                                          start, end                20
+ *    3  import_type                type                                                derived type              20, 13, 21
+ *    4  rename_type                type, number of a name                              derived type              20, 13, 21
+ *    5  import_const               constant                                            derived constant          20, 13, 21
+ *    6  import_pipeline_override   override                                            derived override          20, 13, 21
+ *    7  import_global              global                                              derived global            20, 13, 21
+ *    8  import_global_expression   expression                                          derived expression        20, 13, 21
+ *    9  import_function            function                                            derived function          20, 13, 22, 21
+ *   10  import_function_if_new     function                                            derived function          20, 13, 22, 21
+ *   11  map_function_handle        function                                            derived function          20, 13, 22, 21
+ *   12  has_required_special_types                                                     0 or 1
+ *   13  finish                     a part of output: start and length                  bytes written             21, 7
+ *   14  finish, with the entry points of the source: a part of output                  bytes written             20, 22, 21, 7
+ *   any other                                                                                                    13
+ *
+ * Starts and lengths are in bytes; a part that reaches past the end is cut there. A refused step changes nothing, and the next one follows:
+ *   1 to 6  the source, as intake answers
+ *   7       the part of the output is shorter than the derived image
+ *   13      a number outside its table, or no operation
+ *   20      no source is set
+ *   21      the derived image would pass 65,536 bytes, or a table its limit
+ *   22      the import would follow calls, through functions of unknown name, back to one of those
+ * Answers 0 if every step was accepted; else the low half is the refusal of the first refused step, and the high half that step's number, from 0.
+ */
+uint64_t wuldgisp_session(const uint8_t *sources, size_t sources_len, const uint32_t *steps, size_t steps_len, uint32_t *answers, size_t answers_len,
+                          uint8_t *output, size_t output_len);
+
 #ifdef __cplusplus
 }
 #endif

@@ -2,6 +2,8 @@
 ghost use Rattle.intake.specs.Taken.{Answers};
 ghost use Rattle.basic.specs.Images.{Orders};
 ghost use Rattle.layered.specs.Images.{Answers as Redirects};
+ghost use Rattle.link.specs.Linked.{Links};
+ghost use Rattle.session.specs.Sessions.{Sessions};
 
 // Intake: 0 for an image that is accepted, else the number of the test that refuses it, 1 to 6.
 #[no_mangle]
@@ -32,4 +34,27 @@ pub extern "C" fn wuldgisp_redirect(
     ensures { λ r. ⌜ Redirects r (now (image .exit)) (now (image .entry)) original replacement (now (omit .entry)) ⌝ }
 {
     layered::redirect(image, original, replacement, omit)
+}
+
+// Links the image into the output. The low half of the answer is the number of the refusal, or 0; the high half is the count of bytes written, or, with
+// refusal 12, of functions that are left.
+#[no_mangle]
+pub extern "C" fn wuldgisp_link(image: &[u8], output: &mut [u8]) -> u64
+    ensures { λ r. ⌜ Links r (now (output .entry)) (now (output .exit)) (now (image .entry)) ⌝ }
+{
+    link::link(image, output)
+}
+
+// Runs a session's steps, four words each, and tells three words of each as far as there is room. 0 if every step was accepted; else the low half of the
+// answer is the first refusal and the high half the number of its step.
+#[no_mangle]
+pub extern "C" fn wuldgisp_session(
+    sources: &[u8],
+    steps: &[u32],
+    answers: &mut [u32],
+    output: &mut [u8],
+) -> u64
+    ensures { λ r. ⌜ Sessions (now (sources .entry)) (now (steps .entry)) (now (answers .entry)) (now (output .entry)) r (now (answers .exit)) (now (output .exit)) ⌝ }
+{
+    session::session(sources, steps, answers, output)
 }

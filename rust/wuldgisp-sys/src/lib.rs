@@ -20,4 +20,15 @@ extern "C" {
         omit: *const u32,
         omit_len: usize,
     ) -> u64;
+    pub fn wuldgisp_link(image: *const u8, image_len: usize, output: *mut u8, output_len: usize) -> u64;
+    pub fn wuldgisp_session(
+        sources: *const u8,
+        sources_len: usize,
+        steps: *const u32,
+        steps_len: usize,
+        answers: *mut u32,
+        answers_len: usize,
+        output: *mut u8,
+        output_len: usize,
+    ) -> u64;
 }

@@ -47,6 +47,9 @@ pub const STACK: usize = wuldgisp_sys::WULDGISP_STACK;
 /// The most functions of an image, and so the longest order.
 const FUNCTIONS: usize = 256;
 
+/// The most bytes of an image.
+const LONGEST: usize = 65_536;
+
 /// Whether an image is accepted: the tests 1 to 6 (`docs/RULES.md`, 6.1 to 6.6).
 ///
 /// ```
@@ -152,6 +155,47 @@ pub fn redirect_by_name<N: AsRef<[u8]> + ?Sized>(
     let replacement = bears(&replacement).ok_or(Refusal::ReplacementNotFound)?;
     let omit: Vec<u32> = omit.iter().filter_map(bears).collect();
     redirect(image, original, replacement, &omit)
+}
+
+/// The image linked: its functions in output order, callees first, each with what it refers to.
+///
+/// ```
+/// use wuldgisp::Refusal;
+///
+/// // a calls b; the linked image has b first.
+/// let image = plain::assemble(
+///     r#"wuldgisp-text 1
+///     names { "a" "b" }
+///     functions {
+///       function name=0 { body { Call function=1 arguments=[] } }
+///       function name=1 { body { } }
+///     }
+///     special_types { }"#,
+/// )?;
+/// let linked = wuldgisp::link(&image)?;
+/// assert_eq!(wuldgisp::Image::new(&linked)?.functions().collect::<Vec<_>>(), [b"b", b"a"]);
+/// assert_eq!(wuldgisp::link(&linked)?, linked);
+///
+/// assert_eq!(wuldgisp::link(b"no image"), Err(Refusal::Size));
+/// # Ok::<(), Box<dyn std::error::Error>>(())
+/// ```
+pub fn link(image: &[u8]) -> Result<Vec<u8>, Refusal> {
+    // An image that is longer than an image may be is refused by its size: no room is made for it.
+    let mut output = vec![0; image.len().min(LONGEST)];
+    let count = link_into(image, &mut output)?;
+    output.truncate(count);
+    Ok(output)
+}
+
+/// The same into an output that is lent, which has to be as long as the image; answers the count of bytes written. The
+/// bytes behind them, and all where it is refused, stay as they were.
+pub fn link_into(image: &[u8], output: &mut [u8]) -> Result<usize, Refusal> {
+    // SAFETY: both pointers and lengths are those of slices that outlive the call; the image is only read, and the
+    // output, which is written, is lent by no one else.
+    let answer = unsafe {
+        wuldgisp_sys::wuldgisp_link(image.as_ptr(), image.len(), output.as_mut_ptr(), output.len())
+    };
+    Ok(accepted(answer)? as usize)
 }
 
 /// The value of an accepted answer, or the refusal.
