@@ -56,7 +56,12 @@ pub fn full_table(random: &mut Random) -> Generated {
 
 impl Draft {
     /// Sets a source for each of these ranges and brings all of its records.
-    fn fill_table(&mut self, random: &mut Random, filling: &Filling, ranges: [std::ops::Range<usize>; 2]) {
+    pub(crate) fn fill_table(
+        &mut self,
+        random: &mut Random,
+        filling: &Filling,
+        ranges: [std::ops::Range<usize>; 2],
+    ) {
         for numbers in ranges {
             let source = self.set_new(random, (filling.source)(numbers));
             if let Some((operation, count)) = filling.bulk {
@@ -70,17 +75,17 @@ impl Draft {
 type Import = (u32, fn(&Module) -> usize);
 
 /// How a table is filled.
-struct Filling {
+pub(crate) struct Filling {
     table: &'static str,
-    most: usize,
+    pub most: usize,
     /// A source that has the records of these numbers.
-    source: fn(std::ops::Range<usize>) -> Module,
+    pub source: fn(std::ops::Range<usize>) -> Module,
     /// The import whose last record brings all of them; special types come with the source itself.
     bulk: Option<Import>,
     /// The import that brings one.
-    single: Option<Import>,
+    pub single: Option<Import>,
     /// The records that such a source has beside those of its numbers.
-    more: usize,
+    pub more: usize,
 }
 
 const IMPORT_TYPE: Import = (operation::IMPORT_TYPE, |module| module.types.len());
@@ -104,7 +109,7 @@ const fn filling(
     Filling { table, most: limit::RECORDS as usize, source, bulk, single, more: 0 }
 }
 
-const FILLING: [Filling; 10] = [
+pub(crate) const FILLING: [Filling; 10] = [
     filling("names", names_source, Some(IMPORT_TYPE), Some(RENAME_TYPE)),
     filling("types", types_source, Some(IMPORT_FUNCTION), Some(IMPORT_TYPE)),
     filling("constants", constants_source, Some(IMPORT_FUNCTION), Some(IMPORT_CONST)),
@@ -221,7 +226,7 @@ fn pairs_source(numbers: std::ops::Range<usize>) -> Module {
 // ---- an image that is full ----
 
 /// Words of an image at most.
-const WORDS: usize = limit::BYTES / 4;
+pub(crate) const WORDS: usize = limit::BYTES / 4;
 
 /// Words of a header with special types, of a name of one letter with its offset, of a function without statements, of
 /// an entry point before its function, and of a leaf with its offset.
@@ -233,7 +238,7 @@ const LEAF: usize = 12;
 
 /// What brings the last words of a full image.
 #[derive(Clone, Copy, Debug)]
-enum Last {
+pub(crate) enum Last {
     Function,
     EntryPoint,
     SpecialType,
@@ -251,7 +256,7 @@ pub fn full_image(random: &mut Random) -> Generated {
 
 impl Draft {
     /// One function that is imported, and then what makes the image one of so many words.
-    fn fill_image(&mut self, random: &mut Random, last: Last, total: usize) {
+    pub(crate) fn fill_image(&mut self, random: &mut Random, last: Last, total: usize) {
         let rest = total - EMPTY - NAME - 1;
         let (first, before) = match last {
             Last::Function => (random.between(100, rest - 200), NAME + 1),

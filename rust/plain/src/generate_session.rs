@@ -55,6 +55,11 @@ pub fn small(random: &mut Random) -> Generated {
 fn small_source(random: &mut Random, before: &[Module]) -> (Option<Module>, Vec<u8>) {
     let like = (!before.is_empty() && random.once_in(3)).then(|| random.pick(before).clone());
     if let Some(module) = like {
+        if random.once_in(3) {
+            let module = renamed(random, module);
+            let image = write(&module);
+            return (Some(module), image);
+        }
         let (_, image) = mutate(random, &module);
         return (admit(&image).ok(), image);
     }
@@ -72,6 +77,18 @@ fn small_source(random: &mut Random, before: &[Module]) -> (Option<Module>, Vec<
     }
     let image = write(&module);
     (Some(module), image)
+}
+
+/// The module with other texts for the numbers of its names: exchanged among them, or all of another length.
+fn renamed(random: &mut Random, mut module: Module) -> Module {
+    if random.once_in(2) {
+        let by = random.below(module.names.len().max(1));
+        module.names.rotate_left(by);
+    } else {
+        let more = vec![b'x'; random.between(1, 5)];
+        module.names.iter_mut().for_each(|name| name.bytes.extend(&more));
+    }
+    module
 }
 
 /// Sources of many functions and some thousand words.
