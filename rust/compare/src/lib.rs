@@ -1,0 +1,12 @@
+//! The archive beside the plain reading: what the differential run, the benchmark and the tests of this package share.
+//!
+//! [`archive`] calls link and session as C has them; [`image`] compares the operations on one image and [`session`] a
+//! whole session, each on memory between guards ([`guarded`]). A [`run`] counts what has been compared and what was
+//! answered, and [`stages`] is what it goes through.
+
+pub mod archive;
+pub mod guarded;
+pub mod image;
+pub mod run;
+pub mod session;
+pub mod stages;
