@@ -2,11 +2,12 @@
 //!
 //! [`archive`] calls link and session as C has them; [`image`] compares the operations on one image and [`session`] a
 //! whole session, each on memory between guards ([`guarded`]). A [`run`] counts what has been compared and what was
-//! answered, and [`stages`] is what it goes through.
+//! answered, and [`stages`] is what it goes through. What is measured of sessions is in [`scripts`].
 
 pub mod archive;
 pub mod guarded;
 pub mod image;
 pub mod run;
+pub mod scripts;
 pub mod session;
 pub mod stages;

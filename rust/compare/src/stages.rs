@@ -7,7 +7,7 @@ use plain::generate::{self, Options};
 use plain::generate_session::Generated;
 use plain::random::Random;
 use plain::twins::with_twins;
-use plain::{bodies, bytes, cases, fill, generate_session, heavy, mutate, refused, words};
+use plain::{bodies, bytes, cases, deep, fill, generate_session, heavy, mutate, refused, words};
 
 use crate::run::Run;
 use crate::session;
@@ -61,7 +61,8 @@ fn vectors(run: &mut Run) {
 }
 
 fn limits(run: &mut Run) {
-    for (name, image) in cases::limits().into_iter().chain(cases::worst()).chain(heavy::images()) {
+    let images = [cases::limits(), cases::worst(), heavy::images(), deep::images()];
+    for (name, image) in images.into_iter().flatten() {
         run.compare(&image, &|| name.clone());
     }
 }

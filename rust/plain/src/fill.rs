@@ -4,6 +4,7 @@
 //! one import brings them. An image is filled by functions of as many words as are wanted.
 
 use crate::cases::{self, word};
+use crate::deep::{module, pointers, Depths};
 use crate::fields::{expression, limit, statement};
 use crate::generate_session::{given, Draft, Generated};
 use crate::module::*;
@@ -302,17 +303,26 @@ fn heavy(words: usize) -> Function {
 /// A source in which one import leads through a long chain.
 pub fn deep(random: &mut Random) -> Generated {
     let mut draft = Draft::new(random, "deep source");
-    let (module, operation, number) = match random.below(4) {
+    let (module, operation, number) = match random.below(5) {
         0 => {
             let (count, depth) = *random.pick(&[(256, 9), (150, 17), (80, 32)]);
             (deep_calls(count, depth), operation::IMPORT_FUNCTION, 0)
         }
-        1 => (deep_types(limit::RECORDS as usize), operation::IMPORT_TYPE, limit::RECORDS - 1),
+        1 => (deep_types(), operation::IMPORT_TYPE, limit::RECORDS - 1),
         2 => {
             let expressions = limit::RECORDS as usize;
             (deep_constants(expressions), operation::IMPORT_GLOBAL_EXPRESSION, limit::RECORDS - 1)
         }
-        _ => (deep_initialiser(limit::EXPRESSIONS as usize), operation::IMPORT_FUNCTION, 0),
+        3 => (deep_initialiser(limit::EXPRESSIONS as usize), operation::IMPORT_FUNCTION, 0),
+        _ => {
+            let depths = Depths {
+                functions: random.between(1, 150),
+                initialisers: random.between(1, 400),
+                constants: random.between(1, 200),
+                types: random.between(1, 200),
+            };
+            (module(depths), operation::MAP_FUNCTION_HANDLE, 0)
+        }
     };
     draft.set_new(random, module);
     draft.step(operation, number, 0, 0);
@@ -334,14 +344,8 @@ fn deep_calls(count: usize, depth: usize) -> Module {
 }
 
 /// Pointers to pointers.
-fn deep_types(count: usize) -> Module {
-    let pointer = |base: usize| Type {
-        inner: Inner::Pointer { base: word(base), space: [word(0); 2] },
-        ..cases::leaf()
-    };
-    let mut types = vec![cases::leaf()];
-    types.extend((1..count).map(|own| pointer(own - 1)));
-    Module { types, ..cases::base() }
+fn deep_types() -> Module {
+    Module { types: pointers(limit::RECORDS as usize), ..cases::base() }
 }
 
 /// Expressions that name constants that have the expressions before them as their inits.

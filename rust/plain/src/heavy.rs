@@ -5,6 +5,7 @@
 //! one place are made by trying words. `cases::worst` has the images that are hard for the other operations.
 
 use crate::cases::{self, leaf, named, of_kind, word, Case};
+use crate::deep;
 use crate::fields::{expression, limit, statement};
 use crate::module::*;
 use crate::write::write;
@@ -31,7 +32,7 @@ pub fn images() -> Vec<Case> {
         ("512 structs", reading_types(structs_apart(RECORDS, 2))),
         ("512 structs whose hashes have one place", reading_types(structs_one_place(RECORDS, 2))),
         ("512 equal structs", reading_types(vec![structs_apart(1, 2).remove(0); RECORDS])),
-        ("512 pointers to pointers", reading_types(pointers(RECORDS))),
+        ("512 pointers to pointers", reading_types(deep::pointers(RECORDS))),
         ("structs of 64 members", reading_types(structs_apart(27, 64))),
         ("512 globals and 100 initialisers whose hashes have one place", tables_one_place()),
         ("chains of 1,024 initialisers", repeated(|| initialiser_chain(EXPRESSIONS))),
@@ -196,13 +197,6 @@ fn structs_one_place(count: usize, members: usize) -> Vec<Type> {
     front.extend(vec![0; 9 * members - 1]);
     let before = front.into_iter().fold(1, mix);
     structs_ending(members, words_to_one_place(before).take(count - 1))
-}
-
-/// Pointers to pointers.
-fn pointers(count: usize) -> Vec<Type> {
-    let pointer =
-        |base: usize| Type { inner: Inner::Pointer { base: word(base), space: [word(0); 2] }, ..leaf() };
-    [leaf()].into_iter().chain((1..count).map(|own| pointer(own - 1))).collect()
 }
 
 /// Globals, overrides and literals, each table full and of one place.

@@ -22,6 +22,7 @@
 
 pub mod bodies;
 pub mod cases;
+pub mod deep;
 mod derive;
 pub mod fields;
 pub mod fill;

@@ -35,9 +35,9 @@ fn modules() -> Vec<Module> {
 }
 
 #[test]
-fn heavy_images_link() {
-    for (name, image) in plain::heavy::images() {
-        assert!((62_000..=65_536).contains(&image.len()), "{name}: {}", image.len());
+fn heavy_and_deep_images_link() {
+    for (name, image) in plain::heavy::images().into_iter().chain(plain::deep::images()) {
+        assert!((58_000..=65_536).contains(&image.len()), "{name}: {}", image.len());
         assert!(linked_image(&image).is_ok(), "{name}");
     }
 }
