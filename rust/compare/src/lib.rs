@@ -2,12 +2,15 @@
 //!
 //! [`archive`] calls link and session as C has them; [`image`] compares the operations on one image and [`session`] a
 //! whole session, each on memory between guards ([`guarded`]). A [`run`] counts what has been compared and what was
-//! answered, and [`stages`] is what it goes through. What is measured of sessions is in [`scripts`].
+//! answered, and [`stages`] is what it goes through. What is measured of sessions is
+//! in [`scripts`], with its [`timing`] and the [`picture`] of it.
 
 pub mod archive;
 pub mod guarded;
 pub mod image;
+pub mod picture;
 pub mod run;
 pub mod scripts;
 pub mod session;
 pub mod stages;
+pub mod timing;

@@ -28,14 +28,13 @@ pub fn depths(functions: usize) -> Depths {
 
 /// One function, and 256; with names for a report.
 pub fn images() -> Vec<Case> {
-    let named = |functions: usize| {
+    let image = |functions: usize| {
         let depths = depths(functions);
-        let Depths { initialisers, constants, types, .. } = depths;
-        let name =
-            format!("{functions} functions, {initialisers} initialisers, {constants} constants and {types} types deep");
+        let name = format!("chains of 1,024 initialisers, {} constants and 512 types", depths.constants);
+        let name = if functions == 1 { name } else { format!("{functions} functions to {name}") };
         (name, write(&module(depths)))
     };
-    vec![named(1), named(limit::FUNCTIONS as usize)]
+    vec![image(1), image(limit::FUNCTIONS as usize)]
 }
 
 /// The image of such chains: function 0 leads to all of them, and an entry point calls it.
