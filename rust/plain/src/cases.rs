@@ -185,8 +185,9 @@ pub(crate) fn emit(start: usize, end: usize) -> Statement {
     made(statement::EMIT, Body::Emit { start: word(start), end: word(end) })
 }
 
-fn call(callee: usize) -> Statement {
-    let values = vec![Value::One(word(callee)), Value::List(Vec::new()), Value::One(word(0))];
+/// A Call without arguments; the result is optional.
+pub(crate) fn call(callee: usize, result: usize) -> Statement {
+    let values = vec![Value::One(word(callee)), Value::List(Vec::new()), Value::One(word(result))];
     made(statement::CALL, Body::Plain(values))
 }
 
@@ -194,10 +195,17 @@ fn call(callee: usize) -> Statement {
 pub(crate) fn functions(count: usize, callees: impl Fn(usize) -> Vec<usize>) -> Module {
     let function = |own| Function {
         name: word(own + 1),
-        body: callees(own).into_iter().map(call).collect(),
+        body: callees(own).into_iter().map(|callee| call(callee, 0)).collect(),
         ..Function::default()
     };
     Module { names: names(count), functions: (0..count).map(function).collect(), ..Module::default() }
+}
+
+/// An entry point that makes these calls.
+pub(crate) fn calling_entry(callees: Vec<usize>) -> EntryPoint {
+    let body = callees.into_iter().map(|callee| call(callee, 0)).collect();
+    let function = Function { body, ..Function::default() };
+    EntryPoint { name: word(1), function, ..EntryPoint::default() }
 }
 
 /// So many functions and calls between them, drawn; without rings in a sequence of their own.

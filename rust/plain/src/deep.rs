@@ -2,7 +2,7 @@
 //! of operands, constants of expressions of constants, types of types, each chain at the end of the one before.
 
 use crate::cases::{self, leaf, of_kind, word, Case};
-use crate::fields::{expression, limit, statement};
+use crate::fields::{expression, limit};
 use crate::module::*;
 use crate::write::write;
 
@@ -47,10 +47,7 @@ pub fn module(depths: Depths) -> Module {
     let last = initialised(depths.initialisers, depths.constants - 1);
     let function = module.functions.last_mut().expect("there is a function");
     *function = Function { name: function.name, ..last };
-    let call = vec![Value::One(word(0)), Value::List(Vec::new()), Value::One(word(0))];
-    let body = vec![cases::made(statement::CALL, Body::Plain(call))];
-    let function = Function { body, ..Function::default() };
-    module.entry_points = vec![EntryPoint { name: word(1), function, ..EntryPoint::default() }];
+    module.entry_points = vec![cases::calling_entry(vec![0])];
     module
 }
 

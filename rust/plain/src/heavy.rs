@@ -4,7 +4,7 @@
 //! The archive finds an equal record by the place of its hash, and only where two share a place by a search; records of
 //! one place are made by trying words. `cases::worst` has the images that are hard for the other operations.
 
-use crate::cases::{self, leaf, named, of_kind, word, Case};
+use crate::cases::{self, call, leaf, named, of_kind, word, Case};
 use crate::deep;
 use crate::fields::{expression, limit, statement};
 use crate::module::*;
@@ -109,11 +109,6 @@ fn named_locals(names: Vec<Name>) -> Module {
 }
 
 // ---- calls ----
-
-fn call(callee: usize, result: usize) -> Statement {
-    let values = vec![Value::One(word(callee)), Value::List(Vec::new()), Value::One(word(result))];
-    cases::made(statement::CALL, Body::Plain(values))
-}
 
 /// Names of 12 words that are all derived before the last of them, which a function bears that is called and called.
 fn calls_of_the_last_name(results: bool) -> Module {

@@ -89,10 +89,8 @@ fn sources() -> Vec<Refusal> {
 
 /// A function that calls itself, and an entry point that calls it.
 fn ring() -> Module {
-    let module = cases::functions(1, |own| vec![own]);
-    let function = Function { name: word(0), ..module.functions[0].clone() };
-    let entry_points = vec![EntryPoint { name: word(1), function, ..EntryPoint::default() }];
-    Module { entry_points, ..module }
+    let entry_points = vec![cases::calling_entry(vec![0])];
+    Module { entry_points, ..cases::functions(1, |own| vec![own]) }
 }
 
 /// A table that is full, and one record more by the import that brings a single one; special types come with a source.
