@@ -10,14 +10,14 @@ pub struct Timing {
 }
 
 impl Timing {
-    /// A measurement.
+    /// A measurement: batches are short, so that some of them are not disturbed.
     pub fn whole() -> Self {
-        Timing { batch: Duration::from_millis(20), batches: 7 }
+        Timing { batch: Duration::from_millis(2), batches: 50 }
     }
 
     /// A look.
     pub fn quick() -> Self {
-        Timing { batch: Duration::from_millis(2), batches: 3 }
+        Timing { batch: Duration::from_millis(1), batches: 3 }
     }
 
     /// The best time of a call, in nanoseconds.
