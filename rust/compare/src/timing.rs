@@ -1,6 +1,7 @@
-//! The time of a call: the best of several batches, each long enough for the clock.
+//! The time of a call: processor time of the calling thread, so that what else the machine does counts little. It is the
+//! best of several batches, each long enough for the clock and short enough that some are not disturbed.
 
-use std::time::{Duration, Instant};
+use std::time::Duration;
 
 /// How long a batch is at least, and how many there are.
 #[derive(Clone, Copy, Debug)]
@@ -10,7 +11,7 @@ pub struct Timing {
 }
 
 impl Timing {
-    /// A measurement: batches are short, so that some of them are not disturbed.
+    /// A measurement.
     pub fn whole() -> Self {
         Timing { batch: Duration::from_millis(2), batches: 50 }
     }
@@ -38,9 +39,31 @@ impl Timing {
 }
 
 fn batch(calls: u32, run: &mut impl FnMut()) -> Duration {
-    let start = Instant::now();
+    let start = processor_time();
     for _ in 0..calls {
         run();
     }
-    start.elapsed()
+    processor_time().saturating_sub(start)
+}
+
+/// The C library's `struct timespec` on x86-64 Linux, where the archive runs.
+#[repr(C)]
+#[derive(Default)]
+struct Timespec {
+    seconds: i64,
+    nanoseconds: i64,
+}
+
+extern "C" {
+    fn clock_gettime(clock: i32, time: *mut Timespec) -> i32;
+}
+
+/// The processor time that this thread has taken.
+fn processor_time() -> Duration {
+    const THREAD: i32 = 3;
+    let mut time = Timespec::default();
+    // SAFETY: the pointer is that of a whole timespec, which is lent by no one else and written before it returns.
+    let failed = unsafe { clock_gettime(THREAD, &mut time) };
+    assert_eq!(failed, 0, "there is no clock of the thread");
+    Duration::new(time.seconds as u64, time.nanoseconds as u32)
 }
