@@ -71,10 +71,10 @@ pub fn measured() -> Vec<Measured> {
     all.extend(deep_images().into_iter().take(1).map(in_order));
     all.push(by_steps("512 structs", operation::IMPORT_TYPE, limit::RECORDS));
     all.push(by_steps("256 functions alike", operation::IMPORT_FUNCTION_IF_NEW, 2 * limit::FUNCTIONS));
-    all.extend([1, 10].map(|times| {
+    all.extend([("once", 1), ("ten times", 10)].map(|(often, times)| {
         let image = plain::write(&generate::sized(&mut Random::new(1), 16_384));
         let script = Script::in_order(&image).repeated(times);
-        (format!("a generated image, in output order, {times} times"), image, script)
+        (format!("a generated image: in output order, {often}"), image, script)
     }));
     all.push(full());
     all

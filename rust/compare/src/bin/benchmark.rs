@@ -181,7 +181,7 @@ fn table(rows: &[Row]) -> String {
         }
         for own in [LINK, SESSION] {
             let time = row.figures[own] * row.words as f64 / 1000.0;
-            write!(text, " {time:.0} |").expect("a string takes all");
+            write!(text, " {} |", grouped(time.round() as usize)).expect("a string takes all");
         }
         text.push('\n');
     }
@@ -229,8 +229,8 @@ fn sessions(timing: &Timing) -> String {
     for (name, image, mut script) in scripts::measured() {
         let time = timing.best(|| ignore(black_box(script.run(black_box(&image))))) / 1000.0;
         let (words, steps) = (grouped(image.len() / 4), script.steps());
-        writeln!(text, "| {name} | {words} | {steps} | {time:.0} | {:.1} |", time / steps as f64)
-            .expect("a string takes all");
+        let (all, one) = (grouped(time.round() as usize), time / steps as f64);
+        writeln!(text, "| {name} | {words} | {steps} | {all} | {one:.1} |").expect("a string takes all");
     }
     text
 }
