@@ -14,3 +14,11 @@ pub mod scripts;
 pub mod session;
 pub mod stages;
 pub mod timing;
+
+/// A number with a comma before its last three digits.
+pub fn grouped(number: usize) -> String {
+    match number / 1000 {
+        0 => number.to_string(),
+        thousands => format!("{thousands},{:03}", number % 1000),
+    }
+}

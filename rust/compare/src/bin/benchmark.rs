@@ -9,6 +9,7 @@ use std::hint::black_box;
 use std::process::ExitCode;
 
 use compare::archive;
+use compare::grouped;
 use compare::picture::{picture, Curve};
 use compare::scripts::{self, Script};
 use compare::timing::Timing;
@@ -193,14 +194,6 @@ fn heading(more: &[&str]) -> String {
     let names: Vec<&str> = ["image", "words"].into_iter().chain(COLUMNS.map(|(name, _)| name)).collect();
     let names = [names.as_slice(), more].concat();
     format!("| {} |\n{}|\n", names.join(" | "), "|---".repeat(names.len()))
-}
-
-/// A number with a comma before its last three digits.
-fn grouped(number: usize) -> String {
-    match number / 1000 {
-        0 => number.to_string(),
-        thousands => format!("{thousands},{:03}", number % 1000),
-    }
 }
 
 /// For each step from size to size, and for all of them, the power p such that the whole time grows as the size

@@ -7,6 +7,7 @@ use std::path::Path;
 use std::process::{Command, ExitCode, Stdio};
 
 use compare::archive;
+use compare::grouped;
 use compare::scripts::Script;
 use plain::cases::{self, Case};
 use plain::steps::operation;
@@ -93,7 +94,7 @@ fn measure() -> ExitCode {
                 (least, hardest) = (needed, name);
             }
         }
-        println!("| {operation} | {} | {hardest} |", least * PAGE / 1024);
+        println!("| {operation} | {} | {hardest} |", grouped(least * PAGE / 1024));
     }
     let _ = std::fs::remove_dir_all(&folder);
     ExitCode::SUCCESS
