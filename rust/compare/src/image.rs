@@ -14,9 +14,10 @@ pub struct Asked {
     original: u32,
     replacement: u32,
     omit: Vec<u32>,
-    /// Bytes of link's output more than the image's, and fewer.
+    /// Bytes of link's output more than the image's, and fewer; and whether an image that is refused meets them too.
     longer: usize,
     shorter: usize,
+    all_lengths: bool,
     /// Guards more in front of what is lent.
     more: usize,
 }
@@ -36,7 +37,8 @@ impl Asked {
         let omitted = [name(), name(), name()];
         let omit = if random.once_in(3) { omitted[..random.between(1, 3)].to_vec() } else { Vec::new() };
         let shorter = if random.once_in(2) { 1 } else { random.between(1, image.len().max(1)) };
-        Asked { original, replacement, omit, longer: random.between(1, 99), shorter, more: random.below(8) }
+        let (longer, all_lengths, more) = (random.between(1, 99), random.once_in(2), random.below(8));
+        Asked { original, replacement, omit, longer, shorter, all_lengths, more }
     }
 }
 
@@ -47,8 +49,8 @@ pub fn agrees(image: &[u8], asked: &Asked, answer: &mut dyn FnMut(&'static str, 
     answer("order", order_agrees(image)?);
     answer("redirect", redirect_agrees(image, asked)?);
     answer("link", link_agrees(image, image.len(), asked.more)?);
-    // Where intake refuses, the length of the output is not looked at.
-    if taken == 0 || asked.shorter == 1 {
+    // Where intake refuses, the length of the output is not to matter.
+    if taken == 0 || asked.all_lengths {
         answer("link", link_agrees(image, image.len() + asked.longer, asked.more)?);
         answer("link", link_agrees(image, image.len().saturating_sub(asked.shorter), asked.more)?);
     }

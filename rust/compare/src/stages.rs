@@ -45,17 +45,22 @@ fn files(extension: &str) -> Vec<PathBuf> {
     files
 }
 
+/// A file that cannot be read is a failure too.
 fn vectors(run: &mut Run) {
     for path in files("img") {
-        if let Ok(image) = std::fs::read(&path) {
-            run.compare(&image, &|| path.display().to_string());
+        let what = path.display().to_string();
+        match std::fs::read(&path) {
+            Ok(image) => run.compare(&image, &|| what.clone()),
+            Err(error) => run.fail(&[], &what, &error.to_string()),
         }
     }
     for path in files("steps") {
+        let what = path.display().to_string();
         let text = std::fs::read_to_string(&path).unwrap_or_default();
         let sources = std::fs::read(path.with_extension("sources")).unwrap_or_default();
-        if let Some(session) = session::read(path.display().to_string(), &text, sources) {
-            run.compare_session(&session);
+        match session::read(what.clone(), &text, sources) {
+            Some(session) => run.compare_session(&session),
+            None => run.fail(&[], &what, "this is no session"),
         }
     }
 }

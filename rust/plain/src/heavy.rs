@@ -19,14 +19,21 @@ const EXPRESSIONS: usize = limit::EXPRESSIONS as usize;
 
 /// The images, by name.
 pub fn images() -> Vec<Case> {
-    let cases: [(&str, Module); 22] = [
-        ("512 names, borne by locals", named_locals(names_apart(RECORDS, 24))),
+    let cases: [(&str, Module); 23] = [
+        ("512 names, borne by locals", named_locals(names_apart(RECORDS, 24), RECORDS)),
         (
             "512 names whose hashes have one place, borne by locals",
-            named_locals(names_one_place(RECORDS, 24)),
+            named_locals(names_one_place(RECORDS, 24), RECORDS),
         ),
-        ("940 calls of the last of 512 names", calls_of_the_last_name(false)),
-        ("590 calls with results of the last of 512 names", calls_of_the_last_name(true)),
+        ("940 calls of the last of 512 names", calls_of_the_last(names_apart(RECORDS, 12), 940)),
+        (
+            "940 calls of the last of 512 names whose hashes have one place",
+            calls_of_the_last(names_one_place(RECORDS, 12), 940),
+        ),
+        (
+            "590 calls with results of the last of 512 names",
+            results_of_the_last(names_apart(RECORDS, 12), 590),
+        ),
         ("1,700 calls of 255 functions", calls_of_all(256)),
         ("256 functions, each calls the one behind 9 blocks deep", chain_of_blocks(256, 9)),
         ("512 structs", reading_types(structs_apart(RECORDS, 2))),
@@ -95,10 +102,10 @@ fn local(name: usize, init: usize) -> Local {
     Local { span: Span::default(), name: word(name), ty: word(0), init: word(init) }
 }
 
-/// Functions whose locals bear all names but as many as there are functions, which bear those.
-fn named_locals(names: Vec<Name>) -> Module {
-    let functions = names.len().div_ceil(LOCALS + 1);
-    let rest: Vec<usize> = (functions + 1..=names.len()).collect();
+/// Functions whose locals bear the first so many names, but for as many as there are functions, which bear those.
+fn named_locals(names: Vec<Name>, borne: usize) -> Module {
+    let functions = borne.div_ceil(LOCALS + 1);
+    let rest: Vec<usize> = (functions + 1..=borne).collect();
     let function = |(own, names): (usize, &[usize])| Function {
         name: word(own + 1),
         locals: names.iter().map(|name| local(*name, 0)).collect(),
@@ -110,23 +117,27 @@ fn named_locals(names: Vec<Name>) -> Module {
 
 // ---- calls ----
 
-/// Names of 12 words that are all derived before the last of them, which a function bears that is called and called.
-fn calls_of_the_last_name(results: bool) -> Module {
-    let mut module = named_locals(names_apart(RECORDS - 2, 12));
-    module.names.extend(names_ending(12, [0, u32::MAX].into_iter()));
+/// Names that are all derived before the last of them, which a function bears that is called and called.
+fn calls_of_the_last(names: Vec<Name>, calls: usize) -> Module {
+    let count = names.len();
+    let mut module = named_locals(names, count - 2);
     let callee = module.functions.len();
-    let result = ResultType { ty: word(0), binding: Binding::default() };
-    let result = results.then_some(result);
-    module.functions.push(Function { name: word(RECORDS), result, ..Function::default() });
-    let mut caller = Function { name: word(RECORDS - 1), ..Function::default() };
-    if results {
-        let count = 590;
-        caller.expressions = vec![of_kind(expression::CALL_RESULT, vec![Value::One(word(callee))]); count];
-        caller.body = (0..count).map(|own| call(callee, own + 1)).collect();
-    } else {
-        caller.body = vec![call(callee, 0); 940];
-    }
-    module.functions.push(caller);
+    module.functions.push(Function { name: word(count), ..Function::default() });
+    let body = vec![call(callee, 0); calls];
+    module.functions.push(Function { name: word(count - 1), body, ..Function::default() });
+    module
+}
+
+/// The same, and each call has a result.
+fn results_of_the_last(names: Vec<Name>, calls: usize) -> Module {
+    let mut module = calls_of_the_last(names, 0);
+    let caller = module.functions.len() - 1;
+    let callee = caller - 1;
+    let binding = Binding::default();
+    module.functions[callee].result = Some(ResultType { ty: word(0), binding });
+    let caller = &mut module.functions[caller];
+    caller.expressions = vec![of_kind(expression::CALL_RESULT, vec![Value::One(word(callee))]); calls];
+    caller.body = (0..calls).map(|own| call(callee, own + 1)).collect();
     module
 }
 
