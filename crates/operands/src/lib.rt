@@ -95,17 +95,24 @@ pub fn need(
     )
 }
 
+// The kinds of expressions that stand go from the first one to ZeroValue, and from FunctionArgument to LocalVariable.
+const ZERO_VALUE: u32 = 3;
+
+const FUNCTION_ARGUMENT: u32 = 9;
+
+const LOCAL_VARIABLE: u32 = 11;
+
 // Whether an expression of the kind k stands.
 fn stands(k: u32) -> bool
     ensures { λ r. ⌜ r ≡ standingKind k ⌝ }
 {
-    if k < 4 {
+    if k <= ZERO_VALUE {
         return true;
     }
-    if k < 9 {
+    if k < FUNCTION_ARGUMENT {
         return false;
     }
-    k < 12
+    k <= LOCAL_VARIABLE
 }
 
 // Expression e of k, where it stands and is not mapped.
