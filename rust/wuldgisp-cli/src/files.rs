@@ -57,6 +57,16 @@ impl Input {
         Input((word != "-").then(|| word.into()))
     }
 
+    /// The file at a path.
+    pub fn at(path: PathBuf) -> Self {
+        Input(Some(path))
+    }
+
+    /// The folder that it is in: of standard input the one that the program was started in.
+    pub fn folder(&self) -> &Path {
+        self.0.as_deref().and_then(Path::parent).unwrap_or(Path::new(""))
+    }
+
     /// As JSON names it.
     pub fn file(&self) -> String {
         self.0.as_ref().map_or("-".to_owned(), |path| path.to_string_lossy().into_owned())

@@ -13,10 +13,14 @@ mod files;
 mod help;
 mod inspect;
 mod json;
+mod line;
 mod module_json;
 mod names;
 mod order;
+mod plan;
 mod redirect;
+mod session;
+mod written;
 
 use std::process::ExitCode;
 

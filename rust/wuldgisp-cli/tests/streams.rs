@@ -9,12 +9,16 @@ fn lost_output_is_told() {
     let text = folder().join("streams.txt");
     std::fs::write(&text, SHADE).unwrap();
     let assemble = format!("assemble {}", text.display());
+    let plan = folder().join("streams-plan.txt");
+    std::fs::write(&plan, "clear\n").unwrap();
+    let session = format!("session {}", plan.display());
     for command in [
         "check $IMAGE",
         "order $IMAGE",
         "inspect $IMAGE",
         "redirect --original=fog --replacement=tone $IMAGE",
         &assemble,
+        &session,
         "--help",
     ] {
         let (status, _, err) = shell(&format!("$PROGRAM {command} >/dev/full"));
@@ -29,7 +33,7 @@ fn lost_output_is_told() {
 
 #[test]
 fn lost_input_is_told() {
-    for command in ["check", "order", "inspect", "assemble"] {
+    for command in ["check", "order", "inspect", "assemble", "session"] {
         let (status, out, err) = shell(&format!("$PROGRAM {command} <&-"));
         assert_eq!((status, out.as_str(), err.as_str()), (2, "", "wuldgisp: standard input: it is closed\n"));
         let (status, out, err) = shell(&format!("$PROGRAM {command} < ."));
