@@ -404,6 +404,57 @@ fn what_is_wrong_is_told_with_line_and_column() {
 }
 
 #[test]
+fn any_text_has_an_answer() {
+    let words = [
+        "set",
+        "lights.img",
+        "bad.img",
+        "offset",
+        "5",
+        "clear",
+        "map_span",
+        "4294967295",
+        "import_type",
+        "Light",
+        "rename_type",
+        "as",
+        "Lamp",
+        "@1",
+        "@",
+        "import_function",
+        "shade",
+        "\"fog\"",
+        "\"",
+        "\\",
+        "#",
+        "\u{fc}",
+        "finish",
+        "out.img",
+        "has_required_special_types",
+        "import_global_expression",
+        "0x",
+        "\n",
+        "\n",
+        "\r\n",
+        "\t",
+    ];
+    let mut random = plain::random::Random::new(17);
+    let mut statuses = [0; 3];
+    for _ in 0..200 {
+        let mut plan = "set lights.img\n".to_owned();
+        for _ in 0..random.below(12) {
+            plan += words[random.below(words.len())];
+            plan += ["", " ", " ", "\n"][random.below(4)];
+        }
+        let (status, _, err) = Case::new("any", &plan).answer(&[]);
+        statuses[status as usize] += 1;
+        let lines = usize::from(status == 2);
+        assert_eq!((err.contains("panicked"), err.lines().count()), (false, lines), "{plan}: {err}");
+    }
+    assert!(statuses[0] > 10 && statuses[2] > 50, "{statuses:?}");
+}
+
+#[test]
 fn files_that_cannot_be_read_are_told() {
     let case = Case::new("unread", "clear\nset not-there.img\n");
     let path = case.folder.join("not-there.img");

@@ -128,40 +128,60 @@ fn by_name(session: &mut Session, vector: &Vector, [operation, a, b, c]: [u32; 4
     })
 }
 
+/// That a session answers alike when it is put together by name. Answers how many steps have a name, and how many none.
+fn agrees_by_name(vector: &Vector) -> (usize, usize) {
+    let (mut session, mut asked, mut expected) = (Session::new(), Vec::new(), Vec::new());
+    for (step, answer) in vector.steps.iter().zip(&vector.answers) {
+        match by_name(&mut session, vector, *step) {
+            Some(own) => {
+                asked.push(own);
+                expected.push(*answer);
+            }
+            // It is refused, and so changes nothing.
+            None => assert_eq!(*answer, [13, 0, 0]),
+        }
+    }
+    let answers = session.run().unwrap();
+    let mut output = vec![BEFORE; vector.output.len()];
+    let words: Vec<[u32; 3]> = asked.iter().map(|own| own.words(&answers, &mut output)).collect();
+    assert_eq!(words, expected, "{:?}", vector.file);
+    assert!(output == vector.output, "{:?}: other bytes", vector.file);
+
+    let refused: Vec<(usize, u32)> =
+        answers.refusals().map(|(step, refusal)| (step, refusal.number())).collect();
+    let refusals = expected.iter().enumerate().filter(|(_, answer)| answer[0] != 0);
+    assert_eq!(refused, refusals.map(|(step, answer)| (step, answer[0])).collect::<Vec<_>>());
+    let first = answers.first_refusal();
+    let first = first.map_or(0, |(step, refusal)| (step as u64) << 32 | u64::from(refusal.number()));
+    assert_eq!(first, first_refusal(&expected), "{:?}", vector.file);
+    (asked.len(), vector.steps.len() - asked.len())
+}
+
 #[test]
 fn vectors_agree_by_name() {
-    let (mut named, mut unnamed) = (0, 0);
-    for vector in vectors() {
-        let (mut session, mut asked, mut expected) = (Session::new(), Vec::new(), Vec::new());
-        for (step, answer) in vector.steps.iter().zip(&vector.answers) {
-            match by_name(&mut session, &vector, *step) {
-                Some(own) => {
-                    asked.push(own);
-                    expected.push(*answer);
-                }
-                // It is refused, and so changes nothing.
-                None => {
-                    assert_eq!(*answer, [13, 0, 0]);
-                    unnamed += 1;
-                }
-            }
-        }
-        named += asked.len();
-        let answers = session.run().unwrap();
-        let mut output = vec![BEFORE; vector.output.len()];
-        let words: Vec<[u32; 3]> = asked.iter().map(|own| own.words(&answers, &mut output)).collect();
-        assert_eq!(words, expected, "{:?}", vector.file);
-        assert!(output == vector.output, "{:?}: other bytes", vector.file);
-
-        let refused: Vec<(usize, u32)> =
-            answers.refusals().map(|(step, refusal)| (step, refusal.number())).collect();
-        let refusals = expected.iter().enumerate().filter(|(_, answer)| answer[0] != 0);
-        assert_eq!(refused, refusals.map(|(step, answer)| (step, answer[0])).collect::<Vec<_>>());
-        let first = answers.first_refusal();
-        let first = first.map_or(0, |(step, refusal)| (step as u64) << 32 | u64::from(refusal.number()));
-        assert_eq!(first, first_refusal(&expected), "{:?}", vector.file);
-    }
+    let counts: Vec<(usize, usize)> = vectors().iter().map(agrees_by_name).collect();
+    let (named, unnamed): (Vec<usize>, Vec<usize>) = counts.into_iter().unzip();
+    let (named, unnamed): (usize, usize) = (named.iter().sum(), unnamed.iter().sum());
     assert!(named > 1000 && unnamed > 0, "{named} {unnamed}");
+}
+
+#[test]
+fn generated_sessions_agree_by_name() {
+    for seed in 0..300 {
+        let generated = plain::generate_session::session(&mut plain::random::Random::new(seed));
+        let steps: Vec<[u32; 4]> =
+            generated.steps.chunks_exact(4).map(|step| step.try_into().unwrap()).collect();
+        let mut vector = Vector {
+            file: format!("seed {seed}").into(),
+            answers: vec![[0; 3]; steps.len()],
+            output: vec![BEFORE; generated.output],
+            sources: generated.sources,
+            steps,
+        };
+        let (steps, answers) = (vector.steps.as_flattened(), vector.answers.as_flattened_mut());
+        plain::steps::run(&vector.sources, steps, answers, &mut vector.output);
+        agrees_by_name(&vector);
+    }
 }
 
 /// An image with one function, and that image without it.
