@@ -14,6 +14,7 @@ mod help;
 mod inspect;
 mod json;
 mod line;
+mod link;
 mod module_json;
 mod names;
 mod order;
@@ -54,6 +55,10 @@ fn run(command: &Command, given: &Given) -> Status {
     for message in wrong {
         output.complain(&message);
         status = Status::Misuse;
+    }
+    if let Err(message) = given.target().admits(&inputs) {
+        output.complain(&format!("wuldgisp: {message}"));
+        return Status::Misuse;
     }
     let many = inputs.len() > 1;
     for input in &inputs {

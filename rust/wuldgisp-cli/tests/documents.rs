@@ -29,6 +29,7 @@ fn what_users_see_cites_what_is_there() {
         "rust/README.md",
         "include/wuldgisp.h",
         "examples/order.c",
+        "examples/session.c",
         "docs/IMAGE.md",
         "docs/TEXT.md",
         "docs/COMMANDS.md",

@@ -17,6 +17,7 @@ fn lost_output_is_told() {
         "order $IMAGE",
         "inspect $IMAGE",
         "redirect --original=fog --replacement=tone $IMAGE",
+        "link $IMAGE",
         &assemble,
         &session,
         "--help",
@@ -26,14 +27,16 @@ fn lost_output_is_told() {
         let (status, _, err) = shell(&format!("$PROGRAM {command} >&-"));
         assert_eq!((status, err.as_str()), (2, "wuldgisp: standard output: it is closed\n"), "{command}");
     }
-    let (status, _, err) = shell("$PROGRAM redirect --original=fog --replacement=tone -o /dev/full $IMAGE");
-    assert_eq!(status, 2);
-    assert!(err.ends_with("/dev/full cannot be written: no space left\n"), "{err}");
+    for command in ["redirect --original=fog --replacement=tone", "link"] {
+        let (status, out, err) = shell(&format!("$PROGRAM {command} -o /dev/full $IMAGE"));
+        assert_eq!((status, out.as_str()), (2, ""), "{command}");
+        assert!(err.ends_with("/dev/full cannot be written: no space left\n"), "{err}");
+    }
 }
 
 #[test]
 fn lost_input_is_told() {
-    for command in ["check", "order", "inspect", "assemble", "session"] {
+    for command in ["check", "order", "link", "inspect", "assemble", "session"] {
         let (status, out, err) = shell(&format!("$PROGRAM {command} <&-"));
         assert_eq!((status, out.as_str(), err.as_str()), (2, "", "wuldgisp: standard input: it is closed\n"));
         let (status, out, err) = shell(&format!("$PROGRAM {command} < ."));
