@@ -218,7 +218,7 @@ pub const COMMANDS: &[Command] = &[
              source that is set last. Relative paths start at the plan's folder.",
             "For each step a line with its line in the plan, the step and its answer. A refused step changes nothing,              and the next one follows. A finish that is accepted writes its FILE, in one stroke; that intake refuses \
              the image, since a function was imported twice, is told behind its bytes.",
-            "What is wrong with a plan is told with line and column; then nothing is run and nothing is written.",
+            "What is wrong with a plan is told with line and column; then no answer is told and nothing is written.",
             "A JSON object has `file`, `line`, `step` (counted from 0), `operation`, `accepted` and the answer: `start`              and `end`, the record's number under `type`, `constant`, `override`, `global`, `global_expression` or              `function`, `special_types`, or `output`, `bytes` and, where intake refuses the image, `image_refusal`; or \
              the members of a refusal as check has them.",
         ],

@@ -129,18 +129,21 @@ fn plans_are_as_their_page_says() {
     for operation in plain::steps::OPERATIONS {
         assert!(text.contains(&format!("| `{operation}")) && help.contains(operation), "{operation}");
     }
-    let [plan, listing, wrong] = &indented(&text)[..] else { panic!("a plan, its listing and an error") };
+    let [plan, listing, refused, wrong] = &indented(&text)[..] else { panic!("a plan and what it tells") };
+    assert_eq!(*plan, page("examples/both.plan"));
     for image in ["vectors/000.img", "vectors/001.img"] {
         file(&format!("plan/{image}"), &std::fs::read(root().join(image)).unwrap());
     }
     let folder = folder().join("plan");
     std::fs::create_dir_all(folder.join("target")).unwrap();
     let run = |plan: &str| {
-        file("plan/plan.txt", plan.as_bytes());
-        shell(&format!("cd {} && $PROGRAM session plan.txt", folder.display()))
+        file("plan/examples/both.plan", plan.as_bytes());
+        shell(&format!("cd {} && $PROGRAM session examples/both.plan", folder.display()))
     };
-    assert_eq!(run(plan), (1, listing.clone(), String::new()));
+    assert_eq!(run(plan), (0, listing.clone(), String::new()));
     assert_eq!(plain::intake(&std::fs::read(folder.join("target/both.img")).unwrap()), Ok(()));
+    let (status, out, _) = run(&plan.replace("_if_new a", " 9"));
+    assert_eq!((status, out.contains(refused)), (1, true), "{out}");
     assert_eq!(run(&plan.replace("fog", "fgo")), (2, String::new(), wrong.clone()));
 }
 
