@@ -1,6 +1,6 @@
 -- What an operation does to a function under way. Assumes nothing: these are definitions.
 use mathlib.Core.Path.{_≡_}
-use mathlib.Core.Bool.{true, false}
+use mathlib.Core.Bool.{Bool, true, false}
 use mathlib.Core.List.{List}
 use Prim.Native.Nat.{ℕ, _+_, _≤_, _<_}
 use lib.ListN.{length, getD, take, set}
@@ -51,6 +51,13 @@ pub record Wrote (cs : Cells) (et : ℕ) (stacks₀ stacks : List (List ℕ)) : 
   pub seats-same : row stacks 2 ≡ row stacks₀ 2
   pub body-same : row stacks 3 ≡ row stacks₀ 3
   pub four : length stacks ≡ 4
+
+-- the first word, from `at` on, by which two records are told apart; `end` where they are alike
+pub record Apart (at end : ℕ) (same : Bool) (r : ℕ) : Type 0 where
+  pub low : at ≤ r
+  pub high : r ≤ end
+  pub all : r ≡ end → true ≡ same
+  pub not : (r ≡ end → ⊥) → false ≡ same
 
 -- one word more on the other
 pub record Pushed (w : ℕ) (stacks₀ : List (List ℕ)) (e r : Ends) (stacks : List (List ℕ)) : Type 0 where
