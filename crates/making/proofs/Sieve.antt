@@ -3,21 +3,24 @@ use mathlib.Core.Path.{_≡_, refl, sym, _∙_}
 use mathlib.Core.Bool.{Bool, true, false}
 use mathlib.Core.List.{List, [], _∷_}
 use Prim.Native.Nat.{ℕ, zero, suc, _+_, _-_, _≤_, _<_}
-use native.Mathlib.Nat.{le-of-lt}
+use native.Mathlib.Nat.{le-refl, le-of-lt}
 use native.Mathlib.Omega.{arith}
+use lib.Dec.{eqb, ltb}
 use lib.ListN.{length, getD, drop}
+use borrow.Author.Tests.{ltb-true, ltb-false, eqb-true, eqb-false, ne-eqb}
 use Rattle.model.specs.Outcome.{Cell, Cells}
 use Rattle.model.specs.Between.{between}
 use Rattle.model.specs.References.{Place, Node, target, refOf, refs, through, alikeC, alike, seat}
 use Rattle.imports.specs.RecordLaws.{All}
 use Rattle.laws.specs.Betweens.{between-next}
-use Rattle.state.specs.Held.{row, carriedBy}
+use Rattle.state.specs.Held.{row, cell, carriedBy}
 use Rattle.state.specs.declared.Ends.{Ends}
+use Rattle.state.proofs.Classes.{alike-class, alike-upto}
 use Rattle.state.proofs.Passes.{all-here, all-next, carried-next, compares-short}
 use Rattle.ground.specs.Fits.{FitN, Legible}
 use Rattle.ground.specs.Cuts.{nextOf, Rising}
 use Rattle.making.specs.Stacks.{seatsOf, madeOf, Stacks}
-use Rattle.making.specs.Makes.{Apart}
+use Rattle.making.specs.Makes.{Hops, Apart}
 use Rattle.making.proofs.Stacked.{Seating, seat-room, seat-first, seat-at, seat-within, seat-found, seat-more, seat-last}
 
 -- ---- one word of a stretch
@@ -49,6 +52,34 @@ module _ (tags words classes log : List ℕ) (went : Place → ℕ → ℕ) (end
   unlike (suc d) i p hj hq l =
       rw (between-next classes log p to (omega arith) u v, carried-next tags words i end (omega arith) t w went)
       (rest-not _ _ _ _ (unlike d (suc i) (suc p) (omega arith) (omega arith) (omega arith)))
+
+-- ---- a word that is another, and no span's
+word-not : (c x s y : ℕ) → (s ≡ 81 → ⊥) → (s ≡ 82 → ⊥) → (x ≡ y → ⊥) → alikeC (c, x) (s, y) ≡ false
+word-not c x s y n m ne = go (eqb c s) refl
+  where
+    go : (b : Bool) → eqb c s ≡ b → alikeC (c, x) (s, y) ≡ false
+    go true e = let q = eqb-true c s e in sym (alike-upto c x s y q ne (λ z. n (sym q ∙ z))) ∙ ne-eqb c 82 (λ z. m (sym q ∙ z))
+    go false e = sym (alike-class c x s y (eqb-false c s e))
+
+-- ---- past expressions that have another word in place i
+module _ (stacks : List (List ℕ)) (e₁ made i s y k : ℕ) where
+  pub hop-none : k ≤ made → Hops stacks e₁ made i s y k k
+  hop-none h = record { low = le-refl k; high = h; not = λ j l u c v. absurd (omega arith) }
+
+  module _ (j : ℕ) (H : Hops stacks e₁ made i s y k j) where
+    pub hop-last : made ≤ j → Hops stacks e₁ made i s y k made
+    hop-last h = let l = H .low in let t = H .high in record { low = omega arith; high = le-refl made; not = λ x l u c v. H .not x l (omega arith) c v }
+
+    module _ (n : s ≡ 81 → ⊥) (m : s ≡ 82 → ⊥) (a : ℕ) (ha : a ≡ cell stacks 2 (e₁ + j)) (ne : a + i < 16384 → cell stacks 0 (a + i) ≡ y → ⊥) where
+      hop-at : (x : ℕ) → k ≤ x → x < j + 1 → (b : Bool) → ltb x j ≡ b → (c : ℕ) → cell stacks 2 (e₁ + x) + i < 16384 → alikeC (c, cell stacks 0 (cell stacks 2 (e₁ + x) + i)) (s, y) ≡ false
+      hop-at x l u true e c v = H .not x l (ltb-true x j e) c v
+      hop-at x l u false e c v =
+          let z : x ≡ j = let w = ltb-false x j e in omega arith in
+          let h : a + i < 16384 = rw (z, ← ha) at v in
+          rw (z, ← ha) (word-not c (cell stacks 0 (a + i)) s y n m (ne h))
+
+      pub hop-next : j < made → Hops stacks e₁ made i s y k (j + 1)
+      hop-next h = record { low = let l = H .low in omega arith; high = omega arith; not = λ x l u c v. hop-at x l u (ltb x j) refl c v }
 
 -- ---- what is left from expression k on is the whole; the record's word at p becomes y
 pub record Sieving (words tags : List ℕ) (went : Place → ℕ → ℕ) (at end : ℕ) (stacks : List (List ℕ)) (e₁ : ℕ) (e : Ends) (k p y : ℕ) : Type 0 where
@@ -108,18 +139,37 @@ module _ (words tags : List ℕ) (went : Place → ℕ → ℕ) (at end : ℕ) (
 
       -- or not alike in that word
       module _ (long : b - a ≡ end - at) where
-        pub sieve-at : a + (p - at) < 16384
-        sieve-at =
+        place : a + (p - at) < 16384
+        place =
             let z = sieve-within in
             let l = G .low in
             let u = G .high in
             omega arith
 
-        pub sieve-not : (r : Bool) → r ≡ alikeC (getD (row stacks 1) (a + (p - at)) 0, getD (row stacks 0) (a + (p - at)) 0) (getD tags p 0, y) → r ≡ false → Sieving words tags went at end stacks e₁ e (k + 1) p y
-        sieve-not r re q =
+        unlike-there : alikeC (getD (row stacks 1) (a + (p - at)) 0, getD (row stacks 0) (a + (p - at)) 0) (getD tags p 0, y) ≡ false → Sieving words tags went at end stacks e₁ e (k + 1) p y
+        unlike-there q =
             let z = sieve-within in
             let l = G .low in
             let u = G .high in
             let m = S .rows 0 (omega arith) in
             let n = S .rows 1 (omega arith) in
-            passed (sym (unlike tags words (row stacks 1) (row stacks 0) went end b (L .stretch .in-tags) (L .stretch .in-words) (omega arith) (omega arith) p (a + (p - at)) u (rw (G .word) at (sym re ∙ q)) (p - at) at a (omega arith) refl (omega arith)))
+            passed (sym (unlike tags words (row stacks 1) (row stacks 0) went end b (L .stretch .in-tags) (L .stretch .in-words) (omega arith) (omega arith) p (a + (p - at)) u (rw (G .word) at q) (p - at) at a (omega arith) refl (omega arith)))
+
+      skip : ((c : ℕ) → a + (p - at) < 16384 → alikeC (c, getD (row stacks 0) (a + (p - at)) 0) (getD tags p 0, y) ≡ false) → Sieving words tags went at end stacks e₁ e (k + 1) p y
+      skip f = go (eqb (b - a) (end - at)) refl
+        where
+          go : (x : Bool) → eqb (b - a) (end - at) ≡ x → Sieving words tags went at end stacks e₁ e (k + 1) p y
+          go true q = let l = eqb-true (b - a) (end - at) q in unlike-there l (f (getD (row stacks 1) (a + (p - at)) 0) (place l))
+          go false q = sieve-short (eqb-false (b - a) (end - at) q)
+
+  -- those that are passed
+  module _ (p y k₀ r : ℕ) (H : Hops stacks e₁ (e .made) (p - at) (getD tags p 0) y k₀ r) where
+    hopped : (d k : ℕ) → k₀ ≤ k → r ≡ k + d → Sieving words tags went at end stacks e₁ e k p y → Sieving words tags went at end stacks e₁ e r p y
+    hopped zero k l q G = let z : r ≡ k = omega arith in rw z G
+    hopped (suc d) k l q G =
+        let h = H .high in
+        let g = skip k p y G (omega arith) (cell stacks 2 (e₁ + k)) (nextOf (drop (k + 1) (seatsOf stacks e₁ e)) (e .et)) refl refl (λ c v. H .not k l (omega arith) c v) in
+        hopped d (k + 1) (omega arith) (omega arith) g
+
+    pub sieve-hop : Sieving words tags went at end stacks e₁ e k₀ p y → Sieving words tags went at end stacks e₁ e r p y
+    sieve-hop G = hopped (r - k₀) k₀ (le-refl k₀) (let l = H .low in omega arith) G

@@ -4,6 +4,8 @@
 use classes::EXPR;
 use classes::EXPR_KIND;
 use classes::NAMED;
+use classes::SPAN;
+use classes::UPTO;
 use known::known;
 use state::Ends;
 use state::kind_of;
@@ -28,7 +30,7 @@ ghost use Rattle.known.specs.Bearing.{Bearing};
 ghost use Rattle.ground.specs.Fits.{FitN, Ground, Legible};
 ghost use Rattle.ground.specs.Cuts.{nextOf, Rising, exprsOf, Expressions};
 ghost use Rattle.making.specs.Stacks.{wentOf, seatsOf, madeOf, Stacks, Under};
-ghost use Rattle.making.specs.Makes.{Lays, Wrote, Apart, Pushed};
+ghost use Rattle.making.specs.Makes.{Lays, Wrote, Hops, Apart, Pushed};
 
 // The rows of the stacks: words and classes of expressions, where each of them starts, and words of declarations, bodies and names.
 pub const WORDS: usize = 0;
@@ -395,8 +397,41 @@ fn next(stacks: &[[u32; 16384]; 4], ends: Ends, e1: usize, k: usize) -> usize
     ends.et
 }
 
-// The first expression that is, spans apart, what the source's words become; or how many there are. Most are told from it by their lengths or by one word: the
-// last, or the one by which another was told from it before.
+// The first expression, from k on, that has the word y in place i; k where y is a word of a span, by its class s.
+fn hop(
+    stacks: &[[u32; 16384]; 4],
+    e1: usize,
+    made: usize,
+    i: usize,
+    s: u8,
+    y: u32,
+    k: usize,
+) -> usize
+    requires { ⌜ (e1 + made ≤ 16384) × (i ≤ 16384) × (k ≤ made) ⌝ }
+    ensures { λ r. ⌜ Hops (now (stacks .entry)) e1 made i s y k r ⌝ }
+{
+    if s == SPAN {
+        return k;
+    }
+    if s == UPTO {
+        return k;
+    }
+    let mut j = k;
+    while j < made {
+        let h = j;
+        j += 1;
+        let q = wide(stacks[SEATS][e1 + h]) + i;
+        if q < 16384 {
+            if stacks[WORDS][q] == y {
+                return h;
+            }
+        }
+    }
+    made
+}
+
+// The first expression that is, spans apart, what the source's words become; or how many there are. Most are told from it by one word: the last, or the one by
+// which another was told from it.
 fn seat(
     words: &[u32; 16384],
     tags: &[u8; 16384],
@@ -438,48 +473,48 @@ fn seat(
     );
     let mut k = 0;
     while k < made {
-        let j = k;
-        k += 1;
+        let j = hop(stacks, e1, made, p - at, tags[p], y, k);
+        if j == made {
+            return made;
+        }
+        k = j + 1;
         let a = wide(stacks[SEATS][e1 + j]);
         let b = next(stacks, ends, e1, j);
         if b - a == end - at {
-            let q = a + (p - at);
-            if alike_cell(stacks[CLASSES][q], stacks[WORDS][q], tags[p], y) {
-                p = apart(
-                    words,
-                    tags,
-                    kinds,
-                    n,
-                    log,
-                    classes,
-                    starts,
-                    maps,
-                    em,
-                    stacks,
-                    ends,
-                    at,
-                    end,
-                    a,
-                    b,
-                );
-                if p == end {
-                    return j;
-                }
-                y = carried(
-                    words,
-                    tags,
-                    kinds,
-                    n,
-                    log,
-                    classes,
-                    starts,
-                    maps,
-                    em,
-                    ends,
-                    tags[p],
-                    words[p],
-                );
+            p = apart(
+                words,
+                tags,
+                kinds,
+                n,
+                log,
+                classes,
+                starts,
+                maps,
+                em,
+                stacks,
+                ends,
+                at,
+                end,
+                a,
+                b,
+            );
+            if p == end {
+                return j;
             }
+            y = carried(
+                words,
+                tags,
+                kinds,
+                n,
+                log,
+                classes,
+                starts,
+                maps,
+                em,
+                ends,
+                tags[p],
+                words[p],
+            );
         }
     }
     made

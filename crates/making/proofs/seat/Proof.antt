@@ -1,10 +1,10 @@
 -- `making::seat` meets its contract. What is left from expression k on is the whole, and the word at p becomes y. Assumes nothing.
-use Prim.Native.Nat.{_-_}
+use Prim.Native.Nat.{_-_, _<_}
 use native.Mathlib.Nat.{le-of-lt}
 use native.Mathlib.Omega.{arith}
 use borrow.Author.Needs.{needs}
 use Rattle.making.specs.Stacks.{wentOf}
-use Rattle.making.proofs.Sieve.{Sieving, sieve-room, sieve-fits, sieve-first, sieve-last, sieve-seat, sieve-word, sieve-within, sieve-at, sieve-found, sieve-more, sieve-short, sieve-not}
+use Rattle.making.proofs.Sieve.{Sieving, sieve-room, sieve-fits, sieve-first, sieve-last, sieve-seat, sieve-word, sieve-within, sieve-found, sieve-more, sieve-short, sieve-hop}
 use Rattle.making.proofs.seat.Statement.{statement}
 use Rattle.making.proofs.seat.Tie as tie
 
@@ -32,101 +32,77 @@ carried-requires c κs = let a = c .before .before .args in let p = c .before .b
 loop-holds : tie.Need-loop-holds Inv-loop μ-loop
 loop-holds c = let a = c .before .before .before .args in let p = c .before .before .before .pre in let q = p .1 .1 .1 .1 in sieve-first (a .words .now) (a .tags .now) (wentOf (a .words .now) (a .n) (a .log .now) (a .classes .now) (a .starts .now) (a .maps .now) (a .ends) (a .em .now)) (a .at) (a .end) (a .stacks .now) (a .e1) (a .ends) (p .1 .1 .1 .0) (q .0) (q .1) (q .2) (q .3) _ (c .carried .ensures)
 
+sub-hop : tie.Need-sub-hop Inv-loop μ-loop
+sub-hop c = let a = c .before .before .before .before .before .args in let p = c .before .before .before .before .before .pre in let q = p .1 .1 .1 .1 in let l = c .before .loop in let h = l .inv .low in omega arith
+
+element-copy-out-hop : tie.Need-element-copy-out-hop Inv-loop μ-loop
+element-copy-out-hop c = let a = c .before .before .before .before .before .args in let p = c .before .before .before .before .before .pre in let q = p .1 .1 .1 .1 in let l = c .before .loop in sieve-word (a .words .now) (a .tags .now) (wentOf (a .words .now) (a .n) (a .log .now) (a .classes .now) (a .starts .now) (a .maps .now) (a .ends) (a .em .now)) (a .at) (a .end) (a .stacks .now) (a .e1) (a .ends) (p .1 .1 .1 .0) (q .0) (q .1) (q .2) (l .k) (l .p) (l .y) (l .inv)
+
+hop-requires : tie.Need-hop-requires Inv-loop μ-loop
+hop-requires c κs = let a = c .before .before .before .before .before .before .args in let p = c .before .before .before .before .before .before .pre in let q = p .1 .1 .1 .1 in let l = c .before .before .loop in let z = sieve-word (a .words .now) (a .tags .now) (wentOf (a .words .now) (a .n) (a .log .now) (a .classes .now) (a .starts .now) (a .maps .now) (a .ends) (a .em .now)) (a .at) (a .end) (a .stacks .now) (a .e1) (a .ends) (p .1 .1 .1 .0) (q .0) (q .1) (q .2) (l .k) (l .p) (l .y) (l .inv) in (sieve-room (a .words .now) (a .tags .now) (wentOf (a .words .now) (a .n) (a .log .now) (a .classes .now) (a .starts .now) (a .maps .now) (a .ends) (a .em .now)) (a .at) (a .end) (a .stacks .now) (a .e1) (a .ends) (p .1 .1 .1 .0) (q .0) (q .1) (q .2), omega arith, l .inv .seating .low)
+
+returns : tie.Need-returns Inv-loop μ-loop
+returns c = let a = c .before .before .before .before .before .before .before .before .args in let p = c .before .before .before .before .before .before .before .before .pre in let q = p .1 .1 .1 .1 in let l = c .before .before .before .before .loop in let j = c .before .hop in let g = sieve-hop (a .words .now) (a .tags .now) (wentOf (a .words .now) (a .n) (a .log .now) (a .classes .now) (a .starts .now) (a .maps .now) (a .ends) (a .em .now)) (a .at) (a .end) (a .stacks .now) (a .e1) (a .ends) (p .1 .1 .1 .0) (q .0) (q .1) (q .2) (l .p) (l .y) (l .k) _ (j .ensures) (l .inv) in let t = c .if1 .taken in sieve-last (a .words .now) (a .tags .now) (wentOf (a .words .now) (a .n) (a .log .now) (a .classes .now) (a .starts .now) (a .maps .now) (a .ends) (a .em .now)) (a .at) (a .end) (a .stacks .now) (a .e1) (a .ends) (p .1 .1 .1 .0) (q .0) (q .1) (q .2) (j .result) (l .p) (l .y) g (omega arith)
+
 add-k : tie.Need-add-k Inv-loop μ-loop
-add-k c = let a = c .before .before .before .before .before .args in let p = c .before .before .before .before .before .pre in let q = p .1 .1 .1 .1 in let l = c .before .loop in let z = sieve-seat (a .words .now) (a .tags .now) (wentOf (a .words .now) (a .n) (a .log .now) (a .classes .now) (a .starts .now) (a .maps .now) (a .ends) (a .em .now)) (a .at) (a .end) (a .stacks .now) (a .e1) (a .ends) (p .1 .1 .1 .0) (q .0) (q .1) (q .2) (l .k) (l .p) (l .y) (l .inv) (c .loop-test .taken) in omega arith
+add-k c = let a = c .before .before .before .before .before .before .before .before .args in let p = c .before .before .before .before .before .before .before .before .pre in let q = p .1 .1 .1 .1 in let l = c .before .before .before .before .loop in let j = c .before .hop in let g = sieve-hop (a .words .now) (a .tags .now) (wentOf (a .words .now) (a .n) (a .log .now) (a .classes .now) (a .starts .now) (a .maps .now) (a .ends) (a .em .now)) (a .at) (a .end) (a .stacks .now) (a .e1) (a .ends) (p .1 .1 .1 .0) (q .0) (q .1) (q .2) (l .p) (l .y) (l .k) _ (j .ensures) (l .inv) in let u = j .ensures .high in let f = c .if1 .left in let h : j .result < a .ends .made = omega arith in let z = sieve-seat (a .words .now) (a .tags .now) (wentOf (a .words .now) (a .n) (a .log .now) (a .classes .now) (a .starts .now) (a .maps .now) (a .ends) (a .em .now)) (a .at) (a .end) (a .stacks .now) (a .e1) (a .ends) (p .1 .1 .1 .0) (q .0) (q .1) (q .2) (j .result) (l .p) (l .y) g h in omega arith
 
 add-wide : tie.Need-add-wide Inv-loop μ-loop
-add-wide c = let a = c .before .before .before .before .before .args in let p = c .before .before .before .before .before .pre in let q = p .1 .1 .1 .1 in let l = c .before .loop in let z = sieve-seat (a .words .now) (a .tags .now) (wentOf (a .words .now) (a .n) (a .log .now) (a .classes .now) (a .starts .now) (a .maps .now) (a .ends) (a .em .now)) (a .at) (a .end) (a .stacks .now) (a .e1) (a .ends) (p .1 .1 .1 .0) (q .0) (q .1) (q .2) (l .k) (l .p) (l .y) (l .inv) (c .loop-test .taken) in omega arith
+add-wide c = let a = c .before .before .before .before .before .before .before .before .args in let p = c .before .before .before .before .before .before .before .before .pre in let q = p .1 .1 .1 .1 in let l = c .before .before .before .before .loop in let j = c .before .hop in let g = sieve-hop (a .words .now) (a .tags .now) (wentOf (a .words .now) (a .n) (a .log .now) (a .classes .now) (a .starts .now) (a .maps .now) (a .ends) (a .em .now)) (a .at) (a .end) (a .stacks .now) (a .e1) (a .ends) (p .1 .1 .1 .0) (q .0) (q .1) (q .2) (l .p) (l .y) (l .k) _ (j .ensures) (l .inv) in let u = j .ensures .high in let f = c .if1 .left in let h : j .result < a .ends .made = omega arith in let z = sieve-seat (a .words .now) (a .tags .now) (wentOf (a .words .now) (a .n) (a .log .now) (a .classes .now) (a .starts .now) (a .maps .now) (a .ends) (a .em .now)) (a .at) (a .end) (a .stacks .now) (a .e1) (a .ends) (p .1 .1 .1 .0) (q .0) (q .1) (q .2) (j .result) (l .p) (l .y) g h in omega arith
 
 mul-wide : tie.Need-mul-wide Inv-loop μ-loop
-mul-wide c = let a = c .before .before .before .before .before .args in let p = c .before .before .before .before .before .pre in let q = p .1 .1 .1 .1 in let l = c .before .loop in let z = sieve-seat (a .words .now) (a .tags .now) (wentOf (a .words .now) (a .n) (a .log .now) (a .classes .now) (a .starts .now) (a .maps .now) (a .ends) (a .em .now)) (a .at) (a .end) (a .stacks .now) (a .e1) (a .ends) (p .1 .1 .1 .0) (q .0) (q .1) (q .2) (l .k) (l .p) (l .y) (l .inv) (c .loop-test .taken) in omega arith
+mul-wide c = let a = c .before .before .before .before .before .before .before .before .args in let p = c .before .before .before .before .before .before .before .before .pre in let q = p .1 .1 .1 .1 in let l = c .before .before .before .before .loop in let j = c .before .hop in let g = sieve-hop (a .words .now) (a .tags .now) (wentOf (a .words .now) (a .n) (a .log .now) (a .classes .now) (a .starts .now) (a .maps .now) (a .ends) (a .em .now)) (a .at) (a .end) (a .stacks .now) (a .e1) (a .ends) (p .1 .1 .1 .0) (q .0) (q .1) (q .2) (l .p) (l .y) (l .k) _ (j .ensures) (l .inv) in let u = j .ensures .high in let f = c .if1 .left in let h : j .result < a .ends .made = omega arith in let z = sieve-seat (a .words .now) (a .tags .now) (wentOf (a .words .now) (a .n) (a .log .now) (a .classes .now) (a .starts .now) (a .maps .now) (a .ends) (a .em .now)) (a .at) (a .end) (a .stacks .now) (a .e1) (a .ends) (p .1 .1 .1 .0) (q .0) (q .1) (q .2) (j .result) (l .p) (l .y) g h in omega arith
 
 index-1-wide : tie.Need-index-1-wide Inv-loop μ-loop
 index-1-wide c = search needs
 
 index-2-wide : tie.Need-index-2-wide Inv-loop μ-loop
-index-2-wide c = let a = c .before .before .before .before .before .args in let p = c .before .before .before .before .before .pre in let q = p .1 .1 .1 .1 in let l = c .before .loop in sieve-seat (a .words .now) (a .tags .now) (wentOf (a .words .now) (a .n) (a .log .now) (a .classes .now) (a .starts .now) (a .maps .now) (a .ends) (a .em .now)) (a .at) (a .end) (a .stacks .now) (a .e1) (a .ends) (p .1 .1 .1 .0) (q .0) (q .1) (q .2) (l .k) (l .p) (l .y) (l .inv) (c .loop-test .taken)
+index-2-wide c = let a = c .before .before .before .before .before .before .before .before .args in let p = c .before .before .before .before .before .before .before .before .pre in let q = p .1 .1 .1 .1 in let l = c .before .before .before .before .loop in let j = c .before .hop in let g = sieve-hop (a .words .now) (a .tags .now) (wentOf (a .words .now) (a .n) (a .log .now) (a .classes .now) (a .starts .now) (a .maps .now) (a .ends) (a .em .now)) (a .at) (a .end) (a .stacks .now) (a .e1) (a .ends) (p .1 .1 .1 .0) (q .0) (q .1) (q .2) (l .p) (l .y) (l .k) _ (j .ensures) (l .inv) in let u = j .ensures .high in let f = c .if1 .left in let h : j .result < a .ends .made = omega arith in sieve-seat (a .words .now) (a .tags .now) (wentOf (a .words .now) (a .n) (a .log .now) (a .classes .now) (a .starts .now) (a .maps .now) (a .ends) (a .em .now)) (a .at) (a .end) (a .stacks .now) (a .e1) (a .ends) (p .1 .1 .1 .0) (q .0) (q .1) (q .2) (j .result) (l .p) (l .y) g h
 
 wide-requires : tie.Need-wide-requires Inv-loop μ-loop
 wide-requires c κs = search needs
 
 next-requires : tie.Need-next-requires Inv-loop μ-loop
-next-requires c κs = let a = c .before .before .before .before .before .before .before .args in let p = c .before .before .before .before .before .before .before .pre in let q = p .1 .1 .1 .1 in (q .0, c .before .before .loop-test .taken, sieve-room (a .words .now) (a .tags .now) (wentOf (a .words .now) (a .n) (a .log .now) (a .classes .now) (a .starts .now) (a .maps .now) (a .ends) (a .em .now)) (a .at) (a .end) (a .stacks .now) (a .e1) (a .ends) (p .1 .1 .1 .0) (q .0) (q .1) (q .2))
+next-requires c κs = let a = c .before .before .before .before .before .before .before .before .before .before .args in let p = c .before .before .before .before .before .before .before .before .before .before .pre in let q = p .1 .1 .1 .1 in let l = c .before .before .before .before .before .before .loop in let j = c .before .before .before .hop in let g = sieve-hop (a .words .now) (a .tags .now) (wentOf (a .words .now) (a .n) (a .log .now) (a .classes .now) (a .starts .now) (a .maps .now) (a .ends) (a .em .now)) (a .at) (a .end) (a .stacks .now) (a .e1) (a .ends) (p .1 .1 .1 .0) (q .0) (q .1) (q .2) (l .p) (l .y) (l .k) _ (j .ensures) (l .inv) in let u = j .ensures .high in let f = c .before .before .if1 .left in let h : j .result < a .ends .made = omega arith in (q .0, h, sieve-room (a .words .now) (a .tags .now) (wentOf (a .words .now) (a .n) (a .log .now) (a .classes .now) (a .starts .now) (a .maps .now) (a .ends) (a .em .now)) (a .at) (a .end) (a .stacks .now) (a .e1) (a .ends) (p .1 .1 .1 .0) (q .0) (q .1) (q .2))
 
-sub-if1 : tie.Need-sub-if1 Inv-loop μ-loop
-sub-if1 c = let a = c .before .before .before .before .before .before .before .before .args in let p = c .before .before .before .before .before .before .before .before .pre in let q = p .1 .1 .1 .1 in let l = c .before .before .before .before .loop in let z = sieve-within (a .words .now) (a .tags .now) (wentOf (a .words .now) (a .n) (a .log .now) (a .classes .now) (a .starts .now) (a .maps .now) (a .ends) (a .em .now)) (a .at) (a .end) (a .stacks .now) (a .e1) (a .ends) (p .1 .1 .1 .0) (q .0) (q .1) (q .2) (l .k) (l .p) (l .y) (l .inv) (c .before .before .before .loop-test .taken) _ _ (c .before .wide .ensures .0) (c .next .ensures) in omega arith
+sub-if2 : tie.Need-sub-if2 Inv-loop μ-loop
+sub-if2 c = let a = c .before .before .before .before .before .before .before .before .before .before .before .args in let p = c .before .before .before .before .before .before .before .before .before .before .before .pre in let q = p .1 .1 .1 .1 in let l = c .before .before .before .before .before .before .before .loop in let j = c .before .before .before .before .hop in let g = sieve-hop (a .words .now) (a .tags .now) (wentOf (a .words .now) (a .n) (a .log .now) (a .classes .now) (a .starts .now) (a .maps .now) (a .ends) (a .em .now)) (a .at) (a .end) (a .stacks .now) (a .e1) (a .ends) (p .1 .1 .1 .0) (q .0) (q .1) (q .2) (l .p) (l .y) (l .k) _ (j .ensures) (l .inv) in let u = j .ensures .high in let f = c .before .before .before .if1 .left in let h : j .result < a .ends .made = omega arith in let z = sieve-within (a .words .now) (a .tags .now) (wentOf (a .words .now) (a .n) (a .log .now) (a .classes .now) (a .starts .now) (a .maps .now) (a .ends) (a .em .now)) (a .at) (a .end) (a .stacks .now) (a .e1) (a .ends) (p .1 .1 .1 .0) (q .0) (q .1) (q .2) (j .result) (l .p) (l .y) g h _ _ (c .before .wide .ensures .0) (c .next .ensures) in omega arith
 
-sub-if1-2 : tie.Need-sub-if1-2 Inv-loop μ-loop
-sub-if1-2 c = let a = c .before .before .before .before .before .before .before .before .args in let p = c .before .before .before .before .before .before .before .before .pre in let q = p .1 .1 .1 .1 in let h = q .3 in omega arith
-
-sub-q : tie.Need-sub-q Inv-loop μ-loop
-sub-q c = let a = c .before .before .before .before .before .before .before .before .before .args in let p = c .before .before .before .before .before .before .before .before .before .pre in let q = p .1 .1 .1 .1 in let l = c .before .before .before .before .before .loop in let h = l .inv .low in omega arith
-
-add-q : tie.Need-add-q Inv-loop μ-loop
-add-q c = let a = c .before .before .before .before .before .before .before .before .before .args in let p = c .before .before .before .before .before .before .before .before .before .pre in let q = p .1 .1 .1 .1 in let l = c .before .before .before .before .before .loop in let z = sieve-at (a .words .now) (a .tags .now) (wentOf (a .words .now) (a .n) (a .log .now) (a .classes .now) (a .starts .now) (a .maps .now) (a .ends) (a .em .now)) (a .at) (a .end) (a .stacks .now) (a .e1) (a .ends) (p .1 .1 .1 .0) (q .0) (q .1) (q .2) (l .k) (l .p) (l .y) (l .inv) (c .before .before .before .before .loop-test .taken) _ _ (c .before .before .wide .ensures .0) (c .before .next .ensures) (c .if1 .taken) in omega arith
-
-mul-alike-cell : tie.Need-mul-alike-cell Inv-loop μ-loop
-mul-alike-cell c = let a = c .before .before .before .before .before .before .before .before .before .args in let p = c .before .before .before .before .before .before .before .before .before .pre in let q = p .1 .1 .1 .1 in let l = c .before .before .before .before .before .loop in let z = sieve-at (a .words .now) (a .tags .now) (wentOf (a .words .now) (a .n) (a .log .now) (a .classes .now) (a .starts .now) (a .maps .now) (a .ends) (a .em .now)) (a .at) (a .end) (a .stacks .now) (a .e1) (a .ends) (p .1 .1 .1 .0) (q .0) (q .1) (q .2) (l .k) (l .p) (l .y) (l .inv) (c .before .before .before .before .loop-test .taken) _ _ (c .before .before .wide .ensures .0) (c .before .next .ensures) (c .if1 .taken) in omega arith
-
-index-1-alike-cell : tie.Need-index-1-alike-cell Inv-loop μ-loop
-index-1-alike-cell c = search needs
-
-index-2-alike-cell : tie.Need-index-2-alike-cell Inv-loop μ-loop
-index-2-alike-cell c = let a = c .before .before .before .before .before .before .before .before .before .args in let p = c .before .before .before .before .before .before .before .before .before .pre in let q = p .1 .1 .1 .1 in let l = c .before .before .before .before .before .loop in sieve-at (a .words .now) (a .tags .now) (wentOf (a .words .now) (a .n) (a .log .now) (a .classes .now) (a .starts .now) (a .maps .now) (a .ends) (a .em .now)) (a .at) (a .end) (a .stacks .now) (a .e1) (a .ends) (p .1 .1 .1 .0) (q .0) (q .1) (q .2) (l .k) (l .p) (l .y) (l .inv) (c .before .before .before .before .loop-test .taken) _ _ (c .before .before .wide .ensures .0) (c .before .next .ensures) (c .if1 .taken)
-
-mul-alike-cell-2 : tie.Need-mul-alike-cell-2 Inv-loop μ-loop
-mul-alike-cell-2 c = let a = c .before .before .before .before .before .before .before .before .before .before .args in let p = c .before .before .before .before .before .before .before .before .before .before .pre in let q = p .1 .1 .1 .1 in let l = c .before .before .before .before .before .before .loop in let z = sieve-at (a .words .now) (a .tags .now) (wentOf (a .words .now) (a .n) (a .log .now) (a .classes .now) (a .starts .now) (a .maps .now) (a .ends) (a .em .now)) (a .at) (a .end) (a .stacks .now) (a .e1) (a .ends) (p .1 .1 .1 .0) (q .0) (q .1) (q .2) (l .k) (l .p) (l .y) (l .inv) (c .before .before .before .before .before .loop-test .taken) _ _ (c .before .before .before .wide .ensures .0) (c .before .before .next .ensures) (c .before .if1 .taken) in omega arith
-
-index-1-alike-cell-2 : tie.Need-index-1-alike-cell-2 Inv-loop μ-loop
-index-1-alike-cell-2 c = search needs
-
-index-2-alike-cell-2 : tie.Need-index-2-alike-cell-2 Inv-loop μ-loop
-index-2-alike-cell-2 c = let a = c .before .before .before .before .before .before .before .before .before .before .args in let p = c .before .before .before .before .before .before .before .before .before .before .pre in let q = p .1 .1 .1 .1 in let l = c .before .before .before .before .before .before .loop in sieve-at (a .words .now) (a .tags .now) (wentOf (a .words .now) (a .n) (a .log .now) (a .classes .now) (a .starts .now) (a .maps .now) (a .ends) (a .em .now)) (a .at) (a .end) (a .stacks .now) (a .e1) (a .ends) (p .1 .1 .1 .0) (q .0) (q .1) (q .2) (l .k) (l .p) (l .y) (l .inv) (c .before .before .before .before .before .loop-test .taken) _ _ (c .before .before .before .wide .ensures .0) (c .before .before .next .ensures) (c .before .if1 .taken)
-
-element-copy-out-alike-cell : tie.Need-element-copy-out-alike-cell Inv-loop μ-loop
-element-copy-out-alike-cell c = let a = c .before .before .before .before .before .before .before .before .before .before .before .args in let p = c .before .before .before .before .before .before .before .before .before .before .before .pre in let q = p .1 .1 .1 .1 in let l = c .before .before .before .before .before .before .before .loop in sieve-word (a .words .now) (a .tags .now) (wentOf (a .words .now) (a .n) (a .log .now) (a .classes .now) (a .starts .now) (a .maps .now) (a .ends) (a .em .now)) (a .at) (a .end) (a .stacks .now) (a .e1) (a .ends) (p .1 .1 .1 .0) (q .0) (q .1) (q .2) (l .k) (l .p) (l .y) (l .inv)
-
-alike-cell-requires : tie.Need-alike-cell-requires Inv-loop μ-loop
-alike-cell-requires c κs = search needs
+sub-if2-2 : tie.Need-sub-if2-2 Inv-loop μ-loop
+sub-if2-2 c = let a = c .before .before .before .before .before .before .before .before .before .before .before .args in let p = c .before .before .before .before .before .before .before .before .before .before .before .pre in let q = p .1 .1 .1 .1 in let h = q .3 in omega arith
 
 apart-requires : tie.Need-apart-requires Inv-loop μ-loop
-apart-requires c κs = let a = c .before .before .before .before .before .before .before .before .before .before .before .before .before .before .args in let p = c .before .before .before .before .before .before .before .before .before .before .before .before .before .before .pre in let q = p .1 .1 .1 .1 in let l = c .before .before .before .before .before .before .before .before .before .before .loop in let z = sieve-within (a .words .now) (a .tags .now) (wentOf (a .words .now) (a .n) (a .log .now) (a .classes .now) (a .starts .now) (a .maps .now) (a .ends) (a .em .now)) (a .at) (a .end) (a .stacks .now) (a .e1) (a .ends) (p .1 .1 .1 .0) (q .0) (q .1) (q .2) (l .k) (l .p) (l .y) (l .inv) (c .before .before .before .before .before .before .before .before .before .loop-test .taken) _ _ (c .before .before .before .before .before .before .before .wide .ensures .0) (c .before .before .before .before .before .before .next .ensures) in (p .0, (p .1 .0, (p .1 .1 .0, (p .1 .1 .1 .0, (q .0, le-of-lt (z .0), z .1, c .before .before .before .before .before .if1 .taken)))))
-
-returns : tie.Need-returns Inv-loop μ-loop
-returns c = let a = c .before .before .before .before .before .before .before .before .before .before .before .before .before .before .before .before .args in let p = c .before .before .before .before .before .before .before .before .before .before .before .before .before .before .before .before .pre in let q = p .1 .1 .1 .1 in let l = c .before .before .before .before .before .before .before .before .before .before .before .before .loop in sieve-found (a .words .now) (a .tags .now) (wentOf (a .words .now) (a .n) (a .log .now) (a .classes .now) (a .starts .now) (a .maps .now) (a .ends) (a .em .now)) (a .at) (a .end) (a .stacks .now) (a .e1) (a .ends) (p .1 .1 .1 .0) (q .0) (q .1) (q .2) (l .k) (l .p) (l .y) (l .inv) (c .before .before .before .before .before .before .before .before .before .before .before .loop-test .taken) _ _ (c .before .before .before .before .before .before .before .before .before .wide .ensures .0) (c .before .before .before .before .before .before .before .before .next .ensures) _ (c .before .apart .ensures) (c .if3 .taken)
-
-element-copy-out-carried-3 : tie.Need-element-copy-out-carried-3 Inv-loop μ-loop
-element-copy-out-carried-3 c = let a = c .before .before .before .before .before .before .before .before .before .before .before .before .before .before .before .before .args in let p = c .before .before .before .before .before .before .before .before .before .before .before .before .before .before .before .before .pre in let q = p .1 .1 .1 .1 in let x = c .before .apart .ensures in let h = x .high in let t = c .if3 .left in let z = p .1 .1 .1 .0 .stretch .small in omega arith
-
-mul-carried-2 : tie.Need-mul-carried-2 Inv-loop μ-loop
-mul-carried-2 c = let a = c .before .before .before .before .before .before .before .before .before .before .before .before .before .before .before .before .before .args in let p = c .before .before .before .before .before .before .before .before .before .before .before .before .before .before .before .before .before .pre in let q = p .1 .1 .1 .1 in let x = c .before .before .apart .ensures in let h = x .high in let t = c .before .if3 .left in let z = p .1 .1 .1 .0 .stretch .small in omega arith
-
-element-copy-out-carried-4 : tie.Need-element-copy-out-carried-4 Inv-loop μ-loop
-element-copy-out-carried-4 c = let a = c .before .before .before .before .before .before .before .before .before .before .before .before .before .before .before .before .before .args in let p = c .before .before .before .before .before .before .before .before .before .before .before .before .before .before .before .before .before .pre in let q = p .1 .1 .1 .1 in let x = c .before .before .apart .ensures in let h = x .high in let t = c .before .if3 .left in let z = p .1 .1 .1 .0 .stretch .small in omega arith
-
-carried-requires-2 : tie.Need-carried-requires-2 Inv-loop μ-loop
-carried-requires-2 c κs = let a = c .before .before .before .before .before .before .before .before .before .before .before .before .before .before .before .before .before .before .args in let p = c .before .before .before .before .before .before .before .before .before .before .before .before .before .before .before .before .before .before .pre in let q = p .1 .1 .1 .1 in let x = c .before .before .before .apart .ensures in let h = x .high in let t = c .before .before .if3 .left in let z = p .1 .1 .1 .0 .stretch .small in (p .0, (p .1 .0, (p .1 .1 .0, sieve-fits (a .words .now) (a .tags .now) (wentOf (a .words .now) (a .n) (a .log .now) (a .classes .now) (a .starts .now) (a .maps .now) (a .ends) (a .em .now)) (a .at) (a .end) (a .stacks .now) (a .e1) (a .ends) (p .1 .1 .1 .0) (q .0) (q .1) (q .2) _ (x .low) (omega arith))))
-
-loop-less : tie.Need-loop-less Inv-loop μ-loop
-loop-less c = search needs
-
-loop-again : tie.Need-loop-again Inv-loop μ-loop
-loop-again c = let a = c .before .before .before .before .before .before .before .before .before .before .before .before .before .before .before .before .before .before .before .args in let p = c .before .before .before .before .before .before .before .before .before .before .before .before .before .before .before .before .before .before .before .pre in let q = p .1 .1 .1 .1 in let l = c .before .before .before .before .before .before .before .before .before .before .before .before .before .before .before .loop in sieve-more (a .words .now) (a .tags .now) (wentOf (a .words .now) (a .n) (a .log .now) (a .classes .now) (a .starts .now) (a .maps .now) (a .ends) (a .em .now)) (a .at) (a .end) (a .stacks .now) (a .e1) (a .ends) (p .1 .1 .1 .0) (q .0) (q .1) (q .2) (l .k) (l .p) (l .y) (l .inv) (c .before .before .before .before .before .before .before .before .before .before .before .before .before .before .loop-test .taken) _ _ (c .before .before .before .before .before .before .before .before .before .before .before .before .wide .ensures .0) (c .before .before .before .before .before .before .before .before .before .before .before .next .ensures) _ (c .before .before .before .before .apart .ensures) (c .before .before .before .if3 .left) _ (c .carried2 .ensures)
-
-loop-less-2 : tie.Need-loop-less-2 Inv-loop μ-loop
-loop-less-2 c = search needs
-
-loop-again-2 : tie.Need-loop-again-2 Inv-loop μ-loop
-loop-again-2 c = let a = c .before .before .before .before .before .before .before .before .before .before .before .before .before .before .args in let p = c .before .before .before .before .before .before .before .before .before .before .before .before .before .before .pre in let q = p .1 .1 .1 .1 in let l = c .before .before .before .before .before .before .before .before .before .before .loop in sieve-not (a .words .now) (a .tags .now) (wentOf (a .words .now) (a .n) (a .log .now) (a .classes .now) (a .starts .now) (a .maps .now) (a .ends) (a .em .now)) (a .at) (a .end) (a .stacks .now) (a .e1) (a .ends) (p .1 .1 .1 .0) (q .0) (q .1) (q .2) (l .k) (l .p) (l .y) (l .inv) (c .before .before .before .before .before .before .before .before .before .loop-test .taken) _ _ (c .before .before .before .before .before .before .before .wide .ensures .0) (c .before .before .before .before .before .before .next .ensures) (c .before .before .before .before .before .if1 .taken) _ (c .before .alike-cell .ensures) (c .if2 .left)
-
-loop-less-3 : tie.Need-loop-less-3 Inv-loop μ-loop
-loop-less-3 c = search needs
-
-loop-again-3 : tie.Need-loop-again-3 Inv-loop μ-loop
-loop-again-3 c = let a = c .before .before .before .before .before .before .before .before .before .args in let p = c .before .before .before .before .before .before .before .before .before .pre in let q = p .1 .1 .1 .1 in let l = c .before .before .before .before .before .loop in sieve-short (a .words .now) (a .tags .now) (wentOf (a .words .now) (a .n) (a .log .now) (a .classes .now) (a .starts .now) (a .maps .now) (a .ends) (a .em .now)) (a .at) (a .end) (a .stacks .now) (a .e1) (a .ends) (p .1 .1 .1 .0) (q .0) (q .1) (q .2) (l .k) (l .p) (l .y) (l .inv) (c .before .before .before .before .loop-test .taken) _ _ (c .before .before .wide .ensures .0) (c .before .next .ensures) (c .if1 .left)
+apart-requires c κs = let a = c .before .before .before .before .before .before .before .before .before .before .before .before .args in let p = c .before .before .before .before .before .before .before .before .before .before .before .before .pre in let q = p .1 .1 .1 .1 in let l = c .before .before .before .before .before .before .before .before .loop in let j = c .before .before .before .before .before .hop in let g = sieve-hop (a .words .now) (a .tags .now) (wentOf (a .words .now) (a .n) (a .log .now) (a .classes .now) (a .starts .now) (a .maps .now) (a .ends) (a .em .now)) (a .at) (a .end) (a .stacks .now) (a .e1) (a .ends) (p .1 .1 .1 .0) (q .0) (q .1) (q .2) (l .p) (l .y) (l .k) _ (j .ensures) (l .inv) in let u = j .ensures .high in let f = c .before .before .before .before .if1 .left in let h : j .result < a .ends .made = omega arith in let z = sieve-within (a .words .now) (a .tags .now) (wentOf (a .words .now) (a .n) (a .log .now) (a .classes .now) (a .starts .now) (a .maps .now) (a .ends) (a .em .now)) (a .at) (a .end) (a .stacks .now) (a .e1) (a .ends) (p .1 .1 .1 .0) (q .0) (q .1) (q .2) (j .result) (l .p) (l .y) g h _ _ (c .before .before .wide .ensures .0) (c .before .next .ensures) in (p .0, (p .1 .0, (p .1 .1 .0, (p .1 .1 .1 .0, (q .0, le-of-lt (z .0), z .1, c .if2 .taken)))))
 
 returns-2 : tie.Need-returns-2 Inv-loop μ-loop
-returns-2 c = let a = c .before .before .before .before .before .args in let p = c .before .before .before .before .before .pre in let q = p .1 .1 .1 .1 in let l = c .before .loop in sieve-last (a .words .now) (a .tags .now) (wentOf (a .words .now) (a .n) (a .log .now) (a .classes .now) (a .starts .now) (a .maps .now) (a .ends) (a .em .now)) (a .at) (a .end) (a .stacks .now) (a .e1) (a .ends) (p .1 .1 .1 .0) (q .0) (q .1) (q .2) (l .k) (l .p) (l .y) (l .inv) (c .loop-test .left)
+returns-2 c = let a = c .before .before .before .before .before .before .before .before .before .before .before .before .before .before .args in let p = c .before .before .before .before .before .before .before .before .before .before .before .before .before .before .pre in let q = p .1 .1 .1 .1 in let l = c .before .before .before .before .before .before .before .before .before .before .loop in let j = c .before .before .before .before .before .before .before .hop in let g = sieve-hop (a .words .now) (a .tags .now) (wentOf (a .words .now) (a .n) (a .log .now) (a .classes .now) (a .starts .now) (a .maps .now) (a .ends) (a .em .now)) (a .at) (a .end) (a .stacks .now) (a .e1) (a .ends) (p .1 .1 .1 .0) (q .0) (q .1) (q .2) (l .p) (l .y) (l .k) _ (j .ensures) (l .inv) in let u = j .ensures .high in let f = c .before .before .before .before .before .before .if1 .left in let h : j .result < a .ends .made = omega arith in sieve-found (a .words .now) (a .tags .now) (wentOf (a .words .now) (a .n) (a .log .now) (a .classes .now) (a .starts .now) (a .maps .now) (a .ends) (a .em .now)) (a .at) (a .end) (a .stacks .now) (a .e1) (a .ends) (p .1 .1 .1 .0) (q .0) (q .1) (q .2) (j .result) (l .p) (l .y) g h _ _ (c .before .before .before .before .wide .ensures .0) (c .before .before .before .next .ensures) _ (c .before .apart .ensures) (c .if3 .taken)
+
+element-copy-out-carried-3 : tie.Need-element-copy-out-carried-3 Inv-loop μ-loop
+element-copy-out-carried-3 c = let a = c .before .before .before .before .before .before .before .before .before .before .before .before .before .before .args in let p = c .before .before .before .before .before .before .before .before .before .before .before .before .before .before .pre in let q = p .1 .1 .1 .1 in let x = c .before .apart .ensures in let h = x .high in let t = c .if3 .left in let z = p .1 .1 .1 .0 .stretch .small in omega arith
+
+mul-carried-2 : tie.Need-mul-carried-2 Inv-loop μ-loop
+mul-carried-2 c = let a = c .before .before .before .before .before .before .before .before .before .before .before .before .before .before .before .args in let p = c .before .before .before .before .before .before .before .before .before .before .before .before .before .before .before .pre in let q = p .1 .1 .1 .1 in let x = c .before .before .apart .ensures in let h = x .high in let t = c .before .if3 .left in let z = p .1 .1 .1 .0 .stretch .small in omega arith
+
+element-copy-out-carried-4 : tie.Need-element-copy-out-carried-4 Inv-loop μ-loop
+element-copy-out-carried-4 c = let a = c .before .before .before .before .before .before .before .before .before .before .before .before .before .before .before .args in let p = c .before .before .before .before .before .before .before .before .before .before .before .before .before .before .before .pre in let q = p .1 .1 .1 .1 in let x = c .before .before .apart .ensures in let h = x .high in let t = c .before .if3 .left in let z = p .1 .1 .1 .0 .stretch .small in omega arith
+
+carried-requires-2 : tie.Need-carried-requires-2 Inv-loop μ-loop
+carried-requires-2 c κs = let a = c .before .before .before .before .before .before .before .before .before .before .before .before .before .before .before .before .args in let p = c .before .before .before .before .before .before .before .before .before .before .before .before .before .before .before .before .pre in let q = p .1 .1 .1 .1 in let x = c .before .before .before .apart .ensures in let h = x .high in let t = c .before .before .if3 .left in let z = p .1 .1 .1 .0 .stretch .small in (p .0, (p .1 .0, (p .1 .1 .0, sieve-fits (a .words .now) (a .tags .now) (wentOf (a .words .now) (a .n) (a .log .now) (a .classes .now) (a .starts .now) (a .maps .now) (a .ends) (a .em .now)) (a .at) (a .end) (a .stacks .now) (a .e1) (a .ends) (p .1 .1 .1 .0) (q .0) (q .1) (q .2) _ (x .low) (omega arith))))
+
+loop-less : tie.Need-loop-less Inv-loop μ-loop
+loop-less c = let h = c .before .before .before .before .before .before .before .before .before .before .hop .ensures .low in let t = c .before .before .before .before .before .before .before .before .before .before .before .before .loop-test .taken in omega arith
+
+loop-again : tie.Need-loop-again Inv-loop μ-loop
+loop-again c = let a = c .before .before .before .before .before .before .before .before .before .before .before .before .before .before .before .before .before .args in let p = c .before .before .before .before .before .before .before .before .before .before .before .before .before .before .before .before .before .pre in let q = p .1 .1 .1 .1 in let l = c .before .before .before .before .before .before .before .before .before .before .before .before .before .loop in let j = c .before .before .before .before .before .before .before .before .before .before .hop in let g = sieve-hop (a .words .now) (a .tags .now) (wentOf (a .words .now) (a .n) (a .log .now) (a .classes .now) (a .starts .now) (a .maps .now) (a .ends) (a .em .now)) (a .at) (a .end) (a .stacks .now) (a .e1) (a .ends) (p .1 .1 .1 .0) (q .0) (q .1) (q .2) (l .p) (l .y) (l .k) _ (j .ensures) (l .inv) in let u = j .ensures .high in let f = c .before .before .before .before .before .before .before .before .before .if1 .left in let h : j .result < a .ends .made = omega arith in sieve-more (a .words .now) (a .tags .now) (wentOf (a .words .now) (a .n) (a .log .now) (a .classes .now) (a .starts .now) (a .maps .now) (a .ends) (a .em .now)) (a .at) (a .end) (a .stacks .now) (a .e1) (a .ends) (p .1 .1 .1 .0) (q .0) (q .1) (q .2) (j .result) (l .p) (l .y) g h _ _ (c .before .before .before .before .before .before .before .wide .ensures .0) (c .before .before .before .before .before .before .next .ensures) _ (c .before .before .before .before .apart .ensures) (c .before .before .before .if3 .left) _ (c .carried2 .ensures)
+
+loop-less-2 : tie.Need-loop-less-2 Inv-loop μ-loop
+loop-less-2 c = let h = c .before .before .before .before .before .hop .ensures .low in let t = c .before .before .before .before .before .before .before .loop-test .taken in omega arith
+
+loop-again-2 : tie.Need-loop-again-2 Inv-loop μ-loop
+loop-again-2 c = let a = c .before .before .before .before .before .before .before .before .before .before .before .before .args in let p = c .before .before .before .before .before .before .before .before .before .before .before .before .pre in let q = p .1 .1 .1 .1 in let l = c .before .before .before .before .before .before .before .before .loop in let j = c .before .before .before .before .before .hop in let g = sieve-hop (a .words .now) (a .tags .now) (wentOf (a .words .now) (a .n) (a .log .now) (a .classes .now) (a .starts .now) (a .maps .now) (a .ends) (a .em .now)) (a .at) (a .end) (a .stacks .now) (a .e1) (a .ends) (p .1 .1 .1 .0) (q .0) (q .1) (q .2) (l .p) (l .y) (l .k) _ (j .ensures) (l .inv) in let u = j .ensures .high in let f = c .before .before .before .before .if1 .left in let h : j .result < a .ends .made = omega arith in sieve-short (a .words .now) (a .tags .now) (wentOf (a .words .now) (a .n) (a .log .now) (a .classes .now) (a .starts .now) (a .maps .now) (a .ends) (a .em .now)) (a .at) (a .end) (a .stacks .now) (a .e1) (a .ends) (p .1 .1 .1 .0) (q .0) (q .1) (q .2) (j .result) (l .p) (l .y) g h _ _ (c .before .before .wide .ensures .0) (c .before .next .ensures) (c .if2 .left)
+
+returns-3 : tie.Need-returns-3 Inv-loop μ-loop
+returns-3 c = let a = c .before .before .before .before .before .args in let p = c .before .before .before .before .before .pre in let q = p .1 .1 .1 .1 in let l = c .before .loop in sieve-last (a .words .now) (a .tags .now) (wentOf (a .words .now) (a .n) (a .log .now) (a .classes .now) (a .starts .now) (a .maps .now) (a .ends) (a .em .now)) (a .at) (a .end) (a .stacks .now) (a .e1) (a .ends) (p .1 .1 .1 .0) (q .0) (q .1) (q .2) (l .k) (l .p) (l .y) (l .inv) (c .loop-test .left)
 
 pub seat-spec : {M : Type 1} → statement M
 seat-spec =
@@ -140,6 +116,10 @@ seat-spec =
     element-copy-out-carried-2
     carried-requires
     loop-holds
+    sub-hop
+    element-copy-out-hop
+    hop-requires
+    returns
     add-k
     add-wide
     mul-wide
@@ -147,20 +127,10 @@ seat-spec =
     index-2-wide
     wide-requires
     next-requires
-    sub-if1
-    sub-if1-2
-    sub-q
-    add-q
-    mul-alike-cell
-    index-1-alike-cell
-    index-2-alike-cell
-    mul-alike-cell-2
-    index-1-alike-cell-2
-    index-2-alike-cell-2
-    element-copy-out-alike-cell
-    alike-cell-requires
+    sub-if2
+    sub-if2-2
     apart-requires
-    returns
+    returns-2
     element-copy-out-carried-3
     mul-carried-2
     element-copy-out-carried-4
@@ -169,6 +139,4 @@ seat-spec =
     loop-again
     loop-less-2
     loop-again-2
-    loop-less-3
-    loop-again-3
-    returns-2)
+    returns-3)
