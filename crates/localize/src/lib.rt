@@ -175,7 +175,7 @@ pub fn localize(
         }
     }
     let b = e.bt;
-    let kept = keep_names(words, &em, stacks, e, k, named);
+    let kept = keep_names(words, &em, &mut places, stacks, e, k, named);
     if kept.full {
         return kept;
     }
