@@ -22,12 +22,14 @@
 
 pub mod bodies;
 pub mod cases;
+pub mod deep;
 mod derive;
 pub mod fields;
 pub mod fill;
 mod finish;
 pub mod generate;
 pub mod generate_session;
+pub mod heavy;
 mod intake;
 pub mod link;
 pub mod listing;
@@ -40,6 +42,7 @@ pub mod random;
 pub mod raw;
 mod read;
 mod redirect;
+pub mod refused;
 mod rings;
 mod scope;
 pub mod session;

@@ -491,7 +491,7 @@ impl Parser {
     }
 
     fn expression(&mut self) -> Parsed<Expression> {
-        let kind = self.kind(&EXPRESSIONS, "a kind of expression")?;
+        let kind = self.kind(EXPRESSIONS, "a kind of expression")?;
         let span = self.span()?;
         let values = self.values(&EXPRESSIONS[kind as usize])?;
         Ok(Expression { kind: kind.into(), span, values })
