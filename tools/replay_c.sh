@@ -1,6 +1,7 @@
 #!/usr/bin/env bash
-# Compiles the header in C and C++ and the C example with every warning an error, replays the vectors' orders through the example, numbers alone,
-# and gives it wrong arguments, input that cannot be read and output that cannot be written. Wants the archive in target/staticlib.
+# Compiles the header in C and C++ and the C examples with every warning an error. Replays the vectors' orders through one, numbers alone, and links
+# the vectors' images by a session through the other, which maps the spans of P1 to P4 too. Gives both wrong arguments, input that cannot be read and
+# output that cannot be written. Wants the archive in target/staticlib.
 set -euo pipefail
 cd "$(dirname "$0")/.."
 
@@ -8,7 +9,9 @@ work=$(mktemp -d)
 trap 'rm -rf "$work"' EXIT
 
 g++ -x c++ -Wall -Wextra -Wpedantic -Werror -fsyntax-only include/wuldgisp.h
-gcc -std=c99 -Wall -Wextra -Wpedantic -Werror -Iinclude examples/order.c target/staticlib/libwuldgisp.a -o "$work/order_c"
+for example in order session; do
+  gcc -std=c99 -Wall -Wextra -Wpedantic -Werror -Iinclude "examples/$example.c" target/staticlib/libwuldgisp.a -o "$work/${example}_c"
+done
 
 orders=0
 for expected in vectors/*.order; do
@@ -18,6 +21,38 @@ for expected in vectors/*.order; do
   orders=$((orders + 1))
 done
 echo "$orders orders agree, called from C"
+
+sessions=0
+while IFS='|' read -r name intake link _; do
+  status=0
+  "$work/session_c" "$work/linked" < "vectors/$name.img" > "$work/steps" || status=$?
+  case "$intake $link" in
+    "ok ok")
+      [ "$status" = 0 ]
+      cmp "$work/linked" "vectors/$name.linked"
+      # P1 to P4
+      printf '2 %s # map_span\n' "0 0 0 = 0 0 0" "0 4 0 = 0 10 14" "5 9 0 = 0 4294967295 3" "6 6 0 = 0 0 0" > "$work/spans"
+      grep '^2 ' "$work/steps" | cmp - "$work/spans"
+      [ "$(grep -c '^9 .* = 0 ' "$work/steps")" = "$(($(wc -l < "$work/steps") - 8))" ]
+      ;;
+    "ok refused 12 "*)
+      [ "$status" = 1 ]
+      echo "$link" | cmp - "$work/steps"
+      [ ! -e "$work/linked" ]
+      ;;
+    *)
+      [ "$status" = 1 ]
+      number=${intake#refused }
+      grep -q "^0 0 [0-9]* 0 = $number 0 0 # set\$" "$work/steps"
+      [ "$(grep -c '^[2-9].* = 20 0 0 # \|^14 .* = 20 0 0 # ' "$work/steps")" = 5 ]
+      [ "$(tail -n 1 "$work/steps")" = "step 0 was refused first, by $number" ]
+      [ ! -e "$work/linked" ]
+      ;;
+  esac
+  rm -f "$work/linked"
+  sessions=$((sessions + 1))
+done < <(tr '\t' '|' < vectors/expected.tsv)
+echo "$sessions sessions agree, called from C: what they link, P1 to P4, and refusals"
 
 # the status of the last command is this one, and standard error is one line that ends so
 ended() {
@@ -31,8 +66,9 @@ ended() {
 image=vectors/r000.img
 example() {
   status=0
-  "$work/order_c" "$@" 2> "$work/err" || status=$?
+  "$work/$program" "$@" 2> "$work/err" || status=$?
 }
+program=order_c
 example 0 1 < "$image" > /dev/null
 [ "$status" = 0 ]
 example 0 4294967296 < "$image" && ended 2 ": argument 2 is no number of a name"
@@ -41,8 +77,14 @@ example -- -1 < "$image" && ended 2 ": argument 1 is no number of a name"
 example 0 1x < "$image" && ended 2 ": argument 2 is no number of a name"
 example 0 "" < "$image" && ended 2 ": argument 2 is no number of a name"
 example 0 < "$image" && ended 2 " [ORIGINAL REPLACEMENT] < IMAGE"
-example < . && ended 2 ": standard input: Is a directory"
-example <&- && ended 2 ": standard input: Bad file descriptor"
-example < "$image" > /dev/full && ended 2 ": standard output: No space left on device"
-example < "$image" >&- && ended 2 ": standard output: Bad file descriptor"
-echo "misuse of the C example, a failed read and a failed write are told and end with status 2"
+program=session_c
+example one two < "$image" && ended 2 " [FILE] < IMAGE"
+example "$work/none/linked" < "$image" > /dev/null && ended 2 "/none/linked: No such file or directory"
+example /dev/full < "$image" > /dev/null && ended 2 ": /dev/full: No space left on device"
+for program in order_c session_c; do
+  example < . && ended 2 ": standard input: Is a directory"
+  example <&- && ended 2 ": standard input: Bad file descriptor"
+  example < "$image" > /dev/full && ended 2 ": standard output: No space left on device"
+  example < "$image" >&- && ended 2 ": standard output: Bad file descriptor"
+done
+echo "misuse of the C examples, a failed read and a failed write are told and end with status 2"

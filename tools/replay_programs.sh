@@ -80,7 +80,26 @@ head -c 70000 /dev/zero > "$work/long"
 redirect "$work/long" 0 1 && told "redirect_image: refused 1: "
 echo "wrong arguments are told in one line"
 
-for program in check_image order redirect_image replay; do
+links=0
+while IFS='|' read -r name intake link _; do
+  target/bin/link_image < "vectors/$name.img" > "$work/out" 2> "$work/err"
+  case "$intake $link" in
+    "ok ok")
+      cmp "$work/out" "vectors/$name.linked"
+      cmp "$work/err" /dev/null
+      # what is linked links to itself
+      target/bin/link_image < "vectors/$name.linked" | cmp - "vectors/$name.linked"
+      ;;
+    "ok "*) told "link_image: $link: functions call one another in a ring" ;;
+    *) told "link_image: $intake: " ;;
+  esac
+  links=$((links + 1))
+done < <(tr '\t' '|' < vectors/expected.tsv)
+target/bin/link_image < "$work/long" > "$work/out" 2> "$work/err"
+told "link_image: refused 1: "
+echo "$links links agree, and every refusal is said on standard error and writes nothing"
+
+for program in check_image order redirect_image link_image replay; do
   case $program in
     redirect_image) words=(0 1) ;;
     *) words=() ;;

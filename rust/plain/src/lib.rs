@@ -54,7 +54,7 @@ pub use intake::{admit, intake};
 pub use link::link;
 pub use module::Module;
 pub use order::{order, order_of};
-pub use parse::{assemble, TextError};
+pub use parse::{assemble, number, string, Place, TextError};
 pub use read::{laid_out, read};
 pub use redirect::redirect;
 pub use rings::{rings, Rings};

@@ -6,7 +6,7 @@ use std::os::unix::ffi::OsStrExt;
 use std::path::PathBuf;
 
 use crate::commands::{command, Command, Inputs, Opt, Times, COMMON};
-use crate::files::{Input, Output};
+use crate::files::{self, Input, Output};
 use crate::help;
 
 /// What was asked for.
@@ -41,10 +41,11 @@ impl Given {
 
     /// Where an image goes.
     pub fn target(&self) -> Target {
-        match (self.value("--output"), self.has("--in-place")) {
-            (Some(path), _) => Target::File(path.into()),
-            (None, true) => Target::InPlace,
-            (None, false) => Target::Standard,
+        match (self.value("--output"), self.value("--folder"), self.has("--in-place")) {
+            (Some(path), _, _) => Target::File(path.into()),
+            (_, Some(folder), _) => Target::Folder(folder.into()),
+            (_, _, true) => Target::InPlace,
+            _ => Target::Standard,
         }
     }
 }
@@ -54,14 +55,24 @@ pub enum Target {
     Standard,
     File(PathBuf),
     InPlace,
+    Folder(PathBuf),
 }
 
 impl Target {
     pub fn write(&self, input: &Input, output: &mut Output, image: &[u8]) -> Result<(), String> {
         match self {
             Target::Standard => output.image(image),
-            Target::File(path) => crate::files::replace(path, image),
+            Target::File(path) => files::replace(path, image),
             Target::InPlace => input.replace(image),
+            Target::Folder(folder) => input.put(folder, image),
+        }
+    }
+
+    /// That the images of these inputs can all go there.
+    pub fn admits(&self, inputs: &[Input]) -> Result<(), String> {
+        match self {
+            Target::Folder(folder) => files::apart(folder, inputs),
+            _ => Ok(()),
         }
     }
 
@@ -177,7 +188,8 @@ fn admissible(command: &Command, given: &Given) -> Result<(), String> {
         given.words.iter().filter(|word| *word == "-").count() + usize::from(given.words.is_empty());
     match (command.inputs)(given) {
         Inputs::One if given.words.len() > 1 => Err(format!("{} takes one file here", command.name)),
-        Inputs::Files if standard > 0 => Err("--in-place wants files".to_owned()),
+        Inputs::Files if standard > 0 => Err(format!("{} wants files", several.concat())),
+        Inputs::Barred(why) => Err(why.to_owned()),
         _ if standard > 1 => Err("standard input can be read once".to_owned()),
         _ => Ok(()),
     }

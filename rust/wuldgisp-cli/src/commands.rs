@@ -3,7 +3,7 @@
 
 use crate::arguments::Given;
 use crate::files::Output;
-use crate::{assemble, check, inspect, order, redirect, Answer, Input};
+use crate::{assemble, check, inspect, link, order, redirect, session, Answer, Input};
 
 /// One command.
 pub struct Command {
@@ -12,7 +12,7 @@ pub struct Command {
     pub usage: &'static str,
     /// What it does, in a line.
     pub summary: &'static str,
-    /// The rest of its help, a paragraph to a string.
+    /// The rest of its help, a paragraph to a string; lines in it stay lines.
     pub about: &'static [&'static str],
     pub options: &'static [Opt],
     /// Of these options one may be given.
@@ -50,6 +50,8 @@ pub enum Inputs {
     Many,
     /// Files and folders.
     Files,
+    /// None, since the options do not go together: why.
+    Barred(&'static str),
 }
 
 /// An option without a word behind it.
@@ -72,11 +74,29 @@ const OUTPUT: Opt = Opt {
     times: Times::AtMostOnce,
     about: "write the image to FILE, in one stroke, instead of standard output",
 };
+const IN_PLACE: Opt = flag("--in-place", "write each image back to its file, in one stroke");
 
 /// An option with a name behind it.
 const fn name(long: &'static str, times: Times, about: &'static str) -> Opt {
     Opt { long, short: None, value: Some("NAME"), times, about }
 }
+
+/// The steps of a plan.
+const STEPS: &str = "  set FILE [offset NUMBER]
+  clear
+  map_span START END
+  import_type TYPE
+  rename_type TYPE as NAME
+  import_const CONSTANT
+  import_pipeline_override OVERRIDE
+  import_global GLOBAL
+  import_global_expression NUMBER
+  import_function FUNCTION
+  import_function_if_new FUNCTION
+  map_function_handle FUNCTION
+  has_required_special_types
+  finish FILE
+  finish_with_entry_points FILE";
 
 /// Options of every command.
 pub const COMMON: &[Opt] = &[
@@ -132,11 +152,80 @@ pub const COMMANDS: &[Command] = &[
             name("--replacement", Times::Once, "the function that is called instead"),
             name("--omit", Times::Any, "a function that keeps its calls"),
             OUTPUT,
-            flag("--in-place", "write each image back to its file, in one stroke"),
+            IN_PLACE,
         ],
         excluding: &["--output", "--in-place"],
         inputs: |given| if given.has("--in-place") { Inputs::Files } else { Inputs::One },
         run: redirect::run,
+    },
+    Command {
+        name: "link",
+        usage: "[--redirect ORIGINAL=REPLACEMENT]... [--omit NAME]... [--output FILE | --in-place | --folder DIR] \
+                [--json] [FILE...]",
+        summary: "calls redirected as told, and the image linked: its functions callees first, each with what it \
+                  refers to",
+        about: &[
+            "An image is taken in; then the redirects are made in the order given, each as redirect makes it; then \
+             it is linked (docs/RULES.md). The omitted functions keep their calls in every redirect.",
+            "One linked image goes to standard output or to --output. Of many, each goes with --in-place back to its \
+             file, or with --folder to DIR under its file's name, and of a folder under its path below that. Two that \
+             would be the same file in DIR are misuse, and so is one that would be written over another input; then \
+             nothing is written.",
+            "Where standard output takes no image, a line for each tells what each redirect did, and the functions \
+             and bytes of the linked image. Of an image that is refused, by a test, by a redirect or for a ring of \
+             calls, nothing is written; standard error is told the sentence, with the word and the rule, the redirect, \
+             or the functions left and one ring.",
+            "A NAME is a name of the image, or @ and its number; so are ORIGINAL and REPLACEMENT. Names may have \
+             equals signs: the one that parts the two has a name of the image on either side, and where several have, \
+             the names are to be given as @ and their numbers.",
+            "A JSON object has `file`, `accepted`, `functions` and `bytes`, both counts of the linked image, and \
+             `redirects`, a list of `original` and `replacement`, which are numbers of functions, and `words`, the \
+             count of words changed; or the members of a refusal as check has them, and `redirect` where one was \
+             refused.",
+        ],
+        options: &[
+            Opt {
+                long: "--redirect",
+                short: None,
+                value: Some("ORIGINAL=REPLACEMENT"),
+                times: Times::Any,
+                about: "calls of the original become calls of the replacement",
+            },
+            name("--omit", Times::Any, "a function that keeps its calls"),
+            OUTPUT,
+            IN_PLACE,
+            Opt {
+                long: "--folder",
+                short: None,
+                value: Some("DIR"),
+                times: Times::AtMostOnce,
+                about: "write each image to DIR, which is made where it is not there",
+            },
+            JSON,
+        ],
+        excluding: &["--output", "--in-place", "--folder"],
+        inputs: link::inputs,
+        run: link::run,
+    },
+    Command {
+        name: "session",
+        usage: "[--json] [FILE]",
+        summary: "the steps of a plan: records and functions of several images drawn into new ones",
+        about: &[
+            "FILE is a plan, a step a line; # starts a comment (docs/PLAN.md):",
+            STEPS,
+            "A record is given by its number, by its name or by @ and the number of its name; names are those of the \
+             source that is set last. Relative paths start at the plan's folder.",
+            "For each step a line with its line in the plan, the step and its answer. A refused step changes nothing,              and the next one follows. A finish that is accepted writes its FILE, in one stroke; that intake refuses \
+             the image, since a function was imported twice, is told behind its bytes.",
+            "What is wrong with a plan is told with line and column; then no answer is told and nothing is written.",
+            "A JSON object has `file`, `line`, `step` (counted from 0), `operation`, `accepted` and the answer: `start`              and `end`, the record's number under `type`, `constant`, `override`, `global`, `global_expression` or              `function`, `special_types`, or `output`, `bytes` and, where intake refuses the image, `image_refusal`; or \
+             the members of a refusal as check has them.",
+        ],
+        options: &[flag("--json", "a JSON object on a line for each step")],
+        excluding: &[],
+        inputs: |_| Inputs::One,
+        run: session::run,
     },
     Command {
         name: "inspect",

@@ -1,5 +1,6 @@
 //! Files, folders, standard input and output, and the progress line.
 
+use std::collections::HashMap;
 use std::ffi::OsString;
 use std::fmt;
 use std::fs::File;
@@ -31,11 +32,15 @@ pub enum Status {
 
 /// A file, or standard input.
 #[derive(Clone)]
-pub struct Input(Option<PathBuf>);
+pub struct Input {
+    path: Option<PathBuf>,
+    /// Its path below the folder that stood for it, or its name alone.
+    below: PathBuf,
+}
 
 impl fmt::Display for Input {
     fn fmt(&self, f: &mut fmt::Formatter) -> fmt::Result {
-        match &self.0 {
+        match &self.path {
             Some(path) => write!(f, "{}", shown(path)),
             None => write!(f, "standard input"),
         }
@@ -54,29 +59,49 @@ fn shown(path: &Path) -> String {
 impl Input {
     /// `-` is standard input.
     pub fn new(word: OsString) -> Self {
-        Input((word != "-").then(|| word.into()))
+        match word == "-" {
+            true => Input { path: None, below: word.into() },
+            false => Input::at(word.into()),
+        }
+    }
+
+    /// The file at a path.
+    pub fn at(path: PathBuf) -> Self {
+        let below = path.file_name().map(PathBuf::from).unwrap_or_default();
+        Input { path: Some(path), below }
+    }
+
+    /// The folder that it is in: of standard input the one that the program was started in.
+    pub fn folder(&self) -> &Path {
+        self.path.as_deref().and_then(Path::parent).unwrap_or(Path::new(""))
     }
 
     /// As JSON names it.
     pub fn file(&self) -> String {
-        self.0.as_ref().map_or("-".to_owned(), |path| path.to_string_lossy().into_owned())
+        self.path.as_ref().map_or("-".to_owned(), |path| path.to_string_lossy().into_owned())
     }
 
     /// The images that a word stands for: of a folder those in it and below it.
     pub fn images(self) -> Result<Vec<Self>, String> {
-        let Some(folder) = self.0.as_ref().filter(|path| path.is_dir()) else { return Ok(vec![self]) };
+        let Some(folder) = self.path.as_ref().filter(|path| path.is_dir()) else { return Ok(vec![self]) };
         let mut images = Vec::new();
         images_in(folder, &mut images).map_err(|error| plainly(&error))?;
         match images.is_empty() {
             true => Err("there is no .img file in this folder".to_owned()),
-            false => Ok(images.into_iter().map(|path| Input(Some(path))).collect()),
+            false => Ok(images.into_iter().map(|path| Input::in_folder(folder, path)).collect()),
         }
+    }
+
+    /// A file in or below a folder.
+    fn in_folder(folder: &Path, path: PathBuf) -> Self {
+        let below = path.strip_prefix(folder).unwrap_or(&path).to_path_buf();
+        Input { path: Some(path), below }
     }
 
     /// The first bytes, at most so many.
     fn bytes(&self, most: u64) -> Result<Vec<u8>, String> {
         let mut bytes = Vec::new();
-        let read = match &self.0 {
+        let read = match &self.path {
             Some(path) => File::open(path).and_then(|file| file.take(most).read_to_end(&mut bytes)),
             None if closed::input() => return Err("it is closed".to_owned()),
             None => io::stdin().lock().take(most).read_to_end(&mut bytes),
@@ -103,11 +128,38 @@ impl Input {
 
     /// Writes an image back to where it came from.
     pub fn replace(&self, image: &[u8]) -> Result<(), String> {
-        match &self.0 {
+        match &self.path {
             Some(path) => replace(path, image),
             None => Err("standard input cannot be written".to_owned()),
         }
     }
+
+    /// Writes an image to a folder, which is made where it is not there.
+    pub fn put(&self, folder: &Path, image: &[u8]) -> Result<(), String> {
+        let path = folder.join(&self.below);
+        let folder = path.parent().unwrap_or(folder);
+        std::fs::create_dir_all(folder)
+            .map_err(|error| format!("the folder {} cannot be made: {}", shown(folder), unmade(&error)))?;
+        replace(&path, image)
+    }
+}
+
+/// That in a folder each input has a file of its own, and none that another input is read from.
+pub fn apart(folder: &Path, inputs: &[Input]) -> Result<(), String> {
+    let real = |path: &Path| path.canonicalize().unwrap_or(path.to_path_buf());
+    let mut takers = HashMap::new();
+    for input in inputs {
+        if let Some(other) = takers.insert(real(&folder.join(&input.below)), input) {
+            return Err(format!("{other} and {input} would be the same file in {}", shown(folder)));
+        }
+    }
+    for input in inputs {
+        let taker = input.path.as_ref().and_then(|path| takers.get(&real(path)));
+        if let Some(other) = taker.filter(|other| !std::ptr::eq(**other, input)) {
+            return Err(format!("{other} would be written over {input}, which is to be read"));
+        }
+    }
+    Ok(())
 }
 
 /// The files of a folder, and of the folders in it, that end in `.img`, by their names. Links to folders are not
@@ -157,6 +209,14 @@ fn unwritten(path: &Path, error: &io::Error) -> String {
         (io::ErrorKind::NotFound, Some(folder)) if folder.as_os_str().is_empty() => plainly(error),
         (io::ErrorKind::NotFound, Some(folder)) => format!("there is no folder {}", shown(folder)),
         (io::ErrorKind::NotADirectory, Some(folder)) => format!("{} is no folder", shown(folder)),
+        _ => plainly(error),
+    }
+}
+
+/// Why a folder cannot be made.
+fn unmade(error: &io::Error) -> String {
+    match error.kind() {
+        io::ErrorKind::AlreadyExists | io::ErrorKind::NotADirectory => "a file is in its way".to_owned(),
         _ => plainly(error),
     }
 }

@@ -10,14 +10,14 @@ const WIDTH: usize = 100;
 const INPUTS: &str = "A FILE of - or no FILE is standard input; a folder stands for the files in and below it \
                       that end in .img. Behind -- every word is a FILE. A word behind an option may also stand \
                       behind an equals sign, as in --output=FILE.";
-const STATUS: &str = "Exit status: 0 accepted; 1 an image or a redirect was refused; 2 misuse: a command that is \
-                      not understood, a file that cannot be read or written, a text that is not of the form, a \
-                      name that is not in the image.";
+const STATUS: &str = "Exit status: 0 accepted; 1 an image, a redirect, a link or a step was refused; 2 misuse: a \
+                      command that is not understood, a file that cannot be read or written, a text that is not of the \
+                      form, a name that is not in the image.";
 
 /// The help of all.
 pub fn all() -> String {
     let mut text =
-        "wuldgisp: module images, checked, ordered and redirected by a proved archive\n\n".to_owned();
+        "wuldgisp: module images, checked, ordered, redirected, linked and put together by a proved archive\n\n".to_owned();
     for command in COMMANDS {
         usage(&mut text, 2, command);
         paragraph(&mut text, 8, 8, command.summary);
@@ -39,11 +39,17 @@ fn own(command: &Command) -> String {
     paragraph(&mut text, 0, 0, &sentence(command.summary));
     for about in command.about {
         text.push('\n');
-        paragraph(&mut text, 0, 0, about);
+        for line in about.lines() {
+            let indent = line.len() - line.trim_start().len();
+            paragraph(&mut text, indent, indent, line);
+        }
     }
     text.push('\n');
-    for option in command.options.iter().chain(COMMON) {
-        writeln!(text, "  {:<24}{}", spelled(option), option.about).expect("a string takes all");
+    let options: Vec<(String, &str)> =
+        command.options.iter().chain(COMMON).map(|option| (spelled(option), option.about)).collect();
+    let widest = options.iter().map(|(spelled, _)| spelled.len()).fold(22, usize::max);
+    for (spelled, about) in options {
+        writeln!(text, "  {spelled:<widest$}  {about}").expect("a string takes all");
     }
     text
 }

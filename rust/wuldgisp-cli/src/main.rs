@@ -13,10 +13,15 @@ mod files;
 mod help;
 mod inspect;
 mod json;
+mod line;
+mod link;
 mod module_json;
 mod names;
 mod order;
+mod plan;
 mod redirect;
+mod session;
+mod written;
 
 use std::process::ExitCode;
 
@@ -50,6 +55,10 @@ fn run(command: &Command, given: &Given) -> Status {
     for message in wrong {
         output.complain(&message);
         status = Status::Misuse;
+    }
+    if let Err(message) = given.target().admits(&inputs) {
+        output.complain(&format!("wuldgisp: {message}"));
+        return Status::Misuse;
     }
     let many = inputs.len() > 1;
     for input in &inputs {

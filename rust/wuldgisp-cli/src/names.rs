@@ -1,9 +1,11 @@
 //! Names on their way in and out: as an option gives them, and as a line shows them.
 
-use std::ffi::OsString;
+use std::ffi::{OsStr, OsString};
 use std::os::unix::ffi::OsStrExt;
 
 use wuldgisp::Image;
+
+use crate::arguments::Given;
 
 /// A name as it was given: `@` and a number, or the bytes of a name.
 pub struct NameGiven(pub OsString);
@@ -19,6 +21,30 @@ impl NameGiven {
         }
         let missing = || format!("there is no name {} in the image", plain::text::quoted(given));
         image.name_number(given).ok_or_else(missing)
+    }
+}
+
+/// The numbers of names as an option gives them.
+pub fn numbers(given: &Given, option: &str, image: &Image) -> Result<Vec<u32>, String> {
+    given.values(option).map(|name| NameGiven(name.clone()).number(image)).collect()
+}
+
+/// The numbers of two names that an equals sign parts. Names may have such signs too: then the one is meant that has
+/// a name of the image on either side.
+pub fn pair(word: &OsStr, image: &Image) -> Result<(u32, u32), String> {
+    let bytes = word.as_bytes();
+    let number = |bytes| NameGiven(OsStr::from_bytes(bytes).to_owned()).number(image);
+    let signs = (0..bytes.len()).filter(|at| bytes[*at] == b'=');
+    let parted = |at: usize| Ok((number(&bytes[..at])?, number(&bytes[at + 1..])?));
+    let mut readings: Vec<Result<(u32, u32), String>> = signs.map(parted).collect();
+    if readings.len() > 1 {
+        readings.retain(Result::is_ok);
+    }
+    let shown = plain::text::quoted(bytes);
+    match readings.len() {
+        0 => Err(format!("no equals sign in {shown} parts two names of the image")),
+        1 => readings.remove(0),
+        _ => Err(format!("{shown} can be two pairs of names of the image: give @ and their numbers")),
     }
 }
 

@@ -241,6 +241,8 @@ fn quiet_leaves_the_status_alone() {
         (&["order", "--quiet"], ring(), 1),
         (&["inspect", "--quiet", "--raw"], shade(), 0),
         (&["redirect", "--quiet", "--original=@9", "--replacement=tone"], shade(), 1),
+        (&["link", "--quiet"], ring(), 1),
+        (&["link", "--quiet", "--output=/dev/null"], shade(), 0),
     ] {
         let (status, out, err) = answer(words, &image);
         assert_eq!((status, out.as_str(), err.as_str()), (expected, "", ""), "{words:?}");
@@ -263,11 +265,24 @@ fn misuse_is_told_in_one_line() {
         &["redirect", "--original", "a", "--replacement", "b", "--in-place"],
         &["redirect", "--original", "a", "--replacement", "b", "--in-place=yes", "x"],
         &["redirect", "--original", "a", "--replacement", "b", "x", "y"],
+        &["link", "--redirect"],
+        &["link", "--redirect", "fog"],
+        &["link", "--in-place"],
+        &["link", "--folder", "x"],
+        &["link", "--folder", "x", "-"],
+        &["link", "--folder", "x", "--in-place", "y"],
+        &["link", "-o", "x", "--folder", "y", "z"],
+        &["link", "-o", "x", "y", "z"],
+        &["link", "--json", "x"],
+        &["link", "x", "y"],
+        &["link", "/"],
         &["inspect", "--text", "x", "y"],
         &["inspect", "--text", "--json", "x"],
         &["check", "-", "-"],
         &["assemble", "/"],
         &["assemble", "not-there.txt"],
+        &["session", "not-there.txt"],
+        &["session", "a", "b"],
         &["help", "chek"],
     ] {
         let (status, out, err) = answer(words, b"");
@@ -284,7 +299,7 @@ fn help_is_there_for_all_and_for_each() {
         assert_eq!(status, 0);
         assert!(out.contains("Exit status: 0 accepted"));
     }
-    for command in ["check", "order", "redirect", "inspect", "assemble"] {
+    for command in ["check", "order", "redirect", "link", "inspect", "assemble", "session"] {
         let (status, out, _) = answer(&["help", command], b"");
         assert_eq!((status, &out), (0, &answer(&[command, "--help"], b"").1));
         assert!(out.starts_with(&format!("wuldgisp {command} ")), "{out}");

@@ -101,10 +101,11 @@ fn every_answer_is_json() {
         return;
     }
     let vectors = Path::new(env!("CARGO_MANIFEST_DIR")).join("../../vectors");
+    let link = format!("link --folder {}", folder().join("json-linked").display());
     for folder in [vectors, damaged()] {
         let images = std::fs::read_dir(&folder).unwrap().flatten();
         let images = images.filter(|entry| entry.path().extension().is_some_and(|end| end == "img")).count();
-        for command in ["check --rings", "order", "inspect"] {
+        for command in ["check --rings", "order", &link, "inspect"] {
             let line = format!(
                 "$PROGRAM {command} --json {} | \
                  python3 -c 'import json, sys; print(len([json.loads(line) for line in sys.stdin]))'",

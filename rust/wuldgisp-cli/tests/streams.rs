@@ -9,12 +9,17 @@ fn lost_output_is_told() {
     let text = folder().join("streams.txt");
     std::fs::write(&text, SHADE).unwrap();
     let assemble = format!("assemble {}", text.display());
+    let plan = folder().join("streams-plan.txt");
+    std::fs::write(&plan, "clear\n").unwrap();
+    let session = format!("session {}", plan.display());
     for command in [
         "check $IMAGE",
         "order $IMAGE",
         "inspect $IMAGE",
         "redirect --original=fog --replacement=tone $IMAGE",
+        "link $IMAGE",
         &assemble,
+        &session,
         "--help",
     ] {
         let (status, _, err) = shell(&format!("$PROGRAM {command} >/dev/full"));
@@ -22,14 +27,16 @@ fn lost_output_is_told() {
         let (status, _, err) = shell(&format!("$PROGRAM {command} >&-"));
         assert_eq!((status, err.as_str()), (2, "wuldgisp: standard output: it is closed\n"), "{command}");
     }
-    let (status, _, err) = shell("$PROGRAM redirect --original=fog --replacement=tone -o /dev/full $IMAGE");
-    assert_eq!(status, 2);
-    assert!(err.ends_with("/dev/full cannot be written: no space left\n"), "{err}");
+    for command in ["redirect --original=fog --replacement=tone", "link"] {
+        let (status, out, err) = shell(&format!("$PROGRAM {command} -o /dev/full $IMAGE"));
+        assert_eq!((status, out.as_str()), (2, ""), "{command}");
+        assert!(err.ends_with("/dev/full cannot be written: no space left\n"), "{err}");
+    }
 }
 
 #[test]
 fn lost_input_is_told() {
-    for command in ["check", "order", "inspect", "assemble"] {
+    for command in ["check", "order", "link", "inspect", "assemble", "session"] {
         let (status, out, err) = shell(&format!("$PROGRAM {command} <&-"));
         assert_eq!((status, out.as_str(), err.as_str()), (2, "", "wuldgisp: standard input: it is closed\n"));
         let (status, out, err) = shell(&format!("$PROGRAM {command} < ."));
