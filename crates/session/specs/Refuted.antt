@@ -115,12 +115,12 @@ unfolding within types-steps
 typed = record { near = refl; is = Small.types }
 
 module _ (answers₀ output₀ : List ℕ) (room : 18 ≤ length answers₀) (roomy : 400 ≤ length output₀) (r : ℕ) (answers output : List ℕ) where
-  -- what keeps the contract with these sources and steps
-  abbrev pub Keeps : List ℕ → List ℕ → Type 0
-  Keeps sources steps = Sessions (bytesOf sources) steps answers₀ output₀ r answers output
+  -- what meets the contract with these sources and steps
+  abbrev pub Meets : List ℕ → List ℕ → Type 0
+  Meets sources steps = Sessions (bytesOf sources) steps answers₀ output₀ r answers output
 
   -- ---- what was computed in one output holds in every one that is as long
-  module _ {sources steps : List ℕ} {k : ℕ} {vs : List ℕ} {ps : List (ℕ × List ℕ)} (x : Case sources steps k vs ps) (l : Keeps sources steps) where
+  module _ {sources steps : List ℕ} {k : ℕ} {vs : List ℕ} {ps : List (ℕ × List ℕ)} (x : Case sources steps k vs ps) (l : Meets sources steps) where
     as-computed : run steps (bytesOf sources) output₀ new ≡ run steps (bytesOf sources) (replicate 400 0) new
     as-computed = run-alike 400 (bytesOf sources) output₀ (replicate 400 0) roomy (omega arith) steps new (x .near)
 
@@ -136,7 +136,7 @@ module _ (answers₀ output₀ : List ℕ) (room : 18 ≤ length answers₀) (ro
     unfolding session does
     output-so = l .output-is ∙ output-laid (run steps (bytesOf sources) output₀ new) output₀ ∙ ap (λ xs. laid (wrote xs) output₀) as-computed ∙ ap (λ t. laid (t .2) output₀) (x .is)
 
-  module _ {sources steps : List ℕ} {k : ℕ} {vs ws : List ℕ} (x : Case sources steps k vs ((0, ws) ∷ [])) (l : Keeps sources steps) (short : length ws ≤ 100) where
+  module _ {sources steps : List ℕ} {k : ℕ} {vs ws : List ℕ} (x : Case sources steps k vs ((0, ws) ∷ [])) (l : Meets sources steps) (short : length ws ≤ 100) where
     left : output ≡ bytesOf ws ++ drop (length (bytesOf ws)) output₀
     unfolding laid
     left = output-so x l ∙ sets-front (bytesOf ws) output₀ (omega (arith, length-bytesOf ws))
@@ -151,82 +151,82 @@ module _ (answers₀ output₀ : List ℕ) (room : 18 ≤ length answers₀) (ro
 
   -- ---- P5, of which a is imported
   -- the nested function appended behind its caller: a would be function 0, and the first function written would have a statement
-  pub behind-its-caller : Keeps p5 nested-steps → getD answers 4 0 ≡ 0 → ⊥
+  pub behind-its-caller : Meets p5 nested-steps → getD answers 4 0 ≡ 0 → ⊥
   unfolding nested-answers
   behind-its-caller l e = let a : getD answers 4 0 ≡ 1 = answer nested l (omega arith) 4 (omega arith) in absurd (omega arith)
 
-  pub caller-first : Keeps p5 nested-steps → getD output 144 0 ≡ 1 → ⊥
+  pub caller-first : Meets p5 nested-steps → getD output 144 0 ≡ 1 → ⊥
   unfolding p5-called bytesOf
   caller-first l e = let a : getD output 144 0 ≡ 0 = byte nested l (omega arith) 144 (omega arith) in absurd (omega arith)
 
   -- names in the order of the source, or as they came: a would be the first, not b
-  pub source-order : Keeps p5 nested-steps → getD output 92 0 ≡ 97 → ⊥
+  pub source-order : Meets p5 nested-steps → getD output 92 0 ≡ 97 → ⊥
   unfolding p5-called bytesOf
   source-order l e = let a : getD output 92 0 ≡ 98 = byte nested l (omega arith) 92 (omega arith) in absurd (omega arith)
 
   -- the names of what is not imported kept: there would be three
-  pub all-names : Keeps p5 nested-steps → getD output 8 0 ≡ 3 → ⊥
+  pub all-names : Meets p5 nested-steps → getD output 8 0 ≡ 3 → ⊥
   unfolding p5-called bytesOf
   all-names l e = let a : getD output 8 0 ≡ 2 = byte nested l (omega arith) 8 (omega arith) in absurd (omega arith)
 
   -- a byte behind the image touched
-  pub behind-stays : Keeps p5 nested-steps → drop 224 output ≡ drop 224 output₀
+  pub behind-stays : Meets p5 nested-steps → drop 224 output ≡ drop 224 output₀
   unfolding p5-called
   behind-stays l = behind nested l (omega arith)
 
   -- ---- the same with steps that are refused
   -- 13 before 20, where no source is set and the number is in no table
-  pub number-first : Keeps p5 refused-steps → getD answers 0 0 ≡ 13 → ⊥
+  pub number-first : Meets p5 refused-steps → getD answers 0 0 ≡ 13 → ⊥
   unfolding refused-answers
   number-first l e = let a : getD answers 0 0 ≡ 20 = answer refused l (omega arith) 0 (omega arith) in absurd (omega arith)
 
   -- the last refusal answered for the first
-  pub last-refusal : Keeps p5 refused-steps → r ≡ 13 + 2 * 4294967296 → ⊥
+  pub last-refusal : Meets p5 refused-steps → r ≡ 13 + 2 * 4294967296 → ⊥
   last-refusal l e = let a : r ≡ 20 = result-so refused l in absurd (omega arith)
 
   -- ---- P10: an Emit's first pass left out, whose range would start at 0
-  pub no-first-pass : Keeps p10 passed-steps → getD output 268 0 ≡ 0 → ⊥
+  pub no-first-pass : Meets p10 passed-steps → getD output 268 0 ≡ 0 → ⊥
   unfolding p10-passed bytesOf
   no-first-pass l e = let a : getD output 268 0 ≡ 3 = byte passed l (omega arith) 268 (omega arith) in absurd (omega arith)
 
   -- ---- P11: the old Emit range copied, which starts at 1
-  pub old-range : Keeps p11 emitted-steps → getD output 260 0 ≡ 1 → ⊥
+  pub old-range : Meets p11 emitted-steps → getD output 260 0 ≡ 1 → ⊥
   unfolding p11-emitted bytesOf
   old-range l e = let a : getD output 260 0 ≡ 2 = byte emitted l (omega arith) 260 (omega arith) in absurd (omega arith)
 
   -- ---- a named literal that nothing reads: its name kept among the names, or among the named expressions
-  pub name-kept : Keeps unread dropped-steps → getD output 8 0 ≡ 2 → ⊥
+  pub name-kept : Meets unread dropped-steps → getD output 8 0 ≡ 2 → ⊥
   unfolding unread-dropped bytesOf
   name-kept l e = let a : getD output 8 0 ≡ 1 = byte dropped l (omega arith) 8 (omega arith) in absurd (omega arith)
 
-  pub named-kept : Keeps unread dropped-steps → getD output 124 0 ≡ 1 → ⊥
+  pub named-kept : Meets unread dropped-steps → getD output 124 0 ≡ 1 → ⊥
   unfolding unread-dropped bytesOf
   named-kept l e = let a : getD output 124 0 ≡ 0 = byte dropped l (omega arith) 124 (omega arith) in absurd (omega arith)
 
   -- ---- P1: an undefined span moved
-  pub undefined-moved : Keeps nothing spans-steps → getD answers 4 0 ≡ 10 → ⊥
+  pub undefined-moved : Meets nothing spans-steps → getD answers 4 0 ≡ 10 → ⊥
   unfolding spans-answers
   undefined-moved l e = let a : getD answers 4 0 ≡ 0 = answer spans l (omega arith) 4 (omega arith) in absurd (omega arith)
 
   -- P3 and P4: a sum that stops at the greatest word; P4 wraps to 0 and nothing else
-  pub saturating : Keeps nothing spans-steps → getD answers 14 0 ≡ 4294967295 → ⊥
+  pub saturating : Meets nothing spans-steps → getD answers 14 0 ≡ 4294967295 → ⊥
   unfolding spans-answers
   saturating l e = let a : getD answers 14 0 ≡ 3 = answer spans l (omega arith) 14 (omega arith) in absurd (omega arith)
 
-  pub not-undefined : (j : ℕ) → Keeps nothing spans-steps → getD answers 16 0 ≡ suc j → ⊥
+  pub not-undefined : (j : ℕ) → Meets nothing spans-steps → getD answers 16 0 ≡ suc j → ⊥
   unfolding spans-answers
   not-undefined j l e = let a : getD answers 16 0 ≡ 0 = answer spans l (omega arith) 16 (omega arith) in absurd (omega arith)
 
   -- ---- equal types of two sources not merged, unequal ones merged, and of equal ones the second's span kept
-  pub not-merged : Keeps two-sources types-steps → getD answers 10 0 ≡ 1 → ⊥
+  pub not-merged : Meets two-sources types-steps → getD answers 10 0 ≡ 1 → ⊥
   unfolding types-answers
   not-merged l e = let a : getD answers 10 0 ≡ 0 = answer typed l (omega arith) 10 (omega arith) in absurd (omega arith)
 
-  pub merged-unequal : Keeps two-sources types-steps → getD answers 13 0 ≡ 0 → ⊥
+  pub merged-unequal : Meets two-sources types-steps → getD answers 13 0 ≡ 0 → ⊥
   unfolding types-answers
   merged-unequal l e = let a : getD answers 13 0 ≡ 1 = answer typed l (omega arith) 13 (omega arith) in absurd (omega arith)
 
-  pub second-span : Keeps two-sources types-steps → getD output 92 0 ≡ 3 → ⊥
+  pub second-span : Meets two-sources types-steps → getD output 92 0 ≡ 3 → ⊥
   unfolding merged bytesOf
   second-span l e = let a : getD output 92 0 ≡ 1 = byte typed l (omega arith) 92 (omega arith) in absurd (omega arith)
 
