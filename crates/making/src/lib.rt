@@ -4,8 +4,13 @@
 use classes::EXPR;
 use classes::EXPR_KIND;
 use classes::NAMED;
+use classes::SPAN;
+use classes::UPTO;
 use known::known;
 use state::Ends;
+use state::FUNCTION;
+use state::OPT_OWN;
+use state::OWN;
 use state::kind_of;
 use state::moved;
 use state::refuse;
@@ -112,17 +117,17 @@ pub fn carried(
     requires { ⌜ All (FitN (now words) 1024) (refOf (target s) w []) ⌝ }
     ensures { λ r. ⌜ r ≡ through (wentOf (now (words .entry)) n (now (log .entry)) (now (classes .entry)) (now (starts .entry)) (now (maps .entry)) ends (now (em .entry))) s w ⌝ }
 {
-    if kind_of(kinds, s) == 7 {
+    if kind_of(kinds, s) == FUNCTION {
         return less(known(words, tags, n, log, classes, starts, ends, wide(w)));
     }
     if s < EXPR {
         return state::carried(kinds, maps, s, w);
     }
     let u = kind_of(kinds, s);
-    if u == 5 {
+    if u == OWN {
         return less(mapped(em[wide(w)]));
     }
-    if u == 13 {
+    if u == OPT_OWN {
         if w == 0 {
             return 0;
         }
@@ -155,7 +160,7 @@ fn undefined_at(
     requires { ⌜ Legible (now words) (now tags) 1024 i end ⌝ }
     ensures { λ r. ⌜ r ≡ undefinedAt (target s) w (firstWord (carriedBy (wentOf (now (words .entry)) n (now (log .entry)) (now (classes .entry)) (now (starts .entry)) (now (maps .entry)) ends (now (em .entry))) (now (tags .entry)) (now (words .entry)) i end)) u ⌝ }
 {
-    if s != 81 {
+    if s != SPAN {
         return u;
     }
     if w != 0 {
@@ -324,10 +329,10 @@ fn alike_cell(a: u32, x: u32, b: u8, y: u32) -> bool
     if x == y {
         return true;
     }
-    if b == 81 {
+    if b == SPAN {
         return true;
     }
-    b == 82
+    b == UPTO
 }
 
 // Whether the expression on the stack from a to b is what the source's words become, spans apart.

@@ -1,0 +1,69 @@
+-- `bring` meets its contract: what the expression refers to outside the function comes, and is full, or the expression is appended behind it. Assumes nothing.
+use borrow.Author.Needs.{needs}
+use Rattle.known.proofs.Bears.{bearing}
+use Rattle.making.proofs.Appends.{legible}
+use Rattle.operands.proofs.Needs.{brought, need-full, need-done}
+use Rattle.operands.proofs.bring.Statement.{statement}
+use Rattle.operands.proofs.bring.Tie as tie
+
+mul-slot : tie.Need-mul-slot
+mul-slot c = search needs
+
+element-copy-out-slot : tie.Need-element-copy-out-slot
+element-copy-out-slot c = search needs
+
+slot-requires : tie.Need-slot-requires
+slot-requires c κs = search needs
+
+add-slot : tie.Need-add-slot
+add-slot c = search needs
+
+mul-slot-2 : tie.Need-mul-slot-2
+mul-slot-2 c = search needs
+
+element-copy-out-slot-2 : tie.Need-element-copy-out-slot-2
+element-copy-out-slot-2 c = search needs
+
+slot-requires-2 : tie.Need-slot-requires-2
+slot-requires-2 c κs = search needs
+
+import-outside-requires : tie.Need-import-outside-requires
+import-outside-requires c κs =
+    let p = c .before .before .before .before .before .before .before .before .before .pre in
+    (p .0, (legible (p .1 .0) (p .1 .1 .0 .0) (c .before .before .before .before .before .before .before .slot .ensures .0) (c .before .before .before .before .before .slot2 .ensures .0), (p .1 .1 .0 .1, p .1 .1 .1 .0)))
+
+returns : tie.Need-returns
+returns c =
+    let a = c .before .before .before .before .before .before .before .before .before .before .before .args in
+    let p = c .before .before .before .before .before .before .before .before .before .before .before .pre in
+    need-full (p .1 .0) (a .n) (a .offset) (p .1 .1 .0 .1) (p .1 .1 .1 .0) (p .1 .1 .1 .1 .0) (p .1 .1 .0 .0) (p .1 .1 .1 .1 .1) (c .before .before .before .before .before .before .before .before .before .slot .ensures .0) (c .before .before .before .before .before .before .before .slot2 .ensures .0) (c .before .import-outside .ensures) (c .if1 .taken)
+
+append-requires : tie.Need-append-requires
+append-requires c κs =
+    let a = c .before .before .before .before .before .before .before .before .before .before .before .before .before .before .before .before .before .args in
+    let p = c .before .before .before .before .before .before .before .before .before .before .before .before .before .before .before .before .before .pre in
+    let q = c .before .before .before .before .before .before .if1 .left in
+    let A = brought (p .1 .0) (a .n) (a .offset) (p .1 .1 .0 .1) (p .1 .1 .1 .0) (p .1 .1 .1 .1 .0) (p .1 .1 .0 .0) (p .1 .1 .1 .1 .1) (c .before .before .before .before .before .before .before .before .before .before .before .before .before .before .before .slot .ensures .0) (c .before .before .before .before .before .before .before .before .before .before .before .before .before .slot2 .ensures .0) (c .before .before .before .before .before .before .before .import-outside .ensures) in
+    (p .0, (bearing (A .kept q), (A .kept q .maps-six, (p .1 .0, ((p .1 .1 .0 .0, q), A .under q)))))
+
+returns-2 : tie.Need-returns-2
+returns-2 c =
+    let a = c .before .before .before .before .before .before .before .before .before .before .before .before .before .before .before .before .before .before .args in
+    let p = c .before .before .before .before .before .before .before .before .before .before .before .before .before .before .before .before .before .before .pre in
+    need-done (p .1 .0) (a .n) (a .offset) (p .1 .1 .0 .1) (p .1 .1 .1 .0) (p .1 .1 .1 .1 .0) (p .1 .1 .0 .0) (p .1 .1 .1 .1 .1) (c .before .before .before .before .before .before .before .before .before .before .before .before .before .before .before .before .slot .ensures .0) (c .before .before .before .before .before .before .before .before .before .before .before .before .before .before .slot2 .ensures .0) (c .before .before .before .before .before .before .before .before .import-outside .ensures) (c .before .before .before .before .before .before .before .if1 .left) (c .append .ensures)
+
+pub bring-spec : {M : Type 1} → statement M
+bring-spec =
+    tie.close
+    (tie.spec
+    mul-slot
+    element-copy-out-slot
+    slot-requires
+    add-slot
+    mul-slot-2
+    element-copy-out-slot-2
+    slot-requires-2
+    import-outside-requires
+    returns
+    append-requires
+    returns-2)
