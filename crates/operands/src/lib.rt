@@ -14,7 +14,6 @@ use words::wide;
 ghost use mathlib.Core.Path.{_≡_};
 ghost use mathlib.Core.Bool.{false};
 ghost use Prim.Native.Nat.{_<_};
-ghost use lib.ListN.{getD};
 ghost use Rattle.model.specs.Bodies.{unique as uniqueE};
 ghost use Rattle.model.specs.Operands.{standingKind};
 ghost use Rattle.bodies.specs.Shallow.{need as needE, peek as peekE, glance as glanceE};
@@ -26,8 +25,8 @@ ghost use Rattle.ground.specs.Cuts.{exprsOf, Expressions};
 ghost use Rattle.making.specs.Stacks.{Under};
 ghost use Rattle.making.specs.Makes.{Makes};
 
-// Expression e of k, which is not mapped, with what it refers to outside the function.
-fn bring(
+// Expression e of k, where it is not mapped, with what it refers to outside the function.
+pub fn bring(
     words: &[u32; 16384],
     tags: &[u8; 16384],
     kinds: &[u8; 256],
@@ -51,9 +50,11 @@ fn bring(
     requires { ⌜ (e < k) × (ends .full ≡ false) ⌝ }
     requires { ⌜ Kept (now log) (now classes) (now starts) (now maps) (now marks) ends ⌝ }
     requires { ⌜ Under k (now em) (now stacks) e1 ends ⌝ }
-    requires { ⌜ getD (now em) e 0 ≡ 0 ⌝ }
     ensures { λ r. ⌜ Makes (now (words .entry)) k (needE offset (modOf (now (words .entry)) n) still (exprsOf (now (words .entry)) (now (tags .entry)) (now (places .entry)) k) e) (now (log .entry)) (now (classes .entry)) (now (starts .entry)) (now (maps .entry)) (now (marks .entry)) (now (em .entry)) (now (stacks .entry)) e1 ends r (now (log .exit)) (now (classes .exit)) (now (starts .exit)) (now (maps .exit)) (now (marks .exit)) (now (em .exit)) (now (stacks .exit)) ⌝ }
 {
+    if em[e] != 0 {
+        return ends;
+    }
     let at = slot(places[e]);
     let end = slot(places[e + 1]);
     let got = import_outside(
@@ -94,7 +95,7 @@ fn bring(
     )
 }
 
-// Expression e of k, where it is not mapped.
+// The same, seen first to be mapped or not: this is asked of every operand and is small, since most are mapped.
 pub fn need(
     words: &[u32; 16384],
     tags: &[u8; 16384],

@@ -31,8 +31,8 @@ ghost use Rattle.state.specs.Source.{modOf, srcOf};
 ghost use Rattle.state.specs.Held.{Kept, Lands};
 ghost use Rattle.ground.specs.Fits.{Ground, Legible, recordOf};
 
-// Record h of table t, by the import that the table has.
-fn import_by_table(
+// Record h of table t, by the import that the table has; nothing where t is no table.
+pub fn import_by_table(
     words: &[u32; 16384],
     tags: &[u8; 16384],
     kinds: &[u8; 256],
@@ -152,7 +152,7 @@ fn import_by_table(
     ends
 }
 
-// Record h of table t; nothing where t is no table, or where the record is mapped. This is asked of every word, and small: an import is seldom called.
+// The same, seen first to be mapped or not: this is asked of every word and is small, since most records are mapped.
 pub fn import_record(
     words: &[u32; 16384],
     tags: &[u8; 16384],

@@ -10,9 +10,11 @@ use classes::TO;
 use import::refers_to;
 use making::carried;
 use making::push;
+use operands::bring;
 use operands::glance;
 use operands::need;
 use operands::unique;
+use outside::import_by_table;
 use outside::import_record;
 use state::Ends;
 use state::moved;
@@ -132,7 +134,7 @@ fn unite(
     let s = tags[i];
     let r = refers_to(kinds, s, words[i]);
     if s < EXPR {
-        return import_record(
+        return import_by_table(
             words,
             tags,
             kinds,
@@ -418,7 +420,7 @@ fn second_pass(
     while x < b {
         let y = x;
         x += 1;
-        e = need(
+        e = bring(
             words,
             tags,
             kinds,

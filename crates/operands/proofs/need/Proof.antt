@@ -19,7 +19,7 @@ returns c =
 bring-requires : tie.Need-bring-requires
 bring-requires c κs =
     let p = c .before .before .before .before .before .before .before .before .before .pre in
-    (p .0, (p .1 .0, (p .1 .1 .0, (p .1 .1 .1 .0, (p .1 .1 .1 .1, c .before .before .before .before .before .before .before .if1 .left)))))
+    p
 
 returns-2 : tie.Need-returns-2
 returns-2 c = search needs
