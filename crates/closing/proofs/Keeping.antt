@@ -167,7 +167,7 @@ pub record Keeping (words em : List ℕ) (k at : ℕ) (stacks₀ : List (List �
   pub is : slice (e₀ .bt) (e .bt) (row stacks 3) ≡ pairWords ps
   pub below : take (e₀ .bt) (row stacks 3) ≡ take (e₀ .bt) (row stacks₀ 3)
   pub expressions : (t : ℕ) → t < 3 → row stacks t ≡ row stacks₀ t
-  pub seats-long : length seats ≡ 1024
+  pub seats-long : length seats ≡ 1025
   pub agree : (x : ℕ) → x < 1024 → getD seats x 0 ≡ seatOf ps x
   pub same : keepNames (namedRecords words (at + 1 + 2 * i) (getD words at 0 - i)) (take k em) ps ≡ keepNames (namedRecords words (at + 1) (getD words at 0)) (take k em) []
 
@@ -175,7 +175,7 @@ module _ (words em : List ℕ) (k at : ℕ) (stacks₀ : List (List ℕ)) (e₀ 
   abbrev whole : List (ℕ × ℕ)
   whole = keepNames (namedRecords words (at + 1) (getD words at 0)) (take k em) []
 
-  pub keep-first : e₀ .full ≡ false → Stacks stacks₀ e₀ → Keeping words em k at stacks₀ e₀ stacks₀ (replicate 1024 0) e₀ 0
+  pub keep-first : e₀ .full ≡ false → Stacks stacks₀ e₀ → Keeping words em k at stacks₀ e₀ stacks₀ (replicate 1025 0) e₀ 0
   unfolding pairWords seatOf
   keep-first nf S = record {
     ps = [];
@@ -185,8 +185,8 @@ module _ (words em : List ℕ) (k at : ℕ) (stacks₀ : List (List ℕ)) (e₀ 
     is = slice-none (e₀ .bt) (e₀ .bt) (row stacks₀ 3) (le-refl _);
     below = refl;
     expressions = λ t h. refl;
-    seats-long = length-replicate {A = ℕ} 1024 0;
-    agree = λ x h. zeros 1024 x;
+    seats-long = length-replicate {A = ℕ} 1025 0;
+    agree = λ x h. zeros 1025 x;
     same = let z : at + 1 + 2 * 0 ≡ at + 1 = omega arith in let y : getD words at 0 - 0 ≡ getD words at 0 = omega arith in rw (z, y);
   }
 

@@ -29,9 +29,11 @@ ghost use Rattle.making.specs.Stacks.{Stacks};
 ghost use Rattle.closing.specs.Closed.{pairsIn, namedRecords, Keeps, Renames, namedClasses, closing, Closes};
 
 // The named expressions that stay, of those whose count is word `at`, each with its name's word in the source: the last name counts, in the first's place.
+// The seats are lent, and hold nothing that counts before or behind.
 pub fn keep_names(
     words: &[u32; 16384],
     em: &[u16; 1024],
+    seats: &mut [u16; 1025],
     stacks: &mut [[u32; 16384]; 4],
     ends: Ends,
     k: usize,
@@ -44,7 +46,7 @@ pub fn keep_names(
     requires { ⌜ Stacks (now stacks) ends ⌝ }
     ensures { λ r. ⌜ Keeps (keepNames (namedRecords (now (words .entry)) (at + 1) (getD (now (words .entry)) at 0)) (take k (now (em .entry))) []) (now (stacks .entry)) ends r (now (stacks .exit)) ⌝ }
 {
-    let mut seats = [0u16; 1024];
+    *seats = [0; 1025];
     let b = ends.bt;
     let count = wide(words[at]);
     let mut e = ends;

@@ -51,6 +51,7 @@ pub fn enter(
     let at = record_at(words, tags, n, ENTRIES, j);
     let s = entry_function(words, tags, n, j);
     let end = record_end(words, tags, n, ENTRIES, j);
+    let mut places = [0u16; 1025];
     let got = localize(
         words,
         tags,
@@ -62,6 +63,7 @@ pub fn enter(
         maps,
         marks,
         stacks,
+        &mut places,
         ends,
         offset,
         s,

@@ -2,9 +2,10 @@
 use mathlib.Core.Path.{_≡_, refl, _∙_}
 use mathlib.Core.Bool.{true, false}
 use mathlib.Core.List.{List, [], _∷_}
-use Prim.Native.Nat.{ℕ, _<_}
+use Prim.Native.Nat.{ℕ, _≤_, _<_}
 use native.Mathlib.Omega.{arith}
-use lib.ListN.{length}
+use lib.ListN.{length, replicate}
+use lib.Seq.{slice, sets}
 use Rattle.model.specs.Module.{Module, countAt}
 use Rattle.model.specs.Callees.{callees}
 use Rattle.model.specs.Redirect.{function}
@@ -13,6 +14,7 @@ use Rattle.model.specs.Bodies.{append, follow}
 use Rattle.model.specs.Scope.{inScope}
 use Rattle.model.specs.Session.{Source, ringing}
 use Rattle.laws.specs.FunctionViews.{taped-functions}
+use Rattle.initial.specs.Marks.{finds}
 use Rattle.limits.specs.Reached.{At, at-source}
 use Rattle.nesting.specs.Nested.{appendS, followS, ReadyF, Ready}
 use Rattle.nesting.specs.Theorems.{append-is, follow-is}
@@ -22,6 +24,11 @@ use Rattle.state.specs.declared.Ends.{Ends}
 use Rattle.ground.specs.Fits.{Ground}
 use Rattle.localize.specs.Localized.{NestedF, NestedAt}
 use Rattle.operations.specs.Live.{sessionOf, Live}
+
+-- no function in progress, no expression that has a place
+pub no-places : (tape : List ℕ) → length tape ≡ 16384 → ((length tape ≡ 16384) × (0 ≤ 0) × (0 ≤ 16384) × (length (finds 0 (slice 0 0 tape)) ≤ 1025)) × (replicate 1025 0 ≡ sets (replicate 1025 0) 0 (finds 0 (slice 0 0 tape)))
+unfolding finds
+no-places tape h = ((h, omega arith, omega arith, omega arith), refl)
 
 module _ (n o : ℕ) (words tape kinds log tags : List ℕ) (starts maps : List (List ℕ)) (marks special : List ℕ) (e : Ends) (L : Live true n o words tape kinds log tags starts maps marks special e) where
   abbrev m : Module

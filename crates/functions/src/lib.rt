@@ -79,6 +79,7 @@ fn append_whole(
 {
     let mut s = *starts;
     let mut m = *maps;
+    let mut places = [0u16; 1025];
     let got = append(
         words,
         tags,
@@ -90,6 +91,7 @@ fn append_whole(
         &mut m,
         marks,
         stacks,
+        &mut places,
         ends,
         offset,
         f,
@@ -128,6 +130,7 @@ fn follow_whole(
 {
     let mut s = *starts;
     let mut m = *maps;
+    let mut places = [0u16; 1025];
     let got = follow(
         words,
         tags,
@@ -139,10 +142,13 @@ fn follow_whole(
         &mut m,
         marks,
         stacks,
+        &mut places,
         ends,
         offset,
         f,
         room,
+        0,
+        0,
     );
     take_over(starts, maps, &s, &m, got.full);
     if got.full {

@@ -51,6 +51,7 @@ fn append_all(
     while i < all {
         let j = i;
         i += 1;
+        let mut places = [0u16; 1025];
         e = append(
             words,
             tags,
@@ -62,6 +63,7 @@ fn append_all(
             maps,
             marks,
             stacks,
+            &mut places,
             e,
             0,
             wide(order[j]),

@@ -53,11 +53,11 @@ pub record Going (words tags : List ℕ) (n o room s end ea : ℕ) (places : Lis
   pub turn : Turn words tags n o (followS o (modOf words n) room) (Ready o (modOf words n) room) (functionOf (between tags words s end)) k body end log₀ classes₀ starts₀ maps₀ marks₀ stacks₀ e₀ log classes starts maps marks em stacks e i u
 
 -- from one word on to another, whatever came before the first
-pub record Onward (words tags : List ℕ) (n o room s end ea : ℕ) (places : List ℕ) (k named body low : ℕ) (log₁ classes₁ : List ℕ) (starts₁ maps₁ : List (List ℕ)) (marks₁ em₁ : List ℕ) (stacks₁ : List (List ℕ)) (e₁ : Ends) (i₁ : ℕ) (u₁ : Bool)
-    (log classes : List ℕ) (starts maps : List (List ℕ)) (marks em : List ℕ) (stacks : List (List ℕ)) (e : Ends) (i : ℕ) (u : Bool) : Type 0 where
+pub record Onward (words tags : List ℕ) (n o room s end ea : ℕ) (places₁ : List ℕ) (k named body low : ℕ) (log₁ classes₁ : List ℕ) (starts₁ maps₁ : List (List ℕ)) (marks₁ em₁ : List ℕ) (stacks₁ : List (List ℕ)) (e₁ : Ends) (i₁ : ℕ) (u₁ : Bool)
+    (places log classes : List ℕ) (starts maps : List (List ℕ)) (marks em : List ℕ) (stacks : List (List ℕ)) (e : Ends) (i : ℕ) (u : Bool) : Type 0 where
   pub on : {log₀ classes₀ : List ℕ} {starts₀ maps₀ : List (List ℕ)} {marks₀ : List ℕ} {stacks₀ : List (List ℕ)} {e₀ : Ends}
       → e₀ .et ≡ low → Kept log₀ classes₀ starts₀ maps₀ marks₀ e₀
-      → Going words tags n o room s end ea places k named body log₀ classes₀ starts₀ maps₀ marks₀ stacks₀ e₀ log₁ classes₁ starts₁ maps₁ marks₁ em₁ stacks₁ e₁ i₁ u₁
+      → Going words tags n o room s end ea places₁ k named body log₀ classes₀ starts₀ maps₀ marks₀ stacks₀ e₀ log₁ classes₁ starts₁ maps₁ marks₁ em₁ stacks₁ e₁ i₁ u₁
       → Going words tags n o room s end ea places k named body log₀ classes₀ starts₀ maps₀ marks₀ stacks₀ e₀ log classes starts maps marks em stacks e i u
 
 -- the same values, by other names
@@ -71,6 +71,11 @@ runs-at R a b c d h i j q = rw (a, b, c, d, h, i, j, q) R
 pub runs-from : {words : List ℕ} {k : ℕ} {f : Making → Making} {g : Making → List ℕ} {log₀ classes₀ : List ℕ} {starts₀ maps₀ : List (List ℕ)} {marks₀ em₀ : List ℕ} {stacks₀ : List (List ℕ)} {a b : ℕ} {e r : Ends} {log classes : List ℕ} {starts maps : List (List ℕ)} {marks em : List ℕ} {stacks : List (List ℕ)}
     → a ≡ b → Runs words k f g log₀ classes₀ starts₀ maps₀ marks₀ em₀ stacks₀ b e r log classes starts maps marks em stacks → Runs words k f g log₀ classes₀ starts₀ maps₀ marks₀ em₀ stacks₀ a e r log classes starts maps marks em stacks
 runs-from q R = rw q R
+
+-- the same places, by another name
+pub going-at : {words tags : List ℕ} {n o room s end ea : ℕ} {places places′ : List ℕ} {k named body : ℕ} {log₀ classes₀ : List ℕ} {starts₀ maps₀ : List (List ℕ)} {marks₀ : List ℕ} {stacks₀ : List (List ℕ)} {e₀ : Ends} {log classes : List ℕ} {starts maps : List (List ℕ)} {marks em : List ℕ} {stacks : List (List ℕ)} {e : Ends} {i : ℕ} {u : Bool}
+    → places′ ≡ places → Going words tags n o room s end ea places k named body log₀ classes₀ starts₀ maps₀ marks₀ stacks₀ e₀ log classes starts maps marks em stacks e i u → Going words tags n o room s end ea places′ k named body log₀ classes₀ starts₀ maps₀ marks₀ stacks₀ e₀ log classes starts maps marks em stacks e i u
+going-at q G = rw q G
 
 -- ---- reading the source
 module _ {words tags : List ℕ} {n s end : ℕ} (p : Part words tags n s end (functionOf (between tags words s end))) where

@@ -20,10 +20,13 @@ use views::record_end;
 use words::wide;
 ghost use mathlib.Core.Path.{_≡_};
 ghost use mathlib.Core.Bool.{false};
-ghost use Prim.Native.Nat.{_<_};
+ghost use Prim.Native.Nat.{_≤_, _<_};
+ghost use lib.ListN.{length, replicate};
+ghost use lib.Seq.{slice, sets};
 ghost use Rattle.model.specs.Module.{countAt};
 ghost use Rattle.model.specs.Between.{between};
 ghost use Rattle.model.specs.Redirect.{function};
+ghost use Rattle.initial.specs.Marks.{finds};
 ghost use Rattle.nesting.specs.Nested.{appendS, followS, Ready, ReadyF};
 ghost use Rattle.state.specs.Flats.{functionOf};
 ghost use Rattle.state.specs.Source.{modOf};
@@ -49,6 +52,15 @@ fn begin(e: Ends) -> Ends
     }
 }
 
+// Where each expression record starts, from `at` on, and where the last one ends, and nothing else.
+fn find(tags: &[u8; 16384], at: usize, end: usize, places: &mut [u16; 1025])
+    requires { ⌜ (length (now tags) ≡ 16384) × (at ≤ end) × (end ≤ 16384) × (length (finds at (slice at end (now tags))) ≤ 1025) ⌝ }
+    ensures { λ _. ⌜ now (places .exit) ≡ sets (replicate 1025 0) 0 (finds at (slice at end (now (tags .entry)))) ⌝ }
+{
+    *places = [0; 1025];
+    index(tags, at, end, places);
+}
+
 // The function that stands from s to `end`, whole on the stacks, with room for so many functions in progress.
 pub fn localize(
     words: &[u32; 16384],
@@ -61,6 +73,7 @@ pub fn localize(
     maps: &mut [[u32; 512]; 6],
     marks: &mut [u16; 16384],
     stacks: &mut [[u32; 16384]; 4],
+    places: &mut [u16; 1025],
     ends: Ends,
     offset: u32,
     s: usize,
@@ -77,9 +90,8 @@ pub fn localize(
     let e1 = ends.et;
     let exprs = expressions_at(words, s);
     let k = wide(words[exprs]);
-    let mut places = [0u16; 1025];
     let mut em = [0u16; 1024];
-    index(tags, exprs + 1, end, &mut places);
+    find(tags, exprs + 1, end, places);
     let named = slot(places[k]);
     let body = named + 1 + 2 * wide(words[named]);
     let mut e = declare(
@@ -87,7 +99,7 @@ pub fn localize(
         tags,
         kinds,
         n,
-        &places,
+        places,
         log,
         classes,
         starts,
@@ -123,10 +135,13 @@ pub fn localize(
                 maps,
                 marks,
                 stacks,
+                places,
                 e,
                 offset,
                 wide(words[j]),
                 room,
+                exprs + 1,
+                end,
             );
             if e.full {
                 return e;
@@ -153,7 +168,7 @@ pub fn localize(
                 tags,
                 kinds,
                 n,
-                &places,
+                places,
                 log,
                 classes,
                 starts,
@@ -175,7 +190,7 @@ pub fn localize(
         }
     }
     let b = e.bt;
-    let kept = keep_names(words, &em, stacks, e, k, named);
+    let kept = keep_names(words, &em, places, stacks, e, k, named);
     if kept.full {
         return kept;
     }
@@ -208,6 +223,7 @@ pub fn append(
     maps: &mut [[u32; 512]; 6],
     marks: &mut [u16; 16384],
     stacks: &mut [[u32; 16384]; 4],
+    places: &mut [u16; 1025],
     ends: Ends,
     offset: u32,
     f: usize,
@@ -233,6 +249,7 @@ pub fn append(
         maps,
         marks,
         stacks,
+        places,
         ends,
         offset,
         s,
@@ -262,7 +279,8 @@ pub fn append(
     )
 }
 
-// Function f, where its name is not known, with room for so many functions in progress.
+// Function f, where its name is not known, with room for so many functions in progress; the places are then again those of its caller, whose expressions stand
+// from `at` on, and which stands to `end`.
 pub fn follow(
     words: &[u32; 16384],
     tags: &[u8; 16384],
@@ -274,17 +292,23 @@ pub fn follow(
     maps: &mut [[u32; 512]; 6],
     marks: &mut [u16; 16384],
     stacks: &mut [[u32; 16384]; 4],
+    places: &mut [u16; 1025],
     ends: Ends,
     offset: u32,
     f: usize,
     room: usize,
+    at: usize,
+    end: usize,
 ) -> Ends
     requires { ⌜ Ground (now words) (now tags) (now kinds) n ⌝ }
     requires { ⌜ f < countAt 6 (now words) ⌝ }
     requires { ⌜ NestedAt (now words) n (now log) (now classes) (now starts) (now maps) ends offset room f ⌝ }
     requires { ⌜ (ends .full ≡ false) × (Stacks (now stacks) ends) ⌝ }
     requires { ⌜ Kept (now log) (now classes) (now starts) (now maps) (now marks) ends ⌝ }
+    requires { ⌜ (length (now tags) ≡ 16384) × (at ≤ end) × (end ≤ 16384) × (length (finds at (slice at end (now tags))) ≤ 1025) ⌝ }
+    requires { ⌜ now places ≡ sets (replicate 1025 0) 0 (finds at (slice at end (now tags))) ⌝ }
     ensures { λ r. ⌜ Nests (now (words .entry)) (Ready offset (modOf (now (words .entry)) n) room f) (followS offset (modOf (now (words .entry)) n) room f) (now (log .entry)) (now (classes .entry)) (now (starts .entry)) (now (maps .entry)) (now (marks .entry)) (now (stacks .entry)) ends r (now (log .exit)) (now (classes .exit)) (now (starts .exit)) (now (maps .exit)) (now (marks .exit)) (now (stacks .exit)) ⌝ }
+    ensures { λ r. ⌜ (r .full ≡ false → now (places .exit) ≡ sets (replicate 1025 0) 0 (finds at (slice at end (now (tags .entry))))) ⌝ }
 {
     if room == 0 {
         return ends;
@@ -292,7 +316,7 @@ pub fn follow(
     if known(words, tags, n, log, classes, starts, maps, ends, f) != 0 {
         return ends;
     }
-    append(
+    let got = append(
         words,
         tags,
         kinds,
@@ -303,9 +327,15 @@ pub fn follow(
         maps,
         marks,
         stacks,
+        places,
         ends,
         offset,
         f,
         room - 1,
-    )
+    );
+    if got.full {
+        return got;
+    }
+    find(tags, at, end, places);
+    got
 }

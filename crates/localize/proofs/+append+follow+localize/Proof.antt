@@ -1,5 +1,6 @@
 -- The cycle of calls: localize follows a callee with the same room, follow appends it with less, append localizes with the same. Assumes nothing.
-use mathlib.Core.Path.{refl, ap}
+use mathlib.Core.Path.{refl, sym, ap, _∙_}
+use mathlib.Core.Bool.{false≢true}
 use mathlib.Core.Logic.{⊎-elim}
 use Prim.Native.Nat.{_+_, _*_, _-_}
 use native.Mathlib.Omega.{arith}
@@ -7,7 +8,7 @@ use Rattle.known.proofs.Bears.{bearing}
 use Rattle.import.proofs.Sources.{tape}
 use Rattle.parts.specs.Exprs.{expressions}
 use Rattle.localize.proofs.Starts.{declares}
-use Rattle.localize.proofs.Locals.{Onward, runs-at, runs-from, exprs-in, index-in, count-in, reading, named-in, begun-kept, begun-under, declare-none, going-start, word-in, word-fits, word-bodied, callee-low, callee-ready, callee-full, callee-runs, other-runs, going-full, going-next, keep-in, keep-long, keep-exprs, keep-low, names-full, names-in, names-words, names-good, names-whole}
+use Rattle.localize.proofs.Locals.{Onward, runs-at, runs-from, going-at, exprs-in, index-in, count-in, reading, named-in, begun-kept, begun-under, declare-none, going-start, word-in, word-fits, word-bodied, callee-low, callee-ready, callee-full, callee-runs, other-runs, going-full, going-next, keep-in, keep-long, keep-exprs, keep-low, names-full, names-in, names-words, names-good, names-whole}
 use Rattle.localize.proofs.Follows.{follow-none, follow-old, follow-ready, follow-append}
 use Rattle.localize.proofs.Appending.{append-part, append-nested, append-standing, close-order, close-few, close-stacks, close-names, close-classes, close-room, append-done, append-none}
 use Prim.Native.Nat.{ℕ, _<_}
@@ -27,7 +28,7 @@ use Rattle.closing.proofs.import_names.Reads as import-names-reads
 use Rattle.closing.proofs.keep_names.Reads as keep-names-reads
 use Rattle.known.proofs.known.Reads as known-reads
 use Rattle.localize.proofs.begin.Reads as begin-reads
-use Rattle.making.proofs.index.Reads as index-reads
+use Rattle.localize.proofs.find.Reads as find-reads
 use Rattle.making.proofs.slot.Reads as slot-reads
 use Rattle.passing.proofs.declare.Reads as declare-reads
 use Rattle.passing.proofs.flag.Reads as flag-reads
@@ -41,33 +42,33 @@ use Rattle.words.proofs.wide.Reads as wide-reads
 use Rattle.localize.proofs.+append+follow+localize.{statement}
 use Rattle.localize.proofs.+append+follow+localize.Tie.{close}
 
-abbrev μ-append : Measures 9 append-kinds.ps ℕ
-μ-append κs a = 3 * (a .1 .1 .1 .1 .1 .1 .1 .1 .1 .1 .1 .1 .1 .0) + 2
+abbrev μ-append : Measures 10 append-kinds.ps ℕ
+μ-append κs a = 3 * (a .1 .1 .1 .1 .1 .1 .1 .1 .1 .1 .1 .1 .1 .1 .0) + 2
 
-abbrev μ-follow : Measures 9 follow-kinds.ps ℕ
-μ-follow κs a = 3 * (a .1 .1 .1 .1 .1 .1 .1 .1 .1 .1 .1 .1 .1 .0)
+abbrev μ-follow : Measures 10 follow-kinds.ps ℕ
+μ-follow κs a = 3 * (a .1 .1 .1 .1 .1 .1 .1 .1 .1 .1 .1 .1 .1 .1 .0)
 
-abbrev μ-localize : Measures 9 localize-kinds.ps ℕ
-μ-localize κs a = 3 * (a .1 .1 .1 .1 .1 .1 .1 .1 .1 .1 .1 .1 .1 .1 .0) + 1
+abbrev μ-localize : Measures 10 localize-kinds.ps ℕ
+μ-localize κs a = 3 * (a .1 .1 .1 .1 .1 .1 .1 .1 .1 .1 .1 .1 .1 .1 .1 .0) + 1
 
-abbrev append-at : ℕ → In 9 append-kinds.ps
-append-at t = and 9 append-kinds.ps (is 9 append-kinds.ps μ-append t) append.Pre
+abbrev append-at : ℕ → In 10 append-kinds.ps
+append-at t = and 10 append-kinds.ps (is 10 append-kinds.ps μ-append t) append.Pre
 
-abbrev append-below : ℕ → In 9 append-kinds.ps
-append-below t = and 9 append-kinds.ps (falls 9 append-kinds.ps _<_ μ-append t) append.Pre
+abbrev append-below : ℕ → In 10 append-kinds.ps
+append-below t = and 10 append-kinds.ps (falls 10 append-kinds.ps _<_ μ-append t) append.Pre
 
-abbrev follow-at : ℕ → In 9 follow-kinds.ps
-follow-at t = and 9 follow-kinds.ps (is 9 follow-kinds.ps μ-follow t) follow.Pre
+abbrev follow-at : ℕ → In 10 follow-kinds.ps
+follow-at t = and 10 follow-kinds.ps (is 10 follow-kinds.ps μ-follow t) follow.Pre
 
-abbrev follow-below : ℕ → In 9 follow-kinds.ps
-follow-below t = and 9 follow-kinds.ps (falls 9 follow-kinds.ps _<_ μ-follow t) follow.Pre
+abbrev follow-below : ℕ → In 10 follow-kinds.ps
+follow-below t = and 10 follow-kinds.ps (falls 10 follow-kinds.ps _<_ μ-follow t) follow.Pre
 
-abbrev localize-at : ℕ → In 9 localize-kinds.ps
-localize-at t = and 9 localize-kinds.ps (is 9 localize-kinds.ps μ-localize t) localize.Pre
+abbrev localize-at : ℕ → In 10 localize-kinds.ps
+localize-at t = and 10 localize-kinds.ps (is 10 localize-kinds.ps μ-localize t) localize.Pre
 
-abbrev localize-below : ℕ → In 9 localize-kinds.ps
+abbrev localize-below : ℕ → In 10 localize-kinds.ps
 localize-below t =
-    and 9 localize-kinds.ps (falls 9 localize-kinds.ps _<_ μ-localize t) localize.Pre
+    and 10 localize-kinds.ps (falls 10 localize-kinds.ps _<_ μ-localize t) localize.Pre
 
 -- src/lib.rt:223:9
 append-record-at-requires : (t : ℕ) → append-lts.Need-record-at-requires (
@@ -118,7 +119,7 @@ append-localize-requires : (t : ℕ) → append-lts.Need-localize-requires (
   close-reads.Asked,
   close-reads.Learnt,
 ) (append-at t) append.Post
-append-localize-requires t c κs = let a = c .before .before .before .before .before .before .before .before .args in let p = c .before .before .before .before .before .before .before .before .pre .1 in let q = c .before .before .before .before .before .before .before .before .pre .0 in (omega arith, (p .0, (append-part (p .0) (p .1 .0) (c .before .before .before .before .before .before .before .record-at .ensures) (c .before .before .before .before .before .before .record-end .ensures) (p .1 .1 .0 .scopes), (append-nested (p .0) (p .1 .0) (c .before .before .before .before .before .before .before .record-at .ensures) (c .before .before .before .before .before .before .record-end .ensures) (p .1 .1 .0 .scopes) (p .1 .1 .0), (p .1 .1 .1 .0, (p .1 .1 .1 .1))))))
+append-localize-requires t c κs = let a = c .before .before .before .before .before .before .before .before .before .args in let p = c .before .before .before .before .before .before .before .before .before .pre .1 in let q = c .before .before .before .before .before .before .before .before .before .pre .0 in (omega arith, (p .0, (append-part (p .0) (p .1 .0) (c .before .before .before .before .before .before .before .before .record-at .ensures) (c .before .before .before .before .before .before .before .record-end .ensures) (p .1 .1 .0 .scopes), (append-nested (p .0) (p .1 .0) (c .before .before .before .before .before .before .before .before .record-at .ensures) (c .before .before .before .before .before .before .before .record-end .ensures) (p .1 .1 .0 .scopes) (p .1 .1 .0), (p .1 .1 .1 .0, (p .1 .1 .1 .1))))))
 
 -- src/lib.rt:243:9
 append-returns : (t : ℕ) → append-lts.Need-returns (
@@ -135,7 +136,7 @@ append-returns : (t : ℕ) → append-lts.Need-returns (
   close-reads.Asked,
   close-reads.Learnt,
 ) (append-at t) append.Post
-append-returns t c = let a = c .before .before .before .before .before .before .before .before .before .before .args in let p = c .before .before .before .before .before .before .before .before .before .before .pre .1 in append-none (p .0) (p .1 .0) (c .before .before .before .before .before .before .before .before .before .record-at .ensures) (c .before .before .before .before .before .before .before .before .record-end .ensures) (p .1 .1 .0 .scopes) (a .room) (c .before .localize .ensures) (c .if1 .taken)
+append-returns t c = let a = c .before .before .before .before .before .before .before .before .before .before .before .args in let p = c .before .before .before .before .before .before .before .before .before .before .before .pre .1 in append-none (p .0) (p .1 .0) (c .before .before .before .before .before .before .before .before .before .before .record-at .ensures) (c .before .before .before .before .before .before .before .before .before .record-end .ensures) (p .1 .1 .0 .scopes) (a .room) (c .before .localize .ensures) (c .if1 .taken)
 
 -- src/lib.rt:245:9
 append-expressions-at-requires : (t : ℕ) → append-lts.Need-expressions-at-requires (
@@ -152,7 +153,7 @@ append-expressions-at-requires : (t : ℕ) → append-lts.Need-expressions-at-re
   close-reads.Asked,
   close-reads.Learnt,
 ) (append-at t) append.Post
-append-expressions-at-requires t c κs = let a = c .before .before .before .before .before .before .before .before .before .before .args in let p = c .before .before .before .before .before .before .before .before .before .before .pre .1 in exprs-in (append-part (p .0) (p .1 .0) (c .before .before .before .before .before .before .before .before .before .record-at .ensures) (c .before .before .before .before .before .before .before .before .record-end .ensures) (p .1 .1 .0 .scopes))
+append-expressions-at-requires t c κs = let a = c .before .before .before .before .before .before .before .before .before .before .before .args in let p = c .before .before .before .before .before .before .before .before .before .before .before .pre .1 in exprs-in (append-part (p .0) (p .1 .0) (c .before .before .before .before .before .before .before .before .before .before .record-at .ensures) (c .before .before .before .before .before .before .before .before .before .record-end .ensures) (p .1 .1 .0 .scopes))
 
 -- src/lib.rt:246:9
 append-body-at-requires : (t : ℕ) → append-lts.Need-body-at-requires (
@@ -169,7 +170,7 @@ append-body-at-requires : (t : ℕ) → append-lts.Need-body-at-requires (
   close-reads.Asked,
   close-reads.Learnt,
 ) (append-at t) append.Post
-append-body-at-requires t c κs = let a = c .before .before .before .before .before .before .before .before .before .before .before .args in let p = c .before .before .before .before .before .before .before .before .before .before .before .pre .1 in append-standing (p .0) (p .1 .0) (c .before .before .before .before .before .before .before .before .before .before .record-at .ensures) (c .before .before .before .before .before .before .before .before .before .record-end .ensures) (p .1 .1 .0 .scopes)
+append-body-at-requires t c κs = let a = c .before .before .before .before .before .before .before .before .before .before .before .before .args in let p = c .before .before .before .before .before .before .before .before .before .before .before .before .pre .1 in append-standing (p .0) (p .1 .0) (c .before .before .before .before .before .before .before .before .before .before .before .record-at .ensures) (c .before .before .before .before .before .before .before .before .before .before .record-end .ensures) (p .1 .1 .0 .scopes)
 
 -- src/lib.rt:247:5
 append-close-requires : (t : ℕ) → append-lts.Need-close-requires (
@@ -186,7 +187,7 @@ append-close-requires : (t : ℕ) → append-lts.Need-close-requires (
   close-reads.Asked,
   close-reads.Learnt,
 ) (append-at t) append.Post
-append-close-requires t c κs = let a = c .before .before .before .before .before .before .before .before .before .before .before .before .before .before .before .before .args in let p = c .before .before .before .before .before .before .before .before .before .before .before .before .before .before .before .before .pre .1 in (close-order (p .0) (p .1 .0) (c .before .before .before .before .before .before .before .before .before .before .before .before .before .before .before .record-at .ensures) (c .before .before .before .before .before .before .before .before .before .before .before .before .before .before .record-end .ensures) (p .1 .1 .0 .scopes) (c .before .before .before .before .before .expressions-at .ensures .0) (c .before .before .before .before .body-at .ensures) (a .room) (p .1 .1 .1 .1) (c .before .before .before .before .before .before .before .localize .ensures) (c .before .before .before .before .before .before .if1 .left), (close-few (p .0) (p .1 .0) (c .before .before .before .before .before .before .before .before .before .before .before .before .before .before .before .record-at .ensures) (c .before .before .before .before .before .before .before .before .before .before .before .before .before .before .record-end .ensures) (p .1 .1 .0 .scopes) (c .before .before .before .before .before .expressions-at .ensures .0) (c .before .before .before .before .body-at .ensures) (a .room) (p .1 .1 .1 .1) (c .before .before .before .before .before .before .before .localize .ensures) (c .before .before .before .before .before .before .if1 .left), (close-stacks (p .0) (p .1 .0) (c .before .before .before .before .before .before .before .before .before .before .before .before .before .before .before .record-at .ensures) (c .before .before .before .before .before .before .before .before .before .before .before .before .before .before .record-end .ensures) (p .1 .1 .0 .scopes) (c .before .before .before .before .before .expressions-at .ensures .0) (c .before .before .before .before .body-at .ensures) (a .room) (p .1 .1 .1 .1) (c .before .before .before .before .before .before .before .localize .ensures) (c .before .before .before .before .before .before .if1 .left), (close-names (p .0) (p .1 .0) (c .before .before .before .before .before .before .before .before .before .before .before .before .before .before .before .record-at .ensures) (c .before .before .before .before .before .before .before .before .before .before .before .before .before .before .record-end .ensures) (p .1 .1 .0 .scopes) (c .before .before .before .before .before .expressions-at .ensures .0) (c .before .before .before .before .body-at .ensures) (a .room) (p .1 .1 .1 .1) (c .before .before .before .before .before .before .before .localize .ensures) (c .before .before .before .before .before .before .if1 .left), (close-classes (p .0) (p .1 .0) (c .before .before .before .before .before .before .before .before .before .before .before .before .before .before .before .record-at .ensures) (c .before .before .before .before .before .before .before .before .before .before .before .before .before .before .record-end .ensures) (p .1 .1 .0 .scopes) (c .before .before .before .before .before .expressions-at .ensures .0) (c .before .before .before .before .body-at .ensures) (a .room) (p .1 .1 .1 .1) (c .before .before .before .before .before .before .before .localize .ensures) (c .before .before .before .before .before .before .if1 .left), close-room (p .0) (p .1 .0) (c .before .before .before .before .before .before .before .before .before .before .before .before .before .before .before .record-at .ensures) (c .before .before .before .before .before .before .before .before .before .before .before .before .before .before .record-end .ensures) (p .1 .1 .0 .scopes) (c .before .before .before .before .before .expressions-at .ensures .0) (c .before .before .before .before .body-at .ensures) (a .room) (p .1 .1 .1 .1) (c .before .before .before .before .before .before .before .localize .ensures) (c .before .before .before .before .before .before .if1 .left))))))
+append-close-requires t c κs = let a = c .before .before .before .before .before .before .before .before .before .before .before .before .before .before .before .before .before .args in let p = c .before .before .before .before .before .before .before .before .before .before .before .before .before .before .before .before .before .pre .1 in (close-order (p .0) (p .1 .0) (c .before .before .before .before .before .before .before .before .before .before .before .before .before .before .before .before .record-at .ensures) (c .before .before .before .before .before .before .before .before .before .before .before .before .before .before .before .record-end .ensures) (p .1 .1 .0 .scopes) (c .before .before .before .before .before .expressions-at .ensures .0) (c .before .before .before .before .body-at .ensures) (a .room) (p .1 .1 .1 .1) (c .before .before .before .before .before .before .before .localize .ensures) (c .before .before .before .before .before .before .if1 .left), (close-few (p .0) (p .1 .0) (c .before .before .before .before .before .before .before .before .before .before .before .before .before .before .before .before .record-at .ensures) (c .before .before .before .before .before .before .before .before .before .before .before .before .before .before .before .record-end .ensures) (p .1 .1 .0 .scopes) (c .before .before .before .before .before .expressions-at .ensures .0) (c .before .before .before .before .body-at .ensures) (a .room) (p .1 .1 .1 .1) (c .before .before .before .before .before .before .before .localize .ensures) (c .before .before .before .before .before .before .if1 .left), (close-stacks (p .0) (p .1 .0) (c .before .before .before .before .before .before .before .before .before .before .before .before .before .before .before .before .record-at .ensures) (c .before .before .before .before .before .before .before .before .before .before .before .before .before .before .before .record-end .ensures) (p .1 .1 .0 .scopes) (c .before .before .before .before .before .expressions-at .ensures .0) (c .before .before .before .before .body-at .ensures) (a .room) (p .1 .1 .1 .1) (c .before .before .before .before .before .before .before .localize .ensures) (c .before .before .before .before .before .before .if1 .left), (close-names (p .0) (p .1 .0) (c .before .before .before .before .before .before .before .before .before .before .before .before .before .before .before .before .record-at .ensures) (c .before .before .before .before .before .before .before .before .before .before .before .before .before .before .before .record-end .ensures) (p .1 .1 .0 .scopes) (c .before .before .before .before .before .expressions-at .ensures .0) (c .before .before .before .before .body-at .ensures) (a .room) (p .1 .1 .1 .1) (c .before .before .before .before .before .before .before .localize .ensures) (c .before .before .before .before .before .before .if1 .left), (close-classes (p .0) (p .1 .0) (c .before .before .before .before .before .before .before .before .before .before .before .before .before .before .before .before .record-at .ensures) (c .before .before .before .before .before .before .before .before .before .before .before .before .before .before .before .record-end .ensures) (p .1 .1 .0 .scopes) (c .before .before .before .before .before .expressions-at .ensures .0) (c .before .before .before .before .body-at .ensures) (a .room) (p .1 .1 .1 .1) (c .before .before .before .before .before .before .before .localize .ensures) (c .before .before .before .before .before .before .if1 .left), close-room (p .0) (p .1 .0) (c .before .before .before .before .before .before .before .before .before .before .before .before .before .before .before .before .record-at .ensures) (c .before .before .before .before .before .before .before .before .before .before .before .before .before .before .before .record-end .ensures) (p .1 .1 .0 .scopes) (c .before .before .before .before .before .expressions-at .ensures .0) (c .before .before .before .before .body-at .ensures) (a .room) (p .1 .1 .1 .1) (c .before .before .before .before .before .before .before .localize .ensures) (c .before .before .before .before .before .before .if1 .left))))))
 
 -- src/lib.rt:200:1
 append-returns-2 : (t : ℕ) → append-lts.Need-returns-2 (
@@ -203,7 +204,7 @@ append-returns-2 : (t : ℕ) → append-lts.Need-returns-2 (
   close-reads.Asked,
   close-reads.Learnt,
 ) (append-at t) append.Post
-append-returns-2 t c = let a = c .before .before .before .before .before .before .before .before .before .before .before .before .before .before .before .before .before .args in let p = c .before .before .before .before .before .before .before .before .before .before .before .before .before .before .before .before .before .pre .1 in append-done (p .0) (p .1 .0) (c .before .before .before .before .before .before .before .before .before .before .before .before .before .before .before .before .record-at .ensures) (c .before .before .before .before .before .before .before .before .before .before .before .before .before .before .before .record-end .ensures) (p .1 .1 .0 .scopes) (c .before .before .before .before .before .before .expressions-at .ensures .0) (c .before .before .before .before .before .body-at .ensures) (a .room) (p .1 .1 .1 .1) (c .before .before .before .before .before .before .before .before .localize .ensures) (c .before .before .before .before .before .before .before .if1 .left) (p .1 .1 .0) (c .close .ensures)
+append-returns-2 t c = let a = c .before .before .before .before .before .before .before .before .before .before .before .before .before .before .before .before .before .before .args in let p = c .before .before .before .before .before .before .before .before .before .before .before .before .before .before .before .before .before .before .pre .1 in append-done (p .0) (p .1 .0) (c .before .before .before .before .before .before .before .before .before .before .before .before .before .before .before .before .before .record-at .ensures) (c .before .before .before .before .before .before .before .before .before .before .before .before .before .before .before .before .record-end .ensures) (p .1 .1 .0 .scopes) (c .before .before .before .before .before .before .expressions-at .ensures .0) (c .before .before .before .before .before .body-at .ensures) (a .room) (p .1 .1 .1 .1) (c .before .before .before .before .before .before .before .before .localize .ensures) (c .before .before .before .before .before .before .before .if1 .left) (p .1 .1 .0) (c .close .ensures)
 
 -- src/lib.rt:290:9
 follow-returns : (t : ℕ) → follow-lts.Need-returns (
@@ -211,8 +212,10 @@ follow-returns : (t : ℕ) → follow-lts.Need-returns (
   known-reads.Learnt,
   append-below t,
   append.Post,
+  find-reads.Asked,
+  find-reads.Learnt,
 ) (follow-at t) follow.Post
-follow-returns t c = let a = c .before .args in let p = c .before .pre .1 in follow-none (a .words .now) (a .n) (a .offset) (a .f) (a .log .now) (a .classes .now) (a .starts .now) (a .maps .now) (a .marks .now) (a .stacks .now) (a .ends) (a .room) (c .if1 .taken) (p .1 .1 .1 .0 .0) (p .1 .1 .1 .0 .1) (p .1 .1 .1 .1)
+follow-returns t c = let a = c .before .args in let p = c .before .pre .1 in (follow-none (a .words .now) (a .n) (a .offset) (a .f) (a .log .now) (a .classes .now) (a .starts .now) (a .maps .now) (a .marks .now) (a .stacks .now) (a .ends) (a .room) (c .if1 .taken) (p .1 .1 .1 .0 .0) (p .1 .1 .1 .0 .1) (p .1 .1 .1 .1 .0), λ _. p .1 .1 .1 .1 .1 .1)
 
 -- src/lib.rt:292:8
 follow-known-requires : (t : ℕ) → follow-lts.Need-known-requires (
@@ -220,8 +223,10 @@ follow-known-requires : (t : ℕ) → follow-lts.Need-known-requires (
   known-reads.Learnt,
   append-below t,
   append.Post,
+  find-reads.Asked,
+  find-reads.Learnt,
 ) (follow-at t) follow.Post
-follow-known-requires t c κs = let a = c .before .before .before .before .before .args in let p = c .before .before .before .before .before .pre .1 in (p .0 .source, (p .0 .names, (p .1 .0, bearing (p .1 .1 .1 .1))))
+follow-known-requires t c κs = let a = c .before .before .before .before .before .args in let p = c .before .before .before .before .before .pre .1 in (p .0 .source, (p .0 .names, (p .1 .0, bearing (p .1 .1 .1 .1 .0))))
 
 -- src/lib.rt:293:9
 follow-returns-2 : (t : ℕ) → follow-lts.Need-returns-2 (
@@ -229,8 +234,10 @@ follow-returns-2 : (t : ℕ) → follow-lts.Need-returns-2 (
   known-reads.Learnt,
   append-below t,
   append.Post,
+  find-reads.Asked,
+  find-reads.Learnt,
 ) (follow-at t) follow.Post
-follow-returns-2 t c = let a = c .before .before .before .before .before .before .before .args in let p = c .before .before .before .before .before .before .before .pre .1 in follow-old (a .words .now) (a .n) (a .offset) (a .f) (a .log .now) (a .classes .now) (a .starts .now) (a .maps .now) (a .marks .now) (a .stacks .now) (a .ends) (a .room) (c .before .before .before .before .before .before .if1 .left) (c .before .known .result) (c .before .known .ensures) (c .if2 .taken) (p .1 .1 .1 .0 .0) (p .1 .1 .1 .0 .1) (p .1 .1 .1 .1)
+follow-returns-2 t c = let a = c .before .before .before .before .before .before .before .args in let p = c .before .before .before .before .before .before .before .pre .1 in (follow-old (a .words .now) (a .n) (a .offset) (a .f) (a .log .now) (a .classes .now) (a .starts .now) (a .maps .now) (a .marks .now) (a .stacks .now) (a .ends) (a .room) (c .before .before .before .before .before .before .if1 .left) (c .before .known .result) (c .before .known .ensures) (c .if2 .taken) (p .1 .1 .1 .0 .0) (p .1 .1 .1 .0 .1) (p .1 .1 .1 .1 .0), λ _. p .1 .1 .1 .1 .1 .1)
 
 -- src/lib.rt:309:9
 follow-sub-append : (t : ℕ) → follow-lts.Need-sub-append (
@@ -238,8 +245,10 @@ follow-sub-append : (t : ℕ) → follow-lts.Need-sub-append (
   known-reads.Learnt,
   append-below t,
   append.Post,
+  find-reads.Asked,
+  find-reads.Learnt,
 ) (follow-at t) follow.Post
-follow-sub-append t c = let h = c .before .before .before .before .before .before .before .before .before .before .before .before .if1 .left in omega arith
+follow-sub-append t c = let h = c .before .before .before .before .before .before .before .before .before .before .before .before .before .if1 .left in omega arith
 
 -- src/lib.rt:295:5
 follow-append-requires : (t : ℕ) → follow-lts.Need-append-requires (
@@ -247,8 +256,10 @@ follow-append-requires : (t : ℕ) → follow-lts.Need-append-requires (
   known-reads.Learnt,
   append-below t,
   append.Post,
+  find-reads.Asked,
+  find-reads.Learnt,
 ) (follow-at t) follow.Post
-follow-append-requires t c κs = let a = c .before .before .before .before .before .before .before .before .before .before .before .before .before .args in let p = c .before .before .before .before .before .before .before .before .before .before .before .before .before .pre .1 in let h = c .before .before .before .before .before .before .before .before .before .before .before .before .if1 .left in let q = c .before .before .before .before .before .before .before .before .before .before .before .before .before .pre .0 in (omega arith, (p .0, (p .1 .0, (follow-ready (a .words .now) (a .n) (a .offset) (a .f) (a .log .now) (a .classes .now) (a .starts .now) (a .maps .now) (a .marks .now) (a .stacks .now) (a .ends) (a .room) (c .before .before .before .before .before .before .before .before .before .before .before .before .if1 .left) (c .before .before .before .before .before .before .before .known .result) (c .before .before .before .before .before .before .before .known .ensures) (c .before .before .before .before .before .before .if2 .left) (p .1 .1 .0), (p .1 .1 .1 .0, (p .1 .1 .1 .1))))))
+follow-append-requires t c κs = let a = c .before .before .before .before .before .before .before .before .before .before .before .before .before .before .args in let p = c .before .before .before .before .before .before .before .before .before .before .before .before .before .before .pre .1 in let h = c .before .before .before .before .before .before .before .before .before .before .before .before .before .if1 .left in let q = c .before .before .before .before .before .before .before .before .before .before .before .before .before .before .pre .0 in (omega arith, (p .0, (p .1 .0, (follow-ready (a .words .now) (a .n) (a .offset) (a .f) (a .log .now) (a .classes .now) (a .starts .now) (a .maps .now) (a .marks .now) (a .stacks .now) (a .ends) (a .room) (c .before .before .before .before .before .before .before .before .before .before .before .before .before .if1 .left) (c .before .before .before .before .before .before .before .before .known .result) (c .before .before .before .before .before .before .before .before .known .ensures) (c .before .before .before .before .before .before .before .if2 .left) (p .1 .1 .0), (p .1 .1 .1 .0, (p .1 .1 .1 .1 .0))))))
 
 -- src/lib.rt:266:1
 follow-returns-3 : (t : ℕ) → follow-lts.Need-returns-3 (
@@ -256,15 +267,39 @@ follow-returns-3 : (t : ℕ) → follow-lts.Need-returns-3 (
   known-reads.Learnt,
   append-below t,
   append.Post,
+  find-reads.Asked,
+  find-reads.Learnt,
 ) (follow-at t) follow.Post
-follow-returns-3 t c = let a = c .before .before .before .before .before .before .before .before .before .before .before .before .before .before .args in let p = c .before .before .before .before .before .before .before .before .before .before .before .before .before .before .pre .1 in follow-append (a .words .now) (a .n) (a .offset) (a .f) (a .log .now) (a .classes .now) (a .starts .now) (a .maps .now) (a .marks .now) (a .stacks .now) (a .ends) (a .room) (c .before .before .before .before .before .before .before .before .before .before .before .before .before .if1 .left) (c .before .before .before .before .before .before .before .before .known .result) (c .before .before .before .before .before .before .before .before .known .ensures) (c .before .before .before .before .before .before .before .if2 .left) (c .append .ensures)
+follow-returns-3 t c = let a = c .before .before .before .before .before .before .before .before .before .before .before .before .before .before .before .before .args in let p = c .before .before .before .before .before .before .before .before .before .before .before .before .before .before .before .before .pre .1 in (follow-append (a .words .now) (a .n) (a .offset) (a .f) (a .log .now) (a .classes .now) (a .starts .now) (a .maps .now) (a .marks .now) (a .stacks .now) (a .ends) (a .room) (c .before .before .before .before .before .before .before .before .before .before .before .before .before .before .before .if1 .left) (c .before .before .before .before .before .before .before .before .before .before .known .result) (c .before .before .before .before .before .before .before .before .before .before .known .ensures) (c .before .before .before .before .before .before .before .before .before .if2 .left) (c .before .append .ensures), λ q. absurd (false≢true (sym q ∙ c .if3 .taken)))
+
+-- src/lib.rt:339:5
+follow-find-requires : (t : ℕ) → follow-lts.Need-find-requires (
+  known-reads.Asked,
+  known-reads.Learnt,
+  append-below t,
+  append.Post,
+  find-reads.Asked,
+  find-reads.Learnt,
+) (follow-at t) follow.Post
+follow-find-requires t c κs = c .before .before .before .before .before .before .before .before .before .before .before .before .before .before .before .before .before .pre .1 .1 .1 .1 .1 .1 .0
+
+-- src/lib.rt:284:1
+follow-returns-4 : (t : ℕ) → follow-lts.Need-returns-4 (
+  known-reads.Asked,
+  known-reads.Learnt,
+  append-below t,
+  append.Post,
+  find-reads.Asked,
+  find-reads.Learnt,
+) (follow-at t) follow.Post
+follow-returns-4 t c = let a = c .before .before .before .before .before .before .before .before .before .before .before .before .before .before .before .before .before .before .args in let p = c .before .before .before .before .before .before .before .before .before .before .before .before .before .before .before .before .before .before .pre .1 in (follow-append (a .words .now) (a .n) (a .offset) (a .f) (a .log .now) (a .classes .now) (a .starts .now) (a .maps .now) (a .marks .now) (a .stacks .now) (a .ends) (a .room) (c .before .before .before .before .before .before .before .before .before .before .before .before .before .before .before .before .before .if1 .left) (c .before .before .before .before .before .before .before .before .before .before .before .before .known .result) (c .before .before .before .before .before .before .before .before .before .before .before .before .known .ensures) (c .before .before .before .before .before .before .before .before .before .before .before .if2 .left) (c .before .before .before .append .ensures), λ _. c .find .ensures)
 
 abbrev localize-Inv-loop : localize-lts.InvT-loop
-localize-Inv-loop words tags kinds n log₀ classes₀ starts₀ maps₀ marks₀ stacks₀ offset s end room e1 exprs k places em₀ named body e₀ i₀ u₀ log classes starts maps marks stacks em e i u =
-    Onward words tags n offset room s end exprs places k named body e1 log₀ classes₀ starts₀ maps₀ marks₀ em₀ stacks₀ e₀ i₀ u₀ log classes starts maps marks em stacks e i u
+localize-Inv-loop words tags kinds n log₀ classes₀ starts₀ maps₀ marks₀ stacks₀ places₀ offset s end room e1 exprs k em₀ named body e₀ i₀ u₀ log classes starts maps marks stacks places em e i u =
+    Onward words tags n offset room s end exprs places₀ k named body e1 log₀ classes₀ starts₀ maps₀ marks₀ em₀ stacks₀ e₀ i₀ u₀ places log classes starts maps marks em stacks e i u
 
 abbrev localize-μ-loop : localize-lts.MeasureT-loop
-localize-μ-loop words tags kinds n log₀ classes₀ starts₀ maps₀ marks₀ stacks₀ offset s end room e1 exprs k places em₀ named body e₀ i₀ u₀ log classes starts maps marks stacks em e i u =
+localize-μ-loop words tags kinds n log₀ classes₀ starts₀ maps₀ marks₀ stacks₀ places₀ offset s end room e1 exprs k em₀ named body e₀ i₀ u₀ log classes starts maps marks stacks places em e i u =
     end - i
 
 -- src/lib.rt:78:9
@@ -273,8 +308,8 @@ localize-expressions-at-requires : (t : ℕ) → localize-lts.Need-expressions-a
   expressions-at-reads.Learnt,
   wide-reads.Asked,
   wide-reads.Learnt,
-  index-reads.Asked,
-  index-reads.Learnt,
+  find-reads.Asked,
+  find-reads.Learnt,
   slot-reads.Asked,
   slot-reads.Learnt,
   begin-reads.Asked,
@@ -302,8 +337,8 @@ localize-mul-wide : (t : ℕ) → localize-lts.Need-mul-wide (
   expressions-at-reads.Learnt,
   wide-reads.Asked,
   wide-reads.Learnt,
-  index-reads.Asked,
-  index-reads.Learnt,
+  find-reads.Asked,
+  find-reads.Learnt,
   slot-reads.Asked,
   slot-reads.Learnt,
   begin-reads.Asked,
@@ -331,8 +366,8 @@ localize-element-copy-out-wide : (t : ℕ) → localize-lts.Need-element-copy-ou
   expressions-at-reads.Learnt,
   wide-reads.Asked,
   wide-reads.Learnt,
-  index-reads.Asked,
-  index-reads.Learnt,
+  find-reads.Asked,
+  find-reads.Learnt,
   slot-reads.Asked,
   slot-reads.Learnt,
   begin-reads.Asked,
@@ -360,8 +395,8 @@ localize-wide-requires : (t : ℕ) → localize-lts.Need-wide-requires (
   expressions-at-reads.Learnt,
   wide-reads.Asked,
   wide-reads.Learnt,
-  index-reads.Asked,
-  index-reads.Learnt,
+  find-reads.Asked,
+  find-reads.Learnt,
   slot-reads.Asked,
   slot-reads.Learnt,
   begin-reads.Asked,
@@ -384,13 +419,13 @@ localize-wide-requires : (t : ℕ) → localize-lts.Need-wide-requires (
 localize-wide-requires t c κs = tt
 
 -- src/lib.rt:82:17
-localize-add-index : (t : ℕ) → localize-lts.Need-add-index (
+localize-add-find : (t : ℕ) → localize-lts.Need-add-find (
   expressions-at-reads.Asked,
   expressions-at-reads.Learnt,
   wide-reads.Asked,
   wide-reads.Learnt,
-  index-reads.Asked,
-  index-reads.Learnt,
+  find-reads.Asked,
+  find-reads.Learnt,
   slot-reads.Asked,
   slot-reads.Learnt,
   begin-reads.Asked,
@@ -410,16 +445,16 @@ localize-add-index : (t : ℕ) → localize-lts.Need-add-index (
   import-names-reads.Asked,
   import-names-reads.Learnt,
 ) (localize-at t) localize.Post localize-Inv-loop localize-μ-loop
-localize-add-index t c = let a = c .before .before .before .args in let p = c .before .before .before .pre .1 in let h = c .before .before .expressions-at .ensures .1 in omega arith
+localize-add-find t c = let a = c .before .before .before .args in let p = c .before .before .before .pre .1 in let h = c .before .before .expressions-at .ensures .1 in omega arith
 
 -- src/lib.rt:82:5
-localize-index-requires : (t : ℕ) → localize-lts.Need-index-requires (
+localize-find-requires : (t : ℕ) → localize-lts.Need-find-requires (
   expressions-at-reads.Asked,
   expressions-at-reads.Learnt,
   wide-reads.Asked,
   wide-reads.Learnt,
-  index-reads.Asked,
-  index-reads.Learnt,
+  find-reads.Asked,
+  find-reads.Learnt,
   slot-reads.Asked,
   slot-reads.Learnt,
   begin-reads.Asked,
@@ -439,7 +474,7 @@ localize-index-requires : (t : ℕ) → localize-lts.Need-index-requires (
   import-names-reads.Asked,
   import-names-reads.Learnt,
 ) (localize-at t) localize.Post localize-Inv-loop localize-μ-loop
-localize-index-requires t c κs = let a = c .before .before .before .before .args in let p = c .before .before .before .before .pre .1 in index-in (p .1 .0) (c .before .before .before .expressions-at .ensures .0)
+localize-find-requires t c κs = let a = c .before .before .before .before .args in let p = c .before .before .before .before .pre .1 in index-in (p .1 .0) (c .before .before .before .expressions-at .ensures .0)
 
 -- src/lib.rt:83:22
 localize-mul-slot : (t : ℕ) → localize-lts.Need-mul-slot (
@@ -447,8 +482,8 @@ localize-mul-slot : (t : ℕ) → localize-lts.Need-mul-slot (
   expressions-at-reads.Learnt,
   wide-reads.Asked,
   wide-reads.Learnt,
-  index-reads.Asked,
-  index-reads.Learnt,
+  find-reads.Asked,
+  find-reads.Learnt,
   slot-reads.Asked,
   slot-reads.Learnt,
   begin-reads.Asked,
@@ -471,13 +506,13 @@ localize-mul-slot : (t : ℕ) → localize-lts.Need-mul-slot (
 localize-mul-slot t c = let a = c .before .before .before .before .before .args in let p = c .before .before .before .before .before .pre .1 in let h = count-in (p .1 .0) (c .before .before .before .before .expressions-at .ensures .0) (c .before .before .wide .ensures .0) in omega arith
 
 -- src/lib.rt:83:22
-localize-array-read-slot : (t : ℕ) → localize-lts.Need-array-read-slot (
+localize-element-copy-out-slot : (t : ℕ) → localize-lts.Need-element-copy-out-slot (
   expressions-at-reads.Asked,
   expressions-at-reads.Learnt,
   wide-reads.Asked,
   wide-reads.Learnt,
-  index-reads.Asked,
-  index-reads.Learnt,
+  find-reads.Asked,
+  find-reads.Learnt,
   slot-reads.Asked,
   slot-reads.Learnt,
   begin-reads.Asked,
@@ -497,7 +532,7 @@ localize-array-read-slot : (t : ℕ) → localize-lts.Need-array-read-slot (
   import-names-reads.Asked,
   import-names-reads.Learnt,
 ) (localize-at t) localize.Post localize-Inv-loop localize-μ-loop
-localize-array-read-slot t c = let a = c .before .before .before .before .before .args in let p = c .before .before .before .before .before .pre .1 in let h = count-in (p .1 .0) (c .before .before .before .before .expressions-at .ensures .0) (c .before .before .wide .ensures .0) in omega arith
+localize-element-copy-out-slot t c = let a = c .before .before .before .before .before .args in let p = c .before .before .before .before .before .pre .1 in let h = count-in (p .1 .0) (c .before .before .before .before .expressions-at .ensures .0) (c .before .before .wide .ensures .0) in omega arith
 
 -- src/lib.rt:83:9
 localize-slot-requires : (t : ℕ) → localize-lts.Need-slot-requires (
@@ -505,8 +540,8 @@ localize-slot-requires : (t : ℕ) → localize-lts.Need-slot-requires (
   expressions-at-reads.Learnt,
   wide-reads.Asked,
   wide-reads.Learnt,
-  index-reads.Asked,
-  index-reads.Learnt,
+  find-reads.Asked,
+  find-reads.Learnt,
   slot-reads.Asked,
   slot-reads.Learnt,
   begin-reads.Asked,
@@ -534,8 +569,8 @@ localize-add-body : (t : ℕ) → localize-lts.Need-add-body (
   expressions-at-reads.Learnt,
   wide-reads.Asked,
   wide-reads.Learnt,
-  index-reads.Asked,
-  index-reads.Learnt,
+  find-reads.Asked,
+  find-reads.Learnt,
   slot-reads.Asked,
   slot-reads.Learnt,
   begin-reads.Asked,
@@ -555,7 +590,7 @@ localize-add-body : (t : ℕ) → localize-lts.Need-add-body (
   import-names-reads.Asked,
   import-names-reads.Learnt,
 ) (localize-at t) localize.Post localize-Inv-loop localize-μ-loop
-localize-add-body t c = let a = c .before .before .before .before .before .before .args in let p = c .before .before .before .before .before .before .pre .1 in let h = named-in (p .1 .0) (c .before .before .before .before .before .expressions-at .ensures .0) (c .before .index .ensures) (c .before .before .before .wide .ensures .0) (c .slot .ensures .0) in let h₁ = h .0 in let h₂ = h .1 in omega arith
+localize-add-body t c = let a = c .before .before .before .before .before .before .before .args in let p = c .before .before .before .before .before .before .before .pre .1 in let h = named-in (p .1 .0) (c .before .before .before .before .before .before .expressions-at .ensures .0) (c .before .before .find .ensures) (c .before .before .before .before .wide .ensures .0) (c .slot .ensures .0) in let h₁ = h .0 in let h₂ = h .1 in omega arith
 
 -- src/lib.rt:84:37
 localize-mul-wide-2 : (t : ℕ) → localize-lts.Need-mul-wide-2 (
@@ -563,8 +598,8 @@ localize-mul-wide-2 : (t : ℕ) → localize-lts.Need-mul-wide-2 (
   expressions-at-reads.Learnt,
   wide-reads.Asked,
   wide-reads.Learnt,
-  index-reads.Asked,
-  index-reads.Learnt,
+  find-reads.Asked,
+  find-reads.Learnt,
   slot-reads.Asked,
   slot-reads.Learnt,
   begin-reads.Asked,
@@ -584,7 +619,7 @@ localize-mul-wide-2 : (t : ℕ) → localize-lts.Need-mul-wide-2 (
   import-names-reads.Asked,
   import-names-reads.Learnt,
 ) (localize-at t) localize.Post localize-Inv-loop localize-μ-loop
-localize-mul-wide-2 t c = let a = c .before .before .before .before .before .before .args in let p = c .before .before .before .before .before .before .pre .1 in let h = named-in (p .1 .0) (c .before .before .before .before .before .expressions-at .ensures .0) (c .before .index .ensures) (c .before .before .before .wide .ensures .0) (c .slot .ensures .0) in let h₁ = h .0 in let h₂ = h .1 in omega arith
+localize-mul-wide-2 t c = let a = c .before .before .before .before .before .before .before .args in let p = c .before .before .before .before .before .before .before .pre .1 in let h = named-in (p .1 .0) (c .before .before .before .before .before .before .expressions-at .ensures .0) (c .before .before .find .ensures) (c .before .before .before .before .wide .ensures .0) (c .slot .ensures .0) in let h₁ = h .0 in let h₂ = h .1 in omega arith
 
 -- src/lib.rt:84:37
 localize-element-copy-out-wide-2 : (t : ℕ) → localize-lts.Need-element-copy-out-wide-2 (
@@ -592,8 +627,8 @@ localize-element-copy-out-wide-2 : (t : ℕ) → localize-lts.Need-element-copy-
   expressions-at-reads.Learnt,
   wide-reads.Asked,
   wide-reads.Learnt,
-  index-reads.Asked,
-  index-reads.Learnt,
+  find-reads.Asked,
+  find-reads.Learnt,
   slot-reads.Asked,
   slot-reads.Learnt,
   begin-reads.Asked,
@@ -613,7 +648,7 @@ localize-element-copy-out-wide-2 : (t : ℕ) → localize-lts.Need-element-copy-
   import-names-reads.Asked,
   import-names-reads.Learnt,
 ) (localize-at t) localize.Post localize-Inv-loop localize-μ-loop
-localize-element-copy-out-wide-2 t c = let a = c .before .before .before .before .before .before .args in let p = c .before .before .before .before .before .before .pre .1 in let h = named-in (p .1 .0) (c .before .before .before .before .before .expressions-at .ensures .0) (c .before .index .ensures) (c .before .before .before .wide .ensures .0) (c .slot .ensures .0) in let h₁ = h .0 in let h₂ = h .1 in omega arith
+localize-element-copy-out-wide-2 t c = let a = c .before .before .before .before .before .before .before .args in let p = c .before .before .before .before .before .before .before .pre .1 in let h = named-in (p .1 .0) (c .before .before .before .before .before .before .expressions-at .ensures .0) (c .before .before .find .ensures) (c .before .before .before .before .wide .ensures .0) (c .slot .ensures .0) in let h₁ = h .0 in let h₂ = h .1 in omega arith
 
 -- src/lib.rt:84:32
 localize-wide-requires-2 : (t : ℕ) → localize-lts.Need-wide-requires-2 (
@@ -621,8 +656,8 @@ localize-wide-requires-2 : (t : ℕ) → localize-lts.Need-wide-requires-2 (
   expressions-at-reads.Learnt,
   wide-reads.Asked,
   wide-reads.Learnt,
-  index-reads.Asked,
-  index-reads.Learnt,
+  find-reads.Asked,
+  find-reads.Learnt,
   slot-reads.Asked,
   slot-reads.Learnt,
   begin-reads.Asked,
@@ -650,8 +685,8 @@ localize-mul-body : (t : ℕ) → localize-lts.Need-mul-body (
   expressions-at-reads.Learnt,
   wide-reads.Asked,
   wide-reads.Learnt,
-  index-reads.Asked,
-  index-reads.Learnt,
+  find-reads.Asked,
+  find-reads.Learnt,
   slot-reads.Asked,
   slot-reads.Learnt,
   begin-reads.Asked,
@@ -671,7 +706,7 @@ localize-mul-body : (t : ℕ) → localize-lts.Need-mul-body (
   import-names-reads.Asked,
   import-names-reads.Learnt,
 ) (localize-at t) localize.Post localize-Inv-loop localize-μ-loop
-localize-mul-body t c = let a = c .before .before .before .before .before .before .before .before .args in let p = c .before .before .before .before .before .before .before .before .pre .1 in let h = named-in (p .1 .0) (c .before .before .before .before .before .before .before .expressions-at .ensures .0) (c .before .before .before .index .ensures) (c .before .before .before .before .before .wide .ensures .0) (c .before .before .slot .ensures .0) in let h₁ = h .0 in let h₂ = h .1 in let w = c .wide2 .ensures .0 in omega arith
+localize-mul-body t c = let a = c .before .before .before .before .before .before .before .before .before .args in let p = c .before .before .before .before .before .before .before .before .before .pre .1 in let h = named-in (p .1 .0) (c .before .before .before .before .before .before .before .before .expressions-at .ensures .0) (c .before .before .before .before .find .ensures) (c .before .before .before .before .before .before .wide .ensures .0) (c .before .before .slot .ensures .0) in let h₁ = h .0 in let h₂ = h .1 in let w = c .wide2 .ensures .0 in omega arith
 
 -- src/lib.rt:84:16
 localize-add-body-2 : (t : ℕ) → localize-lts.Need-add-body-2 (
@@ -679,8 +714,8 @@ localize-add-body-2 : (t : ℕ) → localize-lts.Need-add-body-2 (
   expressions-at-reads.Learnt,
   wide-reads.Asked,
   wide-reads.Learnt,
-  index-reads.Asked,
-  index-reads.Learnt,
+  find-reads.Asked,
+  find-reads.Learnt,
   slot-reads.Asked,
   slot-reads.Learnt,
   begin-reads.Asked,
@@ -700,7 +735,7 @@ localize-add-body-2 : (t : ℕ) → localize-lts.Need-add-body-2 (
   import-names-reads.Asked,
   import-names-reads.Learnt,
 ) (localize-at t) localize.Post localize-Inv-loop localize-μ-loop
-localize-add-body-2 t c = let a = c .before .before .before .before .before .before .before .before .args in let p = c .before .before .before .before .before .before .before .before .pre .1 in let h = named-in (p .1 .0) (c .before .before .before .before .before .before .before .expressions-at .ensures .0) (c .before .before .before .index .ensures) (c .before .before .before .before .before .wide .ensures .0) (c .before .before .slot .ensures .0) in let h₁ = h .0 in let h₂ = h .1 in let w = c .wide2 .ensures .0 in omega arith
+localize-add-body-2 t c = let a = c .before .before .before .before .before .before .before .before .before .args in let p = c .before .before .before .before .before .before .before .before .before .pre .1 in let h = named-in (p .1 .0) (c .before .before .before .before .before .before .before .before .expressions-at .ensures .0) (c .before .before .before .before .find .ensures) (c .before .before .before .before .before .before .wide .ensures .0) (c .before .before .slot .ensures .0) in let h₁ = h .0 in let h₂ = h .1 in let w = c .wide2 .ensures .0 in omega arith
 
 -- src/lib.rt:98:9
 localize-begin-requires : (t : ℕ) → localize-lts.Need-begin-requires (
@@ -708,8 +743,8 @@ localize-begin-requires : (t : ℕ) → localize-lts.Need-begin-requires (
   expressions-at-reads.Learnt,
   wide-reads.Asked,
   wide-reads.Learnt,
-  index-reads.Asked,
-  index-reads.Learnt,
+  find-reads.Asked,
+  find-reads.Learnt,
   slot-reads.Asked,
   slot-reads.Learnt,
   begin-reads.Asked,
@@ -737,8 +772,8 @@ localize-declare-requires : (t : ℕ) → localize-lts.Need-declare-requires (
   expressions-at-reads.Learnt,
   wide-reads.Asked,
   wide-reads.Learnt,
-  index-reads.Asked,
-  index-reads.Learnt,
+  find-reads.Asked,
+  find-reads.Learnt,
   slot-reads.Asked,
   slot-reads.Learnt,
   begin-reads.Asked,
@@ -758,7 +793,7 @@ localize-declare-requires : (t : ℕ) → localize-lts.Need-declare-requires (
   import-names-reads.Asked,
   import-names-reads.Learnt,
 ) (localize-at t) localize.Post localize-Inv-loop localize-μ-loop
-localize-declare-requires t c κs = let a = c .before .before .before .before .before .before .before .before .before .before .before .before .before .before .before .before .before .args in let p = c .before .before .before .before .before .before .before .before .before .before .before .before .before .before .before .before .before .pre .1 in let x = (reading (p .1 .0) (c .before .before .before .before .before .before .before .before .before .before .before .before .before .before .before .before .expressions-at .ensures .0) (c .before .before .before .before .before .before .before .before .before .before .before .before .index .ensures) (c .before .before .before .before .before .before .before .before .before .before .before .before .before .before .wide .ensures .0) (c .before .before .before .before .before .before .before .before .before .before .before .slot .ensures .0) (c .before .before .before .before .before .before .before .before .before .wide2 .ensures .0) refl) in let b = c .begin .ensures in (p .0, (expressions (p .1 .0) x, (declares (p .1 .0) x, (ap (λ e. e .full) b, (begun-kept (p .1 .0) x (p .1 .1 .1 .1) b, begun-under (p .1 .0) x (p .1 .1 .1 .1) b (a .stacks .now) (p .1 .1 .1 .0 .1))))))
+localize-declare-requires t c κs = let a = c .before .before .before .before .before .before .before .before .before .before .before .before .before .before .before .before .before .before .args in let p = c .before .before .before .before .before .before .before .before .before .before .before .before .before .before .before .before .before .before .pre .1 in let x = (reading (p .1 .0) (c .before .before .before .before .before .before .before .before .before .before .before .before .before .before .before .before .before .expressions-at .ensures .0) (c .before .before .before .before .before .before .before .before .before .before .before .before .before .find .ensures) (c .before .before .before .before .before .before .before .before .before .before .before .before .before .before .before .wide .ensures .0) (c .before .before .before .before .before .before .before .before .before .before .before .slot .ensures .0) (c .before .before .before .before .before .before .before .before .before .wide2 .ensures .0) refl) in let b = c .begin .ensures in (p .0, (expressions (p .1 .0) x, (declares (p .1 .0) x, (ap (λ e. e .full) b, (begun-kept (p .1 .0) x (p .1 .1 .1 .1) b, begun-under (p .1 .0) x (p .1 .1 .1 .1) b (a .stacks .now) (p .1 .1 .1 .0 .1))))))
 
 -- src/lib.rt:106:9
 localize-returns : (t : ℕ) → localize-lts.Need-returns (
@@ -766,8 +801,8 @@ localize-returns : (t : ℕ) → localize-lts.Need-returns (
   expressions-at-reads.Learnt,
   wide-reads.Asked,
   wide-reads.Learnt,
-  index-reads.Asked,
-  index-reads.Learnt,
+  find-reads.Asked,
+  find-reads.Learnt,
   slot-reads.Asked,
   slot-reads.Learnt,
   begin-reads.Asked,
@@ -787,7 +822,7 @@ localize-returns : (t : ℕ) → localize-lts.Need-returns (
   import-names-reads.Asked,
   import-names-reads.Learnt,
 ) (localize-at t) localize.Post localize-Inv-loop localize-μ-loop
-localize-returns t c = let a = c .before .before .before .before .before .before .before .before .before .before .before .before .before .before .before .before .before .before .before .args in let p = c .before .before .before .before .before .before .before .before .before .before .before .before .before .before .before .before .before .before .before .pre .1 in declare-none (p .1 .0) (reading (p .1 .0) (c .before .before .before .before .before .before .before .before .before .before .before .before .before .before .before .before .before .before .expressions-at .ensures .0) (c .before .before .before .before .before .before .before .before .before .before .before .before .before .before .index .ensures) (c .before .before .before .before .before .before .before .before .before .before .before .before .before .before .before .before .wide .ensures .0) (c .before .before .before .before .before .before .before .before .before .before .before .before .before .slot .ensures .0) (c .before .before .before .before .before .before .before .before .before .before .before .wide2 .ensures .0) refl) (p .1 .1 .1 .1) (a .room) (c .before .before .begin .ensures) (c .before .declare .ensures) (c .if1 .taken)
+localize-returns t c = let a = c .before .before .before .before .before .before .before .before .before .before .before .before .before .before .before .before .before .before .before .before .args in let p = c .before .before .before .before .before .before .before .before .before .before .before .before .before .before .before .before .before .before .before .before .pre .1 in declare-none (p .1 .0) (reading (p .1 .0) (c .before .before .before .before .before .before .before .before .before .before .before .before .before .before .before .before .before .before .before .expressions-at .ensures .0) (c .before .before .before .before .before .before .before .before .before .before .before .before .before .before .before .find .ensures) (c .before .before .before .before .before .before .before .before .before .before .before .before .before .before .before .before .before .wide .ensures .0) (c .before .before .before .before .before .before .before .before .before .before .before .before .before .slot .ensures .0) (c .before .before .before .before .before .before .before .before .before .before .before .wide2 .ensures .0) refl) (p .1 .1 .1 .1) (a .room) (c .before .before .begin .ensures) (c .before .declare .ensures) (c .if1 .taken)
 
 -- src/lib.rt:110:5
 localize-loop-holds : (t : ℕ) → localize-lts.Need-loop-holds (
@@ -795,8 +830,8 @@ localize-loop-holds : (t : ℕ) → localize-lts.Need-loop-holds (
   expressions-at-reads.Learnt,
   wide-reads.Asked,
   wide-reads.Learnt,
-  index-reads.Asked,
-  index-reads.Learnt,
+  find-reads.Asked,
+  find-reads.Learnt,
   slot-reads.Asked,
   slot-reads.Learnt,
   begin-reads.Asked,
@@ -824,8 +859,8 @@ localize-add-i : (t : ℕ) → localize-lts.Need-add-i (
   expressions-at-reads.Learnt,
   wide-reads.Asked,
   wide-reads.Learnt,
-  index-reads.Asked,
-  index-reads.Learnt,
+  find-reads.Asked,
+  find-reads.Learnt,
   slot-reads.Asked,
   slot-reads.Learnt,
   begin-reads.Asked,
@@ -845,7 +880,7 @@ localize-add-i : (t : ℕ) → localize-lts.Need-add-i (
   import-names-reads.Asked,
   import-names-reads.Learnt,
 ) (localize-at t) localize.Post localize-Inv-loop localize-μ-loop
-localize-add-i t c = let a = c .before .before .before .before .before .before .before .before .before .before .before .before .before .before .before .before .before .before .before .before .before .args in let p = c .before .before .before .before .before .before .before .before .before .before .before .before .before .before .before .before .before .before .before .before .before .pre .1 in let g = c .before .loop .inv .on refl (p .1 .1 .1 .1) (going-start (p .1 .0) (reading (p .1 .0) (c .before .before .before .before .before .before .before .before .before .before .before .before .before .before .before .before .before .before .before .before .expressions-at .ensures .0) (c .before .before .before .before .before .before .before .before .before .before .before .before .before .before .before .before .index .ensures) (c .before .before .before .before .before .before .before .before .before .before .before .before .before .before .before .before .before .before .wide .ensures .0) (c .before .before .before .before .before .before .before .before .before .before .before .before .before .before .before .slot .ensures .0) (c .before .before .before .before .before .before .before .before .before .before .before .before .before .wide2 .ensures .0) refl) (p .1 .1 .1 .1) (a .room) (c .before .before .before .before .begin .ensures) (c .before .before .before .declare .ensures) (c .before .before .if1 .left)) in let h = word-in (p .1 .0) (p .1 .1 .1 .1) g (c .loop-test .taken) in omega arith
+localize-add-i t c = let a = c .before .before .before .before .before .before .before .before .before .before .before .before .before .before .before .before .before .before .before .before .before .before .args in let p = c .before .before .before .before .before .before .before .before .before .before .before .before .before .before .before .before .before .before .before .before .before .before .pre .1 in let g = c .before .loop .inv .on refl (p .1 .1 .1 .1) (going-start (p .1 .0) (reading (p .1 .0) (c .before .before .before .before .before .before .before .before .before .before .before .before .before .before .before .before .before .before .before .before .before .expressions-at .ensures .0) (c .before .before .before .before .before .before .before .before .before .before .before .before .before .before .before .before .before .find .ensures) (c .before .before .before .before .before .before .before .before .before .before .before .before .before .before .before .before .before .before .before .wide .ensures .0) (c .before .before .before .before .before .before .before .before .before .before .before .before .before .before .before .slot .ensures .0) (c .before .before .before .before .before .before .before .before .before .before .before .before .before .wide2 .ensures .0) refl) (p .1 .1 .1 .1) (a .room) (c .before .before .before .before .begin .ensures) (c .before .before .before .declare .ensures) (c .before .before .if1 .left)) in let h = word-in (p .1 .0) (p .1 .1 .1 .1) g (c .loop-test .taken) in omega arith
 
 -- src/lib.rt:113:9
 localize-flag-requires : (t : ℕ) → localize-lts.Need-flag-requires (
@@ -853,8 +888,8 @@ localize-flag-requires : (t : ℕ) → localize-lts.Need-flag-requires (
   expressions-at-reads.Learnt,
   wide-reads.Asked,
   wide-reads.Learnt,
-  index-reads.Asked,
-  index-reads.Learnt,
+  find-reads.Asked,
+  find-reads.Learnt,
   slot-reads.Asked,
   slot-reads.Learnt,
   begin-reads.Asked,
@@ -874,7 +909,7 @@ localize-flag-requires : (t : ℕ) → localize-lts.Need-flag-requires (
   import-names-reads.Asked,
   import-names-reads.Learnt,
 ) (localize-at t) localize.Post localize-Inv-loop localize-μ-loop
-localize-flag-requires t c κs = let a = c .before .before .before .before .before .before .before .before .before .before .before .before .before .before .before .before .before .before .before .before .before .args in let p = c .before .before .before .before .before .before .before .before .before .before .before .before .before .before .before .before .before .before .before .before .before .pre .1 in let g = c .before .loop .inv .on refl (p .1 .1 .1 .1) (going-start (p .1 .0) (reading (p .1 .0) (c .before .before .before .before .before .before .before .before .before .before .before .before .before .before .before .before .before .before .before .before .expressions-at .ensures .0) (c .before .before .before .before .before .before .before .before .before .before .before .before .before .before .before .before .index .ensures) (c .before .before .before .before .before .before .before .before .before .before .before .before .before .before .before .before .before .before .wide .ensures .0) (c .before .before .before .before .before .before .before .before .before .before .before .before .before .before .before .slot .ensures .0) (c .before .before .before .before .before .before .before .before .before .before .before .before .before .wide2 .ensures .0) refl) (p .1 .1 .1 .1) (a .room) (c .before .before .before .before .begin .ensures) (c .before .before .before .declare .ensures) (c .before .before .if1 .left)) in (g .turn .legible .stretch, c .loop-test .taken)
+localize-flag-requires t c κs = let a = c .before .before .before .before .before .before .before .before .before .before .before .before .before .before .before .before .before .before .before .before .before .before .args in let p = c .before .before .before .before .before .before .before .before .before .before .before .before .before .before .before .before .before .before .before .before .before .before .pre .1 in let g = c .before .loop .inv .on refl (p .1 .1 .1 .1) (going-start (p .1 .0) (reading (p .1 .0) (c .before .before .before .before .before .before .before .before .before .before .before .before .before .before .before .before .before .before .before .before .before .expressions-at .ensures .0) (c .before .before .before .before .before .before .before .before .before .before .before .before .before .before .before .before .before .find .ensures) (c .before .before .before .before .before .before .before .before .before .before .before .before .before .before .before .before .before .before .before .wide .ensures .0) (c .before .before .before .before .before .before .before .before .before .before .before .before .before .before .before .slot .ensures .0) (c .before .before .before .before .before .before .before .before .before .before .before .before .before .wide2 .ensures .0) refl) (p .1 .1 .1 .1) (a .room) (c .before .before .before .before .begin .ensures) (c .before .before .before .declare .ensures) (c .before .before .if1 .left)) in (g .turn .legible .stretch, c .loop-test .taken)
 
 -- src/lib.rt:114:12
 localize-element-copy-out-if2 : (t : ℕ) → localize-lts.Need-element-copy-out-if2 (
@@ -882,8 +917,8 @@ localize-element-copy-out-if2 : (t : ℕ) → localize-lts.Need-element-copy-out
   expressions-at-reads.Learnt,
   wide-reads.Asked,
   wide-reads.Learnt,
-  index-reads.Asked,
-  index-reads.Learnt,
+  find-reads.Asked,
+  find-reads.Learnt,
   slot-reads.Asked,
   slot-reads.Learnt,
   begin-reads.Asked,
@@ -903,7 +938,7 @@ localize-element-copy-out-if2 : (t : ℕ) → localize-lts.Need-element-copy-out
   import-names-reads.Asked,
   import-names-reads.Learnt,
 ) (localize-at t) localize.Post localize-Inv-loop localize-μ-loop
-localize-element-copy-out-if2 t c = let a = c .before .before .before .before .before .before .before .before .before .before .before .before .before .before .before .before .before .before .before .before .before .before .args in let p = c .before .before .before .before .before .before .before .before .before .before .before .before .before .before .before .before .before .before .before .before .before .before .pre .1 in let g = c .before .before .loop .inv .on refl (p .1 .1 .1 .1) (going-start (p .1 .0) (reading (p .1 .0) (c .before .before .before .before .before .before .before .before .before .before .before .before .before .before .before .before .before .before .before .before .before .expressions-at .ensures .0) (c .before .before .before .before .before .before .before .before .before .before .before .before .before .before .before .before .before .index .ensures) (c .before .before .before .before .before .before .before .before .before .before .before .before .before .before .before .before .before .before .before .wide .ensures .0) (c .before .before .before .before .before .before .before .before .before .before .before .before .before .before .before .before .slot .ensures .0) (c .before .before .before .before .before .before .before .before .before .before .before .before .before .before .wide2 .ensures .0) refl) (p .1 .1 .1 .1) (a .room) (c .before .before .before .before .before .begin .ensures) (c .before .before .before .before .declare .ensures) (c .before .before .before .if1 .left)) in let h = word-in (p .1 .0) (p .1 .1 .1 .1) g (c .before .loop-test .taken) in omega arith
+localize-element-copy-out-if2 t c = let a = c .before .before .before .before .before .before .before .before .before .before .before .before .before .before .before .before .before .before .before .before .before .before .before .args in let p = c .before .before .before .before .before .before .before .before .before .before .before .before .before .before .before .before .before .before .before .before .before .before .before .pre .1 in let g = c .before .before .loop .inv .on refl (p .1 .1 .1 .1) (going-start (p .1 .0) (reading (p .1 .0) (c .before .before .before .before .before .before .before .before .before .before .before .before .before .before .before .before .before .before .before .before .before .before .expressions-at .ensures .0) (c .before .before .before .before .before .before .before .before .before .before .before .before .before .before .before .before .before .before .find .ensures) (c .before .before .before .before .before .before .before .before .before .before .before .before .before .before .before .before .before .before .before .before .wide .ensures .0) (c .before .before .before .before .before .before .before .before .before .before .before .before .before .before .before .before .slot .ensures .0) (c .before .before .before .before .before .before .before .before .before .before .before .before .before .before .wide2 .ensures .0) refl) (p .1 .1 .1 .1) (a .room) (c .before .before .before .before .before .begin .ensures) (c .before .before .before .before .declare .ensures) (c .before .before .before .if1 .left)) in let h = word-in (p .1 .0) (p .1 .1 .1 .1) g (c .before .loop-test .taken) in omega arith
 
 -- src/lib.rt:128:22
 localize-mul-wide-3 : (t : ℕ) → localize-lts.Need-mul-wide-3 (
@@ -911,8 +946,8 @@ localize-mul-wide-3 : (t : ℕ) → localize-lts.Need-mul-wide-3 (
   expressions-at-reads.Learnt,
   wide-reads.Asked,
   wide-reads.Learnt,
-  index-reads.Asked,
-  index-reads.Learnt,
+  find-reads.Asked,
+  find-reads.Learnt,
   slot-reads.Asked,
   slot-reads.Learnt,
   begin-reads.Asked,
@@ -932,7 +967,7 @@ localize-mul-wide-3 : (t : ℕ) → localize-lts.Need-mul-wide-3 (
   import-names-reads.Asked,
   import-names-reads.Learnt,
 ) (localize-at t) localize.Post localize-Inv-loop localize-μ-loop
-localize-mul-wide-3 t c = let a = c .before .before .before .before .before .before .before .before .before .before .before .before .before .before .before .before .before .before .before .before .before .before .before .before .before .before .before .before .before .before .args in let p = c .before .before .before .before .before .before .before .before .before .before .before .before .before .before .before .before .before .before .before .before .before .before .before .before .before .before .before .before .before .before .pre .1 in let g = c .before .before .before .before .before .before .before .before .before .before .loop .inv .on refl (p .1 .1 .1 .1) (going-start (p .1 .0) (reading (p .1 .0) (c .before .before .before .before .before .before .before .before .before .before .before .before .before .before .before .before .before .before .before .before .before .before .before .before .before .before .before .before .before .expressions-at .ensures .0) (c .before .before .before .before .before .before .before .before .before .before .before .before .before .before .before .before .before .before .before .before .before .before .before .before .before .index .ensures) (c .before .before .before .before .before .before .before .before .before .before .before .before .before .before .before .before .before .before .before .before .before .before .before .before .before .before .before .wide .ensures .0) (c .before .before .before .before .before .before .before .before .before .before .before .before .before .before .before .before .before .before .before .before .before .before .before .before .slot .ensures .0) (c .before .before .before .before .before .before .before .before .before .before .before .before .before .before .before .before .before .before .before .before .before .before .wide2 .ensures .0) refl) (p .1 .1 .1 .1) (a .room) (c .before .before .before .before .before .before .before .before .before .before .before .before .before .begin .ensures) (c .before .before .before .before .before .before .before .before .before .before .before .before .declare .ensures) (c .before .before .before .before .before .before .before .before .before .before .before .if1 .left)) in let h = word-in (p .1 .0) (p .1 .1 .1 .1) g (c .before .before .before .before .before .before .before .before .before .loop-test .taken) in omega arith
+localize-mul-wide-3 t c = let a = c .before .before .before .before .before .before .before .before .before .before .before .before .before .before .before .before .before .before .before .before .before .before .before .before .before .before .before .before .before .before .before .before .args in let p = c .before .before .before .before .before .before .before .before .before .before .before .before .before .before .before .before .before .before .before .before .before .before .before .before .before .before .before .before .before .before .before .before .pre .1 in let g = c .before .before .before .before .before .before .before .before .before .before .before .loop .inv .on refl (p .1 .1 .1 .1) (going-start (p .1 .0) (reading (p .1 .0) (c .before .before .before .before .before .before .before .before .before .before .before .before .before .before .before .before .before .before .before .before .before .before .before .before .before .before .before .before .before .before .before .expressions-at .ensures .0) (c .before .before .before .before .before .before .before .before .before .before .before .before .before .before .before .before .before .before .before .before .before .before .before .before .before .before .before .find .ensures) (c .before .before .before .before .before .before .before .before .before .before .before .before .before .before .before .before .before .before .before .before .before .before .before .before .before .before .before .before .before .wide .ensures .0) (c .before .before .before .before .before .before .before .before .before .before .before .before .before .before .before .before .before .before .before .before .before .before .before .before .before .slot .ensures .0) (c .before .before .before .before .before .before .before .before .before .before .before .before .before .before .before .before .before .before .before .before .before .before .before .wide2 .ensures .0) refl) (p .1 .1 .1 .1) (a .room) (c .before .before .before .before .before .before .before .before .before .before .before .before .before .before .begin .ensures) (c .before .before .before .before .before .before .before .before .before .before .before .before .before .declare .ensures) (c .before .before .before .before .before .before .before .before .before .before .before .before .if1 .left)) in let h = word-in (p .1 .0) (p .1 .1 .1 .1) g (c .before .before .before .before .before .before .before .before .before .before .loop-test .taken) in omega arith
 
 -- src/lib.rt:128:22
 localize-element-copy-out-wide-3 : (t : ℕ) → localize-lts.Need-element-copy-out-wide-3 (
@@ -940,8 +975,8 @@ localize-element-copy-out-wide-3 : (t : ℕ) → localize-lts.Need-element-copy-
   expressions-at-reads.Learnt,
   wide-reads.Asked,
   wide-reads.Learnt,
-  index-reads.Asked,
-  index-reads.Learnt,
+  find-reads.Asked,
+  find-reads.Learnt,
   slot-reads.Asked,
   slot-reads.Learnt,
   begin-reads.Asked,
@@ -961,7 +996,7 @@ localize-element-copy-out-wide-3 : (t : ℕ) → localize-lts.Need-element-copy-
   import-names-reads.Asked,
   import-names-reads.Learnt,
 ) (localize-at t) localize.Post localize-Inv-loop localize-μ-loop
-localize-element-copy-out-wide-3 t c = let a = c .before .before .before .before .before .before .before .before .before .before .before .before .before .before .before .before .before .before .before .before .before .before .before .before .before .before .before .before .before .before .args in let p = c .before .before .before .before .before .before .before .before .before .before .before .before .before .before .before .before .before .before .before .before .before .before .before .before .before .before .before .before .before .before .pre .1 in let g = c .before .before .before .before .before .before .before .before .before .before .loop .inv .on refl (p .1 .1 .1 .1) (going-start (p .1 .0) (reading (p .1 .0) (c .before .before .before .before .before .before .before .before .before .before .before .before .before .before .before .before .before .before .before .before .before .before .before .before .before .before .before .before .before .expressions-at .ensures .0) (c .before .before .before .before .before .before .before .before .before .before .before .before .before .before .before .before .before .before .before .before .before .before .before .before .before .index .ensures) (c .before .before .before .before .before .before .before .before .before .before .before .before .before .before .before .before .before .before .before .before .before .before .before .before .before .before .before .wide .ensures .0) (c .before .before .before .before .before .before .before .before .before .before .before .before .before .before .before .before .before .before .before .before .before .before .before .before .slot .ensures .0) (c .before .before .before .before .before .before .before .before .before .before .before .before .before .before .before .before .before .before .before .before .before .before .wide2 .ensures .0) refl) (p .1 .1 .1 .1) (a .room) (c .before .before .before .before .before .before .before .before .before .before .before .before .before .begin .ensures) (c .before .before .before .before .before .before .before .before .before .before .before .before .declare .ensures) (c .before .before .before .before .before .before .before .before .before .before .before .if1 .left)) in let h = word-in (p .1 .0) (p .1 .1 .1 .1) g (c .before .before .before .before .before .before .before .before .before .loop-test .taken) in omega arith
+localize-element-copy-out-wide-3 t c = let a = c .before .before .before .before .before .before .before .before .before .before .before .before .before .before .before .before .before .before .before .before .before .before .before .before .before .before .before .before .before .before .before .before .args in let p = c .before .before .before .before .before .before .before .before .before .before .before .before .before .before .before .before .before .before .before .before .before .before .before .before .before .before .before .before .before .before .before .before .pre .1 in let g = c .before .before .before .before .before .before .before .before .before .before .before .loop .inv .on refl (p .1 .1 .1 .1) (going-start (p .1 .0) (reading (p .1 .0) (c .before .before .before .before .before .before .before .before .before .before .before .before .before .before .before .before .before .before .before .before .before .before .before .before .before .before .before .before .before .before .before .expressions-at .ensures .0) (c .before .before .before .before .before .before .before .before .before .before .before .before .before .before .before .before .before .before .before .before .before .before .before .before .before .before .before .find .ensures) (c .before .before .before .before .before .before .before .before .before .before .before .before .before .before .before .before .before .before .before .before .before .before .before .before .before .before .before .before .before .wide .ensures .0) (c .before .before .before .before .before .before .before .before .before .before .before .before .before .before .before .before .before .before .before .before .before .before .before .before .before .slot .ensures .0) (c .before .before .before .before .before .before .before .before .before .before .before .before .before .before .before .before .before .before .before .before .before .before .before .wide2 .ensures .0) refl) (p .1 .1 .1 .1) (a .room) (c .before .before .before .before .before .before .before .before .before .before .before .before .before .before .begin .ensures) (c .before .before .before .before .before .before .before .before .before .before .before .before .before .declare .ensures) (c .before .before .before .before .before .before .before .before .before .before .before .before .if1 .left)) in let h = word-in (p .1 .0) (p .1 .1 .1 .1) g (c .before .before .before .before .before .before .before .before .before .before .loop-test .taken) in omega arith
 
 -- src/lib.rt:128:17
 localize-wide-requires-3 : (t : ℕ) → localize-lts.Need-wide-requires-3 (
@@ -969,8 +1004,8 @@ localize-wide-requires-3 : (t : ℕ) → localize-lts.Need-wide-requires-3 (
   expressions-at-reads.Learnt,
   wide-reads.Asked,
   wide-reads.Learnt,
-  index-reads.Asked,
-  index-reads.Learnt,
+  find-reads.Asked,
+  find-reads.Learnt,
   slot-reads.Asked,
   slot-reads.Learnt,
   begin-reads.Asked,
@@ -992,14 +1027,14 @@ localize-wide-requires-3 : (t : ℕ) → localize-lts.Need-wide-requires-3 (
 ) (localize-at t) localize.Post localize-Inv-loop localize-μ-loop
 localize-wide-requires-3 t c κs = tt
 
--- src/lib.rt:115:13
-localize-follow-requires : (t : ℕ) → localize-lts.Need-follow-requires (
+-- src/lib.rt:143:17
+localize-add-follow : (t : ℕ) → localize-lts.Need-add-follow (
   expressions-at-reads.Asked,
   expressions-at-reads.Learnt,
   wide-reads.Asked,
   wide-reads.Learnt,
-  index-reads.Asked,
-  index-reads.Learnt,
+  find-reads.Asked,
+  find-reads.Learnt,
   slot-reads.Asked,
   slot-reads.Learnt,
   begin-reads.Asked,
@@ -1019,7 +1054,36 @@ localize-follow-requires : (t : ℕ) → localize-lts.Need-follow-requires (
   import-names-reads.Asked,
   import-names-reads.Learnt,
 ) (localize-at t) localize.Post localize-Inv-loop localize-μ-loop
-localize-follow-requires t c κs = let a = c .before .before .before .before .before .before .before .before .before .before .before .before .before .before .before .before .before .before .before .before .before .before .before .before .before .before .before .before .before .before .before .before .args in let p = c .before .before .before .before .before .before .before .before .before .before .before .before .before .before .before .before .before .before .before .before .before .before .before .before .before .before .before .before .before .before .before .before .pre .1 in let g = c .before .before .before .before .before .before .before .before .before .before .before .before .loop .inv .on refl (p .1 .1 .1 .1) (going-start (p .1 .0) (reading (p .1 .0) (c .before .before .before .before .before .before .before .before .before .before .before .before .before .before .before .before .before .before .before .before .before .before .before .before .before .before .before .before .before .before .before .expressions-at .ensures .0) (c .before .before .before .before .before .before .before .before .before .before .before .before .before .before .before .before .before .before .before .before .before .before .before .before .before .before .before .index .ensures) (c .before .before .before .before .before .before .before .before .before .before .before .before .before .before .before .before .before .before .before .before .before .before .before .before .before .before .before .before .before .wide .ensures .0) (c .before .before .before .before .before .before .before .before .before .before .before .before .before .before .before .before .before .before .before .before .before .before .before .before .before .before .slot .ensures .0) (c .before .before .before .before .before .before .before .before .before .before .before .before .before .before .before .before .before .before .before .before .before .before .before .before .wide2 .ensures .0) refl) (p .1 .1 .1 .1) (a .room) (c .before .before .before .before .before .before .before .before .before .before .before .before .before .before .before .begin .ensures) (c .before .before .before .before .before .before .before .before .before .before .before .before .before .before .declare .ensures) (c .before .before .before .before .before .before .before .before .before .before .before .before .before .if1 .left)) in let q = c .before .before .before .before .before .before .before .before .before .before .before .before .before .before .before .before .before .before .before .before .before .before .before .before .before .before .before .before .before .before .before .before .pre .0 in (omega arith, (p .0, (callee-low (p .1 .0) (p .1 .1 .1 .1) g (c .before .before .before .before .before .before .before .before .before .before .before .loop-test .taken) (c .before .before .before .before .before .before .before .before .if2 .taken) (c .wide3 .ensures .0), (callee-ready (p .1 .0) (p .1 .1 .1 .1) g (c .before .before .before .before .before .before .before .before .before .before .before .loop-test .taken) (c .before .before .before .before .before .before .before .before .if2 .taken) (c .wide3 .ensures .0) (p .1 .1 .0), ((g .turn .way .going, g .turn .way .under .stacks-are), g .turn .way .kept)))))
+localize-add-follow t c = let h = c .before .before .before .before .before .before .before .before .before .before .before .before .before .before .before .before .before .before .before .before .before .before .before .before .before .before .before .before .before .before .before .before .before .expressions-at .ensures .1 in omega arith
+
+-- src/lib.rt:115:13
+localize-follow-requires : (t : ℕ) → localize-lts.Need-follow-requires (
+  expressions-at-reads.Asked,
+  expressions-at-reads.Learnt,
+  wide-reads.Asked,
+  wide-reads.Learnt,
+  find-reads.Asked,
+  find-reads.Learnt,
+  slot-reads.Asked,
+  slot-reads.Learnt,
+  begin-reads.Asked,
+  begin-reads.Learnt,
+  declare-reads.Asked,
+  declare-reads.Learnt,
+  flag-reads.Asked,
+  flag-reads.Learnt,
+  follow-below t,
+  follow.Post,
+  put-word-reads.Asked,
+  put-word-reads.Learnt,
+  pass-reads.Asked,
+  pass-reads.Learnt,
+  keep-names-reads.Asked,
+  keep-names-reads.Learnt,
+  import-names-reads.Asked,
+  import-names-reads.Learnt,
+) (localize-at t) localize.Post localize-Inv-loop localize-μ-loop
+localize-follow-requires t c κs = let a = c .before .before .before .before .before .before .before .before .before .before .before .before .before .before .before .before .before .before .before .before .before .before .before .before .before .before .before .before .before .before .before .before .before .before .args in let p = c .before .before .before .before .before .before .before .before .before .before .before .before .before .before .before .before .before .before .before .before .before .before .before .before .before .before .before .before .before .before .before .before .before .before .pre .1 in let g = c .before .before .before .before .before .before .before .before .before .before .before .before .before .loop .inv .on refl (p .1 .1 .1 .1) (going-start (p .1 .0) (reading (p .1 .0) (c .before .before .before .before .before .before .before .before .before .before .before .before .before .before .before .before .before .before .before .before .before .before .before .before .before .before .before .before .before .before .before .before .before .expressions-at .ensures .0) (c .before .before .before .before .before .before .before .before .before .before .before .before .before .before .before .before .before .before .before .before .before .before .before .before .before .before .before .before .before .find .ensures) (c .before .before .before .before .before .before .before .before .before .before .before .before .before .before .before .before .before .before .before .before .before .before .before .before .before .before .before .before .before .before .before .wide .ensures .0) (c .before .before .before .before .before .before .before .before .before .before .before .before .before .before .before .before .before .before .before .before .before .before .before .before .before .before .before .slot .ensures .0) (c .before .before .before .before .before .before .before .before .before .before .before .before .before .before .before .before .before .before .before .before .before .before .before .before .before .wide2 .ensures .0) refl) (p .1 .1 .1 .1) (a .room) (c .before .before .before .before .before .before .before .before .before .before .before .before .before .before .before .before .begin .ensures) (c .before .before .before .before .before .before .before .before .before .before .before .before .before .before .before .declare .ensures) (c .before .before .before .before .before .before .before .before .before .before .before .before .before .before .if1 .left)) in let q = c .before .before .before .before .before .before .before .before .before .before .before .before .before .before .before .before .before .before .before .before .before .before .before .before .before .before .before .before .before .before .before .before .before .before .pre .0 in (omega arith, (p .0, (callee-low (p .1 .0) (p .1 .1 .1 .1) g (c .before .before .before .before .before .before .before .before .before .before .before .before .loop-test .taken) (c .before .before .before .before .before .before .before .before .before .if2 .taken) (c .wide3 .ensures .0), (callee-ready (p .1 .0) (p .1 .1 .1 .1) g (c .before .before .before .before .before .before .before .before .before .before .before .before .loop-test .taken) (c .before .before .before .before .before .before .before .before .before .if2 .taken) (c .wide3 .ensures .0) (p .1 .1 .0), ((g .turn .way .going, g .turn .way .under .stacks-are), (g .turn .way .kept, (index-in (p .1 .0) (g .read .ea-is), g .read .places-are)))))))
 
 -- src/lib.rt:132:17
 localize-returns-2 : (t : ℕ) → localize-lts.Need-returns-2 (
@@ -1027,8 +1091,8 @@ localize-returns-2 : (t : ℕ) → localize-lts.Need-returns-2 (
   expressions-at-reads.Learnt,
   wide-reads.Asked,
   wide-reads.Learnt,
-  index-reads.Asked,
-  index-reads.Learnt,
+  find-reads.Asked,
+  find-reads.Learnt,
   slot-reads.Asked,
   slot-reads.Learnt,
   begin-reads.Asked,
@@ -1048,7 +1112,7 @@ localize-returns-2 : (t : ℕ) → localize-lts.Need-returns-2 (
   import-names-reads.Asked,
   import-names-reads.Learnt,
 ) (localize-at t) localize.Post localize-Inv-loop localize-μ-loop
-localize-returns-2 t c = let a = c .before .before .before .before .before .before .before .before .before .before .before .before .before .before .before .before .before .before .before .before .before .before .before .before .before .before .before .before .before .before .before .before .before .before .args in let p = c .before .before .before .before .before .before .before .before .before .before .before .before .before .before .before .before .before .before .before .before .before .before .before .before .before .before .before .before .before .before .before .before .before .before .pre .1 in let g = c .before .before .before .before .before .before .before .before .before .before .before .before .before .before .loop .inv .on refl (p .1 .1 .1 .1) (going-start (p .1 .0) (reading (p .1 .0) (c .before .before .before .before .before .before .before .before .before .before .before .before .before .before .before .before .before .before .before .before .before .before .before .before .before .before .before .before .before .before .before .before .before .expressions-at .ensures .0) (c .before .before .before .before .before .before .before .before .before .before .before .before .before .before .before .before .before .before .before .before .before .before .before .before .before .before .before .before .before .index .ensures) (c .before .before .before .before .before .before .before .before .before .before .before .before .before .before .before .before .before .before .before .before .before .before .before .before .before .before .before .before .before .before .before .wide .ensures .0) (c .before .before .before .before .before .before .before .before .before .before .before .before .before .before .before .before .before .before .before .before .before .before .before .before .before .before .before .before .slot .ensures .0) (c .before .before .before .before .before .before .before .before .before .before .before .before .before .before .before .before .before .before .before .before .before .before .before .before .before .before .wide2 .ensures .0) refl) (p .1 .1 .1 .1) (a .room) (c .before .before .before .before .before .before .before .before .before .before .before .before .before .before .before .before .before .begin .ensures) (c .before .before .before .before .before .before .before .before .before .before .before .before .before .before .before .before .declare .ensures) (c .before .before .before .before .before .before .before .before .before .before .before .before .before .before .before .if1 .left)) in callee-full (p .1 .0) (p .1 .1 .1 .1) g (c .before .before .before .before .before .before .before .before .before .before .before .before .before .loop-test .taken) (c .before .before .before .before .before .before .before .before .before .before .if2 .taken) (c .before .before .wide3 .ensures .0) (c .before .follow .ensures) (c .if3 .taken)
+localize-returns-2 t c = let a = c .before .before .before .before .before .before .before .before .before .before .before .before .before .before .before .before .before .before .before .before .before .before .before .before .before .before .before .before .before .before .before .before .before .before .before .before .args in let p = c .before .before .before .before .before .before .before .before .before .before .before .before .before .before .before .before .before .before .before .before .before .before .before .before .before .before .before .before .before .before .before .before .before .before .before .before .pre .1 in let g = c .before .before .before .before .before .before .before .before .before .before .before .before .before .before .before .loop .inv .on refl (p .1 .1 .1 .1) (going-start (p .1 .0) (reading (p .1 .0) (c .before .before .before .before .before .before .before .before .before .before .before .before .before .before .before .before .before .before .before .before .before .before .before .before .before .before .before .before .before .before .before .before .before .before .before .expressions-at .ensures .0) (c .before .before .before .before .before .before .before .before .before .before .before .before .before .before .before .before .before .before .before .before .before .before .before .before .before .before .before .before .before .before .before .find .ensures) (c .before .before .before .before .before .before .before .before .before .before .before .before .before .before .before .before .before .before .before .before .before .before .before .before .before .before .before .before .before .before .before .before .before .wide .ensures .0) (c .before .before .before .before .before .before .before .before .before .before .before .before .before .before .before .before .before .before .before .before .before .before .before .before .before .before .before .before .before .slot .ensures .0) (c .before .before .before .before .before .before .before .before .before .before .before .before .before .before .before .before .before .before .before .before .before .before .before .before .before .before .before .wide2 .ensures .0) refl) (p .1 .1 .1 .1) (a .room) (c .before .before .before .before .before .before .before .before .before .before .before .before .before .before .before .before .before .before .begin .ensures) (c .before .before .before .before .before .before .before .before .before .before .before .before .before .before .before .before .before .declare .ensures) (c .before .before .before .before .before .before .before .before .before .before .before .before .before .before .before .before .if1 .left)) in callee-full (p .1 .0) (p .1 .1 .1 .1) g (c .before .before .before .before .before .before .before .before .before .before .before .before .before .before .loop-test .taken) (c .before .before .before .before .before .before .before .before .before .before .before .if2 .taken) (c .before .before .wide3 .ensures .0) (c .before .follow .ensures .0) (c .if3 .taken)
 
 -- src/lib.rt:134:13
 localize-put-word-requires : (t : ℕ) → localize-lts.Need-put-word-requires (
@@ -1056,8 +1120,8 @@ localize-put-word-requires : (t : ℕ) → localize-lts.Need-put-word-requires (
   expressions-at-reads.Learnt,
   wide-reads.Asked,
   wide-reads.Learnt,
-  index-reads.Asked,
-  index-reads.Learnt,
+  find-reads.Asked,
+  find-reads.Learnt,
   slot-reads.Asked,
   slot-reads.Learnt,
   begin-reads.Asked,
@@ -1077,7 +1141,7 @@ localize-put-word-requires : (t : ℕ) → localize-lts.Need-put-word-requires (
   import-names-reads.Asked,
   import-names-reads.Learnt,
 ) (localize-at t) localize.Post localize-Inv-loop localize-μ-loop
-localize-put-word-requires t c κs = let a = c .before .before .before .before .before .before .before .before .before .before .before .before .before .before .before .before .before .before .before .before .before .before .before .before .before .before .before .before .before .before .before .before .before .before .before .before .before .before .before .before .args in let p = c .before .before .before .before .before .before .before .before .before .before .before .before .before .before .before .before .before .before .before .before .before .before .before .before .before .before .before .before .before .before .before .before .before .before .before .before .before .before .before .before .pre .1 in let g = c .before .before .before .before .before .before .before .before .before .before .before .before .before .before .before .before .before .before .before .before .loop .inv .on refl (p .1 .1 .1 .1) (going-start (p .1 .0) (reading (p .1 .0) (c .before .before .before .before .before .before .before .before .before .before .before .before .before .before .before .before .before .before .before .before .before .before .before .before .before .before .before .before .before .before .before .before .before .before .before .before .before .before .before .expressions-at .ensures .0) (c .before .before .before .before .before .before .before .before .before .before .before .before .before .before .before .before .before .before .before .before .before .before .before .before .before .before .before .before .before .before .before .before .before .before .before .index .ensures) (c .before .before .before .before .before .before .before .before .before .before .before .before .before .before .before .before .before .before .before .before .before .before .before .before .before .before .before .before .before .before .before .before .before .before .before .before .before .wide .ensures .0) (c .before .before .before .before .before .before .before .before .before .before .before .before .before .before .before .before .before .before .before .before .before .before .before .before .before .before .before .before .before .before .before .before .before .before .slot .ensures .0) (c .before .before .before .before .before .before .before .before .before .before .before .before .before .before .before .before .before .before .before .before .before .before .before .before .before .before .before .before .before .before .before .before .wide2 .ensures .0) refl) (p .1 .1 .1 .1) (a .room) (c .before .before .before .before .before .before .before .before .before .before .before .before .before .before .before .before .before .before .before .before .before .before .before .begin .ensures) (c .before .before .before .before .before .before .before .before .before .before .before .before .before .before .before .before .before .before .before .before .before .before .declare .ensures) (c .before .before .before .before .before .before .before .before .before .before .before .before .before .before .before .before .before .before .before .before .before .if1 .left)) in let w = c .before .before .before .before .before .before .before .follow .ensures in let z = c .before .before .before .before .before .before .if3 .left in (p .0, (bearing (w .kept z), (w .kept z .maps-six, (word-fits (p .1 .0) (p .1 .1 .1 .1) g (c .before .before .before .before .before .before .before .before .before .before .before .before .before .before .before .before .before .before .before .loop-test .taken), w .stacks-are z))))
+localize-put-word-requires t c κs = let a = c .before .before .before .before .before .before .before .before .before .before .before .before .before .before .before .before .before .before .before .before .before .before .before .before .before .before .before .before .before .before .before .before .before .before .before .before .before .before .before .before .before .before .args in let p = c .before .before .before .before .before .before .before .before .before .before .before .before .before .before .before .before .before .before .before .before .before .before .before .before .before .before .before .before .before .before .before .before .before .before .before .before .before .before .before .before .before .before .pre .1 in let g = c .before .before .before .before .before .before .before .before .before .before .before .before .before .before .before .before .before .before .before .before .before .loop .inv .on refl (p .1 .1 .1 .1) (going-start (p .1 .0) (reading (p .1 .0) (c .before .before .before .before .before .before .before .before .before .before .before .before .before .before .before .before .before .before .before .before .before .before .before .before .before .before .before .before .before .before .before .before .before .before .before .before .before .before .before .before .before .expressions-at .ensures .0) (c .before .before .before .before .before .before .before .before .before .before .before .before .before .before .before .before .before .before .before .before .before .before .before .before .before .before .before .before .before .before .before .before .before .before .before .before .before .find .ensures) (c .before .before .before .before .before .before .before .before .before .before .before .before .before .before .before .before .before .before .before .before .before .before .before .before .before .before .before .before .before .before .before .before .before .before .before .before .before .before .before .wide .ensures .0) (c .before .before .before .before .before .before .before .before .before .before .before .before .before .before .before .before .before .before .before .before .before .before .before .before .before .before .before .before .before .before .before .before .before .before .before .slot .ensures .0) (c .before .before .before .before .before .before .before .before .before .before .before .before .before .before .before .before .before .before .before .before .before .before .before .before .before .before .before .before .before .before .before .before .before .wide2 .ensures .0) refl) (p .1 .1 .1 .1) (a .room) (c .before .before .before .before .before .before .before .before .before .before .before .before .before .before .before .before .before .before .before .before .before .before .before .before .begin .ensures) (c .before .before .before .before .before .before .before .before .before .before .before .before .before .before .before .before .before .before .before .before .before .before .before .declare .ensures) (c .before .before .before .before .before .before .before .before .before .before .before .before .before .before .before .before .before .before .before .before .before .before .if1 .left)) in let w = c .before .before .before .before .before .before .before .follow .ensures .0 in let z = c .before .before .before .before .before .before .if3 .left in (p .0, (bearing (w .kept z), (w .kept z .maps-six, (word-fits (p .1 .0) (p .1 .1 .1 .1) g (c .before .before .before .before .before .before .before .before .before .before .before .before .before .before .before .before .before .before .before .before .loop-test .taken), w .stacks-are z))))
 
 -- src/lib.rt:151:13
 localize-pass-requires : (t : ℕ) → localize-lts.Need-pass-requires (
@@ -1085,8 +1149,8 @@ localize-pass-requires : (t : ℕ) → localize-lts.Need-pass-requires (
   expressions-at-reads.Learnt,
   wide-reads.Asked,
   wide-reads.Learnt,
-  index-reads.Asked,
-  index-reads.Learnt,
+  find-reads.Asked,
+  find-reads.Learnt,
   slot-reads.Asked,
   slot-reads.Learnt,
   begin-reads.Asked,
@@ -1106,7 +1170,7 @@ localize-pass-requires : (t : ℕ) → localize-lts.Need-pass-requires (
   import-names-reads.Asked,
   import-names-reads.Learnt,
 ) (localize-at t) localize.Post localize-Inv-loop localize-μ-loop
-localize-pass-requires t c κs = let a = c .before .before .before .before .before .before .before .before .before .before .before .before .before .before .before .before .before .before .before .before .before .before .before .before .before .before .before .before .before .before .before .before .args in let p = c .before .before .before .before .before .before .before .before .before .before .before .before .before .before .before .before .before .before .before .before .before .before .before .before .before .before .before .before .before .before .before .before .pre .1 in let g = c .before .before .before .before .before .before .before .before .before .before .before .before .loop .inv .on refl (p .1 .1 .1 .1) (going-start (p .1 .0) (reading (p .1 .0) (c .before .before .before .before .before .before .before .before .before .before .before .before .before .before .before .before .before .before .before .before .before .before .before .before .before .before .before .before .before .before .before .expressions-at .ensures .0) (c .before .before .before .before .before .before .before .before .before .before .before .before .before .before .before .before .before .before .before .before .before .before .before .before .before .before .before .index .ensures) (c .before .before .before .before .before .before .before .before .before .before .before .before .before .before .before .before .before .before .before .before .before .before .before .before .before .before .before .before .before .wide .ensures .0) (c .before .before .before .before .before .before .before .before .before .before .before .before .before .before .before .before .before .before .before .before .before .before .before .before .before .before .slot .ensures .0) (c .before .before .before .before .before .before .before .before .before .before .before .before .before .before .before .before .before .before .before .before .before .before .before .before .wide2 .ensures .0) refl) (p .1 .1 .1 .1) (a .room) (c .before .before .before .before .before .before .before .before .before .before .before .before .before .before .before .begin .ensures) (c .before .before .before .before .before .before .before .before .before .before .before .before .before .before .declare .ensures) (c .before .before .before .before .before .before .before .before .before .before .before .before .before .if1 .left)) in (p .0, (expressions (p .1 .0) (g .read), (word-bodied (p .1 .0) (p .1 .1 .1 .1) g (c .before .before .before .before .before .before .before .before .before .before .before .loop-test .taken), (g .turn .way .going, (g .turn .way .kept, g .turn .way .under)))))
+localize-pass-requires t c κs = let a = c .before .before .before .before .before .before .before .before .before .before .before .before .before .before .before .before .before .before .before .before .before .before .before .before .before .before .before .before .before .before .before .before .before .args in let p = c .before .before .before .before .before .before .before .before .before .before .before .before .before .before .before .before .before .before .before .before .before .before .before .before .before .before .before .before .before .before .before .before .before .pre .1 in let g = c .before .before .before .before .before .before .before .before .before .before .before .before .loop .inv .on refl (p .1 .1 .1 .1) (going-start (p .1 .0) (reading (p .1 .0) (c .before .before .before .before .before .before .before .before .before .before .before .before .before .before .before .before .before .before .before .before .before .before .before .before .before .before .before .before .before .before .before .before .expressions-at .ensures .0) (c .before .before .before .before .before .before .before .before .before .before .before .before .before .before .before .before .before .before .before .before .before .before .before .before .before .before .before .before .find .ensures) (c .before .before .before .before .before .before .before .before .before .before .before .before .before .before .before .before .before .before .before .before .before .before .before .before .before .before .before .before .before .before .wide .ensures .0) (c .before .before .before .before .before .before .before .before .before .before .before .before .before .before .before .before .before .before .before .before .before .before .before .before .before .before .slot .ensures .0) (c .before .before .before .before .before .before .before .before .before .before .before .before .before .before .before .before .before .before .before .before .before .before .before .before .wide2 .ensures .0) refl) (p .1 .1 .1 .1) (a .room) (c .before .before .before .before .before .before .before .before .before .before .before .before .before .before .before .begin .ensures) (c .before .before .before .before .before .before .before .before .before .before .before .before .before .before .declare .ensures) (c .before .before .before .before .before .before .before .before .before .before .before .before .before .if1 .left)) in (p .0, (expressions (p .1 .0) (g .read), (word-bodied (p .1 .0) (p .1 .1 .1 .1) g (c .before .before .before .before .before .before .before .before .before .before .before .loop-test .taken), (g .turn .way .going, (g .turn .way .kept, g .turn .way .under)))))
 
 -- src/lib.rt:174:13
 localize-returns-3 : (t : ℕ) → localize-lts.Need-returns-3 (
@@ -1114,8 +1178,8 @@ localize-returns-3 : (t : ℕ) → localize-lts.Need-returns-3 (
   expressions-at-reads.Learnt,
   wide-reads.Asked,
   wide-reads.Learnt,
-  index-reads.Asked,
-  index-reads.Learnt,
+  find-reads.Asked,
+  find-reads.Learnt,
   slot-reads.Asked,
   slot-reads.Learnt,
   begin-reads.Asked,
@@ -1135,7 +1199,7 @@ localize-returns-3 : (t : ℕ) → localize-lts.Need-returns-3 (
   import-names-reads.Asked,
   import-names-reads.Learnt,
 ) (localize-at t) localize.Post localize-Inv-loop localize-μ-loop
-localize-returns-3 t c = let a = c .before .before .before .before .before .before .before .before .before .before .before .before .before .before .before .before .before .before .before .before .before .before .before .before .before .args in let p = c .before .before .before .before .before .before .before .before .before .before .before .before .before .before .before .before .before .before .before .before .before .before .before .before .before .pre .1 in let g = c .before .before .before .before .before .loop .inv .on refl (p .1 .1 .1 .1) (going-start (p .1 .0) (reading (p .1 .0) (c .before .before .before .before .before .before .before .before .before .before .before .before .before .before .before .before .before .before .before .before .before .before .before .before .expressions-at .ensures .0) (c .before .before .before .before .before .before .before .before .before .before .before .before .before .before .before .before .before .before .before .before .index .ensures) (c .before .before .before .before .before .before .before .before .before .before .before .before .before .before .before .before .before .before .before .before .before .before .wide .ensures .0) (c .before .before .before .before .before .before .before .before .before .before .before .before .before .before .before .before .before .before .before .slot .ensures .0) (c .before .before .before .before .before .before .before .before .before .before .before .before .before .before .before .before .before .wide2 .ensures .0) refl) (p .1 .1 .1 .1) (a .room) (c .before .before .before .before .before .before .before .before .begin .ensures) (c .before .before .before .before .before .before .before .declare .ensures) (c .before .before .before .before .before .before .if1 .left)) in ⊎-elim (λ w. going-full (p .1 .0) (p .1 .1 .1 .1) g (c .before .before .before .before .loop-test .taken) (c .before .before .before .flag .ensures) (runs-at (callee-runs (p .1 .0) (p .1 .1 .1 .1) g (c .before .before .before .before .loop-test .taken) (w .0 .taken) (w .8 .ensures .0) (w .9 .ensures) (w .10 .left) (c .before .before .before .flag .result) (w .17 .ensures)) (w .18) (w .19) (w .20) (w .21) (w .22) (w .23) (w .24) (w .25)) (c .if4 .taken)) (λ w. going-full (p .1 .0) (p .1 .1 .1 .1) g (c .before .before .before .before .loop-test .taken) (c .before .before .before .flag .ensures) (runs-at (other-runs (p .1 .0) (p .1 .1 .1 .1) g (c .before .before .before .before .loop-test .taken) (w .0 .left) (c .before .before .before .flag .result) (runs-from refl (w .9 .ensures))) (w .10) (w .11) (w .12) (w .13) (w .14) (w .15) (w .16) (w .17)) (c .if4 .taken)) (c .before .if2 .came)
+localize-returns-3 t c = let a = c .before .before .before .before .before .before .before .before .before .before .before .before .before .before .before .before .before .before .before .before .before .before .before .before .before .before .args in let p = c .before .before .before .before .before .before .before .before .before .before .before .before .before .before .before .before .before .before .before .before .before .before .before .before .before .before .pre .1 in let g = c .before .before .before .before .before .loop .inv .on refl (p .1 .1 .1 .1) (going-start (p .1 .0) (reading (p .1 .0) (c .before .before .before .before .before .before .before .before .before .before .before .before .before .before .before .before .before .before .before .before .before .before .before .before .before .expressions-at .ensures .0) (c .before .before .before .before .before .before .before .before .before .before .before .before .before .before .before .before .before .before .before .before .before .find .ensures) (c .before .before .before .before .before .before .before .before .before .before .before .before .before .before .before .before .before .before .before .before .before .before .before .wide .ensures .0) (c .before .before .before .before .before .before .before .before .before .before .before .before .before .before .before .before .before .before .before .slot .ensures .0) (c .before .before .before .before .before .before .before .before .before .before .before .before .before .before .before .before .before .wide2 .ensures .0) refl) (p .1 .1 .1 .1) (a .room) (c .before .before .before .before .before .before .before .before .begin .ensures) (c .before .before .before .before .before .before .before .declare .ensures) (c .before .before .before .before .before .before .if1 .left)) in ⊎-elim (λ w. going-full (p .1 .0) (p .1 .1 .1 .1) g (c .before .before .before .before .loop-test .taken) (c .before .before .before .flag .ensures) (runs-at (callee-runs (p .1 .0) (p .1 .1 .1 .1) g (c .before .before .before .before .loop-test .taken) (w .0 .taken) (w .9 .ensures .0) (w .10 .ensures .0) (w .11 .left) (c .before .before .before .flag .result) (w .18 .ensures)) (w .19) (w .20) (w .21) (w .22) (w .23) (w .24) (w .26) (w .27)) (c .if4 .taken)) (λ w. going-full (p .1 .0) (p .1 .1 .1 .1) g (c .before .before .before .before .loop-test .taken) (c .before .before .before .flag .ensures) (runs-at (other-runs (p .1 .0) (p .1 .1 .1 .1) g (c .before .before .before .before .loop-test .taken) (w .0 .left) (c .before .before .before .flag .result) (runs-from refl (w .9 .ensures))) (w .10) (w .11) (w .12) (w .13) (w .14) (w .15) (w .17) (w .18)) (c .if4 .taken)) (c .before .if2 .came)
 
 -- src/lib.rt:110:5
 localize-loop-less : (t : ℕ) → localize-lts.Need-loop-less (
@@ -1143,8 +1207,8 @@ localize-loop-less : (t : ℕ) → localize-lts.Need-loop-less (
   expressions-at-reads.Learnt,
   wide-reads.Asked,
   wide-reads.Learnt,
-  index-reads.Asked,
-  index-reads.Learnt,
+  find-reads.Asked,
+  find-reads.Learnt,
   slot-reads.Asked,
   slot-reads.Learnt,
   begin-reads.Asked,
@@ -1172,8 +1236,8 @@ localize-loop-again : (t : ℕ) → localize-lts.Need-loop-again (
   expressions-at-reads.Learnt,
   wide-reads.Asked,
   wide-reads.Learnt,
-  index-reads.Asked,
-  index-reads.Learnt,
+  find-reads.Asked,
+  find-reads.Learnt,
   slot-reads.Asked,
   slot-reads.Learnt,
   begin-reads.Asked,
@@ -1193,7 +1257,7 @@ localize-loop-again : (t : ℕ) → localize-lts.Need-loop-again (
   import-names-reads.Asked,
   import-names-reads.Learnt,
 ) (localize-at t) localize.Post localize-Inv-loop localize-μ-loop
-localize-loop-again t c = let a = c .before .before .before .before .before .before .before .before .before .before .before .before .before .before .before .before .before .before .before .before .before .before .before .before .before .args in let p = c .before .before .before .before .before .before .before .before .before .before .before .before .before .before .before .before .before .before .before .before .before .before .before .before .before .pre .1 in record { on = λ q K₀ g₀. let g = c .before .before .before .before .before .loop .inv .on q K₀ g₀ in ⊎-elim (λ w. going-next (p .1 .0) K₀ g (c .before .before .before .before .loop-test .taken) (c .before .before .before .flag .ensures) (runs-at (callee-runs (p .1 .0) K₀ g (c .before .before .before .before .loop-test .taken) (w .0 .taken) (w .8 .ensures .0) (w .9 .ensures) (w .10 .left) (c .before .before .before .flag .result) (w .17 .ensures)) (w .18) (w .19) (w .20) (w .21) (w .22) (w .23) (w .24) (w .25)) (c .if4 .left)) (λ w. going-next (p .1 .0) K₀ g (c .before .before .before .before .loop-test .taken) (c .before .before .before .flag .ensures) (runs-at (other-runs (p .1 .0) K₀ g (c .before .before .before .before .loop-test .taken) (w .0 .left) (c .before .before .before .flag .result) (runs-from q (w .9 .ensures))) (w .10) (w .11) (w .12) (w .13) (w .14) (w .15) (w .16) (w .17)) (c .if4 .left)) (c .before .if2 .came) }
+localize-loop-again t c = let a = c .before .before .before .before .before .before .before .before .before .before .before .before .before .before .before .before .before .before .before .before .before .before .before .before .before .before .args in let p = c .before .before .before .before .before .before .before .before .before .before .before .before .before .before .before .before .before .before .before .before .before .before .before .before .before .before .pre .1 in record { on = λ q K₀ g₀. let g = c .before .before .before .before .before .loop .inv .on q K₀ g₀ in ⊎-elim (λ w. going-at (w .25 ∙ w .10 .ensures .1 (w .11 .left) ∙ sym (g .read .places-are)) (going-next (p .1 .0) K₀ g (c .before .before .before .before .loop-test .taken) (c .before .before .before .flag .ensures) (runs-at (callee-runs (p .1 .0) K₀ g (c .before .before .before .before .loop-test .taken) (w .0 .taken) (w .9 .ensures .0) (w .10 .ensures .0) (w .11 .left) (c .before .before .before .flag .result) (w .18 .ensures)) (w .19) (w .20) (w .21) (w .22) (w .23) (w .24) (w .26) (w .27)) (c .if4 .left))) (λ w. going-at (w .16) (going-next (p .1 .0) K₀ g (c .before .before .before .before .loop-test .taken) (c .before .before .before .flag .ensures) (runs-at (other-runs (p .1 .0) K₀ g (c .before .before .before .before .loop-test .taken) (w .0 .left) (c .before .before .before .flag .result) (runs-from q (w .9 .ensures))) (w .10) (w .11) (w .12) (w .13) (w .14) (w .15) (w .17) (w .18)) (c .if4 .left))) (c .before .if2 .came) }
 
 -- src/lib.rt:178:9
 localize-keep-names-requires : (t : ℕ) → localize-lts.Need-keep-names-requires (
@@ -1201,8 +1265,8 @@ localize-keep-names-requires : (t : ℕ) → localize-lts.Need-keep-names-requir
   expressions-at-reads.Learnt,
   wide-reads.Asked,
   wide-reads.Learnt,
-  index-reads.Asked,
-  index-reads.Learnt,
+  find-reads.Asked,
+  find-reads.Learnt,
   slot-reads.Asked,
   slot-reads.Learnt,
   begin-reads.Asked,
@@ -1222,7 +1286,7 @@ localize-keep-names-requires : (t : ℕ) → localize-lts.Need-keep-names-requir
   import-names-reads.Asked,
   import-names-reads.Learnt,
 ) (localize-at t) localize.Post localize-Inv-loop localize-μ-loop
-localize-keep-names-requires t c κs = let a = c .before .before .before .before .before .before .before .before .before .before .before .before .before .before .before .before .before .before .before .before .before .before .before .args in let p = c .before .before .before .before .before .before .before .before .before .before .before .before .before .before .before .before .before .before .before .before .before .before .before .pre .1 in let g = c .before .before .before .loop .inv .on refl (p .1 .1 .1 .1) (going-start (p .1 .0) (reading (p .1 .0) (c .before .before .before .before .before .before .before .before .before .before .before .before .before .before .before .before .before .before .before .before .before .before .expressions-at .ensures .0) (c .before .before .before .before .before .before .before .before .before .before .before .before .before .before .before .before .before .before .index .ensures) (c .before .before .before .before .before .before .before .before .before .before .before .before .before .before .before .before .before .before .before .before .wide .ensures .0) (c .before .before .before .before .before .before .before .before .before .before .before .before .before .before .before .before .before .slot .ensures .0) (c .before .before .before .before .before .before .before .before .before .before .before .before .before .before .before .wide2 .ensures .0) refl) (p .1 .1 .1 .1) (a .room) (c .before .before .before .before .before .before .begin .ensures) (c .before .before .before .before .before .declare .ensures) (c .before .before .before .before .if1 .left)) in (keep-in (p .1 .0) (p .1 .1 .1 .1) g (c .before .before .loop-test .left), (keep-long (p .1 .0) (p .1 .1 .1 .1) g (c .before .before .loop-test .left), (keep-exprs (p .1 .0) (p .1 .1 .1 .1) g (c .before .before .loop-test .left), (keep-low (p .1 .0) (p .1 .1 .1 .1) g (c .before .before .loop-test .left), g .turn .way .under .stacks-are))))
+localize-keep-names-requires t c κs = let a = c .before .before .before .before .before .before .before .before .before .before .before .before .before .before .before .before .before .before .before .before .before .before .before .before .before .args in let p = c .before .before .before .before .before .before .before .before .before .before .before .before .before .before .before .before .before .before .before .before .before .before .before .before .before .pre .1 in let g = c .before .before .before .before .loop .inv .on refl (p .1 .1 .1 .1) (going-start (p .1 .0) (reading (p .1 .0) (c .before .before .before .before .before .before .before .before .before .before .before .before .before .before .before .before .before .before .before .before .before .before .before .before .expressions-at .ensures .0) (c .before .before .before .before .before .before .before .before .before .before .before .before .before .before .before .before .before .before .before .before .find .ensures) (c .before .before .before .before .before .before .before .before .before .before .before .before .before .before .before .before .before .before .before .before .before .before .wide .ensures .0) (c .before .before .before .before .before .before .before .before .before .before .before .before .before .before .before .before .before .before .slot .ensures .0) (c .before .before .before .before .before .before .before .before .before .before .before .before .before .before .before .before .wide2 .ensures .0) refl) (p .1 .1 .1 .1) (a .room) (c .before .before .before .before .before .before .before .begin .ensures) (c .before .before .before .before .before .before .declare .ensures) (c .before .before .before .before .before .if1 .left)) in (keep-in (p .1 .0) (p .1 .1 .1 .1) g (c .before .before .before .loop-test .left), (keep-long (p .1 .0) (p .1 .1 .1 .1) g (c .before .before .before .loop-test .left), (keep-exprs (p .1 .0) (p .1 .1 .1 .1) g (c .before .before .before .loop-test .left), (keep-low (p .1 .0) (p .1 .1 .1 .1) g (c .before .before .before .loop-test .left), g .turn .way .under .stacks-are))))
 
 -- src/lib.rt:180:9
 localize-returns-4 : (t : ℕ) → localize-lts.Need-returns-4 (
@@ -1230,8 +1294,8 @@ localize-returns-4 : (t : ℕ) → localize-lts.Need-returns-4 (
   expressions-at-reads.Learnt,
   wide-reads.Asked,
   wide-reads.Learnt,
-  index-reads.Asked,
-  index-reads.Learnt,
+  find-reads.Asked,
+  find-reads.Learnt,
   slot-reads.Asked,
   slot-reads.Learnt,
   begin-reads.Asked,
@@ -1251,7 +1315,7 @@ localize-returns-4 : (t : ℕ) → localize-lts.Need-returns-4 (
   import-names-reads.Asked,
   import-names-reads.Learnt,
 ) (localize-at t) localize.Post localize-Inv-loop localize-μ-loop
-localize-returns-4 t c = let a = c .before .before .before .before .before .before .before .before .before .before .before .before .before .before .before .before .before .before .before .before .before .before .before .before .before .args in let p = c .before .before .before .before .before .before .before .before .before .before .before .before .before .before .before .before .before .before .before .before .before .before .before .before .before .pre .1 in let g = c .before .before .before .before .before .loop .inv .on refl (p .1 .1 .1 .1) (going-start (p .1 .0) (reading (p .1 .0) (c .before .before .before .before .before .before .before .before .before .before .before .before .before .before .before .before .before .before .before .before .before .before .before .before .expressions-at .ensures .0) (c .before .before .before .before .before .before .before .before .before .before .before .before .before .before .before .before .before .before .before .before .index .ensures) (c .before .before .before .before .before .before .before .before .before .before .before .before .before .before .before .before .before .before .before .before .before .before .wide .ensures .0) (c .before .before .before .before .before .before .before .before .before .before .before .before .before .before .before .before .before .before .before .slot .ensures .0) (c .before .before .before .before .before .before .before .before .before .before .before .before .before .before .before .before .before .wide2 .ensures .0) refl) (p .1 .1 .1 .1) (a .room) (c .before .before .before .before .before .before .before .before .begin .ensures) (c .before .before .before .before .before .before .before .declare .ensures) (c .before .before .before .before .before .before .if1 .left)) in names-full (p .1 .0) (p .1 .1 .1 .1) g (c .before .before .before .before .loop-test .left) (c .before .keep-names .ensures) (c .if5 .taken)
+localize-returns-4 t c = let a = c .before .before .before .before .before .before .before .before .before .before .before .before .before .before .before .before .before .before .before .before .before .before .before .before .before .before .before .args in let p = c .before .before .before .before .before .before .before .before .before .before .before .before .before .before .before .before .before .before .before .before .before .before .before .before .before .before .before .pre .1 in let g = c .before .before .before .before .before .before .loop .inv .on refl (p .1 .1 .1 .1) (going-start (p .1 .0) (reading (p .1 .0) (c .before .before .before .before .before .before .before .before .before .before .before .before .before .before .before .before .before .before .before .before .before .before .before .before .before .before .expressions-at .ensures .0) (c .before .before .before .before .before .before .before .before .before .before .before .before .before .before .before .before .before .before .before .before .before .before .find .ensures) (c .before .before .before .before .before .before .before .before .before .before .before .before .before .before .before .before .before .before .before .before .before .before .before .before .wide .ensures .0) (c .before .before .before .before .before .before .before .before .before .before .before .before .before .before .before .before .before .before .before .before .slot .ensures .0) (c .before .before .before .before .before .before .before .before .before .before .before .before .before .before .before .before .before .before .wide2 .ensures .0) refl) (p .1 .1 .1 .1) (a .room) (c .before .before .before .before .before .before .before .before .before .begin .ensures) (c .before .before .before .before .before .before .before .before .declare .ensures) (c .before .before .before .before .before .before .before .if1 .left)) in names-full (p .1 .0) (p .1 .1 .1 .1) g (c .before .before .before .before .before .loop-test .left) (c .before .keep-names .ensures) (c .if5 .taken)
 
 -- src/lib.rt:182:5
 localize-import-names-requires : (t : ℕ) → localize-lts.Need-import-names-requires (
@@ -1259,8 +1323,8 @@ localize-import-names-requires : (t : ℕ) → localize-lts.Need-import-names-re
   expressions-at-reads.Learnt,
   wide-reads.Asked,
   wide-reads.Learnt,
-  index-reads.Asked,
-  index-reads.Learnt,
+  find-reads.Asked,
+  find-reads.Learnt,
   slot-reads.Asked,
   slot-reads.Learnt,
   begin-reads.Asked,
@@ -1280,7 +1344,7 @@ localize-import-names-requires : (t : ℕ) → localize-lts.Need-import-names-re
   import-names-reads.Asked,
   import-names-reads.Learnt,
 ) (localize-at t) localize.Post localize-Inv-loop localize-μ-loop
-localize-import-names-requires t c κs = let a = c .before .before .before .before .before .before .before .before .before .before .before .before .before .before .before .before .before .before .before .before .before .before .before .before .before .before .before .before .before .before .before .args in let p = c .before .before .before .before .before .before .before .before .before .before .before .before .before .before .before .before .before .before .before .before .before .before .before .before .before .before .before .before .before .before .before .pre .1 in let g = c .before .before .before .before .before .before .before .before .before .before .before .loop .inv .on refl (p .1 .1 .1 .1) (going-start (p .1 .0) (reading (p .1 .0) (c .before .before .before .before .before .before .before .before .before .before .before .before .before .before .before .before .before .before .before .before .before .before .before .before .before .before .before .before .before .before .expressions-at .ensures .0) (c .before .before .before .before .before .before .before .before .before .before .before .before .before .before .before .before .before .before .before .before .before .before .before .before .before .before .index .ensures) (c .before .before .before .before .before .before .before .before .before .before .before .before .before .before .before .before .before .before .before .before .before .before .before .before .before .before .before .before .wide .ensures .0) (c .before .before .before .before .before .before .before .before .before .before .before .before .before .before .before .before .before .before .before .before .before .before .before .before .before .slot .ensures .0) (c .before .before .before .before .before .before .before .before .before .before .before .before .before .before .before .before .before .before .before .before .before .before .before .wide2 .ensures .0) refl) (p .1 .1 .1 .1) (a .room) (c .before .before .before .before .before .before .before .before .before .before .before .before .before .before .begin .ensures) (c .before .before .before .before .before .before .before .before .before .before .before .before .before .declare .ensures) (c .before .before .before .before .before .before .before .before .before .before .before .before .if1 .left)) in (p .0, (names-in (p .1 .0) (p .1 .1 .1 .1) g (c .before .before .before .before .before .before .before .before .before .before .loop-test .left) (c .before .before .before .before .before .before .before .keep-names .ensures) (c .before .before .before .before .before .before .if5 .left), (names-words (p .1 .0) (p .1 .1 .1 .1) g (c .before .before .before .before .before .before .before .before .before .before .loop-test .left) (c .before .before .before .before .before .before .before .keep-names .ensures) (c .before .before .before .before .before .before .if5 .left), (c .before .before .before .before .before .before .before .keep-names .ensures .stacks-are (c .before .before .before .before .before .before .if5 .left), names-good (p .1 .0) (p .1 .1 .1 .1) g (c .before .before .before .before .before .before .before .before .before .before .loop-test .left) (c .before .before .before .before .before .before .before .keep-names .ensures) (c .before .before .before .before .before .before .if5 .left)))))
+localize-import-names-requires t c κs = let a = c .before .before .before .before .before .before .before .before .before .before .before .before .before .before .before .before .before .before .before .before .before .before .before .before .before .before .before .before .before .before .before .before .before .args in let p = c .before .before .before .before .before .before .before .before .before .before .before .before .before .before .before .before .before .before .before .before .before .before .before .before .before .before .before .before .before .before .before .before .before .pre .1 in let g = c .before .before .before .before .before .before .before .before .before .before .before .before .loop .inv .on refl (p .1 .1 .1 .1) (going-start (p .1 .0) (reading (p .1 .0) (c .before .before .before .before .before .before .before .before .before .before .before .before .before .before .before .before .before .before .before .before .before .before .before .before .before .before .before .before .before .before .before .before .expressions-at .ensures .0) (c .before .before .before .before .before .before .before .before .before .before .before .before .before .before .before .before .before .before .before .before .before .before .before .before .before .before .before .before .find .ensures) (c .before .before .before .before .before .before .before .before .before .before .before .before .before .before .before .before .before .before .before .before .before .before .before .before .before .before .before .before .before .before .wide .ensures .0) (c .before .before .before .before .before .before .before .before .before .before .before .before .before .before .before .before .before .before .before .before .before .before .before .before .before .before .slot .ensures .0) (c .before .before .before .before .before .before .before .before .before .before .before .before .before .before .before .before .before .before .before .before .before .before .before .before .wide2 .ensures .0) refl) (p .1 .1 .1 .1) (a .room) (c .before .before .before .before .before .before .before .before .before .before .before .before .before .before .before .begin .ensures) (c .before .before .before .before .before .before .before .before .before .before .before .before .before .before .declare .ensures) (c .before .before .before .before .before .before .before .before .before .before .before .before .before .if1 .left)) in (p .0, (names-in (p .1 .0) (p .1 .1 .1 .1) g (c .before .before .before .before .before .before .before .before .before .before .before .loop-test .left) (c .before .before .before .before .before .before .before .keep-names .ensures) (c .before .before .before .before .before .before .if5 .left), (names-words (p .1 .0) (p .1 .1 .1 .1) g (c .before .before .before .before .before .before .before .before .before .before .before .loop-test .left) (c .before .before .before .before .before .before .before .keep-names .ensures) (c .before .before .before .before .before .before .if5 .left), (c .before .before .before .before .before .before .before .keep-names .ensures .stacks-are (c .before .before .before .before .before .before .if5 .left), names-good (p .1 .0) (p .1 .1 .1 .1) g (c .before .before .before .before .before .before .before .before .before .before .before .loop-test .left) (c .before .before .before .before .before .before .before .keep-names .ensures) (c .before .before .before .before .before .before .if5 .left)))))
 
 -- src/lib.rt:53:1
 localize-returns-5 : (t : ℕ) → localize-lts.Need-returns-5 (
@@ -1288,8 +1352,8 @@ localize-returns-5 : (t : ℕ) → localize-lts.Need-returns-5 (
   expressions-at-reads.Learnt,
   wide-reads.Asked,
   wide-reads.Learnt,
-  index-reads.Asked,
-  index-reads.Learnt,
+  find-reads.Asked,
+  find-reads.Learnt,
   slot-reads.Asked,
   slot-reads.Learnt,
   begin-reads.Asked,
@@ -1309,7 +1373,7 @@ localize-returns-5 : (t : ℕ) → localize-lts.Need-returns-5 (
   import-names-reads.Asked,
   import-names-reads.Learnt,
 ) (localize-at t) localize.Post localize-Inv-loop localize-μ-loop
-localize-returns-5 t c = let a = c .before .before .before .before .before .before .before .before .before .before .before .before .before .before .before .before .before .before .before .before .before .before .before .before .before .before .before .before .before .before .before .before .args in let p = c .before .before .before .before .before .before .before .before .before .before .before .before .before .before .before .before .before .before .before .before .before .before .before .before .before .before .before .before .before .before .before .before .pre .1 in let g = c .before .before .before .before .before .before .before .before .before .before .before .before .loop .inv .on refl (p .1 .1 .1 .1) (going-start (p .1 .0) (reading (p .1 .0) (c .before .before .before .before .before .before .before .before .before .before .before .before .before .before .before .before .before .before .before .before .before .before .before .before .before .before .before .before .before .before .before .expressions-at .ensures .0) (c .before .before .before .before .before .before .before .before .before .before .before .before .before .before .before .before .before .before .before .before .before .before .before .before .before .before .before .index .ensures) (c .before .before .before .before .before .before .before .before .before .before .before .before .before .before .before .before .before .before .before .before .before .before .before .before .before .before .before .before .before .wide .ensures .0) (c .before .before .before .before .before .before .before .before .before .before .before .before .before .before .before .before .before .before .before .before .before .before .before .before .before .before .slot .ensures .0) (c .before .before .before .before .before .before .before .before .before .before .before .before .before .before .before .before .before .before .before .before .before .before .before .before .wide2 .ensures .0) refl) (p .1 .1 .1 .1) (a .room) (c .before .before .before .before .before .before .before .before .before .before .before .before .before .before .before .begin .ensures) (c .before .before .before .before .before .before .before .before .before .before .before .before .before .before .declare .ensures) (c .before .before .before .before .before .before .before .before .before .before .before .before .before .if1 .left)) in names-whole (p .1 .0) (p .1 .1 .1 .1) g (c .before .before .before .before .before .before .before .before .before .before .before .loop-test .left) (c .before .before .before .before .before .before .before .before .keep-names .ensures) (c .before .before .before .before .before .before .before .if5 .left) (c .import-names .ensures)
+localize-returns-5 t c = let a = c .before .before .before .before .before .before .before .before .before .before .before .before .before .before .before .before .before .before .before .before .before .before .before .before .before .before .before .before .before .before .before .before .before .before .args in let p = c .before .before .before .before .before .before .before .before .before .before .before .before .before .before .before .before .before .before .before .before .before .before .before .before .before .before .before .before .before .before .before .before .before .before .pre .1 in let g = c .before .before .before .before .before .before .before .before .before .before .before .before .before .loop .inv .on refl (p .1 .1 .1 .1) (going-start (p .1 .0) (reading (p .1 .0) (c .before .before .before .before .before .before .before .before .before .before .before .before .before .before .before .before .before .before .before .before .before .before .before .before .before .before .before .before .before .before .before .before .before .expressions-at .ensures .0) (c .before .before .before .before .before .before .before .before .before .before .before .before .before .before .before .before .before .before .before .before .before .before .before .before .before .before .before .before .before .find .ensures) (c .before .before .before .before .before .before .before .before .before .before .before .before .before .before .before .before .before .before .before .before .before .before .before .before .before .before .before .before .before .before .before .wide .ensures .0) (c .before .before .before .before .before .before .before .before .before .before .before .before .before .before .before .before .before .before .before .before .before .before .before .before .before .before .before .slot .ensures .0) (c .before .before .before .before .before .before .before .before .before .before .before .before .before .before .before .before .before .before .before .before .before .before .before .before .before .wide2 .ensures .0) refl) (p .1 .1 .1 .1) (a .room) (c .before .before .before .before .before .before .before .before .before .before .before .before .before .before .before .before .begin .ensures) (c .before .before .before .before .before .before .before .before .before .before .before .before .before .before .before .declare .ensures) (c .before .before .before .before .before .before .before .before .before .before .before .before .before .before .if1 .left)) in names-whole (p .1 .0) (p .1 .1 .1 .1) g (c .before .before .before .before .before .before .before .before .before .before .before .before .loop-test .left) (c .before .before .before .before .before .before .before .before .keep-names .ensures) (c .before .before .before .before .before .before .before .if5 .left) (c .import-names .ensures)
 
 pub +append+follow+localize-spec : {M : Type 1} → statement M
 +append+follow+localize-spec = close μ-append μ-follow μ-localize (λ t. append-lts.spec (
@@ -1337,7 +1401,7 @@ pub +append+follow+localize-spec : {M : Type 1} → statement M
     (append-close-requires t)
     (append-returns-2 t))
     (λ t. follow-lts.spec
-    (known-reads.Asked, known-reads.Learnt, append-below t, append.Post)
+    (known-reads.Asked, known-reads.Learnt, append-below t, append.Post, find-reads.Asked, find-reads.Learnt)
     (follow-at t)
     follow.Post
     (follow-returns t)
@@ -1345,14 +1409,16 @@ pub +append+follow+localize-spec : {M : Type 1} → statement M
     (follow-returns-2 t)
     (follow-sub-append t)
     (follow-append-requires t)
-    (follow-returns-3 t))
+    (follow-returns-3 t)
+    (follow-find-requires t)
+    (follow-returns-4 t))
     λ t. localize-lts.spec (
       expressions-at-reads.Asked,
       expressions-at-reads.Learnt,
       wide-reads.Asked,
       wide-reads.Learnt,
-      index-reads.Asked,
-      index-reads.Learnt,
+      find-reads.Asked,
+      find-reads.Learnt,
       slot-reads.Asked,
       slot-reads.Learnt,
       begin-reads.Asked,
@@ -1380,10 +1446,10 @@ pub +append+follow+localize-spec : {M : Type 1} → statement M
     (localize-mul-wide t)
     (localize-element-copy-out-wide t)
     (localize-wide-requires t)
-    (localize-add-index t)
-    (localize-index-requires t)
+    (localize-add-find t)
+    (localize-find-requires t)
     (localize-mul-slot t)
-    (localize-array-read-slot t)
+    (localize-element-copy-out-slot t)
     (localize-slot-requires t)
     (localize-add-body t)
     (localize-mul-wide-2 t)
@@ -1401,6 +1467,7 @@ pub +append+follow+localize-spec : {M : Type 1} → statement M
     (localize-mul-wide-3 t)
     (localize-element-copy-out-wide-3 t)
     (localize-wide-requires-3 t)
+    (localize-add-follow t)
     (localize-follow-requires t)
     (localize-returns-2 t)
     (localize-put-word-requires t)
