@@ -410,13 +410,14 @@ module _ {words tags : List ℕ} {n : ℕ} (src : Source words tags n) (scopes :
                   unfolding count stOf
                   names-many = ap (λ (v : St). count (v .recs) names) (entered-is special) ∙ (unfold tabOf in tab-long log₂ classes₂ starts₂ maps₂ marks₂ led K₂ 0 (omega arith))
 
-                  joins : Joins 7 (getD (led .counts) 7 0) (getD (led .counts) 0 0) c marks₂
+                  joins : Joins 7 (getD (led .counts) 7 0) (getD (led .counts) 0 0) (tableOf log₂ classes₂ starts₂ (led .counts) 7) c marks₂
                   joins = record {
                     few = low;
                     few-functions = λ q. absurd (omega arith);
                     few-entries = λ q. few;
                     named = rw (record-is special, ← names-many) named;
                     plain = λ q. absurd (omega arith);
+                    apart = λ q. absurd (omega arith);
                     marked = λ q. absurd (omega arith);
                     flats = λ q. absurd (omega arith);
                     flats′ = λ q. rw (record-is special) reads;

@@ -197,7 +197,7 @@ pub fn import_function(
             ends: ends,
         };
     }
-    if import_rings(words, tags, n, log, classes, starts, ends, wide(f)) {
+    if import_rings(words, tags, n, log, classes, starts, maps, ends, wide(f)) {
         return Said {
             refusal: UNKNOWN_RING,
             value: 0,
@@ -275,7 +275,7 @@ pub fn map_function_handle(
             ends: ends,
         };
     }
-    if follow_rings(words, tags, n, log, classes, starts, ends, wide(f)) {
+    if follow_rings(words, tags, n, log, classes, starts, maps, ends, wide(f)) {
         return Said {
             refusal: UNKNOWN_RING,
             value: 0,
@@ -306,7 +306,7 @@ pub fn map_function_handle(
             ends: ends,
         };
     }
-    let v = before(known(words, tags, n, log, classes, starts, got, wide(f)));
+    let v = before(known(words, tags, n, log, classes, starts, maps, got, wide(f)));
     Said {
         refusal: 0,
         value: v,
@@ -397,7 +397,7 @@ pub fn finish_with_entries(
             ends: ends,
         };
     }
-    if entries_ring(words, tags, n, log, classes, starts, ends) {
+    if entries_ring(words, tags, n, log, classes, starts, maps, ends) {
         return Finished {
             refusal: UNKNOWN_RING,
             bytes: 0,

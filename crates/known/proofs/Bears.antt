@@ -97,6 +97,7 @@ module _ {log tags : List ℕ} {starts maps : List (List ℕ)} {marks : List ℕ
       tags-long = K .tags-long;
       starts-long = K .rows 0 (omega arith);
       within = λ k h. inside 0 k (omega arith) h;
+      apart = K .apart;
     };
     functions = record {
       few = K .few-functions;

@@ -31,7 +31,7 @@ use Rattle.state.specs.Flats.{functionOf}
 use Rattle.state.specs.Source.{modOf, srcOf, Source}
 use Rattle.state.specs.Held.{recAt, recsAt, recsOf, functionsOf, stOf, Readable}
 use Rattle.state.specs.declared.Ends.{Ends}
-use Rattle.import.proofs.Sources.{record-is, readable}
+use Rattle.import.proofs.Sources.{count-few, record-is, readable}
 use Rattle.known.specs.Bearing.{Knows}
 
 -- ---- every function has a name, and it is in the table
@@ -77,6 +77,9 @@ module _ (words tags : List ℕ) (n : ℕ) (src : Source words tags n) (five : n
 
       pub name-in : v - 1 < countAt 0 words
       name-in = let a = bears .1 in let b = word-is in let c = names-many in let d = some-name in omega arith
+
+      pub name-few : v - 1 < 512
+      name-few = let a = name-in in let b = count-few words tags n src 0 (omega arith) in omega arith
 
       module _ (from to : ℕ) (hb : from ≡ recordAt 0 (v - 1) words) (he : to ≡ recordEnd 0 (v - 1) words) where
         pub name-reads : Readable words tags kindBytes from to

@@ -2,3 +2,4 @@ pub mod Compares
 pub mod Lasts
 pub mod Bears
 pub mod Finds
+pub mod Firsts

@@ -1,24 +1,33 @@
 -- What a state's names and functions have to be for its functions to be found by name, and what finding one answers. Assumes nothing: these are definitions.
 use mathlib.Core.Path.{_≡_}
 use mathlib.Core.List.{List, []}
-use Prim.Native.Nat.{ℕ, suc, _+_, _≤_, _<_}
-use lib.ListN.{length, getD}
+use Prim.Native.Nat.{ℕ, suc, _+_, _-_, _≤_, _<_}
+use lib.ListN.{length, getD, take}
+use Rattle.model.specs.Outcome.{Cells}
 use Rattle.model.specs.Redirect.{nameWord}
+use Rattle.model.specs.References.{seat}
 use Rattle.model.specs.Bodies.{known}
 use Rattle.state.specs.Flats.{functionOf}
 use Rattle.state.specs.Source.{modOf}
-use Rattle.state.specs.Held.{recAt, stOf}
+use Rattle.state.specs.Held.{recAt, recsAt, Apart, stOf}
 use Rattle.state.specs.declared.Ends.{Ends}
 
--- records that start at the first n of these places lie in the log
+-- records that start at the first n of these places lie in the log, and no two are alike
 pub record Names (log tags starts : List ℕ) (n : ℕ) : Type 0 where
   pub few : n ≤ 512
   pub log-long : length log ≡ 16384
   pub tags-long : length tags ≡ 16384
   pub starts-long : length starts ≡ 512
   pub within : (k : ℕ) → k < n → getD starts k 0 + suc (getD log (getD starts k 0) 0) ≤ 16384
+  pub apart : Apart (recsAt log tags (take n starts))
 
--- and are functions, each with its name in its first word
+-- number m, less 1, is that of the first of them that is alike
+pub record Went (log tags starts : List ℕ) (n : ℕ) (c : Cells) (m : ℕ) : Type 0 where
+  pub some : 0 < m
+  pub few : m ≤ 512
+  pub first : m - 1 ≡ seat (recsAt log tags (take n starts)) c
+
+-- records that are functions, each with its name in its first word
 pub record Heads (log tags starts : List ℕ) (n : ℕ) : Type 0 where
   pub few : n ≤ 256
   pub starts-long : length starts ≡ 512

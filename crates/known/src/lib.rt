@@ -1,5 +1,6 @@
 // The derived function that bears the name of a function of the source. Numbers of names differ between source and derived image, so the text is sought
-// among the derived names; then the functions are gone through from the last on, since a later function of a name takes the place of an earlier one.
+// among the derived names, first where the name's own number went; then the functions are gone through from the last on, since a later function of a name
+// takes the place of an earlier one.
 use state::Ends;
 use state::alike_cell;
 use views::FUNCTIONS;
@@ -21,7 +22,7 @@ ghost use Rattle.state.specs.Flats.{functionOf};
 ghost use Rattle.state.specs.Source.{modOf, Source};
 ghost use Rattle.state.specs.Refers.{kindBytes};
 ghost use Rattle.state.specs.Held.{recAt, recsAt, Readable};
-ghost use Rattle.known.specs.Bearing.{Names, Heads, Bearing, Knows};
+ghost use Rattle.known.specs.Bearing.{Names, Went, Heads, Bearing, Knows};
 
 // Whether the record at s is the source's words from `at` to `end`.
 fn alike(
@@ -81,6 +82,54 @@ fn seek(
     n
 }
 
+// Whether name m - 1 is the source's words from `at` to `end`.
+fn went(
+    words: &[u32; 16384],
+    tags: &[u8; 16384],
+    log: &[u32; 16384],
+    classes: &[u8; 16384],
+    starts: &[u32; 512],
+    n: usize,
+    m: usize,
+    at: usize,
+    end: usize,
+) -> bool
+    requires { ⌜ Readable (now words) (now tags) kindBytes at end ⌝ }
+    requires { ⌜ Names (now log) (now classes) (now starts) n ⌝ }
+    ensures { λ r. ⌜ (r ≡ true → Went (now (log .entry)) (now (classes .entry)) (now (starts .entry)) n (between (now (tags .entry)) (now (words .entry)) at end) m) ⌝ }
+{
+    if m == 0 {
+        return false;
+    }
+    if n < m {
+        return false;
+    }
+    let s = wide(starts[m - 1]);
+    alike(words, tags, log, classes, at, end, s)
+}
+
+// The same as `seek`, with name m - 1 before all others.
+fn sought(
+    words: &[u32; 16384],
+    tags: &[u8; 16384],
+    log: &[u32; 16384],
+    classes: &[u8; 16384],
+    starts: &[u32; 512],
+    n: usize,
+    m: usize,
+    at: usize,
+    end: usize,
+) -> usize
+    requires { ⌜ Readable (now words) (now tags) kindBytes at end ⌝ }
+    requires { ⌜ Names (now log) (now classes) (now starts) n ⌝ }
+    ensures { λ r. ⌜ (r ≡ seat (recsAt (now (log .entry)) (now (classes .entry)) (take n (now (starts .entry)))) (between (now (tags .entry)) (now (words .entry)) at end)) × (r ≤ 512) ⌝ }
+{
+    if went(words, tags, log, classes, starts, n, m, at, end) {
+        return m - 1;
+    }
+    seek(words, tags, log, classes, starts, n, at, end)
+}
+
 // The last of n functions whose first word is w: its number plus 1, or 0.
 fn last(log: &[u32; 16384], classes: &[u8; 16384], starts: &[u32; 512], n: usize, w: u32) -> u32
     requires { ⌜ Heads (now log) (now classes) (now starts) n ⌝ }
@@ -106,6 +155,7 @@ pub fn known(
     log: &[u32; 16384],
     classes: &[u8; 16384],
     starts: &[[u32; 512]; 8],
+    maps: &[[u32; 512]; 6],
     ends: Ends,
     f: usize,
 ) -> u32
@@ -121,6 +171,7 @@ pub fn known(
     let end = record_end(words, tags, n, NAMES, k);
     let names = ends.counts[NAMES];
     let functions = ends.counts[FUNCTIONS];
-    let d = seek(words, tags, log, classes, &starts[NAMES], names, at, end);
+    let m = wide(maps[NAMES][k]);
+    let d = sought(words, tags, log, classes, &starts[NAMES], names, m, at, end);
     last(log, classes, &starts[FUNCTIONS], functions, (d + 1) as u32)
 }

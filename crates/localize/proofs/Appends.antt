@@ -117,13 +117,14 @@ module _ (words : List ℕ) (n o : ℕ) (ready : ℕ → St → Type 0) (follow 
       fits : 23 + 2 * r .pairs + (r .used + suc (length C)) ≤ 16384
       fits = B .room y .1
 
-      joins : Joins 6 (getD (r .counts) 6 0) (getD (r .counts) 0 0) C marks
+      joins : Joins 6 (getD (r .counts) 6 0) (getD (r .counts) 0 0) (tableOf log classes starts (r .counts) 6) C marks
       joins = record {
         few = let a = room in omega arith;
         few-functions = λ q. room;
         few-entries = λ q. absurd (omega arith);
         named = named;
         plain = λ q. absurd (omega arith);
+        apart = λ q. absurd (omega arith);
         marked = λ q. absurd (omega arith);
         flats = λ q. whole;
         flats′ = λ q. absurd (omega arith);

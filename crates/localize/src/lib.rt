@@ -313,7 +313,7 @@ pub fn follow(
     if room == 0 {
         return ends;
     }
-    if known(words, tags, n, log, classes, starts, ends, f) != 0 {
+    if known(words, tags, n, log, classes, starts, maps, ends, f) != 0 {
         return ends;
     }
     let got = append(

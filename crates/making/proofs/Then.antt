@@ -64,6 +64,7 @@ kept-beside K full et bt made = record {
   flats′ = K .flats′;
   named = K .named;
   plain = K .plain;
+  apart = K .apart;
   mapped = K .mapped;
   marked = K .marked;
 }

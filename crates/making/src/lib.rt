@@ -118,7 +118,7 @@ pub fn carried(
     ensures { λ r. ⌜ r ≡ through (wentOf (now (words .entry)) n (now (log .entry)) (now (classes .entry)) (now (starts .entry)) (now (maps .entry)) ends (now (em .entry))) s w ⌝ }
 {
     if kind_of(kinds, s) == FUNCTION {
-        return less(known(words, tags, n, log, classes, starts, ends, wide(w)));
+        return less(known(words, tags, n, log, classes, starts, maps, ends, wide(w)));
     }
     if s < EXPR {
         return state::carried(kinds, maps, s, w);

@@ -1,4 +1,4 @@
--- Whether words call one of a set, and whether the functions of entry points do. Assumes nothing.
+-- Whether words call a function of a kind, and whether a function or the functions of entry points do. Assumes nothing.
 use mathlib.Core.Path.{_≡_, refl, sym, ap, ap₂, _∙_}
 use mathlib.Core.Bool.{Bool, true, false, cond}
 use mathlib.Core.List.{List, [], _∷_, _++_}
@@ -10,22 +10,23 @@ use lib.ListN.{length, getD, drop}
 use lib.Seq.{drop-cons}
 use borrow.Author.Tests.{eqb-true, eq-eqb}
 use Rattle.model.specs.Table.{CALLEE}
-use Rattle.model.specs.Tree.{Entry}
+use Rattle.model.specs.Tree.{Function, Entry}
 use Rattle.model.specs.Module.{Module, countAt}
 use Rattle.model.specs.View.{recordAt, recordEnd}
 use Rattle.model.specs.FunctionView.{ENTRY-HEAD}
 use Rattle.model.specs.Carry.{Each, each-none, each-next}
 use Rattle.model.specs.Calls.{In, any}
 use Rattle.model.specs.Callees.{callees}
+use Rattle.model.specs.Redirect.{nothing, function}
 use Rattle.model.specs.Session.{calleesOf}
-use Rattle.laws.specs.FunctionViews.{each-at, looked-at, part-words, part-tags, taped-length, taped-entries, taped-entry}
+use Rattle.laws.specs.FunctionViews.{each-at, looked-at, part-words, part-tags, taped-length, taped-functions, taped-function, taped-entries, taped-entry}
 use Rattle.calls.specs.Marks.{holds, members}
 use Rattle.calls.proofs.Lists.{any-in, in-any}
 use Rattle.calls.proofs.Marks.{one-test, in-members, members-in}
 use Rattle.gather.specs.Gathering.{picks, picked}
 use Rattle.gather.proofs.Cells.{cells-function}
-use Rattle.gather.proofs.Marking.{picked-one, picked-none, picked-end, head-known, tail-known}
-use Rattle.gather.proofs.Numbered.{entries-known}
+use Rattle.gather.proofs.Marking.{picked-one, picked-none, picked-end}
+use Rattle.gather.proofs.Numbered.{numbered-known, entries-known}
 use Rattle.state.specs.Flats.{noEntry}
 use Rattle.state.specs.Source.{modOf, Source}
 use Rattle.rings.specs.Rings.{Scannable}
@@ -42,17 +43,23 @@ holds-is set k h =
     (λ e. let q = any-in (eqb k) (members set) e in rw (eqb-true k (q .0) (q .2)) (members-in set (q .0) (q .1) .1))
 
 -- ---- words
-pub record Asking (words tags : List ℕ) (at end : ℕ) (set : List ℕ) (j : ℕ) : Type 0 where
+pub record Asking (words tags : List ℕ) (at end m : ℕ) (p : ℕ → Bool) (j : ℕ) : Type 0 where
   pub high : j ≤ end
-  pub known : Each (λ x. x < 256) (picked words tags j end)
-  pub rest : any (picked words tags j end) (isOf set) ≡ any (picked words tags at end) (isOf set)
+  pub known : Each (λ x. x < m) (picked words tags j end)
+  pub rest : any (picked words tags j end) p ≡ any (picked words tags at end) p
 
-module _ {words tags : List ℕ} {at end : ℕ} (set : List ℕ) (p : Scannable words tags at end) where
-  pub begin : Asking words tags at end set at
-  begin = record { high = p .rising; known = p .known; rest = refl }
+head-of : {m x : ℕ} {xs : List ℕ} → Each (λ x. x < m) (x ∷ xs) → x < m
+head-of (each-next h hs) = h
 
-  module _ {j : ℕ} (s : Asking words tags at end set j) where
-    pub finish : end ≤ j → false ≡ any (picked words tags at end) (isOf set)
+tail-of : {m x : ℕ} {xs : List ℕ} → Each (λ x. x < m) (x ∷ xs) → Each (λ x. x < m) xs
+tail-of (each-next h hs) = hs
+
+module _ {words tags : List ℕ} {at end m : ℕ} (p : ℕ → Bool) (S : Scannable words tags at end m) where
+  pub begin : Asking words tags at end m p at
+  begin = record { high = S .rising; known = S .known; rest = refl }
+
+  module _ {j : ℕ} (s : Asking words tags at end m p j) where
+    pub finish : end ≤ j → false ≡ any (picked words tags at end) p
     unfolding any
     finish h =
         let q : j ≡ end = omega (arith, s .high) in
@@ -61,33 +68,57 @@ module _ {words tags : List ℕ} {at end : ℕ} (set : List ℕ) (p : Scannable 
 
     module _ (h : j < end) where
       a : end ≤ length words
-      a = omega (arith, p .within, p .words-long)
+      a = omega (arith, S .within, S .words-long)
 
       b : end ≤ length tags
-      b = omega (arith, p .within, p .tags-long)
+      b = omega (arith, S .within, S .tags-long)
 
-      pub pass : (getD tags j 0 ≡ CALLEE → ⊥) → Asking words tags at end set (j + 1)
+      pub pass : (getD tags j 0 ≡ CALLEE → ⊥) → Asking words tags at end m p (j + 1)
       pass e = let q = picked-none words tags j end h a b e in record { high = omega arith; known = rw q at (s .known); rest = rw q at (s .rest) }
 
       module _ (e : getD tags j 0 ≡ CALLEE) (w : ℕ) (we : w ≡ getD words j 0) where
-        pub may : w < 256
-        may = rw we (head-known (rw (picked-one words tags j end h a b e) at (s .known)))
+        pub may : w < m
+        may = rw we (head-of (rw (picked-one words tags j end h a b e) at (s .known)))
 
-        cut : cond (isOf set w) true (any (picked words tags (j + 1) end) (isOf set)) ≡ any (picked words tags at end) (isOf set)
+        cut : cond (p w) true (any (picked words tags (j + 1) end) p) ≡ any (picked words tags at end) p
         unfolding any
-        cut = rw we (sym (ap (λ l. any l (isOf set)) (picked-one words tags j end h a b e)) ∙ s .rest)
+        cut = rw we (sym (ap (λ l. any l p) (picked-one words tags j end h a b e)) ∙ s .rest)
 
-        module _ (r : Bool) (re : r ≡ holds set w) where
-          pub hit : r ≡ true → true ≡ any (picked words tags at end) (isOf set)
-          hit t = rw (sym (holds-is set w may) ∙ sym re ∙ t) at cut
+        pub hit : p w ≡ true → true ≡ any (picked words tags at end) p
+        hit t = rw t at cut
 
-          pub miss : r ≡ false → Asking words tags at end set (j + 1)
-          miss f =
-              record {
-                high = omega arith;
-                known = tail-known (rw (picked-one words tags j end h a b e) at (s .known));
-                rest = rw (sym (holds-is set w may) ∙ sym re ∙ f) at cut;
-              }
+        pub miss : p w ≡ false → Asking words tags at end m p (j + 1)
+        miss f = record { high = omega arith; known = tail-of (rw (picked-one words tags j end h a b e) at (s .known)); rest = rw f at cut }
+
+-- ---- functions
+module _ (words tags : List ℕ) (n : ℕ) (src : Source words tags n) (f : ℕ) (hf : f < countAt 6 words) (from to : ℕ) (hb : from ≡ recordAt 6 f words) (ht : to ≡ recordEnd 6 f words) where
+  abbrev fs : List Function
+  fs = modOf words n .functions
+
+  in-table : f < length fs
+  in-table = omega (arith, taped-functions (src .taped))
+
+  calls-are : picked words tags from to ≡ callees (function (modOf words n) f)
+  unfolding picked function
+  calls-are =
+      let s = taped-function (src .taped) f (getD fs f nothing) (looked-at fs f nothing in-table) in
+      rw (hb, ht) (ap₂ picks (part-tags (s .held) (s .part)) (part-words (s .held) (s .part)) ∙ cells-function (s .well))
+
+  pub calls-any : (p : ℕ → Bool) (r : Bool) → r ≡ any (picked words tags from to) p → r ≡ any (callees (function (modOf words n) f)) p
+  calls-any p r h = h ∙ ap (λ l. any l p) calls-are
+
+  pub function-scannable : Scannable words tags from to (countAt 6 words)
+  unfolding function
+  function-scannable =
+      let s = taped-function (src .taped) f (getD fs f nothing) (looked-at fs f nothing in-table) .part in
+      let k = each-at (numbered-known (modOf words n) (src .taped .well) (src .three)) f nothing in-table in
+      record {
+        words-long = src .taped .words-long;
+        tags-long = src .taped .tags-long;
+        rising = rw (hb, ht) (s .rising);
+        within = omega (arith, s .within, taped-length (src .taped), src .taped .small, ht);
+        known = rw (calls-are, taped-functions (src .taped)) k;
+      }
 
 -- ---- entry points
 any-append : (p : ℕ → Bool) (xs ys : List ℕ) → any (xs ++ ys) p ≡ cond (any xs p) true (any ys p)
@@ -144,7 +175,7 @@ module _ (words tags : List ℕ) (n : ℕ) (src : Source words tags n) (set : Li
           let s = taped-entry (src .taped) j here (looked-at es j noEntry inside) in
           rw (hf, ht) (ap₂ picks (part-tags (s .held) (s .part)) (part-words (s .held) (s .part)) ∙ cells-function (s .well))
 
-      pub scannable : Scannable words tags from to
+      pub scannable : Scannable words tags from to 256
       scannable =
           let s = taped-entry (src .taped) j here (looked-at es j noEntry inside) .part in
           let k = each-at (entries-known (modOf words n) (src .taped .well) (src .three)) j noEntry inside in

@@ -136,5 +136,13 @@ module _ (calls : ℕ → ℕ → Bool) (n : ℕ) (u : ℕ → Bool) where
       let b = part-is in
       a .1 ∙ same-part (a .0) (b .0) all (λ i k. rw (b .1) at (some-in i (rw (a .1) k))) (λ i k. rw (a .1) at (part-in i (rw (b .1) k))) ∙ sym (b .1)
 
+  -- what is left has u, and each calls one that is left
+  pub left-has : (i : ℕ) → In i (rounds calls n (keep (numbers n 0) u) .left) → u i ≡ true
+  left-has i k = keep-in u all (left-in n (keep all u) i k) .1
+
+  pub left-calls : (i : ℕ) → In i (rounds calls n (keep (numbers n 0) u) .left) → (j : ℕ) × In j (rounds calls n (keep (numbers n 0) u) .left) × (calls i j ≡ true)
+  unfolding Upheld
+  left-calls i k = any-in (calls i) part (left-upheld calls n (keep all u) (omega (arith, keep-few u all, length-numbers n 0)) i k)
+
   pub waiting-few : length (keep (rounds calls n (numbers n 0) .left) u) ≤ n
   waiting-few = omega (arith, keep-few u led, led-few)

@@ -1,6 +1,7 @@
 -- From sets of marks to the model: unknown names, the stuck functions, and what meets one of them. Assumes nothing.
 use mathlib.Core.Path.{_≡_, refl, sym, ap, _∙_}
-use mathlib.Core.Bool.{Bool, true, false, cond}
+use mathlib.Core.Bool.{Bool, true, false, cond, false≢true}
+use mathlib.Core.Logic.{_⊎_, inl, inr}
 use mathlib.Core.List.{List, [], _∷_}
 use Prim.Native.Nat.{ℕ, _≤_, _<_}
 use native.Mathlib.Omega.{arith}
@@ -8,16 +9,17 @@ use lib.Dec.{eqb}
 use lib.ListN.{length, getD}
 use borrow.Author.Tests.{eqb-true, eq-eqb, ne-eqb}
 use Rattle.model.specs.Tree.{Function}
-use Rattle.model.specs.Module.{countAt}
-use Rattle.model.specs.Calls.{numbers, any, keep, Rounds, rounds}
+use Rattle.model.specs.Module.{Module, countAt}
+use Rattle.model.specs.Calls.{In, here, later, numbers, any, keep, Rounds, rounds}
 use Rattle.model.specs.Callees.{callees, calleesAt, calls}
 use Rattle.model.specs.Redirect.{nothing, function}
+use Rattle.model.specs.Imports.{St}
 use Rattle.model.specs.Bodies.{known}
 use Rattle.model.specs.Session.{unknown, stuck, ringing}
 use Rattle.laws.specs.FunctionViews.{looked-at, taped-functions}
 use Rattle.calls.specs.Marks.{holds, members, marked, Firsts, Below}
 use Rattle.calls.specs.Placing.{Leaves}
-use Rattle.calls.proofs.Lists.{any-in, in-any, numbers-in, keep-in, keep-ext, length-numbers}
+use Rattle.calls.proofs.Lists.{either, any-in, in-any, numbers-in, keep-in, keep-ext, length-numbers}
 use Rattle.calls.proofs.Marks.{one-test, firsts-below, firsts-members, members-in}
 use Rattle.gather.specs.Gathering.{Known, Gathered}
 use Rattle.gather.proofs.Numbered.{passed-known}
@@ -27,9 +29,9 @@ use Rattle.state.specs.Held.{stOf}
 use Rattle.state.specs.declared.Ends.{Ends}
 use Rattle.import.proofs.Sources.{mod-is}
 use Rattle.known.specs.Bearing.{Knows}
-use Rattle.rings.specs.Rings.{Unknowns, Stuck, Rings}
+use Rattle.rings.specs.Rings.{unknownBy, Unknowns, Stuck, Rings}
 use Rattle.rings.proofs.Sieving.{Sieve, sieved, still-low}
-use Rattle.rings.proofs.Meeting.{left-meet, waiting-few}
+use Rattle.rings.proofs.Meeting.{left-meet, waiting-few, left-has, left-calls}
 use Rattle.rings.proofs.Asking.{isOf, holds-is}
 
 -- ---- what gathering asks
@@ -49,7 +51,7 @@ below-at l h b = rw h b
 module _ (words : List ℕ) (n : ℕ) (log classes : List ℕ) (starts : List (List ℕ)) (e : Ends) where
   -- ---- unknown names, with any maps and special types
   abbrev pub isUnknown : ℕ → Bool
-  isUnknown = unknown (modOf words n) (stOf words log classes starts [] [] e)
+  isUnknown = unknownBy words n log classes starts e
 
   same-unknown : (maps : List (List ℕ)) (special : List ℕ) (f : ℕ) → isUnknown f ≡ unknown (modOf words n) (stOf words log classes starts maps special e) f
   unfolding unknown known stOf
@@ -72,6 +74,62 @@ module _ (words : List ℕ) (n : ℕ) (log classes : List ℕ) (starts : List (L
         low = rw (← hc) (still-low isUnknown c began small low′ set i s h);
         is = λ maps special. sieved isUnknown c began small low′ set i s h ∙ keep-ext isUnknown (unknown (modOf words n) (stOf words log classes starts maps special e)) (members began) (λ f k. same-unknown maps special f);
       }
+
+  -- ---- no name is unknown: no ring
+  module _ (tags : List ℕ) (src : Source words tags n) (maps : List (List ℕ)) (special : List ℕ) where
+    abbrev M : Module
+    M = modOf words n
+
+    abbrev S : St
+    S = stOf words log classes starts maps special e
+
+    stuck-unknown : (i : ℕ) → In i (stuck M S) → isUnknown i ≡ true
+    unfolding stuck
+    stuck-unknown i k = same-unknown maps special i ∙ left-has (calls M) (length (M .functions)) (unknown M S) i k
+
+    -- whoever is stuck calls one of unknown name
+    stuck-leads : (f : ℕ) → f < countAt 6 words → In f (stuck M S) → any (callees (function M f)) isUnknown ≡ true
+    unfolding stuck calls calleesAt function
+    stuck-leads f hf k =
+        let q = left-calls (calls M) (length (M .functions)) (unknown M S) f k in
+        let l = looked-at (M .functions) f nothing (omega (arith, taped-functions (src .taped))) in
+        let r = any-in (λ k. eqb (q .0) k) (callees (getD (M .functions) f nothing)) (sym (ap (λ x. any (calleesAt x) (λ k. eqb (q .0) k)) l) ∙ q .2) in
+        in-any isUnknown (r .1) (rw (sym (eqb-true (q .0) (r .0) (r .2))) (stuck-unknown (q .0) (q .1)))
+
+    none-of : (js : List ℕ) → ((i : ℕ) → In i js → In i (stuck M S) → ⊥) → false ≡ ringing js M S
+    unfolding ringing
+    none-of js h = go (either (any js (λ i. any (stuck M S) (eqb i))))
+      where
+        go : (any js (λ i. any (stuck M S) (eqb i)) ≡ true) ⊎ (any js (λ i. any (stuck M S) (eqb i)) ≡ false) → false ≡ any js (λ i. any (stuck M S) (eqb i))
+        go (inl t) =
+            let a = any-in (λ i. any (stuck M S) (eqb i)) js t in
+            let b = any-in (eqb (a .0)) (stuck M S) (a .2) in
+            absurd (h (a .0) (a .1) (rw (eqb-true (a .0) (b .0) (b .2)) (b .1)))
+        go (inr t) = sym t
+
+  module _ (tags : List ℕ) (src : Source words tags n) (f : ℕ) (hf : f < countAt 6 words) where
+    pub known-free : isUnknown f ≡ false → Rings (f ∷ []) words n log classes starts e false
+    known-free h = record { is = λ maps special. none-of tags src maps special (f ∷ []) (only maps special) }
+      where
+        only : (maps : List (List ℕ)) (special : List ℕ) (i : ℕ) → In i (f ∷ []) → In i (stuck (modOf words n) (stOf words log classes starts maps special e)) → ⊥
+        only maps special i here k = false≢true (sym h ∙ stuck-unknown tags src maps special f k)
+
+    module _ (b : Bool) (hb : b ≡ any (callees (function (modOf words n) f)) isUnknown) (no : b ≡ false) where
+      free-itself : (maps : List (List ℕ)) (special : List ℕ) → In f (stuck (modOf words n) (stOf words log classes starts maps special e)) → ⊥
+      free-itself maps special k = false≢true (sym no ∙ hb ∙ stuck-leads tags src maps special f hf k)
+
+      pub leads-not : Rings (f ∷ []) words n log classes starts e false
+      leads-not = record { is = λ maps special. none-of tags src maps special (f ∷ []) (only maps special) }
+        where
+          only : (maps : List (List ℕ)) (special : List ℕ) (i : ℕ) → In i (f ∷ []) → In i (stuck (modOf words n) (stOf words log classes starts maps special e)) → ⊥
+          only maps special i here k = free-itself maps special k
+
+      pub calls-not : Rings (f ∷ callees (function (modOf words n) f)) words n log classes starts e false
+      calls-not = record { is = λ maps special. none-of tags src maps special (f ∷ callees (function (modOf words n) f)) (only maps special) }
+        where
+          only : (maps : List (List ℕ)) (special : List ℕ) (i : ℕ) → In i (f ∷ callees (function (modOf words n) f)) → In i (stuck (modOf words n) (stOf words log classes starts maps special e)) → ⊥
+          only maps special i here k = free-itself maps special k
+          only maps special i (later m) k = false≢true (sym no ∙ hb ∙ in-any isUnknown m (stuck-unknown tags src maps special i k))
 
   module _ (tags : List ℕ) (src : Source words tags n) (cs : List ℕ) (g : Gathered words tags n cs) where
     -- ---- the stuck ones

@@ -2,7 +2,7 @@
 -- special types, so each holds with all of them. Assumes nothing: these are definitions.
 use mathlib.Core.Path.{_≡_}
 use mathlib.Core.Bool.{Bool}
-use mathlib.Core.List.{List}
+use mathlib.Core.List.{List, []}
 use Prim.Native.Nat.{ℕ, _≤_, _<_}
 use lib.ListN.{length}
 use Rattle.model.specs.Module.{countAt}
@@ -14,6 +14,10 @@ use Rattle.gather.specs.Gathering.{picked}
 use Rattle.state.specs.Source.{modOf}
 use Rattle.state.specs.Held.{stOf}
 use Rattle.state.specs.declared.Ends.{Ends}
+
+-- unknown names, with no maps and no special types
+abbrev pub unknownBy : List ℕ → ℕ → List ℕ → List ℕ → List (List ℕ) → Ends → ℕ → Bool
+unknownBy words n log tags starts e = unknown (modOf words n) (stOf words log tags starts [] [] e)
 
 -- those of a set whose names are unknown
 pub record Unknowns (words : List ℕ) (n : ℕ) (log tags : List ℕ) (starts : List (List ℕ)) (e : Ends) (began set : List ℕ) : Type 0 where
@@ -31,10 +35,10 @@ pub record Stuck (words : List ℕ) (n : ℕ) (log tags : List ℕ) (starts : Li
 pub record Rings (js : List ℕ) (words : List ℕ) (n : ℕ) (log tags : List ℕ) (starts : List (List ℕ)) (e : Ends) (r : Bool) : Type 0 where
   pub is : (maps : List (List ℕ)) (special : List ℕ) → r ≡ ringing js (modOf words n) (stOf words log tags starts maps special e)
 
--- words and tape are arrays, and what is called between two places are functions
-pub record Scannable (words tags : List ℕ) (at end : ℕ) : Type 0 where
+-- words and tape are arrays, and what is called between two places is among the first m functions
+pub record Scannable (words tags : List ℕ) (at end m : ℕ) : Type 0 where
   pub words-long : length words ≡ 16384
   pub tags-long : length tags ≡ 16384
   pub rising : at ≤ end
   pub within : end ≤ 16384
-  pub known : Each (λ j. j < 256) (picked words tags at end)
+  pub known : Each (λ j. j < m) (picked words tags at end)

@@ -1,6 +1,7 @@
 // Refusal 22, asked before anything changes: an import would follow calls, through functions whose names are unknown, back to one of those. The functions
 // from which it would are those that no round places where only functions of unknown name wait. They are among those that no round places where all wait,
-// so names are looked up for these alone: for none where no calls form a ring.
+// so names are looked up for these alone: for none where no calls form a ring. Before that the function's own calls are looked at: where it calls none of
+// unknown name there is no such ring.
 use calls::clear;
 use calls::first;
 use calls::has;
@@ -16,6 +17,7 @@ use views::ENTRIES;
 use views::FUNCTIONS;
 use views::count;
 use views::entry_function;
+use views::record_at;
 use views::record_end;
 use words::wide;
 ghost use mathlib.Core.Path.{_≡_};
@@ -34,7 +36,7 @@ ghost use Rattle.calls.specs.Marks.{members, Below};
 ghost use Rattle.gather.specs.Gathering.{picked, Gathered};
 ghost use Rattle.state.specs.Source.{modOf, Source};
 ghost use Rattle.known.specs.Bearing.{Bearing};
-ghost use Rattle.rings.specs.Rings.{Unknowns, Stuck, Rings, Scannable};
+ghost use Rattle.rings.specs.Rings.{unknownBy, Unknowns, Stuck, Rings, Scannable};
 
 // Those of a set whose names are unknown.
 fn unknown(
@@ -44,6 +46,7 @@ fn unknown(
     log: &[u32; 16384],
     classes: &[u8; 16384],
     starts: &[[u32; 512]; 8],
+    maps: &[[u32; 512]; 6],
     ends: Ends,
     began: [u64; 4],
 ) -> [u64; 4]
@@ -60,7 +63,7 @@ fn unknown(
         let f = i;
         i += 1;
         if has(&began, f) {
-            if known(words, tags, n, log, classes, starts, ends, f) != 0 {
+            if known(words, tags, n, log, classes, starts, maps, ends, f) != 0 {
                 leave(&mut set, f);
             }
         }
@@ -76,6 +79,7 @@ pub fn stuck(
     log: &[u32; 16384],
     classes: &[u8; 16384],
     starts: &[[u32; 512]; 8],
+    maps: &[[u32; 512]; 6],
     ends: Ends,
     callees: &[u64; 1024],
 ) -> [u64; 4]
@@ -88,7 +92,7 @@ pub fn stuck(
     let functions = count(words, FUNCTIONS);
     let all = first(functions);
     let led = left(callees, functions, all);
-    let waiting = unknown(words, tags, n, log, classes, starts, ends, led);
+    let waiting = unknown(words, tags, n, log, classes, starts, maps, ends, led);
     left(callees, functions, waiting)
 }
 
@@ -100,7 +104,7 @@ fn calls_one(
     end: usize,
     set: &[u64; 4],
 ) -> bool
-    requires { ⌜ Scannable (now words) (now tags) at end ⌝ }
+    requires { ⌜ Scannable (now words) (now tags) at end 256 ⌝ }
     ensures { λ r. ⌜ r ≡ any (picked (now (words .entry)) (now (tags .entry)) at end) (λ i. any (members (now (set .entry))) (eqb i)) ⌝ }
 {
     let mut j = at;
@@ -135,6 +139,62 @@ fn entries_call(words: &[u32; 16384], tags: &[u8; 16384], n: usize, set: &[u64; 
     false
 }
 
+// Whether the words from `at` to `end` call a function of unknown name.
+fn calls_unknown(
+    words: &[u32; 16384],
+    tags: &[u8; 16384],
+    n: usize,
+    log: &[u32; 16384],
+    classes: &[u8; 16384],
+    starts: &[[u32; 512]; 8],
+    maps: &[[u32; 512]; 6],
+    ends: Ends,
+    at: usize,
+    end: usize,
+) -> bool
+    requires { ⌜ Source (now words) (now tags) n ⌝ }
+    requires { ⌜ named (modOf (now words) n) ≡ true ⌝ }
+    requires { ⌜ Bearing (now log) (now classes) (now starts) ends ⌝ }
+    requires { ⌜ Scannable (now words) (now tags) at end (countAt 6 (now words)) ⌝ }
+    ensures { λ r. ⌜ r ≡ any (picked (now (words .entry)) (now (tags .entry)) at end) (unknownBy (now (words .entry)) n (now (log .entry)) (now (classes .entry)) (now (starts .entry)) ends) ⌝ }
+{
+    let mut j = at;
+    while j < end {
+        let k = j;
+        j += 1;
+        if tags[k] == CALLEE {
+            let f = wide(words[k]);
+            if known(words, tags, n, log, classes, starts, maps, ends, f) == 0 {
+                return true;
+            }
+        }
+    }
+    false
+}
+
+// Whether function f calls one of unknown name: where not, neither it nor one that it calls is stuck.
+fn leads(
+    words: &[u32; 16384],
+    tags: &[u8; 16384],
+    n: usize,
+    log: &[u32; 16384],
+    classes: &[u8; 16384],
+    starts: &[[u32; 512]; 8],
+    maps: &[[u32; 512]; 6],
+    ends: Ends,
+    f: usize,
+) -> bool
+    requires { ⌜ Source (now words) (now tags) n ⌝ }
+    requires { ⌜ named (modOf (now words) n) ≡ true ⌝ }
+    requires { ⌜ Bearing (now log) (now classes) (now starts) ends ⌝ }
+    requires { ⌜ f < countAt 6 (now words) ⌝ }
+    ensures { λ r. ⌜ r ≡ any (calleesOf (function (modOf (now (words .entry)) n) f)) (unknownBy (now (words .entry)) n (now (log .entry)) (now (classes .entry)) (now (starts .entry)) ends) ⌝ }
+{
+    let at = record_at(words, tags, n, FUNCTIONS, f);
+    let end = record_end(words, tags, n, FUNCTIONS, f);
+    calls_unknown(words, tags, n, log, classes, starts, maps, ends, at, end)
+}
+
 // Refusal 22 of import_function: function f, or one that it calls, is stuck.
 pub fn import_rings(
     words: &[u32; 16384],
@@ -143,6 +203,7 @@ pub fn import_rings(
     log: &[u32; 16384],
     classes: &[u8; 16384],
     starts: &[[u32; 512]; 8],
+    maps: &[[u32; 512]; 6],
     ends: Ends,
     f: usize,
 ) -> bool
@@ -152,9 +213,12 @@ pub fn import_rings(
     requires { ⌜ f < countAt 6 (now words) ⌝ }
     ensures { λ r. ⌜ Rings (f ∷ calleesOf (function (modOf (now (words .entry)) n) f)) (now (words .entry)) n (now (log .entry)) (now (classes .entry)) (now (starts .entry)) ends r ⌝ }
 {
+    if !leads(words, tags, n, log, classes, starts, maps, ends, f) {
+        return false;
+    }
     let mut callees = clear();
     gather(words, tags, n, &mut callees);
-    let set = stuck(words, tags, n, log, classes, starts, ends, &callees);
+    let set = stuck(words, tags, n, log, classes, starts, maps, ends, &callees);
     if has(&set, f) {
         return true;
     }
@@ -169,6 +233,7 @@ pub fn follow_rings(
     log: &[u32; 16384],
     classes: &[u8; 16384],
     starts: &[[u32; 512]; 8],
+    maps: &[[u32; 512]; 6],
     ends: Ends,
     f: usize,
 ) -> bool
@@ -178,9 +243,15 @@ pub fn follow_rings(
     requires { ⌜ f < countAt 6 (now words) ⌝ }
     ensures { λ r. ⌜ Rings (f ∷ []) (now (words .entry)) n (now (log .entry)) (now (classes .entry)) (now (starts .entry)) ends r ⌝ }
 {
+    if known(words, tags, n, log, classes, starts, maps, ends, f) != 0 {
+        return false;
+    }
+    if !leads(words, tags, n, log, classes, starts, maps, ends, f) {
+        return false;
+    }
     let mut callees = clear();
     gather(words, tags, n, &mut callees);
-    let set = stuck(words, tags, n, log, classes, starts, ends, &callees);
+    let set = stuck(words, tags, n, log, classes, starts, maps, ends, &callees);
     has(&set, f)
 }
 
@@ -192,6 +263,7 @@ pub fn entries_ring(
     log: &[u32; 16384],
     classes: &[u8; 16384],
     starts: &[[u32; 512]; 8],
+    maps: &[[u32; 512]; 6],
     ends: Ends,
 ) -> bool
     requires { ⌜ Source (now words) (now tags) n ⌝ }
@@ -201,6 +273,6 @@ pub fn entries_ring(
 {
     let mut callees = clear();
     gather(words, tags, n, &mut callees);
-    let set = stuck(words, tags, n, log, classes, starts, ends, &callees);
+    let set = stuck(words, tags, n, log, classes, starts, maps, ends, &callees);
     entries_call(words, tags, n, &set)
 }

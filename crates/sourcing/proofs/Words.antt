@@ -130,6 +130,7 @@ kept-paired log tags starts maps marks e K h fits r er = rw er (record {
   flats′ = K .flats′;
   named = K .named;
   plain = K .plain;
+  apart = K .apart;
   mapped = K .mapped;
   marked = K .marked;
 })

@@ -66,6 +66,7 @@ module _ (log tags : List ℕ) (starts : List (List ℕ)) (marks : List ℕ) (hl
     flats′ = rw (table-none 7);
     named = λ t k h l. let z = zeros 8 t in absurd (omega arith);
     plain = λ k l. absurd (omega arith);
+    apart = rw (table-none 0) (λ k l. absurd (omega arith));
     mapped = λ t k h. rw (rows-at (replicate 512 0) 6 t h, zeros 512 k) (omega arith);
     marked = λ t k h l. let z = zeros 8 t in absurd (omega arith);
   }
@@ -109,6 +110,7 @@ kept-forgotten log tags starts maps marks e K = record {
   flats′ = K .flats′;
   named = K .named;
   plain = K .plain;
+  apart = K .apart;
   mapped = λ t k h. rw (rows-at (replicate 512 0) 6 t h, zeros 512 k) (omega arith);
   marked = K .marked;
 }

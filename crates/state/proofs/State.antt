@@ -1,5 +1,5 @@
 -- The arrays as the model's state: one map more, one record more, and what settling a record does. Assumes nothing.
-use mathlib.Core.Path.{_≡_, refl, sym, ap, ap₂, _∙_}
+use mathlib.Core.Path.{_≡_, refl, sym, ap, ap₂, subst, _∙_}
 use mathlib.Core.Logic.{_⊎_, inl, inr, ⊎-elim}
 use mathlib.Core.Bool.{Bool, true, false, cond, false≢true}
 use mathlib.Core.List.{List, [], _∷_, _++_, map}
@@ -8,8 +8,8 @@ use native.Mathlib.Nat.{not-suc-le-zero, le-refl}
 use native.Mathlib.Numerals.{add-one}
 use native.Mathlib.Omega.{arith}
 use lib.Dec.{eqb}
-use lib.ListN.{length, getD, set, take, drop, length-append, length-set, length-map}
-use lib.Seq.{slice, sets, sets-eq, length-sets, take-suc-set, take-set-le, take-set-lt, getD-set-same, getD-set-other, length-take-le, getD-take, take-take, take-at, drop-at}
+use lib.ListN.{length, getD, set, take, drop, length-append, length-set, length-map, List·getD-append}
+use lib.Seq.{slice, sets, sets-eq, length-sets, take-suc-set, take-set-le, take-set-lt, getD-set-same, getD-set-other, length-take-le, getD-take, getD-append-seam, take-take, take-at, drop-at}
 use borrow.Author.Tests.{eqb-true, eqb-false}
 use Rattle.model.specs.Outcome.{Cells, class, word}
 use Rattle.model.specs.Module.{Special, countAt}
@@ -30,7 +30,7 @@ use Rattle.laws.specs.Quiet.{each-map}
 use Rattle.state.specs.Refers.{codeP, tabOf, wentR}
 use Rattle.state.specs.Flats.{functionOf, entryOf, pairsAt, specialOf}
 use Rattle.state.specs.Marks.{MARKS, SEVERAL, hashR, placeR, Shows, alone, several, Marked, Marks, Left}
-use Rattle.state.specs.Held.{row, cell, put, recAt, recsAt, tableOf, recsOf, functionsOf, entriesOf, mapsOf, stOf, sizeR, sizeS, sizesOf, wordsOf, Over, long, many, Named, Nameless, Kept, Same, Beside, Lands, Written, carriedBy}
+use Rattle.state.specs.Held.{row, cell, put, recAt, recsAt, tableOf, recsOf, functionsOf, entriesOf, mapsOf, stOf, sizeR, sizeS, sizesOf, wordsOf, Over, long, many, Named, Nameless, Apart, Kept, Same, Beside, Lands, Written, carriedBy}
 use Rattle.state.specs.declared.Ends.{Ends}
 use Rattle.state.proofs.Passes.{length-between}
 
@@ -154,6 +154,12 @@ unfolding recsAt
 recs-long log tags [] = refl
 recs-long log tags (s ∷ ss) = ap suc (recs-long log tags ss)
 
+pub recs-at : (log tags ss : List ℕ) (k : ℕ) → k < length ss → getD (recsAt log tags ss) k [] ≡ recAt log tags (getD ss k 0)
+unfolding recsAt
+recs-at log tags [] k h = absurd (omega arith)
+recs-at log tags (s ∷ ss) zero h = refl
+recs-at log tags (s ∷ ss) (suc k) h = recs-at log tags ss k (omega arith)
+
 -- ---- sizes
 pub sizeR-append : (cs : List Cells) (c : Cells) → sizeR (cs ++ (c ∷ [])) ≡ sizeR cs + suc (length c)
 unfolding sizeR
@@ -202,16 +208,49 @@ merged-new (d ∷ ds) c h = go (alike d c) h (merged-new ds c)
     go false l ih = ap (d ∷_) (ih (omega arith))
 
 -- spans do not count
-alike-shift : (d c : Cells) (o : ℕ) (u : Bool) → alike d (shift c o u) ≡ alike d c
-alike-shift d c o u =
-    bool-same (alike d (shift c o u)) (alike d c)
-    (λ e. alike-self d c (alike-is d (shift c o u) e ∙ bare-shift c o u))
-    (λ e. alike-self d (shift c o u) (alike-is d c e ∙ sym (bare-shift c o u)))
+alike-same : (d a c : Cells) → bare a ≡ bare c → alike d a ≡ alike d c
+alike-same d a c q = bool-same (alike d a) (alike d c) (λ e. alike-self d c (alike-is d a e ∙ q)) (λ e. alike-self d a (alike-is d c e ∙ sym q))
+
+seat-same : (ds : List Cells) (a c : Cells) → bare a ≡ bare c → seat ds a ≡ seat ds c
+unfolding seat
+seat-same [] a c q = refl
+seat-same (d ∷ ds) a c q = ap₂ (λ (b : Bool) (n : ℕ). elim b [ true ↦ 0 | false ↦ suc n ]) (alike-same d a c q) (seat-same ds a c q)
 
 pub seat-shift : (ds : List Cells) (c : Cells) (o : ℕ) (u : Bool) → seat ds (shift c o u) ≡ seat ds c
+seat-shift ds c o u = seat-same ds (shift c o u) c (bare-shift c o u)
+
+-- ---- records of which no two are alike
+-- the one that is alike is the first
+pub apart-first : (ds : List Cells) (c : Cells) (j : ℕ) → Apart ds → j < length ds → alike (getD ds j []) c ≡ true → j ≡ seat ds c
+apart-first ds c j A h a = sym (A j h) ∙ seat-same ds (getD ds j []) c (alike-is (getD ds j []) c a)
+
+seat-before : (ds : List Cells) (c x : Cells) → seat ds x < length ds → seat (ds ++ (c ∷ [])) x ≡ seat ds x
 unfolding seat
-seat-shift [] c o u = refl
-seat-shift (d ∷ ds) c o u = ap₂ (λ (b : Bool) (n : ℕ). elim b [ true ↦ 0 | false ↦ suc n ]) (alike-shift d c o u) (seat-shift ds c o u)
+seat-before [] c x h = absurd (not-suc-le-zero h)
+seat-before (d ∷ ds) c x h = go (alike d x) h (seat-before ds c x)
+  where
+    go : (b : Bool) → elim b [ true ↦ 0 | false ↦ suc (seat ds x) ] < suc (length ds) → (seat ds x < length ds → seat (ds ++ (c ∷ [])) x ≡ seat ds x)
+        → _≡_ {A = ℕ} (elim b [ true ↦ 0 | false ↦ suc (seat (ds ++ (c ∷ [])) x) ]) (elim b [ true ↦ 0 | false ↦ suc (seat ds x) ])
+    go true l r = refl
+    go false l r = ap suc (r (omega arith))
+
+seat-behind : (ds : List Cells) (c : Cells) → seat ds c ≡ length ds → seat (ds ++ (c ∷ [])) c ≡ length ds
+unfolding seat
+seat-behind [] c h = rw (seat, alike-self c c refl)
+seat-behind (d ∷ ds) c h = go (alike d c) h (seat-behind ds c)
+  where
+    go : (b : Bool) → elim b [ true ↦ 0 | false ↦ suc (seat ds c) ] ≡ suc (length ds) → (seat ds c ≡ length ds → seat (ds ++ (c ∷ [])) c ≡ length ds)
+        → elim b [ true ↦ 0 | false ↦ suc (seat (ds ++ (c ∷ [])) c) ] ≡ suc (length ds)
+    go true l r = absurd (omega arith)
+    go false l r = ap suc (r (omega arith))
+
+apart-more : (ds : List Cells) (c : Cells) → Apart ds → seat ds c ≡ length ds → Apart (ds ++ (c ∷ []))
+apart-more ds c A n k h =
+    let l = length-append ds (c ∷ []) in
+    ⊎-elim
+    (λ (q : k ≡ length ds). rw (q, getD-append-seam ds c [] []) (seat-behind ds c n))
+    (λ (ne : k ≡ length ds → ⊥). let z : k < length ds = omega arith in let a = A k z in rw (List·getD-append ds (c ∷ []) [] k z) (seat-before ds c (getD ds k []) (omega arith) ∙ a))
+    (same-or k (length ds))
 
 -- ---- what is written behind the end
 take-sets : (vs l : List ℕ) (n i : ℕ) → n ≤ i → take n (sets l i vs) ≡ take n l
@@ -327,18 +366,12 @@ module _ (log tags : List ℕ) (starts maps : List (List ℕ)) (marks : List ℕ
       let f = K .few t ht in
       recs-long log tags (take (getD (e .counts) t 0) (row starts t)) ∙ length-take-le (getD (e .counts) t 0) (row starts t) (omega arith)
 
-  recs-at : (ss : List ℕ) (k : ℕ) → k < length ss → getD (recsAt log tags ss) k [] ≡ recAt log tags (getD ss k 0)
-  unfolding recsAt
-  recs-at [] k h = absurd (omega arith)
-  recs-at (s ∷ ss) zero h = refl
-  recs-at (s ∷ ss) (suc k) h = recs-at ss k (omega arith)
-
   pub table-at : (t k : ℕ) → t < 8 → k < getD (e .counts) t 0 → getD (tableOf log tags starts (e .counts) t) k [] ≡ recAt log tags (cell starts t k)
   table-at t k ht hk =
       let r = K .rows t ht in
       let f = K .few t ht in
       let l = length-take-le (getD (e .counts) t 0) (row starts t) (omega arith) in
-      recs-at (take (getD (e .counts) t 0) (row starts t)) k (omega arith) ∙ rw (getD-take (getD (e .counts) t 0) (row starts t) k 0 hk)
+      recs-at log tags (take (getD (e .counts) t 0) (row starts t)) k (omega arith) ∙ rw (getD-take (getD (e .counts) t 0) (row starts t) k 0 hk)
 
   module _ (t : ℕ) (ht : t < 6) where
     pub tab-is : at (tabOf t) (recsOf log tags starts (e .counts)) ≡ tableOf log tags starts (e .counts) t
@@ -438,6 +471,7 @@ module _ (log tags log′ tags′ : List ℕ) (starts maps : List (List ℕ)) (m
     flats′ = rw (table-stays 7 (omega arith)) (K .flats′);
     named = λ t k ht hk. rw (rec-stays t k ht hk) (K .named t k ht hk);
     plain = λ k hk. rw (rec-stays 0 k (omega arith) hk) (K .plain k hk);
+    apart = rw (table-stays 0 (omega arith)) (K .apart);
     mapped = K .mapped;
     marked = λ t k ht hk. rw (rec-stays t k (omega arith) hk) (M .others _ _ (K .marked t k ht hk));
   }
@@ -466,6 +500,7 @@ kept-point log tags starts maps marks e K t i v ht hi hv =
       flats′ = K .flats′;
       named = K .named;
       plain = K .plain;
+      apart = K .apart;
       mapped = point;
       marked = K .marked;
     }
@@ -483,13 +518,14 @@ kept-point log tags starts maps marks e K t i v ht hi hv =
         (same-or u t)
 
 -- ---- one record more, in any row
--- what a record has to be to stand in row t
-pub record Joins (t n names : ℕ) (c : Cells) (marks : List ℕ) : Type 0 where
+-- what a record has to be to stand in row t, behind its records ds
+pub record Joins (t n names : ℕ) (ds : List Cells) (c : Cells) (marks : List ℕ) : Type 0 where
   pub few : n < 512
   pub few-functions : t ≡ 6 → n < 256
   pub few-entries : t ≡ 7 → n < 16
   pub named : Named names c
   pub plain : t ≡ 0 → Nameless c
+  pub apart : t ≡ 0 → seat ds c ≡ length ds
   pub marked : t < 6 → Marked marks t n c
   pub flats : t ≡ 6 → flat (functionOf c) ≡ c
   pub flats′ : t ≡ 7 → flatEntry (entryOf c) ≡ c
@@ -558,7 +594,7 @@ module _ (log tags log′ tags′ : List ℕ) (starts maps : List (List ℕ)) (m
       (λ (ne : m ≡ t → ⊥). let a = sizes-more m (omega arith) (omega arith) in let b = ap sizeR (table-same m (omega arith) ne) in omega arith)
       (same-or m t)
 
-  module _ (J : Joins t (getD (e .counts) t 0) (getD (e .counts) 0 0) c marks′) where
+  module _ (J : Joins t (getD (e .counts) t 0) (getD (e .counts) 0 0) (tableOf log tags starts (e .counts) t) c marks′) where
     count-up : (u : ℕ) → u < 8 → getD (e .counts) u 0 ≤ getD counts⁺ u 0
     count-up u hu =
         let b = K .counts-eight in
@@ -602,6 +638,13 @@ module _ (log tags log′ tags′ : List ℕ) (starts maps : List (List ℕ)) (m
         (λ (ne : 7 ≡ t → ⊥). rw (table-same 7 (omega arith) ne) (K .flats′))
         (same-or 7 t)
 
+    apart-new : Apart (tableOf log′ tags′ starts⁺ counts⁺ 0)
+    apart-new = ⊎-elim
+        (λ (q : 0 ≡ t). subst (λ (u : ℕ). Apart (tableOf log′ tags′ starts⁺ counts⁺ u)) (sym q)
+        (rw table-more (apart-more (tableOf log tags starts (e .counts) t) c (subst (λ (u : ℕ). Apart (tableOf log tags starts (e .counts) u)) q (K .apart)) (J .apart (sym q)))))
+        (λ (ne : 0 ≡ t → ⊥). rw (table-same 0 (omega arith) ne) (K .apart))
+        (same-or 0 t)
+
     pub kept-more : Kept log′ tags′ starts⁺ maps marks′ E
     unfolding functionsOf entriesOf
     kept-more =
@@ -628,6 +671,7 @@ module _ (log tags log′ tags′ : List ℕ) (starts maps : List (List ℕ)) (m
           flats′ = flats-new′;
           named = each-rec (λ u k s. Named (getD counts⁺ 0 0) (recAt log′ tags′ s)) (λ u k hu hk. rw (rec-old u k hu hk) (named-more (count-up 0 (omega arith)) (K .named u k hu hk))) (rw rec (named-more (count-up 0 (omega arith)) (J .named)));
           plain = λ k hk. each-rec (λ u k s. u ≡ 0 → Nameless (recAt log′ tags′ s)) (λ u k hu hk q. rw (rec-old u k hu hk, q) (K .plain k (rw q at hk))) (λ q. rw rec (J .plain q)) 0 k (omega arith) hk refl;
+          apart = apart-new;
           mapped = λ u k hu. let m = K .mapped u k hu in let g = count-up u (omega arith) in omega arith;
           marked = λ u k hu hk. each-rec (λ u k s. u < 6 → Marked marks′ u k (recAt log′ tags′ s)) (λ u k hu hk h6. rw (rec-old u k hu hk) (M .others _ _ (K .marked u k h6 hk))) (λ h6. rw rec (J .marked h6)) u k (omega arith) hk hu;
         }
@@ -761,7 +805,14 @@ module _ (words tags₀ log tags : List ℕ) (starts maps : List (List ℕ)) (ma
       few : getD (e .counts) t 0 < 512
       few = let f = K .few t (omega arith) in omega arith
 
-      joins : Joins t (getD (e .counts) t 0) (getD (e .counts) 0 0) C marks′
+      none : seat (tableOf log tags starts (e .counts) t) C ≡ length (tableOf log tags starts (e .counts) t)
+      none =
+          let s = seat-shift (tableOf log tags starts (e .counts) t) (carriedBy (wentR maps) tags₀ words at₀ end) o false in
+          let l = table-long log tags starts maps marks e K t (omega arith) in
+          let b = seat-low (tableOf log tags starts (e .counts) t) C in
+          omega arith
+
+      joins : Joins t (getD (e .counts) t 0) (getD (e .counts) 0 0) (tableOf log tags starts (e .counts) t) C marks′
       unfolding carriedBy
       joins = record {
         few = few;
@@ -769,6 +820,7 @@ module _ (words tags₀ log tags : List ℕ) (starts maps : List (List ℕ)) (ma
         few-entries = λ x. absurd (omega arith);
         named = shift-named _ (carried-named maps (getD (e .counts) 0 0) (λ k. K .mapped 0 k (omega arith)) (between tags₀ words at₀ end)) o false;
         plain = λ x. shift-nameless (carried-nameless (through (wentR maps)) (pl x)) o false;
+        apart = λ x. none;
         marked = λ x. rw (hash-shift t (carriedBy (wentR maps) tags₀ words at₀ end) o false, ← hp) (Le .own);
         flats = λ x. absurd (omega arith);
         flats′ = λ x. absurd (omega arith);

@@ -15,7 +15,7 @@ use Rattle.model.specs.Module.{countAt}
 use Rattle.model.specs.Between.{between, Stretch}
 use Rattle.model.specs.Carry.{carryCells, Each}
 use Rattle.model.specs.Tables.{Tab, codeT, six, Tables, count, Maps}
-use Rattle.model.specs.References.{Place, refs, through}
+use Rattle.model.specs.References.{Place, refs, through, seat}
 use Rattle.model.specs.Imports.{St}
 use Rattle.imports.specs.RecordLaws.{All}
 use Rattle.state.specs.Refers.{Small, kindBytes}
@@ -102,6 +102,10 @@ Named n = Each (λ c. class c ≡ NAME → word c ≤ n)
 abbrev pub Nameless : Cells → Type 0
 Nameless = Each (λ c. class c ≡ NAME → ⊥)
 
+-- records of which no two are alike: each is the first that is alike it
+abbrev pub Apart : List Cells → Type 0
+Apart ds = (k : ℕ) → k < length ds → seat ds (getD ds k []) ≡ k
+
 pub record Kept (log tags : List ℕ) (starts maps : List (List ℕ)) (marks : List ℕ) (e : Ends) : Type 0 where
   -- the image fits
   pub room : 23 + 2 * e .pairs + e .used ≤ 16384
@@ -127,6 +131,8 @@ pub record Kept (log tags : List ℕ) (starts maps : List (List ℕ)) (marks : L
   -- every name that is met has a record, and names' records have no names
   pub named : (t k : ℕ) → t < 8 → k < getD (e .counts) t 0 → Named (getD (e .counts) 0 0) (recAt log tags (cell starts t k))
   pub plain : (k : ℕ) → k < getD (e .counts) 0 0 → Nameless (recAt log tags (cell starts 0 k))
+  -- names differ
+  pub apart : Apart (tableOf log tags starts (e .counts) 0)
   -- what is mapped is mapped to a record
   pub mapped : (t k : ℕ) → t < 6 → cell maps t k ≤ getD (e .counts) t 0
   -- every record of the six tables has left its mark

@@ -1,6 +1,6 @@
 use native.Mathlib.Omega.{arith}
 use Rattle.import.proofs.Sources.{tape}
-use Rattle.known.proofs.Finds.{head-in, some-name, name-in, name-reads, knows}
+use Rattle.known.proofs.Finds.{head-in, some-name, name-in, name-few, name-reads, knows}
 use borrow.Author.Needs.{needs}
 use Rattle.known.proofs.known.Statement.{statement}
 use Rattle.known.proofs.known.Tie as tie
@@ -32,11 +32,23 @@ element-copy-out-names c = search needs
 element-copy-out-functions : tie.Need-element-copy-out-functions
 element-copy-out-functions c = search needs
 
-index-1-seek : tie.Need-index-1-seek
-index-1-seek c = search needs
+mul-wide-2 : tie.Need-mul-wide-2
+mul-wide-2 c = search needs
 
-seek-requires : tie.Need-seek-requires
-seek-requires c κs = (name-reads (c .before .before .before .before .before .before .before .before .args .words .now) (c .before .before .before .before .before .before .before .before .args .tags .now) (c .before .before .before .before .before .before .before .before .args .n) (c .before .before .before .before .before .before .before .before .pre .0) (c .before .before .before .before .before .before .before .before .pre .1 .0) (c .before .before .before .before .before .before .before .before .args .f) (c .before .before .before .before .before .before .before .before .pre .1 .1 .0) _ (c .before .before .before .before .before .before .before .record-at .ensures) _ (c .before .before .before .before .before .wide .ensures .0) _ _ (c .before .before .before .before .record-at2 .ensures) (c .before .before .before .record-end .ensures), c .before .before .before .before .before .before .before .before .pre .1 .1 .1 .names)
+index-1-wide : tie.Need-index-1-wide
+index-1-wide c = search needs
+
+index-2-wide : tie.Need-index-2-wide
+index-2-wide c = let a = c .before .before .before .before .before .before .before .args in let p = c .before .before .before .before .before .before .before .pre in let h = name-few (a .words .now) (a .tags .now) (a .n) (p .0) (p .1 .0) (a .f) (p .1 .1 .0) _ (c .before .before .before .before .before .before .record-at .ensures) _ (c .before .before .before .before .wide .ensures .0) in omega arith
+
+wide-requires-2 : tie.Need-wide-requires-2
+wide-requires-2 c κs = search needs
+
+index-1-sought : tie.Need-index-1-sought
+index-1-sought c = search needs
+
+sought-requires : tie.Need-sought-requires
+sought-requires c κs = let a = c .before .before .before .before .before .before .before .before .before .before .args in let p = c .before .before .before .before .before .before .before .before .before .before .pre in (name-reads (a .words .now) (a .tags .now) (a .n) (p .0) (p .1 .0) (a .f) (p .1 .1 .0) _ (c .before .before .before .before .before .before .before .before .before .record-at .ensures) _ (c .before .before .before .before .before .before .before .wide .ensures .0) _ _ (c .before .before .before .before .before .before .record-at2 .ensures) (c .before .before .before .before .before .record-end .ensures), p .1 .1 .1 .names)
 
 index-1-last : tie.Need-index-1-last
 index-1-last c = search needs
@@ -51,7 +63,7 @@ last-requires : tie.Need-last-requires
 last-requires c κs = search needs
 
 returns : tie.Need-returns
-returns c = knows (c .before .before .before .before .before .before .before .before .before .before .before .args .words .now) (c .before .before .before .before .before .before .before .before .before .before .before .args .tags .now) (c .before .before .before .before .before .before .before .before .before .before .before .args .n) (c .before .before .before .before .before .before .before .before .before .before .before .pre .0) (c .before .before .before .before .before .before .before .before .before .before .before .pre .1 .0) (c .before .before .before .before .before .before .before .before .before .before .before .args .f) (c .before .before .before .before .before .before .before .before .before .before .before .pre .1 .1 .0) _ (c .before .before .before .before .before .before .before .before .before .before .record-at .ensures) _ (c .before .before .before .before .before .before .before .before .wide .ensures .0) _ _ (c .before .before .before .before .before .before .before .record-at2 .ensures) (c .before .before .before .before .before .before .record-end .ensures) (c .before .before .before .before .before .before .before .before .before .before .before .args .log .now) (c .before .before .before .before .before .before .before .before .before .before .before .args .classes .now) (c .before .before .before .before .before .before .before .before .before .before .before .args .starts .now) (c .before .before .before .before .before .before .before .before .before .before .before .args .t7) _ _ (c .before .before .seek .ensures .0) (c .last .ensures)
+returns c = let a = c .before .before .before .before .before .before .before .before .before .before .before .before .before .args in let p = c .before .before .before .before .before .before .before .before .before .before .before .before .before .pre in knows (a .words .now) (a .tags .now) (a .n) (p .0) (p .1 .0) (a .f) (p .1 .1 .0) _ (c .before .before .before .before .before .before .before .before .before .before .before .before .record-at .ensures) _ (c .before .before .before .before .before .before .before .before .before .before .wide .ensures .0) _ _ (c .before .before .before .before .before .before .before .before .before .record-at2 .ensures) (c .before .before .before .before .before .before .before .before .record-end .ensures) (a .log .now) (a .classes .now) (a .starts .now) (a .t8) _ _ (c .before .before .sought .ensures .0) (c .last .ensures)
 
 pub known-spec : {M : Type 1} → statement M
 known-spec =
@@ -66,8 +78,12 @@ known-spec =
     record-end-requires
     element-copy-out-names
     element-copy-out-functions
-    index-1-seek
-    seek-requires
+    mul-wide-2
+    index-1-wide
+    index-2-wide
+    wide-requires-2
+    index-1-sought
+    sought-requires
     index-1-last
     add-last
     cast-last

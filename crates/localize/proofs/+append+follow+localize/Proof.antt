@@ -226,7 +226,7 @@ follow-known-requires : (t : ℕ) → follow-lts.Need-known-requires (
   find-reads.Asked,
   find-reads.Learnt,
 ) (follow-at t) follow.Post
-follow-known-requires t c κs = let a = c .before .before .before .before .args in let p = c .before .before .before .before .pre .1 in (p .0 .source, (p .0 .names, (p .1 .0, bearing (p .1 .1 .1 .1 .0))))
+follow-known-requires t c κs = let a = c .before .before .before .before .before .args in let p = c .before .before .before .before .before .pre .1 in (p .0 .source, (p .0 .names, (p .1 .0, bearing (p .1 .1 .1 .1 .0))))
 
 -- src/lib.rt:293:9
 follow-returns-2 : (t : ℕ) → follow-lts.Need-returns-2 (
@@ -237,7 +237,7 @@ follow-returns-2 : (t : ℕ) → follow-lts.Need-returns-2 (
   find-reads.Asked,
   find-reads.Learnt,
 ) (follow-at t) follow.Post
-follow-returns-2 t c = let a = c .before .before .before .before .before .before .args in let p = c .before .before .before .before .before .before .pre .1 in (follow-old (a .words .now) (a .n) (a .offset) (a .f) (a .log .now) (a .classes .now) (a .starts .now) (a .maps .now) (a .marks .now) (a .stacks .now) (a .ends) (a .room) (c .before .before .before .before .before .if1 .left) (c .before .known .result) (c .before .known .ensures) (c .if2 .taken) (p .1 .1 .1 .0 .0) (p .1 .1 .1 .0 .1) (p .1 .1 .1 .1 .0), λ _. p .1 .1 .1 .1 .1 .1)
+follow-returns-2 t c = let a = c .before .before .before .before .before .before .before .args in let p = c .before .before .before .before .before .before .before .pre .1 in (follow-old (a .words .now) (a .n) (a .offset) (a .f) (a .log .now) (a .classes .now) (a .starts .now) (a .maps .now) (a .marks .now) (a .stacks .now) (a .ends) (a .room) (c .before .before .before .before .before .before .if1 .left) (c .before .known .result) (c .before .known .ensures) (c .if2 .taken) (p .1 .1 .1 .0 .0) (p .1 .1 .1 .0 .1) (p .1 .1 .1 .1 .0), λ _. p .1 .1 .1 .1 .1 .1)
 
 -- src/lib.rt:309:9
 follow-sub-append : (t : ℕ) → follow-lts.Need-sub-append (
@@ -248,7 +248,7 @@ follow-sub-append : (t : ℕ) → follow-lts.Need-sub-append (
   find-reads.Asked,
   find-reads.Learnt,
 ) (follow-at t) follow.Post
-follow-sub-append t c = let h = c .before .before .before .before .before .before .before .before .before .before .before .before .if1 .left in omega arith
+follow-sub-append t c = let h = c .before .before .before .before .before .before .before .before .before .before .before .before .before .if1 .left in omega arith
 
 -- src/lib.rt:295:5
 follow-append-requires : (t : ℕ) → follow-lts.Need-append-requires (
@@ -259,7 +259,7 @@ follow-append-requires : (t : ℕ) → follow-lts.Need-append-requires (
   find-reads.Asked,
   find-reads.Learnt,
 ) (follow-at t) follow.Post
-follow-append-requires t c κs = let a = c .before .before .before .before .before .before .before .before .before .before .before .before .before .args in let p = c .before .before .before .before .before .before .before .before .before .before .before .before .before .pre .1 in let h = c .before .before .before .before .before .before .before .before .before .before .before .before .if1 .left in let q = c .before .before .before .before .before .before .before .before .before .before .before .before .before .pre .0 in (omega arith, (p .0, (p .1 .0, (follow-ready (a .words .now) (a .n) (a .offset) (a .f) (a .log .now) (a .classes .now) (a .starts .now) (a .maps .now) (a .marks .now) (a .stacks .now) (a .ends) (a .room) (c .before .before .before .before .before .before .before .before .before .before .before .before .if1 .left) (c .before .before .before .before .before .before .before .before .known .result) (c .before .before .before .before .before .before .before .before .known .ensures) (c .before .before .before .before .before .before .before .if2 .left) (p .1 .1 .0), (p .1 .1 .1 .0, (p .1 .1 .1 .1 .0))))))
+follow-append-requires t c κs = let a = c .before .before .before .before .before .before .before .before .before .before .before .before .before .before .args in let p = c .before .before .before .before .before .before .before .before .before .before .before .before .before .before .pre .1 in let h = c .before .before .before .before .before .before .before .before .before .before .before .before .before .if1 .left in let q = c .before .before .before .before .before .before .before .before .before .before .before .before .before .before .pre .0 in (omega arith, (p .0, (p .1 .0, (follow-ready (a .words .now) (a .n) (a .offset) (a .f) (a .log .now) (a .classes .now) (a .starts .now) (a .maps .now) (a .marks .now) (a .stacks .now) (a .ends) (a .room) (c .before .before .before .before .before .before .before .before .before .before .before .before .before .if1 .left) (c .before .before .before .before .before .before .before .before .known .result) (c .before .before .before .before .before .before .before .before .known .ensures) (c .before .before .before .before .before .before .before .if2 .left) (p .1 .1 .0), (p .1 .1 .1 .0, (p .1 .1 .1 .1 .0))))))
 
 -- src/lib.rt:266:1
 follow-returns-3 : (t : ℕ) → follow-lts.Need-returns-3 (
@@ -270,7 +270,7 @@ follow-returns-3 : (t : ℕ) → follow-lts.Need-returns-3 (
   find-reads.Asked,
   find-reads.Learnt,
 ) (follow-at t) follow.Post
-follow-returns-3 t c = let a = c .before .before .before .before .before .before .before .before .before .before .before .before .before .before .before .args in let p = c .before .before .before .before .before .before .before .before .before .before .before .before .before .before .before .pre .1 in (follow-append (a .words .now) (a .n) (a .offset) (a .f) (a .log .now) (a .classes .now) (a .starts .now) (a .maps .now) (a .marks .now) (a .stacks .now) (a .ends) (a .room) (c .before .before .before .before .before .before .before .before .before .before .before .before .before .before .if1 .left) (c .before .before .before .before .before .before .before .before .before .before .known .result) (c .before .before .before .before .before .before .before .before .before .before .known .ensures) (c .before .before .before .before .before .before .before .before .before .if2 .left) (c .before .append .ensures), λ q. absurd (false≢true (sym q ∙ c .if3 .taken)))
+follow-returns-3 t c = let a = c .before .before .before .before .before .before .before .before .before .before .before .before .before .before .before .before .args in let p = c .before .before .before .before .before .before .before .before .before .before .before .before .before .before .before .before .pre .1 in (follow-append (a .words .now) (a .n) (a .offset) (a .f) (a .log .now) (a .classes .now) (a .starts .now) (a .maps .now) (a .marks .now) (a .stacks .now) (a .ends) (a .room) (c .before .before .before .before .before .before .before .before .before .before .before .before .before .before .before .if1 .left) (c .before .before .before .before .before .before .before .before .before .before .known .result) (c .before .before .before .before .before .before .before .before .before .before .known .ensures) (c .before .before .before .before .before .before .before .before .before .if2 .left) (c .before .append .ensures), λ q. absurd (false≢true (sym q ∙ c .if3 .taken)))
 
 -- src/lib.rt:339:5
 follow-find-requires : (t : ℕ) → follow-lts.Need-find-requires (
@@ -281,7 +281,7 @@ follow-find-requires : (t : ℕ) → follow-lts.Need-find-requires (
   find-reads.Asked,
   find-reads.Learnt,
 ) (follow-at t) follow.Post
-follow-find-requires t c κs = c .before .before .before .before .before .before .before .before .before .before .before .before .before .before .before .before .pre .1 .1 .1 .1 .1 .1 .0
+follow-find-requires t c κs = c .before .before .before .before .before .before .before .before .before .before .before .before .before .before .before .before .before .pre .1 .1 .1 .1 .1 .1 .0
 
 -- src/lib.rt:284:1
 follow-returns-4 : (t : ℕ) → follow-lts.Need-returns-4 (
@@ -292,7 +292,7 @@ follow-returns-4 : (t : ℕ) → follow-lts.Need-returns-4 (
   find-reads.Asked,
   find-reads.Learnt,
 ) (follow-at t) follow.Post
-follow-returns-4 t c = let a = c .before .before .before .before .before .before .before .before .before .before .before .before .before .before .before .before .before .args in let p = c .before .before .before .before .before .before .before .before .before .before .before .before .before .before .before .before .before .pre .1 in (follow-append (a .words .now) (a .n) (a .offset) (a .f) (a .log .now) (a .classes .now) (a .starts .now) (a .maps .now) (a .marks .now) (a .stacks .now) (a .ends) (a .room) (c .before .before .before .before .before .before .before .before .before .before .before .before .before .before .before .before .if1 .left) (c .before .before .before .before .before .before .before .before .before .before .before .before .known .result) (c .before .before .before .before .before .before .before .before .before .before .before .before .known .ensures) (c .before .before .before .before .before .before .before .before .before .before .before .if2 .left) (c .before .before .before .append .ensures), λ _. c .find .ensures)
+follow-returns-4 t c = let a = c .before .before .before .before .before .before .before .before .before .before .before .before .before .before .before .before .before .before .args in let p = c .before .before .before .before .before .before .before .before .before .before .before .before .before .before .before .before .before .before .pre .1 in (follow-append (a .words .now) (a .n) (a .offset) (a .f) (a .log .now) (a .classes .now) (a .starts .now) (a .maps .now) (a .marks .now) (a .stacks .now) (a .ends) (a .room) (c .before .before .before .before .before .before .before .before .before .before .before .before .before .before .before .before .before .if1 .left) (c .before .before .before .before .before .before .before .before .before .before .before .before .known .result) (c .before .before .before .before .before .before .before .before .before .before .before .before .known .ensures) (c .before .before .before .before .before .before .before .before .before .before .before .if2 .left) (c .before .before .before .append .ensures), λ _. c .find .ensures)
 
 abbrev localize-Inv-loop : localize-lts.InvT-loop
 localize-Inv-loop words tags kinds n log₀ classes₀ starts₀ maps₀ marks₀ stacks₀ places₀ offset s end room e1 exprs k em₀ named body e₀ i₀ u₀ log classes starts maps marks stacks places em e i u =

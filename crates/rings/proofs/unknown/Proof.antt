@@ -9,10 +9,10 @@ use Rattle.rings.proofs.unknown.Statement.{statement}
 use Rattle.rings.proofs.unknown.Tie as tie
 
 abbrev Inv-loop : tie.InvT-loop
-Inv-loop words tags n log classes starts ends began functions set₀ i₀ set i = Sieve (isUnknown words n log classes starts ends) functions began set i
+Inv-loop words tags n log classes starts maps ends began functions set₀ i₀ set i = Sieve (isUnknown words n log classes starts ends) functions began set i
 
 abbrev μ-loop : tie.MeasureT-loop
-μ-loop words tags n log classes starts ends began functions set₀ i₀ set i = functions - i
+μ-loop words tags n log classes starts maps ends began functions set₀ i₀ set i = functions - i
 
 count-requires : tie.Need-count-requires Inv-loop μ-loop
 count-requires c κs = search needs
