@@ -2,8 +2,8 @@
 """Writes the theorems of the crate computed: the model's link and run of steps on vectors, each computed and compared by refl; and what the crate
 refuted computes.
 
-    tools/compute_vectors.py [FOLDER]       writes Links.antt and Sessions.antt for the vectors named below to crates/computed/specs, and Answers.antt to
-                                            crates/refuted/specs; or all of them to another folder
+    tools/compute_vectors.py [FOLDER]       writes Links.antt and Sessions.antt for the vectors named below, and Small.antt, to crates/computed/specs, and
+                                            Answers.antt to crates/refuted/specs; or all of them to another folder
 
 A handful is in the gate, since a vector takes a second or more; others are tried by naming them here."""
 import os
@@ -98,6 +98,59 @@ def sessions(uses, unfolding):
     return text
 
 
+def small():
+    """Sources and derived images as words, by name; and sessions of a few steps, by name: what it shows, sources, steps, the result, answers, and the image
+    written to an output of 400 bytes."""
+    lists = {name: words(bytes_of(f"{number}.img")) for name, number in (("p5", "000"), ("p10", "003"), ("p11", "004"), ("nothing", "005"))}
+    lists["p5-called"] = [1, 56, 2, 20, *[0, 26] * 5, 2, 26, 0, 53, 0, 53, 2, 4, 1, 98, 1, 97, 2, 11, 1, *[0] * 8, 2, *[0] * 7, 1, 7, 15, *[0] * 8]
+    lists["p10-passed"] = [1, 72, 1, 20, *[0, 23] * 5, 1, 23, 0, 69, 0, 69, 1, 1, 102, 1, 1, *[0] * 5, 5, 0, 0, 0, 3, 10, *[0] * 4, 3, 11, *[0] * 4, 3, 12, 0, 17,
+                           *[0] * 4, 1, 17, 0, 0, 0, 3, 2, 0, 1, 6, 0, 0, 0, 3, 5, 0, 0, 0]
+    lists["p11-emitted"] = [*lists["p11"][:65], 2, *lists["p11"][66:]]
+    # a function f with a literal that nothing reads, named x
+    lists["unread"] = [1, 47, 2, 20, *[0, 26] * 5, 1, 26, 0, 44, 0, 44, 2, 4, 1, 102, 1, 120, 1, 1, *[0] * 5, 1, 0, 0, 0, 3, 1, 0, 1, 0, 2, *[0] * 4]
+    lists["unread-dropped"] = [1, 36, 1, 20, *[0, 23] * 5, 1, 23, 0, 33, 0, 33, 1, 1, 102, 1, 1, *[0] * 11]
+    # a type; and the same with another span, and a second
+    one = [1, 35, 0, 20, 1, 20, *[0, 32] * 7, 1, 0, 1, 2, *[0] * 11]
+    two = [1, 47, 0, 20, 2, 20, *[0, 44] * 7, 2, 13, 0, 3, 4, *[0] * 12, 1, *[0] * 9]
+    lists["two-sources"] = one + two
+    lists["merged"] = [*two[:23], 1, 2, *two[25:]]
+    function, finish = [9, 0, 0, 0], [13, 0, 400, 0]
+    return lists, {
+        "nested": ("P5, of which a is imported, and b, which it calls, first", "p5", [0, 0, 276, 0, *function, *finish], 0, [0, 0, 0, 0, 1, 0, 0, 224, 0], "p5-called"),
+        "refused": ("the same, and a function 7 where no source is set, and a function 3 of P5", "p5", [9, 7, 0, 0, 0, 0, 276, 0, 9, 3, 0, 0, *function, *finish], 20,
+                    [20, 0, 0, 0, 0, 0, 13, 0, 0, 0, 1, 0, 0, 224, 0], "p5-called"),
+        "passed": ("P10", "p10", [0, 0, 336, 0, *function, *finish], 0, [0, 0, 0, 0, 0, 0, 0, 288, 0], "p10-passed"),
+        "emitted": ("P11", "p11", [0, 0, 280, 0, *function, *finish], 0, [0, 0, 0, 0, 0, 0, 0, 280, 0], "p11-emitted"),
+        "dropped": ("a function f with a literal that nothing reads, named x", "unread", [0, 0, 188, 0, *function, *finish], 0, [0, 0, 0, 0, 0, 0, 0, 144, 0], "unread-dropped"),
+        "spans": ("P1 and P2, and by another offset P3 and P4", "nothing", [0, 0, 92, 10, 2, 0, 0, 0, 2, 0, 4, 0, 0, 0, 92, 4294967290, 2, 5, 9, 0, 2, 6, 6, 0], 0,
+                  [0, 0, 0, 0, 0, 0, 0, 10, 14, 0, 0, 0, 0, 4294967295, 3, 0, 0, 0], None),
+        "types": ("a type of one source; of another the same with another span, and a second", "two-sources",
+                  [0, 0, 140, 0, 3, 0, 0, 0, 0, 140, 188, 0, 3, 0, 0, 0, 3, 1, 0, 0, *finish], 0, [0, 0, 0, 0, 0, 0, 0, 0, 0, 0, 0, 0, 0, 1, 0, 0, 188, 0], "merged"),
+    }
+
+
+def small_sessions(uses, unfolding):
+    """A run of steps: the result, the answers, and all that was written."""
+    text = ["use Rattle.words.specs.Words.{bytesOf}", "use Rattle.model.specs.Steps.{Said}", "",
+            "-- the places and words of the steps that write",
+            "unfoldable pub wrote : List Said → List (ℕ × List ℕ)", "wrote [] = []",
+            "wrote (x ∷ xs) = elim (x .written) [ [] ↦ wrote xs | w ∷ ws ↦ (x .at, w ∷ ws) ∷ wrote xs ]", "",
+            "-- what these steps answer, tell and write with these sources, in an output of 400 bytes",
+            "unfoldable pub does : List ℕ → List ℕ → ℕ × List ℕ × List (ℕ × List ℕ)",
+            "does sources steps = let xs = Steps-run steps sources (replicate 400 0) Session-new in (Steps-firstRefused xs 0, Steps-answersOf xs, wrote xs)", "",
+            "-- ---- sources, and images derived from them, as words"]
+    lists, cases = small()
+    for name, numbers in lists.items():
+        text += [f"unfoldable pub {name} : List ℕ", f"{name} = {listed(numbers)[1:-1]}", ""]
+    for name, (shows, sources, steps, result, answers, written) in cases.items():
+        text += [f"-- ---- {shows}"]
+        for part, numbers in (("steps", steps), ("answers", answers)):
+            text += [f"unfoldable pub {name}-{part} : List ℕ", f"{name}-{part} = {listed(numbers)[1:-1]}", ""]
+        text += [f"pub {name} : does (bytesOf {sources}) {name}-steps ≡ ({result}, {name}-answers, {f'(0, {written}) ∷ []' if written else '[]'})",
+                 f"{unfolding} bytesOf wrote does {name}-steps {name}-answers {sources} {written or ''}".rstrip(), f"{name} = refl", ""]
+    return text
+
+
 def changed(image, at, byte):
     return image[:at] + bytes([byte]) + image[at + 1 :]
 
@@ -141,8 +194,9 @@ def main():
     uses, unfolding = imports(MODEL)
     head = ["use mathlib.Core.Path.{_≡_, refl}", "use mathlib.Core.List.{List, [], _∷_}", "use Prim.Native.Nat.{ℕ}", "use lib.ListN.{replicate}",
             "use Rattle.words.specs.Words.{wordOf, wordsOf}", *uses]
-    first = {"Links": "-- Linking computed on vectors: the answer, or the linked image.", "Sessions": "-- Sessions computed on vectors: the answers of all steps, and what was written last."}
-    for name, body in (("Links", links(uses, unfolding)), ("Sessions", sessions(uses, unfolding))):
+    first = {"Links": "-- Linking computed on vectors: the answer, or the linked image.", "Sessions": "-- Sessions computed on vectors: the answers of all steps, and what was written last.",
+             "Small": "-- Sessions of a few steps computed: the answers of all steps, and what was written."}
+    for name, body in (("Links", links(uses, unfolding)), ("Sessions", sessions(uses, unfolding)), ("Small", small_sessions(uses, unfolding))):
         with open(f"{folder}/{name}.antt", "w") as out:
             out.write("\n".join([first[name] + " Written by tools/compute_vectors.py.", *head, *body]))
     with open(f"{folder if len(sys.argv) > 1 else 'crates/refuted/specs'}/Answers.antt", "w") as out:

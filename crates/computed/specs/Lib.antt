@@ -1,2 +1,3 @@
 pub mod Links
 pub mod Sessions
+pub mod Small

@@ -4,6 +4,8 @@
 use handles::TypeHandle;
 use settle::settle;
 use state::Ends;
+use state::NOTHING;
+use state::OPTIONAL;
 use state::kind_of;
 use views::NAMES;
 use views::TYPES;
@@ -21,7 +23,7 @@ ghost use Rattle.state.specs.Refers.{kindBytes};
 ghost use Rattle.state.specs.Source.{srcOf, Source, refersTo, numberOf};
 ghost use Rattle.state.specs.Held.{Kept, Lands};
 
-// What a word refers to: the number of a table, 6 or more for none, and a number in it.
+// What a word refers to: the number of a table, or NOTHING, and a number in it.
 pub struct Reference {
     pub table: usize,
     pub number: u32,
@@ -33,7 +35,7 @@ pub fn refers_to(kinds: &[u8; 256], s: u8, w: u32) -> Reference
     ensures { λ r. ⌜ (r .table ≡ refersTo (target s) w) × (r .number ≡ numberOf (target s) w) ⌝ }
 {
     let u = kind_of(kinds, s);
-    if u < 6 {
+    if u < NOTHING {
         return Reference {
             table: u,
             number: w,
@@ -41,18 +43,18 @@ pub fn refers_to(kinds: &[u8; 256], s: u8, w: u32) -> Reference
     }
     if w == 0 {
         return Reference {
-            table: 6,
+            table: NOTHING,
             number: 0,
         };
     }
-    if u < 8 {
+    if u < OPTIONAL {
         return Reference {
-            table: 6,
+            table: NOTHING,
             number: w - 1,
         };
     }
     Reference {
-        table: u - 8,
+        table: u - OPTIONAL,
         number: w - 1,
     }
 }

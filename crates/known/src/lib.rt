@@ -1,6 +1,7 @@
 // The derived function that bears the name of a function of the source. Numbers of names differ between source and derived image, so the text is sought
 // among the derived names; then the functions are gone through from the last on, since a later function of a name takes the place of an earlier one.
 use state::Ends;
+use state::alike_cell;
 use views::FUNCTIONS;
 use views::NAMES;
 use views::record_at;
@@ -14,29 +15,13 @@ ghost use lib.ListN.{length, getD, take};
 ghost use Rattle.model.specs.Module.{countAt};
 ghost use Rattle.model.specs.Names.{named};
 ghost use Rattle.model.specs.Between.{between};
-ghost use Rattle.model.specs.References.{alikeC, alike as alikeOf, seat};
+ghost use Rattle.model.specs.References.{alike as alikeOf, seat};
 ghost use Rattle.model.specs.Bodies.{lastOf};
 ghost use Rattle.state.specs.Flats.{functionOf};
 ghost use Rattle.state.specs.Source.{modOf, Source};
 ghost use Rattle.state.specs.Refers.{kindBytes};
 ghost use Rattle.state.specs.Held.{recAt, recsAt, Readable};
 ghost use Rattle.known.specs.Bearing.{Names, Heads, Bearing, Knows};
-
-// Whether a word of the log is a word of the source, unless both are a span's.
-fn alike_cell(a: u8, x: u32, b: u8, y: u32) -> bool
-    ensures { λ r. ⌜ r ≡ alikeC (a, x) (b, y) ⌝ }
-{
-    if a != b {
-        return false;
-    }
-    if x == y {
-        return true;
-    }
-    if a == 81 {
-        return true;
-    }
-    a == 82
-}
 
 // Whether the record at s is the source's words from `at` to `end`.
 fn alike(

@@ -2,6 +2,7 @@ pub mod Carries
 pub mod Writes
 pub mod Stack
 pub mod Stacked
+pub mod Sieve
 pub mod Went
 pub mod Growth
 pub mod Then

@@ -1,13 +1,14 @@
 -- What an operation does to a function under way. Assumes nothing: these are definitions.
 use mathlib.Core.Path.{_≡_}
-use mathlib.Core.Bool.{true, false}
+use mathlib.Core.Bool.{Bool, true, false}
 use mathlib.Core.List.{List}
 use Prim.Native.Nat.{ℕ, _+_, _≤_, _<_}
 use lib.ListN.{length, getD, take, set}
 use Rattle.model.specs.Outcome.{Cells}
 use Rattle.model.specs.Tree.{flatAll}
+use Rattle.model.specs.References.{alikeC}
 use Rattle.model.specs.Bodies.{Making}
-use Rattle.state.specs.Held.{row, put, tableOf, sizeR, Over, Kept, Same, Written}
+use Rattle.state.specs.Held.{row, cell, put, tableOf, sizeR, Over, Kept, Same, Written}
 use Rattle.state.specs.Marks.{Marks}
 use Rattle.state.specs.declared.Ends.{Ends}
 use Rattle.making.specs.Stacks.{makingOf, Stacks, Under}
@@ -51,6 +52,19 @@ pub record Wrote (cs : Cells) (et : ℕ) (stacks₀ stacks : List (List ℕ)) : 
   pub seats-same : row stacks 2 ≡ row stacks₀ 2
   pub body-same : row stacks 3 ≡ row stacks₀ 3
   pub four : length stacks ≡ 4
+
+-- from expression k on none before r can have, in place i, a cell alike to that of the class s and the word y
+pub record Hops (stacks : List (List ℕ)) (e₁ made i s y k r : ℕ) : Type 0 where
+  pub low : k ≤ r
+  pub high : r ≤ made
+  pub not : (j : ℕ) → k ≤ j → j < r → (c : ℕ) → cell stacks 2 (e₁ + j) + i < 16384 → alikeC (c, cell stacks 0 (cell stacks 2 (e₁ + j) + i)) (s, y) ≡ false
+
+-- the first word, from `at` on, by which two records are told apart; `end` where they are alike
+pub record Apart (at end : ℕ) (same : Bool) (r : ℕ) : Type 0 where
+  pub low : at ≤ r
+  pub high : r ≤ end
+  pub all : r ≡ end → true ≡ same
+  pub not : (r ≡ end → ⊥) → false ≡ same
 
 -- one word more on the other
 pub record Pushed (w : ℕ) (stacks₀ : List (List ℕ)) (e r : Ends) (stacks : List (List ℕ)) : Type 0 where

@@ -4,8 +4,13 @@
 use classes::EXPR;
 use classes::EXPR_KIND;
 use classes::NAMED;
+use classes::SPAN;
+use classes::UPTO;
 use known::known;
 use state::Ends;
+use state::FUNCTION;
+use state::OPT_OWN;
+use state::OWN;
 use state::kind_of;
 use state::moved;
 use state::refuse;
@@ -16,7 +21,7 @@ ghost use mathlib.Core.List.{[]};
 ghost use Prim.Native.Nat.{_+_, _-_, _≤_, _<_, pred};
 ghost use lib.ListN.{length, drop};
 ghost use lib.Seq.{slice, sets};
-ghost use Rattle.model.specs.References.{target, refOf, through, firstWord, undefinedAt, shift, alikeC, alike as alikeOf, seat as seatOf};
+ghost use Rattle.model.specs.References.{target, refOf, through, firstWord, undefinedAt, shift, alikeC, alike, seat as seatOf};
 ghost use Rattle.model.specs.Between.{between};
 ghost use Rattle.model.specs.Bodies.{push as pushE, join};
 ghost use Rattle.imports.specs.RecordLaws.{All};
@@ -28,7 +33,7 @@ ghost use Rattle.known.specs.Bearing.{Bearing};
 ghost use Rattle.ground.specs.Fits.{FitN, Ground, Legible};
 ghost use Rattle.ground.specs.Cuts.{nextOf, Rising, exprsOf, Expressions};
 ghost use Rattle.making.specs.Stacks.{wentOf, seatsOf, madeOf, Stacks, Under};
-ghost use Rattle.making.specs.Makes.{Lays, Wrote, Pushed};
+ghost use Rattle.making.specs.Makes.{Lays, Wrote, Hops, Apart, Pushed};
 
 // The rows of the stacks: words and classes of expressions, where each of them starts, and words of declarations, bodies and names.
 pub const WORDS: usize = 0;
@@ -112,17 +117,17 @@ pub fn carried(
     requires { ⌜ All (FitN (now words) 1024) (refOf (target s) w []) ⌝ }
     ensures { λ r. ⌜ r ≡ through (wentOf (now (words .entry)) n (now (log .entry)) (now (classes .entry)) (now (starts .entry)) (now (maps .entry)) ends (now (em .entry))) s w ⌝ }
 {
-    if kind_of(kinds, s) == 7 {
+    if kind_of(kinds, s) == FUNCTION {
         return less(known(words, tags, n, log, classes, starts, ends, wide(w)));
     }
     if s < EXPR {
         return state::carried(kinds, maps, s, w);
     }
     let u = kind_of(kinds, s);
-    if u == 5 {
+    if u == OWN {
         return less(mapped(em[wide(w)]));
     }
-    if u == 13 {
+    if u == OPT_OWN {
         if w == 0 {
             return 0;
         }
@@ -155,7 +160,7 @@ fn undefined_at(
     requires { ⌜ Legible (now words) (now tags) 1024 i end ⌝ }
     ensures { λ r. ⌜ r ≡ undefinedAt (target s) w (firstWord (carriedBy (wentOf (now (words .entry)) n (now (log .entry)) (now (classes .entry)) (now (starts .entry)) (now (maps .entry)) ends (now (em .entry))) (now (tags .entry)) (now (words .entry)) i end)) u ⌝ }
 {
-    if s != 81 {
+    if s != SPAN {
         return u;
     }
     if w != 0 {
@@ -324,14 +329,14 @@ fn alike_cell(a: u32, x: u32, b: u8, y: u32) -> bool
     if x == y {
         return true;
     }
-    if b == 81 {
+    if b == SPAN {
         return true;
     }
-    b == 82
+    b == UPTO
 }
 
-// Whether the expression on the stack from a to b is what the source's words become, spans apart.
-fn alike(
+// The first of the source's words that does not become what the expression on the stack from a to b, which is as long, has in its place, spans apart; or `end`.
+fn apart(
     words: &[u32; 16384],
     tags: &[u8; 16384],
     kinds: &[u8; 256],
@@ -347,17 +352,14 @@ fn alike(
     end: usize,
     a: usize,
     b: usize,
-) -> bool
+) -> usize
     requires { ⌜ Ground (now words) (now tags) (now kinds) n ⌝ }
     requires { ⌜ Bearing (now log) (now classes) (now starts) ends ⌝ }
     requires { ⌜ length (now maps) ≡ 6 ⌝ }
     requires { ⌜ Legible (now words) (now tags) 1024 at end ⌝ }
-    requires { ⌜ (Stacks (now stacks) ends) × (a ≤ b) × (b ≤ 16384) ⌝ }
-    ensures { λ r. ⌜ r ≡ alikeOf (between (row (now (stacks .entry)) 1) (row (now (stacks .entry)) 0) a b) (carriedBy (wentOf (now (words .entry)) n (now (log .entry)) (now (classes .entry)) (now (starts .entry)) (now (maps .entry)) ends (now (em .entry))) (now (tags .entry)) (now (words .entry)) at end) ⌝ }
+    requires { ⌜ (Stacks (now stacks) ends) × (a ≤ b) × (b ≤ 16384) × (b - a ≡ end - at) ⌝ }
+    ensures { λ r. ⌜ Apart at end (alike (between (row (now (stacks .entry)) 1) (row (now (stacks .entry)) 0) a b) (carriedBy (wentOf (now (words .entry)) n (now (log .entry)) (now (classes .entry)) (now (starts .entry)) (now (maps .entry)) ends (now (em .entry))) (now (tags .entry)) (now (words .entry)) at end)) r ⌝ }
 {
-    if b - a != end - at {
-        return false;
-    }
     let mut i = at;
     let mut p = a;
     while i < end {
@@ -381,10 +383,10 @@ fn alike(
             words[j],
         );
         if !alike_cell(stacks[CLASSES][q], stacks[WORDS][q], s, y) {
-            return false;
+            return j;
         }
     }
-    true
+    end
 }
 
 // Where expression k of those on the stack ends.
@@ -398,7 +400,41 @@ fn next(stacks: &[[u32; 16384]; 4], ends: Ends, e1: usize, k: usize) -> usize
     ends.et
 }
 
-// The first expression that is, spans apart, what the source's words become; or how many there are.
+// The first expression, from k on, that has the word y in place i; k where y is a word of a span, by its class s.
+fn hop(
+    stacks: &[[u32; 16384]; 4],
+    e1: usize,
+    made: usize,
+    i: usize,
+    s: u8,
+    y: u32,
+    k: usize,
+) -> usize
+    requires { ⌜ (e1 + made ≤ 16384) × (i ≤ 16384) × (k ≤ made) ⌝ }
+    ensures { λ r. ⌜ Hops (now (stacks .entry)) e1 made i s y k r ⌝ }
+{
+    if s == SPAN {
+        return k;
+    }
+    if s == UPTO {
+        return k;
+    }
+    let mut j = k;
+    while j < made {
+        let h = j;
+        j += 1;
+        let q = wide(stacks[SEATS][e1 + h]) + i;
+        if q < 16384 {
+            if stacks[WORDS][q] == y {
+                return h;
+            }
+        }
+    }
+    made
+}
+
+// The first expression that is, spans apart, what the source's words become; or how many there are. Most are told from it by one word: the last, or the one by
+// which another was told from it.
 fn seat(
     words: &[u32; 16384],
     tags: &[u8; 16384],
@@ -419,34 +455,69 @@ fn seat(
     requires { ⌜ Bearing (now log) (now classes) (now starts) ends ⌝ }
     requires { ⌜ length (now maps) ≡ 6 ⌝ }
     requires { ⌜ Legible (now words) (now tags) 1024 at end ⌝ }
-    requires { ⌜ (Stacks (now stacks) ends) × (Rising (seatsOf (now stacks) e1 ends) e1 (ends .et)) × (length (seatsOf (now stacks) e1 ends) ≡ ends .made) ⌝ }
+    requires { ⌜ (Stacks (now stacks) ends) × (Rising (seatsOf (now stacks) e1 ends) e1 (ends .et)) × (length (seatsOf (now stacks) e1 ends) ≡ ends .made) × (at < end) ⌝ }
     ensures { λ r. ⌜ r ≡ seatOf (madeOf (now (stacks .entry)) e1 ends) (carriedBy (wentOf (now (words .entry)) n (now (log .entry)) (now (classes .entry)) (now (starts .entry)) (now (maps .entry)) ends (now (em .entry))) (now (tags .entry)) (now (words .entry)) at end) ⌝ }
 {
     let made = ends.made;
+    let mut p = end - 1;
+    let mut y = carried(
+        words,
+        tags,
+        kinds,
+        n,
+        log,
+        classes,
+        starts,
+        maps,
+        em,
+        ends,
+        tags[p],
+        words[p],
+    );
     let mut k = 0;
     while k < made {
-        let j = k;
-        k += 1;
+        let j = hop(stacks, e1, made, p - at, tags[p], y, k);
+        if j == made {
+            return made;
+        }
+        k = j + 1;
         let a = wide(stacks[SEATS][e1 + j]);
         let b = next(stacks, ends, e1, j);
-        if alike(
-            words,
-            tags,
-            kinds,
-            n,
-            log,
-            classes,
-            starts,
-            maps,
-            em,
-            stacks,
-            ends,
-            at,
-            end,
-            a,
-            b,
-        ) {
-            return j;
+        if b - a == end - at {
+            p = apart(
+                words,
+                tags,
+                kinds,
+                n,
+                log,
+                classes,
+                starts,
+                maps,
+                em,
+                stacks,
+                ends,
+                at,
+                end,
+                a,
+                b,
+            );
+            if p == end {
+                return j;
+            }
+            y = carried(
+                words,
+                tags,
+                kinds,
+                n,
+                log,
+                classes,
+                starts,
+                maps,
+                em,
+                ends,
+                tags[p],
+                words[p],
+            );
         }
     }
     made

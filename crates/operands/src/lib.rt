@@ -25,8 +25,8 @@ ghost use Rattle.ground.specs.Cuts.{exprsOf, Expressions};
 ghost use Rattle.making.specs.Stacks.{Under};
 ghost use Rattle.making.specs.Makes.{Makes};
 
-// Expression e of k, where it is not mapped.
-pub fn need(
+// Expression e of k, where it is not mapped, with what it refers to outside the function.
+pub fn bring(
     words: &[u32; 16384],
     tags: &[u8; 16384],
     kinds: &[u8; 256],
@@ -95,17 +95,75 @@ pub fn need(
     )
 }
 
+// The same, seen first to be mapped or not: this is asked of every operand and is small, since most are mapped.
+pub fn need(
+    words: &[u32; 16384],
+    tags: &[u8; 16384],
+    kinds: &[u8; 256],
+    n: usize,
+    places: &[u16; 1025],
+    log: &mut [u32; 16384],
+    classes: &mut [u8; 16384],
+    starts: &mut [[u32; 512]; 8],
+    maps: &mut [[u32; 512]; 6],
+    marks: &mut [u16; 16384],
+    em: &mut [u16; 1024],
+    stacks: &mut [[u32; 16384]; 4],
+    ends: Ends,
+    offset: u32,
+    e1: usize,
+    k: usize,
+    e: usize,
+) -> Ends
+    requires { ⌜ Ground (now words) (now tags) (now kinds) n ⌝ }
+    requires { ⌜ Expressions (now words) (now tags) (now places) k ⌝ }
+    requires { ⌜ (e < k) × (ends .full ≡ false) ⌝ }
+    requires { ⌜ Kept (now log) (now classes) (now starts) (now maps) (now marks) ends ⌝ }
+    requires { ⌜ Under k (now em) (now stacks) e1 ends ⌝ }
+    ensures { λ r. ⌜ Makes (now (words .entry)) k (needE offset (modOf (now (words .entry)) n) still (exprsOf (now (words .entry)) (now (tags .entry)) (now (places .entry)) k) e) (now (log .entry)) (now (classes .entry)) (now (starts .entry)) (now (maps .entry)) (now (marks .entry)) (now (em .entry)) (now (stacks .entry)) e1 ends r (now (log .exit)) (now (classes .exit)) (now (starts .exit)) (now (maps .exit)) (now (marks .exit)) (now (em .exit)) (now (stacks .exit)) ⌝ }
+{
+    if em[e] != 0 {
+        return ends;
+    }
+    bring(
+        words,
+        tags,
+        kinds,
+        n,
+        places,
+        log,
+        classes,
+        starts,
+        maps,
+        marks,
+        em,
+        stacks,
+        ends,
+        offset,
+        e1,
+        k,
+        e,
+    )
+}
+
+// The kinds of expressions that stand go from the first one to ZeroValue, and from FunctionArgument to LocalVariable.
+const ZERO_VALUE: u32 = 3;
+
+const FUNCTION_ARGUMENT: u32 = 9;
+
+const LOCAL_VARIABLE: u32 = 11;
+
 // Whether an expression of the kind k stands.
 fn stands(k: u32) -> bool
     ensures { λ r. ⌜ r ≡ standingKind k ⌝ }
 {
-    if k < 4 {
+    if k <= ZERO_VALUE {
         return true;
     }
-    if k < 9 {
+    if k < FUNCTION_ARGUMENT {
         return false;
     }
-    k < 12
+    k <= LOCAL_VARIABLE
 }
 
 // Expression e of k, where it stands and is not mapped.

@@ -19,6 +19,7 @@ use views::GLOBALS;
 use views::NAMES;
 use views::OVERRIDES;
 use views::TYPES;
+use words::wide;
 ghost use mathlib.Core.Path.{_≡_};
 ghost use mathlib.Core.Bool.{false};
 ghost use Prim.Native.Nat.{_<_};
@@ -30,8 +31,8 @@ ghost use Rattle.state.specs.Source.{modOf, srcOf};
 ghost use Rattle.state.specs.Held.{Kept, Lands};
 ghost use Rattle.ground.specs.Fits.{Ground, Legible, recordOf};
 
-// Record h of table t; nothing where t is no table.
-pub fn import_record(
+// Record h of table t, by the import that the table has; nothing where t is no table.
+pub fn import_by_table(
     words: &[u32; 16384],
     tags: &[u8; 16384],
     kinds: &[u8; 256],
@@ -149,6 +150,52 @@ pub fn import_record(
         );
     }
     ends
+}
+
+// The same, seen first to be mapped or not: this is asked of every word and is small, since most records are mapped.
+pub fn import_record(
+    words: &[u32; 16384],
+    tags: &[u8; 16384],
+    kinds: &[u8; 256],
+    n: usize,
+    log: &mut [u32; 16384],
+    classes: &mut [u8; 16384],
+    starts: &mut [[u32; 512]; 8],
+    maps: &mut [[u32; 512]; 6],
+    marks: &mut [u16; 16384],
+    ends: Ends,
+    offset: u32,
+    t: usize,
+    h: u32,
+) -> Ends
+    requires { ⌜ Ground (now words) (now tags) (now kinds) n ⌝ }
+    requires { ⌜ (t < 6 → h < countAt t (now words)) ⌝ }
+    requires { ⌜ ends .full ≡ false ⌝ }
+    requires { ⌜ Kept (now log) (now classes) (now starts) (now maps) (now marks) ends ⌝ }
+    ensures { λ r. ⌜ Lands (now (words .entry)) (recordOf offset (srcOf (now (words .entry)) n) t h) (now (log .entry)) (now (classes .entry)) (now (starts .entry)) (now (maps .entry)) (now (marks .entry)) ends r (now (log .exit)) (now (classes .exit)) (now (starts .exit)) (now (maps .exit)) (now (marks .exit)) ⌝ }
+{
+    if EXPRESSIONS < t {
+        return ends;
+    }
+    let k = wide(h);
+    if maps[t][k] != 0 {
+        return ends;
+    }
+    import_by_table(
+        words,
+        tags,
+        kinds,
+        n,
+        log,
+        classes,
+        starts,
+        maps,
+        marks,
+        ends,
+        offset,
+        t,
+        h,
+    )
 }
 
 // What the words from `at` to `end` refer to outside the function.

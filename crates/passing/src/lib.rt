@@ -10,9 +10,11 @@ use classes::TO;
 use import::refers_to;
 use making::carried;
 use making::push;
+use operands::bring;
 use operands::glance;
 use operands::need;
 use operands::unique;
+use outside::import_by_table;
 use outside::import_record;
 use state::Ends;
 use state::moved;
@@ -132,7 +134,7 @@ fn unite(
     let s = tags[i];
     let r = refers_to(kinds, s, words[i]);
     if s < EXPR {
-        return import_record(
+        return import_by_table(
             words,
             tags,
             kinds,
@@ -418,7 +420,7 @@ fn second_pass(
     while x < b {
         let y = x;
         x += 1;
-        e = need(
+        e = bring(
             words,
             tags,
             kinds,
@@ -545,14 +547,19 @@ fn compared(words: &[u32; 16384], tags: &[u8; 16384], i: usize, end: usize) -> u
     0
 }
 
+// The kinds of atomic statements.
+const ATOMIC_KIND: u32 = 13;
+
+const IMAGE_ATOMIC_KIND: u32 = 16;
+
 // Whether a statement of the kind k is atomic.
 fn atomic(k: u32) -> bool
     ensures { λ r. ⌜ r ≡ atomicKind k ⌝ }
 {
-    if k == 13 {
+    if k == ATOMIC_KIND {
         return true;
     }
-    k == 16
+    k == IMAGE_ATOMIC_KIND
 }
 
 // What an atomic statement compares, where its kind is word i.

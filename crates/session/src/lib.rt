@@ -13,6 +13,8 @@ use refusals::NO_RECORD;
 use state::Ends;
 use state::kinds;
 use state::nothing;
+use views::CONSTANTS;
+use views::TYPES;
 use words::wide;
 ghost use mathlib.Core.Path.{_≡_};
 ghost use Prim.Native.Nat.{ℕ, _≤_, min};
@@ -20,6 +22,40 @@ ghost use lib.ListN.{length, set};
 ghost use Rattle.making.specs.Stacks.{Stacks};
 ghost use Rattle.operations.specs.Live.{sessionOf, Live};
 ghost use Rattle.session.specs.Sessions.{saying, Stepped, Quiet, Wrote, Recorded, valueOf, orElse, numbered, Sessions};
+
+// The operations by their numbers, as include/wuldgisp.h lists them.
+pub const SET: u32 = 0;
+
+pub const CLEAR: u32 = 1;
+
+pub const MAP_SPAN: u32 = 2;
+
+pub const IMPORT_TYPE: u32 = 3;
+
+pub const RENAME_TYPE: u32 = 4;
+
+pub const IMPORT_CONST: u32 = 5;
+
+pub const IMPORT_PIPELINE_OVERRIDE: u32 = 6;
+
+pub const IMPORT_GLOBAL: u32 = 7;
+
+pub const IMPORT_GLOBAL_EXPRESSION: u32 = 8;
+
+pub const IMPORT_FUNCTION: u32 = 9;
+
+pub const IMPORT_FUNCTION_IF_NEW: u32 = 10;
+
+pub const MAP_FUNCTION_HANDLE: u32 = 11;
+
+pub const HAS_REQUIRED_SPECIAL_TYPES: u32 = 12;
+
+pub const FINISH: u32 = 13;
+
+pub const FINISH_WITH_ENTRY_POINTS: u32 = 14;
+
+// The import of a constant, an override, a global or an expression has the number of its table, plus this.
+const TABLES: usize = IMPORT_CONST as usize - CONSTANTS;
 
 // What a step says, and the session behind it: whether a source is set, its words and its offset, and the ends of the state.
 pub struct Step {
@@ -247,7 +283,7 @@ fn perform(
     ensures { λ r. ⌜ Live (r .set) (r .n) (r .offset) (now (words .exit)) (now (tags .exit)) (now (kinds .entry)) (now (log .exit)) (now (classes .exit)) (now (starts .exit)) (now (maps .exit)) (now (marks .exit)) (now (special .exit)) (r .ends) ⌝ }
     ensures { λ r. ⌜ Stacks (now (stacks .exit)) (r .ends) ⌝ }
 {
-    if o.operation == 0 {
+    if o.operation == SET {
         return set_step(
             words,
             tags,
@@ -266,7 +302,7 @@ fn perform(
             o,
         );
     }
-    if o.operation == 1 {
+    if o.operation == CLEAR {
         return Step {
             refusal: 0,
             first: 0,
@@ -277,7 +313,7 @@ fn perform(
             ends: ends,
         };
     }
-    if o.operation == 2 {
+    if o.operation == MAP_SPAN {
         let got = map_span(set, offset, o.a, o.b);
         return Step {
             refusal: got.refusal,
@@ -289,7 +325,7 @@ fn perform(
             ends: ends,
         };
     }
-    if o.operation == 12 {
+    if o.operation == HAS_REQUIRED_SPECIAL_TYPES {
         let v = required(special, ends);
         return Step {
             refusal: 0,
@@ -301,7 +337,7 @@ fn perform(
             ends: ends,
         };
     }
-    if o.operation == 13 {
+    if o.operation == FINISH {
         return plain_step(
             words,
             tags,
@@ -320,7 +356,7 @@ fn perform(
             o,
         );
     }
-    if o.operation == 14 {
+    if o.operation == FINISH_WITH_ENTRY_POINTS {
         return entries_step(
             words,
             tags,
@@ -394,7 +430,7 @@ fn record_step(
     ensures { λ r. ⌜ Live set n offset (now (words .entry)) (now (tags .entry)) (now (kinds .entry)) (now (log .exit)) (now (classes .exit)) (now (starts .exit)) (now (maps .exit)) (now (marks .exit)) (now (special .entry)) (r .ends) ⌝ }
     ensures { λ r. ⌜ Stacks (now (stacks .exit)) (r .ends) ⌝ }
 {
-    if o.operation == 3 {
+    if o.operation == IMPORT_TYPE {
         return import(
             words,
             tags,
@@ -409,11 +445,11 @@ fn record_step(
             ends,
             set,
             offset,
-            1,
+            TYPES,
             o.a,
         );
     }
-    if o.operation == 4 {
+    if o.operation == RENAME_TYPE {
         return rename_type(
             words,
             tags,
@@ -432,7 +468,7 @@ fn record_step(
             o.b,
         );
     }
-    if o.operation < 9 {
+    if o.operation < IMPORT_FUNCTION {
         return import(
             words,
             tags,
@@ -447,11 +483,11 @@ fn record_step(
             ends,
             set,
             offset,
-            wide(o.operation) - 3,
+            wide(o.operation) - TABLES,
             o.a,
         );
     }
-    if o.operation == 9 {
+    if o.operation == IMPORT_FUNCTION {
         return import_function(
             words,
             tags,
@@ -470,7 +506,7 @@ fn record_step(
             o.a,
         );
     }
-    if o.operation < 12 {
+    if o.operation < HAS_REQUIRED_SPECIAL_TYPES {
         return map_function_handle(
             words,
             tags,

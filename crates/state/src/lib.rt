@@ -1,6 +1,8 @@
 // The state of a session, in arrays that the caller lends: a log of derived words and their classes, where each record starts in it, where the numbers of
 // the source went, marks of the records that are there; the counts go by value. A record is a count and that many words. What a record of the source becomes
 // is compared with a record that is there, hashed, and written.
+use classes::SPAN;
+use classes::UPTO;
 use distinct::mix;
 use std::num::wrapping_add_u32;
 use words::wide;
@@ -91,7 +93,20 @@ pub fn left(e: Ends) -> usize
     16361 - 2 * e.pairs - e.used
 }
 
-// What each class refers to: a table's number, plus 8 where the word is an optional number; 6 for nothing, 7 for a function.
+// The kinds of classes, by what a word of the class refers to: a record of a table has the table's number; an expression of the word's own function has that of
+// global expressions; then nothing, and a function.
+pub const OWN: usize = 5;
+
+pub const NOTHING: usize = 6;
+
+pub const FUNCTION: usize = 7;
+
+// An optional number has this much more.
+pub const OPTIONAL: usize = 8;
+
+pub const OPT_OWN: usize = OPTIONAL + OWN;
+
+// The kind of each class.
 pub fn kinds() -> [u8; 256]
     ensures { λ r. ⌜ r ≡ kindBytes ⌝ }
 {
@@ -361,7 +376,7 @@ fn slot(x: u8) -> usize
     x as usize
 }
 
-// What the class s refers to.
+// The kind of the class s.
 pub fn kind_of(kinds: &[u8; 256], s: u8) -> usize
     requires { ⌜ now kinds ≡ kindBytes ⌝ }
     ensures { λ r. ⌜ (r ≡ kindOf (target s)) × (r < 14) ⌝ }
@@ -377,13 +392,13 @@ pub fn carried(kinds: &[u8; 256], maps: &[[u32; 512]; 6], s: u8, w: u32) -> u32
     ensures { λ r. ⌜ r ≡ through (wentR (now (maps .entry))) s w ⌝ }
 {
     let u = kind_of(kinds, s);
-    if u == 6 {
+    if u == NOTHING {
         return w;
     }
-    if u == 7 {
+    if u == FUNCTION {
         return 0;
     }
-    if u < 6 {
+    if u < NOTHING {
         let v = maps[u][wide(w)];
         if v == 0 {
             return 0;
@@ -393,7 +408,7 @@ pub fn carried(kinds: &[u8; 256], maps: &[[u32; 512]; 6], s: u8, w: u32) -> u32
     if w == 0 {
         return 0;
     }
-    maps[u - 8][wide(w - 1)]
+    maps[u - OPTIONAL][wide(w - 1)]
 }
 
 // Whether a word of the log is a word, unless both are a span's.
@@ -406,10 +421,10 @@ pub fn alike_cell(a: u8, x: u32, b: u8, y: u32) -> bool
     if x == y {
         return true;
     }
-    if a == 81 {
+    if a == SPAN {
         return true;
     }
-    a == 82
+    a == UPTO
 }
 
 // Whether the record at s is what the source's words from `at` to `end` become, spans apart.
@@ -451,10 +466,10 @@ pub fn alike(
 fn bare_word(s: u8, w: u32) -> u32
     ensures { λ r. ⌜ r ≡ bareW (target s) w ⌝ }
 {
-    if s < 81 {
+    if s < SPAN {
         return w;
     }
-    if 82 < s {
+    if UPTO < s {
         return w;
     }
     0
@@ -518,7 +533,7 @@ fn undefined_at(
     requires { ⌜ length (now maps) ≡ 6 ⌝ }
     ensures { λ r. ⌜ r ≡ undefinedAt (target s) w (firstWord (carriedBy (wentR (now (maps .entry))) (now (tags .entry)) (now (words .entry)) i end)) u ⌝ }
 {
-    if s != 81 {
+    if s != SPAN {
         return u;
     }
     if w != 0 {
@@ -534,10 +549,10 @@ fn undefined_at(
 pub fn moved(s: u8, w: u32, offset: u32, u: bool) -> u32
     ensures { λ r. ⌜ r ≡ movedOf (target s) w offset u ⌝ }
 {
-    if s < 81 {
+    if s < SPAN {
         return w;
     }
-    if 82 < s {
+    if UPTO < s {
         return w;
     }
     if u {

@@ -44,30 +44,33 @@ pub fn limits() -> Vec<Case> {
 pub fn worst() -> Vec<Case> {
     vec![
         (
-            "names-512-last-byte".to_owned(),
+            "512 names of equal length that differ in their last bytes".to_owned(),
             write(&Module { names: names_last_byte(512), ..Module::default() }),
         ),
         (
-            "names-512-one-place".to_owned(),
+            "512 names of equal length whose hashes have one place".to_owned(),
             write(&Module { names: names_one_place(512), ..Module::default() }),
         ),
-        ("expressions-1024".to_owned(), write(&one(chained_expressions(1024)))),
-        ("expressions-1024-emits-1024".to_owned(), write(&one(emitted_one_by_one(1024)))),
-        ("compose-of-all".to_owned(), write(&one(composed(14_000)))),
-        ("locals-128-initialised".to_owned(), write(&one(initialised_locals(128, 800)))),
+        ("one function of 1,024 expressions".to_owned(), write(&one(chained_expressions(1024)))),
+        ("1,024 Emits".to_owned(), write(&one(emitted_one_by_one(1024)))),
+        ("a Compose of all".to_owned(), write(&one(composed(14_000)))),
+        ("128 locals with initialisers".to_owned(), write(&one(initialised_locals(128, 800)))),
         (
-            "calls-chain-256".to_owned(),
+            "256 functions, each calls the one before".to_owned(),
             write(&functions(256, |own| own.checked_sub(1).into_iter().collect())),
         ),
-        ("calls-chain-256-backwards".to_owned(), write(&functions(256, |own| successor(own, 256)))),
-        ("calls-all-lower-67".to_owned(), write(&functions(67, |own| (0..own).collect()))),
         (
-            "calls-256-of-6-lower".to_owned(),
+            "256 functions, each calls the one behind".to_owned(),
+            write(&functions(256, |own| successor(own, 256))),
+        ),
+        ("67 functions that call all lower ones".to_owned(), write(&functions(67, |own| (0..own).collect()))),
+        (
+            "256 functions that call six lower ones".to_owned(),
             write(&functions(256, |own| (own.saturating_sub(6)..own).collect())),
         ),
-        ("calls-ring-256".to_owned(), write(&functions(256, |own| vec![(own + 1) % 256]))),
-        ("depth-32-of-loops".to_owned(), write(&one(Function { body: nested_loops(32), ..named() }))),
-        ("words-16384".to_owned(), write(&of_words(16_384))),
+        ("256 functions in a ring".to_owned(), write(&functions(256, |own| vec![(own + 1) % 256]))),
+        ("Loops nested 32 deep".to_owned(), write(&one(Function { body: nested_loops(32), ..named() }))),
+        ("16,384 words".to_owned(), write(&of_words(16_384))),
     ]
 }
 
@@ -182,8 +185,9 @@ pub(crate) fn emit(start: usize, end: usize) -> Statement {
     made(statement::EMIT, Body::Emit { start: word(start), end: word(end) })
 }
 
-fn call(callee: usize) -> Statement {
-    let values = vec![Value::One(word(callee)), Value::List(Vec::new()), Value::One(word(0))];
+/// A Call without arguments; the result is optional.
+pub(crate) fn call(callee: usize, result: usize) -> Statement {
+    let values = vec![Value::One(word(callee)), Value::List(Vec::new()), Value::One(word(result))];
     made(statement::CALL, Body::Plain(values))
 }
 
@@ -191,10 +195,17 @@ fn call(callee: usize) -> Statement {
 pub(crate) fn functions(count: usize, callees: impl Fn(usize) -> Vec<usize>) -> Module {
     let function = |own| Function {
         name: word(own + 1),
-        body: callees(own).into_iter().map(call).collect(),
+        body: callees(own).into_iter().map(|callee| call(callee, 0)).collect(),
         ..Function::default()
     };
     Module { names: names(count), functions: (0..count).map(function).collect(), ..Module::default() }
+}
+
+/// An entry point that makes these calls.
+pub(crate) fn calling_entry(callees: Vec<usize>) -> EntryPoint {
+    let body = callees.into_iter().map(|callee| call(callee, 0)).collect();
+    let function = Function { body, ..Function::default() };
+    EntryPoint { name: word(1), function, ..EntryPoint::default() }
 }
 
 /// So many functions and calls between them, drawn; without rings in a sequence of their own.

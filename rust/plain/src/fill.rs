@@ -4,6 +4,7 @@
 //! one import brings them. An image is filled by functions of as many words as are wanted.
 
 use crate::cases::{self, word};
+use crate::deep::{module, pointers, Depths};
 use crate::fields::{expression, limit, statement};
 use crate::generate_session::{given, Draft, Generated};
 use crate::module::*;
@@ -56,7 +57,12 @@ pub fn full_table(random: &mut Random) -> Generated {
 
 impl Draft {
     /// Sets a source for each of these ranges and brings all of its records.
-    fn fill_table(&mut self, random: &mut Random, filling: &Filling, ranges: [std::ops::Range<usize>; 2]) {
+    pub(crate) fn fill_table(
+        &mut self,
+        random: &mut Random,
+        filling: &Filling,
+        ranges: [std::ops::Range<usize>; 2],
+    ) {
         for numbers in ranges {
             let source = self.set_new(random, (filling.source)(numbers));
             if let Some((operation, count)) = filling.bulk {
@@ -70,17 +76,17 @@ impl Draft {
 type Import = (u32, fn(&Module) -> usize);
 
 /// How a table is filled.
-struct Filling {
+pub(crate) struct Filling {
     table: &'static str,
-    most: usize,
+    pub most: usize,
     /// A source that has the records of these numbers.
-    source: fn(std::ops::Range<usize>) -> Module,
+    pub source: fn(std::ops::Range<usize>) -> Module,
     /// The import whose last record brings all of them; special types come with the source itself.
     bulk: Option<Import>,
     /// The import that brings one.
-    single: Option<Import>,
+    pub single: Option<Import>,
     /// The records that such a source has beside those of its numbers.
-    more: usize,
+    pub more: usize,
 }
 
 const IMPORT_TYPE: Import = (operation::IMPORT_TYPE, |module| module.types.len());
@@ -104,7 +110,7 @@ const fn filling(
     Filling { table, most: limit::RECORDS as usize, source, bulk, single, more: 0 }
 }
 
-const FILLING: [Filling; 10] = [
+pub(crate) const FILLING: [Filling; 10] = [
     filling("names", names_source, Some(IMPORT_TYPE), Some(RENAME_TYPE)),
     filling("types", types_source, Some(IMPORT_FUNCTION), Some(IMPORT_TYPE)),
     filling("constants", constants_source, Some(IMPORT_FUNCTION), Some(IMPORT_CONST)),
@@ -221,7 +227,7 @@ fn pairs_source(numbers: std::ops::Range<usize>) -> Module {
 // ---- an image that is full ----
 
 /// Words of an image at most.
-const WORDS: usize = limit::BYTES / 4;
+pub(crate) const WORDS: usize = limit::BYTES / 4;
 
 /// Words of a header with special types, of a name of one letter with its offset, of a function without statements, of
 /// an entry point before its function, and of a leaf with its offset.
@@ -233,7 +239,7 @@ const LEAF: usize = 12;
 
 /// What brings the last words of a full image.
 #[derive(Clone, Copy, Debug)]
-enum Last {
+pub(crate) enum Last {
     Function,
     EntryPoint,
     SpecialType,
@@ -251,7 +257,7 @@ pub fn full_image(random: &mut Random) -> Generated {
 
 impl Draft {
     /// One function that is imported, and then what makes the image one of so many words.
-    fn fill_image(&mut self, random: &mut Random, last: Last, total: usize) {
+    pub(crate) fn fill_image(&mut self, random: &mut Random, last: Last, total: usize) {
         let rest = total - EMPTY - NAME - 1;
         let (first, before) = match last {
             Last::Function => (random.between(100, rest - 200), NAME + 1),
@@ -297,17 +303,26 @@ fn heavy(words: usize) -> Function {
 /// A source in which one import leads through a long chain.
 pub fn deep(random: &mut Random) -> Generated {
     let mut draft = Draft::new(random, "deep source");
-    let (module, operation, number) = match random.below(4) {
+    let (module, operation, number) = match random.below(5) {
         0 => {
             let (count, depth) = *random.pick(&[(256, 9), (150, 17), (80, 32)]);
             (deep_calls(count, depth), operation::IMPORT_FUNCTION, 0)
         }
-        1 => (deep_types(limit::RECORDS as usize), operation::IMPORT_TYPE, limit::RECORDS - 1),
+        1 => (deep_types(), operation::IMPORT_TYPE, limit::RECORDS - 1),
         2 => {
             let expressions = limit::RECORDS as usize;
             (deep_constants(expressions), operation::IMPORT_GLOBAL_EXPRESSION, limit::RECORDS - 1)
         }
-        _ => (deep_initialiser(limit::EXPRESSIONS as usize), operation::IMPORT_FUNCTION, 0),
+        3 => (deep_initialiser(limit::EXPRESSIONS as usize), operation::IMPORT_FUNCTION, 0),
+        _ => {
+            let depths = Depths {
+                functions: random.between(1, 150),
+                initialisers: random.between(1, 400),
+                constants: random.between(1, 200),
+                types: random.between(1, 200),
+            };
+            (module(depths), operation::MAP_FUNCTION_HANDLE, 0)
+        }
     };
     draft.set_new(random, module);
     draft.step(operation, number, 0, 0);
@@ -329,14 +344,8 @@ fn deep_calls(count: usize, depth: usize) -> Module {
 }
 
 /// Pointers to pointers.
-fn deep_types(count: usize) -> Module {
-    let pointer = |base: usize| Type {
-        inner: Inner::Pointer { base: word(base), space: [word(0); 2] },
-        ..cases::leaf()
-    };
-    let mut types = vec![cases::leaf()];
-    types.extend((1..count).map(|own| pointer(own - 1)));
-    Module { types, ..cases::base() }
+fn deep_types() -> Module {
+    Module { types: pointers(limit::RECORDS as usize), ..cases::base() }
 }
 
 /// Expressions that name constants that have the expressions before them as their inits.

@@ -55,6 +55,11 @@ pub fn small(random: &mut Random) -> Generated {
 fn small_source(random: &mut Random, before: &[Module]) -> (Option<Module>, Vec<u8>) {
     let like = (!before.is_empty() && random.once_in(3)).then(|| random.pick(before).clone());
     if let Some(module) = like {
+        if random.once_in(3) {
+            let module = renamed(random, module);
+            let image = write(&module);
+            return (Some(module), image);
+        }
         let (_, image) = mutate(random, &module);
         return (admit(&image).ok(), image);
     }
@@ -65,13 +70,37 @@ fn small_source(random: &mut Random, before: &[Module]) -> (Option<Module>, Vec<
         Options { functions: 8, records: 6, statements: 4, rings: false },
         Options { functions: 6, records: 3, statements: 2, rings: true },
     ]);
-    let module = generate(random, options);
+    let module = if random.once_in(6) { calling(random) } else { generate(random, options) };
     let module = if random.once_in(2) { with_twins(random, module) } else { module };
     if random.once_in(12) {
         return (None, mutate(random, &module).1);
     }
     let image = write(&module);
     (Some(module), image)
+}
+
+/// Functions that only call, with names that such sources share, and entry points that call them.
+fn calling(random: &mut Random) -> Module {
+    let functions = random.between(1, 9);
+    let (calls, rings) = (random.below(2 * functions), random.once_in(2));
+    let mut module = cases::graph(random, functions, calls, rings);
+    for _ in 0..random.below(3) {
+        let callees = (0..random.below(3)).map(|_| random.below(functions)).collect();
+        module.entry_points.push(cases::calling_entry(callees));
+    }
+    renamed(random, module)
+}
+
+/// The module with other texts for the numbers of its names: exchanged among them, or all of another length.
+fn renamed(random: &mut Random, mut module: Module) -> Module {
+    if random.once_in(2) {
+        let by = random.below(module.names.len().max(1));
+        module.names.rotate_left(by);
+    } else {
+        let more = vec![b'x'; random.between(1, 5)];
+        module.names.iter_mut().for_each(|name| name.bytes.extend(&more));
+    }
+    module
 }
 
 /// Sources of many functions and some thousand words.

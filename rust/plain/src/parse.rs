@@ -51,8 +51,8 @@ pub fn assemble(text: &str) -> Parsed<Vec<u8>> {
     Ok(write(&parser.module()?))
 }
 
-/// A place in the text: line and column.
-type Place = (usize, usize);
+/// A place in a text: line and column, counted from 1.
+pub type Place = (usize, usize);
 
 /// The place behind the last character.
 fn end(text: &str) -> Place {
@@ -87,7 +87,7 @@ fn line_tokens(number: usize, line: &str, tokens: &mut Vec<(Place, Token)>) -> P
         match first {
             '#' => return Ok(()),
             '"' => {
-                let (bytes, behind) = quoted(place, rest)?;
+                let (bytes, behind) = string(place, rest)?;
                 tokens.push((place, Token::Quoted(bytes)));
                 rest = behind;
             }
@@ -108,8 +108,8 @@ fn line_tokens(number: usize, line: &str, tokens: &mut Vec<(Place, Token)>) -> P
     Ok(())
 }
 
-/// A string from its first quote on: its bytes, and what stands behind it.
-fn quoted((line, column): Place, text: &str) -> Parsed<(Vec<u8>, &str)> {
+/// A string, from its first quote on to the end of its line: its bytes, and what stands behind it.
+pub fn string((line, column): Place, text: &str) -> Result<(Vec<u8>, &str), TextError> {
     let error = |rest: &[u8], message: &str| {
         let before = String::from_utf8_lossy(&text.as_bytes()[..text.len() - rest.len()]).chars().count();
         TextError { line, column: column + before, message: message.to_owned() }
@@ -143,6 +143,17 @@ fn quoted((line, column): Place, text: &str) -> Parsed<(Vec<u8>, &str)> {
             }
         }
     }
+}
+
+/// A number of 32 bits, decimal or behind 0x hexadecimal.
+pub fn number(word: &str) -> Option<u32> {
+    let (digits, radix) = match word.strip_prefix("0x") {
+        Some(digits) => (digits, 16),
+        None => (word, 10),
+    };
+    // The library's reading would take a sign too.
+    let unsigned = !digits.starts_with('+');
+    u32::from_str_radix(digits, radix).ok().filter(|_| unsigned)
 }
 
 /// The tokens that are left, the next one last.
@@ -246,18 +257,12 @@ impl Parser {
         }
     }
 
-    /// A number of 32 bits, decimal or behind 0x hexadecimal.
     fn number(&mut self) -> Parsed<u32> {
-        let expected = "a number below 4294967296";
-        let Some(Token::Word(word)) = self.peek() else { return Err(self.expects(expected)) };
-        let (digits, radix) = match word.strip_prefix("0x") {
-            Some(digits) => (digits, 16),
-            None => (word.as_str(), 10),
+        let read = match self.peek() {
+            Some(Token::Word(word)) => number(word),
+            _ => None,
         };
-        // The library's reading would take a sign too.
-        let unsigned = !digits.starts_with('+');
-        let number = u32::from_str_radix(digits, radix).ok().filter(|_| unsigned);
-        let number = number.ok_or(self.expects(expected))?;
+        let number = read.ok_or(self.expects("a number below 4294967296"))?;
         self.tokens.pop();
         Ok(number)
     }
@@ -486,7 +491,7 @@ impl Parser {
     }
 
     fn expression(&mut self) -> Parsed<Expression> {
-        let kind = self.kind(&EXPRESSIONS, "a kind of expression")?;
+        let kind = self.kind(EXPRESSIONS, "a kind of expression")?;
         let span = self.span()?;
         let values = self.values(&EXPRESSIONS[kind as usize])?;
         Ok(Expression { kind: kind.into(), span, values })

@@ -25,6 +25,27 @@ pub const OPERATIONS: [&str; 15] = [
     "finish_with_entry_points",
 ];
 
+/// The refusals of each operation, and of a number that is none.
+pub const REFUSALS: [&[u32]; OPERATIONS.len() + 1] = [
+    &[1, 2, 3, 4, 5, 6, 21],
+    &[],
+    &[20],
+    &[20, 13, 21],
+    &[20, 13, 21],
+    &[20, 13, 21],
+    &[20, 13, 21],
+    &[20, 13, 21],
+    &[20, 13, 21],
+    &[20, 13, 22, 21],
+    &[20, 13, 22, 21],
+    &[20, 13, 22, 21],
+    &[],
+    // 21 too, but what was accepted before is never too large.
+    &[7],
+    &[20, 22, 21, 7],
+    &[13],
+];
+
 /// Their numbers.
 pub mod operation {
     pub const SET: u32 = 0;

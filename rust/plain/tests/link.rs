@@ -29,9 +29,17 @@ fn modules() -> Vec<Module> {
         assert_eq!(plain::intake(&plain::write(&module)), Ok(()), "{seed}");
         modules.push(module);
     }
-    let cases = plain::cases::limits().into_iter().chain(plain::cases::worst());
+    let cases = plain::cases::limits().into_iter().chain(plain::cases::worst()).chain(plain::heavy::images());
     modules.extend(cases.filter_map(|(_, image)| plain::admit(&image).ok()));
     modules
+}
+
+#[test]
+fn heavy_and_deep_images_link() {
+    for (name, image) in plain::heavy::images().into_iter().chain(plain::deep::images()) {
+        assert!((58_000..=65_536).contains(&image.len()), "{name}: {}", image.len());
+        assert!(linked_image(&image).is_ok(), "{name}");
+    }
 }
 
 /// The linked image, whose length link answers.

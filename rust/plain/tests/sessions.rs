@@ -6,7 +6,7 @@ use plain::fields::limit;
 use plain::generate_session::{session, Generated};
 use plain::module::Name;
 use plain::random::Random;
-use plain::steps::{run, ANSWER, OPERATIONS, STEP};
+use plain::steps::{run, ANSWER, OPERATIONS, REFUSALS, STEP};
 
 /// A session that was run.
 struct Ran {
@@ -105,13 +105,29 @@ fn sessions_keep_their_promises() {
         turned_back += finished_images_are_valid(&generated, &all);
     }
     assert!(turned_back > 100, "{turned_back}");
-    let mut expected =
-        BTreeSet::from([(0, 21), (2, 20), (13, 7), (14, 7), (14, 20), (14, 21), (14, 22), (15, 13)]);
+    let mut expected = refusals();
     expected.extend((0..15).map(|operation| (operation, 0)));
-    expected.extend((1..=6).map(|refusal| (0, refusal)));
-    expected.extend((3..=11).flat_map(|import| [20, 13, 21].map(|refusal| (import, refusal))));
-    expected.extend((9..=11).map(|import| (import, 22)));
     assert_eq!(met, expected);
+}
+
+/// Each operation with each of its refusals.
+fn refusals() -> BTreeSet<(u32, u32)> {
+    let of_one = |(operation, refusals): (usize, &&[u32])| {
+        refusals.iter().map(|refusal| (operation as u32, *refusal)).collect::<Vec<_>>()
+    };
+    REFUSALS.iter().enumerate().flat_map(of_one).collect()
+}
+
+#[test]
+fn there_is_a_session_for_each_refusal() {
+    let mut met = BTreeSet::new();
+    for (generated, operation, refusal) in plain::refused::sessions() {
+        let all = ran(&generated, &generated.steps);
+        let (step, answer) = answered(&generated, &all).last().unwrap();
+        assert_eq!((step[0], answer[0]), (operation, refusal), "{}", generated.what);
+        met.insert((operation, refusal));
+    }
+    assert_eq!(met, refusals());
 }
 
 #[test]

@@ -37,7 +37,7 @@ pub fn told(input: &Input, image: &[u8], refusal: Refusal) -> Vec<String> {
 }
 
 /// The rule that failed and its word.
-fn detail(image: &[u8], refusal: Refusal) -> String {
+pub fn detail(image: &[u8], refusal: Refusal) -> String {
     match wuldgisp::place(image) {
         Some(place) if place.number == refusal.number() => match place.word {
             Some(word) => format!(" (word {word}; rule: {})", place.rule),
@@ -64,8 +64,12 @@ pub fn accepted(input: &Input) -> Json {
 
 /// The object of a refused image or call.
 pub fn refused(input: &Input, image: &[u8], refusal: Refusal) -> Json {
-    let object = Json::object([
-        ("file", Json::text(input.file())),
+    refused_of(Json::object([("file", Json::text(input.file()))]), image, refusal)
+}
+
+/// What is known of a refusal, behind the members of an object.
+pub fn refused_of(object: Json, image: &[u8], refusal: Refusal) -> Json {
+    let object = object.and([
         ("accepted", Json::Bool(false)),
         ("refusal", refusal.number().into()),
         ("sentence", Json::text(refusal.sentence())),

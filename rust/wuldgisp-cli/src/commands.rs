@@ -3,7 +3,7 @@
 
 use crate::arguments::Given;
 use crate::files::Output;
-use crate::{assemble, check, inspect, link, order, redirect, Answer, Input};
+use crate::{assemble, check, inspect, link, order, redirect, session, Answer, Input};
 
 /// One command.
 pub struct Command {
@@ -12,7 +12,7 @@ pub struct Command {
     pub usage: &'static str,
     /// What it does, in a line.
     pub summary: &'static str,
-    /// The rest of its help, a paragraph to a string.
+    /// The rest of its help, a paragraph to a string; lines in it stay lines.
     pub about: &'static [&'static str],
     pub options: &'static [Opt],
     /// Of these options one may be given.
@@ -80,6 +80,23 @@ const IN_PLACE: Opt = flag("--in-place", "write each image back to its file, in 
 const fn name(long: &'static str, times: Times, about: &'static str) -> Opt {
     Opt { long, short: None, value: Some("NAME"), times, about }
 }
+
+/// The steps of a plan.
+const STEPS: &str = "  set FILE [offset NUMBER]
+  clear
+  map_span START END
+  import_type TYPE
+  rename_type TYPE as NAME
+  import_const CONSTANT
+  import_pipeline_override OVERRIDE
+  import_global GLOBAL
+  import_global_expression NUMBER
+  import_function FUNCTION
+  import_function_if_new FUNCTION
+  map_function_handle FUNCTION
+  has_required_special_types
+  finish FILE
+  finish_with_entry_points FILE";
 
 /// Options of every command.
 pub const COMMON: &[Opt] = &[
@@ -189,6 +206,26 @@ pub const COMMANDS: &[Command] = &[
         excluding: &["--output", "--in-place", "--folder"],
         inputs: link::inputs,
         run: link::run,
+    },
+    Command {
+        name: "session",
+        usage: "[--json] [FILE]",
+        summary: "the steps of a plan: records and functions of several images drawn into new ones",
+        about: &[
+            "FILE is a plan, a step a line; # starts a comment (docs/PLAN.md):",
+            STEPS,
+            "A record is given by its number, by its name or by @ and the number of its name; names are those of the \
+             source that is set last. Relative paths start at the plan's folder.",
+            "For each step a line with its line in the plan, the step and its answer. A refused step changes nothing,              and the next one follows. A finish that is accepted writes its FILE, in one stroke; that intake refuses \
+             the image, since a function was imported twice, is told behind its bytes.",
+            "What is wrong with a plan is told with line and column; then no answer is told and nothing is written.",
+            "A JSON object has `file`, `line`, `step` (counted from 0), `operation`, `accepted` and the answer: `start`              and `end`, the record's number under `type`, `constant`, `override`, `global`, `global_expression` or              `function`, `special_types`, or `output`, `bytes` and, where intake refuses the image, `image_refusal`; or \
+             the members of a refusal as check has them.",
+        ],
+        options: &[flag("--json", "a JSON object on a line for each step")],
+        excluding: &[],
+        inputs: |_| Inputs::One,
+        run: session::run,
     },
     Command {
         name: "inspect",

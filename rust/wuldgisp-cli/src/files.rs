@@ -59,8 +59,21 @@ fn shown(path: &Path) -> String {
 impl Input {
     /// `-` is standard input.
     pub fn new(word: OsString) -> Self {
-        let below = Path::new(&word).file_name().map(PathBuf::from).unwrap_or_default();
-        Input { path: (word != "-").then(|| word.into()), below }
+        match word == "-" {
+            true => Input { path: None, below: word.into() },
+            false => Input::at(word.into()),
+        }
+    }
+
+    /// The file at a path.
+    pub fn at(path: PathBuf) -> Self {
+        let below = path.file_name().map(PathBuf::from).unwrap_or_default();
+        Input { path: Some(path), below }
+    }
+
+    /// The folder that it is in: of standard input the one that the program was started in.
+    pub fn folder(&self) -> &Path {
+        self.path.as_deref().and_then(Path::parent).unwrap_or(Path::new(""))
     }
 
     /// As JSON names it.

@@ -10,14 +10,14 @@ const WIDTH: usize = 100;
 const INPUTS: &str = "A FILE of - or no FILE is standard input; a folder stands for the files in and below it \
                       that end in .img. Behind -- every word is a FILE. A word behind an option may also stand \
                       behind an equals sign, as in --output=FILE.";
-const STATUS: &str = "Exit status: 0 accepted; 1 an image, a redirect or a link was refused; 2 misuse: a command \
-                      that is not understood, a file that cannot be read or written, a text that is not of the form, a \
-                      name that is not in the image.";
+const STATUS: &str = "Exit status: 0 accepted; 1 an image, a redirect, a link or a step was refused; 2 misuse: a \
+                      command that is not understood, a file that cannot be read or written, a text that is not of the \
+                      form, a name that is not in the image.";
 
 /// The help of all.
 pub fn all() -> String {
     let mut text =
-        "wuldgisp: module images, checked, ordered, redirected and linked by a proved archive\n\n".to_owned();
+        "wuldgisp: module images, checked, ordered, redirected, linked and put together by a proved archive\n\n".to_owned();
     for command in COMMANDS {
         usage(&mut text, 2, command);
         paragraph(&mut text, 8, 8, command.summary);
@@ -39,7 +39,10 @@ fn own(command: &Command) -> String {
     paragraph(&mut text, 0, 0, &sentence(command.summary));
     for about in command.about {
         text.push('\n');
-        paragraph(&mut text, 0, 0, about);
+        for line in about.lines() {
+            let indent = line.len() - line.trim_start().len();
+            paragraph(&mut text, indent, indent, line);
+        }
     }
     text.push('\n');
     let options: Vec<(String, &str)> =

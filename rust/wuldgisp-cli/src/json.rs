@@ -36,8 +36,15 @@ impl Json {
 
     /// An object with members behind those that it has.
     pub fn and<const N: usize>(self, members: [(&str, Json); N]) -> Self {
-        let Json::Object(mut all) = self else { unreachable!("members are an object's") };
-        all.extend(members.into_iter().map(|(key, value)| (key.to_owned(), value)));
+        self.join(Json::object(members))
+    }
+
+    /// An object with the members of another behind those that it has.
+    pub fn join(self, other: Json) -> Self {
+        let (Json::Object(mut all), Json::Object(members)) = (self, other) else {
+            unreachable!("members are an object's")
+        };
+        all.extend(members);
         Json::Object(all)
     }
 

@@ -13,11 +13,15 @@ mod files;
 mod help;
 mod inspect;
 mod json;
+mod line;
 mod link;
 mod module_json;
 mod names;
 mod order;
+mod plan;
 mod redirect;
+mod session;
+mod written;
 
 use std::process::ExitCode;
 

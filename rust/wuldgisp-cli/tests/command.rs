@@ -281,6 +281,8 @@ fn misuse_is_told_in_one_line() {
         &["check", "-", "-"],
         &["assemble", "/"],
         &["assemble", "not-there.txt"],
+        &["session", "not-there.txt"],
+        &["session", "a", "b"],
         &["help", "chek"],
     ] {
         let (status, out, err) = answer(words, b"");
@@ -297,7 +299,7 @@ fn help_is_there_for_all_and_for_each() {
         assert_eq!(status, 0);
         assert!(out.contains("Exit status: 0 accepted"));
     }
-    for command in ["check", "order", "redirect", "link", "inspect", "assemble"] {
+    for command in ["check", "order", "redirect", "link", "inspect", "assemble", "session"] {
         let (status, out, _) = answer(&["help", command], b"");
         assert_eq!((status, &out), (0, &answer(&[command, "--help"], b"").1));
         assert!(out.starts_with(&format!("wuldgisp {command} ")), "{out}");

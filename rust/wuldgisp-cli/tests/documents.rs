@@ -33,8 +33,10 @@ fn what_users_see_cites_what_is_there() {
         "docs/IMAGE.md",
         "docs/TEXT.md",
         "docs/COMMANDS.md",
+        "docs/PLAN.md",
         "rust/wuldgisp/src/lib.rs",
         "rust/wuldgisp/src/refusal.rs",
+        "rust/wuldgisp/src/session.rs",
     ];
     let rules = page("docs/RULES.md");
     for name in pages {
@@ -112,6 +114,37 @@ fn the_text_form_is_as_its_page_says() {
     assert!(image == std::fs::read(root().join("vectors/001.img")).unwrap());
     let error = plain::assemble("wuldgisp-text 1\ntypes {\n  array size=4\n}\n").unwrap_err();
     assert!(text.contains(&format!("    {error}\n")), "{error}");
+}
+
+/// The lines of a page that are indented, in runs, without what indents them.
+fn indented(text: &str) -> Vec<String> {
+    let runs = text.split("\n\n").filter(|run| run.starts_with("    "));
+    runs.map(|run| run.lines().map(|line| format!("{}\n", &line[4..])).collect()).collect()
+}
+
+#[test]
+fn plans_are_as_their_page_says() {
+    let text = page("docs/PLAN.md");
+    let help = answer(&["session", "--help"], b"").1;
+    for operation in plain::steps::OPERATIONS {
+        assert!(text.contains(&format!("| `{operation}")) && help.contains(operation), "{operation}");
+    }
+    let [plan, listing, refused, wrong] = &indented(&text)[..] else { panic!("a plan and what it tells") };
+    assert_eq!(*plan, page("examples/both.plan"));
+    for image in ["vectors/000.img", "vectors/001.img"] {
+        file(&format!("plan/{image}"), &std::fs::read(root().join(image)).unwrap());
+    }
+    let folder = folder().join("plan");
+    std::fs::create_dir_all(folder.join("target")).unwrap();
+    let run = |plan: &str| {
+        file("plan/examples/both.plan", plan.as_bytes());
+        shell(&format!("cd {} && $PROGRAM session examples/both.plan", folder.display()))
+    };
+    assert_eq!(run(plan), (0, listing.clone(), String::new()));
+    assert_eq!(plain::intake(&std::fs::read(folder.join("target/both.img")).unwrap()), Ok(()));
+    let (status, out, _) = run(&plan.replace("_if_new a", " 9"));
+    assert_eq!((status, out.contains(refused)), (1, true), "{out}");
+    assert_eq!(run(&plan.replace("fog", "fgo")), (2, String::new(), wrong.clone()));
 }
 
 #[test]

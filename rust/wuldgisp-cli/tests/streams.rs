@@ -9,6 +9,9 @@ fn lost_output_is_told() {
     let text = folder().join("streams.txt");
     std::fs::write(&text, SHADE).unwrap();
     let assemble = format!("assemble {}", text.display());
+    let plan = folder().join("streams-plan.txt");
+    std::fs::write(&plan, "clear\n").unwrap();
+    let session = format!("session {}", plan.display());
     for command in [
         "check $IMAGE",
         "order $IMAGE",
@@ -16,6 +19,7 @@ fn lost_output_is_told() {
         "redirect --original=fog --replacement=tone $IMAGE",
         "link $IMAGE",
         &assemble,
+        &session,
         "--help",
     ] {
         let (status, _, err) = shell(&format!("$PROGRAM {command} >/dev/full"));
@@ -32,7 +36,7 @@ fn lost_output_is_told() {
 
 #[test]
 fn lost_input_is_told() {
-    for command in ["check", "order", "link", "inspect", "assemble"] {
+    for command in ["check", "order", "link", "inspect", "assemble", "session"] {
         let (status, out, err) = shell(&format!("$PROGRAM {command} <&-"));
         assert_eq!((status, out.as_str(), err.as_str()), (2, "", "wuldgisp: standard input: it is closed\n"));
         let (status, out, err) = shell(&format!("$PROGRAM {command} < ."));

@@ -1,13 +1,13 @@
-//! Module images, checked, ordered and redirected by a proved archive.
+//! Module images, checked, ordered, redirected, linked and put together by a proved archive.
 //!
 //! The functions here are thin: they lend their slices to the C functions of `libwuldgisp.a` and give the answers
 //! a type. What the answers are is said, and proved, where the archive is made; an image is at most 65,536 bytes
 //! of little-endian words, and every byte slice, of any length and content, has an answer. `docs/RULES.md` of the
 //! repository has the rules that the answers follow, and `docs/IMAGE.md` the image word by word.
 //!
-//! [`Image`] reads names and looks functions up by name; [`redirect_by_name`] redirects by name. With the feature
-//! `place` there is `place`, which says where in an image a rule is broken. A thread that calls should have a stack of
-//! at least [`STACK`] bytes.
+//! [`Image`] reads names and looks functions up by name; [`redirect_by_name`] redirects by name; a [`Session`] draws
+//! records and functions of several images into new ones. With the feature `place` there is `place`, which says where in
+//! an image a rule is broken. A thread that calls should have a stack of at least [`STACK`] bytes.
 //!
 //! ```
 //! // fog and tone; shade calls fog, and fog calls tone.
@@ -35,11 +35,13 @@ mod image;
 #[cfg(feature = "place")]
 mod place;
 mod refusal;
+mod session;
 
 pub use image::Image;
 #[cfg(feature = "place")]
 pub use place::{place, Place};
 pub use refusal::Refusal;
+pub use session::{run_steps, Answers, Session, Ticket, TooLong};
 
 /// The stack that a calling thread should have at least, in bytes. Threads of Rust's library have more by themselves.
 pub const STACK: usize = wuldgisp_sys::WULDGISP_STACK;

@@ -2,7 +2,7 @@
 use native.Mathlib.Omega.{arith}
 use borrow.Author.Needs.{needs}
 use Rattle.making.proofs.Stack.{made-low}
-use Rattle.making.proofs.Appends.{legible, merge-old, merge-new}
+use Rattle.making.proofs.Appends.{rises, legible, merge-old, merge-new}
 use Rattle.making.proofs.merge.Statement.{statement}
 use Rattle.making.proofs.merge.Tie as tie
 
@@ -31,7 +31,7 @@ seat-requires : tie.Need-seat-requires
 seat-requires c κs =
     let p = c .before .before .before .before .before .before .pre in
     let U = c .before .before .before .before .before .before .pre .1 .1 .1 .1 .1 in
-    (p .0, (p .1 .0, (p .1 .1 .0, (legible (p .1 .1 .1 .0) (p .1 .1 .1 .1 .0 .0) (c .before .before .before .before .slot .ensures .0) (c .before .before .slot2 .ensures .0), (U .stacks-are, U .rising, U .made-is)))))
+    (p .0, (p .1 .0, (p .1 .1 .0, (legible (p .1 .1 .1 .0) (p .1 .1 .1 .1 .0 .0) (c .before .before .before .before .slot .ensures .0) (c .before .before .slot2 .ensures .0), (U .stacks-are, U .rising, U .made-is, rises (p .1 .1 .1 .0) (p .1 .1 .1 .1 .0 .0) (c .before .before .before .before .slot .ensures .0) (c .before .before .slot2 .ensures .0) .0)))))
 
 add-em : tie.Need-add-em
 add-em c = search needs

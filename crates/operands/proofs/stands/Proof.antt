@@ -1,20 +1,9 @@
 -- `stands` meets its contract, by its three ranges of kinds. Assumes nothing.
-use mathlib.Core.Path.{_≡_, refl, sym}
-use mathlib.Core.Bool.{Bool, true, false}
-use Prim.Native.Nat.{ℕ}
 use native.Mathlib.Omega.{arith}
-use lib.Dec.{ltb, leb}
-use borrow.Author.Tests.{ltb-true, ltb-false, le-leb, lt-leb}
+use borrow.Author.Tests.{le-leb, lt-leb}
 use Rattle.model.specs.Operands.{standingKind}
 use Rattle.operands.proofs.stands.Statement.{statement}
 use Rattle.operands.proofs.stands.Tie as tie
-
-below : (k : ℕ) → ltb k 12 ≡ leb k 11
-below k = go (ltb k 12) refl
-  where
-    go : (b : Bool) → ltb k 12 ≡ b → b ≡ leb k 11
-    go true e = let h = ltb-true k 12 e in sym (le-leb k 11 (omega arith))
-    go false e = let h = ltb-false k 12 e in sym (lt-leb k 11 (omega arith))
 
 returns : tie.Need-returns
 unfolding standingKind
@@ -26,7 +15,7 @@ returns-2 c = let l = c .before .if1 .left in let h = c .if2 .taken in rw (stand
 
 returns-3 : tie.Need-returns-3
 unfolding standingKind
-returns-3 c = let l = c .if2 .left in rw (standingKind, lt-leb (c .before .before .args .k) 3 (omega arith), le-leb 9 (c .before .before .args .k) (omega arith)) (below (c .before .before .args .k))
+returns-3 c = let l = c .if2 .left in rw (standingKind, lt-leb (c .before .before .args .k) 3 (omega arith), le-leb 9 (c .before .before .args .k) (omega arith))
 
 pub stands-spec : {M : Type 1} → statement M
 stands-spec = tie.close (tie.spec returns returns-2 returns-3)

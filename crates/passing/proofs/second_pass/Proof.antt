@@ -23,8 +23,8 @@ add-x c =
     let h = c .loop-test .taken in
     omega arith
 
-need-requires : tie.Need-need-requires Inv-loop μ-loop
-need-requires c κs =
+bring-requires : tie.Need-bring-requires Inv-loop μ-loop
+bring-requires c κs =
     let p = c .before .before .before .before .before .before .before .before .before .pre in
     let inv = c .before .before .before .before .before .before .before .before .loop .inv in
     let l = p .1 .1 .0 in
@@ -32,13 +32,13 @@ need-requires c κs =
     (p .0, (p .1 .0, ((omega arith, inv .going), (inv .makes .kept (inv .going), inv .makes .under (inv .going)))))
 
 returns : tie.Need-returns Inv-loop μ-loop
-returns c = let a = c .before .before .before .before .before .before .before .before .before .before .before .args in range-full (c .before .before .before .before .before .before .before .before .before .before .before .pre .1 .1 .1 .1 .0) (c .before .before .before .before .before .before .before .before .before .before .loop .inv) (c .before .before .before .before .before .before .before .before .before .loop-test .taken) (c .before .need .ensures) (c .if1 .taken) (needs-grow (a .offset) (a .words .now) (a .tags .now) (a .n) (a .places .now) (a .k))
+returns c = let a = c .before .before .before .before .before .before .before .before .before .before .before .args in range-full (c .before .before .before .before .before .before .before .before .before .before .before .pre .1 .1 .1 .1 .0) (c .before .before .before .before .before .before .before .before .before .before .loop .inv) (c .before .before .before .before .before .before .before .before .before .loop-test .taken) (c .before .bring .ensures) (c .if1 .taken) (needs-grow (a .offset) (a .words .now) (a .tags .now) (a .n) (a .places .now) (a .k))
 
 loop-less : tie.Need-loop-less Inv-loop μ-loop
 loop-less c = let h = c .before .before .before .before .before .before .before .before .before .loop-test .taken in omega arith
 
 loop-again : tie.Need-loop-again Inv-loop μ-loop
-loop-again c = range-more (c .before .before .before .before .before .before .before .before .before .before .before .pre .1 .1 .1 .1 .0) (c .before .before .before .before .before .before .before .before .before .before .loop .inv) (c .before .before .before .before .before .before .before .before .before .loop-test .taken) (c .before .need .ensures) (c .if1 .left)
+loop-again c = range-more (c .before .before .before .before .before .before .before .before .before .before .before .pre .1 .1 .1 .1 .0) (c .before .before .before .before .before .before .before .before .before .before .loop .inv) (c .before .before .before .before .before .before .before .before .before .loop-test .taken) (c .before .bring .ensures) (c .if1 .left)
 
 returns-2 : tie.Need-returns-2 Inv-loop μ-loop
 returns-2 c = range-done (c .before .before .pre .1 .1 .1 .1 .0) (c .before .loop .inv) (c .loop-test .left)
@@ -51,7 +51,7 @@ second-pass-spec =
     μ-loop
     loop-holds
     add-x
-    need-requires
+    bring-requires
     returns
     loop-less
     loop-again

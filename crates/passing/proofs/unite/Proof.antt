@@ -18,8 +18,8 @@ element-copy-out-refers-to c = search needs
 refers-to-requires : tie.Need-refers-to-requires
 refers-to-requires c κs = search needs
 
-import-record-requires : tie.Need-import-record-requires
-import-record-requires c κs =
+import-by-table-requires : tie.Need-import-by-table-requires
+import-by-table-requires c κs =
     let a = c .before .before .before .before .before .before .before .before .before .args in
     let p = c .before .before .before .before .before .before .before .before .before .pre in
     let t = c .before .before .before .before .before .before .refers-to in
@@ -30,7 +30,7 @@ returns c =
     let a = c .before .before .before .before .before .before .before .before .before .before .args in
     let p = c .before .before .before .before .before .before .before .before .before .before .pre in
     let t = c .before .before .before .before .before .before .before .refers-to in
-    brings-record (a .words .now) (a .n) (a .k) (a .offset) (unites (a .offset) (a .words .now) (a .tags .now) (a .n) (a .places .now) (a .k)) (unites (a .offset) (a .words .now) (a .tags .now) (a .n) (a .places .now) (a .k)) (getD (a .tags .now) (a .i) 0) (getD (a .words .now) (a .i) 0) (t .result .table) (t .result .number) (t .ensures .0) (t .ensures .1) (p .1 .1 .1 .1 .0) (p .1 .1 .1 .1 .1) (c .before .before .before .before .before .before .if1 .taken) (c .import-record .ensures)
+    brings-record (a .words .now) (a .n) (a .k) (a .offset) (unites (a .offset) (a .words .now) (a .tags .now) (a .n) (a .places .now) (a .k)) (unites (a .offset) (a .words .now) (a .tags .now) (a .n) (a .places .now) (a .k)) (getD (a .tags .now) (a .i) 0) (getD (a .words .now) (a .i) 0) (t .result .table) (t .result .number) (t .ensures .0) (t .ensures .1) (p .1 .1 .1 .1 .0) (p .1 .1 .1 .1 .1) (c .before .before .before .before .before .before .if1 .taken) (c .import-by-table .ensures)
 
 returns-2 : tie.Need-returns-2
 returns-2 c =
@@ -64,7 +64,7 @@ unite-spec =
     mul-refers-to
     element-copy-out-refers-to
     refers-to-requires
-    import-record-requires
+    import-by-table-requires
     returns
     returns-2
     wide-requires
