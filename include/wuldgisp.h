@@ -3,7 +3,9 @@
  * Every function returns for every input, reads and writes nothing but what it is lent, and keeps nothing. A null pointer may be given only with
  * length 0. Several threads may call at the same time.
  *
- * Stack: give a thread that calls at least WULDGISP_STACK bytes. Every call that was measured ran in a thread of 132 KiB (docs/PERFORMANCE.md).
+ * Stack: give a thread that calls wuldgisp_intake, wuldgisp_order or wuldgisp_redirect at least WULDGISP_STACK bytes, and one that calls wuldgisp_link
+ * or wuldgisp_session at least WULDGISP_LINK_STACK. Measured (docs/PERFORMANCE.md): 132 KiB for the first three; 1,892 KiB for link; for a session
+ * 1,548 KiB where 256 functions nest, and 2,692 KiB where, at their end, 1,024 initialisers, 181 constants and 512 types nest too.
  *
  * docs/RULES.md has the rules behind every refusal, and docs/IMAGE.md the image word by word.
  */
@@ -15,6 +17,8 @@
 
 /* The stack that a calling thread should have at least: 256 KiB. */
 #define WULDGISP_STACK 262144
+/* The same for link and sessions: 4 MiB. */
+#define WULDGISP_LINK_STACK 4194304
 
 #ifdef __cplusplus
 extern "C" {

@@ -7,10 +7,8 @@ use compare::scripts::Script;
 use plain::steps::operation;
 use plain::{cases, deep, heavy};
 
-/// Enough for link.
-const LINK: usize = 2 << 20;
-/// Enough for a session, in which functions nest.
-const SESSION: usize = 4 << 20;
+/// What a thread of Rust's library has by itself.
+const THREAD: usize = 2 << 20;
 
 /// Images at and past each limit, and those made to be slow or deep.
 fn images() -> Vec<(String, Vec<u8>)> {
@@ -19,7 +17,10 @@ fn images() -> Vec<(String, Vec<u8>)> {
 
 /// Runs a check of every image in a thread with such a stack.
 fn in_stack(size: usize, check: fn(&str, Vec<u8>)) {
-    let images = images();
+    of_these(images(), size, check);
+}
+
+fn of_these(images: Vec<(String, Vec<u8>)>, size: usize, check: fn(&str, Vec<u8>)) {
     let all = move || images.into_iter().for_each(|(name, image)| check(&name, image));
     std::thread::Builder::new().stack_size(size).spawn(all).unwrap().join().unwrap();
 }
@@ -35,8 +36,8 @@ fn intake_order_and_redirect_run_in_the_recommended_stack() {
 }
 
 #[test]
-fn link_runs_in_its_stack() {
-    in_stack(LINK, |name, image| {
+fn link_runs_in_a_thread_of_the_library() {
+    in_stack(THREAD, |name, image| {
         let ordered = wuldgisp::order(&image).is_ok();
         let linked = archive::link(&image, &mut vec![0; image.len()]) as u32 == 0;
         assert_eq!(linked, ordered, "{name}");
@@ -44,8 +45,8 @@ fn link_runs_in_its_stack() {
 }
 
 #[test]
-fn sessions_run_in_their_stack() {
-    in_stack(SESSION, |name, image| {
+fn sessions_run_in_the_recommended_stack() {
+    in_stack(wuldgisp::LINK_STACK, |name, image| {
         let mut linked = vec![0; image.len()];
         let answer = archive::link(&image, &mut linked);
         if answer as u32 != 0 {
@@ -59,5 +60,18 @@ fn sessions_run_in_their_stack() {
             assert_eq!(Script::nested(&image, number).run(&image), 0, "{name}");
         }
         assert_eq!(Script::entered(&image).run(&image), 0, "{name}");
+    });
+}
+
+/// 256 functions, each of which calls another: imported by one step, they nest 256 deep.
+#[test]
+fn functions_nest_256_deep_in_a_thread_of_the_library() {
+    let mut chains = images();
+    chains.retain(|(name, _)| name.starts_with("256 functions, each calls the one"));
+    assert_eq!(chains.len(), 3);
+    of_these(chains, THREAD, |name, image| {
+        for number in [operation::IMPORT_FUNCTION, operation::MAP_FUNCTION_HANDLE] {
+            assert_eq!(Script::nested(&image, number).run(&image), 0, "{name}");
+        }
     });
 }

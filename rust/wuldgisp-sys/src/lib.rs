@@ -9,6 +9,9 @@
 /// The stack that a calling thread should have at least, in bytes.
 pub const WULDGISP_STACK: usize = 262144;
 
+/// The same for link and sessions.
+pub const WULDGISP_LINK_STACK: usize = 4194304;
+
 extern "C" {
     pub fn wuldgisp_intake(image: *const u8, image_len: usize) -> u32;
     pub fn wuldgisp_order(image: *const u8, image_len: usize, order: *mut u32, order_len: usize) -> u64;

@@ -83,10 +83,17 @@ fn declarations_are_the_headers() {
 }
 
 #[test]
-fn the_stack_is_the_headers() {
+fn the_stacks_are_the_headers() {
     let header = Path::new(env!("CARGO_MANIFEST_DIR")).join("../../include/wuldgisp.h");
-    let define = format!("#define WULDGISP_STACK {}\n", wuldgisp_sys::WULDGISP_STACK);
-    assert!(std::fs::read_to_string(header).unwrap().contains(&define), "no {define}");
+    let header = std::fs::read_to_string(header).unwrap();
+    let stacks = [
+        ("WULDGISP_STACK", wuldgisp_sys::WULDGISP_STACK),
+        ("WULDGISP_LINK_STACK", wuldgisp_sys::WULDGISP_LINK_STACK),
+    ];
+    for (name, bytes) in stacks {
+        let define = format!("#define {name} {bytes}\n");
+        assert!(header.contains(&define), "no {define}");
+    }
 }
 
 #[test]

@@ -284,6 +284,9 @@ impl Session {
     }
 
     /// Runs the steps. The session stays as it is: more steps can be added, and all be run again.
+    ///
+    /// The call has a thread of its own with a stack of [`LINK_STACK`](crate::LINK_STACK) bytes, since functions of a
+    /// source may nest deep; it panics where the system has no thread left.
     pub fn run(&self) -> Result<Answers, TooLong> {
         if self.too_long || u32::try_from(self.steps.len()).is_err() {
             return Err(TooLong);
@@ -291,7 +294,11 @@ impl Session {
         let mut words = vec![[0; 3]; self.steps.len()];
         let mut output = vec![0; self.output];
         let (steps, answers) = (self.steps.as_flattened(), words.as_flattened_mut());
-        let first = run_steps(&self.sources, steps, answers, &mut output);
+        let call = || run_steps(&self.sources, steps, answers, &mut output);
+        let first = std::thread::scope(|scope| {
+            let thread = std::thread::Builder::new().stack_size(crate::LINK_STACK).spawn_scoped(scope, call);
+            thread.expect("a thread for the session").join().expect("a call that returns")
+        });
         Ok(Answers { first, steps: self.steps.clone(), words, output })
     }
 
