@@ -1,57 +1,27 @@
 -- Seeking an expression on the stack that equals a record: most are told from it by their lengths, or by one word of the record. Assumes nothing.
 use mathlib.Core.Path.{_≡_, refl, sym, _∙_}
 use mathlib.Core.Bool.{Bool, true, false}
-use mathlib.Core.List.{List, [], _∷_}
+use mathlib.Core.List.{List, []}
 use Prim.Native.Nat.{ℕ, zero, suc, _+_, _-_, _≤_, _<_}
 use native.Mathlib.Nat.{le-refl, le-of-lt}
 use native.Mathlib.Omega.{arith}
 use lib.Dec.{eqb, ltb}
 use lib.ListN.{length, getD, drop}
 use borrow.Author.Tests.{ltb-true, ltb-false, eqb-true, eqb-false, ne-eqb}
-use Rattle.model.specs.Outcome.{Cell, Cells}
+use Rattle.model.specs.Outcome.{Cells}
 use Rattle.model.specs.Between.{between}
-use Rattle.model.specs.References.{Place, Node, target, refOf, refs, through, alikeC, alike, seat}
+use Rattle.model.specs.References.{Place, target, refOf, through, alikeC, alike, seat}
 use Rattle.imports.specs.RecordLaws.{All}
-use Rattle.laws.specs.Betweens.{between-next}
 use Rattle.state.specs.Held.{row, cell, carriedBy}
 use Rattle.state.specs.declared.Ends.{Ends}
 use Rattle.state.proofs.Classes.{alike-class, alike-upto}
-use Rattle.state.proofs.Passes.{all-here, all-next, carried-next, compares-short}
+use Rattle.state.proofs.Passes.{compares-short}
+use Rattle.state.proofs.Unlike.{all-at, unlike}
 use Rattle.ground.specs.Fits.{FitN, Legible}
 use Rattle.ground.specs.Cuts.{nextOf, Rising}
 use Rattle.making.specs.Stacks.{seatsOf, madeOf, Stacks}
 use Rattle.making.specs.Makes.{Hops, Apart}
 use Rattle.making.proofs.Stacked.{Seating, seat-room, seat-first, seat-at, seat-within, seat-found, seat-more, seat-last}
-
--- ---- one word of a stretch
-module _ (tags words : List ℕ) (end : ℕ) (t : end ≤ length tags) (w : end ≤ length words) (P : Node → Type 0) (j : ℕ) (h : j < end) where
-  all-at : (d i : ℕ) → j ≡ i + d → All P (refs (between tags words i end)) → All P (refOf (target (getD tags j 0)) (getD words j 0) [])
-  all-at zero i q a = let z : j ≡ i = omega arith in rw z (all-here tags words i end (omega arith) t w P a)
-  all-at (suc d) i q a = all-at d (suc i) (omega arith) (all-next tags words i end (omega arith) t w P a)
-
--- ---- records that are not alike in one word are not alike
-head-not : (c d : Cell) (cs ds : Cells) → alikeC c d ≡ false → alike (c ∷ cs) (d ∷ ds) ≡ false
-unfolding alike
-head-not c d cs ds e = rw (e, alike)
-
-rest-not : (c d : Cell) (cs ds : Cells) → alike cs ds ≡ false → alike (c ∷ cs) (d ∷ ds) ≡ false
-unfolding alike
-rest-not c d cs ds e = go (alikeC c d)
-  where
-    go : (x : Bool) → elim x [ true ↦ alike cs ds | false ↦ false ] ≡ false
-    go true = e
-    go false = refl
-
-module _ (tags words classes log : List ℕ) (went : Place → ℕ → ℕ) (end to : ℕ) (t : end ≤ length tags) (w : end ≤ length words) (u : to ≤ length classes) (v : to ≤ length log) (j q : ℕ) (h : j < end)
-    (e : alikeC (getD classes q 0, getD log q 0) (getD tags j 0, through went (getD tags j 0) (getD words j 0)) ≡ false) where
-  unlike : (d i p : ℕ) → j ≡ i + d → q ≡ p + d → p + (end - i) ≡ to → alike (between classes log p to) (carriedBy went tags words i end) ≡ false
-  unlike zero i p hj hq l =
-      let x : i ≡ j = omega arith in
-      let y : p ≡ q = omega arith in
-      rw (x, y) (rw (between-next classes log q to (omega arith) u v, carried-next tags words j end h t w went) (head-not _ _ _ _ e))
-  unlike (suc d) i p hj hq l =
-      rw (between-next classes log p to (omega arith) u v, carried-next tags words i end (omega arith) t w went)
-      (rest-not _ _ _ _ (unlike d (suc i) (suc p) (omega arith) (omega arith) (omega arith)))
 
 -- ---- a word that is another, and no span's
 word-not : (c x s y : ℕ) → (s ≡ 81 → ⊥) → (s ≡ 82 → ⊥) → (x ≡ y → ⊥) → alikeC (c, x) (s, y) ≡ false

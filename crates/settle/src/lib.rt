@@ -2,6 +2,8 @@
 // one that the mark at its place shows, and only where that shows several is the table searched.
 use state::Ends;
 use state::alike;
+use state::alike_cell;
+use state::carried;
 use state::grown;
 use state::left;
 use state::place;
@@ -14,11 +16,43 @@ ghost use Prim.Native.Nat.{ℕ, suc, _+_, _-_, _≤_, _<_};
 ghost use lib.ListN.{length, getD, take};
 ghost use Rattle.model.specs.Module.{countAt};
 ghost use Rattle.model.specs.Between.{between};
-ghost use Rattle.model.specs.References.{shift, seat};
+ghost use Rattle.model.specs.References.{shift, seat, alike as alikeOf};
 ghost use Rattle.model.specs.Imports.{settle as settled};
 ghost use Rattle.state.specs.Refers.{tabOf, wentR};
 ghost use Rattle.state.specs.Marks.{MARKS, placeR, Left};
-ghost use Rattle.state.specs.Held.{row, cell, recsAt, Kept, Lands, Readable, Nameless, carriedBy};
+ghost use Rattle.state.specs.Held.{row, cell, recAt, recsAt, Kept, Lands, Readable, Nameless, carriedBy};
+
+// Whether the record at s is what the source's words from `at` to `end` become, spans apart: the same as `alike`, but the last word is looked at first. Records
+// that are sought in vain mostly differ there.
+fn same(
+    words: &[u32; 16384],
+    tags: &[u8; 16384],
+    kinds: &[u8; 256],
+    log: &[u32; 16384],
+    classes: &[u8; 16384],
+    maps: &[[u32; 512]; 6],
+    at: usize,
+    end: usize,
+    s: usize,
+) -> bool
+    requires { ⌜ Readable (now words) (now tags) (now kinds) at end ⌝ }
+    requires { ⌜ (s + suc (getD (now log) s 0) ≤ 16384) × (length (now log) ≡ 16384) × (length (now classes) ≡ 16384) × (length (now maps) ≡ 6) ⌝ }
+    ensures { λ r. ⌜ r ≡ alikeOf (recAt (now (log .entry)) (now (classes .entry)) s) (carriedBy (wentR (now (maps .entry))) (now (tags .entry)) (now (words .entry)) at end) ⌝ }
+{
+    let n = end - at;
+    if n == 0 {
+        return alike(words, tags, kinds, log, classes, maps, at, end, s);
+    }
+    if wide(log[s]) != n {
+        return false;
+    }
+    let b = tags[end - 1];
+    let y = carried(kinds, maps, b, words[end - 1]);
+    if !alike_cell(classes[s + n], log[s + n], b, y) {
+        return false;
+    }
+    alike(words, tags, kinds, log, classes, maps, at, end, s)
+}
 
 // The first of table t's n records that is, spans apart, what the source's words become; or n.
 fn find(
@@ -44,7 +78,7 @@ fn find(
         let j = k;
         k += 1;
         let s = wide(starts[t][j]);
-        if alike(words, tags, kinds, log, classes, maps, at, end, s) {
+        if same(words, tags, kinds, log, classes, maps, at, end, s) {
             return j;
         }
     }

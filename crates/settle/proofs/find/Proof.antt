@@ -10,7 +10,7 @@ use Rattle.settle.proofs.find.Statement.{statement}
 use Rattle.settle.proofs.find.Tie as tie
 use Rattle.settle.proofs.find.Reads as reads
 use Rattle.settle.proofs.find.Lts as lts
-use Rattle.state.proofs.alike.Reads as alike-reads
+use Rattle.settle.proofs.same.Reads as same-reads
 use Rattle.words.proofs.wide.Reads as wide-reads
 
 abbrev Inv-loop : tie.InvT-loop
@@ -48,12 +48,12 @@ wide-requires : tie.Need-wide-requires Inv-loop μ-loop
 wide-requires c κs = search needs
 
 -- src/lib.rt:473:12
-alike-requires : tie.Need-alike-requires Inv-loop μ-loop
-alike-requires c κs = let a = (c .before .before .before .before .args) in let p = (c .before .before .before .before .pre) in let q = p .1 .0 in (p .0, (rw (c .wide .ensures .0) (p .1 .1 (c .before .before .before .loop .k) (c .before .before .loop-test .taken)), q .2, q .3, q .4))
+same-requires : tie.Need-same-requires Inv-loop μ-loop
+same-requires c κs = let a = (c .before .before .before .before .args) in let p = (c .before .before .before .before .pre) in let q = p .1 .0 in (p .0, (rw (c .wide .ensures .0) (p .1 .1 (c .before .before .before .loop .k) (c .before .before .loop-test .taken)), q .2, q .3, q .4))
 
 -- src/lib.rt:474:13
 returns : tie.Need-returns Inv-loop μ-loop
-returns c = let a = (c .before .before .before .before .before .before .args) in let p = (c .before .before .before .before .before .before .pre) in let q = p .1 .0 in seek-found (a .log .now) (a .classes .now) (getD (a .starts .now) (a .t) []) (carriedBy (wentR (a .maps .now)) (a .tags .now) (a .words .now) (a .at) (a .end)) (a .n) (rw (q .5) (q .1)) (c .before .before .before .before .before .loop .k) (c .before .before .before .before .before .loop .inv) (c .before .before .before .before .loop-test .taken) _ (c .before .before .wide .ensures .0) _ (c .before .alike .ensures) (c .if1 .taken)
+returns c = let a = (c .before .before .before .before .before .before .args) in let p = (c .before .before .before .before .before .before .pre) in let q = p .1 .0 in seek-found (a .log .now) (a .classes .now) (getD (a .starts .now) (a .t) []) (carriedBy (wentR (a .maps .now)) (a .tags .now) (a .words .now) (a .at) (a .end)) (a .n) (rw (q .5) (q .1)) (c .before .before .before .before .before .loop .k) (c .before .before .before .before .before .loop .inv) (c .before .before .before .before .loop-test .taken) _ (c .before .before .wide .ensures .0) _ (c .before .same .ensures) (c .if1 .taken)
 
 -- src/lib.rt:469:5
 loop-less : tie.Need-loop-less Inv-loop μ-loop
@@ -61,7 +61,7 @@ loop-less c = search needs
 
 -- src/lib.rt:469:5
 loop-again : tie.Need-loop-again Inv-loop μ-loop
-loop-again c = let a = (c .before .before .before .before .before .before .args) in let p = (c .before .before .before .before .before .before .pre) in let q = p .1 .0 in seek-more (a .log .now) (a .classes .now) (getD (a .starts .now) (a .t) []) (carriedBy (wentR (a .maps .now)) (a .tags .now) (a .words .now) (a .at) (a .end)) (a .n) (rw (q .5) (q .1)) (c .before .before .before .before .before .loop .k) (c .before .before .before .before .before .loop .inv) (c .before .before .before .before .loop-test .taken) _ (c .before .before .wide .ensures .0) _ (c .before .alike .ensures) (c .if1 .left)
+loop-again c = let a = (c .before .before .before .before .before .before .args) in let p = (c .before .before .before .before .before .before .pre) in let q = p .1 .0 in seek-more (a .log .now) (a .classes .now) (getD (a .starts .now) (a .t) []) (carriedBy (wentR (a .maps .now)) (a .tags .now) (a .words .now) (a .at) (a .end)) (a .n) (rw (q .5) (q .1)) (c .before .before .before .before .before .loop .k) (c .before .before .before .before .before .loop .inv) (c .before .before .before .before .loop-test .taken) _ (c .before .before .wide .ensures .0) _ (c .before .same .ensures) (c .if1 .left)
 
 -- src/lib.rt:450:1
 returns-2 : tie.Need-returns-2 Inv-loop μ-loop
@@ -80,7 +80,7 @@ find-spec =
     index-1-wide
     index-2-wide
     wide-requires
-    alike-requires
+    same-requires
     returns
     loop-less
     loop-again
