@@ -3,6 +3,8 @@
 // holds the names in that order, so that all eight tables are written alike. The size is known before anything is written: 21 where it passes the limit,
 // 7 where the output is shorter, and the bytes behind the image stay.
 // On the stack: 64 KiB for the image's words, 20 KiB beside them.
+use refusals::FULL;
+use refusals::SHORT_OUTPUT;
 use sections::all_sizes;
 use sections::appearing;
 use sections::write_heads;
@@ -27,11 +29,6 @@ const MOST_ENTRIES: usize = 16;
 
 // The words that an image may have.
 const MOST_WORDS: usize = 16384;
-
-// Refusals: the output is too short; the image is too large.
-const SHORT: u32 = 7;
-
-const FULL: u32 = 21;
 
 // The refusal, or 0; and the bytes written.
 pub struct Answer {
@@ -145,7 +142,7 @@ pub fn finish(
     }
     if output.len() < 4 * k {
         return Answer {
-            refusal: SHORT,
+            refusal: SHORT_OUTPUT,
             bytes: 0,
         };
     }
