@@ -10,3 +10,4 @@ pub mod Follows
 pub mod Few
 pub mod Locals
 pub mod Appending
+pub mod Calms

@@ -9,8 +9,10 @@ use making::index;
 use making::slot;
 use passing::declare;
 use passing::flag;
+use passing::longer;
 use passing::pass;
 use passing::put_word;
+use passing::run;
 use state::Ends;
 use views::FUNCTIONS;
 use views::body_at;
@@ -120,73 +122,95 @@ pub fn localize(
     let mut i = body;
     let mut u = false;
     while i < end {
-        let j = i;
-        i += 1;
-        u = flag(words, tags, j, end, u);
-        if tags[j] == CALLEE {
-            e = follow(
-                words,
-                tags,
-                kinds,
-                n,
-                log,
-                classes,
-                starts,
-                maps,
-                marks,
-                stacks,
-                places,
-                e,
-                offset,
-                wide(words[j]),
-                room,
-                exprs + 1,
-                end,
-            );
+        let r = run(
+            words,
+            tags,
+            kinds,
+            n,
+            log,
+            classes,
+            starts,
+            maps,
+            &em,
+            stacks,
+            e,
+            offset,
+            i,
+            end,
+            u,
+        );
+        e = longer(e, r.at - i);
+        i = r.at;
+        u = r.undefined;
+        if i < end {
+            let j = i;
+            i += 1;
+            u = flag(words, tags, j, end, u);
+            if tags[j] == CALLEE {
+                e = follow(
+                    words,
+                    tags,
+                    kinds,
+                    n,
+                    log,
+                    classes,
+                    starts,
+                    maps,
+                    marks,
+                    stacks,
+                    places,
+                    e,
+                    offset,
+                    wide(words[j]),
+                    room,
+                    exprs + 1,
+                    end,
+                );
+                if e.full {
+                    return e;
+                }
+                e = put_word(
+                    words,
+                    tags,
+                    kinds,
+                    n,
+                    log,
+                    classes,
+                    starts,
+                    maps,
+                    &em,
+                    stacks,
+                    e,
+                    offset,
+                    j,
+                    u,
+                );
+            } else {
+                e = pass(
+                    words,
+                    tags,
+                    kinds,
+                    n,
+                    places,
+                    log,
+                    classes,
+                    starts,
+                    maps,
+                    marks,
+                    &mut em,
+                    stacks,
+                    e,
+                    offset,
+                    e1,
+                    k,
+                    j,
+                    end,
+                    u,
+                );
+            }
             if e.full {
                 return e;
             }
-            e = put_word(
-                words,
-                tags,
-                kinds,
-                n,
-                log,
-                classes,
-                starts,
-                maps,
-                &em,
-                stacks,
-                e,
-                offset,
-                j,
-                u,
-            );
-        } else {
-            e = pass(
-                words,
-                tags,
-                kinds,
-                n,
-                places,
-                log,
-                classes,
-                starts,
-                maps,
-                marks,
-                &mut em,
-                stacks,
-                e,
-                offset,
-                e1,
-                k,
-                j,
-                end,
-                u,
-            );
-        }
-        if e.full {
-            return e;
         }
     }
     let b = e.bt;

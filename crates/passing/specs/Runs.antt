@@ -1,19 +1,22 @@
 -- What passing over words of a function does: to what is under way, and to the stack of words. Assumes nothing: these are definitions.
 use mathlib.Core.Path.{_≡_}
-use mathlib.Core.Bool.{true, false}
+use mathlib.Core.Bool.{Bool, true, false}
 use mathlib.Core.List.{List}
-use Prim.Native.Nat.{ℕ, suc, _+_, _≤_, _<_}
+use Prim.Native.Nat.{ℕ, zero, suc, _+_, _≤_, _<_}
+use lib.Dec.{eqb}
 use lib.ListN.{length, getD, take}
 use lib.Seq.{slice}
-use Rattle.model.specs.Table.{FROM, TO, STMT-KIND}
+use Rattle.model.specs.Table.{EXPR, FROM, TO, STMT-KIND}
 use Rattle.model.specs.Tree.{flatAll}
-use Rattle.model.specs.References.{target}
+use Rattle.model.specs.Between.{between}
+use Rattle.model.specs.References.{Place, target, through, firstWord, undefinedAt, moved}
 use Rattle.model.specs.Bodies.{Making, unique}
 use Rattle.bodies.specs.Shallow.{need, glance}
+use Rattle.passes.specs.Pass.{atomicKind}
 use Rattle.passes.specs.Light.{still}
 use Rattle.state.specs.Refers.{kindOf}
-use Rattle.state.specs.Source.{modOf}
-use Rattle.state.specs.Held.{row, tableOf, sizeR, Over, Kept, Same}
+use Rattle.state.specs.Source.{modOf, refersTo, numberOf}
+use Rattle.state.specs.Held.{row, cell, put, tableOf, sizeR, Over, Kept, Same}
 use Rattle.state.specs.Marks.{Marks}
 use Rattle.state.specs.declared.Ends.{Ends}
 use Rattle.ground.specs.Fits.{Legible}
@@ -70,3 +73,39 @@ pub record Runs (words : List ℕ) (k : ℕ) (f : Making → Making) (g : Making
   pub log-long : length log ≡ 16384
   pub tags-long : length tags ≡ 16384
   pub marks-stay : Marks marks₀ marks
+
+-- ---- words that bring nothing: they name no function, start no Emit and no atomic statement, and what they refer to is mapped
+pub record Quiet (maps : List (List ℕ)) (em : List ℕ) (s w : ℕ) : Type 0 where
+  pub callee : kindOf (target s) ≡ 7 → ⊥
+  pub emit : s ≡ FROM → ⊥
+  pub atomic : s ≡ STMT-KIND → atomicKind w ≡ false
+  pub outside : s < EXPR → refersTo (target s) w < 6 → cell maps (refersTo (target s) w) (numberOf (target s) w) ≡ 0 → ⊥
+  pub inside : EXPR ≤ s → refersTo (target s) w ≡ 5 → getD em (numberOf (target s) w) 0 ≡ 0 → ⊥
+
+-- what such a word becomes, where so many expressions are made
+unfoldable pub becomes : (Place → ℕ → ℕ) → ℕ → ℕ → ℕ → ℕ → Bool → ℕ
+becomes W made o s w u = elim (eqb s TO) [ true ↦ made | false ↦ moved (target s) (through W s w) o u ]
+
+-- whether the span last met is undefined behind word i, and behind d words from i on
+abbrev pub flagOf : List ℕ → List ℕ → ℕ → ℕ → Bool → Bool
+flagOf words tags end i u = undefinedAt (target (getD tags i 0)) (getD words i 0) (firstWord (between tags words (suc i) end)) u
+
+unfoldable pub flagged : List ℕ → List ℕ → ℕ → ℕ → ℕ → Bool → Bool
+flagged words tags end zero i u = u
+flagged words tags end (suc d) i u = flagged words tags end d (suc i) (flagOf words tags end i u)
+
+-- the stacks once d words from i on are written, at p and behind it
+module _ (words tags : List ℕ) (W : Place → ℕ → ℕ) (made o end : ℕ) where
+  unfoldable pub ran : ℕ → ℕ → ℕ → Bool → List (List ℕ) → List (List ℕ)
+  ran zero i p u stacks = stacks
+  ran (suc d) i p u stacks = ran d (suc i) (suc p) (flagOf words tags end i u) (put stacks 3 p (becomes W made o (getD tags i 0) (getD words i 0) (flagOf words tags end i u)))
+
+-- so many words from `at` on were written, and none of them brings anything
+pub record Ran (words tags : List ℕ) (maps : List (List ℕ)) (em : List ℕ) (W : Place → ℕ → ℕ) (made o at end bt : ℕ) (u : Bool) (stacks₀ : List (List ℕ)) (r : ℕ) (v : Bool) (stacks : List (List ℕ)) : Type 0 where
+  pub count : ℕ
+  pub reach : r ≡ at + count
+  pub high : r ≤ end
+  pub room : bt + count ≤ 16384
+  pub quiet : (i : ℕ) → at ≤ i → i < r → Quiet maps em (getD tags i 0) (getD words i 0)
+  pub is : stacks ≡ ran words tags W made o end count at bt u stacks₀
+  pub flag : v ≡ flagged words tags end count at u

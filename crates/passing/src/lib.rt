@@ -8,6 +8,7 @@ use classes::SPAN;
 use classes::STMT_KIND;
 use classes::TO;
 use import::refers_to;
+use making::BODY;
 use making::carried;
 use making::push;
 use operands::bring;
@@ -17,16 +18,18 @@ use operands::unique;
 use outside::import_by_table;
 use outside::import_record;
 use state::Ends;
+use state::FUNCTION;
+use state::kind_of;
 use state::moved;
 use views::EXPRESSIONS;
 use words::wide;
 ghost use mathlib.Core.Path.{_≡_};
-ghost use mathlib.Core.Bool.{false};
+ghost use mathlib.Core.Bool.{true, false};
 ghost use mathlib.Core.List.{[], _∷_, map};
 ghost use Prim.Native.Nat.{suc, _≤_, _<_, _+_};
 ghost use lib.ListN.{length, getD};
 ghost use Rattle.model.specs.Outcome.{word};
-ghost use Rattle.model.specs.Table.{FROM as FROM′};
+ghost use Rattle.model.specs.Table.{EXPR as EXPR′};
 ghost use Rattle.model.specs.Between.{between, Stretch};
 ghost use Rattle.model.specs.Operands.{optional};
 ghost use Rattle.model.specs.References.{target, refOf, through, firstWord, undefinedAt, moved as movedOf};
@@ -35,14 +38,15 @@ ghost use Rattle.model.specs.Bodies.{Making, comparesOf, eachE};
 ghost use Rattle.imports.specs.RecordLaws.{All};
 ghost use Rattle.passes.specs.Pass.{atomicKind, arrive as arriveE, first, both, early, passed, wordOf, after, written};
 ghost use Rattle.passes.specs.Light.{still};
-ghost use Rattle.state.specs.Source.{modOf};
+ghost use Rattle.state.specs.Refers.{kindBytes};
+ghost use Rattle.state.specs.Source.{modOf, refersTo, numberOf};
 ghost use Rattle.state.specs.Held.{Kept};
 ghost use Rattle.known.specs.Bearing.{Bearing};
 ghost use Rattle.ground.specs.Fits.{FitN, Ground, Legible};
 ghost use Rattle.ground.specs.Cuts.{Expressions};
 ghost use Rattle.making.specs.Stacks.{wentOf, Stacks, Under};
 ghost use Rattle.making.specs.Makes.{Makes, Pushed};
-ghost use Rattle.passing.specs.Runs.{unites, needs, glances, Declares, Bodied, Runs};
+ghost use Rattle.passing.specs.Runs.{unites, needs, glances, Declares, Bodied, Quiet, becomes, Ran, Runs};
 
 // Whether the span last met is undefined, once word i is read.
 pub fn flag(words: &[u32; 16384], tags: &[u8; 16384], i: usize, end: usize, u: bool) -> bool
@@ -101,6 +105,180 @@ pub fn put_word(
         words[i],
     );
     push(stacks, ends, moved(s, w, offset, u))
+}
+
+// Whether the word w of the class s brings nothing: it names no function, starts no Emit and no atomic statement, and what it refers to is mapped.
+fn ready(kinds: &[u8; 256], maps: &[[u32; 512]; 6], em: &[u16; 1024], s: u8, w: u32) -> bool
+    requires { ⌜ now kinds ≡ kindBytes ⌝ }
+    requires { ⌜ (s < EXPR′ → refersTo (target s) w < 6 → numberOf (target s) w < 512) × (EXPR′ ≤ s → refersTo (target s) w ≡ 5 → numberOf (target s) w < 1024) ⌝ }
+    ensures { λ r. ⌜ (r ≡ true → Quiet (now (maps .entry)) (now (em .entry)) s w) ⌝ }
+{
+    if kind_of(kinds, s) == FUNCTION {
+        return false;
+    }
+    let r = refers_to(kinds, s, w);
+    let t = r.table;
+    let h = wide(r.number);
+    if s < EXPR {
+        if EXPRESSIONS < t {
+            return true;
+        }
+        if maps[t][h] == 0 {
+            return false;
+        }
+        return true;
+    }
+    if t == EXPRESSIONS {
+        if em[h] == 0 {
+            return false;
+        }
+        return true;
+    }
+    if s == FROM {
+        return false;
+    }
+    if s == STMT_KIND {
+        if atomic(w) {
+            return false;
+        }
+    }
+    true
+}
+
+// What such a word becomes: the end of an Emit's range is what is made, any other goes through the maps, with its span moved.
+fn carry(
+    words: &[u32; 16384],
+    tags: &[u8; 16384],
+    kinds: &[u8; 256],
+    n: usize,
+    log: &[u32; 16384],
+    classes: &[u8; 16384],
+    starts: &[[u32; 512]; 8],
+    maps: &[[u32; 512]; 6],
+    em: &[u16; 1024],
+    ends: Ends,
+    offset: u32,
+    s: u8,
+    w: u32,
+    u: bool,
+) -> u32
+    requires { ⌜ Ground (now words) (now tags) (now kinds) n ⌝ }
+    requires { ⌜ Bearing (now log) (now classes) (now starts) ends ⌝ }
+    requires { ⌜ length (now maps) ≡ 6 ⌝ }
+    requires { ⌜ (All (FitN (now words) 1024) (refOf (target s) w [])) × (ends .made ≤ 16384) ⌝ }
+    ensures { λ r. ⌜ r ≡ becomes (wentOf (now (words .entry)) n (now (log .entry)) (now (classes .entry)) (now (starts .entry)) (now (maps .entry)) ends (now (em .entry))) (ends .made) offset s w u ⌝ }
+{
+    if s == TO {
+        return ends.made as u32;
+    }
+    let x = carried(
+        words,
+        tags,
+        kinds,
+        n,
+        log,
+        classes,
+        starts,
+        maps,
+        em,
+        ends,
+        s,
+        w,
+    );
+    moved(s, x, offset, u)
+}
+
+// How far words were written, and whether the span last met is then undefined.
+pub struct Reach {
+    pub at: usize,
+    pub undefined: bool,
+}
+
+// The words from `at` on, written one behind the other as long as they bring nothing and there is room. Most words are: this passes them on without the ends.
+pub fn run(
+    words: &[u32; 16384],
+    tags: &[u8; 16384],
+    kinds: &[u8; 256],
+    n: usize,
+    log: &[u32; 16384],
+    classes: &[u8; 16384],
+    starts: &[[u32; 512]; 8],
+    maps: &[[u32; 512]; 6],
+    em: &[u16; 1024],
+    stacks: &mut [[u32; 16384]; 4],
+    ends: Ends,
+    offset: u32,
+    at: usize,
+    end: usize,
+    undefined: bool,
+) -> Reach
+    requires { ⌜ Ground (now words) (now tags) (now kinds) n ⌝ }
+    requires { ⌜ Bearing (now log) (now classes) (now starts) ends ⌝ }
+    requires { ⌜ length (now maps) ≡ 6 ⌝ }
+    requires { ⌜ (Legible (now words) (now tags) 1024 at end) × (ends .bt ≤ 16384) × (ends .made ≤ 16384) ⌝ }
+    ensures { λ r. ⌜ Ran (now (words .entry)) (now (tags .entry)) (now (maps .entry)) (now (em .entry)) (wentOf (now (words .entry)) n (now (log .entry)) (now (classes .entry)) (now (starts .entry)) (now (maps .entry)) ends (now (em .entry))) (ends .made) offset at end (ends .bt) undefined (now (stacks .entry)) (r .at) (r .undefined) (now (stacks .exit)) ⌝ }
+{
+    let mut i = at;
+    let mut p = ends.bt;
+    let mut u = undefined;
+    while i < end {
+        let s = tags[i];
+        let w = words[i];
+        if p == 16384 {
+            return Reach {
+                at: i,
+                undefined: u,
+            };
+        }
+        if !ready(kinds, maps, em, s, w) {
+            return Reach {
+                at: i,
+                undefined: u,
+            };
+        }
+        let j = i;
+        let q = p;
+        i += 1;
+        p += 1;
+        u = flag(words, tags, j, end, u);
+        stacks[BODY][q] = carry(
+            words,
+            tags,
+            kinds,
+            n,
+            log,
+            classes,
+            starts,
+            maps,
+            em,
+            ends,
+            offset,
+            s,
+            w,
+            u,
+        );
+    }
+    Reach {
+        at: i,
+        undefined: u,
+    }
+}
+
+// So many words more on the stack of words.
+pub fn longer(e: Ends, n: usize) -> Ends
+    requires { ⌜ e .bt + n ≤ 16384 ⌝ }
+    ensures { λ r. ⌜ r ≡ record { full = false; used = e .used; counts = e .counts; pairs = e .pairs; et = e .et; bt = e .bt + n; made = e .made } ⌝ }
+{
+    let c = e.counts;
+    Ends {
+        full: false,
+        used: e.used,
+        counts: c,
+        pairs: e.pairs,
+        et: e.et,
+        bt: e.bt + n,
+        made: e.made,
+    }
 }
 
 // What word i of declarations refers to: an expression of an initialiser, or a record of a table.
@@ -207,6 +385,29 @@ pub fn declare(
     let mut i = at;
     let mut u = false;
     while i < end {
+        let r = run(
+            words,
+            tags,
+            kinds,
+            n,
+            log,
+            classes,
+            starts,
+            maps,
+            em,
+            stacks,
+            e,
+            offset,
+            i,
+            end,
+            u,
+        );
+        e = longer(e, r.at - i);
+        i = r.at;
+        u = r.undefined;
+        if i == end {
+            return e;
+        }
         let j = i;
         i += 1;
         u = flag(words, tags, j, end, u);
