@@ -137,7 +137,8 @@ fn link_by(
         appended,
         0,
     );
-    let got = ending::finish(&log, &classes, &starts, &special, ends, output);
+    let mut out = [0u32; 16384];
+    let got = ending::finish(&log, &classes, &starts, &special, ends, &mut out, output);
     got.refusal as u64 + (got.bytes as u64) * 4294967296
 }
 
