@@ -95,6 +95,7 @@ fn link_by(
 {
     let kinds = kinds();
     let mut special = [0u32; 1027];
+    // marks that another image left would cost time; the answer does not rest on them
     *marks = [0; 16384];
     let set = source_types(
         words,
