@@ -1,5 +1,5 @@
 // Linking: one module in, one out, callees first. What a fresh session writes that sets the image, imports its functions in output order and finishes with its
-// entry points; nothing is copied on the way, since none of it is refused.
+// entry points; nothing is copied on the way, since none of it is refused. `link_in` works in arrays that its caller lends, `link` in its own.
 use calls::Ordered;
 use functions::enter_all;
 use gather::order_of;
