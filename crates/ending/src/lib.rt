@@ -6,20 +6,21 @@ ghost use lib.ListN.{length};
 ghost use Rattle.ending.specs.Told.{Held, Ended};
 
 // The derived module in bytes, with the entry points that the arrays hold: 21 where it is too large, 7 where it does not fit in the output; then the output
-// is as it was.
+// is as it was. Its words are put together in `out`, which may hold anything before and holds anything after.
 pub fn finish(
     log: &[u32; 16384],
     classes: &[u8; 16384],
     starts: &[[u32; 512]; 8],
     special: &[u32; 1027],
     ends: Ends,
+    out: &mut [u32; 16384],
     output: &mut [u8],
 ) -> Answer
     requires { ⌜ Held (now log) (now classes) (now starts) ends ⌝ }
-    requires { ⌜ length (now special) ≡ 1027 ⌝ }
+    requires { ⌜ (length (now special) ≡ 1027) × (length (now out) ≡ 16384) ⌝ }
     ensures { λ r. ⌜ Ended (now (log .entry)) (now (classes .entry)) (now (starts .entry)) (now (special .entry)) ends (now (output .entry)) (r .refusal) (r .bytes) (now (output .exit)) ⌝ }
 {
     let counts = ends.counts;
     let pairs = ends.pairs;
-    writing::finish(log, classes, starts, counts, special, pairs, output)
+    writing::finish(log, classes, starts, counts, special, pairs, out, output)
 }

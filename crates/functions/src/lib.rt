@@ -431,7 +431,8 @@ pub fn finish_with_entries(
             ends: ends,
         };
     }
-    let got = ending::finish(log, classes, &s, special, e, output);
+    let mut out = [0u32; 16384];
+    let got = ending::finish(log, classes, &s, special, e, &mut out, output);
     if got.refusal != 0 {
         return Finished {
             refusal: got.refusal,

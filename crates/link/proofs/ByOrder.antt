@@ -4,7 +4,7 @@ use mathlib.Core.Bool.{true, false}
 use mathlib.Core.List.{List}
 use Prim.Native.Nat.{ℕ, _+_, _*_, _≤_}
 use native.Mathlib.Omega.{arith}
-use lib.ListN.{length, getD, take, length-take, replicate}
+use lib.ListN.{length, getD, take, length-take, replicate, length-replicate}
 use lib.Seq.{sets}
 use Rattle.words.specs.Words.{bytesOf}
 use Rattle.model.specs.Module.{Module, countAt, write}
@@ -23,7 +23,7 @@ use Rattle.state.specs.Source.{modOf, Source}
 use Rattle.state.specs.Held.{stOf, Over, Kept, Specials}
 use Rattle.state.specs.declared.Ends.{Ends}
 use Rattle.state.proofs.Laws.{none-held}
-use Rattle.state.proofs.Fresh.{st-nothing}
+use Rattle.state.proofs.Fresh.{rows-at, kept-nothing, st-nothing}
 use Rattle.operations.specs.Theorems.{live-new, zeros}
 use Rattle.sourcing.specs.Derives.{Sourced}
 use Rattle.making.specs.Stacks.{Stacks}
@@ -31,8 +31,8 @@ use Rattle.ending.specs.Told.{told, Held, Ended}
 use Rattle.ending.specs.Theorems.{finish-with-told}
 use Rattle.operations.specs.Live.{sessionOf, Live}
 use Rattle.functions.proofs.Sources.{at}
-use Rattle.functions.proofs.Whole.{stacks-empty}
 use Rattle.functions.specs.Brought.{EntersAll}
+use Rattle.link.specs.Lent.{Spaces}
 use Rattle.link.specs.Appends.{Roomy, Sequence, AppendsAll, Linkable, LinksBy}
 use Rattle.link.proofs.Fresh.{fresh-at, set-fits, imported-roomy, finish-fits, link-output}
 use Rattle.link.proofs.Appending.{never, at-reached}
@@ -43,21 +43,34 @@ E = record { full = false; used = 0; counts = replicate 8 0; pairs = 0; et = 0; 
 abbrev pub unmade : List (List ℕ)
 unmade = replicate 6 (replicate 512 0)
 
--- ---- arrays of zeros
-pub zeros-kept : (e : Ends) → e ≡ E → Kept (replicate 16384 0) (replicate 16384 0) (replicate 8 (replicate 512 0)) (replicate 6 (replicate 512 0)) (replicate 16384 0) e
-zeros-kept e q = subst (Kept (replicate 16384 0) (replicate 16384 0) (replicate 8 (replicate 512 0)) (replicate 6 (replicate 512 0)) (replicate 16384 0)) (sym q) (live-new zeros 0 0 .kept)
+-- ---- arrays of these lengths, with nothing in them that counts
+pub specials-none : (e : Ends) → e ≡ E → Specials (replicate 1027 0) e
+specials-none e q = subst (Specials (replicate 1027 0)) (sym q) (live-new zeros 0 0 .specials)
 
-pub zeros-special : (e : Ends) → e ≡ E → Specials (replicate 1027 0) e
-zeros-special e q = subst (Specials (replicate 1027 0)) (sym q) (live-new zeros 0 0 .specials)
+-- arrays of zeros are such
+pub zeros-spaces : Spaces (replicate 16384 0) (replicate 16384 0) (replicate 8 (replicate 512 0)) (replicate 4 (replicate 16384 0))
+zeros-spaces =
+    record {
+      log-long = zeros .log-long;
+      classes-long = zeros .tags-long;
+      starts-eight = zeros .starts-eight;
+      starts-rows = zeros .rows;
+      stacks-four = length-replicate {A = List ℕ} 4 (replicate 16384 0);
+      stacks-rows = λ t h. ap length (rows-at (replicate 16384 0) 4 t h) ∙ length-replicate {A = ℕ} 16384 0;
+    }
 
--- they hold the fresh state, but for the maps
-fresh-sourced : (m : Module) (e : Ends) → e ≡ E → (words : List ℕ) → sourced 0 m (stOf words (replicate 16384 0) (replicate 16384 0) (replicate 8 (replicate 512 0)) unmade (replicate 1027 0) e) ≡ sourced 0 m fresh
-unfolding sourced emptied
-fresh-sourced m e q words =
-    ap (λ (y : Ends). sourced 0 m (stOf words (replicate 16384 0) (replicate 16384 0) (replicate 8 (replicate 512 0)) unmade (replicate 1027 0) y)) q
-    ∙ ap (sourced 0 m) (st-nothing (replicate 16384 0) (replicate 16384 0) (replicate 8 (replicate 512 0)) (replicate 16384 0) (zeros .log-long) (zeros .tags-long) (zeros .marks-long) (zeros .starts-eight) (zeros .rows) words (replicate 1027 0) (zeros .rays-none 0 (omega arith)) (zeros .rays-none 1 (omega arith)) (zeros .rays-none 2 (omega arith)))
+module _ (log₀ tags₀ : List ℕ) (starts₀ : List (List ℕ)) (marks₀ : List ℕ) (stacks₀ : List (List ℕ)) (P : Spaces log₀ tags₀ starts₀ stacks₀) (marks-long : length marks₀ ≡ 16384) where
+  pub kept-none : (e : Ends) → e ≡ E → Kept log₀ tags₀ starts₀ unmade marks₀ e
+  kept-none e q = subst (Kept log₀ tags₀ starts₀ unmade marks₀) (sym q) (kept-nothing log₀ tags₀ starts₀ marks₀ (P .log-long) (P .classes-long) marks-long (P .starts-eight) (P .starts-rows))
 
-module _ (words tape : List ℕ) (n : ℕ) (order output₀ : List ℕ) (K : Linkable words tape n order output₀) where
+  -- they hold the fresh state, but for the maps
+  fresh-sourced : (m : Module) (e : Ends) → e ≡ E → (words : List ℕ) → sourced 0 m (stOf words log₀ tags₀ starts₀ unmade (replicate 1027 0) e) ≡ sourced 0 m fresh
+  unfolding sourced emptied
+  fresh-sourced m e q words =
+      ap (λ (y : Ends). sourced 0 m (stOf words log₀ tags₀ starts₀ unmade (replicate 1027 0) y)) q
+      ∙ ap (sourced 0 m) (st-nothing log₀ tags₀ starts₀ marks₀ (P .log-long) (P .classes-long) marks-long (P .starts-eight) (P .starts-rows) words (replicate 1027 0) (zeros .rays-none 0 (omega arith)) (zeros .rays-none 1 (omega arith)) (zeros .rays-none 2 (omega arith)))
+
+module _ (words tape : List ℕ) (n : ℕ) (order output₀ : List ℕ) (K : Linkable words tape n order output₀) (log₀ tags₀ : List ℕ) (starts₀ : List (List ℕ)) (marks₀ : List ℕ) (stacks₀ : List (List ℕ)) (P : Spaces log₀ tags₀ starts₀ stacks₀) (marks-long : length marks₀ ≡ 16384) where
   abbrev m : Module
   m = modOf words n
 
@@ -78,20 +91,20 @@ module _ (words tape : List ℕ) (n : ℕ) (order output₀ : List ℕ) (K : Lin
 
   -- ---- the source is set
   module _ (kinds : List ℕ) (ks : kinds ≡ kindBytes) (e : Ends) (es : e ≡ E) where
-    pub source-asks : Source words tape n × (e .full ≡ false) × (kinds ≡ kindBytes) × Kept (replicate 16384 0) (replicate 16384 0) (replicate 8 (replicate 512 0)) (replicate 6 (replicate 512 0)) (replicate 16384 0) e × Specials (replicate 1027 0) e
-    source-asks = (K .source-is, ap (λ (y : Ends). y .full) es, ks, zeros-kept e es, zeros-special e es)
+    pub source-asks : Source words tape n × (e .full ≡ false) × (kinds ≡ kindBytes) × Kept log₀ tags₀ starts₀ unmade marks₀ e × Specials (replicate 1027 0) e
+    source-asks = (K .source-is, ap (λ (y : Ends). y .full) es, ks, kept-none log₀ tags₀ starts₀ marks₀ stacks₀ P marks-long e es, specials-none e es)
 
     module _ (r : Ends) (log tags : List ℕ) (starts maps : List (List ℕ)) (marks special : List ℕ)
-        (S : Sourced words n 0 (replicate 16384 0) (replicate 16384 0) (replicate 8 (replicate 512 0)) (replicate 16384 0) (replicate 1027 0) e r log tags starts maps marks special) where
+        (S : Sourced words n 0 log₀ tags₀ starts₀ marks₀ (replicate 1027 0) e r log tags starts maps marks special) where
       bare : (getD (e .counts) 7 0 ≡ 0) × (e .et ≡ 0) × (e .bt ≡ 0)
       bare = (ap (λ (y : Ends). getD (y .counts) 7 0) es, ap (λ (y : Ends). y .et) es, ap (λ (y : Ends). y .bt) es)
 
       set-room : r .full ≡ false
       set-room = never (r .full) λ q. set-fits (4 * length (take n words)) (take n words) (modOf words n) (K .linking .passes) (K .linking .reads) start-at (gives .session .sets)
-          (subst (λ (y : St). Over 0 y) (fresh-sourced (modOf words n) e es words) (subst (λ (k : ℕ). Over k (sourced 0 (modOf words n) (stOf words (replicate 16384 0) (replicate 16384 0) (replicate 8 (replicate 512 0)) unmade (replicate 1027 0) e))) (none-held (replicate 16384 0) (replicate 16384 0) (replicate 8 (replicate 512 0)) (e .counts) (bare .0) .1) (S .over q words unmade)))
+          (subst (λ (y : St). Over 0 y) (fresh-sourced log₀ tags₀ starts₀ marks₀ stacks₀ P marks-long (modOf words n) e es words) (subst (λ (k : ℕ). Over k (sourced 0 (modOf words n) (stOf words log₀ tags₀ starts₀ unmade (replicate 1027 0) e))) (none-held log₀ tags₀ starts₀ (e .counts) (bare .0) .1) (S .over q words unmade)))
 
       set-same : sourced 0 (modOf words n) fresh ≡ stOf words log tags starts maps special r
-      set-same = sym (fresh-sourced (modOf words n) e es words) ∙ S .is set-room words unmade
+      set-same = sym (fresh-sourced log₀ tags₀ starts₀ marks₀ stacks₀ P marks-long (modOf words n) e es words) ∙ S .is set-room words unmade
 
       set-reached : Reached (sessionOf true n 0 words log tags starts maps special r)
       unfolding sessionOf
@@ -121,8 +134,8 @@ module _ (words tape : List ℕ) (n : ℕ) (order output₀ : List ℕ) (K : Lin
             subst (λ (k : ℕ). Roomy (modOf words n) (take k order) (stOf words log tags starts maps special r)) (sym alls)
             (subst (Roomy (modOf words n) os) set-same (imported-roomy (modOf words n) os (K .sequence .is) (gives .session .imports) (sourced 0 (modOf words n) fresh) refl start-at))
 
-        pub append-asks : Live true n 0 words tape kinds log tags starts maps marks special r × Stacks (replicate 4 (replicate 16384 0)) r × Sequence words n order all × Roomy (modOf words n) (take all order) (stOf words log tags starts maps special r)
-        append-asks = (set-live, stacks-empty (replicate 4 (replicate 16384 0)) refl r (omega (arith, set-live .lowest .0)) (omega (arith, set-live .lowest .1)), set-sequence, set-roomy)
+        pub append-asks : Live true n 0 words tape kinds log tags starts maps marks special r × Stacks stacks₀ r × Sequence words n order all × Roomy (modOf words n) (take all order) (stOf words log tags starts maps special r)
+        append-asks = (set-live, record { four = P .stacks-four; rows = P .stacks-rows; high = omega (arith, set-live .lowest .0); high′ = omega (arith, set-live .lowest .1) }, set-sequence, set-roomy)
 
         -- ---- the functions are appended
         module _ (r₂ : Ends) (log₂ tags₂ : List ℕ) (starts₂ maps₂ : List (List ℕ)) (marks₂ : List ℕ) (stacks₂ : List (List ℕ)) (A : AppendsAll words tape kinds n (take all order) log tags starts maps r r₂ log₂ tags₂ starts₂ maps₂ marks₂ special stacks₂) where
@@ -146,8 +159,8 @@ module _ (words tape : List ℕ) (n : ℕ) (order output₀ : List ℕ) (K : Lin
             enter-room : r₃ .full ≡ false
             enter-room = never (r₃ .full) λ q. finish-fits (modOf words n) os (K .sequence .is) (length output₀) s₂ vs (at n 0 words tape kinds log₂ tags₂ starts₂ maps₂ marks₂ special r₂ (A .live)) finishes (T .over q)
 
-            pub finish-asks : Held log₃ tags₃ starts₃ r₃ × (length special ≡ 1027)
-            finish-asks = (record { maps = maps₃; marks = marks₃; kept = T .kept enter-room }, A .live .specials .special-long)
+            pub finish-asks : Held log₃ tags₃ starts₃ r₃ × (length special ≡ 1027) × (length words ≡ 16384)
+            finish-asks = (record { maps = maps₃; marks = marks₃; kept = T .kept enter-room }, A .live .specials .special-long, K .source-is .taped .words-long)
 
             -- ---- it is finished
             module _ (refusal bytes : ℕ) (output : List ℕ) (D : Ended log₃ tags₃ starts₃ special r₃ output₀ refusal bytes output) where

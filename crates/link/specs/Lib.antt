@@ -1,4 +1,5 @@
 pub mod Linked
+pub mod Lent
 pub mod Appends
 pub mod Theorems
 pub mod Refuted

@@ -1,4 +1,4 @@
--- THE LINKERS THAT THE CONTRACT SHUTS OUT, on the marked cases P5, P6, P8 and P11, with any output that is long enough: whatever kept the promise of `link` (`Links`) is none of these. Document 01: "One refusing each image; one emitting the same empty module, or returning the image unlinked; one that maps in the first round and passes later functions through; a ring count not from its definition; full before the limit", "copying the old Emit range", "depth-first order".
+-- THE LINKERS THAT THE CONTRACT SHUTS OUT, on the marked cases P5, P6, P8 and P11, with any output that is long enough: whatever kept the promise of `link` and `link_in` (`Links`) is none of these. Document 01: "One refusing each image; one emitting the same empty module, or returning the image unlinked; one that maps in the first round and passes later functions through; a ring count not from its definition; full before the limit", "copying the old Emit range", "depth-first order".
 use mathlib.Core.Path.{_≡_}
 use mathlib.Core.List.{List}
 use Prim.Native.Nat.{ℕ, _+_, _*_, _<_, _≤_}

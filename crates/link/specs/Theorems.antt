@@ -1,4 +1,4 @@
--- DEMAND 3, OF THE CODE: whatever answers r and leaves `output` as `link` promises (`Links`), for every image that passes intake and every output that is at least as long. Document 01: "Linking succeeds exactly if no chain of calls comes back to its start. Then the output holds what a fresh session writes that sets the image as its source with span offset 0, imports its functions in output order and finishes with entry points", and the walks agree. It is said of the two halves of r and of the bytes that are left.
+-- DEMAND 3, OF THE CODE: whatever answers r and leaves `output` as `link` and `link_in` promise (`Links`), for every image that passes intake and every output that is at least as long. Document 01: "Linking succeeds exactly if no chain of calls comes back to its start. Then the output holds what a fresh session writes that sets the image as its source with span offset 0, imports its functions in output order and finishes with entry points", and the walks agree. It is said of the two halves of r and of the bytes that are left.
 -- Where a premise fails, r is that refusal and the output is as it was; so a low half of 0 says that the premises hold.
 use mathlib.Core.Path.{_≡_, refl, sym, ap, _∙_, subst}
 use mathlib.Core.Bool.{Bool, true, false}

@@ -1,5 +1,5 @@
 // Linking: one module in, one out, callees first. What a fresh session writes that sets the image, imports its functions in output order and finishes with its
-// entry points; nothing is copied on the way, since none of it is refused.
+// entry points; nothing is copied on the way, since none of it is refused. `link_in` works in arrays that its caller lends, `link` in its own.
 use calls::Ordered;
 use functions::enter_all;
 use gather::order_of;
@@ -15,12 +15,14 @@ use views::FUNCTIONS;
 use views::count;
 use words::wide;
 ghost use mathlib.Core.Bool.{true};
-ghost use lib.ListN.{take};
+ghost use mathlib.Core.Path.{_≡_};
+ghost use lib.ListN.{length, take};
 ghost use Rattle.state.specs.Source.{modOf};
 ghost use Rattle.state.specs.Held.{stOf};
 ghost use Rattle.making.specs.Stacks.{Stacks};
 ghost use Rattle.operations.specs.Live.{Live};
 ghost use Rattle.link.specs.Linked.{Links};
+ghost use Rattle.link.specs.Lent.{Spaces};
 ghost use Rattle.link.specs.Appends.{Roomy, Sequence, AppendsAll, Linkable, LinksBy};
 
 // The first `all` functions of the order, appended.
@@ -47,11 +49,11 @@ fn append_all(
     ensures { λ r. ⌜ AppendsAll (now (words .entry)) (now (tags .entry)) (now (kinds .entry)) n (take all (now (order .entry))) (now (log .entry)) (now (classes .entry)) (now (starts .entry)) (now (maps .entry)) ends r (now (log .exit)) (now (classes .exit)) (now (starts .exit)) (now (maps .exit)) (now (marks .exit)) (now (special .entry)) (now (stacks .exit)) ⌝ }
 {
     let mut e = ends;
+    let mut places = [0u16; 1025];
     let mut i = 0;
     while i < all {
         let j = i;
         i += 1;
-        let mut places = [0u16; 1025];
         e = append(
             words,
             tags,
@@ -73,35 +75,38 @@ fn append_all(
     e
 }
 
-// Linked in that order: the answer.
+// Linked in that order, in the arrays that are lent: the answer. The image's words are not needed any more where it is finished, so they are lent to that.
 fn link_by(
-    words: &[u32; 16384],
+    words: &mut [u32; 16384],
     tags: &[u8; 16384],
     n: usize,
     order: &[u32; 256],
     output: &mut [u8],
+    log: &mut [u32; 16384],
+    classes: &mut [u8; 16384],
+    starts: &mut [[u32; 512]; 8],
+    maps: &mut [[u32; 512]; 6],
+    marks: &mut [u16; 16384],
+    stacks: &mut [[u32; 16384]; 4],
 ) -> u64
     requires { ⌜ Linkable (now words) (now tags) n (now order) (now output) ⌝ }
+    requires { ⌜ Spaces (now log) (now classes) (now starts) (now stacks) ⌝ }
     ensures { λ r. ⌜ LinksBy (now (words .entry)) n (now (order .entry)) (now (output .entry)) r (now (output .exit)) ⌝ }
 {
     let kinds = kinds();
-    let mut log = [0u32; 16384];
-    let mut classes = [0u8; 16384];
-    let mut starts = [[0u32; 512]; 8];
-    let mut maps = [[0u32; 512]; 6];
-    let mut marks = [0u16; 16384];
     let mut special = [0u32; 1027];
-    let mut stacks = [[0u32; 16384]; 4];
+    // marks that another image left would cost time; the answer does not rest on them
+    *marks = [0; 16384];
     let set = source_types(
         words,
         tags,
         &kinds,
         n,
-        &mut log,
-        &mut classes,
-        &mut starts,
-        &mut maps,
-        &mut marks,
+        log,
+        classes,
+        starts,
+        maps,
+        marks,
         &mut special,
         nothing(),
         0,
@@ -111,13 +116,13 @@ fn link_by(
         tags,
         &kinds,
         n,
-        &mut log,
-        &mut classes,
-        &mut starts,
-        &mut maps,
-        &mut marks,
+        log,
+        classes,
+        starts,
+        maps,
+        marks,
         &special,
-        &mut stacks,
+        stacks,
         set,
         order,
         count(words, FUNCTIONS),
@@ -127,36 +132,60 @@ fn link_by(
         tags,
         &kinds,
         n,
-        &mut log,
-        &mut classes,
-        &mut starts,
-        &mut maps,
-        &mut marks,
+        log,
+        classes,
+        starts,
+        maps,
+        marks,
         &special,
-        &mut stacks,
+        stacks,
         appended,
         0,
     );
-    let got = ending::finish(&log, &classes, &starts, &special, ends, output);
+    let got = ending::finish(log, classes, starts, &special, ends, words, output);
     got.refusal as u64 + (got.bytes as u64) * 4294967296
 }
 
-// The image linked into the output: low half the refusal, 0 accepted; high half the bytes written, or with 12 the functions left.
-pub fn link(image: &[u8], output: &mut [u8]) -> u64
+// The image linked into the output, in arrays that the caller lends: low half the refusal, 0 accepted; high half the bytes written, or with 12 the functions
+// left. They may hold anything before, and hold anything after. Nothing is asked of maps and marks, not even lengths: they are written whole before use.
+pub fn link_in(
+    image: &[u8],
+    output: &mut [u8],
+    words: &mut [u32; 16384],
+    tags: &mut [u8; 16384],
+    log: &mut [u32; 16384],
+    classes: &mut [u8; 16384],
+    starts: &mut [[u32; 512]; 8],
+    maps: &mut [[u32; 512]; 6],
+    marks: &mut [u16; 16384],
+    stacks: &mut [[u32; 16384]; 4],
+) -> u64
+    requires { ⌜ (length (now words) ≡ 16384) × (length (now tags) ≡ 16384) ⌝ }
+    requires { ⌜ Spaces (now log) (now classes) (now starts) (now stacks) ⌝ }
     ensures { λ r. ⌜ Links r (now (output .entry)) (now (output .exit)) (now (image .entry)) ⌝ }
 {
-    let mut words = intake::fresh_words();
-    let mut tags = intake::fresh_tags();
-    let taken = intake::take_in(image, &mut words, &mut tags);
+    let taken = intake::take_in(image, words, tags);
     if let Taken::Accepted(n) = taken {
         if output.len() < image.len() {
             return SHORT_OUTPUT as u64;
         }
         let mut order = [0u32; 256];
-        let found = order_of(&words, &tags, n, &mut order);
+        let found = order_of(words, tags, n, &mut order);
         match found {
             Ordered::All => {
-                return link_by(&words, &tags, n, &order, output);
+                return link_by(
+                    words,
+                    tags,
+                    n,
+                    &order,
+                    output,
+                    log,
+                    classes,
+                    starts,
+                    maps,
+                    marks,
+                    stacks,
+                );
             }
             Ordered::Ring(k) => {
                 return RING as u64 + (k as u64) * 4294967296;
@@ -164,4 +193,30 @@ pub fn link(image: &[u8], output: &mut [u8]) -> u64
         }
     }
     intake::number(taken) as u64
+}
+
+// The same, in arrays of its own.
+pub fn link(image: &[u8], output: &mut [u8]) -> u64
+    ensures { λ r. ⌜ Links r (now (output .entry)) (now (output .exit)) (now (image .entry)) ⌝ }
+{
+    let mut words = [0u32; 16384];
+    let mut tags = [0u8; 16384];
+    let mut log = [0u32; 16384];
+    let mut classes = [0u8; 16384];
+    let mut starts = [[0u32; 512]; 8];
+    let mut maps = [[0u32; 512]; 6];
+    let mut marks = [0u16; 16384];
+    let mut stacks = [[0u32; 16384]; 4];
+    link_in(
+        image,
+        output,
+        &mut words,
+        &mut tags,
+        &mut log,
+        &mut classes,
+        &mut starts,
+        &mut maps,
+        &mut marks,
+        &mut stacks,
+    )
 }

@@ -445,7 +445,8 @@ pub fn finish_plain(
     ensures { λ r. ⌜ Finishes (finishOf (length (now (output .entry))) (sessionOf set n offset (now (words .entry)) (now (log .entry)) (now (classes .entry)) (now (starts .entry)) (now (maps .entry)) (now (special .entry)) ends)) (sessionOf set n offset (now (words .entry)) (now (log .entry)) (now (classes .entry)) (now (starts .entry)) (now (maps .entry)) (now (special .entry)) ends) (r .refusal) (r .bytes) (now (output .entry)) (now (output .exit)) (sessionOf (r .set) n offset (now (words .entry)) (now (log .entry)) (now (classes .entry)) (now (starts .entry)) (now (maps .exit)) (now (special .exit)) (r .ends)) ⌝ }
     ensures { λ r. ⌜ Live (r .set) n offset (now (words .entry)) (now (tags .entry)) (now (kinds .entry)) (now (log .entry)) (now (classes .entry)) (now (starts .entry)) (now (maps .exit)) (now (marks .entry)) (now (special .exit)) (r .ends) ⌝ }
 {
-    let got = finish(log, classes, starts, special, ends, output);
+    let mut out = [0u32; 16384];
+    let got = finish(log, classes, starts, special, ends, &mut out, output);
     if got.refusal != 0 {
         return Finished {
             refusal: got.refusal,

@@ -15,7 +15,7 @@ use words::wide;
 ghost use mathlib.Core.Path.{_≡_};
 ghost use mathlib.Core.Bool.{true, false};
 ghost use Prim.Native.Nat.{_+_, _≤_, _<_};
-ghost use lib.ListN.{length};
+ghost use lib.ListN.{length, replicate};
 ghost use Rattle.model.specs.Module.{countAt};
 ghost use Rattle.model.specs.Special.{ray as rayOf, rays as raysOf, keyed, pairs as pairsOf};
 ghost use Rattle.state.specs.Refers.{kindBytes};
@@ -273,7 +273,7 @@ fn pairs(
     e
 }
 
-// A source is set.
+// A source is set. What `maps` holds before is forgotten, so it may be anything: the state is asked for without them.
 pub fn source_types(
     words: &[u32; 16384],
     tags: &[u8; 16384],
@@ -291,7 +291,7 @@ pub fn source_types(
     requires { ⌜ Source (now words) (now tags) n ⌝ }
     requires { ⌜ ends .full ≡ false ⌝ }
     requires { ⌜ now kinds ≡ kindBytes ⌝ }
-    requires { ⌜ Kept (now log) (now classes) (now starts) (now maps) (now marks) ends ⌝ }
+    requires { ⌜ Kept (now log) (now classes) (now starts) (replicate 6 (replicate 512 0)) (now marks) ends ⌝ }
     requires { ⌜ Specials (now special) ends ⌝ }
     ensures { λ r. ⌜ Sourced (now (words .entry)) n offset (now (log .entry)) (now (classes .entry)) (now (starts .entry)) (now (marks .entry)) (now (special .entry)) ends r (now (log .exit)) (now (classes .exit)) (now (starts .exit)) (now (maps .exit)) (now (marks .exit)) (now (special .exit)) ⌝ }
 {

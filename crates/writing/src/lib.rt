@@ -2,7 +2,7 @@
 // the eight tables the places where its records start are known. The names are met in the order of first appearance; row 0 of a copy of the starts then
 // holds the names in that order, so that all eight tables are written alike. The size is known before anything is written: 21 where it passes the limit,
 // 7 where the output is shorter, and the bytes behind the image stay.
-// On the stack: 64 KiB for the image's words, 20 KiB beside them.
+// On the stack: 20 KiB; the 64 KiB for the image's words are lent.
 use refusals::FULL;
 use refusals::SHORT_OUTPUT;
 use sections::all_sizes;
@@ -106,7 +106,8 @@ pub fn finish_words(
     k
 }
 
-// The image in bytes: 21 where it is too large, 7 where it does not fit in the output; then the output is as it was.
+// The image in bytes: 21 where it is too large, 7 where it does not fit in the output; then the output is as it was. Its words are put together in `out`,
+// which may hold anything before and holds anything after.
 pub fn finish(
     log: &[u32; 16384],
     classes: &[u8; 16384],
@@ -114,10 +115,11 @@ pub fn finish(
     counts: [usize; 8],
     special: &[u32; 1027],
     pairs: usize,
+    out: &mut [u32; 16384],
     output: &mut [u8],
 ) -> Answer
     requires { ⌜ Derived (now log) (now classes) (now starts) counts ⌝ }
-    requires { ⌜ (pairs ≤ 512) × (length (now special) ≡ 1027) ⌝ }
+    requires { ⌜ (pairs ≤ 512) × (length (now special) ≡ 1027) × (length (now out) ≡ 16384) ⌝ }
     ensures { λ r. ⌜ Stored (tabsOf (now (log .entry)) (now (classes .entry)) (now (starts .entry)) counts) pairs (take (3 + 2 * pairs) (now (special .entry))) (now (output .entry)) (r .refusal) (r .bytes) (now (output .exit)) ⌝ }
 {
     if MOST_FUNCTIONS < counts[FUNCTIONS] {
@@ -132,8 +134,7 @@ pub fn finish(
             bytes: 0,
         };
     }
-    let mut out = [0u32; 16384];
-    let k = finish_words(log, classes, starts, counts, special, pairs, &mut out);
+    let k = finish_words(log, classes, starts, counts, special, pairs, out);
     if k == 0 {
         return Answer {
             refusal: FULL,
@@ -146,7 +147,7 @@ pub fn finish(
             bytes: 0,
         };
     }
-    store(&out, k, output);
+    store(out, k, output);
     Answer {
         refusal: 0,
         bytes: 4 * k,

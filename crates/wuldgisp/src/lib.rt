@@ -1,8 +1,11 @@
 // The functions that the archive exports to C and Rust, thin over the crates that do the work. include/wuldgisp.h declares them.
+ghost use mathlib.Core.Path.{_≡_};
+ghost use lib.ListN.{length};
 ghost use Rattle.intake.specs.Taken.{Answers};
 ghost use Rattle.basic.specs.Images.{Orders};
 ghost use Rattle.layered.specs.Images.{Answers as Redirects};
 ghost use Rattle.link.specs.Linked.{Links};
+ghost use Rattle.link.specs.Lent.{Spaces};
 ghost use Rattle.session.specs.Sessions.{Sessions};
 
 // Intake: 0 for an image that is accepted, else the number of the test that refuses it, 1 to 6.
@@ -43,6 +46,40 @@ pub extern "C" fn wuldgisp_link(image: &[u8], output: &mut [u8]) -> u64
     ensures { λ r. ⌜ Links r (now (output .entry)) (now (output .exit)) (now (image .entry)) ⌝ }
 {
     link::link(image, output)
+}
+
+// Links the image into the output, in memory that the caller lends: eight arrays, 476 KiB in all. They may hold anything before and hold anything after, so
+// they need no clearing, neither at first nor between calls. The promise is that of wuldgisp_link, word for word. What is asked are the arrays' lengths, which
+// their types say.
+#[no_mangle]
+pub extern "C" fn wuldgisp_link_in(
+    image: &[u8],
+    output: &mut [u8],
+    words: &mut [u32; 16384],
+    tags: &mut [u8; 16384],
+    log: &mut [u32; 16384],
+    classes: &mut [u8; 16384],
+    starts: &mut [[u32; 512]; 8],
+    maps: &mut [[u32; 512]; 6],
+    marks: &mut [u16; 16384],
+    stacks: &mut [[u32; 16384]; 4],
+) -> u64
+    requires { ⌜ (length (now words) ≡ 16384) × (length (now tags) ≡ 16384) ⌝ }
+    requires { ⌜ Spaces (now log) (now classes) (now starts) (now stacks) ⌝ }
+    ensures { λ r. ⌜ Links r (now (output .entry)) (now (output .exit)) (now (image .entry)) ⌝ }
+{
+    link::link_in(
+        image,
+        output,
+        words,
+        tags,
+        log,
+        classes,
+        starts,
+        maps,
+        marks,
+        stacks,
+    )
 }
 
 // Runs a session's steps, four words each, and tells three words of each as far as there is room. 0 if every step was accepted; else the low half of the

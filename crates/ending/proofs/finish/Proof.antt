@@ -1,3 +1,4 @@
+-- `ending::finish` meets its contract. Assumes nothing.
 use borrow.Author.Needs.{needs}
 use Rattle.ending.proofs.Ends.{derived, ended}
 use Rattle.ending.proofs.finish.Statement.{statement}
@@ -6,25 +7,22 @@ use Rattle.ending.proofs.finish.Reads as reads
 use Rattle.ending.proofs.finish.Lts as lts
 use Rattle.writing.proofs.finish.Reads as finish-reads
 
--- src/lib.rt:24:5
 finish-requires : tie.Need-finish-requires
 finish-requires c κs =
-    let st = c .before .before .before in
+    let st = c .before .before .before .before in
     let a = st .args in
     let k = st .pre .0 in
-    (derived (a .log .now) (a .classes .now) (a .starts .now) (k .maps) (k .marks) (a .ends) (k .kept), (k .kept .few-pairs, st .pre .1))
+    (derived (a .log .now) (a .classes .now) (a .starts .now) (k .maps) (k .marks) (a .ends) (k .kept), (k .kept .few-pairs, st .pre .1 .0, st .pre .1 .1))
 
--- src/lib.rt:10:1
 same-length : tie.Need-same-length
 same-length c = search needs
 
--- src/lib.rt:10:1
 returns : tie.Need-returns
 returns c =
-    let st = c .before .before .before .before .before .before in
+    let st = c .before .before .before .before .before .before .before in
     let a = st .args in
     let k = st .pre .0 in
-    ended (a .log .now) (a .classes .now) (a .starts .now) (k .maps) (k .marks) (a .ends) (k .kept) (a .special .now) (st .pre .1) (c .before .before .finish .ensures)
+    ended (a .log .now) (a .classes .now) (a .starts .now) (k .maps) (k .marks) (a .ends) (k .kept) (a .special .now) (st .pre .1 .0) (c .before .before .finish .ensures)
 
 pub finish-spec : {M : Type 1} → statement M
 finish-spec = tie.close (tie.spec finish-requires same-length returns)

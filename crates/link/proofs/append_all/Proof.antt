@@ -12,10 +12,10 @@ use Rattle.link.proofs.append_all.Statement.{statement}
 use Rattle.link.proofs.append_all.Tie as tie
 
 abbrev Inv-loop : tie.InvT-loop
-Inv-loop words tags kinds n log₀ classes₀ starts₀ maps₀ marks₀ special stacks₀ order all e₀ i₀ log classes starts maps marks stacks e i = Turn words tags kinds n order all (appendAll (take all order) 0 (modOf words n) (stOf words log₀ classes₀ starts₀ maps₀ special e₀)) i log classes starts maps marks special stacks e
+Inv-loop words tags kinds n log₀ classes₀ starts₀ maps₀ marks₀ special stacks₀ order all e₀ places₀ i₀ log classes starts maps marks stacks e places i = Turn words tags kinds n order all (appendAll (take all order) 0 (modOf words n) (stOf words log₀ classes₀ starts₀ maps₀ special e₀)) i log classes starts maps marks special stacks e
 
 abbrev μ-loop : tie.MeasureT-loop
-μ-loop words tags kinds n log₀ classes₀ starts₀ maps₀ marks₀ special stacks₀ order all e₀ i₀ log classes starts maps marks stacks e i = all - i
+μ-loop words tags kinds n log₀ classes₀ starts₀ maps₀ marks₀ special stacks₀ order all e₀ places₀ i₀ log classes starts maps marks stacks e places i = all - i
 
 loop-holds : tie.Need-loop-holds Inv-loop μ-loop
 loop-holds c = let a = c .args in let p = c .pre in turn-first (a .words .now) (a .tags .now) (a .kinds .now) (a .n) (a .order .now) (a .all) (p .1 .1 .0) (a .log .now) (a .classes .now) (a .starts .now) (a .maps .now) (a .marks .now) (a .special .now) (a .stacks .now) (a .ends) (p .0) (p .1 .0) (p .1 .1 .1)

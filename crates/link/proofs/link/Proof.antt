@@ -1,92 +1,19 @@
 -- `link::link` meets its contract. Assumes nothing.
 use Prim.Native.Nat.{ℕ}
-use lib.ListN.{replicate, length-replicate}
+use lib.ListN.{length-replicate}
 use borrow.Author.Needs.{needs}
-use Rattle.link.proofs.Images.{intake-refuses, short-refuses, order-asks, by-asks, by-tells, ring-tells}
+use Rattle.link.proofs.ByOrder.{zeros-spaces}
 use Rattle.link.proofs.link.Statement.{statement}
 use Rattle.link.proofs.link.Tie as tie
 
-fresh-words-requires : tie.Need-fresh-words-requires
-fresh-words-requires c κs = search needs
-
-fresh-tags-requires : tie.Need-fresh-tags-requires
-fresh-tags-requires c κs = search needs
-
-take-in-requires : tie.Need-take-in-requires
-take-in-requires c κs = search needs
-
-enum-known-taken : tie.Need-enum-known-taken
-enum-known-taken c = search needs
-
-cast-result : tie.Need-cast-result
-cast-result c = search needs
-
-returns : tie.Need-returns
-returns c = short-refuses (c .before .before .before .before .before .before .before .before .before .before .before .args .image .now) (c .before .before .before .before .take-in .last .1 .0) (c .before .before .before .before .take-in .last .1 .1 .0) (c .before .before .before .before .take-in .result) (c .before .before .before .before .take-in .ensures) (c .before .before .taken .given .0 .0) (search needs) (c .before .before .before .before .before .before .before .before .before .before .before .args .output .now) (c .if1 .taken)
-
-order-of-requires : tie.Need-order-of-requires
-order-of-requires c κs = let z = order-asks (c .before .before .before .before .before .before .before .before .before .before .before .before .before .before .args .image .now) (c .before .before .before .before .before .before .before .take-in .last .1 .0) (c .before .before .before .before .before .before .before .take-in .last .1 .1 .0) (c .before .before .before .before .before .before .before .take-in .result) (c .before .before .before .before .before .before .before .take-in .ensures) (c .before .before .before .before .before .taken .given .0 .0) (search needs) in (z .0, (z .1, length-replicate {A = ℕ} 256 0))
-
-enum-told : tie.Need-enum-told
-enum-told c = search needs
-
-link-by-requires : tie.Need-link-by-requires
-link-by-requires c κs = by-asks (c .before .before .before .before .before .before .before .before .before .before .before .before .before .before .before .before .before .before .before .before .before .args .image .now) (c .before .before .before .before .before .before .before .before .before .before .before .before .before .before .take-in .last .1 .0) (c .before .before .before .before .before .before .before .before .before .before .before .before .before .before .take-in .last .1 .1 .0) (c .before .before .before .before .before .before .before .before .before .before .before .before .before .before .take-in .result) (c .before .before .before .before .before .before .before .before .before .before .before .before .before .before .take-in .ensures) (c .before .before .before .before .before .before .before .before .before .before .before .before .taken .given .0 .0) (search needs) (replicate 256 0) (c .before .before .before .before .before .before .order-of .last .1 .1 .1 .0) (c .before .before .before .before .before .before .order-of .result) (c .before .before .before .before .before .before .order-of .ensures) (c .before .before .before .before .enum-told .given .1) (length-replicate {A = ℕ} 256 0) (c .before .before .before .before .before .before .before .before .before .before .before .before .before .before .before .before .before .before .before .before .before .args .output .now) (c .before .before .before .before .before .before .before .before .before .before .if1 .left)
+link-in-requires : tie.Need-link-in-requires
+link-in-requires c κs = ((length-replicate {A = ℕ} 16384 0, length-replicate {A = ℕ} 16384 0), zeros-spaces)
 
 same-length : tie.Need-same-length
 same-length c = search needs
 
-returns-2 : tie.Need-returns-2
-returns-2 c = by-tells (c .before .before .before .before .before .before .before .before .before .before .before .before .before .before .before .before .before .before .before .before .before .before .before .before .args .image .now) (c .before .before .before .before .before .before .before .before .before .before .before .before .before .before .before .before .before .take-in .last .1 .0) (c .before .before .before .before .before .before .before .before .before .before .before .before .before .before .before .before .before .take-in .last .1 .1 .0) (c .before .before .before .before .before .before .before .before .before .before .before .before .before .before .before .before .before .take-in .result) (c .before .before .before .before .before .before .before .before .before .before .before .before .before .before .before .before .before .take-in .ensures) (c .before .before .before .before .before .before .before .before .before .before .before .before .before .before .before .taken .given .0 .0) (search needs) (replicate 256 0) (c .before .before .before .before .before .before .before .before .before .order-of .last .1 .1 .1 .0) (c .before .before .before .before .before .before .before .before .before .order-of .result) (c .before .before .before .before .before .before .before .before .before .order-of .ensures) (c .before .before .before .before .before .before .before .enum-told .given .1) (c .before .before .before .before .before .before .before .before .before .before .before .before .before .before .before .before .before .before .before .before .before .before .before .before .args .output .now) (c .before .before .before .before .before .before .before .before .before .before .before .before .before .if1 .left) (c .before .before .link-by .result) (c .before .before .link-by .last .1 .1 .1 .1 .0) (c .before .before .link-by .ensures)
-
-enum-known-found : tie.Need-enum-known-found
-enum-known-found c = search needs
-
-cast-result-2 : tie.Need-cast-result-2
-cast-result-2 c = search needs
-
-cast-result-3 : tie.Need-cast-result-3
-cast-result-3 c = search needs
-
-mul-result : tie.Need-mul-result
-mul-result c = search needs
-
-add-result : tie.Need-add-result
-add-result c = search needs
-
-returns-3 : tie.Need-returns-3
-returns-3 c = ring-tells (c .before .before .before .before .before .before .before .before .before .before .before .before .before .before .before .before .before .before .args .image .now) (c .before .before .before .before .before .before .before .before .before .before .before .take-in .last .1 .0) (c .before .before .before .before .before .before .before .before .before .before .before .take-in .last .1 .1 .0) (c .before .before .before .before .before .before .before .before .before .before .before .take-in .result) (c .before .before .before .before .before .before .before .before .before .before .before .take-in .ensures) (c .before .before .before .before .before .before .before .before .before .taken .given .0 .0) (search needs) (replicate 256 0) (c .before .before .before .order-of .last .1 .1 .1 .0) (c .before .before .before .order-of .result) (c .before .before .before .order-of .ensures) (c .before .found .given .0 .0) (search needs) (c .before .before .before .before .before .before .before .before .before .before .before .before .before .before .before .before .before .before .args .output .now) (c .before .before .before .before .before .before .before .if1 .left)
-
-number-requires : tie.Need-number-requires
-number-requires c κs = search needs
-
-cast-result-4 : tie.Need-cast-result-4
-cast-result-4 c = search needs
-
-returns-4 : tie.Need-returns-4
-returns-4 c = search (intake-refuses, needs)
+returns : tie.Need-returns
+returns c = search needs
 
 pub link-spec : {M : Type 1} → statement M
-link-spec =
-    tie.close
-    (tie.spec
-    fresh-words-requires
-    fresh-tags-requires
-    take-in-requires
-    enum-known-taken
-    cast-result
-    returns
-    order-of-requires
-    enum-told
-    link-by-requires
-    same-length
-    returns-2
-    enum-known-found
-    cast-result-2
-    cast-result-3
-    mul-result
-    add-result
-    returns-3
-    number-requires
-    cast-result-4
-    returns-4)
+link-spec = tie.close (tie.spec link-in-requires same-length returns)

@@ -17,7 +17,7 @@ same-length c = search needs
 
 returns : tie.Need-returns
 returns c =
-    let st = c .before .before .before .before .before .before .before .before in
+    let st = c .before .before .before .before .before .before .before .before .before in
     let a = st .args in
     finish-refused (a .set) (a .n) (a .offset) (a .words .now) (a .tags .now) (a .kinds .now) (a .log .now) (a .classes .now) (a .starts .now) (a .maps .now) (a .marks .now) (a .special .now) (a .ends) (st .pre) (a .output .now) _ _ _ (c .before .before .before .before .finish .ensures) (c .if1 .taken)
 
@@ -41,7 +41,7 @@ same-length-2 c = search needs
 
 returns-2 : tie.Need-returns-2
 returns-2 c =
-    let st = c .before .before .before .before .before .before .before .before .before .before .before in
+    let st = c .before .before .before .before .before .before .before .before .before .before .before .before in
     let a = st .args in
     finish-done (a .set) (a .n) (a .offset) (a .words .now) (a .tags .now) (a .kinds .now) (a .log .now) (a .classes .now) (a .starts .now) (a .maps .now) (a .marks .now) (a .special .now) (a .ends) (st .pre) (a .output .now) _ _ _ (c .before .before .before .before .before .before .before .finish .ensures) (c .before .before .before .if1 .left) _ (c .before .forget .ensures) _ (c .nothing .ensures)
 

@@ -1,4 +1,6 @@
+-- `sourcing::set_source` meets its contract. Assumes nothing.
 use borrow.Author.Needs.{needs}
+use Rattle.state.proofs.Fresh.{kept-forgotten}
 use Rattle.sourcing.proofs.Setting.{set-of}
 use Rattle.sourcing.proofs.set_source.Statement.{statement}
 use Rattle.sourcing.proofs.set_source.Tie as tie
@@ -9,7 +11,7 @@ use Rattle.sourcing.proofs.source_types.Reads as source-types-reads
 use Rattle.whole.proofs.take_over.Reads as take-over-reads
 
 source-types-requires : tie.Need-source-types-requires
-source-types-requires c κs = search needs
+source-types-requires c κs = let a = c .before .before .before .before .before .before .before .before .before .args in let p = c .before .before .before .before .before .before .before .before .before .pre in let src = p .0 in let q = p .1 .0 in let ks = p .1 .1 .0 in let K = p .1 .1 .1 .0 in let P = p .1 .1 .1 .1 in (src, (q, (ks, (kept-forgotten (a .log .now) (a .classes .now) (a .starts .now) (a .maps .now) (a .marks .now) (a .ends) K, P))))
 
 take-over-requires : tie.Need-take-over-requires
 take-over-requires c κs = search needs
