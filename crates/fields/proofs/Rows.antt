@@ -62,21 +62,14 @@ second true b t e = absurd (subst (λ (x : Bool). T x) e tt)
 second false b t e = t
 
 -- ---- the table
-pub in-table : (t : List ℕ) → t ≡ numbers → (p : ℕ) → p < SIZE → p < length t
-unfolding SIZE
-in-table t e p h = rw e h
-
 behind : ROWS ≤ length numbers
 unfolding ROWS numbers
 behind = omega (arith, length-append (laid allRows) (starts 0 (coded symbols) ++ (pairs (length (laid (coded symbols))) ROWS symbols ++ starts (length (laid (coded symbols ++ listed symbols))) records)))
 
-pub row-in-table : (t : List ℕ) → t ≡ numbers → (p : ℕ) → p < ROWS → p < length t
-row-in-table t e p h = rw e (omega (arith, behind))
-
--- a place of the table fits any word
-pub rows-few : ROWS ≤ 65536
+-- a place of the rows is in the table
+pub rows-few : ROWS ≤ 510
 unfolding SIZE
-rows-few = leb→le ROWS 65536 tt
+rows-few = leb→le ROWS 510 tt
 
 row-end : (ns : List ℕ) (n : ℕ) → n ≡ 0 → row (n ∷ ns) ≡ []
 unfolding row

@@ -107,7 +107,7 @@ fn pad(k: u32) -> u8
 }
 
 // The last word of a name, of which k bytes are used: the others are zero.
-fn padded(words: &[u32], tags: &mut [u8; 16384], at: usize, end: usize, k: u32) -> Walked
+fn padded(words: &[u32; 16384], tags: &mut [u8; 16384], at: usize, end: usize, k: u32) -> Walked
     requires { ⌜ at ≤ end ⌝ }
     requires { ⌜ end ≤ length (now words) ⌝ }
     requires { ⌜ end ≤ 16384 ⌝ }
@@ -127,7 +127,7 @@ fn padded(words: &[u32], tags: &mut [u8; 16384], at: usize, end: usize, k: u32) 
 }
 
 // The bytes of a name behind their number.
-fn text(words: &[u32], tags: &mut [u8; 16384], at: usize, end: usize) -> Walked
+fn text(words: &[u32; 16384], tags: &mut [u8; 16384], at: usize, end: usize) -> Walked
     requires { ⌜ at ≤ end ⌝ }
     requires { ⌜ end ≤ length (now words) ⌝ }
     requires { ⌜ end ≤ 16384 ⌝ }
@@ -153,7 +153,7 @@ fn text(words: &[u32], tags: &mut [u8; 16384], at: usize, end: usize) -> Walked
 }
 
 // Operands behind their number.
-fn operands(words: &[u32], tags: &mut [u8; 16384], at: usize, end: usize) -> Walked
+fn operands(words: &[u32; 16384], tags: &mut [u8; 16384], at: usize, end: usize) -> Walked
     requires { ⌜ at ≤ end ⌝ }
     requires { ⌜ end ≤ length (now words) ⌝ }
     requires { ⌜ end ≤ 16384 ⌝ }
@@ -168,7 +168,7 @@ fn operands(words: &[u32], tags: &mut [u8; 16384], at: usize, end: usize) -> Wal
 }
 
 // What the word w of a list, a variant, a block, cases or a statement's kind brings.
-fn brings(table: &[u16], s: u16, w: u32) -> More
+fn brings(table: &[u16; 510], s: u16, w: u32) -> More
     requires { ⌜ now table ≡ numbers ⌝ }
     requires { ⌜ (110 ≤ s) × (s < 126) ⌝ }
     requires { ⌜ (s ≡ 124 → ⊥) ⌝ }
@@ -199,9 +199,9 @@ fn brings(table: &[u16], s: u16, w: u32) -> More
 
 // A word of the class s, and what it brings, with so many levels of blocks left.
 fn opened(
-    words: &[u32],
+    words: &[u32; 16384],
     tags: &mut [u8; 16384],
-    table: &[u16],
+    table: &[u16; 510],
     at: usize,
     end: usize,
     s: u16,
@@ -230,9 +230,9 @@ fn opened(
 
 // A statement: its length, and then its kind and row, which have that length.
 fn stmt(
-    words: &[u32],
+    words: &[u32; 16384],
     tags: &mut [u8; 16384],
-    table: &[u16],
+    table: &[u16; 510],
     at: usize,
     end: usize,
     left: u32,
@@ -263,9 +263,9 @@ fn stmt(
 
 // The piece of a symbol that is more than one word.
 fn part(
-    words: &[u32],
+    words: &[u32; 16384],
     tags: &mut [u8; 16384],
-    table: &[u16],
+    table: &[u16; 510],
     at: usize,
     end: usize,
     s: u16,
@@ -298,9 +298,9 @@ fn part(
 
 // The row at pc.
 pub fn row(
-    words: &[u32],
+    words: &[u32; 16384],
     tags: &mut [u8; 16384],
-    table: &[u16],
+    table: &[u16; 510],
     at: usize,
     end: usize,
     pc: usize,
@@ -347,9 +347,9 @@ pub fn row(
 
 // So many times the row at pc.
 pub fn times(
-    words: &[u32],
+    words: &[u32; 16384],
     tags: &mut [u8; 16384],
-    table: &[u16],
+    table: &[u16; 510],
     at: usize,
     end: usize,
     pc: usize,

@@ -19,7 +19,7 @@ pub enum Layout {
 }
 
 // Lays out the first `total` words.
-fn lay(words: &[u32], tags: &mut [u8; 16384], total: usize) -> Layout
+fn lay(words: &[u32; 16384], tags: &mut [u8; 16384], total: usize) -> Layout
     requires { ⌜ 20 ≤ total ⌝ }
     requires { ⌜ total ≤ length (now words) ⌝ }
     requires { ⌜ total ≤ 16384 ⌝ }

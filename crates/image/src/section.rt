@@ -37,7 +37,7 @@ pub enum Held {
 }
 
 // Where record j of n ends: where the next one starts, or where the section ends.
-fn end_of(words: &[u32], base: usize, stop: usize, n: usize, j: usize) -> usize
+fn end_of(words: &[u32; 16384], base: usize, stop: usize, n: usize, j: usize) -> usize
     requires { ⌜ j < n ⌝ }
     requires { ⌜ base + n ≤ stop ⌝ }
     requires { ⌜ stop ≤ length (now words) ⌝ }
@@ -52,9 +52,9 @@ fn end_of(words: &[u32], base: usize, stop: usize, n: usize, j: usize) -> usize
 
 // The record that is to start at `at`, starts at `start` and ends at `end`.
 fn record(
-    words: &[u32],
+    words: &[u32; 16384],
     tags: &mut [u8; 16384],
-    table: &[u16],
+    table: &[u16; 510],
     start: usize,
     at: usize,
     end: usize,
@@ -92,9 +92,9 @@ fn record(
 
 // The records of a section behind their n offsets.
 fn records(
-    words: &[u32],
+    words: &[u32; 16384],
     tags: &mut [u8; 16384],
-    table: &[u16],
+    table: &[u16; 510],
     base: usize,
     stop: usize,
     n: usize,
@@ -138,9 +138,9 @@ fn records(
 
 // A section of records: an offset for each, and then the records.
 fn section(
-    words: &[u32],
+    words: &[u32; 16384],
     tags: &mut [u8; 16384],
-    table: &[u16],
+    table: &[u16; 510],
     base: usize,
     stop: usize,
     count: u32,
@@ -163,9 +163,9 @@ fn section(
 
 // The special types: three optional types, and then pairs.
 fn special(
-    words: &[u32],
+    words: &[u32; 16384],
     tags: &mut [u8; 16384],
-    table: &[u16],
+    table: &[u16; 510],
     base: usize,
     stop: usize,
     count: u32,
@@ -211,7 +211,7 @@ fn limit(k: usize) -> u32
 }
 
 // Where section k ends.
-fn end_at(words: &[u32], total: usize, k: usize) -> usize
+fn end_at(words: &[u32; 16384], total: usize, k: usize) -> usize
     requires { ⌜ k < 9 ⌝ }
     requires { ⌜ 20 ≤ total ⌝ }
     requires { ⌜ total ≤ length (now words) ⌝ }
@@ -225,7 +225,7 @@ fn end_at(words: &[u32], total: usize, k: usize) -> usize
 }
 
 // Do the sections follow one another from word 20 to the end, each with no more records than it may have?
-pub fn placed(words: &[u32], total: usize) -> bool
+pub fn placed(words: &[u32; 16384], total: usize) -> bool
     requires { ⌜ 20 ≤ total ⌝ }
     requires { ⌜ total ≤ length (now words) ⌝ }
     requires { ⌜ total ≤ 16384 ⌝ }
@@ -256,7 +256,12 @@ pub fn placed(words: &[u32], total: usize) -> bool
 }
 
 // The eight tables, where the sections are in place, and then the special types.
-pub fn sections(words: &[u32], tags: &mut [u8; 16384], table: &[u16], total: usize) -> Held
+pub fn sections(
+    words: &[u32; 16384],
+    tags: &mut [u8; 16384],
+    table: &[u16; 510],
+    total: usize,
+) -> Held
     requires { ⌜ 20 ≤ total ⌝ }
     requires { ⌜ total ≤ length (now words) ⌝ }
     requires { ⌜ total ≤ 16384 ⌝ }

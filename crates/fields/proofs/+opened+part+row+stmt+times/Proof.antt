@@ -1,6 +1,7 @@
 -- `fields::+opened+part+row+stmt+times` meets its contract. Assumes nothing.
 use Prim.Native.Nat.{_*_, _+_, _-_}
-use Rattle.fields.proofs.Rows.{row-in-table, rows-few}
+use native.Mathlib.Omega.{arith}
+use Rattle.fields.proofs.Rows.{rows-few}
 use Rattle.fields.specs.Rows.{ROWS, SIZE, KIND-ROW}
 use Rattle.fields.proofs.Steps.{opened-short, opened-over, opened-unknown, opened-in, opened-rows, stmt-short, stmt-misfit, stmt-strange, stmt-next, stmt-wrong, part-text, part-operands, part-stmt, part-block, part-other, part-deep, Rowing, row-begin, row-done, row-symbol, row-large, row-short, row-plain, row-misfit, row-strange, row-again, Timing, times-begin, times-done, times-misfit, times-strange, times-next}
 use borrow.Author.Needs.{needs}
@@ -115,7 +116,7 @@ opened-mul-w : (t : ℕ) → opened-lts.Need-mul-w (
 ) (opened-at t) opened.Post
 opened-mul-w t c = search needs
 
-opened-shared-slice-read-w : (t : ℕ) → opened-lts.Need-shared-slice-read-w (
+opened-element-copy-out-w : (t : ℕ) → opened-lts.Need-element-copy-out-w (
   narrow-reads.Asked,
   narrow-reads.Learnt,
   brings-reads.Asked,
@@ -123,7 +124,7 @@ opened-shared-slice-read-w : (t : ℕ) → opened-lts.Need-shared-slice-read-w (
   times-below t,
   times.Post,
 ) (opened-at t) opened.Post
-opened-shared-slice-read-w t c = search needs
+opened-element-copy-out-w t c = search needs
 
 opened-brings-requires : (t : ℕ) → opened-lts.Need-brings-requires (
   narrow-reads.Asked,
@@ -381,13 +382,13 @@ row-mul-s : (t : ℕ) → row-lts.Need-mul-s (
 ) (row-at t) row.Post row-Inv-loop row-μ-loop
 row-mul-s t c = let h = rows-few in search needs
 
-row-shared-slice-read-s : (t : ℕ) → row-lts.Need-shared-slice-read-s (
+row-element-copy-out-s : (t : ℕ) → row-lts.Need-element-copy-out-s (
   narrow-reads.Asked,
   narrow-reads.Learnt,
   part-below t,
   part.Post,
 ) (row-at t) row.Post row-Inv-loop row-μ-loop
-row-shared-slice-read-s t c = row-in-table (c .before .before .before .before .args .table .now) (search needs) _ (c .before .loop .inv .in-rows)
+row-element-copy-out-s t c = let h = rows-few in let y = c .loop .inv .in-rows in omega arith
 
 row-returns : (t : ℕ) → row-lts.Need-returns (
   narrow-reads.Asked,
@@ -541,13 +542,13 @@ stmt-mul-wide : (t : ℕ) → stmt-lts.Need-mul-wide (
 ) (stmt-at t) stmt.Post
 stmt-mul-wide t c = search needs
 
-stmt-shared-slice-read-wide : (t : ℕ) → stmt-lts.Need-shared-slice-read-wide (
+stmt-element-copy-out-wide : (t : ℕ) → stmt-lts.Need-element-copy-out-wide (
   wide-reads.Asked,
   wide-reads.Learnt,
   row-below t,
   row.Post,
 ) (stmt-at t) stmt.Post
-stmt-shared-slice-read-wide t c = search needs
+stmt-element-copy-out-wide t c = search needs
 
 stmt-wide-requires : (t : ℕ) → stmt-lts.Need-wide-requires (
   wide-reads.Asked,
@@ -774,7 +775,7 @@ pub +opened+part+row+stmt+times-spec : {M : Type 1} → statement M
     (opened-narrow-requires t)
     (opened-element-write-tags t)
     (opened-mul-w t)
-    (opened-shared-slice-read-w t)
+    (opened-element-copy-out-w t)
     (opened-brings-requires t)
     (opened-enum-known-more t)
     (opened-add-times t)
@@ -816,7 +817,7 @@ pub +opened+part+row+stmt+times-spec : {M : Type 1} → statement M
     row-μ-loop
     (row-loop-holds t)
     (row-mul-s t)
-    (row-shared-slice-read-s t)
+    (row-element-copy-out-s t)
     (row-returns t)
     (row-add-p t)
     (row-returns-2 t)
@@ -840,7 +841,7 @@ pub +opened+part+row+stmt+times-spec : {M : Type 1} → statement M
     (stmt-returns t)
     (stmt-element-write-tags t)
     (stmt-mul-wide t)
-    (stmt-shared-slice-read-wide t)
+    (stmt-element-copy-out-wide t)
     (stmt-wide-requires t)
     (stmt-add-row t)
     (stmt-row-requires t)

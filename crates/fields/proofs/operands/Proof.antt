@@ -13,8 +13,8 @@ element-write-tags c = search needs
 mul-n : tie.Need-mul-n
 mul-n c = search needs
 
-shared-slice-read-n : tie.Need-shared-slice-read-n
-shared-slice-read-n c = search needs
+element-copy-out-n : tie.Need-element-copy-out-n
+element-copy-out-n c = search needs
 
 add-fill : tie.Need-add-fill
 add-fill c = search needs
@@ -32,7 +32,7 @@ operands-spec =
     returns
     element-write-tags
     mul-n
-    shared-slice-read-n
+    element-copy-out-n
     add-fill
     fill-requires
     returns-2)

@@ -16,8 +16,8 @@ element-write-tags c = search needs
 mul-w : tie.Need-mul-w
 mul-w c = search needs
 
-shared-slice-read-w : tie.Need-shared-slice-read-w
-shared-slice-read-w c = search needs
+element-copy-out-w : tie.Need-element-copy-out-w
+element-copy-out-w c = search needs
 
 room-requires : tie.Need-room-requires
 room-requires c κs = search needs
@@ -39,7 +39,7 @@ padded-spec =
     pad-requires
     element-write-tags
     mul-w
-    shared-slice-read-w
+    element-copy-out-w
     room-requires
     returns-2
     add-t12

@@ -13,8 +13,8 @@ element-write-tags c = search needs
 mul-b : tie.Need-mul-b
 mul-b c = search needs
 
-shared-slice-read-b : tie.Need-shared-slice-read-b
-shared-slice-read-b c = search needs
+element-copy-out-b : tie.Need-element-copy-out-b
+element-copy-out-b c = search needs
 
 add-fill : tie.Need-add-fill
 add-fill c = search needs
@@ -53,7 +53,7 @@ text-spec =
     returns
     element-write-tags
     mul-b
-    shared-slice-read-b
+    element-copy-out-b
     add-fill
     fill-requires
     enum-known-r

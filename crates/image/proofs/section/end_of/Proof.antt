@@ -16,8 +16,8 @@ add-wide-2 c = search needs
 mul-wide : tie.Need-mul-wide
 mul-wide c = search needs
 
-shared-slice-read-wide : tie.Need-shared-slice-read-wide
-shared-slice-read-wide c = search needs
+element-copy-out-wide : tie.Need-element-copy-out-wide
+element-copy-out-wide c = search needs
 
 wide-requires : tie.Need-wide-requires
 wide-requires c κs = search needs
@@ -26,10 +26,10 @@ add-result : tie.Need-add-result
 add-result c = search needs
 
 returns : tie.Need-returns
-returns c = let s = c .before .before .before .before in end-of-some (s .args .words .now) (s .args .base) (s .args .stop) (s .args .n) (s .args .j) (c .wide .result) (s .pre .0) (s .pre .1 .0) (s .pre .1 .1 .0) (s .pre .1 .1 .1) (c .before .before .if1 .taken) (c .wide .ensures .0) (c .wide .ensures .1)
+returns c = let s = c .before .before .before in end-of-some (s .args .words .now) (s .args .base) (s .args .stop) (s .args .n) (s .args .j) (c .wide .result) (s .pre .0) (s .pre .1 .0) (s .pre .1 .1 .0) (s .pre .1 .1 .1) (c .before .before .if1 .taken) (c .wide .ensures .0) (c .wide .ensures .1)
 
 returns-2 : tie.Need-returns-2
-returns-2 c = let s = c .before .before in end-of-none (s .args .words .now) (s .args .base) (s .args .stop) (s .args .n) (s .args .j) (s .pre .0) (s .pre .1 .0) (s .pre .1 .1 .0) (s .pre .1 .1 .1) (c .if1 .left)
+returns-2 c = let s = c .before in end-of-none (s .args .words .now) (s .args .base) (s .args .stop) (s .args .n) (s .args .j) (s .pre .0) (s .pre .1 .0) (s .pre .1 .1 .0) (s .pre .1 .1 .1) (c .if1 .left)
 
 pub end-of-spec : {M : Type 1} → statement M
 end-of-spec =
@@ -39,7 +39,7 @@ end-of-spec =
     add-wide
     add-wide-2
     mul-wide
-    shared-slice-read-wide
+    element-copy-out-wide
     wide-requires
     add-result
     returns

@@ -26,8 +26,8 @@ add-wide c = search needs
 mul-wide-2 : tie.Need-mul-wide-2 Inv-loop μ-loop
 mul-wide-2 c = search needs
 
-shared-slice-read-wide : tie.Need-shared-slice-read-wide Inv-loop μ-loop
-shared-slice-read-wide c = search needs
+element-copy-out-wide : tie.Need-element-copy-out-wide Inv-loop μ-loop
+element-copy-out-wide c = search needs
 
 wide-requires : tie.Need-wide-requires Inv-loop μ-loop
 wide-requires c κs = search needs
@@ -36,7 +36,7 @@ end-at-requires : tie.Need-end-at-requires Inv-loop μ-loop
 end-at-requires c κs = search needs
 
 returns : tie.Need-returns Inv-loop μ-loop
-returns c = let s = c .before .before .before .before .before .before .before in let l = c .before .before .before .before .before in placed-start (s .args .words .now) (s .args .total) (s .pre .0) (s .pre .1 .0) (l .loop .at) (l .loop .k) (l .loop .inv) (c .before .before .before .before .loop-test .taken) (c .before .before .wide .result) (c .before .before .wide .ensures .0) (c .if1 .taken)
+returns c = let s = c .before .before .before .before .before .before in let l = c .before .before .before .before .before in placed-start (s .args .words .now) (s .args .total) (s .pre .0) (s .pre .1 .0) (l .loop .at) (l .loop .k) (l .loop .inv) (c .before .before .before .before .loop-test .taken) (c .before .before .wide .result) (c .before .before .wide .ensures .0) (c .if1 .taken)
 
 limit-requires : tie.Need-limit-requires Inv-loop μ-loop
 limit-requires c κs = search needs
@@ -50,8 +50,8 @@ add-if2 c = search needs
 mul-if2-2 : tie.Need-mul-if2-2 Inv-loop μ-loop
 mul-if2-2 c = search needs
 
-shared-slice-read-if2 : tie.Need-shared-slice-read-if2 Inv-loop μ-loop
-shared-slice-read-if2 c = search needs
+element-copy-out-if2 : tie.Need-element-copy-out-if2 Inv-loop μ-loop
+element-copy-out-if2 c = search needs
 
 returns-2 : tie.Need-returns-2 Inv-loop μ-loop
 returns-2 c = search (placed-many, needs)
@@ -82,7 +82,7 @@ placed-spec =
     mul-wide
     add-wide
     mul-wide-2
-    shared-slice-read-wide
+    element-copy-out-wide
     wide-requires
     end-at-requires
     returns
@@ -90,7 +90,7 @@ placed-spec =
     mul-if2
     add-if2
     mul-if2-2
-    shared-slice-read-if2
+    element-copy-out-if2
     returns-2
     returns-3
     returns-4

@@ -23,8 +23,8 @@ add-wide c = search needs
 mul-wide : tie.Need-mul-wide Inv-loop μ-loop
 mul-wide c = search needs
 
-shared-slice-read-wide : tie.Need-shared-slice-read-wide Inv-loop μ-loop
-shared-slice-read-wide c = search needs
+element-copy-out-wide : tie.Need-element-copy-out-wide Inv-loop μ-loop
+element-copy-out-wide c = search needs
 
 wide-requires : tie.Need-wide-requires Inv-loop μ-loop
 wide-requires c κs = search needs
@@ -84,7 +84,7 @@ records-spec =
     loop-holds
     add-wide
     mul-wide
-    shared-slice-read-wide
+    element-copy-out-wide
     wide-requires
     add-start
     end-of-requires

@@ -2,7 +2,6 @@
 use Rattle.fields.specs.Rows.{SIZE}
 use native.Mathlib.Omega.{arith}
 use Prim.Native.Nat.{_-_}
-use Rattle.fields.proofs.Rows.{in-table}
 use Rattle.image.proofs.Sections.{Sectioning, sections-begin, sections-forth, sections-within, sections-total, sections-row, sections-bad, sections-fits, sections-strange, last-forth, last-bad, last-strange, last-odd, last-fits}
 use borrow.Author.Needs.{needs}
 use Rattle.image.proofs.section.sections.Statement.{statement}
@@ -29,8 +28,8 @@ add-wide c = search needs
 mul-wide-2 : tie.Need-mul-wide-2 Inv-loop μ-loop
 mul-wide-2 c = search needs
 
-shared-slice-read-wide : tie.Need-shared-slice-read-wide Inv-loop μ-loop
-shared-slice-read-wide c = search needs
+element-copy-out-wide : tie.Need-element-copy-out-wide Inv-loop μ-loop
+element-copy-out-wide c = search needs
 
 wide-requires : tie.Need-wide-requires Inv-loop μ-loop
 wide-requires c κs = search needs
@@ -44,8 +43,8 @@ add-wide-2 c = search needs
 mul-wide-4 : tie.Need-mul-wide-4 Inv-loop μ-loop
 mul-wide-4 c = search needs
 
-shared-slice-read-wide-2 : tie.Need-shared-slice-read-wide-2 Inv-loop μ-loop
-shared-slice-read-wide-2 c = search needs
+element-copy-out-wide-2 : tie.Need-element-copy-out-wide-2 Inv-loop μ-loop
+element-copy-out-wide-2 c = search needs
 
 wide-requires-2 : tie.Need-wide-requires-2 Inv-loop μ-loop
 wide-requires-2 c κs = search needs
@@ -56,9 +55,9 @@ add-place c = search needs
 mul-place : tie.Need-mul-place Inv-loop μ-loop
 mul-place c = search needs
 
-shared-slice-read-place : tie.Need-shared-slice-read-place Inv-loop μ-loop
+element-copy-out-place : tie.Need-element-copy-out-place Inv-loop μ-loop
 unfolding SIZE
-shared-slice-read-place c = in-table (c .before .before .before .before .before .before .before .before .before .args .table .now) (c .before .before .before .before .before .before .before .before .before .pre .1 .1 .1 .0) _ (omega (arith, c .before .before .before .before .before .loop-test .taken))
+element-copy-out-place c = omega (arith, c .before .before .before .before .loop-test .taken)
 
 place-requires : tie.Need-place-requires Inv-loop μ-loop
 place-requires c κs = search needs
@@ -72,12 +71,12 @@ add-section c = search needs
 mul-section-2 : tie.Need-mul-section-2 Inv-loop μ-loop
 mul-section-2 c = search needs
 
-shared-slice-read-section : tie.Need-shared-slice-read-section Inv-loop μ-loop
-shared-slice-read-section c = search needs
+element-copy-out-section : tie.Need-element-copy-out-section Inv-loop μ-loop
+element-copy-out-section c = search needs
 
 section-requires : tie.Need-section-requires Inv-loop μ-loop
 unfolding SIZE
-section-requires c κs = (search (sections-forth, needs), (sections-within (c .before .before .before .before .before .before .before .before .before .before .before .before .args .words .now) (c .before .before .before .before .before .before .before .before .before .before .before .before .args .tags .now) (c .before .before .before .before .before .before .before .before .before .before .before .before .args .total) (c .before .before .before .before .before .before .before .before .before .before .before .before .pre .0) (c .before .before .before .before .before .before .before .before .before .before .before .before .pre .1 .0) (c .before .before .before .before .before .before .before .before .before .before .before .before .pre .1 .1 .1 .1) (c .before .before .before .before .before .before .before .before .before .loop .k) (c .before .before .before .before .before .before .before .before .loop-test .taken) (c .before .before .before .before .before .before .wide .result) (c .before .before .before .before .wide2 .result) (c .before .before .before .before .before .before .wide .ensures .0) (c .before .before .before .before .wide2 .ensures .0), (let h = sections-total (c .before .before .before .before .before .before .before .before .before .before .before .before .args .words .now) (c .before .before .before .before .before .before .before .before .before .before .before .before .args .tags .now) (c .before .before .before .before .before .before .before .before .before .before .before .before .args .total) (c .before .before .before .before .before .before .before .before .before .before .before .before .pre .0) (c .before .before .before .before .before .before .before .before .before .before .before .before .pre .1 .0) (c .before .before .before .before .before .before .before .before .before .before .before .before .pre .1 .1 .1 .1) (c .before .before .before .before .before .before .before .before .before .loop .k) (c .before .before .before .before .before .before .before .before .loop-test .taken) (c .before .before .before .before .before .before .wide .result) (c .before .before .before .before .wide2 .result) (c .before .before .before .before .before .before .wide .ensures .0) (c .before .before .before .before .wide2 .ensures .0) in omega (arith, h, c .before .before .before .before .before .before .before .before .before .before .before .before .pre .1 .1 .0), (search needs, search (sections-row, needs)))))
+section-requires c κs = (search (sections-forth, needs), (sections-within (c .before .before .before .before .before .before .before .before .before .before .args .words .now) (c .before .before .before .before .before .before .before .before .before .before .args .tags .now) (c .before .before .before .before .before .before .before .before .before .before .args .total) (c .before .before .before .before .before .before .before .before .before .before .pre .0) (c .before .before .before .before .before .before .before .before .before .before .pre .1 .0) (c .before .before .before .before .before .before .before .before .before .before .pre .1 .1 .1 .1) (c .before .before .before .before .before .before .before .before .before .loop .k) (c .before .before .before .before .before .before .before .before .loop-test .taken) (c .before .before .before .before .before .before .wide .result) (c .before .before .before .before .wide2 .result) (c .before .before .before .before .before .before .wide .ensures .0) (c .before .before .before .before .wide2 .ensures .0), (let h = sections-total (c .before .before .before .before .before .before .before .before .before .before .args .words .now) (c .before .before .before .before .before .before .before .before .before .before .args .tags .now) (c .before .before .before .before .before .before .before .before .before .before .args .total) (c .before .before .before .before .before .before .before .before .before .before .pre .0) (c .before .before .before .before .before .before .before .before .before .before .pre .1 .0) (c .before .before .before .before .before .before .before .before .before .before .pre .1 .1 .1 .1) (c .before .before .before .before .before .before .before .before .before .loop .k) (c .before .before .before .before .before .before .before .before .loop-test .taken) (c .before .before .before .before .before .before .wide .result) (c .before .before .before .before .wide2 .result) (c .before .before .before .before .before .before .wide .ensures .0) (c .before .before .before .before .wide2 .ensures .0) in omega (arith, h, c .before .before .before .before .before .before .before .before .before .before .pre .1 .1 .0), (search needs, search (sections-row, needs)))))
 
 enum-told : tie.Need-enum-told Inv-loop μ-loop
 enum-told c = search needs
@@ -106,14 +105,14 @@ returns : tie.Need-returns Inv-loop μ-loop
 unfolding SIZE
 returns c = search (sections-bad, needs)
 
-shared-slice-read-wide-3 : tie.Need-shared-slice-read-wide-3 Inv-loop μ-loop
-shared-slice-read-wide-3 c = search needs
+element-copy-out-wide-3 : tie.Need-element-copy-out-wide-3 Inv-loop μ-loop
+element-copy-out-wide-3 c = search needs
 
 wide-requires-3 : tie.Need-wide-requires-3 Inv-loop μ-loop
 wide-requires-3 c κs = search needs
 
-shared-slice-read-special : tie.Need-shared-slice-read-special Inv-loop μ-loop
-shared-slice-read-special c = search needs
+element-copy-out-special : tie.Need-element-copy-out-special Inv-loop μ-loop
+element-copy-out-special c = search needs
 
 special-requires : tie.Need-special-requires Inv-loop μ-loop
 special-requires c κs = (search (last-forth, needs), (search needs, (search needs, search needs)))
@@ -150,21 +149,21 @@ sections-spec =
     mul-wide
     add-wide
     mul-wide-2
-    shared-slice-read-wide
+    element-copy-out-wide
     wide-requires
     mul-wide-3
     add-wide-2
     mul-wide-4
-    shared-slice-read-wide-2
+    element-copy-out-wide-2
     wide-requires-2
     add-place
     mul-place
-    shared-slice-read-place
+    element-copy-out-place
     place-requires
     mul-section
     add-section
     mul-section-2
-    shared-slice-read-section
+    element-copy-out-section
     section-requires
     enum-told
     loop-less
@@ -174,9 +173,9 @@ sections-spec =
     loop-again-2
     enum-told-3
     returns
-    shared-slice-read-wide-3
+    element-copy-out-wide-3
     wide-requires-3
-    shared-slice-read-special
+    element-copy-out-special
     special-requires
     enum-told-4
     returns-2
