@@ -38,7 +38,7 @@ const COLUMNS: [(&str, &str); 11] = [
     ("order", "#2e8b57"),
     ("redirect", "#b5532a"),
     ("link", "#7b3fa0"),
-    ("link, lent", "#b8860b"),
+    ("link, lent", "#e69500"),
     ("session", "#c02060"),
     ("intake, plain", "#1b6ca8"),
     ("order, plain", "#2e8b57"),
