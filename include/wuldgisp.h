@@ -3,9 +3,10 @@
  * Every function returns for every input, reads and writes nothing but what it is lent, and keeps nothing. A null pointer may be given only with
  * length 0. Several threads may call at the same time.
  *
- * Stack: give a thread that calls wuldgisp_intake, wuldgisp_order or wuldgisp_redirect at least WULDGISP_STACK bytes, and one that calls wuldgisp_link
- * or wuldgisp_session at least WULDGISP_LINK_STACK. Measured (docs/PERFORMANCE.md): 124 KiB for the first three; 1,860 KiB for link; for a session
- * 1,596 KiB where 256 functions nest, and 2,708 KiB where, at their end, 1,024 initialisers, 181 constants and 512 types nest too.
+ * Stack: give a thread that calls wuldgisp_intake, wuldgisp_order or wuldgisp_redirect at least WULDGISP_STACK bytes, and one that calls wuldgisp_link,
+ * wuldgisp_link_in or wuldgisp_session at least WULDGISP_LINK_STACK. Measured (docs/PERFORMANCE.md): 124 KiB for the first three; 1,860 KiB for link,
+ * 476 KiB less for link_in; for a session 1,596 KiB where 256 functions nest, and 2,708 KiB where, at their end, 1,024 initialisers, 181 constants and
+ * 512 types nest too.
  *
  * docs/RULES.md has the rules behind every refusal, and docs/IMAGE.md the image word by word.
  */
@@ -76,6 +77,36 @@ uint64_t wuldgisp_redirect(uint8_t *image, size_t image_len, uint32_t original, 
  *   12      a ring of calls; the high half is the count of functions from which a chain of calls reaches a ring
  */
 uint64_t wuldgisp_link(const uint8_t *image, size_t image_len, uint8_t *output, size_t output_len);
+
+/* The memory that wuldgisp_link_in is lent: eight arrays, 476 KiB in all. Too much for many a stack: keep it in static storage, or allocate it. */
+typedef struct wuldgisp_memory {
+    uint32_t words[16384];
+    uint8_t tags[16384];
+    uint32_t log[16384];
+    uint8_t classes[16384];
+    uint32_t starts[8][512];
+    uint32_t maps[6][512];
+    uint16_t marks[16384];
+    uint32_t stacks[4][16384];
+} wuldgisp_memory;
+
+/* The last eight arguments of wuldgisp_link_in, from a wuldgisp_memory *. */
+#define WULDGISP_MEMORY(m) (m)->words, (m)->tags, (m)->log, (m)->classes, (m)->starts[0], (m)->maps[0], (m)->marks, (m)->stacks[0]
+
+/* Link in memory that is lent: for a caller that links many images. wuldgisp_link has this memory on its stack and clears all of it in every call.
+ *
+ * image, image_len, output, output_len: as in wuldgisp_link.
+ * words, tags, log, classes, starts, maps, marks, stacks: as long as in wuldgisp_memory, rows one behind the other: starts 4,096 numbers, maps 3,072,
+ *   stacks 65,536, each of the others 16,384. They may hold anything before the call and hold anything after it, so they need no clearing, neither at
+ *   first nor between calls. None of them may be null, or overlap the image, the output or another of them. Two calls at the same time want memory of
+ *   their own.
+ * Answers, and writes the output, as wuldgisp_link does.
+ *
+ *     static wuldgisp_memory memory;
+ *     uint64_t answer = wuldgisp_link_in(image, image_len, output, output_len, WULDGISP_MEMORY(&memory));
+ */
+uint64_t wuldgisp_link_in(const uint8_t *image, size_t image_len, uint8_t *output, size_t output_len, uint32_t *words, uint8_t *tags, uint32_t *log,
+                          uint8_t *classes, uint32_t *starts, uint32_t *maps, uint16_t *marks, uint32_t *stacks);
 
 /* Session: records and functions of several images drawn into derived images, by a list of steps (docs/RULES.md, 12).
  *

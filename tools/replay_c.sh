@@ -1,7 +1,7 @@
 #!/usr/bin/env bash
-# Compiles the header in C and C++ and the C examples with every warning an error. Replays the vectors' orders through one, numbers alone, and links
-# the vectors' images by a session through the other, which maps the spans of P1 to P4 too. Gives both wrong arguments, input that cannot be read and
-# output that cannot be written. Wants the archive in target/staticlib.
+# Compiles the header in C and C++ and the C examples with every warning an error. Replays the vectors' orders through one, numbers alone; links the
+# vectors' images by a session through another, which maps the spans of P1 to P4 too, and all of them in one memory through the third. Gives them wrong
+# arguments, input that cannot be read and output that cannot be written. Wants the archive in target/staticlib.
 set -euo pipefail
 cd "$(dirname "$0")/.."
 
@@ -9,7 +9,7 @@ work=$(mktemp -d)
 trap 'rm -rf "$work"' EXIT
 
 g++ -x c++ -Wall -Wextra -Wpedantic -Werror -fsyntax-only include/wuldgisp.h
-for example in order session; do
+for example in order session many; do
   gcc -std=c99 -Wall -Wextra -Wpedantic -Werror -Iinclude "examples/$example.c" target/staticlib/libwuldgisp.a -o "$work/${example}_c"
 done
 
@@ -54,6 +54,29 @@ while IFS='|' read -r name intake link _; do
 done < <(tr '\t' '|' < vectors/expected.tsv)
 echo "$sessions sessions agree, called from C: what they link, P1 to P4, and refusals"
 
+# twice in a row, so that every image is linked behind others
+links=0
+mkdir "$work/many"
+names=()
+while IFS='|' read -r name intake link _; do
+  cp "vectors/$name.img" "$work/many"
+  names+=("$name.img")
+  case "$intake $link" in
+    "ok ok") echo "$name.img: linked, $(stat -c %s "vectors/$name.linked") bytes" ;;
+    "ok "*) echo "$name.img: $link" ;;
+    *) echo "$name.img: $intake" ;;
+  esac
+  links=$((links + 1))
+done < <(tr '\t' '|' < vectors/expected.tsv) > "$work/lines"
+(cd "$work/many" && "$work/many_c" "${names[@]}" "${names[@]}") > "$work/links" || [ $? = 1 ]
+cat "$work/lines" "$work/lines" | cmp - "$work/links"
+for expected in vectors/*.linked; do
+  name=${expected#vectors/}
+  cmp "$expected" "$work/many/${name%.linked}.img.linked"
+done
+[ "$(ls "$work/many" | grep -c '\.linked$')" = "$(ls vectors | grep -c '\.linked$')" ]
+echo "$links images agree, linked from C in one memory"
+
 # the status of the last command is this one, and standard error is one line that ends so
 ended() {
   if [ "$status" != "$1" ] || [ "$(wc -l < "$work/err")" != 1 ] || [[ "$(cat "$work/err")" != *"$2" ]]; then
@@ -81,6 +104,16 @@ program=session_c
 example one two < "$image" && ended 2 " [FILE] < IMAGE"
 example "$work/none/linked" < "$image" > /dev/null && ended 2 "/none/linked: No such file or directory"
 example /dev/full < "$image" > /dev/null && ended 2 ": /dev/full: No space left on device"
+program=many_c
+linked=$work/many/001.img
+example && ended 2 " FILE..."
+example "$linked" "$work/none.img" "$linked" > "$work/links" && ended 2 "/none.img: No such file or directory"
+[ "$(wc -l < "$work/links")" = 2 ]
+example . && ended 2 ": .: Is a directory"
+mkdir "$work/full.img.linked" && cp "$linked" "$work/full.img"
+example "$work/full.img" && ended 2 "/full.img.linked: Is a directory"
+example "$linked" > /dev/full && ended 2 ": standard output: No space left on device"
+example "$linked" >&- && ended 2 ": standard output: Bad file descriptor"
 for program in order_c session_c; do
   example < . && ended 2 ": standard input: Is a directory"
   example <&- && ended 2 ": standard input: Bad file descriptor"

@@ -1,9 +1,10 @@
 //! The operations on one image, compared: the number, what comes with it, and every byte of what is lent and around it.
+//! Link is compared twice: in memory of its own, and in memory that is lent and holds whatever the images before left.
 
 use plain::random::Random;
 use plain::words;
 
-use crate::archive;
+use crate::archive::{self, Memory};
 use crate::guarded::{difference, Guarded, BYTE};
 
 /// The answer that both give, or how they differ.
@@ -42,17 +43,23 @@ impl Asked {
     }
 }
 
-/// Compares every operation on an image and tells each answer that both give.
-pub fn agrees(image: &[u8], asked: &Asked, answer: &mut dyn FnMut(&'static str, u32)) -> Result<(), String> {
+/// Compares every operation on an image and tells each answer that both give. The memory is lent to linking.
+pub fn agrees(
+    image: &[u8],
+    asked: &Asked,
+    memory: &mut Memory,
+    answer: &mut dyn FnMut(&'static str, u32),
+) -> Result<(), String> {
     let taken = intake_agrees(image)?;
     answer("intake", taken);
     answer("order", order_agrees(image)?);
     answer("redirect", redirect_agrees(image, asked)?);
-    answer("link", link_agrees(image, image.len(), asked.more)?);
+    let mut link = |length| link_agrees(image, length, asked.more, memory);
+    answer("link", link(image.len())?);
     // Where intake refuses, the length of the output is not to matter.
     if taken == 0 || asked.all_lengths {
-        answer("link", link_agrees(image, image.len() + asked.longer, asked.more)?);
-        answer("link", link_agrees(image, image.len().saturating_sub(asked.shorter), asked.more)?);
+        answer("link", link(image.len() + asked.longer)?);
+        answer("link", link(image.len().saturating_sub(asked.shorter))?);
     }
     Ok(())
 }
@@ -95,34 +102,56 @@ fn redirect_agrees(image: &[u8], asked: &Asked) -> Outcome {
     Ok(expected.map_or_else(|number| number, |_| 0))
 }
 
-/// Link into an output of so many bytes. What both wrote is then taken in and linked once more.
-fn link_agrees(image: &[u8], length: usize, more: usize) -> Outcome {
-    let what = || format!("link of {} bytes into {length}", image.len());
-    let mut output = Guarded::fresh(BYTE, length, more);
-    let archive = archive::link(image, output.lent());
+/// Link into an output of so many bytes, both ways. What was written is then taken in and linked once more.
+fn link_agrees(image: &[u8], length: usize, more: usize, memory: &mut Memory) -> Outcome {
     let mut expected_output = vec![BYTE; length];
     let expected = plain::link::answer(plain::link(image, &mut expected_output));
-    if archive != expected {
-        return Err(format!("{}: the archive answers {archive:#x}, the plain reading {expected:#x}", what()));
+    let what = format!("link of {} bytes into {length}", image.len());
+    let link = |output: &mut [u8]| archive::link(image, output);
+    same_link(&what, link, more, expected, &expected_output)?;
+    let what = format!("{what}, lent");
+    let link_in = |output: &mut [u8]| archive::link_in(image, output, memory);
+    same_link(&what, link_in, more, expected, &expected_output)?;
+    if !memory.intact() {
+        return Err(format!("{what}: words around the memory that is lent changed"));
     }
-    same_bytes(&what(), &output, &expected_output)?;
     let (number, written) = (expected as u32, (expected >> 32) as usize);
     if number == 0 && length == image.len() {
-        linked_is_final(&expected_output[..written])?;
+        linked_is_final(&expected_output[..written], memory)?;
     }
     Ok(number)
 }
 
-/// A linked image passes intake, and linking it gives the same bytes.
-fn linked_is_final(linked: &[u8]) -> Result<(), String> {
+/// A way to link gives the answer and the output that are expected.
+fn same_link(
+    what: &str,
+    link: impl FnOnce(&mut [u8]) -> u64,
+    more: usize,
+    expected: u64,
+    expected_output: &[u8],
+) -> Result<(), String> {
+    let mut output = Guarded::fresh(BYTE, expected_output.len(), more);
+    let archive = link(output.lent());
+    if archive != expected {
+        return Err(format!("{what}: the archive answers {archive:#x}, the plain reading {expected:#x}"));
+    }
+    same_bytes(what, &output, expected_output)
+}
+
+/// A linked image passes intake, and linking it gives the same bytes, both ways.
+fn linked_is_final(linked: &[u8], memory: &mut Memory) -> Result<(), String> {
     let taken = intake_agrees(linked)?;
     if taken != 0 {
         return Err(format!("link: the linked image is refused by {taken}"));
     }
-    let mut again = vec![BYTE; linked.len()];
-    let answer = archive::link(linked, &mut again);
-    if answer != (linked.len() as u64) << 32 || again != linked {
-        return Err(format!("link: linking the linked image of {} bytes answers {answer:#x}", linked.len()));
+    let length = linked.len();
+    let (mut own, mut lent) = (vec![BYTE; length], vec![BYTE; length]);
+    let answer = archive::link(linked, &mut own);
+    let answer_lent = archive::link_in(linked, &mut lent, memory);
+    if [answer, answer_lent] != [(length as u64) << 32; 2] || own != linked || lent != linked {
+        return Err(format!(
+            "link: linking the linked image of {length} bytes answers {answer:#x}, lent {answer_lent:#x}"
+        ));
     }
     Ok(())
 }

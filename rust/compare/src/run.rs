@@ -7,6 +7,7 @@ use plain::generate_session::Generated;
 use plain::random::Random;
 use plain::steps::{OPERATIONS, REFUSALS};
 
+use crate::archive::Memory;
 use crate::{image, session};
 
 /// Failures that are printed whole; more are only counted.
@@ -41,6 +42,8 @@ pub struct Run {
     pub random: Random,
     pub passed: usize,
     pub failed: usize,
+    /// Lent to every link of the run, and never cleared.
+    memory: Memory,
     in_stage: Counts,
     in_all: Counts,
 }
@@ -48,7 +51,8 @@ pub struct Run {
 impl Run {
     pub fn new(settings: Settings) -> Self {
         let random = Random::new(settings.seed);
-        Run { settings, random, passed: 0, failed: 0, in_stage: Counts::default(), in_all: Counts::default() }
+        let (memory, in_stage, in_all) = (Memory::new(), Counts::default(), Counts::default());
+        Run { settings, random, passed: 0, failed: 0, memory, in_stage, in_all }
     }
 
     /// A stage, and what it came to.
@@ -79,7 +83,7 @@ impl Run {
         let asked = image::Asked::draw(&mut self.random, image);
         let counts = &mut self.in_stage.on_images;
         let mut count = |operation, answer| *counts.entry((operation, answer)).or_default() += 1;
-        match image::agrees(image, &asked, &mut count) {
+        match image::agrees(image, &asked, &mut self.memory, &mut count) {
             Ok(()) => self.passed += 1,
             Err(message) => self.fail(image, &what(), &message),
         }

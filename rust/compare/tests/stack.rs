@@ -2,7 +2,7 @@
 //!
 //! The program `stack` measures the smallest sizes. A stack that is too small ends the test, and all tests with it.
 
-use compare::archive;
+use compare::archive::{self, Memory};
 use compare::scripts::Script;
 use plain::steps::operation;
 use plain::{cases, deep, heavy};
@@ -41,6 +41,8 @@ fn link_runs_in_a_thread_of_the_library() {
         let ordered = wuldgisp::order(&image).is_ok();
         let linked = archive::link(&image, &mut vec![0; image.len()]) as u32 == 0;
         assert_eq!(linked, ordered, "{name}");
+        let lent = archive::link_in(&image, &mut vec![0; image.len()], &mut Memory::new()) as u32 == 0;
+        assert_eq!(lent, ordered, "{name}");
     });
 }
 

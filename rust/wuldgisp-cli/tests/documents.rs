@@ -30,11 +30,13 @@ fn what_users_see_cites_what_is_there() {
         "include/wuldgisp.h",
         "examples/order.c",
         "examples/session.c",
+        "examples/many.c",
         "docs/IMAGE.md",
         "docs/TEXT.md",
         "docs/COMMANDS.md",
         "docs/PLAN.md",
         "rust/wuldgisp/src/lib.rs",
+        "rust/wuldgisp/src/linker.rs",
         "rust/wuldgisp/src/refusal.rs",
         "rust/wuldgisp/src/session.rs",
     ];

@@ -1,4 +1,5 @@
-//! The declarations in `src/lib.rs` are those of `include/wuldgisp.h`: names, arguments and types.
+//! The declarations in `src/lib.rs` are those of `include/wuldgisp.h`: names, arguments and types, the stacks, and the
+//! memory of `wuldgisp_link_in`.
 //!
 //! Both files are brought to one spelling, the Rust one, and compared as sets. WULDGISP_HEADER names another
 //! header.
@@ -23,6 +24,7 @@ fn bare(text: &str) -> String {
 fn rust_type(c: &str) -> String {
     match c.replace(" *", "*").trim() {
         "uint8_t" => "u8".to_owned(),
+        "uint16_t" => "u16".to_owned(),
         "uint32_t" => "u32".to_owned(),
         "uint64_t" => "u64".to_owned(),
         "size_t" => "usize".to_owned(),
@@ -69,23 +71,63 @@ fn of_rust(text: &str) -> BTreeSet<String> {
     text.split(';').filter_map(function).collect()
 }
 
+/// The fields of the header's `wuldgisp_memory`: type, name, and how many numbers, the rows of an array together.
+fn memory_of_header(text: &str) -> Vec<(String, String, usize)> {
+    let text = bare(text);
+    let (_, fields) = text.split_once("struct wuldgisp_memory {").expect("wuldgisp_memory");
+    let (fields, _) = fields.split_once('}').expect("its end");
+    let field = |field: &str| {
+        let (declaration, lengths) = field.split_once('[').expect("an array");
+        let (own, name) = typed(declaration);
+        let count = |length: &str| length.trim_end_matches(']').parse::<usize>().expect("a length");
+        (own, name, lengths.split('[').map(count).product())
+    };
+    fields.split(';').map(str::trim).filter(|field| !field.is_empty()).map(field).collect()
+}
+
+fn header() -> String {
+    let own = || Path::new(env!("CARGO_MANIFEST_DIR")).join("../../include/wuldgisp.h");
+    let header = std::env::var_os("WULDGISP_HEADER").map_or_else(own, PathBuf::from);
+    std::fs::read_to_string(&header).unwrap_or_else(|error| panic!("include/wuldgisp.h: {error}"))
+}
+
+fn rust() -> String {
+    let package = Path::new(env!("CARGO_MANIFEST_DIR"));
+    std::fs::read_to_string(package.join("src/lib.rs")).unwrap()
+}
+
 #[test]
 fn declarations_are_the_headers() {
-    let package = Path::new(env!("CARGO_MANIFEST_DIR"));
-    let header = std::env::var_os("WULDGISP_HEADER").map(PathBuf::from);
-    let header = header.unwrap_or(package.join("../../include/wuldgisp.h"));
-    let header_text =
-        std::fs::read_to_string(&header).unwrap_or_else(|error| panic!("include/wuldgisp.h: {error}"));
-    let rust_text = std::fs::read_to_string(package.join("src/lib.rs")).unwrap();
-    let rust = of_rust(&rust_text);
+    let rust = of_rust(&rust());
     assert!(!rust.is_empty());
-    assert_eq!(rust, of_header(&header_text));
+    assert_eq!(rust, of_header(&header()));
+}
+
+#[test]
+fn the_memory_is_the_headers() {
+    use wuldgisp_sys::memory::*;
+    let memory = [
+        ("u32", "words", WORDS),
+        ("u8", "tags", TAGS),
+        ("u32", "log", LOG),
+        ("u8", "classes", CLASSES),
+        ("u32", "starts", STARTS),
+        ("u32", "maps", MAPS),
+        ("u16", "marks", MARKS),
+        ("u32", "stacks", STACKS),
+    ];
+    let owned = memory.map(|(own, name, count)| (own.to_owned(), name.to_owned(), count));
+    assert_eq!(memory_of_header(&header()), owned);
+    // The arguments of wuldgisp_link_in are those arrays, in that order.
+    let arguments = memory.map(|(own, name, _)| format!("{name}: *mut {own}")).join(", ");
+    let functions = of_rust(&rust());
+    let link_in = functions.iter().find(|function| function.starts_with("wuldgisp_link_in("));
+    assert!(link_in.expect("wuldgisp_link_in").contains(&format!(", {arguments})")));
 }
 
 #[test]
 fn the_stacks_are_the_headers() {
-    let header = Path::new(env!("CARGO_MANIFEST_DIR")).join("../../include/wuldgisp.h");
-    let header = std::fs::read_to_string(header).unwrap();
+    let header = header();
     let stacks = [
         ("WULDGISP_STACK", wuldgisp_sys::WULDGISP_STACK),
         ("WULDGISP_LINK_STACK", wuldgisp_sys::WULDGISP_LINK_STACK),

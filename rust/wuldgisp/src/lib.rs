@@ -5,9 +5,10 @@
 //! of little-endian words, and every byte slice, of any length and content, has an answer. `docs/RULES.md` of the
 //! repository has the rules that the answers follow, and `docs/IMAGE.md` the image word by word.
 //!
-//! [`Image`] reads names and looks functions up by name; [`redirect_by_name`] redirects by name; a [`Session`] draws
-//! records and functions of several images into new ones. With the feature `place` there is `place`, which says where in
-//! an image a rule is broken. A thread that calls should have a stack of at least [`STACK`] bytes, or [`LINK_STACK`].
+//! [`Image`] reads names and looks functions up by name; [`redirect_by_name`] redirects by name; a [`Linker`] links many
+//! images in memory that is made once; a [`Session`] draws records and functions of several images into new ones. With the
+//! feature `place` there is `place`, which says where in an image a rule is broken. A thread that calls should have a
+//! stack of at least [`STACK`] bytes, or [`LINK_STACK`].
 //!
 //! ```
 //! // fog and tone; shade calls fog, and fog calls tone.
@@ -32,12 +33,14 @@
 //! ```
 
 mod image;
+mod linker;
 #[cfg(feature = "place")]
 mod place;
 mod refusal;
 mod session;
 
 pub use image::Image;
+pub use linker::Linker;
 #[cfg(feature = "place")]
 pub use place::{place, Place};
 pub use refusal::Refusal;
@@ -46,8 +49,9 @@ pub use session::{run_steps, Answers, Session, Ticket, TooLong};
 /// The stack that a calling thread should have at least, in bytes. Threads of Rust's library have more by themselves.
 pub const STACK: usize = wuldgisp_sys::WULDGISP_STACK;
 
-/// The same for [`link`], [`link_into`] and [`run_steps`], which go as deep as an image nests. Every link that was
-/// measured ran in the 2 MiB that a thread of Rust's library has by itself. [`Session::run`] has a thread of its own.
+/// The same for [`link`], [`link_into`], a [`Linker`] and [`run_steps`], which go as deep as an image nests. Every link
+/// that was measured ran in the 2 MiB that a thread of Rust's library has by itself. [`Session::run`] has a thread of its
+/// own.
 pub const LINK_STACK: usize = wuldgisp_sys::WULDGISP_LINK_STACK;
 
 /// The most functions of an image, and so the longest order.
@@ -163,7 +167,8 @@ pub fn redirect_by_name<N: AsRef<[u8]> + ?Sized>(
     redirect(image, original, replacement, &omit)
 }
 
-/// The image linked: its functions in output order, callees first, each with what it refers to.
+/// The image linked: its functions in output order, callees first, each with what it refers to. For many images, one
+/// after the other, take a [`Linker`].
 ///
 /// ```
 /// use wuldgisp::Refusal;

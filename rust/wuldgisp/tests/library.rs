@@ -1,9 +1,10 @@
-//! The library as a caller uses it: names and functions looked up, redirecting by name, and what it depends on.
+//! The library as a caller uses it: names and functions looked up, redirecting by name, a linker that is used again, and
+//! what it depends on.
 
 use std::path::Path;
 use std::process::Command;
 
-use wuldgisp::{Image, Refusal};
+use wuldgisp::{Image, Linker, Refusal};
 
 /// The images of the repository's vectors.
 fn vectors() -> Vec<Vec<u8>> {
@@ -65,6 +66,38 @@ fn redirecting_by_name_is_redirecting_by_number() {
     assert_eq!(by_name("colour", "mist", &[]), Err(Refusal::OriginalNotFound));
     assert_eq!(by_name("fog", "colour", &[]), Err(Refusal::ReplacementNotFound));
     assert_eq!(wuldgisp::redirect_by_name(&mut [], "a", "b", &[]), Err(Refusal::Size));
+}
+
+#[test]
+fn a_linker_that_is_used_again_links_as_link_does() {
+    let mut linker = Linker::new();
+    let (mut linked, mut refused) = (0, 0);
+    for image in vectors() {
+        let expected = wuldgisp::link(&image);
+        assert_eq!(linker.link(&image), expected);
+        // Bytes behind the linked image stay, and all where it is refused.
+        let mut output = vec![0xa5; image.len() + 9];
+        let answer = linker.link_into(&image, &mut output);
+        assert_eq!(answer, expected.as_ref().map(Vec::len).map_err(|refusal| *refusal));
+        let written = expected.unwrap_or_default();
+        assert_eq!(output[..written.len()], written);
+        assert!(output[written.len()..].iter().all(|byte| *byte == 0xa5));
+        match answer {
+            Ok(_) => linked += 1,
+            Err(_) => refused += 1,
+        }
+    }
+    assert!(linked > 40 && refused > 40, "{linked} linked, {refused} refused");
+}
+
+#[test]
+fn a_linker_leaves_an_output_that_is_too_short() {
+    let image = plain::assemble("wuldgisp-text 1 names { \"tone\" } special_types { }").unwrap();
+    let mut linker = Linker::default();
+    let mut output = vec![0xa5; image.len() - 1];
+    assert_eq!(linker.link_into(&image, &mut output), Err(Refusal::Output));
+    assert!(output.iter().all(|byte| *byte == 0xa5));
+    assert_eq!(linker.link(&image), wuldgisp::link(&image));
 }
 
 #[test]

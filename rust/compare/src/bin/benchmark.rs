@@ -1,4 +1,5 @@
 //! Benchmark: intake, order, redirect, link and sessions in nanoseconds a word, over sizes and on the worst cases.
+//! Link is measured in memory of its own and in memory that is lent, which is made once and holds what calls left.
 //!
 //! In one run, on the same images: the archive, the plain reading, and a copy of the bytes as the floor under any
 //! of them. Redirecting writes into the image, so every call of it, of both sides, starts from a fresh copy, which is
@@ -8,7 +9,7 @@ use std::fmt::Write;
 use std::hint::black_box;
 use std::process::ExitCode;
 
-use compare::archive;
+use compare::archive::{self, Memory};
 use compare::grouped;
 use compare::picture::{picture, Curve};
 use compare::scripts::{self, Script};
@@ -32,11 +33,12 @@ Exit status: 0, or 2 for misuse.
 const SIZES: [usize; 7] = [256, 512, 1024, 2048, 4096, 8192, 16_384];
 
 /// The columns: what is measured, and its colour in the picture.
-const COLUMNS: [(&str, &str); 10] = [
+const COLUMNS: [(&str, &str); 11] = [
     ("intake", "#1b6ca8"),
     ("order", "#2e8b57"),
     ("redirect", "#b5532a"),
     ("link", "#7b3fa0"),
+    ("link, lent", "#e69500"),
     ("session", "#c02060"),
     ("intake, plain", "#1b6ca8"),
     ("order, plain", "#2e8b57"),
@@ -46,7 +48,8 @@ const COLUMNS: [(&str, &str); 10] = [
 ];
 /// Of these the microseconds a call are told too.
 const LINK: usize = 3;
-const SESSION: usize = 4;
+const LENT: usize = 4;
+const SESSION: usize = 5;
 
 fn main() -> ExitCode {
     let settings = match settings() {
@@ -127,6 +130,7 @@ fn measured(timing: &Timing, (name, image): &Case) -> Row {
     let (original, replacement) = names(image);
     let mut buffer = image.clone();
     let mut script = Script::in_order(image);
+    let mut memory = Memory::new();
     let image = image.as_slice();
     let mut time = |run: &mut dyn FnMut(&mut [u8])| timing.best(|| run(&mut buffer)) / words as f64;
     let figures = [
@@ -137,6 +141,7 @@ fn measured(timing: &Timing, (name, image): &Case) -> Row {
             ignore(black_box(wuldgisp::redirect(black_box(buffer), original, replacement, &[])));
         }),
         time(&mut |buffer| ignore(black_box(archive::link(black_box(image), buffer)))),
+        time(&mut |buffer| ignore(black_box(archive::link_in(black_box(image), buffer, &mut memory)))),
         time(&mut |_| ignore(black_box(script.run(black_box(image))))),
         time(&mut |_| ignore(black_box(plain::intake(black_box(image))))),
         time(&mut |_| ignore(black_box(plain::order(black_box(image))))),
@@ -171,16 +176,16 @@ fn names(image: &[u8]) -> (u32, u32) {
 
 // ---- tables ----
 
-/// The rows as a table, with the microseconds of link and of the session at the end.
+/// The rows as a table, with the microseconds of link, both ways, and of the session at the end.
 fn table(rows: &[Row]) -> String {
-    let mut text = heading(&["link, µs", "session, µs"]);
+    let mut text = heading(&["link, µs", "link, lent, µs", "session, µs"]);
     for row in rows {
         write!(text, "| {} | {} |", row.name, grouped(row.words)).expect("a string takes all");
         for (figure, (name, _)) in row.figures.iter().zip(COLUMNS) {
             let digits = if name == "copy" { 2 } else { 1 };
             write!(text, " {figure:.digits$} |").expect("a string takes all");
         }
-        for own in [LINK, SESSION] {
+        for own in [LINK, LENT, SESSION] {
             let time = row.figures[own] * row.words as f64 / 1000.0;
             write!(text, " {} |", grouped(time.round() as usize)).expect("a string takes all");
         }

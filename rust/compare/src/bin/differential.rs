@@ -1,8 +1,9 @@
 //! Differential tests: the archive against the plain reading, every answer and every byte.
 //!
 //! On each image of the stages intake, order, a redirect and link are compared, and sessions whole: the number, what
-//! comes with it, and every byte of what is lent and around it. Of a linked image intake and a second link are asked
-//! too. A seed and a count repeat a run; a failure is printed with its image in the text form, or its steps.
+//! comes with it, and every byte of what is lent and around it. Every link is made twice, in memory of its own and in
+//! memory that is lent, one for the whole run. Of a linked image intake and a second link are asked too. A seed and a
+//! count repeat a run; a failure is printed with its image in the text form, or its steps.
 
 use std::process::ExitCode;
 

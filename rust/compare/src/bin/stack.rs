@@ -6,19 +6,20 @@
 use std::path::Path;
 use std::process::{Command, ExitCode, Stdio};
 
-use compare::archive;
+use compare::archive::{self, Memory};
 use compare::grouped;
 use compare::scripts::Script;
 use plain::cases::{self, Case};
 use plain::steps::operation;
 use plain::{deep, heavy};
 
-/// What is measured; all but the first four are sessions.
-const OPERATIONS: [&str; 8] = [
+/// What is measured; all but the first five are sessions.
+const OPERATIONS: [&str; 9] = [
     "intake",
     "order",
     "redirect",
     "link",
+    "link, lent",
     "functions in output order",
     "import_function of the last",
     "map_function_handle of the last",
@@ -62,6 +63,10 @@ fn call(operation: &str, mut image: Vec<u8>) -> Box<dyn FnOnce() + Send> {
         "order" => return Box::new(move || ignore(wuldgisp::order(&image))),
         "redirect" => return Box::new(move || ignore(wuldgisp::redirect(&mut image, 0, 1, &[0; 512]))),
         "link" => return Box::new(move || ignore(archive::link(&image, &mut output))),
+        "link, lent" => {
+            let mut memory = Memory::new();
+            return Box::new(move || ignore(archive::link_in(&image, &mut output, &mut memory)));
+        }
         "functions in output order" => Script::in_order(&image),
         "import_function of the last" => Script::nested(&image, operation::IMPORT_FUNCTION),
         "map_function_handle of the last" => Script::nested(&image, operation::MAP_FUNCTION_HANDLE),
