@@ -1,5 +1,6 @@
 // Passes over the words of a function: each is written at once on the stack of words, by the maps as they are at its turn. What a word needs of those behind it
-// is read ahead: of a span's start whether the span is undefined, of an Emit's start its end, of an atomic statement what it compares.
+// is read ahead: of a span's start whether the span is undefined, of an Emit's start its end, of an atomic statement what it compares. Words that bring nothing
+// are written in runs.
 use classes::ATOMIC;
 use classes::EXPR;
 use classes::FROM;
@@ -194,7 +195,8 @@ pub struct Reach {
     pub undefined: bool,
 }
 
-// The words from `at` on, written one behind the other as long as they bring nothing and there is room. Most words are: this passes them on without the ends.
+// The words from `at` on, written one behind the other as long as they bring nothing and there is room. Most words bring nothing, and the ends of the tables
+// need not go along with each of them.
 pub fn run(
     words: &[u32; 16384],
     tags: &[u8; 16384],
