@@ -4,8 +4,8 @@
  * length 0. Several threads may call at the same time.
  *
  * Stack: give a thread that calls wuldgisp_intake, wuldgisp_order or wuldgisp_redirect at least WULDGISP_STACK bytes, and one that calls wuldgisp_link,
- * wuldgisp_link_in or wuldgisp_session at least WULDGISP_LINK_STACK. Measured (docs/PERFORMANCE.md): 124 KiB for the first three; 1,860 KiB for link,
- * 476 KiB less for link_in; for a session 1,596 KiB where 256 functions nest, and 2,708 KiB where, at their end, 1,024 initialisers, 181 constants and
+ * wuldgisp_link_in or wuldgisp_session at least WULDGISP_LINK_STACK. Measured (docs/PERFORMANCE.md): 120 KiB for the first three; 1,864 KiB for link,
+ * 476 KiB less for link_in; for a session 1,604 KiB where 256 functions nest, and 2,716 KiB where, at their end, 1,024 initialisers, 181 constants and
  * 512 types nest too.
  *
  * docs/RULES.md has the rules behind every refusal, and docs/IMAGE.md the image word by word.
