@@ -167,6 +167,11 @@ unfolding less
 less-is zero = refl
 less-is (suc w) = omega arith
 
+pred-is : (w : ℕ) → pred w ≡ less w
+unfolding less
+pred-is zero = refl
+pred-is (suc w) = refl
+
 module _ (s w u : ℕ) (is : u ≡ kindOf (target s)) where
   pub to-ref : u < 6 → (u ≡ refersTo (target s) w) × (w ≡ numberOf (target s) w)
   unfolding refersTo numberOf
@@ -179,9 +184,9 @@ module _ (s w u : ℕ) (is : u ≡ kindOf (target s)) where
       go true e = unfold refersTo in rw (← is, le-ltb u 6 h, e)
       go false e = unfold refersTo ifSome in rw (← is, le-ltb u 6 h, e, z, ifSome)
 
-  pub to-none : 6 ≤ u → u < 8 → (6 ≡ refersTo (target s) w) × (w - 1 ≡ numberOf (target s) w)
+  pub to-none : 6 ≤ u → u < 8 → (r : ℕ) → r ≡ pred w → (6 ≡ refersTo (target s) w) × (r ≡ numberOf (target s) w)
   unfolding refersTo numberOf
-  to-none a b = (rw (← is, le-ltb u 6 a, lt-ltb u 8 b), rw (← is, le-ltb u 6 a) (less-is w))
+  to-none a b r q = (rw (← is, le-ltb u 6 a, lt-ltb u 8 b), rw (← is, le-ltb u 6 a) (q ∙ pred-is w))
 
   pub to-opt : 8 ≤ u → (w ≡ 0 → ⊥) → (u - 8 ≡ refersTo (target s) w) × (w - 1 ≡ numberOf (target s) w)
   unfolding refersTo numberOf

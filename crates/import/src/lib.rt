@@ -7,6 +7,7 @@ use state::Ends;
 use state::NOTHING;
 use state::OPTIONAL;
 use state::kind_of;
+use state::less;
 use views::NAMES;
 use views::TYPES;
 use views::record_at;
@@ -41,16 +42,16 @@ pub fn refers_to(kinds: &[u8; 256], s: u8, w: u32) -> Reference
             number: w,
         };
     }
+    if u < OPTIONAL {
+        return Reference {
+            table: NOTHING,
+            number: less(w),
+        };
+    }
     if w == 0 {
         return Reference {
             table: NOTHING,
             number: 0,
-        };
-    }
-    if u < OPTIONAL {
-        return Reference {
-            table: NOTHING,
-            number: w - 1,
         };
     }
     Reference {

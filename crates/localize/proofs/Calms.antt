@@ -16,10 +16,10 @@ use Rattle.state.specs.Held.{put, Kept}
 use Rattle.state.specs.declared.Ends.{Ends}
 use Rattle.ground.specs.Cuts.{Expressions}
 use Rattle.outside.proofs.Passing.{legible-here}
-use Rattle.making.specs.Stacks.{wentOf}
+use Rattle.making.specs.Stacks.{wentBy}
 use Rattle.parts.specs.Part.{Part}
 use Rattle.passing.specs.Runs.{needs, glances, Quiet, becomes, flagOf, Ran}
-use Rattle.passing.proofs.Calm.{long, long-none, run-turns, becomes-long, needs-idle, quiet-runs}
+use Rattle.passing.proofs.Calm.{long, long-none, run-turns, becomes-long, becomes-by, needs-idle, quiet-runs}
 use Rattle.localize.proofs.Locals.{Going, other-runs, going-next}
 
 -- a Call names a function
@@ -33,20 +33,20 @@ module _ {words tags : List ℕ} {n s end : ℕ} (src : Source words tags n) (p 
   At x stacks i u = Going words tags n o room s end ea places k named body log₀ classes₀ starts₀ maps₀ marks₀ stacks₀ e₀ log classes starts maps marks em stacks (long e x) i u
 
   turn : (x : ℕ) (stacks : List (List ℕ)) (i : ℕ) (u : Bool) → At x stacks i u → i < end → e .bt + x < 16384 → Quiet maps em (getD tags i 0) (getD words i 0)
-      → At (suc x) (put stacks 3 (e .bt + x) (becomes (wentOf words n log classes starts maps e em) (e .made) o (getD tags i 0) (getD words i 0) (flagOf words tags end i u))) (suc i) (flagOf words tags end i u)
+      → At (suc x) (put stacks 3 (e .bt + x) (becomes (wentBy maps em) (e .made) o (getD tags i 0) (getD words i 0) (flagOf words tags end i u))) (suc i) (flagOf words tags end i u)
   turn x stacks i u G less low Q =
       let v = flagOf words tags end i u in
       let T = G .turn in
       let R = quiet-runs src o (needs o words tags n places k) (glances o words tags n places k) (needs-idle X n o) i end v (legible-here (T .legible) less) (T .way .kept) (T .way .under) refl low Q in
-      let y = becomes-long words n log classes starts maps e em x (e .made) o (getD tags i 0) (getD words i 0) v in
+      let y = becomes-long words n log classes starts maps e em x (e .made) o (getD tags i 0) (getD words i 0) v ∙ sym (becomes-by words n log classes starts maps e em (e .made) o (getD tags i 0) (getD words i 0) v (Q .callee)) in
       let z : e .bt + suc x ≡ e .bt + x + 1 = omega arith in
       let next = going-next p K₀ G less {v = v} refl (other-runs p K₀ G less (λ q. Q .callee (callee-kind _ q)) v R) refl in
       rw (← y, z) (rw (add-one i) at next)
 
   pub going-run : {stacks : List (List ℕ)} {i : ℕ} {u : Bool} → Going words tags n o room s end ea places k named body log₀ classes₀ starts₀ maps₀ marks₀ stacks₀ e₀ log classes starts maps marks em stacks e i u
-      → {r : ℕ} {v : Bool} {stacks′ : List (List ℕ)} → Ran words tags maps em (wentOf words n log classes starts maps e em) (e .made) o i end (e .bt) u stacks r v stacks′ → {e′ : Ends} → e′ ≡ long e (r - i)
+      → {r : ℕ} {v : Bool} {stacks′ : List (List ℕ)} → Ran words tags maps em (wentBy maps em) (e .made) o i end (e .bt) u stacks r v stacks′ → {e′ : Ends} → e′ ≡ long e (r - i)
       → Going words tags n o room s end ea places k named body log₀ classes₀ starts₀ maps₀ marks₀ stacks₀ e₀ log classes starts maps marks em stacks′ e′ r v
   going-run {i = i} G {r} R h =
       let a = R .reach in
       let z : r - i ≡ R .count = omega arith in
-      rw (h, z) (run-turns words tags maps em (wentOf words n log classes starts maps e em) (e .made) o end (e .bt) At turn R (rw (← long-none e (G .turn .way .going)) G))
+      rw (h, z) (run-turns words tags maps em (wentBy maps em) (e .made) o end (e .bt) At turn R (rw (← long-none e (G .turn .way .going)) G))

@@ -17,11 +17,11 @@ use Rattle.state.specs.Refers.{codeP, kindOf, wentR, Small}
 use Rattle.state.specs.Source.{modOf}
 use Rattle.state.specs.Held.{stOf}
 use Rattle.state.specs.declared.Ends.{Ends}
-use Rattle.state.proofs.Classes.{span-of, place-top}
+use Rattle.state.proofs.Classes.{span-of, place-top, kind-small}
 use Rattle.state.proofs.State.{code-low}
 use Rattle.known.specs.Bearing.{Knows}
 use Rattle.ground.specs.Fits.{Fits, FitN}
-use Rattle.making.specs.Stacks.{wentOf}
+use Rattle.making.specs.Stacks.{wentBy, wentOf}
 
 -- ---- what the classes on either side of EXPR refer to
 -- 1 for an expression of the function
@@ -57,34 +57,35 @@ high-class s h = go (ltb s 103) refl
     go true e = span-of (λ s. outer (target s)) 0 93 10 refl s h (ltb-true s 103 e)
     go false e = rw (far-copied s (ltb-false s 103 e))
 
+kind-few : (s : ℕ) → kindOf (target s) < 14
+kind-few s = go (ltb s 256) refl
+  where
+    go : (x : Bool) → ltb s 256 ≡ x → kindOf (target s) < 14
+    go true e = kind-small s (ltb-true s 256 e)
+    go false e = let l = ltb-false s 256 e in unfold kindOf in rw (far-copied s (omega arith)) (omega arith)
+
 -- ---- each kind
 code-seven : (t : Tab) → codeT t ≡ 7 → ⊥
 code-seven t e = omega (arith, code-low t)
 
-module _ (words : List ℕ) (n : ℕ) (log tags : List ℕ) (starts maps : List (List ℕ)) (e : Ends) (em : List ℕ) where
+code-six : (t : Tab) → codeT t ≡ 6 → ⊥
+code-six t e = omega (arith, code-low t)
+
+-- all but functions, through the rows and the function's own map
+module _ (words : List ℕ) (maps : List (List ℕ)) (em : List ℕ) where
   abbrev W : Place → ℕ → ℕ
-  W = wentOf words n log tags starts maps e em
+  W = wentBy maps em
 
-  -- a function
-  named-in : (g : Target) (w : ℕ) → kindOf g ≡ 7 → All (FitN words 1024) (refOf g w []) → w < countAt 6 words
-  unfolding kindOf codeP refOf Fits
-  named-in copied w q a = absurd (omega arith)
-  named-in start w q a = absurd (omega arith)
-  named-in upto w q a = absurd (omega arith)
-  named-in (ref (table t)) w q a = absurd (code-seven t q)
-  named-in (ref own) w q a = absurd (omega arith)
-  named-in (ref function) w q a = a .0
-  named-in (opt p) w q a = absurd (omega arith)
-
-  named-W : (g : Target) (w : ℕ) → kindOf g ≡ 7 → pred (known (modOf words n) (stOf words log tags starts [] [] e) w) ≡ carryW W g w
-  unfolding kindOf codeP carryW wentOf
-  named-W copied w q = absurd (omega arith)
-  named-W start w q = absurd (omega arith)
-  named-W upto w q = absurd (omega arith)
-  named-W (ref (table t)) w q = absurd (code-seven t q)
-  named-W (ref own) w q = absurd (omega arith)
-  named-W (ref function) w q = refl
-  named-W (opt p) w q = absurd (omega arith)
+  -- nothing
+  nothing-W : (g : Target) (w : ℕ) → kindOf g ≡ 6 → w ≡ carryW W g w
+  unfolding kindOf codeP carryW
+  nothing-W copied w q = refl
+  nothing-W start w q = refl
+  nothing-W upto w q = refl
+  nothing-W (ref (table t)) w q = absurd (code-six t q)
+  nothing-W (ref own) w q = absurd (omega arith)
+  nothing-W (ref function) w q = absurd (omega arith)
+  nothing-W (opt p) w q = absurd (omega arith)
 
   -- a record of a table
   row-small : (g : Target) (w : ℕ) → 0 ≡ inner g → (kindOf g ≡ 7 → ⊥) → kindOf g < 14 → All (FitN words 1024) (refOf g w []) → All Small (refOf g w [])
@@ -101,7 +102,7 @@ module _ (words : List ℕ) (n : ℕ) (log tags : List ℕ) (starts maps : List 
   row-small (opt function) w i ne l a = absurd (omega arith)
 
   row-W : (g : Target) (w : ℕ) → 0 ≡ inner g → (kindOf g ≡ 7 → ⊥) → kindOf g < 14 → carryW (wentR maps) g w ≡ carryW W g w
-  unfolding kindOf codeP carryW wentR wentOf inner ownP
+  unfolding kindOf codeP carryW wentR wentBy inner ownP
   row-W copied w i ne l = refl
   row-W start w i ne l = refl
   row-W upto w i ne l = refl
@@ -125,7 +126,7 @@ module _ (words : List ℕ) (n : ℕ) (log tags : List ℕ) (starts maps : List 
   own-in (opt p) w i q a = absurd (omega arith)
 
   own-W : (g : Target) (w : ℕ) → 0 ≡ outer g → kindOf g ≡ 5 → pred (getD em w 0) ≡ carryW W g w
-  unfolding kindOf codeP carryW wentOf outer ownP
+  unfolding kindOf codeP carryW wentBy outer ownP
   own-W copied w i q = absurd (omega arith)
   own-W start w i q = absurd (omega arith)
   own-W upto w i q = absurd (omega arith)
@@ -145,7 +146,7 @@ module _ (words : List ℕ) (n : ℕ) (log tags : List ℕ) (starts maps : List 
   opt-in (opt function) w i q a = absurd (omega arith)
 
   opt-W : (g : Target) (w : ℕ) → 0 ≡ outer g → kindOf g ≡ 13 → (0 ≡ carryW W g 0) × (getD em w 0 ≡ carryW W g (suc w))
-  unfolding kindOf codeP carryW wentOf outer ownP
+  unfolding kindOf codeP carryW wentBy outer ownP
   opt-W copied w i q = absurd (omega arith)
   opt-W start w i q = absurd (omega arith)
   opt-W upto w i q = absurd (omega arith)
@@ -169,12 +170,9 @@ module _ (words : List ℕ) (n : ℕ) (log tags : List ℕ) (starts maps : List 
 
   -- ---- the word w of the class s
   module _ (s w u : ℕ) (is : (u ≡ kindOf (target s)) × (u < 14)) (fit : All (FitN words 1024) (refOf (target s) w [])) where
-    pub carries-known : u ≡ 7 → (f : ℕ) → f ≡ w → f < countAt 6 words
-    carries-known q f q′ = rw q′ (named-in (target s) w (sym (is .0) ∙ q) fit)
-
-    pub carries-named : u ≡ 7 → (f : ℕ) → f ≡ w → (v : ℕ) → Knows words n log tags starts e f v → (r : ℕ) → r ≡ pred v → r ≡ through W s w
+    pub carries-nothing : u ≡ 6 → w ≡ through W s w
     unfolding through
-    carries-named q f q′ v k r hr = hr ∙ ap pred (k .is [] []) ∙ rw q′ (named-W (target s) w (sym (is .0) ∙ q))
+    carries-nothing q = nothing-W (target s) w (sym (is .0) ∙ q)
 
     module _ (ne : u ≡ 7 → ⊥) where
       pub carries-small : s < 93 → All Small (refOf (target s) w [])
@@ -207,3 +205,59 @@ module _ (words : List ℕ) (n : ℕ) (log tags : List ℕ) (starts maps : List 
         pub carries-copied : (u ≡ 5 → ⊥) → (u ≡ 13 → ⊥) → w ≡ through W s w
         unfolding through
         carries-copied a b = copied-W (target s) w (high-class s h) (λ q. a (is .0 ∙ q)) (λ q. b (is .0 ∙ q))
+
+-- functions by name, and all others as above
+module _ (words : List ℕ) (n : ℕ) (log tags : List ℕ) (starts maps : List (List ℕ)) (e : Ends) (em : List ℕ) where
+  abbrev U : Place → ℕ → ℕ
+  U = wentOf words n log tags starts maps e em
+
+  -- a function
+  named-in : (g : Target) (w : ℕ) → kindOf g ≡ 7 → All (FitN words 1024) (refOf g w []) → w < countAt 6 words
+  unfolding kindOf codeP refOf Fits
+  named-in copied w q a = absurd (omega arith)
+  named-in start w q a = absurd (omega arith)
+  named-in upto w q a = absurd (omega arith)
+  named-in (ref (table t)) w q a = absurd (code-seven t q)
+  named-in (ref own) w q a = absurd (omega arith)
+  named-in (ref function) w q a = a .0
+  named-in (opt p) w q a = absurd (omega arith)
+
+  named-W : (g : Target) (w : ℕ) → kindOf g ≡ 7 → pred (known (modOf words n) (stOf words log tags starts [] [] e) w) ≡ carryW U g w
+  unfolding kindOf codeP carryW wentOf
+  named-W copied w q = absurd (omega arith)
+  named-W start w q = absurd (omega arith)
+  named-W upto w q = absurd (omega arith)
+  named-W (ref (table t)) w q = absurd (code-seven t q)
+  named-W (ref own) w q = absurd (omega arith)
+  named-W (ref function) w q = refl
+  named-W (opt p) w q = absurd (omega arith)
+
+  by-W : (g : Target) (w : ℕ) → (kindOf g ≡ 7 → ⊥) → kindOf g < 14 → carryW (wentBy maps em) g w ≡ carryW U g w
+  unfolding kindOf codeP carryW wentBy wentOf
+  by-W copied w ne l = refl
+  by-W start w ne l = refl
+  by-W upto w ne l = refl
+  by-W (ref (table t)) w ne l = refl
+  by-W (ref own) w ne l = refl
+  by-W (ref function) w ne l = absurd (ne refl)
+  by-W (opt (table t)) zero ne l = refl
+  by-W (opt (table t)) (suc w) ne l = refl
+  by-W (opt own) zero ne l = refl
+  by-W (opt own) (suc w) ne l = refl
+  by-W (opt function) w ne l = absurd (omega arith)
+
+  pub through-by : (s w : ℕ) → (kindOf (target s) ≡ 7 → ⊥) → through (wentBy maps em) s w ≡ through U s w
+  unfolding through
+  through-by s w ne = by-W (target s) w ne (kind-few s)
+
+  -- ---- the word w of the class s
+  module _ (s w u : ℕ) (is : (u ≡ kindOf (target s)) × (u < 14)) (fit : All (FitN words 1024) (refOf (target s) w [])) where
+    pub carries-known : u ≡ 7 → (f : ℕ) → f ≡ w → f < countAt 6 words
+    carries-known q f q′ = rw q′ (named-in (target s) w (sym (is .0) ∙ q) fit)
+
+    pub carries-named : u ≡ 7 → (f : ℕ) → f ≡ w → (v : ℕ) → Knows words n log tags starts e f v → (r : ℕ) → r ≡ pred v → r ≡ through U s w
+    unfolding through
+    carries-named q f q′ v k r hr = hr ∙ ap pred (k .is [] []) ∙ rw q′ (named-W (target s) w (sym (is .0) ∙ q))
+
+    pub carries-by : (u ≡ 7 → ⊥) → (r : ℕ) → r ≡ through (wentBy maps em) s w → r ≡ through U s w
+    carries-by ne r hr = hr ∙ through-by s w (λ q. ne (is .0 ∙ q))

@@ -14,7 +14,12 @@ use Rattle.state.specs.Held.{row, cell, stOf}
 use Rattle.state.specs.declared.Ends.{Ends}
 use Rattle.ground.specs.Cuts.{cut, Rising}
 
--- ---- where numbers went: by the rows, by the function's own map, by name
+-- ---- where numbers went: by the rows, by the function's own map, by name; and the same but for functions
+unfoldable pub wentBy : List (List ℕ) → List ℕ → Place → ℕ → ℕ
+wentBy maps em (table t) j = cell maps (codeT t) j
+wentBy maps em own j = getD em j 0
+wentBy maps em function j = 0
+
 unfoldable pub wentOf : List ℕ → ℕ → List ℕ → List ℕ → List (List ℕ) → List (List ℕ) → Ends → List ℕ → Place → ℕ → ℕ
 wentOf words n log tags starts maps e em (table t) j = cell maps (codeT t) j
 wentOf words n log tags starts maps e em own j = getD em j 0

@@ -9,16 +9,18 @@ use classes::UPTO;
 use known::known;
 use state::Ends;
 use state::FUNCTION;
+use state::NOTHING;
 use state::OPT_OWN;
 use state::OWN;
 use state::kind_of;
+use state::less;
 use state::moved;
 use state::refuse;
 use words::wide;
 ghost use mathlib.Core.Path.{_≡_};
 ghost use mathlib.Core.Bool.{false};
-ghost use mathlib.Core.List.{[]};
-ghost use Prim.Native.Nat.{_+_, _-_, _≤_, _<_, pred};
+ghost use mathlib.Core.List.{List, []};
+ghost use Prim.Native.Nat.{ℕ, _+_, _-_, _≤_, _<_};
 ghost use lib.ListN.{length, drop};
 ghost use lib.Seq.{slice, sets};
 ghost use Rattle.model.specs.References.{target, refOf, through, firstWord, undefinedAt, shift, alikeC, alike, seat as seatOf};
@@ -27,12 +29,13 @@ ghost use Rattle.model.specs.Bodies.{push as pushE, join};
 ghost use Rattle.imports.specs.RecordLaws.{All};
 ghost use Rattle.initial.specs.Marks.{finds};
 ghost use Rattle.passes.specs.Light.{still};
+ghost use Rattle.state.specs.Refers.{kindOf, kindBytes};
 ghost use Rattle.state.specs.Source.{modOf};
 ghost use Rattle.state.specs.Held.{row, carriedBy};
 ghost use Rattle.known.specs.Bearing.{Bearing};
 ghost use Rattle.ground.specs.Fits.{FitN, Ground, Legible};
 ghost use Rattle.ground.specs.Cuts.{nextOf, Rising, exprsOf, Expressions};
-ghost use Rattle.making.specs.Stacks.{wentOf, seatsOf, madeOf, Stacks, Under};
+ghost use Rattle.making.specs.Stacks.{wentBy, wentOf, seatsOf, madeOf, Stacks, Under};
 ghost use Rattle.making.specs.Makes.{Lays, Wrote, Hops, Apart, Pushed};
 
 // The rows of the stacks: words and classes of expressions, where each of them starts, and words of declarations, bodies and names.
@@ -86,14 +89,31 @@ pub fn index(tags: &[u8; 16384], at: usize, end: usize, places: &mut [u16; 1025]
     }
 }
 
-// One less, or 0.
-fn less(v: u32) -> u32
-    ensures { λ r. ⌜ r ≡ pred v ⌝ }
+// A word through the maps, of a class that names no function.
+pub fn by_maps(kinds: &[u8; 256], maps: &[[u32; 512]; 6], em: &[u16; 1024], s: u8, w: u32) -> u32
+    requires { ⌜ now kinds ≡ kindBytes ⌝ }
+    requires { ⌜ length (now maps) ≡ 6 ⌝ }
+    requires { ⌜ (kindOf (target s) ≡ 7 → ⊥) ⌝ }
+    requires { ⌜ ((ws : List ℕ) × All (FitN ws 1024) (refOf (target s) w [])) ⌝ }
+    ensures { λ r. ⌜ r ≡ through (wentBy (now (maps .entry)) (now (em .entry))) s w ⌝ }
 {
-    if v == 0 {
-        return 0;
+    let u = kind_of(kinds, s);
+    if u == NOTHING {
+        return w;
     }
-    v - 1
+    if s < EXPR {
+        return state::carried(kinds, maps, s, w);
+    }
+    if u == OWN {
+        return less(mapped(em[wide(w)]));
+    }
+    if u == OPT_OWN {
+        if w == 0 {
+            return 0;
+        }
+        return mapped(em[wide(w - 1)]);
+    }
+    w
 }
 
 // A word through the maps.
@@ -120,20 +140,7 @@ pub fn carried(
     if kind_of(kinds, s) == FUNCTION {
         return less(known(words, tags, n, log, classes, starts, maps, ends, wide(w)));
     }
-    if s < EXPR {
-        return state::carried(kinds, maps, s, w);
-    }
-    let u = kind_of(kinds, s);
-    if u == OWN {
-        return less(mapped(em[wide(w)]));
-    }
-    if u == OPT_OWN {
-        if w == 0 {
-            return 0;
-        }
-        return mapped(em[wide(w - 1)]);
-    }
-    w
+    by_maps(kinds, maps, em, s, w)
 }
 
 // Whether the span last met is undefined, once the word w of the class s is read, with the words from i on behind it.

@@ -19,7 +19,7 @@ use Rattle.imports.specs.RecordLaws.{All, all-map}
 use Rattle.passes.specs.Pass.{arrive, early, passed, wordOf}
 use Rattle.passes.specs.Cases.{early-other}
 use Rattle.passes.specs.Light.{still}
-use Rattle.state.specs.Refers.{tabOf}
+use Rattle.state.specs.Refers.{kindOf, tabOf}
 use Rattle.state.specs.Source.{modOf, srcOf, Source, refersTo, numberOf}
 use Rattle.state.specs.Held.{put, stOf, Kept, Lands}
 use Rattle.state.specs.declared.Ends.{Ends}
@@ -28,8 +28,9 @@ use Rattle.ground.specs.Fits.{FitN, Legible, recordOf}
 use Rattle.ground.specs.Cuts.{Expressions}
 use Rattle.outside.proofs.Cells.{fit-own, fit-table}
 use Rattle.outside.proofs.Records.{lands-record, lands-none}
-use Rattle.making.specs.Stacks.{wentOf, Under}
+use Rattle.making.specs.Stacks.{wentBy, wentOf, Under}
 use Rattle.making.specs.Makes.{Makes, Pushed}
+use Rattle.making.proofs.Carries.{through-by}
 use Rattle.making.proofs.Stack.{fit-more}
 use Rattle.operands.proofs.Needs.{need-idle, unique-idle}
 use Rattle.passing.specs.Runs.{unites, needs, Quiet, becomes, flagOf, flagged, ran, Ran, Runs}
@@ -96,6 +97,14 @@ becomes-long words n log tags starts maps e em d made o s w u = by (eqb s TO) re
     by : (b : Bool) → eqb s TO ≡ b → becomes (wentOf words n log tags starts maps (long e d) em) made o s w u ≡ becomes (wentOf words n log tags starts maps e em) made o s w u
     by true z = let is = eqb-true s TO z in sym (becomes-made _ made o s w u is) ∙ becomes-made _ made o s w u is
     by false z = let ne = eqb-false s TO z in sym (becomes-other _ made o s w u ne) ∙ ap (λ (x : ℕ). moved (target s) x o u) (through-long words n log tags starts maps e em d s w) ∙ becomes-other _ made o s w u ne
+
+-- a word that names no function needs no names
+pub becomes-by : (words : List ℕ) (n : ℕ) (log tags : List ℕ) (starts maps : List (List ℕ)) (e : Ends) (em : List ℕ) (made o s w : ℕ) (u : Bool) → (kindOf (target s) ≡ 7 → ⊥) → becomes (wentBy maps em) made o s w u ≡ becomes (wentOf words n log tags starts maps e em) made o s w u
+becomes-by words n log tags starts maps e em made o s w u ne = by (eqb s TO) refl
+  where
+    by : (b : Bool) → eqb s TO ≡ b → becomes (wentBy maps em) made o s w u ≡ becomes (wentOf words n log tags starts maps e em) made o s w u
+    by true z = let is = eqb-true s TO z in sym (becomes-made _ made o s w u is) ∙ becomes-made _ made o s w u is
+    by false z = let nt = eqb-false s TO z in sym (becomes-other _ made o s w u nt) ∙ ap (λ (x : ℕ). moved (target s) x o u) (through-by words n log tags starts maps e em s w ne) ∙ becomes-other _ made o s w u nt
 
 -- numbers in a function's range are in the greatest
 pub legible-all : {words tags : List ℕ} {k i end : ℕ} → k ≤ 1024 → Legible words tags k i end → Legible words tags 1024 i end

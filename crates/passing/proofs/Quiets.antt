@@ -7,10 +7,10 @@ use native.Mathlib.Nat.{le-refl}
 use native.Mathlib.Numerals.{add-one}
 use native.Mathlib.Omega.{arith}
 use lib.ListN.{length, getD}
-use lib.Dec.{ltb}
+use lib.Dec.{eqb, ltb}
 use borrow.Author.Tests.{eq-eqb, ne-eqb, ltb-true, ltb-false}
 use Rattle.model.specs.Table.{EXPR, FROM, TO, STMT-KIND}
-use Rattle.model.specs.References.{Place, targets, target, refOf, through, moved}
+use Rattle.model.specs.References.{Place, Target, targets, target, refOf, through, moved}
 use Rattle.imports.specs.RecordLaws.{All}
 use Rattle.passes.specs.Pass.{atomicKind}
 use Rattle.state.specs.Refers.{codeP, kindOf}
@@ -36,15 +36,30 @@ pub is-ready : (b : Bool) → not b ≡ false → b ≡ true
 is-ready true e = refl
 is-ready false e = absurd (false≢true (sym e))
 
-emit-none : (s w : ℕ) → s ≡ FROM → refersTo (target s) w ≡ 5 → ⊥
-unfolding refersTo kindOf target targets
-emit-none s w e z = let y = rw e at z in omega arith
+pub not-ready : (b : Bool) → not b ≡ true → b ≡ false
+not-ready false e = refl
+not-ready true e = absurd (false≢true e)
 
-kind-none : (s w : ℕ) → s ≡ STMT-KIND → refersTo (target s) w ≡ 5 → ⊥
-unfolding refersTo kindOf target targets
-kind-none s w e z = let y = rw e at z in omega arith
+pub ne-zero : (x : ℕ) → not (eqb x 0) ≡ true → x ≡ 0 → ⊥
+ne-zero x e z = false≢true (rw (eq-eqb x 0 z) at e)
 
-module _ (maps : List (List ℕ)) (em : List ℕ) (s w : ℕ) (callee : kindOf (target s) ≡ 7 → ⊥) (t h : ℕ) (ht : t ≡ refersTo (target s) w) (hh : h ≡ numberOf (target s) w) where
+-- an Emit's start and the kind of a statement refer to nothing
+emit-none : (s : ℕ) → s ≡ FROM → kindOf (target s) ≡ 6
+unfolding kindOf target targets
+emit-none s e = rw e
+
+kind-none : (s : ℕ) → s ≡ STMT-KIND → kindOf (target s) ≡ 6
+unfolding kindOf target targets
+kind-none s e = rw e
+
+refers-none : (g : Target) (w : ℕ) → kindOf g ≡ 6 → refersTo g w ≡ 6
+unfolding refersTo
+refers-none g w e = rw e
+
+pub quiet-nothing : (maps : List (List ℕ)) (em : List ℕ) (s w : ℕ) → kindOf (target s) ≡ 6 → (s ≡ FROM → ⊥) → (s ≡ STMT-KIND → atomicKind w ≡ false) → Quiet maps em s w
+quiet-nothing maps em s w e nf na = let r = refers-none (target s) w e in record { callee = λ q. omega arith; emit = nf; atomic = na; outside = λ l z. absurd (omega arith); inside = λ l z. absurd (omega arith) }
+
+module _ (maps : List (List ℕ)) (em : List ℕ) (s w : ℕ) (some : kindOf (target s) ≡ 6 → ⊥) (callee : kindOf (target s) ≡ 7 → ⊥) (t h : ℕ) (ht : t ≡ refersTo (target s) w) (hh : h ≡ numberOf (target s) w) where
   pub quiet-none : s < EXPR → 5 < t → Quiet maps em s w
   quiet-none l g = record { callee = callee; emit = λ e. omega arith; atomic = λ e. absurd (omega arith); outside = λ z y. absurd (omega arith); inside = λ z. absurd (omega arith) }
 
@@ -52,10 +67,10 @@ module _ (maps : List (List ℕ)) (em : List ℕ) (s w : ℕ) (callee : kindOf (
   quiet-record l ne = record { callee = callee; emit = λ e. omega arith; atomic = λ e. absurd (omega arith); outside = λ z y. rw (ht, hh) at ne; inside = λ z. absurd (omega arith) }
 
   pub quiet-own : EXPR ≤ s → t ≡ 5 → (getD em h 0 ≡ 0 → ⊥) → Quiet maps em s w
-  quiet-own l z ne = record { callee = callee; emit = λ e. emit-none s w e (sym ht ∙ z); atomic = λ e. absurd (kind-none s w e (sym ht ∙ z)); outside = λ x. absurd (omega arith); inside = λ x y. rw hh at ne }
+  quiet-own l z ne = record { callee = callee; emit = λ e. some (emit-none s e); atomic = λ e. absurd (some (kind-none s e)); outside = λ x. absurd (omega arith); inside = λ x y. rw hh at ne }
 
-  pub quiet-plain : EXPR ≤ s → (t ≡ 5 → ⊥) → (s ≡ FROM → ⊥) → (s ≡ STMT-KIND → atomicKind w ≡ false) → Quiet maps em s w
-  quiet-plain l ne nf na = record { callee = callee; emit = nf; atomic = na; outside = λ x. absurd (omega arith); inside = λ x y. absurd (ne (ht ∙ y)) }
+  pub quiet-absent : EXPR ≤ s → (t ≡ 5 → ⊥) → Quiet maps em s w
+  quiet-absent l ne = record { callee = callee; emit = λ e. some (emit-none s e); atomic = λ e. absurd (some (kind-none s e)); outside = λ x. absurd (omega arith); inside = λ x y. absurd (ne (ht ∙ y)) }
 
 -- the numbers that are looked up are in range
 pub numbers-low : (words : List ℕ) (s w : ℕ) → All (FitN words 1024) (refOf (target s) w []) → (s < EXPR → refersTo (target s) w < 6 → numberOf (target s) w < 512) × (EXPR ≤ s → refersTo (target s) w ≡ 5 → numberOf (target s) w < 1024)

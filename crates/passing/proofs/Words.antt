@@ -42,6 +42,9 @@ pub first-none : (tags words : List ℕ) (i end : ℕ) → end ≤ i + 1 → 0 �
 unfolding firstWord
 first-none tags words i end h = rw (between-none tags words (suc i) end (omega arith))
 
+pub zero-first : (w next : ℕ) → 0 ≡ next → eqb w 0 ≡ eqb (w + next) 0
+zero-first w next z = let y : w + next ≡ w = omega arith in rw y
+
 -- ---- atomic statements
 pub atomic-13 : (k : ℕ) → k ≡ 13 → true ≡ atomicKind k
 unfolding atomicKind

@@ -10,6 +10,7 @@ use classes::STMT_KIND;
 use classes::TO;
 use import::refers_to;
 use making::BODY;
+use making::by_maps;
 use making::carried;
 use making::push;
 use operands::bring;
@@ -20,14 +21,15 @@ use outside::import_by_table;
 use outside::import_record;
 use state::Ends;
 use state::FUNCTION;
+use state::NOTHING;
 use state::kind_of;
 use state::moved;
 use views::EXPRESSIONS;
 use words::wide;
 ghost use mathlib.Core.Path.{_≡_};
 ghost use mathlib.Core.Bool.{true, false};
-ghost use mathlib.Core.List.{[], _∷_, map};
-ghost use Prim.Native.Nat.{suc, _≤_, _<_, _+_};
+ghost use mathlib.Core.List.{List, [], _∷_, map};
+ghost use Prim.Native.Nat.{ℕ, suc, _≤_, _<_, _+_};
 ghost use lib.ListN.{length, getD};
 ghost use Rattle.model.specs.Outcome.{word};
 ghost use Rattle.model.specs.Table.{EXPR as EXPR′};
@@ -39,13 +41,13 @@ ghost use Rattle.model.specs.Bodies.{Making, comparesOf, eachE};
 ghost use Rattle.imports.specs.RecordLaws.{All};
 ghost use Rattle.passes.specs.Pass.{atomicKind, arrive as arriveE, first, both, early, passed, wordOf, after, written};
 ghost use Rattle.passes.specs.Light.{still};
-ghost use Rattle.state.specs.Refers.{kindBytes};
+ghost use Rattle.state.specs.Refers.{kindOf, kindBytes};
 ghost use Rattle.state.specs.Source.{modOf, refersTo, numberOf};
 ghost use Rattle.state.specs.Held.{Kept};
 ghost use Rattle.known.specs.Bearing.{Bearing};
 ghost use Rattle.ground.specs.Fits.{FitN, Ground, Legible};
 ghost use Rattle.ground.specs.Cuts.{Expressions};
-ghost use Rattle.making.specs.Stacks.{wentOf, Stacks, Under};
+ghost use Rattle.making.specs.Stacks.{wentBy, wentOf, Stacks, Under};
 ghost use Rattle.making.specs.Makes.{Makes, Pushed};
 ghost use Rattle.passing.specs.Runs.{unites, needs, glances, Declares, Bodied, Quiet, becomes, Ran, Runs};
 
@@ -57,13 +59,10 @@ pub fn flag(words: &[u32; 16384], tags: &[u8; 16384], i: usize, end: usize, u: b
     if tags[i] != SPAN {
         return u;
     }
-    if words[i] != 0 {
-        return false;
-    }
     if i + 1 < end {
-        return words[i + 1] == 0;
+        return wide(words[i]) + wide(words[i + 1]) == 0;
     }
-    true
+    words[i] == 0
 }
 
 // Word i through the maps, with its span moved, on the stack.
@@ -114,7 +113,17 @@ fn ready(kinds: &[u8; 256], maps: &[[u32; 512]; 6], em: &[u16; 1024], s: u8, w: 
     requires { ⌜ (s < EXPR′ → refersTo (target s) w < 6 → numberOf (target s) w < 512) × (EXPR′ ≤ s → refersTo (target s) w ≡ 5 → numberOf (target s) w < 1024) ⌝ }
     ensures { λ r. ⌜ (r ≡ true → Quiet (now (maps .entry)) (now (em .entry)) s w) ⌝ }
 {
-    if kind_of(kinds, s) == FUNCTION {
+    let u = kind_of(kinds, s);
+    if u == NOTHING {
+        if s == FROM {
+            return false;
+        }
+        if s == STMT_KIND {
+            return !atomic(w);
+        }
+        return true;
+    }
+    if u == FUNCTION {
         return false;
     }
     let r = refers_to(kinds, s, w);
@@ -124,69 +133,35 @@ fn ready(kinds: &[u8; 256], maps: &[[u32; 512]; 6], em: &[u16; 1024], s: u8, w: 
         if EXPRESSIONS < t {
             return true;
         }
-        if maps[t][h] == 0 {
-            return false;
-        }
-        return true;
+        return maps[t][h] != 0;
     }
     if t == EXPRESSIONS {
-        if em[h] == 0 {
-            return false;
-        }
-        return true;
-    }
-    if s == FROM {
-        return false;
-    }
-    if s == STMT_KIND {
-        if atomic(w) {
-            return false;
-        }
+        return em[h] != 0;
     }
     true
 }
 
-// What such a word becomes: the end of an Emit's range is what is made, any other goes through the maps, with its span moved.
+// What such a word becomes, where so many expressions are made: that is the end of an Emit's range; any other goes through the maps, with its span moved.
 fn carry(
-    words: &[u32; 16384],
-    tags: &[u8; 16384],
     kinds: &[u8; 256],
-    n: usize,
-    log: &[u32; 16384],
-    classes: &[u8; 16384],
-    starts: &[[u32; 512]; 8],
     maps: &[[u32; 512]; 6],
     em: &[u16; 1024],
-    ends: Ends,
+    made: usize,
     offset: u32,
     s: u8,
     w: u32,
     u: bool,
 ) -> u32
-    requires { ⌜ Ground (now words) (now tags) (now kinds) n ⌝ }
-    requires { ⌜ Bearing (now log) (now classes) (now starts) ends ⌝ }
+    requires { ⌜ now kinds ≡ kindBytes ⌝ }
     requires { ⌜ length (now maps) ≡ 6 ⌝ }
-    requires { ⌜ (All (FitN (now words) 1024) (refOf (target s) w [])) × (ends .made ≤ 16384) ⌝ }
-    ensures { λ r. ⌜ r ≡ becomes (wentOf (now (words .entry)) n (now (log .entry)) (now (classes .entry)) (now (starts .entry)) (now (maps .entry)) ends (now (em .entry))) (ends .made) offset s w u ⌝ }
+    requires { ⌜ (kindOf (target s) ≡ 7 → ⊥) × (made ≤ 16384) ⌝ }
+    requires { ⌜ ((ws : List ℕ) × All (FitN ws 1024) (refOf (target s) w [])) ⌝ }
+    ensures { λ r. ⌜ r ≡ becomes (wentBy (now (maps .entry)) (now (em .entry))) made offset s w u ⌝ }
 {
     if s == TO {
-        return ends.made as u32;
+        return made as u32;
     }
-    let x = carried(
-        words,
-        tags,
-        kinds,
-        n,
-        log,
-        classes,
-        starts,
-        maps,
-        em,
-        ends,
-        s,
-        w,
-    );
-    moved(s, x, offset, u)
+    moved(s, by_maps(kinds, maps, em, s, w), offset, u)
 }
 
 // How far words were written, and whether the span last met is then undefined.
@@ -195,33 +170,29 @@ pub struct Reach {
     pub undefined: bool,
 }
 
-// The words from `at` on, written one behind the other as long as they bring nothing and there is room. Most words bring nothing, and the ends of the tables
-// need not go along with each of them.
+// The words from `at` on, written from place `bt` of the stack on, one behind the other, as long as they bring nothing and there is room. Most words bring
+// nothing, and the ends of the tables need not go along with each of them.
 pub fn run(
     words: &[u32; 16384],
     tags: &[u8; 16384],
     kinds: &[u8; 256],
-    n: usize,
-    log: &[u32; 16384],
-    classes: &[u8; 16384],
-    starts: &[[u32; 512]; 8],
     maps: &[[u32; 512]; 6],
     em: &[u16; 1024],
     stacks: &mut [[u32; 16384]; 4],
-    ends: Ends,
+    made: usize,
+    bt: usize,
     offset: u32,
     at: usize,
     end: usize,
     undefined: bool,
 ) -> Reach
-    requires { ⌜ Ground (now words) (now tags) (now kinds) n ⌝ }
-    requires { ⌜ Bearing (now log) (now classes) (now starts) ends ⌝ }
+    requires { ⌜ now kinds ≡ kindBytes ⌝ }
     requires { ⌜ length (now maps) ≡ 6 ⌝ }
-    requires { ⌜ (Legible (now words) (now tags) 1024 at end) × (ends .bt ≤ 16384) × (ends .made ≤ 16384) ⌝ }
-    ensures { λ r. ⌜ Ran (now (words .entry)) (now (tags .entry)) (now (maps .entry)) (now (em .entry)) (wentOf (now (words .entry)) n (now (log .entry)) (now (classes .entry)) (now (starts .entry)) (now (maps .entry)) ends (now (em .entry))) (ends .made) offset at end (ends .bt) undefined (now (stacks .entry)) (r .at) (r .undefined) (now (stacks .exit)) ⌝ }
+    requires { ⌜ (Legible (now words) (now tags) 1024 at end) × (bt ≤ 16384) × (made ≤ 16384) ⌝ }
+    ensures { λ r. ⌜ Ran (now (words .entry)) (now (tags .entry)) (now (maps .entry)) (now (em .entry)) (wentBy (now (maps .entry)) (now (em .entry))) made offset at end bt undefined (now (stacks .entry)) (r .at) (r .undefined) (now (stacks .exit)) ⌝ }
 {
     let mut i = at;
-    let mut p = ends.bt;
+    let mut p = bt;
     let mut u = undefined;
     while i < end {
         let s = tags[i];
@@ -243,22 +214,7 @@ pub fn run(
         i += 1;
         p += 1;
         u = flag(words, tags, j, end, u);
-        stacks[BODY][q] = carry(
-            words,
-            tags,
-            kinds,
-            n,
-            log,
-            classes,
-            starts,
-            maps,
-            em,
-            ends,
-            offset,
-            s,
-            w,
-            u,
-        );
+        stacks[BODY][q] = carry(kinds, maps, em, made, offset, s, w, u);
     }
     Reach {
         at: i,
@@ -391,14 +347,11 @@ pub fn declare(
             words,
             tags,
             kinds,
-            n,
-            log,
-            classes,
-            starts,
             maps,
             em,
             stacks,
-            e,
+            e.made,
+            e.bt,
             offset,
             i,
             end,

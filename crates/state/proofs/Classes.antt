@@ -52,7 +52,7 @@ below-at f v lo (suc n) e s a b =
     go true p here there = rw (eqb-true s lo p) here
     go false p here there = there (omega (arith, eqb-false s lo p))
 
-kind-small : (s : ℕ) → s < 256 → kindOf (target s) < 14
+pub kind-small : (s : ℕ) → s < 256 → kindOf (target s) < 14
 unfolding kindOf codeP codeT target targets
 kind-small s h = below-at (λ s. kindOf (target s)) 14 0 256 refl s (omega arith) h
 
@@ -220,6 +220,17 @@ undefined-no s w next u e ne = rw (e, ne-eqb w 0 ne)
 pub undefined-next : (s w next : ℕ) (u : Bool) → s ≡ 81 → w ≡ 0 → (x : ℕ) → x ≡ next → eqb x 0 ≡ undefinedAt (target s) w next u
 unfolding target targets undefinedAt undefined
 undefined-next s w next u e z x q = rw (e, z, q)
+
+pub undefined-both : (s w next : ℕ) (u : Bool) → s ≡ 81 → eqb (w + next) 0 ≡ undefinedAt (target s) w next u
+unfolding target targets undefinedAt undefined
+undefined-both s w next u e = rw e (go w)
+  where
+    go : (w : ℕ) → eqb (w + next) 0 ≡ (eqb w 0 && eqb next 0)
+    go w = by (eqb w 0) refl
+      where
+        by : (b : Bool) → eqb w 0 ≡ b → eqb (w + next) 0 ≡ (eqb w 0 && eqb next 0)
+        by true q = let z = eqb-true w 0 q in let y : w + next ≡ next = omega arith in rw (q, y)
+        by false q = let z = eqb-false w 0 q in rw (q, ne-eqb (w + next) 0 (λ y. z (omega arith)))
 
 pub undefined-none : (s w next : ℕ) (u : Bool) → s ≡ 81 → w ≡ 0 → 0 ≡ next → true ≡ undefinedAt (target s) w next u
 undefined-none s w next u e z q = undefined-next s w next u e z 0 q

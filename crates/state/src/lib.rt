@@ -9,7 +9,7 @@ use words::wide;
 ghost use mathlib.Core.Path.{_≡_};
 ghost use mathlib.Core.Bool.{true, false};
 ghost use mathlib.Core.List.{[]};
-ghost use Prim.Native.Nat.{suc, _+_, _-_, _*_, _^_, _≤_, _<_};
+ghost use Prim.Native.Nat.{suc, pred, _+_, _-_, _*_, _^_, _≤_, _<_};
 ghost use lib.ListN.{length, getD, set, replicate};
 ghost use Rattle.model.specs.References.{target, refOf, refs, through, undefinedAt, firstWord, moved as movedOf, shift, alikeC, alike as alikeOf};
 ghost use Rattle.imports.specs.RecordLaws.{All, bareW};
@@ -382,6 +382,16 @@ pub fn kind_of(kinds: &[u8; 256], s: u8) -> usize
     ensures { λ r. ⌜ (r ≡ kindOf (target s)) × (r < 14) ⌝ }
 {
     slot(kinds[slot(s)])
+}
+
+// One less, or 0.
+pub fn less(v: u32) -> u32
+    ensures { λ r. ⌜ r ≡ pred v ⌝ }
+{
+    if v == 0 {
+        return 0;
+    }
+    v - 1
 }
 
 // A word through the maps.

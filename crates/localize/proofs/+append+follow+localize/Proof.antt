@@ -966,7 +966,7 @@ localize-run-requires : (t : ℕ) → localize-lts.Need-run-requires (
   import-names-reads.Asked,
   import-names-reads.Learnt,
 ) (localize-at t) localize.Post localize-Inv-loop localize-μ-loop
-localize-run-requires t c κs = let a = c .before .before .before .before .before .before .before .before .before .before .before .before .before .before .before .before .before .before .before .before .before .before .before .before .before .before .before .before .args in let p = c .before .before .before .before .before .before .before .before .before .before .before .before .before .before .before .before .before .before .before .before .before .before .before .before .before .before .before .before .pre .1 in let g = c .before .before .before .before .before .before .before .loop .inv .on refl (p .1 .1 .1 .1) (going-start (p .1 .0) (reading (p .1 .0) (c .before .before .before .before .before .before .before .before .before .before .before .before .before .before .before .before .before .before .before .before .before .before .before .before .before .before .before .expressions-at .ensures .0) (c .before .before .before .before .before .before .before .before .before .before .before .before .before .before .before .before .before .before .before .before .before .before .before .find .ensures) (c .before .before .before .before .before .before .before .before .before .before .before .before .before .before .before .before .before .before .before .before .before .before .before .before .before .wide .ensures .0) (c .before .before .before .before .before .before .before .before .before .before .before .before .before .before .before .before .before .before .before .before .before .slot .ensures .0) (c .before .before .before .before .before .before .before .before .before .before .before .before .before .before .before .before .before .before .before .wide2 .ensures .0) refl) (p .1 .1 .1 .1) (a .room) (c .before .before .before .before .before .before .before .before .before .before .begin .ensures) (c .before .before .before .before .before .before .before .before .before .declare .ensures) (c .before .before .before .before .before .before .before .before .if1 .left)) in let K = g .turn .way .kept in let U = g .turn .way .under in (p .0, (bearing K, (K .maps-six, (legible-all (k-few (p .1 .0) (g .read)) (g .turn .legible), U .stacks-are .high′, made-small U))))
+localize-run-requires t c κs = let a = c .before .before .before .before .before .before .before .before .before .before .before .before .before .before .before .before .before .before .before .before .before .before .before .before .before .args in let p = c .before .before .before .before .before .before .before .before .before .before .before .before .before .before .before .before .before .before .before .before .before .before .before .before .before .pre .1 in let g = c .before .before .before .before .loop .inv .on refl (p .1 .1 .1 .1) (going-start (p .1 .0) (reading (p .1 .0) (c .before .before .before .before .before .before .before .before .before .before .before .before .before .before .before .before .before .before .before .before .before .before .before .before .expressions-at .ensures .0) (c .before .before .before .before .before .before .before .before .before .before .before .before .before .before .before .before .before .before .before .before .find .ensures) (c .before .before .before .before .before .before .before .before .before .before .before .before .before .before .before .before .before .before .before .before .before .before .wide .ensures .0) (c .before .before .before .before .before .before .before .before .before .before .before .before .before .before .before .before .before .before .slot .ensures .0) (c .before .before .before .before .before .before .before .before .before .before .before .before .before .before .before .before .wide2 .ensures .0) refl) (p .1 .1 .1 .1) (a .room) (c .before .before .before .before .before .before .before .begin .ensures) (c .before .before .before .before .before .before .declare .ensures) (c .before .before .before .before .before .if1 .left)) in let K = g .turn .way .kept in let U = g .turn .way .under in (p .0 .kinds-are, (K .maps-six, (legible-all (k-few (p .1 .0) (g .read)) (g .turn .legible), U .stacks-are .high′, made-small U)))
 
 -- src/lib.rt:142:23
 localize-sub-longer : (t : ℕ) → localize-lts.Need-sub-longer (
@@ -1065,7 +1065,7 @@ localize-add-i : (t : ℕ) → localize-lts.Need-add-i (
   import-names-reads.Asked,
   import-names-reads.Learnt,
 ) (localize-at t) localize.Post localize-Inv-loop localize-μ-loop
-localize-add-i t c = let a = c .before .before .before .before .before .before .before .before .before .before .before .before .before .before .before .before .before .before .before .before .before .before .before .before .before .before .before .before .before .before .before .before .args in let p = c .before .before .before .before .before .before .before .before .before .before .before .before .before .before .before .before .before .before .before .before .before .before .before .before .before .before .before .before .before .before .before .before .pre .1 in let g = c .before .before .before .before .before .before .before .before .before .before .before .loop .inv .on refl (p .1 .1 .1 .1) (going-start (p .1 .0) (reading (p .1 .0) (c .before .before .before .before .before .before .before .before .before .before .before .before .before .before .before .before .before .before .before .before .before .before .before .before .before .before .before .before .before .before .before .expressions-at .ensures .0) (c .before .before .before .before .before .before .before .before .before .before .before .before .before .before .before .before .before .before .before .before .before .before .before .before .before .before .before .find .ensures) (c .before .before .before .before .before .before .before .before .before .before .before .before .before .before .before .before .before .before .before .before .before .before .before .before .before .before .before .before .before .wide .ensures .0) (c .before .before .before .before .before .before .before .before .before .before .before .before .before .before .before .before .before .before .before .before .before .before .before .before .before .slot .ensures .0) (c .before .before .before .before .before .before .before .before .before .before .before .before .before .before .before .before .before .before .before .before .before .before .before .wide2 .ensures .0) refl) (p .1 .1 .1 .1) (a .room) (c .before .before .before .before .before .before .before .before .before .before .before .before .before .before .begin .ensures) (c .before .before .before .before .before .before .before .before .before .before .before .before .before .declare .ensures) (c .before .before .before .before .before .before .before .before .before .before .before .before .if1 .left)) in let l = c .before .before .before .before .before .before .before .before .before .before .before .loop in let k = going-run (p .0 .source) (p .1 .0) (a .offset) (a .room) _ (expressions (p .1 .0) (g .read)) _ _ (p .1 .1 .1 .1) (a .stacks .now) (l .log) (l .classes) (l .starts) (l .maps) (l .marks) (l .em) (l .e) g (c .before .before .before .run .ensures) (c .before .longer .ensures) in let h = word-in (p .1 .0) (p .1 .1 .1 .1) k (c .if2 .taken) in omega arith
+localize-add-i t c = let a = c .before .before .before .before .before .before .before .before .before .before .before .before .before .before .before .before .before .before .before .before .before .before .before .before .before .before .before .before .before .args in let p = c .before .before .before .before .before .before .before .before .before .before .before .before .before .before .before .before .before .before .before .before .before .before .before .before .before .before .before .before .before .pre .1 in let g = c .before .before .before .before .before .before .before .before .loop .inv .on refl (p .1 .1 .1 .1) (going-start (p .1 .0) (reading (p .1 .0) (c .before .before .before .before .before .before .before .before .before .before .before .before .before .before .before .before .before .before .before .before .before .before .before .before .before .before .before .before .expressions-at .ensures .0) (c .before .before .before .before .before .before .before .before .before .before .before .before .before .before .before .before .before .before .before .before .before .before .before .before .find .ensures) (c .before .before .before .before .before .before .before .before .before .before .before .before .before .before .before .before .before .before .before .before .before .before .before .before .before .before .wide .ensures .0) (c .before .before .before .before .before .before .before .before .before .before .before .before .before .before .before .before .before .before .before .before .before .before .slot .ensures .0) (c .before .before .before .before .before .before .before .before .before .before .before .before .before .before .before .before .before .before .before .before .wide2 .ensures .0) refl) (p .1 .1 .1 .1) (a .room) (c .before .before .before .before .before .before .before .before .before .before .before .begin .ensures) (c .before .before .before .before .before .before .before .before .before .before .declare .ensures) (c .before .before .before .before .before .before .before .before .before .if1 .left)) in let l = c .before .before .before .before .before .before .before .before .loop in let k = going-run (p .0 .source) (p .1 .0) (a .offset) (a .room) _ (expressions (p .1 .0) (g .read)) _ _ (p .1 .1 .1 .1) (a .stacks .now) (l .log) (l .classes) (l .starts) (l .maps) (l .marks) (l .em) (l .e) g (c .before .before .before .run .ensures) (c .before .longer .ensures) in let h = word-in (p .1 .0) (p .1 .1 .1 .1) k (c .if2 .taken) in omega arith
 
 -- src/lib.rt:148:13
 localize-flag-requires : (t : ℕ) → localize-lts.Need-flag-requires (
@@ -1098,7 +1098,7 @@ localize-flag-requires : (t : ℕ) → localize-lts.Need-flag-requires (
   import-names-reads.Asked,
   import-names-reads.Learnt,
 ) (localize-at t) localize.Post localize-Inv-loop localize-μ-loop
-localize-flag-requires t c κs = let a = c .before .before .before .before .before .before .before .before .before .before .before .before .before .before .before .before .before .before .before .before .before .before .before .before .before .before .before .before .before .before .before .before .args in let p = c .before .before .before .before .before .before .before .before .before .before .before .before .before .before .before .before .before .before .before .before .before .before .before .before .before .before .before .before .before .before .before .before .pre .1 in let g = c .before .before .before .before .before .before .before .before .before .before .before .loop .inv .on refl (p .1 .1 .1 .1) (going-start (p .1 .0) (reading (p .1 .0) (c .before .before .before .before .before .before .before .before .before .before .before .before .before .before .before .before .before .before .before .before .before .before .before .before .before .before .before .before .before .before .before .expressions-at .ensures .0) (c .before .before .before .before .before .before .before .before .before .before .before .before .before .before .before .before .before .before .before .before .before .before .before .before .before .before .before .find .ensures) (c .before .before .before .before .before .before .before .before .before .before .before .before .before .before .before .before .before .before .before .before .before .before .before .before .before .before .before .before .before .wide .ensures .0) (c .before .before .before .before .before .before .before .before .before .before .before .before .before .before .before .before .before .before .before .before .before .before .before .before .before .slot .ensures .0) (c .before .before .before .before .before .before .before .before .before .before .before .before .before .before .before .before .before .before .before .before .before .before .before .wide2 .ensures .0) refl) (p .1 .1 .1 .1) (a .room) (c .before .before .before .before .before .before .before .before .before .before .before .before .before .before .begin .ensures) (c .before .before .before .before .before .before .before .before .before .before .before .before .before .declare .ensures) (c .before .before .before .before .before .before .before .before .before .before .before .before .if1 .left)) in let l = c .before .before .before .before .before .before .before .before .before .before .before .loop in let k = going-run (p .0 .source) (p .1 .0) (a .offset) (a .room) _ (expressions (p .1 .0) (g .read)) _ _ (p .1 .1 .1 .1) (a .stacks .now) (l .log) (l .classes) (l .starts) (l .maps) (l .marks) (l .em) (l .e) g (c .before .before .before .run .ensures) (c .before .longer .ensures) in (k .turn .legible .stretch, c .if2 .taken)
+localize-flag-requires t c κs = let a = c .before .before .before .before .before .before .before .before .before .before .before .before .before .before .before .before .before .before .before .before .before .before .before .before .before .before .before .before .before .args in let p = c .before .before .before .before .before .before .before .before .before .before .before .before .before .before .before .before .before .before .before .before .before .before .before .before .before .before .before .before .before .pre .1 in let g = c .before .before .before .before .before .before .before .before .loop .inv .on refl (p .1 .1 .1 .1) (going-start (p .1 .0) (reading (p .1 .0) (c .before .before .before .before .before .before .before .before .before .before .before .before .before .before .before .before .before .before .before .before .before .before .before .before .before .before .before .before .expressions-at .ensures .0) (c .before .before .before .before .before .before .before .before .before .before .before .before .before .before .before .before .before .before .before .before .before .before .before .before .find .ensures) (c .before .before .before .before .before .before .before .before .before .before .before .before .before .before .before .before .before .before .before .before .before .before .before .before .before .before .wide .ensures .0) (c .before .before .before .before .before .before .before .before .before .before .before .before .before .before .before .before .before .before .before .before .before .before .slot .ensures .0) (c .before .before .before .before .before .before .before .before .before .before .before .before .before .before .before .before .before .before .before .before .wide2 .ensures .0) refl) (p .1 .1 .1 .1) (a .room) (c .before .before .before .before .before .before .before .before .before .before .before .begin .ensures) (c .before .before .before .before .before .before .before .before .before .before .declare .ensures) (c .before .before .before .before .before .before .before .before .before .if1 .left)) in let l = c .before .before .before .before .before .before .before .before .loop in let k = going-run (p .0 .source) (p .1 .0) (a .offset) (a .room) _ (expressions (p .1 .0) (g .read)) _ _ (p .1 .1 .1 .1) (a .stacks .now) (l .log) (l .classes) (l .starts) (l .maps) (l .marks) (l .em) (l .e) g (c .before .before .before .run .ensures) (c .before .longer .ensures) in (k .turn .legible .stretch, c .if2 .taken)
 
 -- src/lib.rt:149:16
 localize-element-copy-out-if3 : (t : ℕ) → localize-lts.Need-element-copy-out-if3 (
@@ -1131,7 +1131,7 @@ localize-element-copy-out-if3 : (t : ℕ) → localize-lts.Need-element-copy-out
   import-names-reads.Asked,
   import-names-reads.Learnt,
 ) (localize-at t) localize.Post localize-Inv-loop localize-μ-loop
-localize-element-copy-out-if3 t c = let a = c .before .before .before .before .before .before .before .before .before .before .before .before .before .before .before .before .before .before .before .before .before .before .before .before .before .before .before .before .before .before .before .before .before .args in let p = c .before .before .before .before .before .before .before .before .before .before .before .before .before .before .before .before .before .before .before .before .before .before .before .before .before .before .before .before .before .before .before .before .before .pre .1 in let g = c .before .before .before .before .before .before .before .before .before .before .before .before .loop .inv .on refl (p .1 .1 .1 .1) (going-start (p .1 .0) (reading (p .1 .0) (c .before .before .before .before .before .before .before .before .before .before .before .before .before .before .before .before .before .before .before .before .before .before .before .before .before .before .before .before .before .before .before .before .expressions-at .ensures .0) (c .before .before .before .before .before .before .before .before .before .before .before .before .before .before .before .before .before .before .before .before .before .before .before .before .before .before .before .before .find .ensures) (c .before .before .before .before .before .before .before .before .before .before .before .before .before .before .before .before .before .before .before .before .before .before .before .before .before .before .before .before .before .before .wide .ensures .0) (c .before .before .before .before .before .before .before .before .before .before .before .before .before .before .before .before .before .before .before .before .before .before .before .before .before .before .slot .ensures .0) (c .before .before .before .before .before .before .before .before .before .before .before .before .before .before .before .before .before .before .before .before .before .before .before .before .wide2 .ensures .0) refl) (p .1 .1 .1 .1) (a .room) (c .before .before .before .before .before .before .before .before .before .before .before .before .before .before .before .begin .ensures) (c .before .before .before .before .before .before .before .before .before .before .before .before .before .before .declare .ensures) (c .before .before .before .before .before .before .before .before .before .before .before .before .before .if1 .left)) in let l = c .before .before .before .before .before .before .before .before .before .before .before .before .loop in let k = going-run (p .0 .source) (p .1 .0) (a .offset) (a .room) _ (expressions (p .1 .0) (g .read)) _ _ (p .1 .1 .1 .1) (a .stacks .now) (l .log) (l .classes) (l .starts) (l .maps) (l .marks) (l .em) (l .e) g (c .before .before .before .before .run .ensures) (c .before .before .longer .ensures) in let h = word-in (p .1 .0) (p .1 .1 .1 .1) k (c .before .if2 .taken) in omega arith
+localize-element-copy-out-if3 t c = let a = c .before .before .before .before .before .before .before .before .before .before .before .before .before .before .before .before .before .before .before .before .before .before .before .before .before .before .before .before .before .before .args in let p = c .before .before .before .before .before .before .before .before .before .before .before .before .before .before .before .before .before .before .before .before .before .before .before .before .before .before .before .before .before .before .pre .1 in let g = c .before .before .before .before .before .before .before .before .before .loop .inv .on refl (p .1 .1 .1 .1) (going-start (p .1 .0) (reading (p .1 .0) (c .before .before .before .before .before .before .before .before .before .before .before .before .before .before .before .before .before .before .before .before .before .before .before .before .before .before .before .before .before .expressions-at .ensures .0) (c .before .before .before .before .before .before .before .before .before .before .before .before .before .before .before .before .before .before .before .before .before .before .before .before .before .find .ensures) (c .before .before .before .before .before .before .before .before .before .before .before .before .before .before .before .before .before .before .before .before .before .before .before .before .before .before .before .wide .ensures .0) (c .before .before .before .before .before .before .before .before .before .before .before .before .before .before .before .before .before .before .before .before .before .before .before .slot .ensures .0) (c .before .before .before .before .before .before .before .before .before .before .before .before .before .before .before .before .before .before .before .before .before .wide2 .ensures .0) refl) (p .1 .1 .1 .1) (a .room) (c .before .before .before .before .before .before .before .before .before .before .before .before .begin .ensures) (c .before .before .before .before .before .before .before .before .before .before .before .declare .ensures) (c .before .before .before .before .before .before .before .before .before .before .if1 .left)) in let l = c .before .before .before .before .before .before .before .before .before .loop in let k = going-run (p .0 .source) (p .1 .0) (a .offset) (a .room) _ (expressions (p .1 .0) (g .read)) _ _ (p .1 .1 .1 .1) (a .stacks .now) (l .log) (l .classes) (l .starts) (l .maps) (l .marks) (l .em) (l .e) g (c .before .before .before .before .run .ensures) (c .before .before .longer .ensures) in let h = word-in (p .1 .0) (p .1 .1 .1 .1) k (c .before .if2 .taken) in omega arith
 
 -- src/lib.rt:164:26
 localize-mul-wide-3 : (t : ℕ) → localize-lts.Need-mul-wide-3 (
@@ -1164,7 +1164,7 @@ localize-mul-wide-3 : (t : ℕ) → localize-lts.Need-mul-wide-3 (
   import-names-reads.Asked,
   import-names-reads.Learnt,
 ) (localize-at t) localize.Post localize-Inv-loop localize-μ-loop
-localize-mul-wide-3 t c = let a = c .before .before .before .before .before .before .before .before .before .before .before .before .before .before .before .before .before .before .before .before .before .before .before .before .before .before .before .before .before .before .before .before .before .before .before .before .before .before .before .before .before .before .args in let p = c .before .before .before .before .before .before .before .before .before .before .before .before .before .before .before .before .before .before .before .before .before .before .before .before .before .before .before .before .before .before .before .before .before .before .before .before .before .before .before .before .before .before .pre .1 in let g = c .before .before .before .before .before .before .before .before .before .before .before .before .before .before .before .before .before .before .before .before .before .loop .inv .on refl (p .1 .1 .1 .1) (going-start (p .1 .0) (reading (p .1 .0) (c .before .before .before .before .before .before .before .before .before .before .before .before .before .before .before .before .before .before .before .before .before .before .before .before .before .before .before .before .before .before .before .before .before .before .before .before .before .before .before .before .before .expressions-at .ensures .0) (c .before .before .before .before .before .before .before .before .before .before .before .before .before .before .before .before .before .before .before .before .before .before .before .before .before .before .before .before .before .before .before .before .before .before .before .before .before .find .ensures) (c .before .before .before .before .before .before .before .before .before .before .before .before .before .before .before .before .before .before .before .before .before .before .before .before .before .before .before .before .before .before .before .before .before .before .before .before .before .before .before .wide .ensures .0) (c .before .before .before .before .before .before .before .before .before .before .before .before .before .before .before .before .before .before .before .before .before .before .before .before .before .before .before .before .before .before .before .before .before .before .before .slot .ensures .0) (c .before .before .before .before .before .before .before .before .before .before .before .before .before .before .before .before .before .before .before .before .before .before .before .before .before .before .before .before .before .before .before .before .before .wide2 .ensures .0) refl) (p .1 .1 .1 .1) (a .room) (c .before .before .before .before .before .before .before .before .before .before .before .before .before .before .before .before .before .before .before .before .before .before .before .before .begin .ensures) (c .before .before .before .before .before .before .before .before .before .before .before .before .before .before .before .before .before .before .before .before .before .before .before .declare .ensures) (c .before .before .before .before .before .before .before .before .before .before .before .before .before .before .before .before .before .before .before .before .before .before .if1 .left)) in let l = c .before .before .before .before .before .before .before .before .before .before .before .before .before .before .before .before .before .before .before .before .before .loop in let k = going-run (p .0 .source) (p .1 .0) (a .offset) (a .room) _ (expressions (p .1 .0) (g .read)) _ _ (p .1 .1 .1 .1) (a .stacks .now) (l .log) (l .classes) (l .starts) (l .maps) (l .marks) (l .em) (l .e) g (c .before .before .before .before .before .before .before .before .before .before .before .before .before .run .ensures) (c .before .before .before .before .before .before .before .before .before .before .before .longer .ensures) in let h = word-in (p .1 .0) (p .1 .1 .1 .1) k (c .before .before .before .before .before .before .before .before .before .before .if2 .taken) in omega arith
+localize-mul-wide-3 t c = let a = c .before .before .before .before .before .before .before .before .before .before .before .before .before .before .before .before .before .before .before .before .before .before .before .before .before .before .before .before .before .before .before .before .before .before .before .before .before .before .before .args in let p = c .before .before .before .before .before .before .before .before .before .before .before .before .before .before .before .before .before .before .before .before .before .before .before .before .before .before .before .before .before .before .before .before .before .before .before .before .before .before .before .pre .1 in let g = c .before .before .before .before .before .before .before .before .before .before .before .before .before .before .before .before .before .before .loop .inv .on refl (p .1 .1 .1 .1) (going-start (p .1 .0) (reading (p .1 .0) (c .before .before .before .before .before .before .before .before .before .before .before .before .before .before .before .before .before .before .before .before .before .before .before .before .before .before .before .before .before .before .before .before .before .before .before .before .before .before .expressions-at .ensures .0) (c .before .before .before .before .before .before .before .before .before .before .before .before .before .before .before .before .before .before .before .before .before .before .before .before .before .before .before .before .before .before .before .before .before .before .find .ensures) (c .before .before .before .before .before .before .before .before .before .before .before .before .before .before .before .before .before .before .before .before .before .before .before .before .before .before .before .before .before .before .before .before .before .before .before .before .wide .ensures .0) (c .before .before .before .before .before .before .before .before .before .before .before .before .before .before .before .before .before .before .before .before .before .before .before .before .before .before .before .before .before .before .before .before .slot .ensures .0) (c .before .before .before .before .before .before .before .before .before .before .before .before .before .before .before .before .before .before .before .before .before .before .before .before .before .before .before .before .before .before .wide2 .ensures .0) refl) (p .1 .1 .1 .1) (a .room) (c .before .before .before .before .before .before .before .before .before .before .before .before .before .before .before .before .before .before .before .before .before .begin .ensures) (c .before .before .before .before .before .before .before .before .before .before .before .before .before .before .before .before .before .before .before .before .declare .ensures) (c .before .before .before .before .before .before .before .before .before .before .before .before .before .before .before .before .before .before .before .if1 .left)) in let l = c .before .before .before .before .before .before .before .before .before .before .before .before .before .before .before .before .before .before .loop in let k = going-run (p .0 .source) (p .1 .0) (a .offset) (a .room) _ (expressions (p .1 .0) (g .read)) _ _ (p .1 .1 .1 .1) (a .stacks .now) (l .log) (l .classes) (l .starts) (l .maps) (l .marks) (l .em) (l .e) g (c .before .before .before .before .before .before .before .before .before .before .before .before .before .run .ensures) (c .before .before .before .before .before .before .before .before .before .before .before .longer .ensures) in let h = word-in (p .1 .0) (p .1 .1 .1 .1) k (c .before .before .before .before .before .before .before .before .before .before .if2 .taken) in omega arith
 
 -- src/lib.rt:164:26
 localize-element-copy-out-wide-3 : (t : ℕ) → localize-lts.Need-element-copy-out-wide-3 (
@@ -1197,7 +1197,7 @@ localize-element-copy-out-wide-3 : (t : ℕ) → localize-lts.Need-element-copy-
   import-names-reads.Asked,
   import-names-reads.Learnt,
 ) (localize-at t) localize.Post localize-Inv-loop localize-μ-loop
-localize-element-copy-out-wide-3 t c = let a = c .before .before .before .before .before .before .before .before .before .before .before .before .before .before .before .before .before .before .before .before .before .before .before .before .before .before .before .before .before .before .before .before .before .before .before .before .before .before .before .before .before .before .args in let p = c .before .before .before .before .before .before .before .before .before .before .before .before .before .before .before .before .before .before .before .before .before .before .before .before .before .before .before .before .before .before .before .before .before .before .before .before .before .before .before .before .before .before .pre .1 in let g = c .before .before .before .before .before .before .before .before .before .before .before .before .before .before .before .before .before .before .before .before .before .loop .inv .on refl (p .1 .1 .1 .1) (going-start (p .1 .0) (reading (p .1 .0) (c .before .before .before .before .before .before .before .before .before .before .before .before .before .before .before .before .before .before .before .before .before .before .before .before .before .before .before .before .before .before .before .before .before .before .before .before .before .before .before .before .before .expressions-at .ensures .0) (c .before .before .before .before .before .before .before .before .before .before .before .before .before .before .before .before .before .before .before .before .before .before .before .before .before .before .before .before .before .before .before .before .before .before .before .before .before .find .ensures) (c .before .before .before .before .before .before .before .before .before .before .before .before .before .before .before .before .before .before .before .before .before .before .before .before .before .before .before .before .before .before .before .before .before .before .before .before .before .before .before .wide .ensures .0) (c .before .before .before .before .before .before .before .before .before .before .before .before .before .before .before .before .before .before .before .before .before .before .before .before .before .before .before .before .before .before .before .before .before .before .before .slot .ensures .0) (c .before .before .before .before .before .before .before .before .before .before .before .before .before .before .before .before .before .before .before .before .before .before .before .before .before .before .before .before .before .before .before .before .before .wide2 .ensures .0) refl) (p .1 .1 .1 .1) (a .room) (c .before .before .before .before .before .before .before .before .before .before .before .before .before .before .before .before .before .before .before .before .before .before .before .before .begin .ensures) (c .before .before .before .before .before .before .before .before .before .before .before .before .before .before .before .before .before .before .before .before .before .before .before .declare .ensures) (c .before .before .before .before .before .before .before .before .before .before .before .before .before .before .before .before .before .before .before .before .before .before .if1 .left)) in let l = c .before .before .before .before .before .before .before .before .before .before .before .before .before .before .before .before .before .before .before .before .before .loop in let k = going-run (p .0 .source) (p .1 .0) (a .offset) (a .room) _ (expressions (p .1 .0) (g .read)) _ _ (p .1 .1 .1 .1) (a .stacks .now) (l .log) (l .classes) (l .starts) (l .maps) (l .marks) (l .em) (l .e) g (c .before .before .before .before .before .before .before .before .before .before .before .before .before .run .ensures) (c .before .before .before .before .before .before .before .before .before .before .before .longer .ensures) in let h = word-in (p .1 .0) (p .1 .1 .1 .1) k (c .before .before .before .before .before .before .before .before .before .before .if2 .taken) in omega arith
+localize-element-copy-out-wide-3 t c = let a = c .before .before .before .before .before .before .before .before .before .before .before .before .before .before .before .before .before .before .before .before .before .before .before .before .before .before .before .before .before .before .before .before .before .before .before .before .before .before .before .args in let p = c .before .before .before .before .before .before .before .before .before .before .before .before .before .before .before .before .before .before .before .before .before .before .before .before .before .before .before .before .before .before .before .before .before .before .before .before .before .before .before .pre .1 in let g = c .before .before .before .before .before .before .before .before .before .before .before .before .before .before .before .before .before .before .loop .inv .on refl (p .1 .1 .1 .1) (going-start (p .1 .0) (reading (p .1 .0) (c .before .before .before .before .before .before .before .before .before .before .before .before .before .before .before .before .before .before .before .before .before .before .before .before .before .before .before .before .before .before .before .before .before .before .before .before .before .before .expressions-at .ensures .0) (c .before .before .before .before .before .before .before .before .before .before .before .before .before .before .before .before .before .before .before .before .before .before .before .before .before .before .before .before .before .before .before .before .before .before .find .ensures) (c .before .before .before .before .before .before .before .before .before .before .before .before .before .before .before .before .before .before .before .before .before .before .before .before .before .before .before .before .before .before .before .before .before .before .before .before .wide .ensures .0) (c .before .before .before .before .before .before .before .before .before .before .before .before .before .before .before .before .before .before .before .before .before .before .before .before .before .before .before .before .before .before .before .before .slot .ensures .0) (c .before .before .before .before .before .before .before .before .before .before .before .before .before .before .before .before .before .before .before .before .before .before .before .before .before .before .before .before .before .before .wide2 .ensures .0) refl) (p .1 .1 .1 .1) (a .room) (c .before .before .before .before .before .before .before .before .before .before .before .before .before .before .before .before .before .before .before .before .before .begin .ensures) (c .before .before .before .before .before .before .before .before .before .before .before .before .before .before .before .before .before .before .before .before .declare .ensures) (c .before .before .before .before .before .before .before .before .before .before .before .before .before .before .before .before .before .before .before .if1 .left)) in let l = c .before .before .before .before .before .before .before .before .before .before .before .before .before .before .before .before .before .before .loop in let k = going-run (p .0 .source) (p .1 .0) (a .offset) (a .room) _ (expressions (p .1 .0) (g .read)) _ _ (p .1 .1 .1 .1) (a .stacks .now) (l .log) (l .classes) (l .starts) (l .maps) (l .marks) (l .em) (l .e) g (c .before .before .before .before .before .before .before .before .before .before .before .before .before .run .ensures) (c .before .before .before .before .before .before .before .before .before .before .before .longer .ensures) in let h = word-in (p .1 .0) (p .1 .1 .1 .1) k (c .before .before .before .before .before .before .before .before .before .before .if2 .taken) in omega arith
 
 -- src/lib.rt:164:21
 localize-wide-requires-3 : (t : ℕ) → localize-lts.Need-wide-requires-3 (
@@ -1263,7 +1263,7 @@ localize-add-follow : (t : ℕ) → localize-lts.Need-add-follow (
   import-names-reads.Asked,
   import-names-reads.Learnt,
 ) (localize-at t) localize.Post localize-Inv-loop localize-μ-loop
-localize-add-follow t c = let h = c .before .before .before .before .before .before .before .before .before .before .before .before .before .before .before .before .before .before .before .before .before .before .before .before .before .before .before .before .before .before .before .before .before .before .before .before .before .before .before .before .before .before .before .expressions-at .ensures .1 in omega arith
+localize-add-follow t c = let h = c .before .before .before .before .before .before .before .before .before .before .before .before .before .before .before .before .before .before .before .before .before .before .before .before .before .before .before .before .before .before .before .before .before .before .before .before .before .before .before .before .expressions-at .ensures .1 in omega arith
 
 -- src/lib.rt:150:17
 localize-follow-requires : (t : ℕ) → localize-lts.Need-follow-requires (
@@ -1296,7 +1296,7 @@ localize-follow-requires : (t : ℕ) → localize-lts.Need-follow-requires (
   import-names-reads.Asked,
   import-names-reads.Learnt,
 ) (localize-at t) localize.Post localize-Inv-loop localize-μ-loop
-localize-follow-requires t c κs = let a = c .before .before .before .before .before .before .before .before .before .before .before .before .before .before .before .before .before .before .before .before .before .before .before .before .before .before .before .before .before .before .before .before .before .before .before .before .before .before .before .before .before .before .before .before .args in let p = c .before .before .before .before .before .before .before .before .before .before .before .before .before .before .before .before .before .before .before .before .before .before .before .before .before .before .before .before .before .before .before .before .before .before .before .before .before .before .before .before .before .before .before .before .pre .1 in let g = c .before .before .before .before .before .before .before .before .before .before .before .before .before .before .before .before .before .before .before .before .before .before .before .loop .inv .on refl (p .1 .1 .1 .1) (going-start (p .1 .0) (reading (p .1 .0) (c .before .before .before .before .before .before .before .before .before .before .before .before .before .before .before .before .before .before .before .before .before .before .before .before .before .before .before .before .before .before .before .before .before .before .before .before .before .before .before .before .before .before .before .expressions-at .ensures .0) (c .before .before .before .before .before .before .before .before .before .before .before .before .before .before .before .before .before .before .before .before .before .before .before .before .before .before .before .before .before .before .before .before .before .before .before .before .before .before .before .find .ensures) (c .before .before .before .before .before .before .before .before .before .before .before .before .before .before .before .before .before .before .before .before .before .before .before .before .before .before .before .before .before .before .before .before .before .before .before .before .before .before .before .before .before .wide .ensures .0) (c .before .before .before .before .before .before .before .before .before .before .before .before .before .before .before .before .before .before .before .before .before .before .before .before .before .before .before .before .before .before .before .before .before .before .before .before .before .slot .ensures .0) (c .before .before .before .before .before .before .before .before .before .before .before .before .before .before .before .before .before .before .before .before .before .before .before .before .before .before .before .before .before .before .before .before .before .before .before .wide2 .ensures .0) refl) (p .1 .1 .1 .1) (a .room) (c .before .before .before .before .before .before .before .before .before .before .before .before .before .before .before .before .before .before .before .before .before .before .before .before .before .before .begin .ensures) (c .before .before .before .before .before .before .before .before .before .before .before .before .before .before .before .before .before .before .before .before .before .before .before .before .before .declare .ensures) (c .before .before .before .before .before .before .before .before .before .before .before .before .before .before .before .before .before .before .before .before .before .before .before .before .if1 .left)) in let l = c .before .before .before .before .before .before .before .before .before .before .before .before .before .before .before .before .before .before .before .before .before .before .before .loop in let k = going-run (p .0 .source) (p .1 .0) (a .offset) (a .room) _ (expressions (p .1 .0) (g .read)) _ _ (p .1 .1 .1 .1) (a .stacks .now) (l .log) (l .classes) (l .starts) (l .maps) (l .marks) (l .em) (l .e) g (c .before .before .before .before .before .before .before .before .before .before .before .before .before .before .before .run .ensures) (c .before .before .before .before .before .before .before .before .before .before .before .before .before .longer .ensures) in let q = c .before .before .before .before .before .before .before .before .before .before .before .before .before .before .before .before .before .before .before .before .before .before .before .before .before .before .before .before .before .before .before .before .before .before .before .before .before .before .before .before .before .before .before .before .pre .0 in (omega arith, (p .0, (callee-low (p .1 .0) (p .1 .1 .1 .1) k (c .before .before .before .before .before .before .before .before .before .before .before .before .if2 .taken) (c .before .before .before .before .before .before .before .before .before .if3 .taken) (c .wide3 .ensures .0), (callee-ready (p .1 .0) (p .1 .1 .1 .1) k (c .before .before .before .before .before .before .before .before .before .before .before .before .if2 .taken) (c .before .before .before .before .before .before .before .before .before .if3 .taken) (c .wide3 .ensures .0) (p .1 .1 .0), ((k .turn .way .going, k .turn .way .under .stacks-are), (k .turn .way .kept, (index-in (p .1 .0) (k .read .ea-is), k .read .places-are)))))))
+localize-follow-requires t c κs = let a = c .before .before .before .before .before .before .before .before .before .before .before .before .before .before .before .before .before .before .before .before .before .before .before .before .before .before .before .before .before .before .before .before .before .before .before .before .before .before .before .before .before .args in let p = c .before .before .before .before .before .before .before .before .before .before .before .before .before .before .before .before .before .before .before .before .before .before .before .before .before .before .before .before .before .before .before .before .before .before .before .before .before .before .before .before .before .pre .1 in let g = c .before .before .before .before .before .before .before .before .before .before .before .before .before .before .before .before .before .before .before .before .loop .inv .on refl (p .1 .1 .1 .1) (going-start (p .1 .0) (reading (p .1 .0) (c .before .before .before .before .before .before .before .before .before .before .before .before .before .before .before .before .before .before .before .before .before .before .before .before .before .before .before .before .before .before .before .before .before .before .before .before .before .before .before .before .expressions-at .ensures .0) (c .before .before .before .before .before .before .before .before .before .before .before .before .before .before .before .before .before .before .before .before .before .before .before .before .before .before .before .before .before .before .before .before .before .before .before .before .find .ensures) (c .before .before .before .before .before .before .before .before .before .before .before .before .before .before .before .before .before .before .before .before .before .before .before .before .before .before .before .before .before .before .before .before .before .before .before .before .before .before .wide .ensures .0) (c .before .before .before .before .before .before .before .before .before .before .before .before .before .before .before .before .before .before .before .before .before .before .before .before .before .before .before .before .before .before .before .before .before .before .slot .ensures .0) (c .before .before .before .before .before .before .before .before .before .before .before .before .before .before .before .before .before .before .before .before .before .before .before .before .before .before .before .before .before .before .before .before .wide2 .ensures .0) refl) (p .1 .1 .1 .1) (a .room) (c .before .before .before .before .before .before .before .before .before .before .before .before .before .before .before .before .before .before .before .before .before .before .before .begin .ensures) (c .before .before .before .before .before .before .before .before .before .before .before .before .before .before .before .before .before .before .before .before .before .before .declare .ensures) (c .before .before .before .before .before .before .before .before .before .before .before .before .before .before .before .before .before .before .before .before .before .if1 .left)) in let l = c .before .before .before .before .before .before .before .before .before .before .before .before .before .before .before .before .before .before .before .before .loop in let k = going-run (p .0 .source) (p .1 .0) (a .offset) (a .room) _ (expressions (p .1 .0) (g .read)) _ _ (p .1 .1 .1 .1) (a .stacks .now) (l .log) (l .classes) (l .starts) (l .maps) (l .marks) (l .em) (l .e) g (c .before .before .before .before .before .before .before .before .before .before .before .before .before .before .before .run .ensures) (c .before .before .before .before .before .before .before .before .before .before .before .before .before .longer .ensures) in let q = c .before .before .before .before .before .before .before .before .before .before .before .before .before .before .before .before .before .before .before .before .before .before .before .before .before .before .before .before .before .before .before .before .before .before .before .before .before .before .before .before .before .pre .0 in (omega arith, (p .0, (callee-low (p .1 .0) (p .1 .1 .1 .1) k (c .before .before .before .before .before .before .before .before .before .before .before .before .if2 .taken) (c .before .before .before .before .before .before .before .before .before .if3 .taken) (c .wide3 .ensures .0), (callee-ready (p .1 .0) (p .1 .1 .1 .1) k (c .before .before .before .before .before .before .before .before .before .before .before .before .if2 .taken) (c .before .before .before .before .before .before .before .before .before .if3 .taken) (c .wide3 .ensures .0) (p .1 .1 .0), ((k .turn .way .going, k .turn .way .under .stacks-are), (k .turn .way .kept, (index-in (p .1 .0) (k .read .ea-is), k .read .places-are)))))))
 
 -- src/lib.rt:170:21
 localize-returns-2 : (t : ℕ) → localize-lts.Need-returns-2 (
@@ -1329,7 +1329,7 @@ localize-returns-2 : (t : ℕ) → localize-lts.Need-returns-2 (
   import-names-reads.Asked,
   import-names-reads.Learnt,
 ) (localize-at t) localize.Post localize-Inv-loop localize-μ-loop
-localize-returns-2 t c = let a = c .before .before .before .before .before .before .before .before .before .before .before .before .before .before .before .before .before .before .before .before .before .before .before .before .before .before .before .before .before .before .before .before .before .before .before .before .before .before .before .before .before .before .before .before .before .before .args in let p = c .before .before .before .before .before .before .before .before .before .before .before .before .before .before .before .before .before .before .before .before .before .before .before .before .before .before .before .before .before .before .before .before .before .before .before .before .before .before .before .before .before .before .before .before .before .before .pre .1 in let g = c .before .before .before .before .before .before .before .before .before .before .before .before .before .before .before .before .before .before .before .before .before .before .before .before .before .loop .inv .on refl (p .1 .1 .1 .1) (going-start (p .1 .0) (reading (p .1 .0) (c .before .before .before .before .before .before .before .before .before .before .before .before .before .before .before .before .before .before .before .before .before .before .before .before .before .before .before .before .before .before .before .before .before .before .before .before .before .before .before .before .before .before .before .before .before .expressions-at .ensures .0) (c .before .before .before .before .before .before .before .before .before .before .before .before .before .before .before .before .before .before .before .before .before .before .before .before .before .before .before .before .before .before .before .before .before .before .before .before .before .before .before .before .before .find .ensures) (c .before .before .before .before .before .before .before .before .before .before .before .before .before .before .before .before .before .before .before .before .before .before .before .before .before .before .before .before .before .before .before .before .before .before .before .before .before .before .before .before .before .before .before .wide .ensures .0) (c .before .before .before .before .before .before .before .before .before .before .before .before .before .before .before .before .before .before .before .before .before .before .before .before .before .before .before .before .before .before .before .before .before .before .before .before .before .before .before .slot .ensures .0) (c .before .before .before .before .before .before .before .before .before .before .before .before .before .before .before .before .before .before .before .before .before .before .before .before .before .before .before .before .before .before .before .before .before .before .before .before .before .wide2 .ensures .0) refl) (p .1 .1 .1 .1) (a .room) (c .before .before .before .before .before .before .before .before .before .before .before .before .before .before .before .before .before .before .before .before .before .before .before .before .before .before .before .before .begin .ensures) (c .before .before .before .before .before .before .before .before .before .before .before .before .before .before .before .before .before .before .before .before .before .before .before .before .before .before .before .declare .ensures) (c .before .before .before .before .before .before .before .before .before .before .before .before .before .before .before .before .before .before .before .before .before .before .before .before .before .before .if1 .left)) in let l = c .before .before .before .before .before .before .before .before .before .before .before .before .before .before .before .before .before .before .before .before .before .before .before .before .before .loop in let k = going-run (p .0 .source) (p .1 .0) (a .offset) (a .room) _ (expressions (p .1 .0) (g .read)) _ _ (p .1 .1 .1 .1) (a .stacks .now) (l .log) (l .classes) (l .starts) (l .maps) (l .marks) (l .em) (l .e) g (c .before .before .before .before .before .before .before .before .before .before .before .before .before .before .before .before .before .run .ensures) (c .before .before .before .before .before .before .before .before .before .before .before .before .before .before .before .longer .ensures) in callee-full (p .1 .0) (p .1 .1 .1 .1) k (c .before .before .before .before .before .before .before .before .before .before .before .before .before .before .if2 .taken) (c .before .before .before .before .before .before .before .before .before .before .before .if3 .taken) (c .before .before .wide3 .ensures .0) (c .before .follow .ensures .0) (c .if4 .taken)
+localize-returns-2 t c = let a = c .before .before .before .before .before .before .before .before .before .before .before .before .before .before .before .before .before .before .before .before .before .before .before .before .before .before .before .before .before .before .before .before .before .before .before .before .before .before .before .before .before .before .before .args in let p = c .before .before .before .before .before .before .before .before .before .before .before .before .before .before .before .before .before .before .before .before .before .before .before .before .before .before .before .before .before .before .before .before .before .before .before .before .before .before .before .before .before .before .before .pre .1 in let g = c .before .before .before .before .before .before .before .before .before .before .before .before .before .before .before .before .before .before .before .before .before .before .loop .inv .on refl (p .1 .1 .1 .1) (going-start (p .1 .0) (reading (p .1 .0) (c .before .before .before .before .before .before .before .before .before .before .before .before .before .before .before .before .before .before .before .before .before .before .before .before .before .before .before .before .before .before .before .before .before .before .before .before .before .before .before .before .before .before .expressions-at .ensures .0) (c .before .before .before .before .before .before .before .before .before .before .before .before .before .before .before .before .before .before .before .before .before .before .before .before .before .before .before .before .before .before .before .before .before .before .before .before .before .before .find .ensures) (c .before .before .before .before .before .before .before .before .before .before .before .before .before .before .before .before .before .before .before .before .before .before .before .before .before .before .before .before .before .before .before .before .before .before .before .before .before .before .before .before .wide .ensures .0) (c .before .before .before .before .before .before .before .before .before .before .before .before .before .before .before .before .before .before .before .before .before .before .before .before .before .before .before .before .before .before .before .before .before .before .before .before .slot .ensures .0) (c .before .before .before .before .before .before .before .before .before .before .before .before .before .before .before .before .before .before .before .before .before .before .before .before .before .before .before .before .before .before .before .before .before .before .wide2 .ensures .0) refl) (p .1 .1 .1 .1) (a .room) (c .before .before .before .before .before .before .before .before .before .before .before .before .before .before .before .before .before .before .before .before .before .before .before .before .before .begin .ensures) (c .before .before .before .before .before .before .before .before .before .before .before .before .before .before .before .before .before .before .before .before .before .before .before .before .declare .ensures) (c .before .before .before .before .before .before .before .before .before .before .before .before .before .before .before .before .before .before .before .before .before .before .before .if1 .left)) in let l = c .before .before .before .before .before .before .before .before .before .before .before .before .before .before .before .before .before .before .before .before .before .before .loop in let k = going-run (p .0 .source) (p .1 .0) (a .offset) (a .room) _ (expressions (p .1 .0) (g .read)) _ _ (p .1 .1 .1 .1) (a .stacks .now) (l .log) (l .classes) (l .starts) (l .maps) (l .marks) (l .em) (l .e) g (c .before .before .before .before .before .before .before .before .before .before .before .before .before .before .before .before .before .run .ensures) (c .before .before .before .before .before .before .before .before .before .before .before .before .before .before .before .longer .ensures) in callee-full (p .1 .0) (p .1 .1 .1 .1) k (c .before .before .before .before .before .before .before .before .before .before .before .before .before .before .if2 .taken) (c .before .before .before .before .before .before .before .before .before .before .before .if3 .taken) (c .before .before .wide3 .ensures .0) (c .before .follow .ensures .0) (c .if4 .taken)
 
 -- src/lib.rt:172:17
 localize-put-word-requires : (t : ℕ) → localize-lts.Need-put-word-requires (
@@ -1362,7 +1362,7 @@ localize-put-word-requires : (t : ℕ) → localize-lts.Need-put-word-requires (
   import-names-reads.Asked,
   import-names-reads.Learnt,
 ) (localize-at t) localize.Post localize-Inv-loop localize-μ-loop
-localize-put-word-requires t c κs = let a = c .before .before .before .before .before .before .before .before .before .before .before .before .before .before .before .before .before .before .before .before .before .before .before .before .before .before .before .before .before .before .before .before .before .before .before .before .before .before .before .before .before .before .before .before .before .before .before .before .before .before .before .before .args in let p = c .before .before .before .before .before .before .before .before .before .before .before .before .before .before .before .before .before .before .before .before .before .before .before .before .before .before .before .before .before .before .before .before .before .before .before .before .before .before .before .before .before .before .before .before .before .before .before .before .before .before .before .before .pre .1 in let g = c .before .before .before .before .before .before .before .before .before .before .before .before .before .before .before .before .before .before .before .before .before .before .before .before .before .before .before .before .before .before .before .loop .inv .on refl (p .1 .1 .1 .1) (going-start (p .1 .0) (reading (p .1 .0) (c .before .before .before .before .before .before .before .before .before .before .before .before .before .before .before .before .before .before .before .before .before .before .before .before .before .before .before .before .before .before .before .before .before .before .before .before .before .before .before .before .before .before .before .before .before .before .before .before .before .before .before .expressions-at .ensures .0) (c .before .before .before .before .before .before .before .before .before .before .before .before .before .before .before .before .before .before .before .before .before .before .before .before .before .before .before .before .before .before .before .before .before .before .before .before .before .before .before .before .before .before .before .before .before .before .before .find .ensures) (c .before .before .before .before .before .before .before .before .before .before .before .before .before .before .before .before .before .before .before .before .before .before .before .before .before .before .before .before .before .before .before .before .before .before .before .before .before .before .before .before .before .before .before .before .before .before .before .before .before .wide .ensures .0) (c .before .before .before .before .before .before .before .before .before .before .before .before .before .before .before .before .before .before .before .before .before .before .before .before .before .before .before .before .before .before .before .before .before .before .before .before .before .before .before .before .before .before .before .before .before .slot .ensures .0) (c .before .before .before .before .before .before .before .before .before .before .before .before .before .before .before .before .before .before .before .before .before .before .before .before .before .before .before .before .before .before .before .before .before .before .before .before .before .before .before .before .before .before .before .wide2 .ensures .0) refl) (p .1 .1 .1 .1) (a .room) (c .before .before .before .before .before .before .before .before .before .before .before .before .before .before .before .before .before .before .before .before .before .before .before .before .before .before .before .before .before .before .before .before .before .before .begin .ensures) (c .before .before .before .before .before .before .before .before .before .before .before .before .before .before .before .before .before .before .before .before .before .before .before .before .before .before .before .before .before .before .before .before .before .declare .ensures) (c .before .before .before .before .before .before .before .before .before .before .before .before .before .before .before .before .before .before .before .before .before .before .before .before .before .before .before .before .before .before .before .before .if1 .left)) in let l = c .before .before .before .before .before .before .before .before .before .before .before .before .before .before .before .before .before .before .before .before .before .before .before .before .before .before .before .before .before .before .before .loop in let k = going-run (p .0 .source) (p .1 .0) (a .offset) (a .room) _ (expressions (p .1 .0) (g .read)) _ _ (p .1 .1 .1 .1) (a .stacks .now) (l .log) (l .classes) (l .starts) (l .maps) (l .marks) (l .em) (l .e) g (c .before .before .before .before .before .before .before .before .before .before .before .before .before .before .before .before .before .before .before .before .before .before .before .run .ensures) (c .before .before .before .before .before .before .before .before .before .before .before .before .before .before .before .before .before .before .before .before .before .longer .ensures) in let w = c .before .before .before .before .before .before .before .follow .ensures .0 in let z = c .before .before .before .before .before .before .if4 .left in (p .0, (bearing (w .kept z), (w .kept z .maps-six, (word-fits (p .1 .0) (p .1 .1 .1 .1) k (c .before .before .before .before .before .before .before .before .before .before .before .before .before .before .before .before .before .before .before .before .if2 .taken), w .stacks-are z))))
+localize-put-word-requires t c κs = let a = c .before .before .before .before .before .before .before .before .before .before .before .before .before .before .before .before .before .before .before .before .before .before .before .before .before .before .before .before .before .before .before .before .before .before .before .before .before .before .before .before .before .before .before .before .before .before .before .before .before .args in let p = c .before .before .before .before .before .before .before .before .before .before .before .before .before .before .before .before .before .before .before .before .before .before .before .before .before .before .before .before .before .before .before .before .before .before .before .before .before .before .before .before .before .before .before .before .before .before .before .before .before .pre .1 in let g = c .before .before .before .before .before .before .before .before .before .before .before .before .before .before .before .before .before .before .before .before .before .before .before .before .before .before .before .before .loop .inv .on refl (p .1 .1 .1 .1) (going-start (p .1 .0) (reading (p .1 .0) (c .before .before .before .before .before .before .before .before .before .before .before .before .before .before .before .before .before .before .before .before .before .before .before .before .before .before .before .before .before .before .before .before .before .before .before .before .before .before .before .before .before .before .before .before .before .before .before .before .expressions-at .ensures .0) (c .before .before .before .before .before .before .before .before .before .before .before .before .before .before .before .before .before .before .before .before .before .before .before .before .before .before .before .before .before .before .before .before .before .before .before .before .before .before .before .before .before .before .before .before .find .ensures) (c .before .before .before .before .before .before .before .before .before .before .before .before .before .before .before .before .before .before .before .before .before .before .before .before .before .before .before .before .before .before .before .before .before .before .before .before .before .before .before .before .before .before .before .before .before .before .wide .ensures .0) (c .before .before .before .before .before .before .before .before .before .before .before .before .before .before .before .before .before .before .before .before .before .before .before .before .before .before .before .before .before .before .before .before .before .before .before .before .before .before .before .before .before .before .slot .ensures .0) (c .before .before .before .before .before .before .before .before .before .before .before .before .before .before .before .before .before .before .before .before .before .before .before .before .before .before .before .before .before .before .before .before .before .before .before .before .before .before .before .before .wide2 .ensures .0) refl) (p .1 .1 .1 .1) (a .room) (c .before .before .before .before .before .before .before .before .before .before .before .before .before .before .before .before .before .before .before .before .before .before .before .before .before .before .before .before .before .before .before .begin .ensures) (c .before .before .before .before .before .before .before .before .before .before .before .before .before .before .before .before .before .before .before .before .before .before .before .before .before .before .before .before .before .before .declare .ensures) (c .before .before .before .before .before .before .before .before .before .before .before .before .before .before .before .before .before .before .before .before .before .before .before .before .before .before .before .before .before .if1 .left)) in let l = c .before .before .before .before .before .before .before .before .before .before .before .before .before .before .before .before .before .before .before .before .before .before .before .before .before .before .before .before .loop in let k = going-run (p .0 .source) (p .1 .0) (a .offset) (a .room) _ (expressions (p .1 .0) (g .read)) _ _ (p .1 .1 .1 .1) (a .stacks .now) (l .log) (l .classes) (l .starts) (l .maps) (l .marks) (l .em) (l .e) g (c .before .before .before .before .before .before .before .before .before .before .before .before .before .before .before .before .before .before .before .before .before .before .before .run .ensures) (c .before .before .before .before .before .before .before .before .before .before .before .before .before .before .before .before .before .before .before .before .before .longer .ensures) in let w = c .before .before .before .before .before .before .before .follow .ensures .0 in let z = c .before .before .before .before .before .before .if4 .left in (p .0, (bearing (w .kept z), (w .kept z .maps-six, (word-fits (p .1 .0) (p .1 .1 .1 .1) k (c .before .before .before .before .before .before .before .before .before .before .before .before .before .before .before .before .before .before .before .before .if2 .taken), w .stacks-are z))))
 
 -- src/lib.rt:189:17
 localize-pass-requires : (t : ℕ) → localize-lts.Need-pass-requires (
@@ -1395,7 +1395,7 @@ localize-pass-requires : (t : ℕ) → localize-lts.Need-pass-requires (
   import-names-reads.Asked,
   import-names-reads.Learnt,
 ) (localize-at t) localize.Post localize-Inv-loop localize-μ-loop
-localize-pass-requires t c κs = let a = c .before .before .before .before .before .before .before .before .before .before .before .before .before .before .before .before .before .before .before .before .before .before .before .before .before .before .before .before .before .before .before .before .before .before .before .before .before .before .before .before .before .before .before .args in let p = c .before .before .before .before .before .before .before .before .before .before .before .before .before .before .before .before .before .before .before .before .before .before .before .before .before .before .before .before .before .before .before .before .before .before .before .before .before .before .before .before .before .before .before .pre .1 in let g = c .before .before .before .before .before .before .before .before .before .before .before .before .before .before .before .before .before .before .before .before .before .before .loop .inv .on refl (p .1 .1 .1 .1) (going-start (p .1 .0) (reading (p .1 .0) (c .before .before .before .before .before .before .before .before .before .before .before .before .before .before .before .before .before .before .before .before .before .before .before .before .before .before .before .before .before .before .before .before .before .before .before .before .before .before .before .before .before .before .expressions-at .ensures .0) (c .before .before .before .before .before .before .before .before .before .before .before .before .before .before .before .before .before .before .before .before .before .before .before .before .before .before .before .before .before .before .before .before .before .before .before .before .before .before .find .ensures) (c .before .before .before .before .before .before .before .before .before .before .before .before .before .before .before .before .before .before .before .before .before .before .before .before .before .before .before .before .before .before .before .before .before .before .before .before .before .before .before .before .wide .ensures .0) (c .before .before .before .before .before .before .before .before .before .before .before .before .before .before .before .before .before .before .before .before .before .before .before .before .before .before .before .before .before .before .before .before .before .before .before .before .slot .ensures .0) (c .before .before .before .before .before .before .before .before .before .before .before .before .before .before .before .before .before .before .before .before .before .before .before .before .before .before .before .before .before .before .before .before .before .before .wide2 .ensures .0) refl) (p .1 .1 .1 .1) (a .room) (c .before .before .before .before .before .before .before .before .before .before .before .before .before .before .before .before .before .before .before .before .before .before .before .before .before .begin .ensures) (c .before .before .before .before .before .before .before .before .before .before .before .before .before .before .before .before .before .before .before .before .before .before .before .before .declare .ensures) (c .before .before .before .before .before .before .before .before .before .before .before .before .before .before .before .before .before .before .before .before .before .before .before .if1 .left)) in let l = c .before .before .before .before .before .before .before .before .before .before .before .before .before .before .before .before .before .before .before .before .before .before .loop in let k = going-run (p .0 .source) (p .1 .0) (a .offset) (a .room) _ (expressions (p .1 .0) (g .read)) _ _ (p .1 .1 .1 .1) (a .stacks .now) (l .log) (l .classes) (l .starts) (l .maps) (l .marks) (l .em) (l .e) g (c .before .before .before .before .before .before .before .before .before .before .before .before .before .before .run .ensures) (c .before .before .before .before .before .before .before .before .before .before .before .before .longer .ensures) in (p .0, (expressions (p .1 .0) (k .read), (word-bodied (p .1 .0) (p .1 .1 .1 .1) k (c .before .before .before .before .before .before .before .before .before .before .before .if2 .taken), (k .turn .way .going, (k .turn .way .kept, k .turn .way .under)))))
+localize-pass-requires t c κs = let a = c .before .before .before .before .before .before .before .before .before .before .before .before .before .before .before .before .before .before .before .before .before .before .before .before .before .before .before .before .before .before .before .before .before .before .before .before .before .before .before .before .args in let p = c .before .before .before .before .before .before .before .before .before .before .before .before .before .before .before .before .before .before .before .before .before .before .before .before .before .before .before .before .before .before .before .before .before .before .before .before .before .before .before .before .pre .1 in let g = c .before .before .before .before .before .before .before .before .before .before .before .before .before .before .before .before .before .before .before .loop .inv .on refl (p .1 .1 .1 .1) (going-start (p .1 .0) (reading (p .1 .0) (c .before .before .before .before .before .before .before .before .before .before .before .before .before .before .before .before .before .before .before .before .before .before .before .before .before .before .before .before .before .before .before .before .before .before .before .before .before .before .before .expressions-at .ensures .0) (c .before .before .before .before .before .before .before .before .before .before .before .before .before .before .before .before .before .before .before .before .before .before .before .before .before .before .before .before .before .before .before .before .before .before .before .find .ensures) (c .before .before .before .before .before .before .before .before .before .before .before .before .before .before .before .before .before .before .before .before .before .before .before .before .before .before .before .before .before .before .before .before .before .before .before .before .before .wide .ensures .0) (c .before .before .before .before .before .before .before .before .before .before .before .before .before .before .before .before .before .before .before .before .before .before .before .before .before .before .before .before .before .before .before .before .before .slot .ensures .0) (c .before .before .before .before .before .before .before .before .before .before .before .before .before .before .before .before .before .before .before .before .before .before .before .before .before .before .before .before .before .before .before .wide2 .ensures .0) refl) (p .1 .1 .1 .1) (a .room) (c .before .before .before .before .before .before .before .before .before .before .before .before .before .before .before .before .before .before .before .before .before .before .begin .ensures) (c .before .before .before .before .before .before .before .before .before .before .before .before .before .before .before .before .before .before .before .before .before .declare .ensures) (c .before .before .before .before .before .before .before .before .before .before .before .before .before .before .before .before .before .before .before .before .if1 .left)) in let l = c .before .before .before .before .before .before .before .before .before .before .before .before .before .before .before .before .before .before .before .loop in let k = going-run (p .0 .source) (p .1 .0) (a .offset) (a .room) _ (expressions (p .1 .0) (g .read)) _ _ (p .1 .1 .1 .1) (a .stacks .now) (l .log) (l .classes) (l .starts) (l .maps) (l .marks) (l .em) (l .e) g (c .before .before .before .before .before .before .before .before .before .before .before .before .before .before .run .ensures) (c .before .before .before .before .before .before .before .before .before .before .before .before .longer .ensures) in (p .0, (expressions (p .1 .0) (k .read), (word-bodied (p .1 .0) (p .1 .1 .1 .1) k (c .before .before .before .before .before .before .before .before .before .before .before .if2 .taken), (k .turn .way .going, (k .turn .way .kept, k .turn .way .under)))))
 
 -- src/lib.rt:212:17
 localize-returns-3 : (t : ℕ) → localize-lts.Need-returns-3 (
@@ -1428,7 +1428,7 @@ localize-returns-3 : (t : ℕ) → localize-lts.Need-returns-3 (
   import-names-reads.Asked,
   import-names-reads.Learnt,
 ) (localize-at t) localize.Post localize-Inv-loop localize-μ-loop
-localize-returns-3 t c = let a = c .before .before .before .before .before .before .before .before .before .before .before .before .before .before .before .before .before .before .before .before .before .before .before .before .before .before .before .before .before .before .before .before .before .before .before .before .args in let p = c .before .before .before .before .before .before .before .before .before .before .before .before .before .before .before .before .before .before .before .before .before .before .before .before .before .before .before .before .before .before .before .before .before .before .before .before .pre .1 in let g = c .before .before .before .before .before .before .before .before .before .before .before .before .before .before .before .loop .inv .on refl (p .1 .1 .1 .1) (going-start (p .1 .0) (reading (p .1 .0) (c .before .before .before .before .before .before .before .before .before .before .before .before .before .before .before .before .before .before .before .before .before .before .before .before .before .before .before .before .before .before .before .before .before .before .before .expressions-at .ensures .0) (c .before .before .before .before .before .before .before .before .before .before .before .before .before .before .before .before .before .before .before .before .before .before .before .before .before .before .before .before .before .before .before .find .ensures) (c .before .before .before .before .before .before .before .before .before .before .before .before .before .before .before .before .before .before .before .before .before .before .before .before .before .before .before .before .before .before .before .before .before .wide .ensures .0) (c .before .before .before .before .before .before .before .before .before .before .before .before .before .before .before .before .before .before .before .before .before .before .before .before .before .before .before .before .before .slot .ensures .0) (c .before .before .before .before .before .before .before .before .before .before .before .before .before .before .before .before .before .before .before .before .before .before .before .before .before .before .before .wide2 .ensures .0) refl) (p .1 .1 .1 .1) (a .room) (c .before .before .before .before .before .before .before .before .before .before .before .before .before .before .before .before .before .before .begin .ensures) (c .before .before .before .before .before .before .before .before .before .before .before .before .before .before .before .before .before .declare .ensures) (c .before .before .before .before .before .before .before .before .before .before .before .before .before .before .before .before .if1 .left)) in let l = c .before .before .before .before .before .before .before .before .before .before .before .before .before .before .before .loop in let k = going-run (p .0 .source) (p .1 .0) (a .offset) (a .room) _ (expressions (p .1 .0) (g .read)) _ _ (p .1 .1 .1 .1) (a .stacks .now) (l .log) (l .classes) (l .starts) (l .maps) (l .marks) (l .em) (l .e) g (c .before .before .before .before .before .before .before .run .ensures) (c .before .before .before .before .before .longer .ensures) in ⊎-elim (λ w. going-full (p .1 .0) (p .1 .1 .1 .1) k (c .before .before .before .before .if2 .taken) (c .before .before .before .flag .ensures) (runs-at (callee-runs (p .1 .0) (p .1 .1 .1 .1) k (c .before .before .before .before .if2 .taken) (w .0 .taken) (w .9 .ensures .0) (w .10 .ensures .0) (w .11 .left) (c .before .before .before .flag .result) (w .18 .ensures)) (w .19) (w .20) (w .21) (w .22) (w .23) (w .24) (w .26) (w .27)) (c .if5 .taken)) (λ w. going-full (p .1 .0) (p .1 .1 .1 .1) k (c .before .before .before .before .if2 .taken) (c .before .before .before .flag .ensures) (runs-at (other-runs (p .1 .0) (p .1 .1 .1 .1) k (c .before .before .before .before .if2 .taken) (w .0 .left) (c .before .before .before .flag .result) (runs-from refl (w .9 .ensures))) (w .10) (w .11) (w .12) (w .13) (w .14) (w .15) (w .17) (w .18)) (c .if5 .taken)) (c .before .if3 .came)
+localize-returns-3 t c = let a = c .before .before .before .before .before .before .before .before .before .before .before .before .before .before .before .before .before .before .before .before .before .before .before .before .before .before .before .before .before .before .before .before .before .args in let p = c .before .before .before .before .before .before .before .before .before .before .before .before .before .before .before .before .before .before .before .before .before .before .before .before .before .before .before .before .before .before .before .before .before .pre .1 in let g = c .before .before .before .before .before .before .before .before .before .before .before .before .loop .inv .on refl (p .1 .1 .1 .1) (going-start (p .1 .0) (reading (p .1 .0) (c .before .before .before .before .before .before .before .before .before .before .before .before .before .before .before .before .before .before .before .before .before .before .before .before .before .before .before .before .before .before .before .before .expressions-at .ensures .0) (c .before .before .before .before .before .before .before .before .before .before .before .before .before .before .before .before .before .before .before .before .before .before .before .before .before .before .before .before .find .ensures) (c .before .before .before .before .before .before .before .before .before .before .before .before .before .before .before .before .before .before .before .before .before .before .before .before .before .before .before .before .before .before .wide .ensures .0) (c .before .before .before .before .before .before .before .before .before .before .before .before .before .before .before .before .before .before .before .before .before .before .before .before .before .before .slot .ensures .0) (c .before .before .before .before .before .before .before .before .before .before .before .before .before .before .before .before .before .before .before .before .before .before .before .before .wide2 .ensures .0) refl) (p .1 .1 .1 .1) (a .room) (c .before .before .before .before .before .before .before .before .before .before .before .before .before .before .before .begin .ensures) (c .before .before .before .before .before .before .before .before .before .before .before .before .before .before .declare .ensures) (c .before .before .before .before .before .before .before .before .before .before .before .before .before .if1 .left)) in let l = c .before .before .before .before .before .before .before .before .before .before .before .before .loop in let k = going-run (p .0 .source) (p .1 .0) (a .offset) (a .room) _ (expressions (p .1 .0) (g .read)) _ _ (p .1 .1 .1 .1) (a .stacks .now) (l .log) (l .classes) (l .starts) (l .maps) (l .marks) (l .em) (l .e) g (c .before .before .before .before .before .before .before .run .ensures) (c .before .before .before .before .before .longer .ensures) in ⊎-elim (λ w. going-full (p .1 .0) (p .1 .1 .1 .1) k (c .before .before .before .before .if2 .taken) (c .before .before .before .flag .ensures) (runs-at (callee-runs (p .1 .0) (p .1 .1 .1 .1) k (c .before .before .before .before .if2 .taken) (w .0 .taken) (w .9 .ensures .0) (w .10 .ensures .0) (w .11 .left) (c .before .before .before .flag .result) (w .18 .ensures)) (w .19) (w .20) (w .21) (w .22) (w .23) (w .24) (w .26) (w .27)) (c .if5 .taken)) (λ w. going-full (p .1 .0) (p .1 .1 .1 .1) k (c .before .before .before .before .if2 .taken) (c .before .before .before .flag .ensures) (runs-at (other-runs (p .1 .0) (p .1 .1 .1 .1) k (c .before .before .before .before .if2 .taken) (w .0 .left) (c .before .before .before .flag .result) (runs-from refl (w .9 .ensures))) (w .10) (w .11) (w .12) (w .13) (w .14) (w .15) (w .17) (w .18)) (c .if5 .taken)) (c .before .if3 .came)
 
 -- src/lib.rt:124:5
 localize-loop-less : (t : ℕ) → localize-lts.Need-loop-less (
@@ -1461,7 +1461,7 @@ localize-loop-less : (t : ℕ) → localize-lts.Need-loop-less (
   import-names-reads.Asked,
   import-names-reads.Learnt,
 ) (localize-at t) localize.Post localize-Inv-loop localize-μ-loop
-localize-loop-less t c = let h = c .before .before .before .before .before .before .before .before .before .before .before .before .before .before .loop-test .taken in let z = c .before .before .before .before .before .before .before .run .ensures .reach in omega arith
+localize-loop-less t c = let h = c .before .before .before .before .before .before .before .before .before .before .before .loop-test .taken in let z = c .before .before .before .before .before .before .before .run .ensures .reach in omega arith
 
 -- src/lib.rt:124:5
 localize-loop-again : (t : ℕ) → localize-lts.Need-loop-again (
@@ -1494,7 +1494,7 @@ localize-loop-again : (t : ℕ) → localize-lts.Need-loop-again (
   import-names-reads.Asked,
   import-names-reads.Learnt,
 ) (localize-at t) localize.Post localize-Inv-loop localize-μ-loop
-localize-loop-again t c = let a = c .before .before .before .before .before .before .before .before .before .before .before .before .before .before .before .before .before .before .before .before .before .before .before .before .before .before .before .before .before .before .before .before .before .before .before .before .args in let p = c .before .before .before .before .before .before .before .before .before .before .before .before .before .before .before .before .before .before .before .before .before .before .before .before .before .before .before .before .before .before .before .before .before .before .before .before .pre .1 in record { on = λ q K₀ g₀. let g = c .before .before .before .before .before .before .before .before .before .before .before .before .before .before .before .loop .inv .on q K₀ g₀ in let l = c .before .before .before .before .before .before .before .before .before .before .before .before .before .before .before .loop in let k = going-run (p .0 .source) (p .1 .0) (a .offset) (a .room) _ (expressions (p .1 .0) (g .read)) _ _ K₀ _ (l .log) (l .classes) (l .starts) (l .maps) (l .marks) (l .em) (l .e) g (c .before .before .before .before .before .before .before .run .ensures) (c .before .before .before .before .before .longer .ensures) in ⊎-elim (λ w. going-at (w .25 ∙ w .10 .ensures .1 (w .11 .left) ∙ sym (k .read .places-are)) (going-next (p .1 .0) K₀ k (c .before .before .before .before .if2 .taken) (c .before .before .before .flag .ensures) (runs-at (callee-runs (p .1 .0) K₀ k (c .before .before .before .before .if2 .taken) (w .0 .taken) (w .9 .ensures .0) (w .10 .ensures .0) (w .11 .left) (c .before .before .before .flag .result) (w .18 .ensures)) (w .19) (w .20) (w .21) (w .22) (w .23) (w .24) (w .26) (w .27)) (c .if5 .left))) (λ w. going-at (w .16) (going-next (p .1 .0) K₀ k (c .before .before .before .before .if2 .taken) (c .before .before .before .flag .ensures) (runs-at (other-runs (p .1 .0) K₀ k (c .before .before .before .before .if2 .taken) (w .0 .left) (c .before .before .before .flag .result) (runs-from q (w .9 .ensures))) (w .10) (w .11) (w .12) (w .13) (w .14) (w .15) (w .17) (w .18)) (c .if5 .left))) (c .before .if3 .came) }
+localize-loop-again t c = let a = c .before .before .before .before .before .before .before .before .before .before .before .before .before .before .before .before .before .before .before .before .before .before .before .before .before .before .before .before .before .before .before .before .before .args in let p = c .before .before .before .before .before .before .before .before .before .before .before .before .before .before .before .before .before .before .before .before .before .before .before .before .before .before .before .before .before .before .before .before .before .pre .1 in record { on = λ q K₀ g₀. let g = c .before .before .before .before .before .before .before .before .before .before .before .before .loop .inv .on q K₀ g₀ in let l = c .before .before .before .before .before .before .before .before .before .before .before .before .loop in let k = going-run (p .0 .source) (p .1 .0) (a .offset) (a .room) _ (expressions (p .1 .0) (g .read)) _ _ K₀ _ (l .log) (l .classes) (l .starts) (l .maps) (l .marks) (l .em) (l .e) g (c .before .before .before .before .before .before .before .run .ensures) (c .before .before .before .before .before .longer .ensures) in ⊎-elim (λ w. going-at (w .25 ∙ w .10 .ensures .1 (w .11 .left) ∙ sym (k .read .places-are)) (going-next (p .1 .0) K₀ k (c .before .before .before .before .if2 .taken) (c .before .before .before .flag .ensures) (runs-at (callee-runs (p .1 .0) K₀ k (c .before .before .before .before .if2 .taken) (w .0 .taken) (w .9 .ensures .0) (w .10 .ensures .0) (w .11 .left) (c .before .before .before .flag .result) (w .18 .ensures)) (w .19) (w .20) (w .21) (w .22) (w .23) (w .24) (w .26) (w .27)) (c .if5 .left))) (λ w. going-at (w .16) (going-next (p .1 .0) K₀ k (c .before .before .before .before .if2 .taken) (c .before .before .before .flag .ensures) (runs-at (other-runs (p .1 .0) K₀ k (c .before .before .before .before .if2 .taken) (w .0 .left) (c .before .before .before .flag .result) (runs-from q (w .9 .ensures))) (w .10) (w .11) (w .12) (w .13) (w .14) (w .15) (w .17) (w .18)) (c .if5 .left))) (c .before .if3 .came) }
 
 -- src/lib.rt:124:5
 localize-loop-less-2 : (t : ℕ) → localize-lts.Need-loop-less-2 (
@@ -1527,7 +1527,7 @@ localize-loop-less-2 : (t : ℕ) → localize-lts.Need-loop-less-2 (
   import-names-reads.Asked,
   import-names-reads.Learnt,
 ) (localize-at t) localize.Post localize-Inv-loop localize-μ-loop
-localize-loop-less-2 t c = let h = c .before .before .before .before .before .before .before .before .before .before .loop-test .taken in let z = c .before .before .before .run .ensures .reach in let y = c .if2 .left in omega arith
+localize-loop-less-2 t c = let h = c .before .before .before .before .before .before .before .loop-test .taken in let z = c .before .before .before .run .ensures .reach in let y = c .if2 .left in omega arith
 
 -- src/lib.rt:124:5
 localize-loop-again-2 : (t : ℕ) → localize-lts.Need-loop-again-2 (
@@ -1560,7 +1560,7 @@ localize-loop-again-2 : (t : ℕ) → localize-lts.Need-loop-again-2 (
   import-names-reads.Asked,
   import-names-reads.Learnt,
 ) (localize-at t) localize.Post localize-Inv-loop localize-μ-loop
-localize-loop-again-2 t c = let a = c .before .before .before .before .before .before .before .before .before .before .before .before .before .before .before .before .before .before .before .before .before .before .before .before .before .before .before .before .before .before .before .before .args in let p = c .before .before .before .before .before .before .before .before .before .before .before .before .before .before .before .before .before .before .before .before .before .before .before .before .before .before .before .before .before .before .before .before .pre .1 in record { on = λ q K₀ g₀. let g = c .before .before .before .before .before .before .before .before .before .before .before .loop .inv .on q K₀ g₀ in let l = c .before .before .before .before .before .before .before .before .before .before .before .loop in let k = going-run (p .0 .source) (p .1 .0) (a .offset) (a .room) _ (expressions (p .1 .0) (g .read)) _ _ K₀ _ (l .log) (l .classes) (l .starts) (l .maps) (l .marks) (l .em) (l .e) g (c .before .before .before .run .ensures) (c .before .longer .ensures) in k }
+localize-loop-again-2 t c = let a = c .before .before .before .before .before .before .before .before .before .before .before .before .before .before .before .before .before .before .before .before .before .before .before .before .before .before .before .before .before .args in let p = c .before .before .before .before .before .before .before .before .before .before .before .before .before .before .before .before .before .before .before .before .before .before .before .before .before .before .before .before .before .pre .1 in record { on = λ q K₀ g₀. let g = c .before .before .before .before .before .before .before .before .loop .inv .on q K₀ g₀ in let l = c .before .before .before .before .before .before .before .before .loop in let k = going-run (p .0 .source) (p .1 .0) (a .offset) (a .room) _ (expressions (p .1 .0) (g .read)) _ _ K₀ _ (l .log) (l .classes) (l .starts) (l .maps) (l .marks) (l .em) (l .e) g (c .before .before .before .run .ensures) (c .before .longer .ensures) in k }
 
 -- src/lib.rt:217:9
 localize-keep-names-requires : (t : ℕ) → localize-lts.Need-keep-names-requires (

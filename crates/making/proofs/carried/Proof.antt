@@ -1,7 +1,6 @@
--- `making::carried` meets its contract. Each return is one kind of class. Assumes nothing.
-use mathlib.Core.Path.{sym, ap, _∙_}
-use Prim.Native.Nat.{pred}
-use Rattle.making.proofs.Carries.{carries-known, carries-named, carries-small, carries-row, carries-in, carries-own, carries-none, carries-opt-in, carries-opt, carries-copied}
+-- `making::carried` meets its contract: a function is known by its name, any other word goes through the maps. Assumes nothing.
+use mathlib.Core.Path.{_∙_}
+use Rattle.making.proofs.Carries.{carries-known, carries-named, carries-by}
 use borrow.Author.Needs.{needs}
 use Rattle.making.proofs.carried.Statement.{statement}
 use Rattle.making.proofs.carried.Tie as tie
@@ -21,80 +20,11 @@ less-requires c κs = search needs
 returns : tie.Need-returns
 returns c = let a = c .before .before .before .before .before .args in let p = c .before .before .before .before .before .pre in let u = c .before .before .before .before .kind-of in carries-named (a .words .now) (a .n) (a .log .now) (a .classes .now) (a .starts .now) (a .maps .now) (a .ends) (a .em .now) (a .s) (a .w) (u .result) (u .ensures) (p .1 .1 .1) (c .before .before .before .if1 .taken) _ (c .before .before .wide .ensures .0) _ (c .before .known .ensures) _ (c .less .ensures)
 
-carried-requires : tie.Need-carried-requires
-carried-requires c κs = let a = c .before .before .before .args in let p = c .before .before .before .pre in let u = c .before .before .kind-of in (carries-small (a .words .now) (a .n) (a .log .now) (a .classes .now) (a .starts .now) (a .maps .now) (a .ends) (a .em .now) (a .s) (a .w) (u .result) (u .ensures) (p .1 .1 .1) (c .before .if1 .left) (c .if2 .taken), (p .1 .1 .0, p .0 .kinds-are))
+by-maps-requires : tie.Need-by-maps-requires
+by-maps-requires c κs = let a = c .before .before .args in let p = c .before .before .pre in let u = c .before .kind-of in (p .0 .kinds-are, (p .1 .1 .0, ((λ q. c .if1 .left (u .ensures .0 ∙ q)), (a .words .now, p .1 .1 .1))))
 
 returns-2 : tie.Need-returns-2
-returns-2 c = let a = c .before .before .before .before .args in let p = c .before .before .before .before .pre in let u = c .before .before .before .kind-of in carries-row (a .words .now) (a .n) (a .log .now) (a .classes .now) (a .starts .now) (a .maps .now) (a .ends) (a .em .now) (a .s) (a .w) (u .result) (u .ensures) (p .1 .1 .1) (c .before .before .if1 .left) (c .before .if2 .taken) _ (c .carried .ensures)
-
-kind-of-requires-2 : tie.Need-kind-of-requires-2
-kind-of-requires-2 c κs = search needs
-
-wide-requires-2 : tie.Need-wide-requires-2
-wide-requires-2 c κs = search needs
-
-mul-mapped : tie.Need-mul-mapped
-mul-mapped c = search needs
-
-element-copy-out-mapped : tie.Need-element-copy-out-mapped
-element-copy-out-mapped c = let a = c .before .before .before .before .before .before .args in let p = c .before .before .before .before .before .before .pre in let u = c .before .before .kind-of2 in let k = c .before .before .before .before .before .kind-of in carries-in (a .words .now) (a .n) (a .log .now) (a .classes .now) (a .starts .now) (a .maps .now) (a .ends) (a .em .now) (a .s) (a .w) (u .result) (u .ensures) (p .1 .1 .1) (λ q. c .before .before .before .before .if1 .left (k .ensures .0 ∙ sym (u .ensures .0) ∙ q)) (c .before .before .before .if2 .left) (c .before .if3 .taken) _ (c .wide2 .ensures .0)
-
-mapped-requires : tie.Need-mapped-requires
-mapped-requires c κs = search needs
-
-less-requires-2 : tie.Need-less-requires-2
-less-requires-2 c κs = search needs
-
-returns-3 : tie.Need-returns-3
-returns-3 c = let a = c .before .before .before .before .before .before .before .before .before .args in let p = c .before .before .before .before .before .before .before .before .before .pre in let u = c .before .before .before .before .before .kind-of2 in let k = c .before .before .before .before .before .before .before .before .kind-of in carries-own (a .words .now) (a .n) (a .log .now) (a .classes .now) (a .starts .now) (a .maps .now) (a .ends) (a .em .now) (a .s) (a .w) (u .result) (u .ensures) (p .1 .1 .1) (λ q. c .before .before .before .before .before .before .before .if1 .left (k .ensures .0 ∙ sym (u .ensures .0) ∙ q)) (c .before .before .before .before .before .before .if2 .left) (c .before .before .before .before .if3 .taken) _ (c .before .before .before .wide2 .ensures .0) _ (c .less2 .ensures ∙ ap pred (c .before .mapped .ensures))
-
-returns-4 : tie.Need-returns-4
-returns-4 c = let a = c .before .before .before .before .before .before .before .args in let p = c .before .before .before .before .before .before .before .pre in let u = c .before .before .before .kind-of2 in let k = c .before .before .before .before .before .before .kind-of in carries-none (a .words .now) (a .n) (a .log .now) (a .classes .now) (a .starts .now) (a .maps .now) (a .ends) (a .em .now) (a .s) (a .w) (u .result) (u .ensures) (p .1 .1 .1) (λ q. c .before .before .before .before .before .if1 .left (k .ensures .0 ∙ sym (u .ensures .0) ∙ q)) (c .before .before .before .before .if2 .left) (c .before .if4 .taken) (c .if5 .taken)
-
-sub-wide : tie.Need-sub-wide
-sub-wide c = search needs
-
-wide-requires-3 : tie.Need-wide-requires-3
-wide-requires-3 c κs = search needs
-
-mul-mapped-2 : tie.Need-mul-mapped-2
-mul-mapped-2 c = search needs
-
-element-copy-out-mapped-2 : tie.Need-element-copy-out-mapped-2
-element-copy-out-mapped-2 c = let a = c .before .before .before .before .before .before .before .before .args in let p = c .before .before .before .before .before .before .before .before .pre in let u = c .before .before .before .before .kind-of2 in let k = c .before .before .before .before .before .before .before .kind-of in carries-opt-in (a .words .now) (a .n) (a .log .now) (a .classes .now) (a .starts .now) (a .maps .now) (a .ends) (a .em .now) (a .s) (a .w) (u .result) (u .ensures) (p .1 .1 .1) (λ q. c .before .before .before .before .before .before .if1 .left (k .ensures .0 ∙ sym (u .ensures .0) ∙ q)) (c .before .before .before .before .before .if2 .left) (c .before .if5 .left) _ (c .wide3 .ensures .0) (c .before .before .if4 .taken)
-
-mapped-requires-2 : tie.Need-mapped-requires-2
-mapped-requires-2 c κs = search needs
-
-returns-5 : tie.Need-returns-5
-returns-5 c = let a = c .before .before .before .before .before .before .before .before .before .before .args in let p = c .before .before .before .before .before .before .before .before .before .before .pre in let u = c .before .before .before .before .before .before .kind-of2 in let k = c .before .before .before .before .before .before .before .before .before .kind-of in c .mapped2 .ensures ∙ carries-opt (a .words .now) (a .n) (a .log .now) (a .classes .now) (a .starts .now) (a .maps .now) (a .ends) (a .em .now) (a .s) (a .w) (u .result) (u .ensures) (p .1 .1 .1) (λ q. c .before .before .before .before .before .before .before .before .if1 .left (k .ensures .0 ∙ sym (u .ensures .0) ∙ q)) (c .before .before .before .before .before .before .before .if2 .left) (c .before .before .before .if5 .left) _ (c .before .before .wide3 .ensures .0) (c .before .before .before .before .if4 .taken)
-
-returns-6 : tie.Need-returns-6
-returns-6 c = let a = c .before .before .before .before .before .before .args in let p = c .before .before .before .before .before .before .pre in let u = c .before .before .kind-of2 in let k = c .before .before .before .before .before .kind-of in carries-copied (a .words .now) (a .n) (a .log .now) (a .classes .now) (a .starts .now) (a .maps .now) (a .ends) (a .em .now) (a .s) (a .w) (u .result) (u .ensures) (p .1 .1 .1) (λ q. c .before .before .before .before .if1 .left (k .ensures .0 ∙ sym (u .ensures .0) ∙ q)) (c .before .before .before .if2 .left) (c .before .if3 .left) (c .if4 .left)
+returns-2 c = let a = c .before .before .before .args in let p = c .before .before .before .pre in let u = c .before .before .kind-of in carries-by (a .words .now) (a .n) (a .log .now) (a .classes .now) (a .starts .now) (a .maps .now) (a .ends) (a .em .now) (a .s) (a .w) (u .result) (u .ensures) (p .1 .1 .1) (c .before .if1 .left) _ (c .by-maps .ensures)
 
 pub carried-spec : {M : Type 1} → statement M
-carried-spec =
-    tie.close
-    (tie.spec
-    kind-of-requires
-    wide-requires
-    known-requires
-    less-requires
-    returns
-    carried-requires
-    returns-2
-    kind-of-requires-2
-    wide-requires-2
-    mul-mapped
-    element-copy-out-mapped
-    mapped-requires
-    less-requires-2
-    returns-3
-    returns-4
-    sub-wide
-    wide-requires-3
-    mul-mapped-2
-    element-copy-out-mapped-2
-    mapped-requires-2
-    returns-5
-    returns-6)
+carried-spec = tie.close (tie.spec kind-of-requires wide-requires known-requires less-requires returns by-maps-requires returns-2)

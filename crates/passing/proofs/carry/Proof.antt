@@ -11,16 +11,16 @@ cast-result : tie.Need-cast-result
 cast-result c = search needs
 
 returns : tie.Need-returns
-returns c = let a = c .before .before .args in becomes-made _ (a .ends .made) (a .offset) (a .s) (a .w) (a .u) (c .before .if1 .taken)
+returns c = let a = c .before .args in becomes-made _ (a .made) (a .offset) (a .s) (a .w) (a .u) (c .if1 .taken)
 
-carried-requires : tie.Need-carried-requires
-carried-requires c κs = let p = c .before .pre in (p .0, (p .1 .0, (p .1 .1 .0, p .1 .1 .1 .0)))
+by-maps-requires : tie.Need-by-maps-requires
+by-maps-requires c κs = let p = c .before .pre in (p .0, (p .1 .0, (p .1 .1 .0 .0, p .1 .1 .1)))
 
 moved-requires : tie.Need-moved-requires
 moved-requires c κs = search needs
 
 returns-2 : tie.Need-returns-2
-returns-2 c = let a = c .before .before .before .args in c .moved .ensures ∙ ap (λ (x : ℕ). moved (target (a .s)) x (a .offset) (a .u)) (c .before .carried .ensures) ∙ becomes-other _ (a .ends .made) (a .offset) (a .s) (a .w) (a .u) (c .before .before .if1 .left)
+returns-2 c = let a = c .before .before .before .args in c .moved .ensures ∙ ap (λ (x : ℕ). moved (target (a .s)) x (a .offset) (a .u)) (c .before .by-maps .ensures) ∙ becomes-other _ (a .made) (a .offset) (a .s) (a .w) (a .u) (c .before .before .if1 .left)
 
 pub carry-spec : {M : Type 1} → statement M
-carry-spec = tie.close (tie.spec cast-result returns carried-requires moved-requires returns-2)
+carry-spec = tie.close (tie.spec cast-result returns by-maps-requires moved-requires returns-2)

@@ -27,11 +27,11 @@ loop-holds c =
 
 run-requires : tie.Need-run-requires Inv-loop μ-loop
 run-requires c κs =
-    let p = c .before .before .before .before .before .before .before .before .pre in
-    let D = c .before .before .before .before .before .before .before .loop .inv in
+    let p = c .before .before .before .before .before .pre in
+    let D = c .before .before .before .before .loop .inv in
     let K = D .runs .kept (D .going) in
     let U = D .runs .under (D .going) in
-    (p .0, (bearing K, (K .maps-six, (legible-all (p .1 .0 .few) (D .left .legible), U .stacks-are .high′, made-small U))))
+    (p .0 .kinds-are, (K .maps-six, (legible-all (p .1 .0 .few) (D .left .legible), U .stacks-are .high′, made-small U)))
 
 sub-longer : tie.Need-sub-longer Inv-loop μ-loop
 sub-longer c =
@@ -46,18 +46,18 @@ longer-requires c κs =
 
 returns : tie.Need-returns Inv-loop μ-loop
 returns c =
-    let a = c .before .before .before .before .before .before .before .before .before .before .before .before .args in
-    let p = c .before .before .before .before .before .before .before .before .before .before .before .before .pre in
-    let l = c .before .before .before .before .before .before .before .before .before .before .before .loop in
+    let a = c .before .before .before .before .before .before .before .before .before .args in
+    let p = c .before .before .before .before .before .before .before .before .before .pre in
+    let l = c .before .before .before .before .before .before .before .before .loop in
     let K = p .1 .1 .1 .1 .0 in
     let D = declare-ran K (p .0 .source) (a .offset) (unites-idle (p .1 .0) (a .n) (a .offset)) (a .at) (a .end) (a .em .now) (a .stacks .now) (a .e1) (l .e) (l .log) (l .classes) (l .starts) (l .maps) (l .marks) (l .em) (l .inv) (c .before .before .before .run .ensures) (c .before .longer .ensures) in
     declare-done K D (let z = c .if1 .taken in omega arith)
 
 add-i : tie.Need-add-i Inv-loop μ-loop
 add-i c =
-    let a = c .before .before .before .before .before .before .before .before .before .before .before .before .args in
-    let p = c .before .before .before .before .before .before .before .before .before .before .before .before .pre in
-    let l = c .before .before .before .before .before .before .before .before .before .before .before .loop in
+    let a = c .before .before .before .before .before .before .before .before .before .args in
+    let p = c .before .before .before .before .before .before .before .before .before .pre in
+    let l = c .before .before .before .before .before .before .before .before .loop in
     let K = p .1 .1 .1 .1 .0 in
     let D = declare-ran K (p .0 .source) (a .offset) (unites-idle (p .1 .0) (a .n) (a .offset)) (a .at) (a .end) (a .em .now) (a .stacks .now) (a .e1) (l .e) (l .log) (l .classes) (l .starts) (l .maps) (l .marks) (l .em) (l .inv) (c .before .before .before .run .ensures) (c .before .longer .ensures) in
     let ne = c .if1 .left in
@@ -68,9 +68,9 @@ add-i c =
 
 flag-requires : tie.Need-flag-requires Inv-loop μ-loop
 flag-requires c κs =
-    let a = c .before .before .before .before .before .before .before .before .before .before .before .before .args in
-    let p = c .before .before .before .before .before .before .before .before .before .before .before .before .pre in
-    let l = c .before .before .before .before .before .before .before .before .before .before .before .loop in
+    let a = c .before .before .before .before .before .before .before .before .before .args in
+    let p = c .before .before .before .before .before .before .before .before .before .pre in
+    let l = c .before .before .before .before .before .before .before .before .loop in
     let K = p .1 .1 .1 .1 .0 in
     let D = declare-ran K (p .0 .source) (a .offset) (unites-idle (p .1 .0) (a .n) (a .offset)) (a .at) (a .end) (a .em .now) (a .stacks .now) (a .e1) (l .e) (l .log) (l .classes) (l .starts) (l .maps) (l .marks) (l .em) (l .inv) (c .before .before .before .run .ensures) (c .before .longer .ensures) in
     let ne = c .if1 .left in
@@ -80,9 +80,9 @@ flag-requires c κs =
 
 unite-requires : tie.Need-unite-requires Inv-loop μ-loop
 unite-requires c κs =
-    let a = c .before .before .before .before .before .before .before .before .before .before .before .before .before .before .before .before .before .before .before .before .args in
-    let p = c .before .before .before .before .before .before .before .before .before .before .before .before .before .before .before .before .before .before .before .before .pre in
-    let l = c .before .before .before .before .before .before .before .before .before .before .before .before .before .before .before .before .before .before .before .loop in
+    let a = c .before .before .before .before .before .before .before .before .before .before .before .before .before .before .before .before .before .args in
+    let p = c .before .before .before .before .before .before .before .before .before .before .before .before .before .before .before .before .before .pre in
+    let l = c .before .before .before .before .before .before .before .before .before .before .before .before .before .before .before .before .loop in
     let K = p .1 .1 .1 .1 .0 in
     let D = declare-ran K (p .0 .source) (a .offset) (unites-idle (p .1 .0) (a .n) (a .offset)) (a .at) (a .end) (a .em .now) (a .stacks .now) (a .e1) (l .e) (l .log) (l .classes) (l .starts) (l .maps) (l .marks) (l .em) (l .inv) (c .before .before .before .before .before .before .before .before .before .before .before .run .ensures) (c .before .before .before .before .before .before .before .before .before .longer .ensures) in
     let ne = c .before .before .before .before .before .before .before .before .if1 .left in
@@ -92,9 +92,9 @@ unite-requires c κs =
 
 returns-2 : tie.Need-returns-2 Inv-loop μ-loop
 returns-2 c =
-    let a = c .before .before .before .before .before .before .before .before .before .before .before .before .before .before .before .before .before .before .before .before .before .before .args in
-    let p = c .before .before .before .before .before .before .before .before .before .before .before .before .before .before .before .before .before .before .before .before .before .before .pre in
-    let l = c .before .before .before .before .before .before .before .before .before .before .before .before .before .before .before .before .before .before .before .before .before .loop in
+    let a = c .before .before .before .before .before .before .before .before .before .before .before .before .before .before .before .before .before .before .before .args in
+    let p = c .before .before .before .before .before .before .before .before .before .before .before .before .before .before .before .before .before .before .before .pre in
+    let l = c .before .before .before .before .before .before .before .before .before .before .before .before .before .before .before .before .before .before .loop in
     let K = p .1 .1 .1 .1 .0 in
     let D = declare-ran K (p .0 .source) (a .offset) (unites-idle (p .1 .0) (a .n) (a .offset)) (a .at) (a .end) (a .em .now) (a .stacks .now) (a .e1) (l .e) (l .log) (l .classes) (l .starts) (l .maps) (l .marks) (l .em) (l .inv) (c .before .before .before .before .before .before .before .before .before .before .before .before .before .run .ensures) (c .before .before .before .before .before .before .before .before .before .before .before .longer .ensures) in
     let ne = c .before .before .before .before .before .before .before .before .before .before .if1 .left in
@@ -104,9 +104,9 @@ returns-2 c =
 
 put-word-requires : tie.Need-put-word-requires Inv-loop μ-loop
 put-word-requires c κs =
-    let a = c .before .before .before .before .before .before .before .before .before .before .before .before .before .before .before .before .before .before .before .before .before .before .before .before .before .before .before .before .args in
-    let p = c .before .before .before .before .before .before .before .before .before .before .before .before .before .before .before .before .before .before .before .before .before .before .before .before .before .before .before .before .pre in
-    let l = c .before .before .before .before .before .before .before .before .before .before .before .before .before .before .before .before .before .before .before .before .before .before .before .before .before .before .before .loop in
+    let a = c .before .before .before .before .before .before .before .before .before .before .before .before .before .before .before .before .before .before .before .before .before .before .before .before .before .args in
+    let p = c .before .before .before .before .before .before .before .before .before .before .before .before .before .before .before .before .before .before .before .before .before .before .before .before .before .pre in
+    let l = c .before .before .before .before .before .before .before .before .before .before .before .before .before .before .before .before .before .before .before .before .before .before .before .before .loop in
     let K = p .1 .1 .1 .1 .0 in
     let D = declare-ran K (p .0 .source) (a .offset) (unites-idle (p .1 .0) (a .n) (a .offset)) (a .at) (a .end) (a .em .now) (a .stacks .now) (a .e1) (l .e) (l .log) (l .classes) (l .starts) (l .maps) (l .marks) (l .em) (l .inv) (c .before .before .before .before .before .before .before .before .before .before .before .before .before .before .before .before .before .before .before .run .ensures) (c .before .before .before .before .before .before .before .before .before .before .before .before .before .before .before .before .before .longer .ensures) in
     let ne = c .before .before .before .before .before .before .before .before .before .before .before .before .before .before .before .before .if1 .left in
@@ -118,9 +118,9 @@ put-word-requires c κs =
 
 returns-3 : tie.Need-returns-3 Inv-loop μ-loop
 returns-3 c =
-    let a = c .before .before .before .before .before .before .before .before .before .before .before .before .before .before .before .before .before .before .before .before .before .before .before .before .before .before .before .before .before .before .args in
-    let p = c .before .before .before .before .before .before .before .before .before .before .before .before .before .before .before .before .before .before .before .before .before .before .before .before .before .before .before .before .before .before .pre in
-    let l = c .before .before .before .before .before .before .before .before .before .before .before .before .before .before .before .before .before .before .before .before .before .before .before .before .before .before .before .before .before .loop in
+    let a = c .before .before .before .before .before .before .before .before .before .before .before .before .before .before .before .before .before .before .before .before .before .before .before .before .before .before .before .args in
+    let p = c .before .before .before .before .before .before .before .before .before .before .before .before .before .before .before .before .before .before .before .before .before .before .before .before .before .before .before .pre in
+    let l = c .before .before .before .before .before .before .before .before .before .before .before .before .before .before .before .before .before .before .before .before .before .before .before .before .before .before .loop in
     let K = p .1 .1 .1 .1 .0 in
     let D = declare-ran K (p .0 .source) (a .offset) (unites-idle (p .1 .0) (a .n) (a .offset)) (a .at) (a .end) (a .em .now) (a .stacks .now) (a .e1) (l .e) (l .log) (l .classes) (l .starts) (l .maps) (l .marks) (l .em) (l .inv) (c .before .before .before .before .before .before .before .before .before .before .before .before .before .before .before .before .before .before .before .before .before .run .ensures) (c .before .before .before .before .before .before .before .before .before .before .before .before .before .before .before .before .before .before .before .longer .ensures) in
     let ne = c .before .before .before .before .before .before .before .before .before .before .before .before .before .before .before .before .before .before .if1 .left in
@@ -130,15 +130,15 @@ returns-3 c =
 
 loop-less : tie.Need-loop-less Inv-loop μ-loop
 loop-less c =
-    let h = c .before .before .before .before .before .before .before .before .before .before .before .before .before .before .before .before .before .before .before .before .before .before .before .before .before .before .before .before .loop-test .taken in
+    let h = c .before .before .before .before .before .before .before .before .before .before .before .before .before .before .before .before .before .before .before .before .before .before .before .before .before .loop-test .taken in
     let z = c .before .before .before .before .before .before .before .before .before .before .before .before .before .before .before .before .before .before .before .before .before .run .ensures .reach in
     omega arith
 
 loop-again : tie.Need-loop-again Inv-loop μ-loop
 loop-again c =
-    let a = c .before .before .before .before .before .before .before .before .before .before .before .before .before .before .before .before .before .before .before .before .before .before .before .before .before .before .before .before .before .before .args in
-    let p = c .before .before .before .before .before .before .before .before .before .before .before .before .before .before .before .before .before .before .before .before .before .before .before .before .before .before .before .before .before .before .pre in
-    let l = c .before .before .before .before .before .before .before .before .before .before .before .before .before .before .before .before .before .before .before .before .before .before .before .before .before .before .before .before .before .loop in
+    let a = c .before .before .before .before .before .before .before .before .before .before .before .before .before .before .before .before .before .before .before .before .before .before .before .before .before .before .before .args in
+    let p = c .before .before .before .before .before .before .before .before .before .before .before .before .before .before .before .before .before .before .before .before .before .before .before .before .before .before .before .pre in
+    let l = c .before .before .before .before .before .before .before .before .before .before .before .before .before .before .before .before .before .before .before .before .before .before .before .before .before .before .loop in
     let K = p .1 .1 .1 .1 .0 in
     let D = declare-ran K (p .0 .source) (a .offset) (unites-idle (p .1 .0) (a .n) (a .offset)) (a .at) (a .end) (a .em .now) (a .stacks .now) (a .e1) (l .e) (l .log) (l .classes) (l .starts) (l .maps) (l .marks) (l .em) (l .inv) (c .before .before .before .before .before .before .before .before .before .before .before .before .before .before .before .before .before .before .before .before .before .run .ensures) (c .before .before .before .before .before .before .before .before .before .before .before .before .before .before .before .before .before .before .before .longer .ensures) in
     let ne = c .before .before .before .before .before .before .before .before .before .before .before .before .before .before .before .before .before .before .if1 .left in

@@ -3,7 +3,7 @@ use Prim.Native.Nat.{_-_}
 use native.Mathlib.Omega.{arith}
 use lib.ListN.{getD}
 use borrow.Author.Needs.{needs}
-use Rattle.making.specs.Stacks.{wentOf}
+use Rattle.making.specs.Stacks.{wentBy}
 use Rattle.passing.proofs.Quiets.{Onto, onto-begin, onto-done, onto-in, onto-fits, onto-next, numbers-low, is-ready}
 use Rattle.passing.proofs.run.Statement.{statement}
 use Rattle.passing.proofs.run.Tie as tie
@@ -14,14 +14,14 @@ use Rattle.passing.proofs.flag.Reads as flag-reads
 use Rattle.passing.proofs.ready.Reads as ready-reads
 
 abbrev Inv-loop : tie.InvT-loop
-Inv-loop words tags kinds n log classes starts maps em stacks₀ ends offset at end undefined i₀ p₀ u₀ stacks i p u =
-    Onto words tags maps em (wentOf words n log classes starts maps ends em) (ends .made) offset at end (ends .bt) undefined stacks₀ stacks i p u
+Inv-loop words tags kinds maps em stacks₀ made bt offset at end undefined i₀ p₀ u₀ stacks i p u =
+    Onto words tags maps em (wentBy maps em) made offset at end bt undefined stacks₀ stacks i p u
 
 abbrev μ-loop : tie.MeasureT-loop
-μ-loop words tags kinds n log classes starts maps em stacks₀ ends offset at end undefined i₀ p₀ u₀ stacks i p u = end - i
+μ-loop words tags kinds maps em stacks₀ made bt offset at end undefined i₀ p₀ u₀ stacks i p u = end - i
 
 loop-holds : tie.Need-loop-holds Inv-loop μ-loop
-loop-holds c = let p = c .pre in onto-begin (p .1 .1 .1 .0) (p .1 .1 .1 .1)
+loop-holds c = let p = c .pre in onto-begin (p .1 .1 .0) (p .1 .1 .1)
 
 element-copy-out-s : tie.Need-element-copy-out-s Inv-loop μ-loop
 element-copy-out-s c = onto-in (c .before .loop .inv) (c .loop-test .taken)
@@ -36,7 +36,7 @@ returns : tie.Need-returns Inv-loop μ-loop
 returns c = onto-done (c .before .before .before .before .loop .inv)
 
 ready-requires : tie.Need-ready-requires Inv-loop μ-loop
-ready-requires c κs = let a = c .before .before .before .before .before .args in (c .before .before .before .before .before .pre .0 .kinds-are, numbers-low (a .words .now) _ _ (onto-fits (c .before .before .before .before .loop .inv) (c .before .before .before .loop-test .taken)))
+ready-requires c κs = let a = c .before .before .before .before .before .args in (c .before .before .before .before .before .pre .0, numbers-low (a .words .now) _ _ (onto-fits (c .before .before .before .before .loop .inv) (c .before .before .before .loop-test .taken)))
 
 returns-2 : tie.Need-returns-2 Inv-loop μ-loop
 returns-2 c = onto-done (c .before .before .before .before .before .before .loop .inv)
@@ -51,7 +51,11 @@ flag-requires : tie.Need-flag-requires Inv-loop μ-loop
 flag-requires c κs = (c .before .before .before .before .before .before .loop .inv .left .stretch, c .before .before .before .before .before .loop-test .taken)
 
 carry-requires : tie.Need-carry-requires Inv-loop μ-loop
-carry-requires c κs = let p = c .before .before .before .before .before .before .before .before .pre in (p .0, (p .1 .0, (p .1 .1 .0, (onto-fits (c .before .before .before .before .before .before .before .loop .inv) (c .before .before .before .before .before .before .loop-test .taken), p .1 .1 .1 .2))))
+carry-requires c κs =
+    let a = c .before .before .before .before .before .before .before .before .args in
+    let p = c .before .before .before .before .before .before .before .before .pre in
+    let Q = c .before .before .ready .ensures (is-ready _ (c .before .if2 .left)) in
+    (p .0, (p .1 .0, ((Q .callee, p .1 .1 .2), (a .words .now, onto-fits (c .before .before .before .before .before .before .before .loop .inv) (c .before .before .before .before .before .before .loop-test .taken)))))
 
 mul-stacks : tie.Need-mul-stacks Inv-loop μ-loop
 mul-stacks c = let z = c .before .before .before .before .before .before .before .before .loop .inv .room in omega arith

@@ -32,6 +32,9 @@ Exit status: 0, or 2 for misuse.
 /// The sizes in words; each is about twice the one before.
 const SIZES: [usize; 7] = [256, 512, 1024, 2048, 4096, 8192, 16_384];
 
+/// The words of a round over images that differ: more than a processor keeps branches of.
+const ROUND: usize = 262_144;
+
 /// The columns: what is measured, and its colour in the picture.
 const COLUMNS: [(&str, &str); 11] = [
     ("intake", "#1b6ca8"),
@@ -64,11 +67,13 @@ fn main() -> ExitCode {
         }
     };
     let timing = &settings.timing;
-    let grown: Vec<Row> = SIZES.iter().map(|words| measured(timing, &sized(*words))).collect();
+    let grown: Vec<Row> = SIZES.iter().map(|words| measured(timing, &sized(*words, *words as u64))).collect();
     println!("Over sizes, nanoseconds a word:\n");
     print!("{}", table(&grown));
     println!("\nThe power of the size by which time grows (1 is linear), by step and from first to last:\n");
     print!("{}", growth(&grown));
+    println!("\nOver images that differ, each linked once in a round, nanoseconds a word:\n");
+    print!("{}", rounds(timing));
     println!("\nImages on which a slow way of working shows, nanoseconds a word:\n");
     print!("{}", table(&measured_all(timing, cases::worst())));
     println!("\nImages on which linking has most to do, nanoseconds a word:\n");
@@ -115,8 +120,8 @@ struct Row {
 }
 
 /// A valid image of about so many words.
-fn sized(words: usize) -> Case {
-    let module = plain::generate::sized(&mut Random::new(words as u64), words);
+fn sized(words: usize, seed: u64) -> Case {
+    let module = plain::generate::sized(&mut Random::new(seed), words);
     ("generated".to_owned(), plain::write(&module))
 }
 
@@ -216,6 +221,34 @@ fn growth(rows: &[Row]) -> String {
             write!(text, " {power:.2} |").expect("a string takes all");
         }
         text.push('\n');
+    }
+    text
+}
+
+/// Rounds over generated images of about one size, each met once in a round: so a processor that learns the branches of an
+/// image that comes again and again learns nothing here, as where every image is linked once.
+fn rounds(timing: &Timing) -> String {
+    let mut text = String::from(
+        "| images | words of all | intake | link | link, lent | link, plain |\n|---|---|---|---|---|---|\n",
+    );
+    let mut buffer = vec![0; 65_536];
+    let mut memory = Memory::new();
+    for size in SIZES {
+        let seeds = (0..ROUND / size).map(|own| (size * 1000 + own) as u64);
+        let images: Vec<Vec<u8>> = seeds.map(|seed| sized(size, seed).1).collect();
+        let words: usize = images.iter().map(|image| image.len() / 4).sum();
+        let mut time = |run: &mut dyn FnMut(&[u8], &mut [u8])| {
+            timing.best(|| images.iter().for_each(|image| run(black_box(image), &mut buffer))) / words as f64
+        };
+        let figures = [
+            time(&mut |image, _| ignore(black_box(wuldgisp::intake(image)))),
+            time(&mut |image, buffer| ignore(black_box(archive::link(image, buffer)))),
+            time(&mut |image, buffer| ignore(black_box(archive::link_in(image, buffer, &mut memory)))),
+            time(&mut |image, buffer| ignore(black_box(plain::link(image, buffer)))),
+        ];
+        let figures = figures.map(|figure| format!("{figure:.1}")).join(" | ");
+        let (count, each, all) = (images.len(), grouped(words / images.len()), grouped(words));
+        writeln!(text, "| {count} of {each} | {all} | {figures} |").expect("a string takes all");
     }
     text
 }
