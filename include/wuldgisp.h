@@ -5,7 +5,7 @@
  *
  * Stack: give a thread that calls wuldgisp_intake, wuldgisp_order or wuldgisp_redirect at least WULDGISP_STACK bytes, and one that calls wuldgisp_link,
  * wuldgisp_link_in or wuldgisp_session at least WULDGISP_LINK_STACK. Measured (docs/PERFORMANCE.md): 120 KiB for the first three; 1,864 KiB for link,
- * 476 KiB less for link_in; for a session 1,604 KiB where 256 functions nest, and 2,716 KiB where, at their end, 1,024 initialisers, 181 constants and
+ * 476 KiB less for link_in; for a session 1,600 KiB where 256 functions nest, and 2,712 KiB where, at their end, 1,024 initialisers, 181 constants and
  * 512 types nest too.
  *
  * docs/RULES.md has the rules behind every refusal, and docs/IMAGE.md the image word by word.

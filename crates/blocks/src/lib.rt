@@ -4,6 +4,12 @@ use classes::BLOCK;
 use evaluated::emit;
 use evaluated::read;
 use evaluated::simple;
+use kinds::BREAK;
+use kinds::CONTINUE;
+use kinds::EMIT;
+use kinds::LOOP;
+use kinds::RETURN;
+use kinds::SWITCH;
 use words::wide;
 ghost use mathlib.Core.Path.{_≡_};
 ghost use mathlib.Core.Bool.{Bool, true, false, _||_};
@@ -191,10 +197,10 @@ fn stmt(
     ensures { λ r. ⌜ FoundS (now (words .entry)) (now (tags .entry)) (now (starts .entry)) (now (initial .entry)) count at stop keep (placeOf breaks continues returns) (now (until .entry)) (now (until .exit)) r ⌝ }
 {
     let k = words[at + 1];
-    if k == 0 {
+    if k == EMIT {
         return found(emit(words, tags, starts, initial, until, count, at, keep));
     }
-    if k < 3 {
+    if k < SWITCH {
         return parts(
             words,
             tags,
@@ -210,7 +216,7 @@ fn stmt(
             returns,
         );
     }
-    if k == 3 {
+    if k == SWITCH {
         return parts(
             words,
             tags,
@@ -226,7 +232,7 @@ fn stmt(
             returns,
         );
     }
-    if k == 4 {
+    if k == LOOP {
         return looped(
             words,
             tags,
@@ -240,16 +246,16 @@ fn stmt(
             returns,
         );
     }
-    if k == 5 {
+    if k == BREAK {
         return found(breaks);
     }
-    if k == 6 {
+    if k == CONTINUE {
         if continues {
             return 2;
         }
         return 0;
     }
-    if k == 7 {
+    if k == RETURN {
         if returns {
             return found(simple(words, tags, starts, until, count, at, stop, keep));
         }

@@ -6,47 +6,18 @@ use mathlib.Core.Option.{none, some}
 use Prim.Native.Nat.{ℕ, zero, suc, _+_, _-_, _^_, _≤_, _<_}
 use native.Mathlib.Numerals.{add-one}
 use native.Mathlib.Omega.{arith}
-use lib.Dec.{eqb, ltb, leb}
+use lib.Dec.{eqb}
 use lib.ListN.{length, getD}
-use borrow.Author.Tests.{eq-eqb, ne-eqb, lt-ltb, le-ltb, le-leb, lt-leb, leb-true, leb-false, not-true, not-false}
+use borrow.Author.Tests.{eq-eqb, ne-eqb, lt-ltb, le-ltb, not-true, not-false}
 use Rattle.model.specs.Outcome.{Cells}
 use Rattle.model.specs.Tree.{optOf, wordOf}
-use Rattle.model.specs.Operands.{optional, operand, opsOf, resultOf, standingKind, resultKind, emittedKind}
+use Rattle.model.specs.Operands.{optional, operand, opsOf, resultOf, standingKind}
 use Rattle.model.specs.Between.{between}
 use Rattle.laws.specs.Betweens.{between-none, between-next}
 use Rattle.evaluated.specs.Tape.{cellsFrom, cellsIn, Placed}
 use Rattle.evaluated.specs.Lasts.{visibleAt, allSeen}
 
--- ---- kinds
-pub stands-low : (k : ℕ) → k ≤ 3 → true ≡ standingKind k
-unfolding standingKind
-stands-low k h = rw (le-leb k 3 h)
-
-pub stands-mid : (k : ℕ) → 3 < k → k < 9 → false ≡ standingKind k
-unfolding standingKind
-stands-mid k h g = rw (lt-leb k 3 h, lt-leb 9 k g)
-
-pub stands-rest : (k : ℕ) → 3 < k → 9 ≤ k → leb k 11 ≡ standingKind k
-unfolding standingKind
-stands-rest k h g = rw (lt-leb k 3 h, le-leb 9 k g)
-
-module _ (k : ℕ) (b : Bool) (is : b ≡ standingKind k) where
-  pub emits-stands : b ≡ true → false ≡ emittedKind k
-  unfolding emittedKind
-  emits-stands h = rw (emittedKind, sym is ∙ h)
-
-  pub emits-low : b ≡ false → k < 23 → true ≡ emittedKind k
-  unfolding emittedKind resultKind
-  emits-low h g = rw (emittedKind, sym is ∙ h, resultKind, lt-leb 23 k g)
-
-  pub emits-rest : b ≡ false → 23 ≤ k → ltb 25 k ≡ emittedKind k
-  unfolding emittedKind resultKind
-  emits-rest h g = rw (emittedKind, sym is ∙ h, resultKind, le-leb 23 k g) (go (leb k 25) refl)
-    where
-      go : (t : Bool) → leb k 25 ≡ t → ltb 25 k ≡ elim (leb k 25) [ true ↦ false | false ↦ true ]
-      go true e = rw (e, le-ltb 25 k (omega (arith, leb-true k 25 e)))
-      go false e = rw (e, lt-ltb 25 k (leb-false k 25 e))
-
+-- ---- the kind of an expression
 pub kind-is : (ws : List ℕ) (p q : ℕ) → (p ≡ q) × (p < 2 ^ 32) → getD ws p 0 ≡ getD ws q 0
 kind-is ws p q h = ap (λ i. getD ws i 0) (h .0)
 

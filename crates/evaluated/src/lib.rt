@@ -4,6 +4,13 @@ use classes::EXPR;
 use classes::OPT_EXPR;
 use classes::OPT_RESULT;
 use classes::RESULT;
+use kinds::ATOMIC_RESULT;
+use kinds::CALL;
+use kinds::CALL_RESULT;
+use kinds::WORK_GROUP_UNIFORM_LOAD;
+use kinds::WORK_GROUP_UNIFORM_LOAD_RESULT;
+use kinds::emits;
+use kinds::stands;
 use words::wide;
 ghost use mathlib.Core.Path.{_≡_};
 ghost use mathlib.Core.List.{[]};
@@ -11,35 +18,9 @@ ghost use mathlib.Core.Option.{some};
 ghost use Prim.Native.Nat.{_+_, _≤_, _<_};
 ghost use lib.ListN.{getD};
 ghost use Rattle.model.specs.Tree.{wordOf};
-ghost use Rattle.model.specs.Operands.{operand, opsOf, resultOf, standingKind, emittedKind};
+ghost use Rattle.model.specs.Operands.{operand, opsOf, resultOf};
 ghost use Rattle.evaluated.specs.Tape.{cellsIn, Placed, Exprs, exprsOf};
 ghost use Rattle.evaluated.specs.Lasts.{visibleAt, allSeen, fitsResult, FoundE, FoundR, FoundO, FoundL};
-
-// Kinds 0 to 3 and 9 to 11.
-fn stands(k: u32) -> bool
-    ensures { λ r. ⌜ r ≡ standingKind k ⌝ }
-{
-    if k <= 3 {
-        return true;
-    }
-    if k < 9 {
-        return false;
-    }
-    k <= 11
-}
-
-// Neither standing nor a result, 23 to 25.
-fn emits(k: u32) -> bool
-    ensures { λ r. ⌜ r ≡ emittedKind k ⌝ }
-{
-    if stands(k) {
-        return false;
-    }
-    if k < 23 {
-        return true;
-    }
-    25 < k
-}
 
 // The kind of expression e.
 fn kind(words: &[u32; 16384], starts: &[u32; 1025], e: usize) -> u32
@@ -228,17 +209,17 @@ fn result_fits(
 {
     let k = kind(words, starts, e);
     let s = words[at + 1];
-    if s == 15 {
-        if k != 23 {
+    if s == CALL {
+        if k != CALL_RESULT {
             return false;
         }
         let p = wide(starts[e]) + 3;
         return words[p] == words[at + 4];
     }
-    if s == 14 {
-        return k == 25;
+    if s == WORK_GROUP_UNIFORM_LOAD {
+        return k == WORK_GROUP_UNIFORM_LOAD_RESULT;
     }
-    k == 24
+    k == ATOMIC_RESULT
 }
 
 // The result of the statement from the word `at` to the word `stop`.

@@ -14,7 +14,7 @@ use views::record_at;
 use views::record_end;
 use words::wide;
 ghost use mathlib.Core.Path.{_≡_};
-ghost use mathlib.Core.Bool.{true, false};
+ghost use mathlib.Core.Bool.{false};
 ghost use Prim.Native.Nat.{_<_};
 ghost use Rattle.model.specs.Module.{countAt};
 ghost use Rattle.model.specs.References.{target};

@@ -1,42 +1,21 @@
 -- Marks and the list of what is to be visited: one visit, visits one after the other, and the loops that visit what cells read and what locals begin with. Assumes nothing.
 use mathlib.Core.Path.{_≡_, refl, sym, ap, _∙_, subst}
-use mathlib.Core.Logic.{_⊎_, inl, inr, ⊎-elim}
+use mathlib.Core.Logic.{inl, inr, ⊎-elim}
 use mathlib.Core.Bool.{Bool, true, false}
 use mathlib.Core.List.{List, [], _∷_, _++_}
 use Prim.Native.Nat.{ℕ, zero, suc, _+_, _*_, _-_, _^_, _≤_, _<_}
 use native.Mathlib.Numerals.{add-one}
 use native.Mathlib.Omega.{arith}
-use lib.Dec.{eqb, leb}
+use lib.Dec.{eqb}
 use lib.ListN.{length, getD, set, take, drop, length-set}
 use lib.Seq.{slice, sets, slice-cons, slice-empty, take-suc-set, getD-set-same, getD-set-other, getD-drop, drop-drop}
-use borrow.Author.Tests.{lt-ltb, eq-eqb, ne-eqb, le-leb, lt-leb, eqb-true, eqb-false}
-use Rattle.model.specs.Operands.{constantKind, optional, operand, opsOf}
+use borrow.Author.Tests.{lt-ltb, eq-eqb, ne-eqb, eqb-true, eqb-false}
+use Rattle.model.specs.Operands.{optional, operand, opsOf}
 use Rattle.model.specs.Initial.{Mem, here, there}
 use Rattle.laws.specs.Members.{no-mem, mem-left, mem-right, mem-cases}
 use Rattle.model.specs.Between.{between, Long}
 use Rattle.laws.specs.Betweens.{between-none, between-cons}
 use Rattle.initial.specs.Marks.{finds, reads, on, blank, inits, Visits, Room}
-
--- ---- "0 to 8, 16 to 18 and 20 to 22"
-pub constant-low : (k : ℕ) → k ≤ 8 → true ≡ constantKind k
-unfolding constantKind
-constant-low k h = rw (constantKind, le-leb k 8 h)
-
-pub constant-gap : (k : ℕ) → 8 < k → k < 16 → false ≡ constantKind k
-unfolding constantKind
-constant-gap k h g = rw (constantKind, lt-leb k 8 h, lt-leb 16 k g, lt-leb 20 k (omega arith))
-
-pub constant-mid : (k : ℕ) → 8 < k → 16 ≤ k → k ≤ 18 → true ≡ constantKind k
-unfolding constantKind
-constant-mid k h g l = rw (constantKind, lt-leb k 8 h, le-leb 16 k g, le-leb k 18 l)
-
-pub constant-derivative : (k : ℕ) → 8 < k → 16 ≤ k → 18 < k → k < 20 → false ≡ constantKind k
-unfolding constantKind
-constant-derivative k h g l n = rw (constantKind, lt-leb k 8 h, le-leb 16 k g, lt-leb k 18 l, lt-leb 20 k n)
-
-pub constant-high : (k : ℕ) → 8 < k → 16 ≤ k → 18 < k → 20 ≤ k → leb k 22 ≡ constantKind k
-unfolding constantKind
-constant-high k h g l n = rw (constantKind, lt-leb k 8 h, le-leb 16 k g, lt-leb k 18 l, le-leb 20 k n)
 
 -- ---- what a word reads
 pub operand-expr : (s w v : ℕ) → s ≡ 93 → v ≡ w → v < 2 ^ 32 → (v + 1 ≡ reads s w) × (v + 1 ≤ 2 ^ 32)

@@ -4,35 +4,17 @@ use classes::EXPR;
 use classes::EXPR_KIND;
 use classes::NAMED;
 use classes::OPT_EXPR;
+use kinds::constant;
 use words::wide;
 ghost use mathlib.Core.Path.{_≡_};
 ghost use mathlib.Core.List.{[]};
 ghost use Prim.Native.Nat.{_+_, _*_, _^_, _≤_, _<_};
 ghost use lib.ListN.{length, drop};
 ghost use lib.Seq.{slice, sets};
-ghost use Rattle.model.specs.Operands.{constantKind, optional, opsOf};
+ghost use Rattle.model.specs.Operands.{optional, opsOf};
 ghost use Rattle.model.specs.Between.{between, Long};
 ghost use Rattle.initial.specs.Lists.{Listed, Initialised};
 ghost use Rattle.initial.specs.Marks.{finds, reads, inits, Room, Visits, Reaching, Reaches};
-
-// "0 to 8, 16 to 18 and 20 to 22".
-pub fn constant(k: u32) -> bool
-    ensures { λ r. ⌜ r ≡ constantKind k ⌝ }
-{
-    if k <= 8 {
-        return true;
-    }
-    if k < 16 {
-        return false;
-    }
-    if k <= 18 {
-        return true;
-    }
-    if k < 20 {
-        return false;
-    }
-    k <= 22
-}
 
 fn short(x: usize) -> u32
     requires { ⌜ x < 2 ^ 32 ⌝ }

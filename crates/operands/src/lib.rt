@@ -3,6 +3,7 @@
 // initialisers come with their operands, and merge.
 use classes::EXPR;
 use import::refers_to;
+use kinds::stands;
 use making::append;
 use making::merge;
 use making::slot;
@@ -15,7 +16,6 @@ ghost use mathlib.Core.Path.{_≡_};
 ghost use mathlib.Core.Bool.{false};
 ghost use Prim.Native.Nat.{_<_};
 ghost use Rattle.model.specs.Bodies.{unique as uniqueE};
-ghost use Rattle.model.specs.Operands.{standingKind};
 ghost use Rattle.bodies.specs.Shallow.{need as needE, peek as peekE, glance as glanceE};
 ghost use Rattle.passes.specs.Light.{still};
 ghost use Rattle.state.specs.Source.{modOf};
@@ -144,26 +144,6 @@ pub fn need(
         k,
         e,
     )
-}
-
-// The kinds of expressions that stand go from the first one to ZeroValue, and from FunctionArgument to LocalVariable.
-const ZERO_VALUE: u32 = 3;
-
-const FUNCTION_ARGUMENT: u32 = 9;
-
-const LOCAL_VARIABLE: u32 = 11;
-
-// Whether an expression of the kind k stands.
-fn stands(k: u32) -> bool
-    ensures { λ r. ⌜ r ≡ standingKind k ⌝ }
-{
-    if k <= ZERO_VALUE {
-        return true;
-    }
-    if k < FUNCTION_ARGUMENT {
-        return false;
-    }
-    k <= LOCAL_VARIABLE
 }
 
 // Expression e of k, where it stands and is not mapped.

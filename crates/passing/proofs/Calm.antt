@@ -2,21 +2,19 @@
 use mathlib.Core.Path.{_≡_, refl, sym, ap, _∙_}
 use mathlib.Core.Bool.{Bool, true, false, false≢true}
 use mathlib.Core.List.{List, [], _∷_}
-use Prim.Native.Nat.{ℕ, zero, suc, _+_, _-_, _≤_, _<_}
+use Prim.Native.Nat.{ℕ, zero, suc, _+_, _≤_, _<_}
 use native.Mathlib.Nat.{le-refl}
-use native.Mathlib.Numerals.{add-one}
 use native.Mathlib.Omega.{arith}
 use lib.Dec.{eqb, ltb}
-use lib.ListN.{length, getD}
+use lib.ListN.{getD}
 use borrow.Author.Tests.{eqb-true, eqb-false, ltb-true, ltb-false}
 use Rattle.model.specs.Outcome.{Cells}
-use Rattle.model.specs.Table.{EXPR, FROM, TO, STMT-KIND}
-use Rattle.model.specs.Module.{Module}
+use Rattle.model.specs.Table.{EXPR, TO, STMT-KIND}
 use Rattle.model.specs.Between.{between}
 use Rattle.model.specs.References.{Place, table, own, function, Target, copied, start, upto, ref, opt, targets, target, refOf, refs, carryW, through, moved}
 use Rattle.model.specs.Bodies.{Making}
 use Rattle.imports.specs.RecordLaws.{All, all-map}
-use Rattle.passes.specs.Pass.{arrive, early, passed, wordOf}
+use Rattle.passes.specs.Pass.{arrive, passed, wordOf}
 use Rattle.passes.specs.Cases.{early-other}
 use Rattle.passes.specs.Light.{still}
 use Rattle.state.specs.Refers.{kindOf, tabOf}

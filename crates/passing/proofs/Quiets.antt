@@ -1,20 +1,19 @@
 -- Words that bring nothing, written one behind another: each is one word of a pass, which leaves what is under way as it is. Assumes nothing.
-use mathlib.Core.Path.{_≡_, refl, sym, ap, _∙_}
+use mathlib.Core.Path.{_≡_, refl, sym, _∙_}
 use mathlib.Core.Bool.{Bool, true, false, not, false≢true}
-use mathlib.Core.List.{List, [], _∷_}
-use Prim.Native.Nat.{ℕ, zero, suc, _+_, _≤_, _<_}
-use native.Mathlib.Nat.{le-refl}
+use mathlib.Core.List.{List, []}
+use Prim.Native.Nat.{ℕ, suc, _+_, _≤_, _<_}
 use native.Mathlib.Numerals.{add-one}
 use native.Mathlib.Omega.{arith}
-use lib.ListN.{length, getD}
+use lib.ListN.{getD}
 use lib.Dec.{eqb, ltb}
 use borrow.Author.Tests.{eq-eqb, ne-eqb, ltb-true, ltb-false}
 use Rattle.model.specs.Table.{EXPR, FROM, TO, STMT-KIND}
 use Rattle.model.specs.References.{Place, Target, targets, target, refOf, through, moved}
 use Rattle.imports.specs.RecordLaws.{All}
 use Rattle.passes.specs.Pass.{atomicKind}
-use Rattle.state.specs.Refers.{codeP, kindOf}
-use Rattle.state.specs.Source.{ifSome, refersTo, numberOf}
+use Rattle.state.specs.Refers.{kindOf}
+use Rattle.state.specs.Source.{refersTo, numberOf}
 use Rattle.state.specs.Held.{cell, put}
 use Rattle.ground.specs.Fits.{FitN, Legible}
 use Rattle.outside.proofs.Cells.{fit-own, fit-table}

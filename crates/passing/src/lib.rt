@@ -703,19 +703,14 @@ fn compared(words: &[u32; 16384], tags: &[u8; 16384], i: usize, end: usize) -> u
     0
 }
 
-// The kinds of atomic statements.
-const ATOMIC_KIND: u32 = 13;
-
-const IMAGE_ATOMIC_KIND: u32 = 16;
-
 // Whether a statement of the kind k is atomic.
 fn atomic(k: u32) -> bool
     ensures { λ r. ⌜ r ≡ atomicKind k ⌝ }
 {
-    if k == ATOMIC_KIND {
+    if k == kinds::ATOMIC {
         return true;
     }
-    k == IMAGE_ATOMIC_KIND
+    k == kinds::IMAGE_ATOMIC
 }
 
 // What an atomic statement compares, where its kind is word i.

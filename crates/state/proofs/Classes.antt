@@ -1,15 +1,15 @@
 -- What the classes refer to, and what becomes of their words. Assumes nothing.
 use mathlib.Core.Path.{_≡_, refl, sym, ap, _∙_}
 use mathlib.Core.Bool.{Bool, true, false, _&&_}
-use mathlib.Core.List.{List, [], _∷_}
+use mathlib.Core.List.{List, []}
 use Prim.Native.Nat.{ℕ, zero, suc, _+_, _-_, _%_, _^_, _≤_, _<_, pred}
 use native.Mathlib.Omega.{arith}
 use lib.Dec.{eqb, ltb}
 use lib.ListN.{length, getD, List·getD-eq-default}
 use borrow.Author.Tests.{eqb-true, eqb-false, eq-eqb, ne-eqb, lt-ltb, ltb-true, ltb-false}
-use Rattle.model.specs.Outcome.{Cells, Cell, class, word}
+use Rattle.model.specs.Outcome.{word}
 use Rattle.model.specs.Tables.{Tab, names, types, constants, overrides, globals, exprs, codeT}
-use Rattle.model.specs.References.{Place, table, own, function, Target, copied, start, upto, ref, opt, targets, target, Node, node, refOf, carryW, through, undefined, add, undefinedAt, moved, alikeC}
+use Rattle.model.specs.References.{Place, table, own, function, Target, copied, start, upto, ref, opt, targets, target, refOf, carryW, through, undefined, add, undefinedAt, moved, alikeC}
 use Rattle.imports.specs.RecordLaws.{All, bareW}
 use Rattle.imports.specs.Kinds.{far-copied}
 use Rattle.laws.specs.Lists.{and-split}

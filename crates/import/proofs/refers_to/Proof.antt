@@ -1,6 +1,5 @@
 -- `refers_to` meets its contract: each return is one kind of class. Assumes nothing.
 use Rattle.import.proofs.Steps.{to-ref, to-zero, to-none, to-opt}
-use native.Mathlib.Omega.{arith}
 use borrow.Author.Needs.{needs}
 use Rattle.import.proofs.refers_to.Statement.{statement}
 use Rattle.import.proofs.refers_to.Tie as tie

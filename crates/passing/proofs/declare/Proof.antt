@@ -1,9 +1,6 @@
 -- `declare` meets its contract: at each turn the words that bring nothing are written, then one word has what it refers to, and is written. Assumes nothing.
-use mathlib.Core.Path.{refl, sym, _∙_}
 use Prim.Native.Nat.{_-_, _<_}
 use native.Mathlib.Omega.{arith}
-use lib.ListN.{getD}
-use Rattle.model.specs.References.{target}
 use Rattle.known.proofs.Bears.{bearing}
 use Rattle.passing.specs.Runs.{unites}
 use Rattle.passing.proofs.Running.{made-small}

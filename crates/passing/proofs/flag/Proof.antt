@@ -1,7 +1,5 @@
 -- `flag` meets its contract: a span is undefined where its start and the word behind it are 0. Assumes nothing.
-use mathlib.Core.Path.{ap, _∙_}
-use Prim.Native.Nat.{ℕ, _+_}
-use native.Mathlib.Omega.{arith}
+use mathlib.Core.Path.{_∙_}
 use lib.ListN.{getD}
 use borrow.Author.Needs.{needs}
 use Rattle.state.proofs.Classes.{undefined-other, undefined-both}

@@ -1,7 +1,6 @@
 -- `run` meets its contract: at each turn one word more is written, until one brings something or there is no room. Assumes nothing.
 use Prim.Native.Nat.{_-_}
 use native.Mathlib.Omega.{arith}
-use lib.ListN.{getD}
 use borrow.Author.Needs.{needs}
 use Rattle.making.specs.Stacks.{wentBy}
 use Rattle.passing.proofs.Quiets.{Onto, onto-begin, onto-done, onto-in, onto-fits, onto-next, numbers-low, is-ready}

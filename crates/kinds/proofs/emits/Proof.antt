@@ -1,8 +1,8 @@
--- `evaluated::emits` meets its contract. Assumes nothing.
-use Rattle.evaluated.proofs.Leaves.{emits-stands, emits-low, emits-rest}
+-- `kinds::emits` meets its contract. Assumes nothing.
+use Rattle.kinds.proofs.Ranges.{emits-stands, emits-low, emits-rest}
 use borrow.Author.Needs.{needs}
-use Rattle.evaluated.proofs.emits.Statement.{statement}
-use Rattle.evaluated.proofs.emits.Tie as tie
+use Rattle.kinds.proofs.emits.Statement.{statement}
+use Rattle.kinds.proofs.emits.Tie as tie
 
 stands-requires : tie.Need-stands-requires
 stands-requires c κs = search needs

@@ -1,8 +1,8 @@
--- `evaluated::stands` meets its contract. Assumes nothing.
-use Rattle.evaluated.proofs.Leaves.{stands-low, stands-mid, stands-rest}
+-- `kinds::stands` meets its contract. Assumes nothing.
+use Rattle.kinds.proofs.Ranges.{stands-low, stands-mid, stands-rest}
 use borrow.Author.Needs.{needs}
-use Rattle.evaluated.proofs.stands.Statement.{statement}
-use Rattle.evaluated.proofs.stands.Tie as tie
+use Rattle.kinds.proofs.stands.Statement.{statement}
+use Rattle.kinds.proofs.stands.Tie as tie
 
 returns : tie.Need-returns
 returns c = search (stands-low, needs)

@@ -1,8 +1,8 @@
--- `initial::constant` meets its contract. Assumes nothing.
-use Rattle.initial.proofs.Visiting.{constant-low, constant-gap, constant-mid, constant-derivative, constant-high}
+-- `kinds::constant` meets its contract. Assumes nothing.
+use Rattle.kinds.proofs.Ranges.{constant-low, constant-gap, constant-mid, constant-derivative, constant-high}
 use borrow.Author.Needs.{needs}
-use Rattle.initial.proofs.constant.Statement.{statement}
-use Rattle.initial.proofs.constant.Tie as tie
+use Rattle.kinds.proofs.constant.Statement.{statement}
+use Rattle.kinds.proofs.constant.Tie as tie
 
 returns : tie.Need-returns
 returns c = search (constant-low, needs)
