@@ -32,7 +32,7 @@ Exit status: 0, or 2 for misuse.
 /// The sizes in words; each is about twice the one before.
 const SIZES: [usize; 7] = [256, 512, 1024, 2048, 4096, 8192, 16_384];
 
-/// The words of a round over images that differ: more than a processor keeps branches of.
+/// About the words of a round over images that differ, so many that none comes again soon.
 const ROUND: usize = 262_144;
 
 /// The columns: what is measured, and its colour in the picture.
@@ -225,8 +225,8 @@ fn growth(rows: &[Row]) -> String {
     text
 }
 
-/// Rounds over generated images of about one size, each met once in a round: so a processor that learns the branches of an
-/// image that comes again and again learns nothing here, as where every image is linked once.
+/// Rounds over generated images of about one size, each met once in a round: what is learnt of an image's branches is
+/// of little use to the next one, as where every image is linked once.
 fn rounds(timing: &Timing) -> String {
     let mut text = String::from(
         "| images | words of all | intake | link | link, lent | link, plain |\n|---|---|---|---|---|---|\n",
