@@ -10,7 +10,7 @@ use Rattle.state.specs.declared.Ends.{Ends}
 use Rattle.state.proofs.State.{st-stays, kept-stays}
 use Rattle.state.proofs.Fresh.{rows-at}
 use Rattle.making.specs.Stacks.{Stacks}
-use Rattle.whole.specs.Taken.{TakenOver}
+use Rattle.whole.specs.Taken.{Restored}
 use Rattle.localize.specs.Localized.{Nests}
 use Rattle.functions.specs.Brought.{Brings}
 
@@ -20,7 +20,7 @@ stacks-empty stacks p e a b = rw p (record { four = length-replicate {A = List �
 
 module _ (words special log tags : List ℕ) (starts maps : List (List ℕ)) (marks : List ℕ) (stacks : List (List ℕ)) (e : Ends) (K : Kept log tags starts maps marks e) (S : Stacks stacks e)
     (ready : St → Type 0) (g : St → St) (r : Ends) (log′ tags′ : List ℕ) (s m : List (List ℕ)) (marks′ : List ℕ) (stacks′ : List (List ℕ)) (N : Nests words ready g log tags starts maps marks stacks e r log′ tags′ s m marks′ stacks′)
-    (starts′ maps′ : List (List ℕ)) (t : TakenOver (r .full) starts maps s m starts′ maps′) where
+    (starts′ maps′ : List (List ℕ)) (t : Restored (r .full) starts maps s m starts′ maps′) where
   pub brings-full : ready (stOf words log tags starts maps special e) → r .full ≡ true → (stacks″ : List (List ℕ)) → stacks″ ≡ replicate 4 (replicate 16384 0) → Brings words special g log tags starts maps e r log′ tags′ starts′ maps′ marks′ stacks″
   brings-full h f stacks″ p = record {
     over = λ q. N .over q special h;

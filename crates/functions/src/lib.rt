@@ -19,7 +19,7 @@ use state::nothing;
 use views::ENTRIES;
 use views::FUNCTIONS;
 use views::count;
-use whole::take_over;
+use whole::restore;
 use words::wide;
 ghost use mathlib.Core.Path.{_≡_};
 ghost use mathlib.Core.Bool.{true, false};
@@ -77,8 +77,8 @@ fn append_whole(
     requires { ⌜ ringing (f ∷ callees (function (modOf (now words) n) f)) (modOf (now words) n) (stOf (now words) (now log) (now classes) (now starts) (now maps) (now special) ends) ≡ false ⌝ }
     ensures { λ r. ⌜ Brings (now (words .entry)) (now (special .entry)) (appendS offset (modOf (now (words .entry)) n) (followS offset (modOf (now (words .entry)) n) room) f) (now (log .entry)) (now (classes .entry)) (now (starts .entry)) (now (maps .entry)) ends r (now (log .exit)) (now (classes .exit)) (now (starts .exit)) (now (maps .exit)) (now (marks .exit)) (now (stacks .exit)) ⌝ }
 {
-    let mut s = *starts;
-    let mut m = *maps;
+    let s = *starts;
+    let m = *maps;
     let mut places = [0u16; 1025];
     let got = append(
         words,
@@ -87,8 +87,8 @@ fn append_whole(
         n,
         log,
         classes,
-        &mut s,
-        &mut m,
+        starts,
+        maps,
         marks,
         stacks,
         &mut places,
@@ -97,7 +97,7 @@ fn append_whole(
         f,
         room,
     );
-    take_over(starts, maps, &s, &m, got.full);
+    restore(starts, maps, &s, &m, got.full);
     if got.full {
         empty(stacks);
         return got;
@@ -128,8 +128,8 @@ fn follow_whole(
     requires { ⌜ ringing (f ∷ []) (modOf (now words) n) (stOf (now words) (now log) (now classes) (now starts) (now maps) (now special) ends) ≡ false ⌝ }
     ensures { λ r. ⌜ Brings (now (words .entry)) (now (special .entry)) (followS offset (modOf (now (words .entry)) n) room f) (now (log .entry)) (now (classes .entry)) (now (starts .entry)) (now (maps .entry)) ends r (now (log .exit)) (now (classes .exit)) (now (starts .exit)) (now (maps .exit)) (now (marks .exit)) (now (stacks .exit)) ⌝ }
 {
-    let mut s = *starts;
-    let mut m = *maps;
+    let s = *starts;
+    let m = *maps;
     let mut places = [0u16; 1025];
     let got = follow(
         words,
@@ -138,8 +138,8 @@ fn follow_whole(
         n,
         log,
         classes,
-        &mut s,
-        &mut m,
+        starts,
+        maps,
         marks,
         stacks,
         &mut places,
@@ -150,7 +150,7 @@ fn follow_whole(
         0,
         0,
     );
-    take_over(starts, maps, &s, &m, got.full);
+    restore(starts, maps, &s, &m, got.full);
     if got.full {
         empty(stacks);
         return got;

@@ -14,7 +14,7 @@ use Rattle.state.specs.declared.Ends.{Ends}
 use Rattle.state.proofs.State.{tab-code, code-low, st-stays, kept-stays}
 use Rattle.state.proofs.Fresh.{forgotten, kept-forgotten}
 use Rattle.import.proofs.Sources.{count-is, few}
-use Rattle.whole.specs.Taken.{TakenOver}
+use Rattle.whole.specs.Taken.{Restored}
 use Rattle.sourcing.specs.Derives.{Derives, Sourced, SourceSet, Replaced}
 use Rattle.sourcing.proofs.Growing.{grow-pairs}
 use Rattle.sourcing.proofs.Going.{Going, going-first, going-next, going-full, going-last}
@@ -77,7 +77,7 @@ module _ (words tags : List ℕ) (n : ℕ) (src : Source words tags n) (o : ℕ)
 -- ---- copies that are taken over where it fits
 pub set-of : (words : List ℕ) (n o : ℕ) (log₀ classes₀ : List ℕ) (starts₀ maps₀ : List (List ℕ)) (marks₀ special₀ : List ℕ) (e : Ends) → Kept log₀ classes₀ starts₀ maps₀ marks₀ e → Specials special₀ e
     → (r : Ends) (log classes : List ℕ) (s m : List (List ℕ)) (marks p : List ℕ) → Sourced words n o log₀ classes₀ starts₀ marks₀ special₀ e r log classes s m marks p
-    → (starts maps : List (List ℕ)) → TakenOver (r .full) starts₀ maps₀ s m starts maps → (special : List ℕ) → Replaced (r .full) special₀ p special
+    → (starts maps : List (List ℕ)) → Restored (r .full) starts₀ maps₀ s m starts maps → (special : List ℕ) → Replaced (r .full) special₀ p special
     → SourceSet words n o log₀ classes₀ starts₀ maps₀ special₀ e r log classes starts maps marks special
 set-of words n o log₀ classes₀ starts₀ maps₀ marks₀ special₀ e K P r log classes s m marks p D starts maps t special c = record {
   over = λ q words₁. D .over q words₁ maps₀;

@@ -56,7 +56,7 @@ pub record SourceSet (words : List ℕ) (n o : ℕ) (log₀ tags₀ : List ℕ) 
   pub aside : r .full ≡ false → Aside starts₀ starts e r
   pub below : Same (e .used) log₀ tags₀ log tags
 
--- a copy of the special types that is taken over, or forgotten
-pub record Replaced (full : Bool) (special₀ copy special : List ℕ) : Type 0 where
+-- the special types as they were before, where something did not fit; else as they were made
+pub record Replaced (full : Bool) (special₀ made special : List ℕ) : Type 0 where
   pub stays : full ≡ true → special ≡ special₀
-  pub taken : full ≡ false → special ≡ copy
+  pub taken : full ≡ false → special ≡ made

@@ -10,7 +10,7 @@ use views::SPECIAL;
 use views::TYPES;
 use views::count;
 use views::pair_at;
-use whole::take_over;
+use whole::restore;
 use words::wide;
 ghost use mathlib.Core.Path.{_≡_};
 ghost use mathlib.Core.Bool.{true, false};
@@ -329,14 +329,13 @@ pub fn source_types(
     )
 }
 
-// The copy of the special types, unless something did not fit.
+// The special types as they were saved, where something did not fit.
 fn replace(special: &mut [u32; 1027], copy: &[u32; 1027], full: bool)
-    ensures { λ _. ⌜ Replaced full (now (special .entry)) (now (copy .entry)) (now (special .exit)) ⌝ }
+    ensures { λ _. ⌜ Replaced full (now (copy .entry)) (now (special .entry)) (now (special .exit)) ⌝ }
 {
     if full {
-        return;
+        *special = *copy;
     }
-    *special = *copy;
 }
 
 // A source is set, or nothing has changed.
@@ -361,9 +360,9 @@ pub fn set_source(
     requires { ⌜ Specials (now special) ends ⌝ }
     ensures { λ r. ⌜ SourceSet (now (words .entry)) n offset (now (log .entry)) (now (classes .entry)) (now (starts .entry)) (now (maps .entry)) (now (special .entry)) ends r (now (log .exit)) (now (classes .exit)) (now (starts .exit)) (now (maps .exit)) (now (marks .exit)) (now (special .exit)) ⌝ }
 {
-    let mut s = *starts;
-    let mut m = *maps;
-    let mut p = *special;
+    let s = *starts;
+    let m = *maps;
+    let p = *special;
     let got = source_types(
         words,
         tags,
@@ -371,14 +370,14 @@ pub fn set_source(
         n,
         log,
         classes,
-        &mut s,
-        &mut m,
+        starts,
+        maps,
         marks,
-        &mut p,
+        special,
         ends,
         offset,
     );
-    take_over(starts, maps, &s, &m, got.full);
+    restore(starts, maps, &s, &m, got.full);
     replace(special, &p, got.full);
     got
 }

@@ -7,17 +7,17 @@ use Rattle.model.specs.Imports.{St}
 use Rattle.state.specs.Held.{stOf, Kept, Beside, Lands, Whole}
 use Rattle.state.specs.declared.Ends.{Ends}
 use Rattle.state.proofs.State.{st-stays, kept-stays}
-use Rattle.whole.specs.Taken.{TakenOver}
+use Rattle.whole.specs.Taken.{Restored}
 
-pub taken-not : (full : Bool) (starts maps s m : List (List ℕ)) → full ≡ true → TakenOver full starts maps s m starts maps
-taken-not full starts maps s m q = record { stays = λ z. (refl, refl); taken = λ z. absurd (false≢true (sym z ∙ q)) }
+pub restored : (full : Bool) (starts maps s m : List (List ℕ)) → full ≡ true → Restored full starts maps s m starts maps
+restored full starts maps s m q = record { stays = λ z. (refl, refl); taken = λ z. absurd (false≢true (sym z ∙ q)) }
 
-pub taken-over : (full : Bool) (starts maps s m : List (List ℕ)) → full ≡ false → TakenOver full starts maps s m s m
-taken-over full starts maps s m q = record { stays = λ z. absurd (false≢true (sym q ∙ z)); taken = λ z. (refl, refl) }
+pub not-restored : (full : Bool) (starts maps s m : List (List ℕ)) → full ≡ false → Restored full starts maps s m s m
+not-restored full starts maps s m q = record { stays = λ z. absurd (false≢true (sym q ∙ z)); taken = λ z. (refl, refl) }
 
 pub whole-of : (words log₀ classes₀ : List ℕ) (starts₀ maps₀ : List (List ℕ)) (marks₀ : List ℕ) (e : Ends) → Kept log₀ classes₀ starts₀ maps₀ marks₀ e
     → (f : St → St) (r : Ends) (log classes : List ℕ) (s m : List (List ℕ)) (marks : List ℕ) → Lands words f log₀ classes₀ starts₀ maps₀ marks₀ e r log classes s m marks
-    → (starts maps : List (List ℕ)) → TakenOver (r .full) starts₀ maps₀ s m starts maps → Whole words f log₀ classes₀ starts₀ maps₀ e r log classes starts maps marks
+    → (starts maps : List (List ℕ)) → Restored (r .full) starts₀ maps₀ s m starts maps → Whole words f log₀ classes₀ starts₀ maps₀ e r log classes starts maps marks
 whole-of words log₀ classes₀ starts₀ maps₀ marks₀ e K f r log classes s m marks L starts maps t = record {
   over = L .over;
   stays = λ q. rw (t .stays q .0, t .stays q .1) (st-stays log₀ classes₀ log classes starts₀ maps₀ marks₀ marks e K (L .below) (L .log-long) (L .tags-long) (L .marks-stay) words, kept-stays log₀ classes₀ log classes starts₀ maps₀ marks₀ marks e K (L .below) (L .log-long) (L .tags-long) (L .marks-stay));

@@ -1,4 +1,4 @@
--- Copies of the starts and the maps that are taken over, or forgotten, and what an import answers. Assumes nothing: these are definitions.
+-- Starts and maps that are restored, or stay as they were made, and what an import answers. Assumes nothing: these are definitions.
 use mathlib.Core.Path.{_≡_}
 use mathlib.Core.Bool.{Bool, true, false}
 use mathlib.Core.List.{List}
@@ -9,7 +9,8 @@ use Rattle.state.specs.Refers.{tabOf}
 use Rattle.state.specs.Held.{stOf}
 use Rattle.state.specs.declared.Ends.{Ends}
 
-pub record TakenOver (full : Bool) (starts₀ maps₀ s m starts maps : List (List ℕ)) : Type 0 where
+-- as they were before, starts₀ and maps₀, where something did not fit; else as they were made, s and m
+pub record Restored (full : Bool) (starts₀ maps₀ s m starts maps : List (List ℕ)) : Type 0 where
   pub stays : full ≡ true → (starts ≡ starts₀) × (maps ≡ maps₀)
   pub taken : full ≡ false → (starts ≡ s) × (maps ≡ m)
 

@@ -1,6 +1,6 @@
-// The imports as operations of a session: where the result does not fit, nothing has changed. The starts of records and the maps are copied, and the
-// copies are taken over only where it fits. What was written lies behind the log's end, and a mark that was left costs a search at most. What an import
-// answers is the number that the maps have then.
+// The imports as operations of a session: where the result does not fit, nothing has changed. The starts of records and the maps are saved before, and
+// restored where it does not fit. What was written lies behind the log's end, and a mark that was left costs a search at most. What an import answers is
+// the number that the maps have then.
 use handles::ConstantHandle;
 use handles::ExpressionHandle;
 use handles::GlobalHandle;
@@ -17,23 +17,22 @@ ghost use Rattle.model.specs.Imports.{importT, renamed};
 ghost use Rattle.state.specs.Refers.{kindBytes};
 ghost use Rattle.state.specs.Source.{srcOf, Source};
 ghost use Rattle.state.specs.Held.{Kept, Whole};
-ghost use Rattle.whole.specs.Taken.{TakenOver, Answers};
+ghost use Rattle.whole.specs.Taken.{Restored, Answers};
 
-// The copies, unless something did not fit.
-pub fn take_over(
+// Starts and maps as they were saved, where something did not fit.
+pub fn restore(
     starts: &mut [[u32; 512]; 8],
     maps: &mut [[u32; 512]; 6],
     s: &[[u32; 512]; 8],
     m: &[[u32; 512]; 6],
     full: bool,
 )
-    ensures { λ _. ⌜ TakenOver full (now (starts .entry)) (now (maps .entry)) (now (s .entry)) (now (m .entry)) (now (starts .exit)) (now (maps .exit)) ⌝ }
+    ensures { λ _. ⌜ Restored full (now (s .entry)) (now (m .entry)) (now (starts .entry)) (now (maps .entry)) (now (starts .exit)) (now (maps .exit)) ⌝ }
 {
     if full {
-        return;
+        *starts = *s;
+        *maps = *m;
     }
-    *starts = *s;
-    *maps = *m;
 }
 
 // The derived number that number h of table t is mapped to.
@@ -69,8 +68,8 @@ pub fn import_type(
     requires { ⌜ Kept (now log) (now classes) (now starts) (now maps) (now marks) ends ⌝ }
     ensures { λ r. ⌜ Whole (now (words .entry)) (importT offset (srcOf (now (words .entry)) n) types (h .0)) (now (log .entry)) (now (classes .entry)) (now (starts .entry)) (now (maps .entry)) ends r (now (log .exit)) (now (classes .exit)) (now (starts .exit)) (now (maps .exit)) (now (marks .exit)) ⌝ }
 {
-    let mut s = *starts;
-    let mut m = *maps;
+    let s = *starts;
+    let m = *maps;
     let got = import::import_type(
         words,
         tags,
@@ -78,14 +77,14 @@ pub fn import_type(
         n,
         log,
         classes,
-        &mut s,
-        &mut m,
+        starts,
+        maps,
         marks,
         ends,
         offset,
         h,
     );
-    take_over(starts, maps, &s, &m, got.full);
+    restore(starts, maps, &s, &m, got.full);
     got
 }
 
@@ -111,8 +110,8 @@ pub fn rename_type(
     requires { ⌜ Kept (now log) (now classes) (now starts) (now maps) (now marks) ends ⌝ }
     ensures { λ r. ⌜ Whole (now (words .entry)) (importT offset (renamed (srcOf (now (words .entry)) n) (h .0) name) types (h .0)) (now (log .entry)) (now (classes .entry)) (now (starts .entry)) (now (maps .entry)) ends r (now (log .exit)) (now (classes .exit)) (now (starts .exit)) (now (maps .exit)) (now (marks .exit)) ⌝ }
 {
-    let mut s = *starts;
-    let mut m = *maps;
+    let s = *starts;
+    let m = *maps;
     let got = import::rename_type(
         words,
         tags,
@@ -120,15 +119,15 @@ pub fn rename_type(
         n,
         log,
         classes,
-        &mut s,
-        &mut m,
+        starts,
+        maps,
         marks,
         ends,
         offset,
         h,
         name,
     );
-    take_over(starts, maps, &s, &m, got.full);
+    restore(starts, maps, &s, &m, got.full);
     got
 }
 
@@ -153,8 +152,8 @@ pub fn import_const(
     requires { ⌜ Kept (now log) (now classes) (now starts) (now maps) (now marks) ends ⌝ }
     ensures { λ r. ⌜ Whole (now (words .entry)) (importT offset (srcOf (now (words .entry)) n) constants (h .0)) (now (log .entry)) (now (classes .entry)) (now (starts .entry)) (now (maps .entry)) ends r (now (log .exit)) (now (classes .exit)) (now (starts .exit)) (now (maps .exit)) (now (marks .exit)) ⌝ }
 {
-    let mut s = *starts;
-    let mut m = *maps;
+    let s = *starts;
+    let m = *maps;
     let got = constants::import_const(
         words,
         tags,
@@ -162,14 +161,14 @@ pub fn import_const(
         n,
         log,
         classes,
-        &mut s,
-        &mut m,
+        starts,
+        maps,
         marks,
         ends,
         offset,
         h,
     );
-    take_over(starts, maps, &s, &m, got.full);
+    restore(starts, maps, &s, &m, got.full);
     got
 }
 
@@ -194,8 +193,8 @@ pub fn import_pipeline_override(
     requires { ⌜ Kept (now log) (now classes) (now starts) (now maps) (now marks) ends ⌝ }
     ensures { λ r. ⌜ Whole (now (words .entry)) (importT offset (srcOf (now (words .entry)) n) overrides (h .0)) (now (log .entry)) (now (classes .entry)) (now (starts .entry)) (now (maps .entry)) ends r (now (log .exit)) (now (classes .exit)) (now (starts .exit)) (now (maps .exit)) (now (marks .exit)) ⌝ }
 {
-    let mut s = *starts;
-    let mut m = *maps;
+    let s = *starts;
+    let m = *maps;
     let got = constants::import_pipeline_override(
         words,
         tags,
@@ -203,14 +202,14 @@ pub fn import_pipeline_override(
         n,
         log,
         classes,
-        &mut s,
-        &mut m,
+        starts,
+        maps,
         marks,
         ends,
         offset,
         h,
     );
-    take_over(starts, maps, &s, &m, got.full);
+    restore(starts, maps, &s, &m, got.full);
     got
 }
 
@@ -235,8 +234,8 @@ pub fn import_global(
     requires { ⌜ Kept (now log) (now classes) (now starts) (now maps) (now marks) ends ⌝ }
     ensures { λ r. ⌜ Whole (now (words .entry)) (importT offset (srcOf (now (words .entry)) n) globals (h .0)) (now (log .entry)) (now (classes .entry)) (now (starts .entry)) (now (maps .entry)) ends r (now (log .exit)) (now (classes .exit)) (now (starts .exit)) (now (maps .exit)) (now (marks .exit)) ⌝ }
 {
-    let mut s = *starts;
-    let mut m = *maps;
+    let s = *starts;
+    let m = *maps;
     let got = constants::import_global(
         words,
         tags,
@@ -244,14 +243,14 @@ pub fn import_global(
         n,
         log,
         classes,
-        &mut s,
-        &mut m,
+        starts,
+        maps,
         marks,
         ends,
         offset,
         h,
     );
-    take_over(starts, maps, &s, &m, got.full);
+    restore(starts, maps, &s, &m, got.full);
     got
 }
 
@@ -276,8 +275,8 @@ pub fn import_global_expression(
     requires { ⌜ Kept (now log) (now classes) (now starts) (now maps) (now marks) ends ⌝ }
     ensures { λ r. ⌜ Whole (now (words .entry)) (importT offset (srcOf (now (words .entry)) n) exprs (h .0)) (now (log .entry)) (now (classes .entry)) (now (starts .entry)) (now (maps .entry)) ends r (now (log .exit)) (now (classes .exit)) (now (starts .exit)) (now (maps .exit)) (now (marks .exit)) ⌝ }
 {
-    let mut s = *starts;
-    let mut m = *maps;
+    let s = *starts;
+    let m = *maps;
     let got = constants::import_global_expression(
         words,
         tags,
@@ -285,13 +284,13 @@ pub fn import_global_expression(
         n,
         log,
         classes,
-        &mut s,
-        &mut m,
+        starts,
+        maps,
         marks,
         ends,
         offset,
         h,
     );
-    take_over(starts, maps, &s, &m, got.full);
+    restore(starts, maps, &s, &m, got.full);
     got
 }

@@ -9,16 +9,16 @@ use Rattle.whole.proofs.import_global.Lts as lts
 import-global-requires : tie.Need-import-global-requires
 import-global-requires c κs = search needs
 
-take-over-requires : tie.Need-take-over-requires
-take-over-requires c κs = search needs
+restore-requires : tie.Need-restore-requires
+restore-requires c κs = search needs
 
 returns : tie.Need-returns
-returns c = let a = (c .before .before .before .before .before .before .before .before .before .before .before .before .before .args) in let K = c .before .before .before .before .before .before .before .before .before .before .before .before .before .pre .1 .1 .1 in whole-of (a .words .now) (a .log .now) (a .classes .now) (a .starts .now) (a .maps .now) (a .marks .now) (a .ends) K _ _ _ _ _ _ _ (c .before .before .before .before .before .import-global .ensures) _ _ (c .take-over .ensures)
+returns c = let a = (c .before .before .before .before .before .before .before .before .before .before .before .before .before .args) in let K = c .before .before .before .before .before .before .before .before .before .before .before .before .before .pre .1 .1 .1 in whole-of (a .words .now) (a .log .now) (a .classes .now) (a .starts .now) (a .maps .now) (a .marks .now) (a .ends) K _ _ _ _ _ _ _ (c .before .before .before .before .before .import-global .ensures) _ _ (c .restore .ensures)
 
 pub import-global-spec : {M : Type 1} → statement M
 import-global-spec =
     tie.close
     (tie.spec
     import-global-requires
-    take-over-requires
+    restore-requires
     returns)

@@ -9,16 +9,16 @@ use Rattle.whole.proofs.import_global_expression.Lts as lts
 import-global-expression-requires : tie.Need-import-global-expression-requires
 import-global-expression-requires c κs = search needs
 
-take-over-requires : tie.Need-take-over-requires
-take-over-requires c κs = search needs
+restore-requires : tie.Need-restore-requires
+restore-requires c κs = search needs
 
 returns : tie.Need-returns
-returns c = let a = (c .before .before .before .before .before .before .before .before .before .before .before .before .before .args) in let K = c .before .before .before .before .before .before .before .before .before .before .before .before .before .pre .1 .1 .1 in whole-of (a .words .now) (a .log .now) (a .classes .now) (a .starts .now) (a .maps .now) (a .marks .now) (a .ends) K _ _ _ _ _ _ _ (c .before .before .before .before .before .import-global-expression .ensures) _ _ (c .take-over .ensures)
+returns c = let a = (c .before .before .before .before .before .before .before .before .before .before .before .before .before .args) in let K = c .before .before .before .before .before .before .before .before .before .before .before .before .before .pre .1 .1 .1 in whole-of (a .words .now) (a .log .now) (a .classes .now) (a .starts .now) (a .maps .now) (a .marks .now) (a .ends) K _ _ _ _ _ _ _ (c .before .before .before .before .before .import-global-expression .ensures) _ _ (c .restore .ensures)
 
 pub import-global-expression-spec : {M : Type 1} → statement M
 import-global-expression-spec =
     tie.close
     (tie.spec
     import-global-expression-requires
-    take-over-requires
+    restore-requires
     returns)
