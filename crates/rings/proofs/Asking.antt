@@ -11,11 +11,11 @@ use lib.Seq.{drop-cons}
 use borrow.Author.Tests.{eqb-true, eq-eqb}
 use Rattle.model.specs.Table.{CALLEE}
 use Rattle.model.specs.Tree.{Function, Entry}
-use Rattle.model.specs.Module.{Module, countAt}
+use Rattle.model.specs.Module.{countAt}
 use Rattle.model.specs.View.{recordAt, recordEnd}
 use Rattle.model.specs.FunctionView.{ENTRY-HEAD}
 use Rattle.model.specs.Carry.{Each, each-none, each-next}
-use Rattle.model.specs.Calls.{In, any}
+use Rattle.model.specs.Calls.{any}
 use Rattle.model.specs.Callees.{callees}
 use Rattle.model.specs.Redirect.{nothing, function}
 use Rattle.model.specs.Session.{calleesOf}
@@ -90,6 +90,13 @@ module _ {words tags : List ℕ} {at end m : ℕ} (p : ℕ → Bool) (S : Scanna
         pub miss : p w ≡ false → Asking words tags at end m p (j + 1)
         miss f = record { high = omega arith; known = tail-of (rw (picked-one words tags j end h a b e) at (s .known)); rest = rw f at cut }
 
+wider : {a b : ℕ} → a ≤ b → {l : List ℕ} → Each (λ j. j < a) l → Each (λ j. j < b) l
+wider h each-none = each-none
+wider h (each-next {a = x} p ps) = each-next {a = x} (omega arith) (wider h ps)
+
+pub widened : {words tags : List ℕ} {at end a b : ℕ} → a ≤ b → Scannable words tags at end a → Scannable words tags at end b
+widened h s = record { words-long = s .words-long; tags-long = s .tags-long; rising = s .rising; within = s .within; known = wider h (s .known) }
+
 -- ---- functions
 module _ (words tags : List ℕ) (n : ℕ) (src : Source words tags n) (f : ℕ) (hf : f < countAt 6 words) (from to : ℕ) (hb : from ≡ recordAt 6 f words) (ht : to ≡ recordEnd 6 f words) where
   abbrev fs : List Function
@@ -130,27 +137,23 @@ any-append p (x ∷ xs) ys = go (p x) (any-append p xs ys)
     go true e = refl
     go false e = e
 
-pub record Looking (es : List Entry) (set : List ℕ) (j : ℕ) : Type 0 where
+pub record Looking (es : List Entry) (p : ℕ → Bool) (j : ℕ) : Type 0 where
   pub high : j ≤ length es
-  pub rest : any (calleesOf (drop j es)) (isOf set) ≡ any (calleesOf es) (isOf set)
+  pub rest : any (calleesOf (drop j es)) p ≡ any (calleesOf es) p
 
-pub look : (es : List Entry) (set : List ℕ) → Looking es set 0
-look es set = record { high = omega arith; rest = refl }
+pub look : (es : List Entry) (p : ℕ → Bool) → Looking es p 0
+look es p = record { high = omega arith; rest = refl }
 
-wider : {a b : ℕ} → a ≤ b → {l : List ℕ} → Each (λ j. j < a) l → Each (λ j. j < b) l
-wider h each-none = each-none
-wider h (each-next {a = x} p ps) = each-next {a = x} (omega arith) (wider h ps)
-
-module _ (words tags : List ℕ) (n : ℕ) (src : Source words tags n) (set : List ℕ) where
+module _ {words tags : List ℕ} {n : ℕ} (src : Source words tags n) where
   abbrev es : List Entry
   es = modOf words n .entries
 
   many : countAt 7 words ≡ length es
   many = taped-entries (src .taped)
 
-  pub none-left : (c j : ℕ) → c ≡ countAt 7 words → Looking es set j → c ≤ j → false ≡ any (calleesOf es) (isOf set)
+  pub none-left : {c j : ℕ} {p : ℕ → Bool} → c ≡ countAt 7 words → Looking es p j → c ≤ j → false ≡ any (calleesOf es) p
   unfolding calleesOf any
-  none-left c j hc l h = let e : drop j es ≡ [] = past es j (omega (arith, many)) in rw e at (l .rest)
+  none-left {j = j} hc l h = let e : drop j es ≡ [] = past es j (omega (arith, many)) in rw e at (l .rest)
     where
       past : (xs : List Entry) (i : ℕ) → length xs ≤ i → drop i xs ≡ []
       past [] zero h = refl
@@ -158,7 +161,7 @@ module _ (words tags : List ℕ) (n : ℕ) (src : Source words tags n) (set : Li
       past (x ∷ xs) zero h = absurd (omega arith)
       past (x ∷ xs) (suc i) h = past xs i (omega arith)
 
-  module _ (c j : ℕ) (hc : c ≡ countAt 7 words) (l : Looking es set j) (h : j < c) where
+  module _ {c j : ℕ} (hc : c ≡ countAt 7 words) (h : j < c) where
     pub entry-in : j < countAt 7 words
     entry-in = omega arith
 
@@ -168,14 +171,14 @@ module _ (words tags : List ℕ) (n : ℕ) (src : Source words tags n) (set : Li
     inside : j < length es
     inside = omega (arith, many)
 
-    module _ (from to : ℕ) (hf : from ≡ recordAt 7 j words + ENTRY-HEAD) (ht : to ≡ recordEnd 7 j words) where
+    module _ {from to : ℕ} (hf : from ≡ recordAt 7 j words + ENTRY-HEAD) (ht : to ≡ recordEnd 7 j words) where
       called : picked words tags from to ≡ callees (here .function)
       unfolding picked
       called =
           let s = taped-entry (src .taped) j here (looked-at es j noEntry inside) in
           rw (hf, ht) (ap₂ picks (part-tags (s .held) (s .part)) (part-words (s .held) (s .part)) ∙ cells-function (s .well))
 
-      pub scannable : Scannable words tags from to 256
+      pub scannable : Scannable words tags from to (countAt 6 words)
       scannable =
           let s = taped-entry (src .taped) j here (looked-at es j noEntry inside) .part in
           let k = each-at (entries-known (modOf words n) (src .taped .well) (src .three)) j noEntry inside in
@@ -184,20 +187,20 @@ module _ (words tags : List ℕ) (n : ℕ) (src : Source words tags n) (set : Li
             tags-long = src .taped .tags-long;
             rising = rw (hf, ht) (s .rising);
             within = omega (arith, s .within, taped-length (src .taped), src .taped .small, ht);
-            known = rw called (wider (src .taped .well .functions-ok .few) k);
+            known = rw (called, taped-functions (src .taped)) k;
           }
 
-      module _ (r : Bool) (re : r ≡ any (picked words tags from to) (isOf set)) where
-        split : cond r true (any (calleesOf (drop (j + 1) es)) (isOf set)) ≡ any (calleesOf es) (isOf set)
+      module _ {p : ℕ → Bool} (l : Looking es p j) {r : Bool} (re : r ≡ any (picked words tags from to) p) where
+        split : cond r true (any (calleesOf (drop (j + 1) es)) p) ≡ any (calleesOf es) p
         unfolding calleesOf
         split =
-            ap (λ b. cond b true (any (calleesOf (drop (j + 1) es)) (isOf set))) (re ∙ ap (λ l. any l (isOf set)) called)
-            ∙ sym (any-append (isOf set) (callees (here .function)) (calleesOf (drop (j + 1) es)))
-            ∙ ap (λ l. any (calleesOf l) (isOf set)) (sym (drop-cons es j noEntry inside ∙ ap (λ i. here ∷ drop i es) (sym (add-one j))))
+            ap (λ b. cond b true (any (calleesOf (drop (j + 1) es)) p)) (re ∙ ap (λ l. any l p) called)
+            ∙ sym (any-append p (callees (here .function)) (calleesOf (drop (j + 1) es)))
+            ∙ ap (λ l. any (calleesOf l) p) (sym (drop-cons es j noEntry inside ∙ ap (λ i. here ∷ drop i es) (sym (add-one j))))
             ∙ l .rest
 
-        pub entry-hit : r ≡ true → true ≡ any (calleesOf es) (isOf set)
+        pub entry-hit : r ≡ true → true ≡ any (calleesOf es) p
         entry-hit e = rw e at split
 
-        pub entry-miss : r ≡ false → Looking es set (j + 1)
+        pub entry-miss : r ≡ false → Looking es p (j + 1)
         entry-miss e = record { high = omega (arith, inside); rest = rw e at split }

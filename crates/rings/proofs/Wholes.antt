@@ -107,29 +107,34 @@ module _ (words : List ℕ) (n : ℕ) (log classes : List ℕ) (starts : List (L
             absurd (h (a .0) (a .1) (rw (eqb-true (a .0) (b .0) (b .2)) (b .1)))
         go (inr t) = sym t
 
-  module _ (tags : List ℕ) (src : Source words tags n) (f : ℕ) (hf : f < countAt 6 words) where
-    pub known-free : isUnknown f ≡ false → Rings (f ∷ []) words n log classes starts e false
-    known-free h = record { is = λ maps special. none-of tags src maps special (f ∷ []) (only maps special) }
-      where
-        only : (maps : List (List ℕ)) (special : List ℕ) (i : ℕ) → In i (f ∷ []) → In i (stuck (modOf words n) (stOf words log classes starts maps special e)) → ⊥
-        only maps special i here k = false≢true (sym h ∙ stuck-unknown tags src maps special f k)
+  module _ (tags : List ℕ) (src : Source words tags n) where
+    -- none of js is stuck, with any maps and special types
+    abbrev Free : List ℕ → Type 0
+    Free js = (maps : List (List ℕ)) (special : List ℕ) (i : ℕ) → In i js → In i (stuck (modOf words n) (stOf words log classes starts maps special e)) → ⊥
 
-    module _ (b : Bool) (hb : b ≡ any (callees (function (modOf words n) f)) isUnknown) (no : b ≡ false) where
-      free-itself : (maps : List (List ℕ)) (special : List ℕ) → In f (stuck (modOf words n) (stOf words log classes starts maps special e)) → ⊥
-      free-itself maps special k = false≢true (sym no ∙ hb ∙ stuck-leads tags src maps special f hf k)
+    free-not : (js : List ℕ) → Free js → Rings js words n log classes starts e false
+    free-not js h = record { is = λ maps special. none-of tags src maps special js (h maps special) }
 
-      pub leads-not : Rings (f ∷ []) words n log classes starts e false
-      leads-not = record { is = λ maps special. none-of tags src maps special (f ∷ []) (only maps special) }
-        where
-          only : (maps : List (List ℕ)) (special : List ℕ) (i : ℕ) → In i (f ∷ []) → In i (stuck (modOf words n) (stOf words log classes starts maps special e)) → ⊥
-          only maps special i here k = free-itself maps special k
+    known-all : (js : List ℕ) → any js isUnknown ≡ false → Free js
+    known-all js h maps special i m k = false≢true (sym h ∙ in-any isUnknown m (stuck-unknown tags src maps special i k))
 
-      pub calls-not : Rings (f ∷ callees (function (modOf words n) f)) words n log classes starts e false
-      calls-not = record { is = λ maps special. none-of tags src maps special (f ∷ callees (function (modOf words n) f)) (only maps special) }
-        where
-          only : (maps : List (List ℕ)) (special : List ℕ) (i : ℕ) → In i (f ∷ callees (function (modOf words n) f)) → In i (stuck (modOf words n) (stOf words log classes starts maps special e)) → ⊥
-          only maps special i here k = free-itself maps special k
-          only maps special i (later m) k = false≢true (sym no ∙ hb ∙ in-any isUnknown m (stuck-unknown tags src maps special i k))
+    pub entries-not : (js : List ℕ) (b : Bool) → b ≡ any js isUnknown → b ≡ false → Rings js words n log classes starts e false
+    entries-not js b hb t = free-not js (known-all js (sym hb ∙ t))
+
+    module _ (f : ℕ) (hf : f < countAt 6 words) where
+      pub known-free : isUnknown f ≡ false → Rings (f ∷ []) words n log classes starts e false
+      known-free h = free-not (f ∷ []) (known-all (f ∷ []) (unfold any in rw h refl))
+
+      module _ (b : Bool) (hb : b ≡ any (callees (function (modOf words n) f)) isUnknown) (no : b ≡ false) where
+        free-itself : (js : List ℕ) → Free js → Free (f ∷ js)
+        free-itself js h maps special i here k = false≢true (sym no ∙ hb ∙ stuck-leads tags src maps special f hf k)
+        free-itself js h maps special i (later m) k = h maps special i m k
+
+        pub leads-not : Rings (f ∷ []) words n log classes starts e false
+        leads-not = free-not (f ∷ []) (free-itself [] (known-all [] (unfold any in refl)))
+
+        pub calls-not : Rings (f ∷ callees (function (modOf words n) f)) words n log classes starts e false
+        calls-not = free-not (f ∷ callees (function (modOf words n) f)) (free-itself (callees (function (modOf words n) f)) (known-all (callees (function (modOf words n) f)) (sym hb ∙ no)))
 
   module _ (tags : List ℕ) (src : Source words tags n) (cs : List ℕ) (g : Gathered words tags n cs) where
     -- ---- the stuck ones

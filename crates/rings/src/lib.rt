@@ -255,6 +255,36 @@ pub fn follow_rings(
     has(&set, f)
 }
 
+// Whether the function of an entry point calls one of unknown name.
+fn entries_lead(
+    words: &[u32; 16384],
+    tags: &[u8; 16384],
+    n: usize,
+    log: &[u32; 16384],
+    classes: &[u8; 16384],
+    starts: &[[u32; 512]; 8],
+    maps: &[[u32; 512]; 6],
+    ends: Ends,
+) -> bool
+    requires { ⌜ Source (now words) (now tags) n ⌝ }
+    requires { ⌜ named (modOf (now words) n) ≡ true ⌝ }
+    requires { ⌜ Bearing (now log) (now classes) (now starts) ends ⌝ }
+    ensures { λ r. ⌜ r ≡ any (calleesOfAll (modOf (now (words .entry)) n .entries)) (unknownBy (now (words .entry)) n (now (log .entry)) (now (classes .entry)) (now (starts .entry)) ends) ⌝ }
+{
+    let entries = count(words, ENTRIES);
+    let mut j = 0;
+    while j < entries {
+        let e = j;
+        j += 1;
+        let at = entry_function(words, tags, n, e);
+        let end = record_end(words, tags, n, ENTRIES, e);
+        if calls_unknown(words, tags, n, log, classes, starts, maps, ends, at, end) {
+            return true;
+        }
+    }
+    false
+}
+
 // Refusal 22 of finishing with entry points: a function that one of them calls is stuck.
 pub fn entries_ring(
     words: &[u32; 16384],
@@ -271,6 +301,9 @@ pub fn entries_ring(
     requires { ⌜ Bearing (now log) (now classes) (now starts) ends ⌝ }
     ensures { λ r. ⌜ Rings (calleesOfAll (modOf (now (words .entry)) n .entries)) (now (words .entry)) n (now (log .entry)) (now (classes .entry)) (now (starts .entry)) ends r ⌝ }
 {
+    if !entries_lead(words, tags, n, log, classes, starts, maps, ends) {
+        return false;
+    }
     let mut callees = clear();
     gather(words, tags, n, &mut callees);
     let set = stuck(words, tags, n, log, classes, starts, maps, ends, &callees);

@@ -4,12 +4,13 @@ use native.Mathlib.Omega.{arith}
 use borrow.Author.Needs.{needs}
 use Rattle.state.specs.Source.{modOf}
 use Rattle.import.proofs.Sources.{tape}
-use Rattle.rings.proofs.Asking.{Looking, look, entry-in, scannable, entry-hit, entry-miss, none-left}
+use Rattle.rings.proofs.Wholes.{few}
+use Rattle.rings.proofs.Asking.{isOf, widened, Looking, look, entry-in, scannable, entry-hit, entry-miss, none-left}
 use Rattle.rings.proofs.entries_call.Statement.{statement}
 use Rattle.rings.proofs.entries_call.Tie as tie
 
 abbrev Inv-loop : tie.InvT-loop
-Inv-loop words tags n set entries j₀ j = Looking (modOf words n .entries) set j
+Inv-loop words tags n set entries j₀ j = Looking (modOf words n .entries) (isOf set) j
 
 abbrev μ-loop : tie.MeasureT-loop
 μ-loop words tags n set entries j₀ j = entries - j
@@ -24,25 +25,25 @@ add-j : tie.Need-add-j Inv-loop μ-loop
 add-j c = search needs
 
 entry-function-requires : tie.Need-entry-function-requires Inv-loop μ-loop
-entry-function-requires c κs = (tape (c .before .before .before .args .words .now) (c .before .before .before .args .tags .now) (c .before .before .before .args .n) (c .before .before .before .pre), entry-in (c .before .before .before .args .words .now) (c .before .before .before .args .tags .now) (c .before .before .before .args .n) (c .before .before .before .pre) (c .before .before .before .args .set .now) _ _ (c .before .before .count .ensures .0) (c .before .loop .inv) (c .loop-test .taken))
+entry-function-requires c κs = let a = c .before .before .before .args in let p = c .before .before .before .pre in (tape (a .words .now) (a .tags .now) (a .n) (p), entry-in p (c .before .before .count .ensures .0) (c .loop-test .taken))
 
 record-end-requires : tie.Need-record-end-requires Inv-loop μ-loop
-record-end-requires c κs = (tape (c .before .before .before .before .args .words .now) (c .before .before .before .before .args .tags .now) (c .before .before .before .before .args .n) (c .before .before .before .before .pre), (omega arith, entry-in (c .before .before .before .before .args .words .now) (c .before .before .before .before .args .tags .now) (c .before .before .before .before .args .n) (c .before .before .before .before .pre) (c .before .before .before .before .args .set .now) _ _ (c .before .before .before .count .ensures .0) (c .before .before .loop .inv) (c .before .loop-test .taken)))
+record-end-requires c κs = let a = c .before .before .before .before .args in let p = c .before .before .before .before .pre in (tape (a .words .now) (a .tags .now) (a .n) (p), (omega arith, entry-in p (c .before .before .before .count .ensures .0) (c .before .loop-test .taken)))
 
 calls-one-requires : tie.Need-calls-one-requires Inv-loop μ-loop
-calls-one-requires c κs = scannable (c .before .before .before .before .before .args .words .now) (c .before .before .before .before .before .args .tags .now) (c .before .before .before .before .before .args .n) (c .before .before .before .before .before .pre) (c .before .before .before .before .before .args .set .now) _ _ (c .before .before .before .before .count .ensures .0) (c .before .before .before .loop .inv) (c .before .before .loop-test .taken) _ _ (c .before .entry-function .ensures) (c .record-end .ensures)
+calls-one-requires c κs = let p = c .before .before .before .before .before .pre in widened (few p) (scannable p (c .before .before .before .before .count .ensures .0) (c .before .before .loop-test .taken) (c .before .entry-function .ensures) (c .record-end .ensures))
 
 returns : tie.Need-returns Inv-loop μ-loop
-returns c = entry-hit (c .before .before .before .before .before .before .before .args .words .now) (c .before .before .before .before .before .before .before .args .tags .now) (c .before .before .before .before .before .before .before .args .n) (c .before .before .before .before .before .before .before .pre) (c .before .before .before .before .before .before .before .args .set .now) _ _ (c .before .before .before .before .before .before .count .ensures .0) (c .before .before .before .before .before .loop .inv) (c .before .before .before .before .loop-test .taken) _ _ (c .before .before .before .entry-function .ensures) (c .before .before .record-end .ensures) _ (c .before .calls-one .ensures) (c .if1 .taken)
+returns c = entry-hit (c .before .before .before .before .before .before .before .pre) (c .before .before .before .before .before .before .count .ensures .0) (c .before .before .before .before .loop-test .taken) (c .before .before .before .entry-function .ensures) (c .before .before .record-end .ensures) (c .before .before .before .before .before .loop .inv) (c .before .calls-one .ensures) (c .if1 .taken)
 
 loop-less : tie.Need-loop-less Inv-loop μ-loop
 loop-less c = search needs
 
 loop-again : tie.Need-loop-again Inv-loop μ-loop
-loop-again c = entry-miss (c .before .before .before .before .before .before .before .args .words .now) (c .before .before .before .before .before .before .before .args .tags .now) (c .before .before .before .before .before .before .before .args .n) (c .before .before .before .before .before .before .before .pre) (c .before .before .before .before .before .before .before .args .set .now) _ _ (c .before .before .before .before .before .before .count .ensures .0) (c .before .before .before .before .before .loop .inv) (c .before .before .before .before .loop-test .taken) _ _ (c .before .before .before .entry-function .ensures) (c .before .before .record-end .ensures) _ (c .before .calls-one .ensures) (c .if1 .left)
+loop-again c = entry-miss (c .before .before .before .before .before .before .before .pre) (c .before .before .before .before .before .before .count .ensures .0) (c .before .before .before .before .loop-test .taken) (c .before .before .before .entry-function .ensures) (c .before .before .record-end .ensures) (c .before .before .before .before .before .loop .inv) (c .before .calls-one .ensures) (c .if1 .left)
 
 returns-2 : tie.Need-returns-2 Inv-loop μ-loop
-returns-2 c = none-left (c .before .before .before .args .words .now) (c .before .before .before .args .tags .now) (c .before .before .before .args .n) (c .before .before .before .pre) (c .before .before .before .args .set .now) _ _ (c .before .before .count .ensures .0) (c .before .loop .inv) (c .loop-test .left)
+returns-2 c = none-left (c .before .before .before .pre) (c .before .before .count .ensures .0) (c .before .loop .inv) (c .loop-test .left)
 
 pub entries-call-spec : {M : Type 1} → statement M
 entries-call-spec =
