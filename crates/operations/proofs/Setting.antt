@@ -1,7 +1,7 @@
 -- What setting a source does to a session whose state the arrays hold: intake's refusals, 21 exactly where it is full, else the session with that source; and the
 -- arrays hold the session that is left. Assumes nothing.
 use mathlib.Core.Path.{_≡_, refl, sym, ap, _∙_, subst}
-use mathlib.Core.Bool.{Bool, true, false}
+use mathlib.Core.Bool.{Bool, true, false, false≢true}
 use mathlib.Core.List.{List, []}
 use mathlib.Core.Option.{none, some}
 use Prim.Native.Nat.{ℕ, suc}
@@ -42,6 +42,27 @@ session-same : (set : Bool) (n o : ℕ) (words log tags log′ tags′ : List �
 unfolding sessionOf
 session-same true n o words log tags log′ tags′ starts maps starts′ maps′ special special′ e h = ap (λ (s : St). record { source = some (record { image = modOf words n; offset = o }); state = s }) h
 session-same false n o words log tags log′ tags′ starts maps starts′ maps′ special special′ e h = ap (λ (s : St). record { source = none; state = emptied (six (λ t. [])) s }) h
+
+-- without a source, other words and another tape hold the same session
+pub elsewhere : {op : Session → Answer (Unit {0})} {s : Session} {k n o : ℕ} {words tape w t kinds log tags : List ℕ} {starts maps : List (List ℕ)} {marks special : List ℕ} {e : Ends} → length w ≡ 16384 → length t ≡ 16384
+    → Does op s k tt (sessionOf false n o words log tags starts maps special e) × Live false n o words tape kinds log tags starts maps marks special e → Does op s k tt (sessionOf false n o w log tags starts maps special e) × Live false n o w t kinds log tags starts maps marks special e
+unfolding sessionOf emptied stOf
+elsewhere hw ht p = (
+  p .0,
+  record {
+    reached = p .1 .reached;
+    kept = p .1 .kept;
+    specials = p .1 .specials;
+    kinds-are = p .1 .kinds-are;
+    words-long = hw;
+    tape-long = ht;
+    taped = λ q. absurd (false≢true q);
+    passes = λ q. absurd (false≢true q);
+    no-entries = p .1 .no-entries;
+    lowest = p .1 .lowest;
+    going = p .1 .going;
+  },
+)
 
 -- ---- by what intake says
 by-refusal : (bytes : ℕ) (ws : List ℕ) (o : ℕ) (s : Session) (k : ℕ) → intakeOf bytes ws ≡ suc k → setOf bytes ws o s ≡ refused (suc k)

@@ -348,7 +348,73 @@ pub struct Set {
     pub ends: Ends,
 }
 
-// set_shader_source: the image with the offset o.
+// set_shader_source where no source is set: there is none that a refusal has to leave, so the image goes at once where a source's words are. What a refused one
+// left there is cleared.
+fn set_first(
+    image: &[u8],
+    words: &mut [u32; 16384],
+    tags: &mut [u8; 16384],
+    kinds: &[u8; 256],
+    n: usize,
+    log: &mut [u32; 16384],
+    classes: &mut [u8; 16384],
+    starts: &mut [[u32; 512]; 8],
+    maps: &mut [[u32; 512]; 6],
+    marks: &mut [u16; 16384],
+    special: &mut [u32; 1027],
+    ends: Ends,
+    offset: u32,
+    o: u32,
+) -> Set
+    requires { ⌜ Live false n offset (now words) (now tags) (now kinds) (now log) (now classes) (now starts) (now maps) (now marks) (now special) ends ⌝ }
+    ensures { λ r. ⌜ Does {A = Unit {0}} (setOf (length (now (image .entry))) (wordsOf (now (image .entry))) o) (sessionOf false n offset (now (words .entry)) (now (log .entry)) (now (classes .entry)) (now (starts .entry)) (now (maps .entry)) (now (special .entry)) ends) (r .refusal) tt (sessionOf (r .set) (r .n) (r .offset) (now (words .exit)) (now (log .exit)) (now (classes .exit)) (now (starts .exit)) (now (maps .exit)) (now (special .exit)) (r .ends)) ⌝ }
+    ensures { λ r. ⌜ Live (r .set) (r .n) (r .offset) (now (words .exit)) (now (tags .exit)) (now (kinds .entry)) (now (log .exit)) (now (classes .exit)) (now (starts .exit)) (now (maps .exit)) (now (marks .exit)) (now (special .exit)) (r .ends) ⌝ }
+{
+    let taken = intake::take_in(image, words, tags);
+    if let Taken::Accepted(m) = taken {
+        let got = set_source(
+            words,
+            tags,
+            kinds,
+            m,
+            log,
+            classes,
+            starts,
+            maps,
+            marks,
+            special,
+            ends,
+            o,
+        );
+        if got.full {
+            return Set {
+                refusal: FULL,
+                set: false,
+                n: n,
+                offset: offset,
+                ends: ends,
+            };
+        }
+        return Set {
+            refusal: 0,
+            set: true,
+            n: m,
+            offset: o,
+            ends: got,
+        };
+    }
+    *words = intake::fresh_words();
+    *tags = intake::fresh_tags();
+    Set {
+        refusal: intake::number(taken),
+        set: false,
+        n: n,
+        offset: offset,
+        ends: ends,
+    }
+}
+
+// set_shader_source: the image with the offset o. A source that is set stays until the image is accepted and fits.
 pub fn set_source_of(
     image: &[u8],
     words: &mut [u32; 16384],
@@ -370,6 +436,24 @@ pub fn set_source_of(
     ensures { λ r. ⌜ Does {A = Unit {0}} (setOf (length (now (image .entry))) (wordsOf (now (image .entry))) o) (sessionOf set n offset (now (words .entry)) (now (log .entry)) (now (classes .entry)) (now (starts .entry)) (now (maps .entry)) (now (special .entry)) ends) (r .refusal) tt (sessionOf (r .set) (r .n) (r .offset) (now (words .exit)) (now (log .exit)) (now (classes .exit)) (now (starts .exit)) (now (maps .exit)) (now (special .exit)) (r .ends)) ⌝ }
     ensures { λ r. ⌜ Live (r .set) (r .n) (r .offset) (now (words .exit)) (now (tags .exit)) (now (kinds .entry)) (now (log .exit)) (now (classes .exit)) (now (starts .exit)) (now (maps .exit)) (now (marks .exit)) (now (special .exit)) (r .ends) ⌝ }
 {
+    if !set {
+        return set_first(
+            image,
+            words,
+            tags,
+            kinds,
+            n,
+            log,
+            classes,
+            starts,
+            maps,
+            marks,
+            special,
+            ends,
+            offset,
+            o,
+        );
+    }
     let mut w = intake::fresh_words();
     let mut t = intake::fresh_tags();
     let taken = intake::take_in(image, &mut w, &mut t);

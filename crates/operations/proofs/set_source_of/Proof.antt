@@ -1,5 +1,7 @@
 -- `operations::set_source_of` meets its contract. Assumes nothing.
+use mathlib.Core.Path.{sym}
 use borrow.Author.Needs.{needs}
+use borrow.Author.Tests.{not-true}
 use Rattle.operations.proofs.Setting.{accepted-source, set-refused, set-not, set-so}
 use Rattle.operations.proofs.set_source_of.Statement.{statement}
 use Rattle.operations.proofs.set_source_of.Tie as tie
@@ -10,6 +12,14 @@ use Rattle.intake.proofs.fresh_words.Reads as fresh-words-reads
 use Rattle.intake.proofs.number.Reads as number-reads
 use Rattle.intake.proofs.take_in.Reads as take-in-reads
 use Rattle.sourcing.proofs.set_source.Reads as set-source-reads
+
+set-first-requires : tie.Need-set-first-requires
+set-first-requires c κs =
+    let st = c .before .before .before .before .before .before .before .before .before .before in
+    rw (sym (not-true (st .args .set) (c .before .before .before .before .before .before .before .before .if1 .taken))) (st .pre)
+
+returns : tie.Need-returns
+returns c = rw (not-true (c .before .before .before .before .before .before .before .before .before .before .before .args .set) (c .before .before .before .before .before .before .before .before .before .if1 .taken)) (c .set-first .ensures)
 
 fresh-words-requires : tie.Need-fresh-words-requires
 fresh-words-requires c κs = search needs
@@ -25,28 +35,28 @@ enum-known-taken c = search needs
 
 set-source-requires : tie.Need-set-source-requires
 set-source-requires c κs =
-    let st = c .before .before .before .before .before .before .before .before .before .before .before .before .before .before .before .before .before in
+    let st = c .before .before .before .before .before .before .before .before .before .before .before .before .before .before .before .before .before .before in
     let a = st .args in
     (accepted-source (a .image .now) (c .before .before .before .before .before .before .before .before .before .before .before .take-in .last .1 .0) (c .before .before .before .before .before .before .before .before .before .before .before .take-in .last .1 .1 .0) (c .before .before .before .before .before .before .before .before .before .before .before .take-in .result) (c .before .before .before .before .before .before .before .before .before .before .before .take-in .ensures) (c .before .before .before .before .before .before .before .before .before .taken .given .0 .0) (search needs), (st .pre .going, (st .pre .kinds-are, (st .pre .kept, st .pre .specials))))
 
-returns : tie.Need-returns
-returns c =
-    let st = c .before .before .before .before .before .before .before .before .before .before .before .before .before .before .before .before .before .before .before in
-    let a = st .args in
-    set-not (a .image .now) (c .before .before .before .before .before .before .before .before .before .before .before .before .before .take-in .last .1 .0) (c .before .before .before .before .before .before .before .before .before .before .before .before .before .take-in .last .1 .1 .0) (c .before .before .before .before .before .before .before .before .before .before .before .before .before .take-in .result) (c .before .before .before .before .before .before .before .before .before .before .before .before .before .take-in .ensures) (a .set) (a .n) (a .offset) (a .words .now) (a .tags .now) (a .kinds .now) (a .log .now) (a .classes .now) (a .starts .now) (a .maps .now) (a .marks .now) (a .special .now) (a .ends) (st .pre) (a .o) (c .before .before .before .before .before .before .before .before .before .before .before .taken .given .0 .0) (c .before .before .before .before .before .before .before .before .before .before .before .taken .given .1) _ _ _ _ _ _ _ (c .before .set-source .ensures) (c .if1 .taken)
-
 returns-2 : tie.Need-returns-2
 returns-2 c =
-    let st = c .before .before .before .before .before .before .before .before .before .before .before .before .before .before .before .before .before .before .before in
+    let st = c .before .before .before .before .before .before .before .before .before .before .before .before .before .before .before .before .before .before .before .before in
     let a = st .args in
-    set-so (a .image .now) (c .before .before .before .before .before .before .before .before .before .before .before .before .before .take-in .last .1 .0) (c .before .before .before .before .before .before .before .before .before .before .before .before .before .take-in .last .1 .1 .0) (c .before .before .before .before .before .before .before .before .before .before .before .before .before .take-in .result) (c .before .before .before .before .before .before .before .before .before .before .before .before .before .take-in .ensures) (a .set) (a .n) (a .offset) (a .words .now) (a .tags .now) (a .kinds .now) (a .log .now) (a .classes .now) (a .starts .now) (a .maps .now) (a .marks .now) (a .special .now) (a .ends) (st .pre) (a .o) (c .before .before .before .before .before .before .before .before .before .before .before .taken .given .0 .0) (c .before .before .before .before .before .before .before .before .before .before .before .taken .given .1) _ _ _ _ _ _ _ (c .before .set-source .ensures) (c .if1 .left)
+    set-not (a .image .now) (c .before .before .before .before .before .before .before .before .before .before .before .before .before .take-in .last .1 .0) (c .before .before .before .before .before .before .before .before .before .before .before .before .before .take-in .last .1 .1 .0) (c .before .before .before .before .before .before .before .before .before .before .before .before .before .take-in .result) (c .before .before .before .before .before .before .before .before .before .before .before .before .before .take-in .ensures) (a .set) (a .n) (a .offset) (a .words .now) (a .tags .now) (a .kinds .now) (a .log .now) (a .classes .now) (a .starts .now) (a .maps .now) (a .marks .now) (a .special .now) (a .ends) (st .pre) (a .o) (c .before .before .before .before .before .before .before .before .before .before .before .taken .given .0 .0) (c .before .before .before .before .before .before .before .before .before .before .before .taken .given .1) _ _ _ _ _ _ _ (c .before .set-source .ensures) (c .if2 .taken)
+
+returns-3 : tie.Need-returns-3
+returns-3 c =
+    let st = c .before .before .before .before .before .before .before .before .before .before .before .before .before .before .before .before .before .before .before .before in
+    let a = st .args in
+    set-so (a .image .now) (c .before .before .before .before .before .before .before .before .before .before .before .before .before .take-in .last .1 .0) (c .before .before .before .before .before .before .before .before .before .before .before .before .before .take-in .last .1 .1 .0) (c .before .before .before .before .before .before .before .before .before .before .before .before .before .take-in .result) (c .before .before .before .before .before .before .before .before .before .before .before .before .before .take-in .ensures) (a .set) (a .n) (a .offset) (a .words .now) (a .tags .now) (a .kinds .now) (a .log .now) (a .classes .now) (a .starts .now) (a .maps .now) (a .marks .now) (a .special .now) (a .ends) (st .pre) (a .o) (c .before .before .before .before .before .before .before .before .before .before .before .taken .given .0 .0) (c .before .before .before .before .before .before .before .before .before .before .before .taken .given .1) _ _ _ _ _ _ _ (c .before .set-source .ensures) (c .if2 .left)
 
 number-requires : tie.Need-number-requires
 number-requires c κs = search needs
 
-returns-3 : tie.Need-returns-3
-returns-3 c =
-    let st = c .before .before .before .before .before .before .before .before in
+returns-4 : tie.Need-returns-4
+returns-4 c =
+    let st = c .before .before .before .before .before .before .before .before .before in
     let a = st .args in
     set-refused (a .image .now) (c .before .before .take-in .last .1 .0) (c .before .before .take-in .last .1 .1 .0) (c .before .before .take-in .result) (c .before .before .take-in .ensures) (a .set) (a .n) (a .offset) (a .words .now) (a .tags .now) (a .kinds .now) (a .log .now) (a .classes .now) (a .starts .now) (a .maps .now) (a .marks .now) (a .special .now) (a .ends) (st .pre) (a .o) (c .before .match .keys2) _ (c .number .ensures)
 
@@ -54,12 +64,14 @@ pub set-source-of-spec : {M : Type 1} → statement M
 set-source-of-spec =
     tie.close
     (tie.spec
+    set-first-requires
+    returns
     fresh-words-requires
     fresh-tags-requires
     take-in-requires
     enum-known-taken
     set-source-requires
-    returns
     returns-2
+    returns-3
     number-requires
-    returns-3)
+    returns-4)
