@@ -12,8 +12,9 @@ use Rattle.model.specs.Table.{EXPR}
 use Rattle.model.specs.Module.{Module, countAt}
 use Rattle.model.specs.Between.{between}
 use Rattle.model.specs.References.{target}
+use Rattle.model.specs.Operands.{standingKind}
 use Rattle.model.specs.Bodies.{Making, bring, join, unique}
-use Rattle.bodies.specs.Shallow.{peek, glance}
+use Rattle.bodies.specs.Shallow.{need, peek, glance}
 use Rattle.passes.specs.Pass.{arrive}
 use Rattle.passes.specs.Cases.{along}
 use Rattle.passes.specs.Growth.{grow-all, grow-arrive, grow-peek, grow-unique}
@@ -31,7 +32,7 @@ use Rattle.making.specs.Makes.{Makes, Lays}
 use Rattle.making.proofs.Stack.{between-join}
 use Rattle.making.proofs.Growth.{GrowM, growing}
 use Rattle.making.proofs.Then.{makes-then, makes-full, makes-none, makes-lift}
-use Rattle.operands.proofs.Needs.{glance-is, unique-is}
+use Rattle.operands.proofs.Needs.{glance-is, unique-is, peek-idle, peek-done}
 
 -- ---- h imports an expression
 module _ (o : ℕ) (M : Module) (h : ℕ → Making → Making) where
@@ -161,6 +162,20 @@ module _ {words tags : List ℕ} {n k o b at end : ℕ} {h : ℕ → Making → 
       -- nothing is behind them
       pub along-done : (f : Making → Making) → ((special : List ℕ) → f (m₀ special) ≡ along o M still h h (between tags words at end) (m₀ special)) → Makes words k f log₀ classes₀ starts₀ maps₀ marks₀ em₀ stacks₀ e₁ e₀ e log classes starts maps marks em stacks
       along-done f is = along-then f (λ m. m) is stay
+
+-- ---- an operand of expression x, in an Emit's first pass
+module _ {words tags places : List ℕ} {k : ℕ} (X : Expressions words tags places k) {n o x at end : ℕ} (hx : x < k) {log₀ classes₀ : List ℕ} {starts₀ maps₀ : List (List ℕ)} {marks₀ em₀ : List ℕ} {stacks₀ : List (List ℕ)} {e₁ : ℕ} {e₀ : Ends} (K : Kept log₀ classes₀ starts₀ maps₀ marks₀ e₀)
+    {log classes : List ℕ} {starts maps : List (List ℕ)} {marks em : List ℕ} {stacks : List (List ℕ)} {e : Ends} {i : ℕ} (inv : Alongs words tags n k o x at end (peek o (modOf words n) still (exprsOf words tags places k)) log₀ classes₀ starts₀ maps₀ marks₀ em₀ stacks₀ e₁ e₀ log classes starts maps marks em stacks e i) (less : i < end)
+    {s t j : ℕ} (hs : s ≡ getD tags i 0) (ht : t ≡ refersTo (target s) (getD words i 0)) (hj : j ≡ numberOf (target s) (getD words i 0)) (high : EXPR ≤ s) (q : t ≡ 5) where
+  pub operand-in : j < k
+  operand-in = let l = along-lower K inv less hs ht hj high q in omega arith
+
+  pub operand-idle : (getD em j 0 ≡ 0 → standingKind (getD words (getD places j 0) 0) ≡ false) → Turned K inv less e log classes starts maps marks em stacks
+  operand-idle z = along-own K inv less hs ht hj high q (peek-idle X n o (inv .going) (along-kept K inv) (along-under K inv) operand-in z)
+
+  pub operand-done : standingKind (getD words (getD places j 0) 0) ≡ true → {r : Ends} {log′ classes′ : List ℕ} {starts′ maps′ : List (List ℕ)} {marks′ em′ : List ℕ} {stacks′ : List (List ℕ)}
+      → Makes words k (need o (modOf words n) still (exprsOf words tags places k) j) log classes starts maps marks em stacks e₁ e r log′ classes′ starts′ maps′ marks′ em′ stacks′ → Turned K inv less r log′ classes′ starts′ maps′ marks′ em′ stacks′
+  operand-done z A = along-own K inv less hs ht hj high q (peek-done X n o (inv .going) (along-kept K inv) (along-under K inv) operand-in z A)
 
 -- ---- expression x, which is new
 module _ {words tags places : List ℕ} {k : ℕ} (X : Expressions words tags places k) (n o : ℕ)

@@ -1,6 +1,6 @@
 -- One expression: it is mapped and nothing is done; or it is new, and what it refers to outside the function comes, and then the expression itself. And whether it stands. Assumes nothing.
 use mathlib.Core.Path.{_≡_, refl, sym, ap, _∙_}
-use mathlib.Core.Bool.{Bool, true, false}
+use mathlib.Core.Bool.{Bool, true, false, false≢true}
 use mathlib.Core.List.{List, []}
 use Prim.Native.Nat.{ℕ, suc, _+_, _<_}
 use native.Mathlib.Nat.{le-refl}
@@ -66,23 +66,22 @@ module _ {words tags places : List ℕ} {k : ℕ} (X : Expressions words tags pl
           let L = expr-legible X e h in
           rw (ha, he′) (record { stretch = L .stretch; words-long = L .words-long; tags-long = L .tags-long; fits = expr-fits X e h e (le-refl e) })
 
-    pub first-in : {at : ℕ} → at ≡ getD places e 0 → at < 16384
-    first-in ha = let a = expr-some X e h in let b = expr-low X e h in omega arith
+    pub first-in : getD places e 0 < 16384
+    first-in = let a = expr-some X e h in let b = expr-low X e h in omega arith
 
     -- whether it stands is told by its first word
-    module _ {at w : ℕ} (ha : at ≡ getD places e 0) (hw : w ≡ getD words at 0) where
-      kind-is : kindAt (exprsOf words tags places k) e ≡ w
-      unfolding kindAt kind
-      kind-is =
-          let a = expr-some X e h in
-          let b = expr-low X e h in
-          let c = X .words-long in
-          let d = X .tags-long in
-          rw (expr-is X e h, between-next tags words (getD places e 0) (getD places (suc e) 0) a (omega arith) (omega arith), X .kinds e h) (sym (rw ha at hw))
+    kind-is : kindAt (exprsOf words tags places k) e ≡ getD words (getD places e 0) 0
+    unfolding kindAt kind
+    kind-is =
+        let a = expr-some X e h in
+        let b = expr-low X e h in
+        let c = X .words-long in
+        let d = X .tags-long in
+        rw (expr-is X e h, between-next tags words (getD places e 0) (getD places (suc e) 0) a (omega arith) (omega arith), X .kinds e h)
 
-      pub standing-is : (b : Bool) → b ≡ standingKind w → standing (exprsOf words tags places k) e ≡ b
-      unfolding standing
-      standing-is b hb = ap standingKind kind-is ∙ sym hb
+    standing-is : standing (exprsOf words tags places k) e ≡ standingKind (getD words (getD places e 0) 0)
+    unfolding standing
+    standing-is = ap standingKind kind-is
 
 -- ---- expression e of a function under way
 module _ {words tags places : List ℕ} {k : ℕ} (X : Expressions words tags places k) (n o : ℕ)
@@ -151,13 +150,16 @@ module _ {words tags places : List ℕ} {k : ℕ} (X : Expressions words tags pl
           r′ log classes starts maps marks em stacks (A .lays marks (L .kept q))
 
   -- ---- it stands, or not
-  module _ {at w : ℕ} (ha : at ≡ getD places e 0) (hw : w ≡ getD words at 0) {b : Bool} (hb : b ≡ standingKind w) where
-    pub peek-idle : b ≡ false → Makes words k (peek o M still xs e) log₀ classes₀ starts₀ maps₀ marks₀ em₀ stacks₀ e₁ d d log₀ classes₀ starts₀ maps₀ marks₀ em₀ stacks₀
-    peek-idle q = idle (peek o M still xs e) (λ special. peek-moving o M still xs e (m special) (standing-is X h ha hw b hb ∙ q))
+  pub peek-idle : (getD em₀ e 0 ≡ 0 → standingKind (getD words (getD places e 0) 0) ≡ false) → Makes words k (peek o M still xs e) log₀ classes₀ starts₀ maps₀ marks₀ em₀ stacks₀ e₁ d d log₀ classes₀ starts₀ maps₀ marks₀ em₀ stacks₀
+  peek-idle q = idle (peek o M still xs e) (go (standing xs e) refl)
+    where
+      go : (b : Bool) → standing xs e ≡ b → (special : List ℕ) → peek o M still xs e (m special) ≡ m special
+      go true s special = peek-standing o M still xs e (m special) s ∙ need-mapped o M still xs e (m special) (has (λ z. false≢true (sym (q z) ∙ sym (standing-is X h) ∙ s)) special)
+      go false s special = peek-moving o M still xs e (m special) s
 
-    pub peek-done : b ≡ true → {r : Ends} {log classes : List ℕ} {starts maps : List (List ℕ)} {marks em : List ℕ} {stacks : List (List ℕ)}
-        → Makes words k (need o M still xs e) log₀ classes₀ starts₀ maps₀ marks₀ em₀ stacks₀ e₁ d r log classes starts maps marks em stacks
-        → Makes words k (peek o M still xs e) log₀ classes₀ starts₀ maps₀ marks₀ em₀ stacks₀ e₁ d r log classes starts maps marks em stacks
-    peek-done q {r} {log} {classes} {starts} {maps} {marks} {em} {stacks} A =
-        makes-then words k e₁ log₀ classes₀ starts₀ maps₀ marks₀ em₀ stacks₀ d K (λ m. m) d log₀ classes₀ starts₀ maps₀ marks₀ em₀ stacks₀ (idle (λ m. m) (λ special. refl)) (need o M still xs e) (peek o M still xs e) (λ special. peek-standing o M still xs e (m special) (standing-is X h ha hw b hb ∙ q)) nf
-        r log classes starts maps marks em stacks A
+  pub peek-done : standingKind (getD words (getD places e 0) 0) ≡ true → {r : Ends} {log classes : List ℕ} {starts maps : List (List ℕ)} {marks em : List ℕ} {stacks : List (List ℕ)}
+      → Makes words k (need o M still xs e) log₀ classes₀ starts₀ maps₀ marks₀ em₀ stacks₀ e₁ d r log classes starts maps marks em stacks
+      → Makes words k (peek o M still xs e) log₀ classes₀ starts₀ maps₀ marks₀ em₀ stacks₀ e₁ d r log classes starts maps marks em stacks
+  peek-done q {r} {log} {classes} {starts} {maps} {marks} {em} {stacks} A =
+      makes-then words k e₁ log₀ classes₀ starts₀ maps₀ marks₀ em₀ stacks₀ d K (λ m. m) d log₀ classes₀ starts₀ maps₀ marks₀ em₀ stacks₀ (idle (λ m. m) (λ special. refl)) (need o M still xs e) (peek o M still xs e) (λ special. peek-standing o M still xs e (m special) (standing-is X h ∙ q)) nf
+      r log classes starts maps marks em stacks A

@@ -7,16 +7,20 @@ use kinds::stands;
 use making::append;
 use making::merge;
 use making::slot;
+use outside::import_by_table;
 use outside::import_outside;
 use outside::import_record;
+use outside::missing;
 use state::Ends;
 use views::EXPRESSIONS;
 use words::wide;
 ghost use mathlib.Core.Path.{_≡_};
-ghost use mathlib.Core.Bool.{false};
+ghost use mathlib.Core.Bool.{true, false};
 ghost use Prim.Native.Nat.{_<_};
+ghost use lib.ListN.{getD};
+ghost use Rattle.model.specs.Operands.{standingKind};
 ghost use Rattle.model.specs.Bodies.{unique as uniqueE};
-ghost use Rattle.bodies.specs.Shallow.{need as needE, peek as peekE, glance as glanceE};
+ghost use Rattle.bodies.specs.Shallow.{need as needE, glance as glanceE};
 ghost use Rattle.passes.specs.Light.{still};
 ghost use Rattle.state.specs.Source.{modOf};
 ghost use Rattle.state.specs.Held.{Kept};
@@ -146,55 +150,16 @@ pub fn need(
     )
 }
 
-// Expression e of k, where it stands and is not mapped.
-pub fn peek(
-    words: &[u32; 16384],
-    tags: &[u8; 16384],
-    kinds: &[u8; 256],
-    n: usize,
-    places: &[u16; 1025],
-    log: &mut [u32; 16384],
-    classes: &mut [u8; 16384],
-    starts: &mut [[u32; 512]; 8],
-    maps: &mut [[u32; 512]; 6],
-    marks: &mut [u16; 16384],
-    em: &mut [u16; 1024],
-    stacks: &mut [[u32; 16384]; 4],
-    ends: Ends,
-    offset: u32,
-    e1: usize,
-    k: usize,
-    e: usize,
-) -> Ends
-    requires { ⌜ Ground (now words) (now tags) (now kinds) n ⌝ }
-    requires { ⌜ Expressions (now words) (now tags) (now places) k ⌝ }
-    requires { ⌜ (e < k) × (ends .full ≡ false) ⌝ }
-    requires { ⌜ Kept (now log) (now classes) (now starts) (now maps) (now marks) ends ⌝ }
-    requires { ⌜ Under k (now em) (now stacks) e1 ends ⌝ }
-    ensures { λ r. ⌜ Makes (now (words .entry)) k (peekE offset (modOf (now (words .entry)) n) still (exprsOf (now (words .entry)) (now (tags .entry)) (now (places .entry)) k) e) (now (log .entry)) (now (classes .entry)) (now (starts .entry)) (now (maps .entry)) (now (marks .entry)) (now (em .entry)) (now (stacks .entry)) e1 ends r (now (log .exit)) (now (classes .exit)) (now (starts .exit)) (now (maps .exit)) (now (marks .exit)) (now (em .exit)) (now (stacks .exit)) ⌝ }
+// Whether expression e is not mapped and stands. Most are mapped.
+fn wanted(words: &[u32; 16384], places: &[u16; 1025], em: &[u16; 1024], e: usize) -> bool
+    requires { ⌜ (e < 1024) × (getD (now places) e 0 < 16384) ⌝ }
+    ensures { λ r. ⌜ (r ≡ true → standingKind (getD (now (words .entry)) (getD (now (places .entry)) e 0) 0) ≡ true) ⌝ }
+    ensures { λ r. ⌜ (r ≡ false → getD (now (em .entry)) e 0 ≡ 0 → standingKind (getD (now (words .entry)) (getD (now (places .entry)) e 0) 0) ≡ false) ⌝ }
 {
-    if !stands(words[slot(places[e])]) {
-        return ends;
+    if em[e] != 0 {
+        return false;
     }
-    need(
-        words,
-        tags,
-        kinds,
-        n,
-        places,
-        log,
-        classes,
-        starts,
-        maps,
-        marks,
-        em,
-        stacks,
-        ends,
-        offset,
-        e1,
-        k,
-        e,
-    )
+    stands(words[slot(places[e])])
 }
 
 // What an Emit's first pass takes of expression e, where it is not mapped.
@@ -236,46 +201,51 @@ pub fn glance(
         let s = tags[j];
         let r = refers_to(kinds, s, words[j]);
         if s < EXPR {
-            got = import_record(
-                words,
-                tags,
-                kinds,
-                n,
-                log,
-                classes,
-                starts,
-                maps,
-                marks,
-                got,
-                offset,
-                r.table,
-                r.number,
-            );
-            if got.full {
-                return got;
+            if missing(maps, r.table, r.number) {
+                got = import_by_table(
+                    words,
+                    tags,
+                    kinds,
+                    n,
+                    log,
+                    classes,
+                    starts,
+                    maps,
+                    marks,
+                    got,
+                    offset,
+                    r.table,
+                    r.number,
+                );
+                if got.full {
+                    return got;
+                }
             }
         } else if r.table == EXPRESSIONS {
-            got = peek(
-                words,
-                tags,
-                kinds,
-                n,
-                places,
-                log,
-                classes,
-                starts,
-                maps,
-                marks,
-                em,
-                stacks,
-                got,
-                offset,
-                e1,
-                k,
-                wide(r.number),
-            );
-            if got.full {
-                return got;
+            let x = wide(r.number);
+            if wanted(words, places, em, x) {
+                got = bring(
+                    words,
+                    tags,
+                    kinds,
+                    n,
+                    places,
+                    log,
+                    classes,
+                    starts,
+                    maps,
+                    marks,
+                    em,
+                    stacks,
+                    got,
+                    offset,
+                    e1,
+                    k,
+                    x,
+                );
+                if got.full {
+                    return got;
+                }
             }
         }
     }

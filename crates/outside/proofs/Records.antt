@@ -1,18 +1,21 @@
 -- The import of a record by its table's code, as the code lands it. Assumes nothing.
-use mathlib.Core.Path.{_≡_, sym, _∙_}
-use mathlib.Core.Bool.{false, false≢true}
+use mathlib.Core.Path.{_≡_, refl, sym, _∙_}
+use mathlib.Core.Bool.{Bool, true, false, false≢true}
 use mathlib.Core.List.{List}
 use Prim.Native.Nat.{ℕ, _≤_, _<_}
 use native.Mathlib.Nat.{le-refl}
-use borrow.Author.Tests.{lt-ltb}
+use native.Mathlib.Omega.{arith}
+use lib.Dec.{ltb}
+use borrow.Author.Tests.{ltb-true, ltb-false, lt-ltb}
 use Rattle.model.specs.Module.{countAt}
 use Rattle.model.specs.Tables.{Tab, Tables}
 use Rattle.model.specs.Imports.{St, importT}
 use Rattle.state.specs.Refers.{tabOf}
-use Rattle.state.specs.Held.{stOf, Kept, Lands}
+use Rattle.state.specs.Source.{Source, srcOf}
+use Rattle.state.specs.Held.{cell, stOf, Kept, Lands}
 use Rattle.state.specs.declared.Ends.{Ends}
 use Rattle.state.proofs.State.{same-refl, marks-refl}
-use Rattle.import.proofs.Turns.{beside-refl}
+use Rattle.import.proofs.Turns.{beside-refl, turn-known}
 use Rattle.ground.specs.Fits.{recordOf}
 use Rattle.outside.proofs.Cells.{record-none}
 
@@ -62,3 +65,15 @@ module _ (o : ℕ) (T : Tables) (t h : ℕ) where
   -- no table
   pub lands-none : (words log classes : List ℕ) (starts maps : List (List ℕ)) (marks : List ℕ) (e : Ends) → e .full ≡ false → Kept log classes starts maps marks e → 6 ≤ t → Lands words (recordOf o T t h) log classes starts maps marks e e log classes starts maps marks
   lands-none words log classes starts maps marks e nf K l = lands-idle words log classes starts maps marks e nf K (recordOf o T t h) (λ s. sym (record-none o T s t h l))
+
+-- no table, or a record that is mapped
+pub lands-mapped : {words tags : List ℕ} {n : ℕ} → Source words tags n → (o : ℕ) {t h : ℕ} → (t < 6 → h < countAt t words) → {log classes : List ℕ} {starts maps : List (List ℕ)} {marks : List ℕ} {e : Ends} → e .full ≡ false → Kept log classes starts maps marks e → (t < 6 → 0 < cell maps t h)
+    → Lands words (recordOf o (srcOf words n) t h) log classes starts maps marks e e log classes starts maps marks
+lands-mapped {words} {tags} {n} src o {t} {h} inside {log} {classes} {starts} {maps} {marks} {e} nf K has = go (ltb t 6) refl
+  where
+    go : (b : Bool) → ltb t 6 ≡ b → Lands words (recordOf o (srcOf words n) t h) log classes starts maps marks e e log classes starts maps marks
+    go true q =
+        let l = ltb-true t 6 q in
+        let m = has l in
+        lands-record o (srcOf words n) t h (tabOf t) l refl (turn-known words tags n src o t h l (inside l) log classes starts maps marks e nf K (λ z. omega arith))
+    go false q = lands-none o (srcOf words n) t h words log classes starts maps marks e nf K (ltb-false t 6 q)

@@ -28,7 +28,7 @@ ghost use Rattle.model.specs.Between.{between};
 ghost use Rattle.passes.specs.Operands.{outward};
 ghost use Rattle.passes.specs.Light.{still};
 ghost use Rattle.state.specs.Source.{modOf, srcOf};
-ghost use Rattle.state.specs.Held.{Kept, Lands};
+ghost use Rattle.state.specs.Held.{cell, Kept, Lands};
 ghost use Rattle.ground.specs.Fits.{Ground, Legible, recordOf};
 
 // Record h of table t, by the import that the table has; nothing where t is no table.
@@ -152,7 +152,18 @@ pub fn import_by_table(
     ends
 }
 
-// The same, seen first to be mapped or not: this is asked of every word and is small, since most records are mapped.
+// Whether record h of table t is not mapped; no where t is no table. This is asked of every word, and most records are mapped.
+pub fn missing(maps: &[[u32; 512]; 6], t: usize, h: u32) -> bool
+    requires { ⌜ (t < 6 → h < 512) ⌝ }
+    ensures { λ r. ⌜ (r ≡ false → t < 6 → 0 < cell (now (maps .entry)) t h) ⌝ }
+{
+    if EXPRESSIONS < t {
+        return false;
+    }
+    maps[t][wide(h)] == 0
+}
+
+// The same as import_by_table, seen first to be mapped or not.
 pub fn import_record(
     words: &[u32; 16384],
     tags: &[u8; 16384],
@@ -174,11 +185,7 @@ pub fn import_record(
     requires { ⌜ Kept (now log) (now classes) (now starts) (now maps) (now marks) ends ⌝ }
     ensures { λ r. ⌜ Lands (now (words .entry)) (recordOf offset (srcOf (now (words .entry)) n) t h) (now (log .entry)) (now (classes .entry)) (now (starts .entry)) (now (maps .entry)) (now (marks .entry)) ends r (now (log .exit)) (now (classes .exit)) (now (starts .exit)) (now (maps .exit)) (now (marks .exit)) ⌝ }
 {
-    if EXPRESSIONS < t {
-        return ends;
-    }
-    let k = wide(h);
-    if maps[t][k] != 0 {
+    if !missing(maps, t, h) {
         return ends;
     }
     import_by_table(
@@ -228,23 +235,25 @@ pub fn import_outside(
         let s = tags[j];
         if s < EXPR {
             let r = refers_to(kinds, s, words[j]);
-            e = import_record(
-                words,
-                tags,
-                kinds,
-                n,
-                log,
-                classes,
-                starts,
-                maps,
-                marks,
-                e,
-                offset,
-                r.table,
-                r.number,
-            );
-            if e.full {
-                return e;
+            if missing(maps, r.table, r.number) {
+                e = import_by_table(
+                    words,
+                    tags,
+                    kinds,
+                    n,
+                    log,
+                    classes,
+                    starts,
+                    maps,
+                    marks,
+                    e,
+                    offset,
+                    r.table,
+                    r.number,
+                );
+                if e.full {
+                    return e;
+                }
             }
         }
     }
