@@ -223,7 +223,7 @@ pub fn close(
     let made = ends.et - before.et;
     let names = ends.bt - before.bt - front - tail;
     let size = head + front + 1 + made + 1 + names + tail;
-    let count = ends.counts[t];
+    let count = ends.counts[t] as usize;
     if count == limit {
         return refuse(ends);
     }
@@ -250,7 +250,7 @@ pub fn close(
     copy_tags(tags, body, tail, classes, q + 1 + names);
     starts[t][count] = used as u32;
     let mut c = ends.counts;
-    c[t] = count + 1;
+    c[t] = (count + 1) as u16;
     Ends {
         full: false,
         used: used + 1 + size,

@@ -32,6 +32,19 @@ use Rattle.writing.proofs.Bridge.{finished-cells}
 use Rattle.writing.proofs.Limits.{large-is, fits-is}
 use Rattle.ending.specs.Told.{told, Ended}
 
+-- eight numbers, one by one
+pub eight : (l : List ℕ) → length l ≡ 8 → getD l 0 0 ∷ getD l 1 0 ∷ getD l 2 0 ∷ getD l 3 0 ∷ getD l 4 0 ∷ getD l 5 0 ∷ getD l 6 0 ∷ getD l 7 0 ∷ [] ≡ l
+eight [] q = absurd (omega arith)
+eight (a ∷ []) q = absurd (omega arith)
+eight (a ∷ b ∷ []) q = absurd (omega arith)
+eight (a ∷ b ∷ c ∷ []) q = absurd (omega arith)
+eight (a ∷ b ∷ c ∷ d ∷ []) q = absurd (omega arith)
+eight (a ∷ b ∷ c ∷ d ∷ e ∷ []) q = absurd (omega arith)
+eight (a ∷ b ∷ c ∷ d ∷ e ∷ f ∷ []) q = absurd (omega arith)
+eight (a ∷ b ∷ c ∷ d ∷ e ∷ f ∷ g ∷ []) q = absurd (omega arith)
+eight (a ∷ b ∷ c ∷ d ∷ e ∷ f ∷ g ∷ h ∷ []) q = refl
+eight (a ∷ b ∷ c ∷ d ∷ e ∷ f ∷ g ∷ h ∷ i ∷ l) q = absurd (omega arith)
+
 -- a fact of the records at these starts
 each-recs : {P : Cells → Type 0} (log tags ss : List ℕ) → ((k : ℕ) → k < length ss → P (recAt log tags (getD ss k 0))) → Each P (recsAt log tags ss)
 unfolding recsAt

@@ -5,6 +5,23 @@ ghost use mathlib.Core.Path.{_≡_};
 ghost use lib.ListN.{length};
 ghost use Rattle.ending.specs.Told.{Held, Ended};
 
+// How many records each table has, as numbers.
+fn widened(c: [u16; 8]) -> [usize; 8]
+    requires { ⌜ length c ≡ 8 ⌝ }
+    ensures { λ r. ⌜ r ≡ c ⌝ }
+{
+    [
+        c[0] as usize,
+        c[1] as usize,
+        c[2] as usize,
+        c[3] as usize,
+        c[4] as usize,
+        c[5] as usize,
+        c[6] as usize,
+        c[7] as usize,
+    ]
+}
+
 // The derived module in bytes, with the entry points that the arrays hold: 21 where it is too large, 7 where it does not fit in the output; then the output
 // is as it was. Its words are put together in `out`, which may hold anything before and holds anything after.
 pub fn finish(
@@ -20,7 +37,8 @@ pub fn finish(
     requires { ⌜ (length (now special) ≡ 1027) × (length (now out) ≡ 16384) ⌝ }
     ensures { λ r. ⌜ Ended (now (log .entry)) (now (classes .entry)) (now (starts .entry)) (now (special .entry)) ends (now (output .entry)) (r .refusal) (r .bytes) (now (output .exit)) ⌝ }
 {
-    let counts = ends.counts;
+    let c = ends.counts;
+    let counts = widened(c);
     let pairs = ends.pairs;
     writing::finish(log, classes, starts, counts, special, pairs, out, output)
 }

@@ -169,8 +169,8 @@ pub fn known(
     let k = wide(words[s]) - 1;
     let at = record_at(words, tags, n, NAMES, k);
     let end = record_end(words, tags, n, NAMES, k);
-    let names = ends.counts[NAMES];
-    let functions = ends.counts[FUNCTIONS];
+    let names = ends.counts[NAMES] as usize;
+    let functions = ends.counts[FUNCTIONS] as usize;
     let m = wide(maps[NAMES][k]);
     let d = sought(words, tags, log, classes, &starts[NAMES], names, m, at, end);
     last(log, classes, &starts[FUNCTIONS], functions, (d + 1) as u32)

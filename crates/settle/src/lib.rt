@@ -124,7 +124,7 @@ fn sought(
     requires { ⌜ Kept (now log) (now classes) (now starts) (now maps) (now marks) ends ⌝ }
     ensures { λ r. ⌜ r ≡ seat (recsAt (now (log .entry)) (now (classes .entry)) (take (getD (ends .counts) t 0) (row (now (starts .entry)) t))) (carriedBy (wentR (now (maps .entry))) (now (tags .entry)) (now (words .entry)) at end) ⌝ }
 {
-    let n = ends.counts[t];
+    let n = ends.counts[t] as usize;
     let v = shown(marks[p]);
     if v == 0 {
         return n;
@@ -178,7 +178,7 @@ pub fn settle(
     requires { ⌜ Kept (now log) (now classes) (now starts) (now maps) (now marks) ends ⌝ }
     ensures { λ r. ⌜ Lands (now (words .entry)) (settled (tabOf t) k (shift (carriedBy (wentR (now (maps .entry))) (now (tags .entry)) (now (words .entry)) at end) offset false)) (now (log .entry)) (now (classes .entry)) (now (starts .entry)) (now (maps .entry)) (now (marks .entry)) ends r (now (log .exit)) (now (classes .exit)) (now (starts .exit)) (now (maps .exit)) (now (marks .exit)) ⌝ }
 {
-    let n = ends.counts[t];
+    let n = ends.counts[t] as usize;
     let used = ends.used;
     let p = place(words, tags, kinds, maps, at, end, t);
     let j = sought(

@@ -22,7 +22,7 @@ ghost use Rattle.state.specs.Held.{recAt, Readable, Written, carriedBy};
 pub struct Ends {
     pub full: bool,
     pub used: usize,
-    pub counts: [usize; 8],
+    pub counts: [u16; 8],
     pub pairs: usize,
     pub et: usize,
     pub bt: usize,

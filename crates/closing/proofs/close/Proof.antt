@@ -50,6 +50,9 @@ mul-count c = search needs
 element-copy-out-count : tie.Need-element-copy-out-count
 element-copy-out-count c = search needs
 
+cast-count : tie.Need-cast-count
+cast-count c = search needs
+
 refuse-requires : tie.Need-refuse-requires
 refuse-requires c κs = search needs
 
@@ -378,6 +381,14 @@ add-c c =
     let r = room (a .tags .now) (a .before) (a .t6) (a .s) (a .exprs) (a .body) (a .end) (a .head) (p .0) (p .1 .0 .3) (p .1 .1 .0) (c .before .before .before .before .before .before .before .before .before .before .before .before .before .before .before .before .before .before .before .before .before .before .before .before .left .result) (c .before .before .before .before .before .before .before .before .before .before .before .before .before .before .before .before .before .before .before .before .before .before .before .before .left .ensures) (c .before .before .before .before .before .before .before .before .before .before .before .before .before .before .before .before .before .before .before .before .before .before .before .if2 .left) in
     let u = p .1 .0 in omega (arith, r)
 
+cast-c : tie.Need-cast-c
+cast-c c =
+    let st = c .before .before .before .before .before .before .before .before .before .before .before .before .before .before .before .before .before .before .before .before .before .before .before .before .before .before .before .before .before in
+    let a = st .args in
+    let p = st .pre in
+    let r = room (a .tags .now) (a .before) (a .t6) (a .s) (a .exprs) (a .body) (a .end) (a .head) (p .0) (p .1 .0 .3) (p .1 .1 .0) (c .before .before .before .before .before .before .before .before .before .before .before .before .before .before .before .before .before .before .before .before .before .before .before .before .left .result) (c .before .before .before .before .before .before .before .before .before .before .before .before .before .before .before .before .before .before .before .before .before .before .before .before .left .ensures) (c .before .before .before .before .before .before .before .before .before .before .before .before .before .before .before .before .before .before .before .before .before .before .before .if2 .left) in
+    let u = p .1 .0 in omega (arith, r)
+
 mul-c : tie.Need-mul-c
 mul-c c =
     let st = c .before .before .before .before .before .before .before .before .before .before .before .before .before .before .before .before .before .before .before .before .before .before .before .before .before .before .before .before .before in
@@ -394,16 +405,16 @@ array-write-c c =
     let r = room (a .tags .now) (a .before) (a .t6) (a .s) (a .exprs) (a .body) (a .end) (a .head) (p .0) (p .1 .0 .3) (p .1 .1 .0) (c .before .before .before .before .before .before .before .before .before .before .before .before .before .before .before .before .before .before .before .before .before .before .before .before .left .result) (c .before .before .before .before .before .before .before .before .before .before .before .before .before .before .before .before .before .before .before .before .before .before .before .before .left .ensures) (c .before .before .before .before .before .before .before .before .before .before .before .before .before .before .before .before .before .before .before .before .before .before .before .if2 .left) in
     let u = p .1 .0 in omega (arith, r)
 
-add-t30 : tie.Need-add-t30
-add-t30 c =
+add-t29 : tie.Need-add-t29
+add-t29 c =
     let st = c .before .before .before .before .before .before .before .before .before .before .before .before .before .before .before .before .before .before .before .before .before .before .before .before .before .before .before .before .before in
     let a = st .args in
     let p = st .pre in
     let r = room (a .tags .now) (a .before) (a .t6) (a .s) (a .exprs) (a .body) (a .end) (a .head) (p .0) (p .1 .0 .3) (p .1 .1 .0) (c .before .before .before .before .before .before .before .before .before .before .before .before .before .before .before .before .before .before .before .before .before .before .before .before .left .result) (c .before .before .before .before .before .before .before .before .before .before .before .before .before .before .before .before .before .before .before .before .before .before .before .before .left .ensures) (c .before .before .before .before .before .before .before .before .before .before .before .before .before .before .before .before .before .before .before .before .before .before .before .if2 .left) in
     let u = p .1 .0 in omega (arith, r)
 
-add-t28 : tie.Need-add-t28
-add-t28 c =
+add-t27 : tie.Need-add-t27
+add-t27 c =
     let st = c .before .before .before .before .before .before .before .before .before .before .before .before .before .before .before .before .before .before .before .before .before .before .before .before .before .before .before .before .before in
     let a = st .args in
     let p = st .pre in
@@ -436,6 +447,7 @@ close-spec =
     add-size-6
     mul-count
     element-copy-out-count
+    cast-count
     refuse-requires
     returns
     left-requires
@@ -491,8 +503,9 @@ close-spec =
     index-1-starts
     index-2-starts
     add-c
+    cast-c
     mul-c
     array-write-c
-    add-t30
-    add-t28
+    add-t29
+    add-t27
     returns-3)

@@ -29,8 +29,14 @@ record-end-requires c κs = (tape (c .before .before .before .before .args .word
 element-copy-out-names : tie.Need-element-copy-out-names
 element-copy-out-names c = search needs
 
+cast-names : tie.Need-cast-names
+cast-names c = search needs
+
 element-copy-out-functions : tie.Need-element-copy-out-functions
 element-copy-out-functions c = search needs
+
+cast-functions : tie.Need-cast-functions
+cast-functions c = search needs
 
 mul-wide-2 : tie.Need-mul-wide-2
 mul-wide-2 c = search needs
@@ -77,7 +83,9 @@ known-spec =
     record-at-requires-2
     record-end-requires
     element-copy-out-names
+    cast-names
     element-copy-out-functions
+    cast-functions
     mul-wide-2
     index-1-wide
     index-2-wide

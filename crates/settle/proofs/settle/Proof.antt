@@ -14,6 +14,9 @@ mul-n c = search needs
 element-copy-out-n : tie.Need-element-copy-out-n
 element-copy-out-n c = search needs
 
+cast-n : tie.Need-cast-n
+cast-n c = search needs
+
 place-requires : tie.Need-place-requires
 place-requires c κs = let a = (c .before .before .args) in let p = (c .before .before .pre) in let R = p .0 in let q = p .1 .0 in let pl = p .1 .1 .0 in let K = p .1 .1 .1 in let f = K .few (a .t) (let z = q .0 in omega arith) in let rm = K .room in let z = q .0 in (R, (omega arith, K .maps-six))
 
@@ -134,6 +137,7 @@ settle-spec =
     (tie.spec
     mul-n
     element-copy-out-n
+    cast-n
     place-requires
     sought-requires
     add-maps

@@ -14,6 +14,9 @@ mul-n c = search needs
 element-copy-out-n : tie.Need-element-copy-out-n
 element-copy-out-n c = search needs
 
+cast-n : tie.Need-cast-n
+cast-n c = search needs
+
 mul-shown : tie.Need-mul-shown
 mul-shown c = search needs
 
@@ -68,6 +71,7 @@ sought-spec =
     (tie.spec
     mul-n
     element-copy-out-n
+    cast-n
     mul-shown
     element-copy-out-shown
     shown-requires
