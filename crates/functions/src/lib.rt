@@ -20,6 +20,7 @@ use views::ENTRIES;
 use views::FUNCTIONS;
 use views::count;
 use whole::restore;
+use whole::save;
 use words::wide;
 ghost use mathlib.Core.Path.{_≡_};
 ghost use mathlib.Core.Bool.{true, false};
@@ -77,8 +78,9 @@ fn append_whole(
     requires { ⌜ ringing (f ∷ callees (function (modOf (now words) n) f)) (modOf (now words) n) (stOf (now words) (now log) (now classes) (now starts) (now maps) (now special) ends) ≡ false ⌝ }
     ensures { λ r. ⌜ Brings (now (words .entry)) (now (special .entry)) (appendS offset (modOf (now (words .entry)) n) (followS offset (modOf (now (words .entry)) n) room) f) (now (log .entry)) (now (classes .entry)) (now (starts .entry)) (now (maps .entry)) ends r (now (log .exit)) (now (classes .exit)) (now (starts .exit)) (now (maps .exit)) (now (marks .exit)) (now (stacks .exit)) ⌝ }
 {
-    let s = *starts;
-    let m = *maps;
+    let mut s = [[0u32; 512]; 8];
+    let mut m = [[0u32; 512]; 6];
+    save(words, starts, maps, ends, &mut s, &mut m);
     let mut places = [0u16; 1025];
     let got = append(
         words,
@@ -128,8 +130,9 @@ fn follow_whole(
     requires { ⌜ ringing (f ∷ []) (modOf (now words) n) (stOf (now words) (now log) (now classes) (now starts) (now maps) (now special) ends) ≡ false ⌝ }
     ensures { λ r. ⌜ Brings (now (words .entry)) (now (special .entry)) (followS offset (modOf (now (words .entry)) n) room f) (now (log .entry)) (now (classes .entry)) (now (starts .entry)) (now (maps .entry)) ends r (now (log .exit)) (now (classes .exit)) (now (starts .exit)) (now (maps .exit)) (now (marks .exit)) (now (stacks .exit)) ⌝ }
 {
-    let s = *starts;
-    let m = *maps;
+    let mut s = [[0u32; 512]; 8];
+    let mut m = [[0u32; 512]; 6];
+    save(words, starts, maps, ends, &mut s, &mut m);
     let mut places = [0u16; 1025];
     let got = follow(
         words,

@@ -1,2 +1,4 @@
+pub mod Saving
+pub mod Saved
 pub mod Over
 pub mod Answer

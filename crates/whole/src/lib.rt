@@ -1,4 +1,4 @@
-// The imports as operations of a session: where the result does not fit, nothing has changed. The starts of records and the maps are saved before, and
+// The imports as operations of a session: where the result does not fit, nothing has changed. The starts and the maps that are in use are saved before, and
 // restored where it does not fit. What was written lies behind the log's end, and a mark that was left costs a search at most. What an import answers is
 // the number that the maps have then.
 use handles::ConstantHandle;
@@ -7,17 +7,74 @@ use handles::GlobalHandle;
 use handles::OverrideHandle;
 use handles::TypeHandle;
 use state::Ends;
+use views::count;
 use words::wide;
 ghost use mathlib.Core.Path.{_≡_};
 ghost use mathlib.Core.Bool.{true, false};
-ghost use Prim.Native.Nat.{_<_};
+ghost use Prim.Native.Nat.{_≤_, _<_};
+ghost use lib.ListN.{length, getD};
 ghost use Rattle.model.specs.Module.{countAt};
 ghost use Rattle.model.specs.Tables.{types, constants, overrides, globals, exprs};
 ghost use Rattle.model.specs.Imports.{importT, renamed};
 ghost use Rattle.state.specs.Refers.{kindBytes};
 ghost use Rattle.state.specs.Source.{srcOf, Source};
 ghost use Rattle.state.specs.Held.{Kept, Whole};
-ghost use Rattle.whole.specs.Taken.{Restored, Answers};
+ghost use Rattle.whole.specs.Taken.{Prefix, Prefixes, Saved, Restored, Answers};
+
+// The first n words of a row.
+fn save_row(row: &[u32; 512], n: usize, to: &mut [u32; 512])
+    requires { ⌜ (length (now row) ≡ 512) × (length (now to) ≡ 512) × (n ≤ 512) ⌝ }
+    ensures { λ _. ⌜ Prefix n (now (row .entry)) (now (to .entry)) (now (to .exit)) ⌝ }
+{
+    let mut i = 0;
+    while i < n {
+        to[i] = row[i];
+        i += 1;
+    }
+}
+
+// The starts of the records that are there.
+fn save_starts(starts: &[[u32; 512]; 8], ends: Ends, s: &mut [[u32; 512]; 8])
+    requires { ⌜ Prefixes 8 0 (λ t. getD (ends .counts) t 0) (now starts) (now s) ⌝ }
+    ensures { λ _. ⌜ Prefixes 8 8 (λ t. getD (ends .counts) t 0) (now (starts .entry)) (now (s .exit)) ⌝ }
+{
+    let mut i = 0;
+    while i < 8 {
+        let t = i;
+        i += 1;
+        save_row(&starts[t], ends.counts[t] as usize, &mut s[t]);
+    }
+}
+
+// The maps of the numbers that the source has.
+fn save_maps(words: &[u32; 16384], maps: &[[u32; 512]; 6], m: &mut [[u32; 512]; 6])
+    requires { ⌜ Prefixes 6 0 (λ t. countAt t (now words)) (now maps) (now m) ⌝ }
+    ensures { λ _. ⌜ Prefixes 6 6 (λ t. countAt t (now (words .entry))) (now (maps .entry)) (now (m .exit)) ⌝ }
+{
+    let mut i = 0;
+    while i < 6 {
+        let t = i;
+        i += 1;
+        save_row(&maps[t], count(words, t), &mut m[t]);
+    }
+}
+
+// What the starts and maps hold that is in use.
+pub fn save(
+    words: &[u32; 16384],
+    starts: &[[u32; 512]; 8],
+    maps: &[[u32; 512]; 6],
+    ends: Ends,
+    s: &mut [[u32; 512]; 8],
+    m: &mut [[u32; 512]; 6],
+)
+    requires { ⌜ Prefixes 8 0 (λ t. getD (ends .counts) t 0) (now starts) (now s) ⌝ }
+    requires { ⌜ Prefixes 6 0 (λ t. countAt t (now words)) (now maps) (now m) ⌝ }
+    ensures { λ _. ⌜ Saved (now (words .entry)) (now (starts .entry)) (now (maps .entry)) ends (now (s .exit)) (now (m .exit)) ⌝ }
+{
+    save_starts(starts, ends, s);
+    save_maps(words, maps, m);
+}
 
 // Starts and maps as they were saved, where something did not fit.
 pub fn restore(
@@ -68,8 +125,9 @@ pub fn import_type(
     requires { ⌜ Kept (now log) (now classes) (now starts) (now maps) (now marks) ends ⌝ }
     ensures { λ r. ⌜ Whole (now (words .entry)) (importT offset (srcOf (now (words .entry)) n) types (h .0)) (now (log .entry)) (now (classes .entry)) (now (starts .entry)) (now (maps .entry)) ends r (now (log .exit)) (now (classes .exit)) (now (starts .exit)) (now (maps .exit)) (now (marks .exit)) ⌝ }
 {
-    let s = *starts;
-    let m = *maps;
+    let mut s = [[0u32; 512]; 8];
+    let mut m = [[0u32; 512]; 6];
+    save(words, starts, maps, ends, &mut s, &mut m);
     let got = import::import_type(
         words,
         tags,
@@ -110,8 +168,9 @@ pub fn rename_type(
     requires { ⌜ Kept (now log) (now classes) (now starts) (now maps) (now marks) ends ⌝ }
     ensures { λ r. ⌜ Whole (now (words .entry)) (importT offset (renamed (srcOf (now (words .entry)) n) (h .0) name) types (h .0)) (now (log .entry)) (now (classes .entry)) (now (starts .entry)) (now (maps .entry)) ends r (now (log .exit)) (now (classes .exit)) (now (starts .exit)) (now (maps .exit)) (now (marks .exit)) ⌝ }
 {
-    let s = *starts;
-    let m = *maps;
+    let mut s = [[0u32; 512]; 8];
+    let mut m = [[0u32; 512]; 6];
+    save(words, starts, maps, ends, &mut s, &mut m);
     let got = import::rename_type(
         words,
         tags,
@@ -152,8 +211,9 @@ pub fn import_const(
     requires { ⌜ Kept (now log) (now classes) (now starts) (now maps) (now marks) ends ⌝ }
     ensures { λ r. ⌜ Whole (now (words .entry)) (importT offset (srcOf (now (words .entry)) n) constants (h .0)) (now (log .entry)) (now (classes .entry)) (now (starts .entry)) (now (maps .entry)) ends r (now (log .exit)) (now (classes .exit)) (now (starts .exit)) (now (maps .exit)) (now (marks .exit)) ⌝ }
 {
-    let s = *starts;
-    let m = *maps;
+    let mut s = [[0u32; 512]; 8];
+    let mut m = [[0u32; 512]; 6];
+    save(words, starts, maps, ends, &mut s, &mut m);
     let got = constants::import_const(
         words,
         tags,
@@ -193,8 +253,9 @@ pub fn import_pipeline_override(
     requires { ⌜ Kept (now log) (now classes) (now starts) (now maps) (now marks) ends ⌝ }
     ensures { λ r. ⌜ Whole (now (words .entry)) (importT offset (srcOf (now (words .entry)) n) overrides (h .0)) (now (log .entry)) (now (classes .entry)) (now (starts .entry)) (now (maps .entry)) ends r (now (log .exit)) (now (classes .exit)) (now (starts .exit)) (now (maps .exit)) (now (marks .exit)) ⌝ }
 {
-    let s = *starts;
-    let m = *maps;
+    let mut s = [[0u32; 512]; 8];
+    let mut m = [[0u32; 512]; 6];
+    save(words, starts, maps, ends, &mut s, &mut m);
     let got = constants::import_pipeline_override(
         words,
         tags,
@@ -234,8 +295,9 @@ pub fn import_global(
     requires { ⌜ Kept (now log) (now classes) (now starts) (now maps) (now marks) ends ⌝ }
     ensures { λ r. ⌜ Whole (now (words .entry)) (importT offset (srcOf (now (words .entry)) n) globals (h .0)) (now (log .entry)) (now (classes .entry)) (now (starts .entry)) (now (maps .entry)) ends r (now (log .exit)) (now (classes .exit)) (now (starts .exit)) (now (maps .exit)) (now (marks .exit)) ⌝ }
 {
-    let s = *starts;
-    let m = *maps;
+    let mut s = [[0u32; 512]; 8];
+    let mut m = [[0u32; 512]; 6];
+    save(words, starts, maps, ends, &mut s, &mut m);
     let got = constants::import_global(
         words,
         tags,
@@ -275,8 +337,9 @@ pub fn import_global_expression(
     requires { ⌜ Kept (now log) (now classes) (now starts) (now maps) (now marks) ends ⌝ }
     ensures { λ r. ⌜ Whole (now (words .entry)) (importT offset (srcOf (now (words .entry)) n) exprs (h .0)) (now (log .entry)) (now (classes .entry)) (now (starts .entry)) (now (maps .entry)) ends r (now (log .exit)) (now (classes .exit)) (now (starts .exit)) (now (maps .exit)) (now (marks .exit)) ⌝ }
 {
-    let s = *starts;
-    let m = *maps;
+    let mut s = [[0u32; 512]; 8];
+    let mut m = [[0u32; 512]; 6];
+    save(words, starts, maps, ends, &mut s, &mut m);
     let got = constants::import_global_expression(
         words,
         tags,
