@@ -4,7 +4,7 @@ use mathlib.Core.Bool.{true, false}
 use mathlib.Core.List.{List}
 use Prim.Native.Nat.{ℕ, _+_, _*_, _≤_}
 use native.Mathlib.Omega.{arith}
-use lib.ListN.{length, getD, take, length-take, replicate, length-replicate}
+use lib.ListN.{length, getD, take, length-take, replicate}
 use lib.Seq.{sets}
 use Rattle.words.specs.Words.{bytesOf}
 use Rattle.model.specs.Module.{Module, countAt, write}
@@ -23,16 +23,16 @@ use Rattle.state.specs.Source.{modOf, Source}
 use Rattle.state.specs.Held.{stOf, Over, Kept, Specials}
 use Rattle.state.specs.declared.Ends.{Ends}
 use Rattle.state.proofs.Laws.{none-held}
-use Rattle.state.proofs.Fresh.{rows-at, kept-nothing, st-nothing}
+use Rattle.state.proofs.Fresh.{kept-nothing, st-nothing}
 use Rattle.operations.specs.Theorems.{live-new, zeros}
 use Rattle.sourcing.specs.Derives.{Sourced}
 use Rattle.making.specs.Stacks.{Stacks}
 use Rattle.ending.specs.Told.{told, Held, Ended}
 use Rattle.ending.specs.Theorems.{finish-with-told}
 use Rattle.operations.specs.Live.{sessionOf, Live}
+use Rattle.operations.specs.Lent.{Spaces}
 use Rattle.functions.proofs.Sources.{at}
 use Rattle.functions.specs.Brought.{EntersAll}
-use Rattle.link.specs.Lent.{Spaces}
 use Rattle.link.specs.Appends.{Roomy, Sequence, AppendsAll, Linkable, LinksBy}
 use Rattle.link.proofs.Fresh.{fresh-at, set-fits, imported-roomy, finish-fits, link-output}
 use Rattle.link.proofs.Appending.{never, at-reached}
@@ -46,18 +46,6 @@ unmade = replicate 6 (replicate 512 0)
 -- ---- arrays of these lengths, with nothing in them that counts
 pub specials-none : (e : Ends) → e ≡ E → Specials (replicate 1027 0) e
 specials-none e q = subst (Specials (replicate 1027 0)) (sym q) (live-new zeros 0 0 .specials)
-
--- arrays of zeros are such
-pub zeros-spaces : Spaces (replicate 16384 0) (replicate 16384 0) (replicate 8 (replicate 512 0)) (replicate 4 (replicate 16384 0))
-zeros-spaces =
-    record {
-      log-long = zeros .log-long;
-      classes-long = zeros .tags-long;
-      starts-eight = zeros .starts-eight;
-      starts-rows = zeros .rows;
-      stacks-four = length-replicate {A = List ℕ} 4 (replicate 16384 0);
-      stacks-rows = λ t h. ap length (rows-at (replicate 16384 0) 4 t h) ∙ length-replicate {A = ℕ} 16384 0;
-    }
 
 module _ (log₀ tags₀ : List ℕ) (starts₀ : List (List ℕ)) (marks₀ : List ℕ) (stacks₀ : List (List ℕ)) (P : Spaces log₀ tags₀ starts₀ stacks₀) (marks-long : length marks₀ ≡ 16384) where
   pub kept-none : (e : Ends) → e ≡ E → Kept log₀ tags₀ starts₀ unmade marks₀ e

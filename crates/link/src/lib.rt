@@ -21,8 +21,8 @@ ghost use Rattle.state.specs.Source.{modOf};
 ghost use Rattle.state.specs.Held.{stOf};
 ghost use Rattle.making.specs.Stacks.{Stacks};
 ghost use Rattle.operations.specs.Live.{Live};
+ghost use Rattle.operations.specs.Lent.{Spaces};
 ghost use Rattle.link.specs.Linked.{Links};
-ghost use Rattle.link.specs.Lent.{Spaces};
 ghost use Rattle.link.specs.Appends.{Roomy, Sequence, AppendsAll, Linkable, LinksBy};
 
 // The first `all` functions of the order, appended.

@@ -19,6 +19,7 @@ use Rattle.state.specs.Held.{row}
 use Rattle.state.specs.declared.Ends.{Ends}
 use Rattle.state.proofs.Fresh.{rows-at, kept-nothing, st-nothing}
 use Rattle.operations.specs.Live.{sessionOf, answerOf, Live, Does, Spans}
+use Rattle.operations.specs.Lent.{Spaces}
 
 -- ---- the start
 abbrev pub Nothing : Ends
@@ -83,6 +84,17 @@ zeros = record {
     rays (suc zero) l = refl
     rays (suc (suc zero)) l = refl
     rays (suc (suc (suc i))) l = absurd (omega arith)
+
+-- they may be lent
+pub zeros-spaces : Spaces (replicate 16384 0) (replicate 16384 0) (replicate 8 (replicate 512 0)) (replicate 4 (replicate 16384 0))
+zeros-spaces = record {
+  log-long = zeros .log-long;
+  classes-long = zeros .tags-long;
+  starts-eight = zeros .starts-eight;
+  starts-rows = zeros .rows;
+  stacks-four = refl;
+  stacks-rows = λ t l. ap length (rows-at (replicate 16384 0) 4 t l) ∙ length-replicate {A = ℕ} 16384 0;
+}
 
 -- ---- clear_shader_source: nothing is written
 module _ (n o : ℕ) (words tape kinds log tags : List ℕ) (starts maps : List (List ℕ)) (marks special : List ℕ) (e : Ends) where

@@ -1,4 +1,4 @@
--- THE SESSIONS THAT THE CONTRACT SHUTS OUT, on small sources, with any answers and any output that are long enough: whatever kept the promise of `session` (`Sessions`) is none of these. Document 01: "A call to a name not yet known imports that function first"; an Emit "first imports the standing expressions under its range, then the range; the new range is what the second pass appended"; "Derived images number names by first appearance"; "Imports test 20, 13, 22, 21"; "derived module, set source and maps stay"; "undefined stays undefined; otherwise the 32-bit offset is added to start and end modulo 4,294,967,296". What the sessions do is computed in `crates/computed`.
+-- THE SESSIONS THAT THE CONTRACT SHUTS OUT, on small sources, with any answers and any output that are long enough: whatever kept the promise of `session` and `session_in` (`Sessions`) is none of these. Document 01: "A call to a name not yet known imports that function first"; an Emit "first imports the standing expressions under its range, then the range; the new range is what the second pass appended"; "Derived images number names by first appearance"; "Imports test 20, 13, 22, 21"; "derived module, set source and maps stay"; "undefined stays undefined; otherwise the 32-bit offset is added to start and end modulo 4,294,967,296". What the sessions do is computed in `crates/computed`.
 use mathlib.Core.Path.{_≡_, refl, sym, ap, _∙_}
 use mathlib.Core.Bool.{Bool, true, _&&_}
 use mathlib.Core.List.{List, [], _∷_, _++_}

@@ -1,5 +1,6 @@
 // A session as a list of steps: one call is given all sources, all steps and the output, and keeps nothing. A step is four words, an operation and its numbers; its
-// answer is three, the refusal and two values. A refused step changes nothing, and the next one follows.
+// answer is three, the refusal and two values. A refused step changes nothing, and the next one follows. `session_in` works in arrays that its caller lends,
+// `session` in its own.
 use functions::finish_with_entries;
 use functions::import_function;
 use functions::map_function_handle;
@@ -11,6 +12,7 @@ use operations::required;
 use operations::set_source_of;
 use refusals::NO_RECORD;
 use state::Ends;
+use state::forget;
 use state::kinds;
 use state::nothing;
 use views::CONSTANTS;
@@ -21,6 +23,7 @@ ghost use Prim.Native.Nat.{ℕ, _≤_, min};
 ghost use lib.ListN.{length, set};
 ghost use Rattle.making.specs.Stacks.{Stacks};
 ghost use Rattle.operations.specs.Live.{sessionOf, Live};
+ghost use Rattle.operations.specs.Lent.{Spaces};
 ghost use Rattle.session.specs.Sessions.{saying, Stepped, Quiet, Wrote, Recorded, valueOf, orElse, numbered, Sessions};
 
 // The operations by their numbers, as include/wuldgisp.h lists them.
@@ -554,20 +557,32 @@ fn first_of(first: u64, refusal: u32, j: usize) -> u64
     refusal as u64 + (j % 4294967296) as u64 * 4294967296
 }
 
-// All steps. 0 if every step was accepted; else the refusal of the first refused step in the low half, and that step's number in the high half.
-pub fn session(sources: &[u8], steps: &[u32], answers: &mut [u32], output: &mut [u8]) -> u64
+// All steps, in arrays that the caller lends. 0 if every step was accepted; else the refusal of the first refused step in the low half, and that step's number in
+// the high half. The arrays may hold anything before, and hold anything after. Nothing is asked of maps and marks, not even lengths: they are written whole before
+// use.
+pub fn session_in(
+    sources: &[u8],
+    steps: &[u32],
+    answers: &mut [u32],
+    output: &mut [u8],
+    words: &mut [u32; 16384],
+    tags: &mut [u8; 16384],
+    log: &mut [u32; 16384],
+    classes: &mut [u8; 16384],
+    starts: &mut [[u32; 512]; 8],
+    maps: &mut [[u32; 512]; 6],
+    marks: &mut [u16; 16384],
+    stacks: &mut [[u32; 16384]; 4],
+) -> u64
+    requires { ⌜ (length (now words) ≡ 16384) × (length (now tags) ≡ 16384) ⌝ }
+    requires { ⌜ Spaces (now log) (now classes) (now starts) (now stacks) ⌝ }
     ensures { λ r. ⌜ Sessions (now (sources .entry)) (now (steps .entry)) (now (answers .entry)) (now (output .entry)) r (now (answers .exit)) (now (output .exit)) ⌝ }
 {
+    forget(maps);
+    // marks that another session left would cost time; the answer does not rest on them
+    *marks = [0; 16384];
     let kinds = kinds();
-    let mut words = [0u32; 16384];
-    let mut tags = [0u8; 16384];
-    let mut log = [0u32; 16384];
-    let mut classes = [0u8; 16384];
-    let mut starts = [[0u32; 512]; 8];
-    let mut maps = [[0u32; 512]; 6];
-    let mut marks = [0u16; 16384];
     let mut special = [0u32; 1027];
-    let mut stacks = [[0u32; 16384]; 4];
     let mut ends = nothing();
     let mut set = false;
     let mut n = 0;
@@ -585,16 +600,16 @@ pub fn session(sources: &[u8], steps: &[u32], answers: &mut [u32], output: &mut 
             c: steps[4 * j + 3],
         };
         let said = perform(
-            &mut words,
-            &mut tags,
+            words,
+            tags,
             &kinds,
-            &mut log,
-            &mut classes,
-            &mut starts,
-            &mut maps,
-            &mut marks,
+            log,
+            classes,
+            starts,
+            maps,
+            marks,
             &mut special,
-            &mut stacks,
+            stacks,
             sources,
             output,
             n,
@@ -613,4 +628,32 @@ pub fn session(sources: &[u8], steps: &[u32], answers: &mut [u32], output: &mut 
         first = first_of(first, said.refusal, j);
     }
     first
+}
+
+// The same, in arrays of its own.
+pub fn session(sources: &[u8], steps: &[u32], answers: &mut [u32], output: &mut [u8]) -> u64
+    ensures { λ r. ⌜ Sessions (now (sources .entry)) (now (steps .entry)) (now (answers .entry)) (now (output .entry)) r (now (answers .exit)) (now (output .exit)) ⌝ }
+{
+    let mut words = [0u32; 16384];
+    let mut tags = [0u8; 16384];
+    let mut log = [0u32; 16384];
+    let mut classes = [0u8; 16384];
+    let mut starts = [[0u32; 512]; 8];
+    let mut maps = [[0u32; 512]; 6];
+    let mut marks = [0u16; 16384];
+    let mut stacks = [[0u32; 16384]; 4];
+    session_in(
+        sources,
+        steps,
+        answers,
+        output,
+        &mut words,
+        &mut tags,
+        &mut log,
+        &mut classes,
+        &mut starts,
+        &mut maps,
+        &mut marks,
+        &mut stacks,
+    )
 }

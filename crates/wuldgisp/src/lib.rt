@@ -4,8 +4,8 @@ ghost use lib.ListN.{length};
 ghost use Rattle.intake.specs.Taken.{Answers};
 ghost use Rattle.basic.specs.Images.{Orders};
 ghost use Rattle.layered.specs.Images.{Answers as Redirects};
+ghost use Rattle.operations.specs.Lent.{Spaces};
 ghost use Rattle.link.specs.Linked.{Links};
-ghost use Rattle.link.specs.Lent.{Spaces};
 ghost use Rattle.session.specs.Sessions.{Sessions};
 
 // Intake: 0 for an image that is accepted, else the number of the test that refuses it, 1 to 6.
@@ -94,4 +94,42 @@ pub extern "C" fn wuldgisp_session(
     ensures { λ r. ⌜ Sessions (now (sources .entry)) (now (steps .entry)) (now (answers .entry)) (now (output .entry)) r (now (answers .exit)) (now (output .exit)) ⌝ }
 {
     session::session(sources, steps, answers, output)
+}
+
+// Runs a session's steps in memory that the caller lends: eight arrays, 476 KiB in all. They may hold anything before and hold anything after, so they need no
+// clearing, neither at first nor between calls. The promise is that of wuldgisp_session, word for word. What is asked are the arrays' lengths, which their types
+// say.
+#[no_mangle]
+pub extern "C" fn wuldgisp_session_in(
+    sources: &[u8],
+    steps: &[u32],
+    answers: &mut [u32],
+    output: &mut [u8],
+    words: &mut [u32; 16384],
+    tags: &mut [u8; 16384],
+    log: &mut [u32; 16384],
+    classes: &mut [u8; 16384],
+    starts: &mut [[u32; 512]; 8],
+    maps: &mut [[u32; 512]; 6],
+    marks: &mut [u16; 16384],
+    stacks: &mut [[u32; 16384]; 4],
+) -> u64
+    requires { ⌜ (length (now words) ≡ 16384) × (length (now tags) ≡ 16384) ⌝ }
+    requires { ⌜ Spaces (now log) (now classes) (now starts) (now stacks) ⌝ }
+    ensures { λ r. ⌜ Sessions (now (sources .entry)) (now (steps .entry)) (now (answers .entry)) (now (output .entry)) r (now (answers .exit)) (now (output .exit)) ⌝ }
+{
+    session::session_in(
+        sources,
+        steps,
+        answers,
+        output,
+        words,
+        tags,
+        log,
+        classes,
+        starts,
+        maps,
+        marks,
+        stacks,
+    )
 }

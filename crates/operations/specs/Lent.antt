@@ -1,4 +1,4 @@
--- The lengths of arrays that are lent to linking: what their types say, which a proof is not told of an array behind a reference. Nothing is said of what they hold. Assumes nothing: this is a definition.
+-- The lengths of arrays that are lent to linking and sessions: what their types say, which a proof is not told of an array behind a reference. Nothing is said of what they hold. Assumes nothing: this is a definition.
 use mathlib.Core.Path.{_≡_}
 use mathlib.Core.List.{List}
 use Prim.Native.Nat.{ℕ, _<_}
