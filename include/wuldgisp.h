@@ -4,9 +4,9 @@
  * length 0. Several threads may call at the same time.
  *
  * Stack: give a thread that calls wuldgisp_intake, wuldgisp_order or wuldgisp_redirect at least WULDGISP_STACK bytes, and one that calls wuldgisp_link,
- * wuldgisp_link_in or wuldgisp_session at least WULDGISP_LINK_STACK. Measured (docs/PERFORMANCE.md): 120 KiB for the first three; 1,864 KiB for link,
- * 476 KiB less for link_in; for a session 1,600 KiB where 256 functions nest, and 2,712 KiB where, at their end, 1,024 initialisers, 181 constants and
- * 512 types nest too.
+ * wuldgisp_link_in, wuldgisp_session or wuldgisp_session_in at least WULDGISP_LINK_STACK. Measured (docs/PERFORMANCE.md): 120 KiB for the first three;
+ * 1,444 KiB for link; for a session 1,400 KiB where 256 functions nest, and 2,172 KiB where, at their end, 1,024 initialisers, 181 constants and 512 types
+ * nest too; 476 KiB less in lent memory.
  *
  * docs/RULES.md has the rules behind every refusal, and docs/IMAGE.md the image word by word.
  */
@@ -78,7 +78,8 @@ uint64_t wuldgisp_redirect(uint8_t *image, size_t image_len, uint32_t original, 
  */
 uint64_t wuldgisp_link(const uint8_t *image, size_t image_len, uint8_t *output, size_t output_len);
 
-/* The memory that wuldgisp_link_in is lent: eight arrays, 476 KiB in all. Too much for many a stack: keep it in static storage, or allocate it. */
+/* The memory that wuldgisp_link_in and wuldgisp_session_in are lent: eight arrays, 476 KiB in all. Too much for many a stack: keep it in static storage,
+ * or allocate it. */
 typedef struct wuldgisp_memory {
     uint32_t words[16384];
     uint8_t tags[16384];
@@ -90,7 +91,7 @@ typedef struct wuldgisp_memory {
     uint32_t stacks[4][16384];
 } wuldgisp_memory;
 
-/* The last eight arguments of wuldgisp_link_in, from a wuldgisp_memory *. */
+/* The last eight arguments of wuldgisp_link_in and wuldgisp_session_in, from a wuldgisp_memory *. */
 #define WULDGISP_MEMORY(m) (m)->words, (m)->tags, (m)->log, (m)->classes, (m)->starts[0], (m)->maps[0], (m)->marks, (m)->stacks[0]
 
 /* Link in memory that is lent: for a caller that links many images. wuldgisp_link has this memory on its stack and clears all of it in every call.
@@ -145,6 +146,13 @@ uint64_t wuldgisp_link_in(const uint8_t *image, size_t image_len, uint8_t *outpu
  */
 uint64_t wuldgisp_session(const uint8_t *sources, size_t sources_len, const uint32_t *steps, size_t steps_len, uint32_t *answers, size_t answers_len,
                           uint8_t *output, size_t output_len);
+
+/* Session in memory that is lent: for a caller that runs many. Answers and writes as wuldgisp_session does. The last eight arguments are those of
+ * wuldgisp_link_in, and the same memory may be lent to both, one call behind the other; nothing goes over from one call to the next.
+ */
+uint64_t wuldgisp_session_in(const uint8_t *sources, size_t sources_len, const uint32_t *steps, size_t steps_len, uint32_t *answers, size_t answers_len,
+                             uint8_t *output, size_t output_len, uint32_t *words, uint8_t *tags, uint32_t *log, uint8_t *classes, uint32_t *starts,
+                             uint32_t *maps, uint16_t *marks, uint32_t *stacks);
 
 #ifdef __cplusplus
 }

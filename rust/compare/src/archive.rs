@@ -14,7 +14,7 @@ pub fn link(image: &[u8], output: &mut [u8]) -> u64 {
     unsafe { wuldgisp_sys::wuldgisp_link(image.as_ptr(), image.len(), output.as_mut_ptr(), output.len()) }
 }
 
-/// The memory that is lent to `link_in`, each array between guards. At first it holds what guards are, and then what the
+/// The memory that is lent to `link_in` and `session_in`, each array between guards. At first it holds what guards are, and then what the
 /// calls before have left: it is never cleared.
 pub struct Memory {
     words: Guarded<u32>,
@@ -66,6 +66,38 @@ pub fn link_in(image: &[u8], output: &mut [u8], memory: &mut Memory) -> u64 {
         wuldgisp_sys::wuldgisp_link_in(
             image.as_ptr(),
             image.len(),
+            output.as_mut_ptr(),
+            output.len(),
+            memory.words.lent().as_mut_ptr(),
+            memory.tags.lent().as_mut_ptr(),
+            memory.log.lent().as_mut_ptr(),
+            memory.classes.lent().as_mut_ptr(),
+            memory.starts.lent().as_mut_ptr(),
+            memory.maps.lent().as_mut_ptr(),
+            memory.marks.lent().as_mut_ptr(),
+            memory.stacks.lent().as_mut_ptr(),
+        )
+    }
+}
+
+/// As `session`, in memory that is lent.
+pub fn session_in(
+    sources: &[u8],
+    steps: &[u32],
+    answers: &mut [u32],
+    output: &mut [u8],
+    memory: &mut Memory,
+) -> u64 {
+    // SAFETY: the pointers and lengths are those of slices that outlive the call; sources and steps are only read, and
+    // answers and output, which are written, are lent by no one else; the eight arrays are as in `link_in`.
+    unsafe {
+        wuldgisp_sys::wuldgisp_session_in(
+            sources.as_ptr(),
+            sources.len(),
+            steps.as_ptr(),
+            steps.len(),
+            answers.as_mut_ptr(),
+            answers.len(),
             output.as_mut_ptr(),
             output.len(),
             memory.words.lent().as_mut_ptr(),

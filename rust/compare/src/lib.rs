@@ -1,6 +1,6 @@
 //! The archive beside the plain reading: what the differential run, the benchmark and the tests of this package share.
 //!
-//! [`archive`] calls link, in memory of its own and in memory that is lent, and session as C has them; [`image`] compares
+//! [`archive`] calls link and session as C has them, in memory of their own and in memory that is lent; [`image`] compares
 //! the operations on one image and [`session`] a whole session, each on memory between guards ([`guarded`]). A [`run`]
 //! counts what has been compared and what was answered, and [`stages`] is what it goes through. What is measured of
 //! sessions is in [`scripts`], with its [`timing`] and the [`picture`] of it.

@@ -92,7 +92,7 @@ impl Run {
     /// Compares one session.
     pub fn compare_session(&mut self, session: &Generated) {
         let asked = session::Asked::draw(&mut self.random, &session.steps);
-        match session::agrees(session, &asked) {
+        match session::agrees(session, &asked, &mut self.memory) {
             Ok(answered) => {
                 self.passed += 1;
                 for (operation, answer) in answered {

@@ -6,7 +6,7 @@ use plain::random::Random;
 use plain::steps::{operation, ANSWER, STEP};
 use plain::{deep, generate, heavy};
 
-use crate::archive;
+use crate::archive::{self, Memory};
 
 /// Steps, with room for their answers and for an image.
 pub struct Script {
@@ -55,6 +55,11 @@ impl Script {
     /// Runs it by the archive; the answer of the call.
     pub fn run(&mut self, image: &[u8]) -> u64 {
         archive::session(image, &self.steps, &mut self.answers, &mut self.output)
+    }
+
+    /// The same in memory that is lent.
+    pub fn run_in(&mut self, image: &[u8], memory: &mut Memory) -> u64 {
+        archive::session_in(image, &self.steps, &mut self.answers, &mut self.output, memory)
     }
 
     pub fn output(&self) -> &[u8] {

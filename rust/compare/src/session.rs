@@ -6,7 +6,7 @@ use plain::generate_session::Generated;
 use plain::random::Random;
 use plain::steps::{operation, ANSWER, OPERATIONS, STEP};
 
-use crate::archive;
+use crate::archive::{self, Memory};
 use crate::guarded::{difference, Guarded, BYTE, WORD};
 
 /// What is asked of a session beside its sources and steps, drawn.
@@ -36,24 +36,53 @@ impl Asked {
 /// A step and the refusal, or 0, that both answer.
 pub type Answered = (u32, u32);
 
-/// Compares a session and tells what both answer to each step, as far as there was room.
-pub fn agrees(session: &Generated, asked: &Asked) -> Result<Vec<Answered>, String> {
-    let sources = Guarded::holding(BYTE, &session.sources, asked.more);
+/// What a session answers and leaves: the answer of the call, those of the steps, and the output.
+struct Told {
+    first: u64,
+    answers: Vec<u32>,
+    output: Vec<u8>,
+}
+
+/// Compares a session, in memory of its own and in memory that is lent, and tells what is answered to each step, as far
+/// as there was room.
+pub fn agrees(session: &Generated, asked: &Asked, memory: &mut Memory) -> Result<Vec<Answered>, String> {
     let mut steps = session.steps.clone();
     steps.extend(vec![operation::CLEAR; asked.behind]);
+    let mut expected = Told { first: 0, answers: vec![WORD; asked.room], output: vec![BYTE; session.output] };
+    let (answers, output) = (&mut expected.answers, &mut expected.output);
+    expected.first = plain::steps::run(&session.sources, &steps, answers, output);
+
+    same(session, asked, &expected, |sources, answers, output| {
+        archive::session(sources, &steps, answers, output)
+    })?;
+    same(session, asked, &expected, |sources, answers, output| {
+        archive::session_in(sources, &steps, answers, output, memory)
+    })
+    .map_err(|message| format!("in lent memory: {message}"))?;
+    if !memory.intact() {
+        return Err("what is around the lent memory changed".to_owned());
+    }
+    let steps = session.steps.chunks_exact(STEP).map(|step| step[0]);
+    Ok(steps.zip(expected.answers.chunks_exact(ANSWER).map(|answer| answer[0])).collect())
+}
+
+/// Runs a session by a call of the archive and compares what it tells.
+fn same(
+    session: &Generated,
+    asked: &Asked,
+    expected: &Told,
+    call: impl FnOnce(&[u8], &mut [u32], &mut [u8]) -> u64,
+) -> Result<(), String> {
+    let sources = Guarded::holding(BYTE, &session.sources, asked.more);
     let mut answers = Guarded::fresh(WORD, asked.room, asked.more);
     let mut output = Guarded::fresh(BYTE, session.output, asked.more);
-    let archive = archive::session(sources.content(), &steps, answers.lent(), output.lent());
-
-    let mut expected_answers = vec![WORD; asked.room];
-    let mut expected_output = vec![BYTE; session.output];
-    let expected = plain::steps::run(&session.sources, &steps, &mut expected_answers, &mut expected_output);
-    same_answers(&session.steps, answers.content(), &expected_answers)?;
-    if archive != expected {
-        return Err(format!("the archive answers {archive:#x}, the plain reading {expected:#x}"));
+    let first = call(sources.content(), answers.lent(), output.lent());
+    same_answers(&session.steps, answers.content(), &expected.answers)?;
+    if first != expected.first {
+        return Err(format!("the archive answers {first:#x}, the plain reading {:#x}", expected.first));
     }
-    if let Some(at) = difference(output.content(), &expected_output) {
-        let (archive, expected) = (output.content()[at], expected_output[at]);
+    if let Some(at) = difference(output.content(), &expected.output) {
+        let (archive, expected) = (output.content()[at], expected.output[at]);
         return Err(format!(
             "byte {at} of the output is {archive} by the archive, {expected} by the plain reading"
         ));
@@ -61,8 +90,7 @@ pub fn agrees(session: &Generated, asked: &Asked) -> Result<Vec<Answered>, Strin
     if !answers.intact() || !output.intact() {
         return Err("what is around the answers or the output changed".to_owned());
     }
-    let steps = session.steps.chunks_exact(STEP).map(|step| step[0]);
-    Ok(steps.zip(expected_answers.chunks_exact(ANSWER).map(|answer| answer[0])).collect())
+    Ok(())
 }
 
 fn same_answers(steps: &[u32], archive: &[u32], expected: &[u32]) -> Result<(), String> {

@@ -37,10 +37,29 @@ fn null_pointers_of_length_0_are_no_bytes() {
         );
         assert_eq!(linked, 1);
         assert_eq!(wuldgisp_sys::wuldgisp_session(null(), 0, null(), 0, null_mut(), 0, null_mut(), 0), 0);
+        let first = wuldgisp_sys::wuldgisp_session_in(
+            null(),
+            0,
+            null(),
+            0,
+            null_mut(),
+            0,
+            null_mut(),
+            0,
+            words,
+            tags,
+            log,
+            classes,
+            starts,
+            maps,
+            marks,
+            stacks,
+        );
+        assert_eq!(first, 0);
     }
 }
 
-/// The answers and the output of drawn sessions, and the links of their sources, both ways, one after the other.
+/// The answers and the output of drawn sessions, and the links of their sources, each both ways, one after the other.
 fn answers() -> Vec<(u64, Vec<u32>, Vec<u8>)> {
     let mut all = Vec::new();
     let mut memory = Memory::new();
@@ -49,6 +68,11 @@ fn answers() -> Vec<(u64, Vec<u32>, Vec<u8>)> {
         let mut answers = vec![0; session.steps.len() / STEP * ANSWER];
         let mut output = vec![0; session.output];
         let first = archive::session(&session.sources, &session.steps, &mut answers, &mut output);
+        let (mut answers_in, mut output_in) = (vec![0; answers.len()], vec![0; output.len()]);
+        let (sources, steps) = (&session.sources, &session.steps);
+        let first_in = archive::session_in(sources, steps, &mut answers_in, &mut output_in, &mut memory);
+        assert_eq!((first_in, &answers_in), (first, &answers), "seed {seed}: in lent memory");
+        assert!(output_in == output, "seed {seed}: not what a session writes");
         all.push((first, answers, output));
         let mut output = vec![0; session.sources.len()];
         let linked = archive::link(&session.sources, &mut output);

@@ -58,6 +58,11 @@ fn sessions_run_in_the_recommended_stack() {
         assert_eq!(script.run(&image), 0, "{name}");
         let length = (answer >> 32) as usize;
         assert!(script.output()[..length] == linked[..length], "{name}: not what link writes");
+        assert_eq!(script.run_in(&image, &mut Memory::new()), 0, "{name}");
+        assert!(
+            script.output()[..length] == linked[..length],
+            "{name}: not what link writes, in lent memory"
+        );
         for number in [operation::IMPORT_FUNCTION, operation::MAP_FUNCTION_HANDLE] {
             assert_eq!(Script::nested(&image, number).run(&image), 0, "{name}");
         }

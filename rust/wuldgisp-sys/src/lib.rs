@@ -12,7 +12,8 @@ pub const WULDGISP_STACK: usize = 262144;
 /// The same for link and sessions.
 pub const WULDGISP_LINK_STACK: usize = 4194304;
 
-/// How many numbers each array holds that is lent to `wuldgisp_link_in`, the rows of an array together.
+/// How many numbers each array holds that is lent to `wuldgisp_link_in` and `wuldgisp_session_in`, the rows of an array
+/// together.
 pub mod memory {
     pub const WORDS: usize = 16384;
     pub const TAGS: usize = 16384;
@@ -59,5 +60,23 @@ extern "C" {
         answers_len: usize,
         output: *mut u8,
         output_len: usize,
+    ) -> u64;
+    pub fn wuldgisp_session_in(
+        sources: *const u8,
+        sources_len: usize,
+        steps: *const u32,
+        steps_len: usize,
+        answers: *mut u32,
+        answers_len: usize,
+        output: *mut u8,
+        output_len: usize,
+        words: *mut u32,
+        tags: *mut u8,
+        log: *mut u32,
+        classes: *mut u8,
+        starts: *mut u32,
+        maps: *mut u32,
+        marks: *mut u16,
+        stacks: *mut u32,
     ) -> u64;
 }

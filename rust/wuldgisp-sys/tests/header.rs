@@ -1,5 +1,5 @@
 //! The declarations in `src/lib.rs` are those of `include/wuldgisp.h`: names, arguments and types, the stacks, and the
-//! memory of `wuldgisp_link_in`.
+//! memory of `wuldgisp_link_in` and `wuldgisp_session_in`.
 //!
 //! Both files are brought to one spelling, the Rust one, and compared as sets. WULDGISP_HEADER names another
 //! header.
@@ -118,11 +118,13 @@ fn the_memory_is_the_headers() {
     ];
     let owned = memory.map(|(own, name, count)| (own.to_owned(), name.to_owned(), count));
     assert_eq!(memory_of_header(&header()), owned);
-    // The arguments of wuldgisp_link_in are those arrays, in that order.
+    // The last arguments of both functions that are lent it are those arrays, in that order.
     let arguments = memory.map(|(own, name, _)| format!("{name}: *mut {own}")).join(", ");
     let functions = of_rust(&rust());
-    let link_in = functions.iter().find(|function| function.starts_with("wuldgisp_link_in("));
-    assert!(link_in.expect("wuldgisp_link_in").contains(&format!(", {arguments})")));
+    for name in ["wuldgisp_link_in(", "wuldgisp_session_in("] {
+        let function = functions.iter().find(|function| function.starts_with(name)).expect(name);
+        assert!(function.contains(&format!(", {arguments})")), "{function}");
+    }
 }
 
 #[test]

@@ -6,7 +6,7 @@
 //! repository has the rules that the answers follow, and `docs/IMAGE.md` the image word by word.
 //!
 //! [`Image`] reads names and looks functions up by name; [`redirect_by_name`] redirects by name; a [`Linker`] links many
-//! images in memory that is made once; a [`Session`] draws records and functions of several images into new ones. With the
+//! images, and runs many sessions, in memory that is made once; a [`Session`] draws records and functions of several images into new ones. With the
 //! feature `place` there is `place`, which says where in an image a rule is broken. A thread that calls should have a
 //! stack of at least [`STACK`] bytes, or [`LINK_STACK`].
 //!
@@ -49,9 +49,9 @@ pub use session::{run_steps, Answers, Session, Ticket, TooLong};
 /// The stack that a calling thread should have at least, in bytes. Threads of Rust's library have more by themselves.
 pub const STACK: usize = wuldgisp_sys::WULDGISP_STACK;
 
-/// The same for [`link`], [`link_into`], a [`Linker`] and [`run_steps`], which go as deep as an image nests. Every link
-/// that was measured ran in the 2 MiB that a thread of Rust's library has by itself. [`Session::run`] has a thread of its
-/// own.
+/// The same for [`link`], [`link_into`], [`run_steps`], a [`Linker`] and [`Session::run_in`], which go as deep as an image
+/// nests. Every link that was measured ran in the 2 MiB that a thread of Rust's library has by itself. [`Session::run`]
+/// has a thread of its own.
 pub const LINK_STACK: usize = wuldgisp_sys::WULDGISP_LINK_STACK;
 
 /// The most functions of an image, and so the longest order.

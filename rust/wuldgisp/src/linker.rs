@@ -1,4 +1,4 @@
-//! Linking in memory that is made once: for a caller that links many images.
+//! Linking and sessions in memory that is made once: for a caller that links many images or runs many sessions.
 
 use std::fmt;
 
@@ -7,13 +7,17 @@ use wuldgisp_sys::memory;
 use crate::{accepted, Refusal, LONGEST};
 
 /// A linker with memory of its own, 476 KiB, which is made once and used in every call. It answers and writes what
-/// [`link`] and [`link_into`] do, which clear as much in every call; nothing goes over from one image to the next.
+/// [`link`], [`link_into`] and [`run_steps`] do, which clear as much in every call; nothing goes over from one call to
+/// the next. A [`Session`] runs in it by [`run_in`].
 ///
 /// Threads that link at the same time have a linker each. The stack of a calling thread is that of [`link`],
 /// [`LINK_STACK`].
 ///
 /// [`link`]: crate::link
 /// [`link_into`]: crate::link_into
+/// [`run_steps`]: crate::run_steps
+/// [`Session`]: crate::Session
+/// [`run_in`]: crate::Session::run_in
 /// [`LINK_STACK`]: crate::LINK_STACK
 ///
 /// ```
@@ -93,6 +97,45 @@ impl Linker {
             )
         };
         Ok(accepted(answer)? as usize)
+    }
+
+    /// The steps of a session, as [`run_steps`](crate::run_steps) runs them.
+    ///
+    /// ```
+    /// let mut answers = [9; 6];
+    /// let first = wuldgisp::Linker::new().run_steps(&[], &[12, 0, 0, 0, 2, 5, 9, 0], &mut answers, &mut []);
+    /// assert_eq!(answers, [0, 0, 0, 20, 0, 0]);
+    /// assert_eq!(first, 1 << 32 | 20);
+    /// ```
+    pub fn run_steps(
+        &mut self,
+        sources: &[u8],
+        steps: &[u32],
+        answers: &mut [u32],
+        output: &mut [u8],
+    ) -> u64 {
+        // SAFETY: the pointers and lengths are those of slices that outlive the call; sources and steps are only read,
+        // and answers and output, which are written, are lent by no one else; the eight arrays are as in `link_into`.
+        unsafe {
+            wuldgisp_sys::wuldgisp_session_in(
+                sources.as_ptr(),
+                sources.len(),
+                steps.as_ptr(),
+                steps.len(),
+                answers.as_mut_ptr(),
+                answers.len(),
+                output.as_mut_ptr(),
+                output.len(),
+                self.words.as_mut_ptr(),
+                self.tags.as_mut_ptr(),
+                self.log.as_mut_ptr(),
+                self.classes.as_mut_ptr(),
+                self.starts.as_mut_ptr(),
+                self.maps.as_mut_ptr(),
+                self.marks.as_mut_ptr(),
+                self.stacks.as_mut_ptr(),
+            )
+        }
     }
 }
 

@@ -5,7 +5,7 @@
 
 use std::fmt;
 
-use crate::{Refusal, LONGEST};
+use crate::{Linker, Refusal, LONGEST};
 
 /// Runs the steps of a session: `wuldgisp_session` of `include/wuldgisp.h`, which has the table of operations.
 ///
@@ -288,17 +288,45 @@ impl Session {
     /// The call has a thread of its own with a stack of [`LINK_STACK`](crate::LINK_STACK) bytes, since functions of a
     /// source may nest deep; it panics where the system has no thread left.
     pub fn run(&self) -> Result<Answers, TooLong> {
+        self.run_by(|steps, answers, output| {
+            let call = || run_steps(&self.sources, steps, answers, output);
+            std::thread::scope(|scope| {
+                let thread =
+                    std::thread::Builder::new().stack_size(crate::LINK_STACK).spawn_scoped(scope, call);
+                thread.expect("a thread for the session").join().expect("a call that returns")
+            })
+        })
+    }
+
+    /// Runs the steps in the memory of a linker and on the calling thread, whose stack should have
+    /// [`LINK_STACK`](crate::LINK_STACK) bytes: for a caller that runs many sessions.
+    ///
+    /// ```
+    /// use wuldgisp::{Linker, Session};
+    ///
+    /// let image = plain::assemble(
+    ///     r#"wuldgisp-text 1 names { "tone" } functions { function name=0 { body { } } } special_types { }"#,
+    /// )?;
+    /// let mut session = Session::new();
+    /// session.set(&image, 0);
+    /// session.import_function(0);
+    /// let linked = session.finish();
+    /// let mut linker = Linker::new();
+    /// assert_eq!(session.run_in(&mut linker)?.get(linked)?, session.run()?.get(linked)?);
+    /// # Ok::<(), Box<dyn std::error::Error>>(())
+    /// ```
+    pub fn run_in(&self, linker: &mut Linker) -> Result<Answers, TooLong> {
+        self.run_by(|steps, answers, output| linker.run_steps(&self.sources, steps, answers, output))
+    }
+
+    /// The answers that a call gives, which is lent the steps, their answers and the output.
+    fn run_by(&self, call: impl FnOnce(&[u32], &mut [u32], &mut [u8]) -> u64) -> Result<Answers, TooLong> {
         if self.too_long || u32::try_from(self.steps.len()).is_err() {
             return Err(TooLong);
         }
         let mut words = vec![[0; 3]; self.steps.len()];
         let mut output = vec![0; self.output];
-        let (steps, answers) = (self.steps.as_flattened(), words.as_flattened_mut());
-        let call = || run_steps(&self.sources, steps, answers, &mut output);
-        let first = std::thread::scope(|scope| {
-            let thread = std::thread::Builder::new().stack_size(crate::LINK_STACK).spawn_scoped(scope, call);
-            thread.expect("a thread for the session").join().expect("a call that returns")
-        });
+        let first = call(self.steps.as_flattened(), words.as_flattened_mut(), &mut output);
         Ok(Answers { first, steps: self.steps.clone(), words, output })
     }
 

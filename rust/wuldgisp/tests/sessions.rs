@@ -5,7 +5,7 @@
 
 use std::path::{Path, PathBuf};
 
-use wuldgisp::{run_steps, Answers, Refusal, Session, Ticket, TooLong};
+use wuldgisp::{run_steps, Answers, Linker, Refusal, Session, Ticket, TooLong};
 
 /// A session of the vectors, and what it is to answer.
 struct Vector {
@@ -54,17 +54,32 @@ fn first_refusal(answers: &[[u32; 3]]) -> u64 {
     first.map_or(0, |step| (step as u64) << 32 | u64::from(answers[step][0]))
 }
 
-#[test]
-fn vectors_agree_through_the_raw_call() {
+/// A call that runs steps: sources, steps, answers and output.
+type Call<'a> = &'a mut dyn FnMut(&[u8], &[u32], &mut [u32], &mut [u8]) -> u64;
+
+fn vectors_agree_through(call: Call) {
     for vector in vectors() {
         let mut answers = vec![[165; 3]; vector.steps.len()];
         let mut output = vec![BEFORE; vector.output.len()];
         let (steps, words) = (vector.steps.as_flattened(), answers.as_flattened_mut());
-        let first = run_steps(&vector.sources, steps, words, &mut output);
+        let first = call(&vector.sources, steps, words, &mut output);
         assert_eq!(answers, vector.answers, "{:?}", vector.file);
         assert_eq!(first, first_refusal(&vector.answers), "{:?}", vector.file);
         assert!(output == vector.output, "{:?}: other bytes", vector.file);
     }
+}
+
+#[test]
+fn vectors_agree_through_the_raw_call() {
+    vectors_agree_through(&mut run_steps);
+}
+
+#[test]
+fn vectors_agree_in_memory_that_is_made_once() {
+    let mut linker = Linker::new();
+    vectors_agree_through(&mut |sources, steps, answers, output| {
+        linker.run_steps(sources, steps, answers, output)
+    });
 }
 
 /// The ticket of a step; of a finish with the part of the vector's output that is its.

@@ -1,5 +1,6 @@
 //! Benchmark: intake, order, redirect, link and sessions in nanoseconds a word, over sizes and on the worst cases.
-//! Link is measured in memory of its own and in memory that is lent, which is made once and holds what calls left.
+//! Link and session are measured in memory of their own and in memory that is lent, which is made once and holds what
+//! calls left.
 //!
 //! In one run, on the same images: the archive, the plain reading, and a copy of the bytes as the floor under any
 //! of them. Redirecting writes into the image, so every call of it, of both sides, starts from a fresh copy, which is
@@ -36,13 +37,14 @@ const SIZES: [usize; 7] = [256, 512, 1024, 2048, 4096, 8192, 16_384];
 const ROUND: usize = 262_144;
 
 /// The columns: what is measured, and its colour in the picture.
-const COLUMNS: [(&str, &str); 11] = [
+const COLUMNS: [(&str, &str); 12] = [
     ("intake", "#1b6ca8"),
     ("order", "#2e8b57"),
     ("redirect", "#b5532a"),
     ("link", "#7b3fa0"),
     ("link, lent", "#e69500"),
     ("session", "#c02060"),
+    ("session, lent", "#e06090"),
     ("intake, plain", "#1b6ca8"),
     ("order, plain", "#2e8b57"),
     ("redirect, plain", "#b5532a"),
@@ -53,6 +55,7 @@ const COLUMNS: [(&str, &str); 11] = [
 const LINK: usize = 3;
 const LENT: usize = 4;
 const SESSION: usize = 5;
+const SESSION_LENT: usize = 6;
 
 fn main() -> ExitCode {
     let settings = match settings() {
@@ -148,6 +151,7 @@ fn measured(timing: &Timing, (name, image): &Case) -> Row {
         time(&mut |buffer| ignore(black_box(archive::link(black_box(image), buffer)))),
         time(&mut |buffer| ignore(black_box(archive::link_in(black_box(image), buffer, &mut memory)))),
         time(&mut |_| ignore(black_box(script.run(black_box(image))))),
+        time(&mut |_| ignore(black_box(script.run_in(black_box(image), &mut memory)))),
         time(&mut |_| ignore(black_box(plain::intake(black_box(image))))),
         time(&mut |_| ignore(black_box(plain::order(black_box(image))))),
         time(&mut |buffer| {
@@ -181,16 +185,16 @@ fn names(image: &[u8]) -> (u32, u32) {
 
 // ---- tables ----
 
-/// The rows as a table, with the microseconds of link, both ways, and of the session at the end.
+/// The rows as a table, with the microseconds of link and of the session, each both ways, at the end.
 fn table(rows: &[Row]) -> String {
-    let mut text = heading(&["link, µs", "link, lent, µs", "session, µs"]);
+    let mut text = heading(&["link, µs", "link, lent, µs", "session, µs", "session, lent, µs"]);
     for row in rows {
         write!(text, "| {} | {} |", row.name, grouped(row.words)).expect("a string takes all");
         for (figure, (name, _)) in row.figures.iter().zip(COLUMNS) {
             let digits = if name == "copy" { 2 } else { 1 };
             write!(text, " {figure:.digits$} |").expect("a string takes all");
         }
-        for own in [LINK, LENT, SESSION] {
+        for own in [LINK, LENT, SESSION, SESSION_LENT] {
             let time = row.figures[own] * row.words as f64 / 1000.0;
             write!(text, " {} |", grouped(time.round() as usize)).expect("a string takes all");
         }

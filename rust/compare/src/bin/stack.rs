@@ -13,8 +13,8 @@ use plain::cases::{self, Case};
 use plain::steps::operation;
 use plain::{deep, heavy};
 
-/// What is measured; all but the first five are sessions.
-const OPERATIONS: [&str; 9] = [
+/// What is measured; all but the first five are sessions, the last in lent memory.
+const OPERATIONS: [&str; 10] = [
     "intake",
     "order",
     "redirect",
@@ -24,6 +24,7 @@ const OPERATIONS: [&str; 9] = [
     "import_function of the last",
     "map_function_handle of the last",
     "entry points alone",
+    "entry points alone, lent",
 ];
 
 /// The sizes that are tried, in pages of 4 KiB.
@@ -58,14 +59,18 @@ fn attempt(operation: &str, file: &str, pages: &str) -> ExitCode {
 /// The call, with everything that it is lent already there; its answer does not matter.
 fn call(operation: &str, mut image: Vec<u8>) -> Box<dyn FnOnce() + Send> {
     let mut output = vec![0; image.len()];
+    let mut memory = Memory::new();
     let mut script = match operation {
         "intake" => return Box::new(move || ignore(wuldgisp::intake(&image))),
         "order" => return Box::new(move || ignore(wuldgisp::order(&image))),
         "redirect" => return Box::new(move || ignore(wuldgisp::redirect(&mut image, 0, 1, &[0; 512]))),
         "link" => return Box::new(move || ignore(archive::link(&image, &mut output))),
         "link, lent" => {
-            let mut memory = Memory::new();
             return Box::new(move || ignore(archive::link_in(&image, &mut output, &mut memory)));
+        }
+        "entry points alone, lent" => {
+            let mut script = Script::entered(&image);
+            return Box::new(move || ignore(script.run_in(&image, &mut memory)));
         }
         "functions in output order" => Script::in_order(&image),
         "import_function of the last" => Script::nested(&image, operation::IMPORT_FUNCTION),
