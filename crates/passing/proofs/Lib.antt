@@ -1,6 +1,8 @@
 pub mod Running
 pub mod Words
+pub mod Drawn
 pub mod Ranges
+pub mod Appending
 pub mod Declaring
 pub mod Body
 pub mod Quiets

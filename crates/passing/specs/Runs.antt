@@ -1,7 +1,7 @@
 -- What passing over words of a function does: to what is under way, and to the stack of words. Assumes nothing: these are definitions.
 use mathlib.Core.Path.{_≡_}
 use mathlib.Core.Bool.{Bool, true, false}
-use mathlib.Core.List.{List}
+use mathlib.Core.List.{List, []}
 use Prim.Native.Nat.{ℕ, zero, suc, _+_, _≤_, _<_}
 use lib.Dec.{eqb}
 use lib.ListN.{length, getD, take}
@@ -9,14 +9,16 @@ use lib.Seq.{slice}
 use Rattle.model.specs.Table.{EXPR, FROM, TO, STMT-KIND}
 use Rattle.model.specs.Tree.{flatAll}
 use Rattle.model.specs.Between.{between}
-use Rattle.model.specs.References.{Place, target, through, firstWord, undefinedAt, moved}
+use Rattle.model.specs.Tables.{Maps, mapAt}
+use Rattle.model.specs.References.{Place, table, own, function, Node, refs, target, through, firstWord, undefinedAt, moved}
 use Rattle.model.specs.Bodies.{Making, unique}
+use Rattle.imports.specs.RecordLaws.{All}
 use Rattle.bodies.specs.Shallow.{need, glance}
 use Rattle.passes.specs.Pass.{atomicKind}
 use Rattle.passes.specs.Light.{still}
 use Rattle.state.specs.Refers.{kindOf}
 use Rattle.state.specs.Source.{modOf, refersTo, numberOf}
-use Rattle.state.specs.Held.{row, cell, put, tableOf, sizeR, Over, Kept, Same}
+use Rattle.state.specs.Held.{row, cell, put, tableOf, mapsOf, sizeR, Over, Kept, Same}
 use Rattle.state.specs.Marks.{Marks}
 use Rattle.state.specs.declared.Ends.{Ends}
 use Rattle.ground.specs.Fits.{Legible}
@@ -42,6 +44,18 @@ pub record Declares (words tags : List ℕ) (k at end : ℕ) : Type 0 where
 pub record Bodied (words tags : List ℕ) (k at end : ℕ) : Type 0 where
   pub legible : Legible words tags k at end
   pub ranges : (i : ℕ) → at ≤ i → i < end → getD tags i 0 ≡ FROM → (suc i < end) × (getD words (suc i) 0 ≤ k)
+
+-- ---- what a first pass leaves of the expressions from a to b: where one is not mapped, the records of tables that it refers to are
+unfoldable pub Met : Maps → Place → ℕ → Type 0
+Met ms (table t) j = mapAt ms t j ≡ 0 → ⊥
+Met ms own j = Unit {0}
+Met ms function j = Unit {0}
+
+abbrev pub MetN : Maps → Node → Type 0
+MetN ms j = Met ms (j .place) (j .num)
+
+pub record Drawn (words tags places : List ℕ) (k : ℕ) (maps : List (List ℕ)) (em : List ℕ) (a b : ℕ) : Type 0 where
+  pub met : (y : ℕ) → a ≤ y → y < b → getD em y 0 ≡ 0 → All (MetN (mapsOf words maps)) (refs (getD (exprsOf words tags places k) y []))
 
 -- ---- entry points and pairs are as they were, and the stacks have not shrunk
 pub record Along (starts starts′ : List (List ℕ)) (e r : Ends) : Type 0 where

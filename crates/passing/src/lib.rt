@@ -10,10 +10,10 @@ use classes::STMT_KIND;
 use classes::TO;
 use import::refers_to;
 use making::BODY;
+use making::append;
 use making::by_maps;
 use making::carried;
 use making::push;
-use operands::bring;
 use operands::glance;
 use operands::need;
 use operands::unique;
@@ -48,8 +48,8 @@ ghost use Rattle.known.specs.Bearing.{Bearing};
 ghost use Rattle.ground.specs.Fits.{FitN, Ground, Legible};
 ghost use Rattle.ground.specs.Cuts.{Expressions};
 ghost use Rattle.making.specs.Stacks.{wentBy, wentOf, Stacks, Under};
-ghost use Rattle.making.specs.Makes.{Makes, Pushed};
-ghost use Rattle.passing.specs.Runs.{unites, needs, glances, Declares, Bodied, Quiet, becomes, Ran, Runs};
+ghost use Rattle.making.specs.Makes.{Makes, Lays, Pushed};
+ghost use Rattle.passing.specs.Runs.{unites, needs, glances, Declares, Bodied, Drawn, Quiet, becomes, Ran, Runs};
 
 // Whether the span last met is undefined, once word i is read.
 pub fn flag(words: &[u32; 16384], tags: &[u8; 16384], i: usize, end: usize, u: bool) -> bool
@@ -542,18 +542,17 @@ fn first_pass(
     e
 }
 
-// Its second pass.
+// Its second pass: what the expressions refer to outside is there since the first, so what is not mapped is appended.
 fn second_pass(
     words: &[u32; 16384],
     tags: &[u8; 16384],
     kinds: &[u8; 256],
     n: usize,
     places: &[u16; 1025],
-    log: &mut [u32; 16384],
-    classes: &mut [u8; 16384],
-    starts: &mut [[u32; 512]; 8],
-    maps: &mut [[u32; 512]; 6],
-    marks: &mut [u16; 16384],
+    log: &[u32; 16384],
+    classes: &[u8; 16384],
+    starts: &[[u32; 512]; 8],
+    maps: &[[u32; 512]; 6],
     em: &mut [u16; 1024],
     stacks: &mut [[u32; 16384]; 4],
     ends: Ends,
@@ -567,36 +566,38 @@ fn second_pass(
     requires { ⌜ Expressions (now words) (now tags) (now places) k ⌝ }
     requires { ⌜ b ≤ k ⌝ }
     requires { ⌜ ends .full ≡ false ⌝ }
-    requires { ⌜ Kept (now log) (now classes) (now starts) (now maps) (now marks) ends ⌝ }
+    requires { ⌜ ((marks : List ℕ) × Kept (now log) (now classes) (now starts) (now maps) marks ends) ⌝ }
     requires { ⌜ Under k (now em) (now stacks) e1 ends ⌝ }
-    ensures { λ r. ⌜ Makes (now (words .entry)) k (eachE (inRange (record { from = a; to = b })) (needs offset (now (words .entry)) (now (tags .entry)) n (now (places .entry)) k)) (now (log .entry)) (now (classes .entry)) (now (starts .entry)) (now (maps .entry)) (now (marks .entry)) (now (em .entry)) (now (stacks .entry)) e1 ends r (now (log .exit)) (now (classes .exit)) (now (starts .exit)) (now (maps .exit)) (now (marks .exit)) (now (em .exit)) (now (stacks .exit)) ⌝ }
+    requires { ⌜ Drawn (now words) (now tags) (now places) k (now maps) (now em) a b ⌝ }
+    ensures { λ r. ⌜ Lays (now (words .entry)) k (eachE (inRange (record { from = a; to = b })) (needs offset (now (words .entry)) (now (tags .entry)) n (now (places .entry)) k)) (now (log .entry)) (now (classes .entry)) (now (starts .entry)) (now (maps .entry)) (now (em .entry)) (now (stacks .entry)) e1 ends r (now (em .exit)) (now (stacks .exit)) ⌝ }
 {
     let mut e = ends;
     let mut x = a;
     while x < b {
         let y = x;
         x += 1;
-        e = bring(
-            words,
-            tags,
-            kinds,
-            n,
-            places,
-            log,
-            classes,
-            starts,
-            maps,
-            marks,
-            em,
-            stacks,
-            e,
-            offset,
-            e1,
-            k,
-            y,
-        );
-        if e.full {
-            return e;
+        if em[y] == 0 {
+            e = append(
+                words,
+                tags,
+                kinds,
+                n,
+                places,
+                log,
+                classes,
+                starts,
+                maps,
+                em,
+                stacks,
+                e,
+                offset,
+                e1,
+                k,
+                y,
+            );
+            if e.full {
+                return e;
+            }
         }
     }
     e
@@ -669,7 +670,6 @@ fn emit(
         classes,
         starts,
         maps,
-        marks,
         em,
         stacks,
         put,

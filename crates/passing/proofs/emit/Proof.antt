@@ -4,6 +4,7 @@ use borrow.Author.Needs.{needs}
 use Rattle.state.specs.Source.{modOf}
 use Rattle.passing.specs.Runs.{needs as needsE, glances}
 use Rattle.passing.proofs.Running.{made-small}
+use Rattle.passing.proofs.Drawn.{drawn-first}
 use Rattle.passing.proofs.Ranges.{needs-grow, emit-stop, emit-put, emit-over, emit-done}
 use Rattle.passing.proofs.emit.Statement.{statement}
 use Rattle.passing.proofs.emit.Tie as tie
@@ -29,16 +30,20 @@ returns-2 c =
 
 second-pass-requires : tie.Need-second-pass-requires
 second-pass-requires c κs =
-    let a = c .before .before .before .before .before .before .before .before .before .before .before .before .before .before .before .before .before .before .before .before .args in
-    let p = c .before .before .before .before .before .before .before .before .before .before .before .before .before .before .before .before .before .before .before .before .pre in
-    let z = c .before .before .before .before .before .before .before .if2 .left in
-    let R = emit-put (a .offset) (modOf (a .words .now) (a .n)) (needsE (a .offset) (a .words .now) (a .tags .now) (a .n) (a .places .now) (a .k)) (glances (a .offset) (a .words .now) (a .tags .now) (a .n) (a .places .now) (a .k)) (a .a) (a .b) (c .before .before .before .before .before .before .before .before .before .before .before .before .before .before .before .before .before .before .before .before .pre .1 .1 .1 .1 .0) (c .before .before .before .before .before .before .before .before .before .before .before .before .first-pass .ensures) (c .before .before .before .before .before .before .before .before .before .before .before .if1 .left) (c .before .before .before .before .before .before .before .before .push .ensures) in
-    (p .0, (p .1 .0, (p .1 .1 .0, (z, (R .kept z, R .under z)))))
+    let a = c .before .before .before .before .before .before .before .before .before .before .before .before .before .before .before .before .before .before .before .args in
+    let p = c .before .before .before .before .before .before .before .before .before .before .before .before .before .before .before .before .before .before .before .pre in
+    let z = c .before .before .before .before .before .before .if2 .left in
+    let R = emit-put (a .offset) (modOf (a .words .now) (a .n)) (needsE (a .offset) (a .words .now) (a .tags .now) (a .n) (a .places .now) (a .k)) (glances (a .offset) (a .words .now) (a .tags .now) (a .n) (a .places .now) (a .k)) (a .a) (a .b) (p .1 .1 .1 .1 .0) (c .before .before .before .before .before .before .before .before .before .before .before .first-pass .ensures) (c .before .before .before .before .before .before .before .before .before .before .if1 .left) (c .before .before .before .before .before .before .before .push .ensures) in
+    let D = drawn-first (p .1 .0) (a .n) (a .offset) (p .1 .1 .1 .1 .0) (p .1 .1 .1 .1 .1) (c .before .before .before .before .before .before .before .before .before .before .if1 .left) (p .1 .1 .0) (c .before .before .before .before .before .before .before .before .before .before .before .first-pass .ensures) in
+    (p .0, (p .1 .0, (p .1 .1 .0, (z, ((_, R .kept z), (R .under z, D))))))
 
 returns-3 : tie.Need-returns-3
 returns-3 c =
-    let a = c .before .before .before .before .before .before .before .before .before .before .before .before .before .before .before .before .before .before .before .before .before .args in
-    emit-done (a .offset) (modOf (a .words .now) (a .n)) (needsE (a .offset) (a .words .now) (a .tags .now) (a .n) (a .places .now) (a .k)) (glances (a .offset) (a .words .now) (a .tags .now) (a .n) (a .places .now) (a .k)) (a .a) (a .b) (c .before .before .before .before .before .before .before .before .before .before .before .before .before .before .before .before .before .before .before .before .before .pre .1 .1 .1 .1 .0) (c .before .before .before .before .before .before .before .before .before .before .before .before .before .first-pass .ensures) (c .before .before .before .before .before .before .before .before .before .before .before .before .if1 .left) (c .before .before .before .before .before .before .before .before .before .push .ensures) (c .before .before .before .before .before .before .before .before .if2 .left) (c .second-pass .ensures)
+    let a = c .before .before .before .before .before .before .before .before .before .before .before .before .before .before .before .before .before .before .before .before .args in
+    let p = c .before .before .before .before .before .before .before .before .before .before .before .before .before .before .before .before .before .before .before .before .pre in
+    let z = c .before .before .before .before .before .before .before .if2 .left in
+    let R = emit-put (a .offset) (modOf (a .words .now) (a .n)) (needsE (a .offset) (a .words .now) (a .tags .now) (a .n) (a .places .now) (a .k)) (glances (a .offset) (a .words .now) (a .tags .now) (a .n) (a .places .now) (a .k)) (a .a) (a .b) (p .1 .1 .1 .1 .0) (c .before .before .before .before .before .before .before .before .before .before .before .before .first-pass .ensures) (c .before .before .before .before .before .before .before .before .before .before .before .if1 .left) (c .before .before .before .before .before .before .before .before .push .ensures) in
+    emit-done (a .offset) (modOf (a .words .now) (a .n)) (needsE (a .offset) (a .words .now) (a .tags .now) (a .n) (a .places .now) (a .k)) (glances (a .offset) (a .words .now) (a .tags .now) (a .n) (a .places .now) (a .k)) (a .a) (a .b) (p .1 .1 .1 .1 .0) (c .before .before .before .before .before .before .before .before .before .before .before .before .first-pass .ensures) (c .before .before .before .before .before .before .before .before .before .before .before .if1 .left) (c .before .before .before .before .before .before .before .before .push .ensures) z (c .second-pass .ensures .lays _ (R .kept z))
 
 pub emit-spec : {M : Type 1} → statement M
 emit-spec =
