@@ -30,7 +30,7 @@ ghost use Rattle.making.specs.Stacks.{Under};
 ghost use Rattle.making.specs.Makes.{Makes};
 
 // Expression e of k, where it is not mapped, with what it refers to outside the function.
-pub fn bring(
+fn bring(
     words: &[u32; 16384],
     tags: &[u8; 16384],
     kinds: &[u8; 256],
