@@ -47,7 +47,7 @@ pub fn keep_names(
     ensures { λ r. ⌜ Keeps (keepNames (namedRecords (now (words .entry)) (at + 1) (getD (now (words .entry)) at 0)) (take k (now (em .entry))) []) (now (stacks .entry)) ends r (now (stacks .exit)) ⌝ }
 {
     *seats = [0; 1025];
-    let b = ends.bt;
+    let b = ends.bt as usize;
     let count = wide(words[at]);
     let mut e = ends;
     let mut i = 0;
@@ -61,7 +61,7 @@ pub fn keep_names(
                 if e.bt > 16382 {
                     return refuse(e);
                 }
-                seats[v - 1] = ((e.bt - b) / 2 + 1) as u16;
+                seats[v - 1] = ((e.bt as usize - b) / 2 + 1) as u16;
                 e = push(stacks, e, (v - 1) as u32);
                 e = push(stacks, e, words[q + 1]);
             } else {
@@ -97,7 +97,7 @@ pub fn import_names(
 {
     let mut e = ends;
     let mut i = b;
-    while i < ends.bt {
+    while i < ends.bt as usize {
         let j = i + 1;
         i += 2;
         let w = stacks[BODY][j];
@@ -220,8 +220,11 @@ pub fn close(
 {
     let front = exprs - s;
     let tail = end - body;
-    let made = ends.et - before.et;
-    let names = ends.bt - before.bt - front - tail;
+    let et = ends.et as usize;
+    let e = before.et as usize;
+    let b = before.bt as usize;
+    let made = et - e;
+    let names = ends.bt as usize - b - front - tail;
     let size = head + front + 1 + made + 1 + names + tail;
     let count = ends.counts[t] as usize;
     if count == limit {
@@ -230,30 +233,30 @@ pub fn close(
     if left(ends) < 1 + size {
         return refuse(ends);
     }
-    let used = ends.used;
+    let used = ends.used as usize;
     let p = used + 1 + head;
     log[used] = size as u32;
-    copy_words(stacks, WORDS, ends.et, head, log, used + 1);
-    copy_classes(stacks, ends.et, head, classes, used + 1);
-    copy_words(stacks, BODY, before.bt, front, log, p);
+    copy_words(stacks, WORDS, et, head, log, used + 1);
+    copy_classes(stacks, et, head, classes, used + 1);
+    copy_words(stacks, BODY, b, front, log, p);
     copy_tags(tags, s, front, classes, p);
     log[p + front] = ends.made as u32;
     classes[p + front] = EXPRESSIONS;
-    copy_words(stacks, WORDS, before.et, made, log, p + front + 1);
-    copy_classes(stacks, before.et, made, classes, p + front + 1);
+    copy_words(stacks, WORDS, e, made, log, p + front + 1);
+    copy_classes(stacks, e, made, classes, p + front + 1);
     let q = p + front + 1 + made;
     log[q] = (names / 2) as u32;
     classes[q] = NAMED;
-    copy_words(stacks, BODY, before.bt + front + tail, names, log, q + 1);
+    copy_words(stacks, BODY, b + front + tail, names, log, q + 1);
     name_classes(classes, q + 1, names / 2);
-    copy_words(stacks, BODY, before.bt + front, tail, log, q + 1 + names);
+    copy_words(stacks, BODY, b + front, tail, log, q + 1 + names);
     copy_tags(tags, body, tail, classes, q + 1 + names);
     starts[t][count] = used as u32;
     let mut c = ends.counts;
     c[t] = (count + 1) as u16;
     Ends {
         full: false,
-        used: used + 1 + size,
+        used: (used + 1 + size) as u16,
         counts: c,
         pairs: ends.pairs,
         et: before.et,

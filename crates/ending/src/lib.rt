@@ -39,6 +39,6 @@ pub fn finish(
 {
     let c = ends.counts;
     let counts = widened(c);
-    let pairs = ends.pairs;
+    let pairs = ends.pairs as usize;
     writing::finish(log, classes, starts, counts, special, pairs, out, output)
 }

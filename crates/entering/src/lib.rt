@@ -91,7 +91,8 @@ pub fn enter(
     if led.full {
         return led;
     }
-    if 16384 - led.et < s - at {
+    let et = led.et as usize;
+    if 16384 - et < s - at {
         return refuse(led);
     }
     let em = [0u16; 1024];

@@ -89,7 +89,7 @@ pub fn localize(
     requires { ⌜ Kept (now log) (now classes) (now starts) (now maps) (now marks) ends ⌝ }
     ensures { λ r. ⌜ Localizes (now (words .entry)) n offset (Ready offset (modOf (now (words .entry)) n) room) (followS offset (modOf (now (words .entry)) n) room) (functionOf (between (now (tags .entry)) (now (words .entry)) s end)) (now (log .entry)) (now (classes .entry)) (now (starts .entry)) (now (maps .entry)) (now (marks .entry)) (now (stacks .entry)) ends r (now (log .exit)) (now (classes .exit)) (now (starts .exit)) (now (maps .exit)) (now (marks .exit)) (now (stacks .exit)) ⌝ }
 {
-    let e1 = ends.et;
+    let e1 = ends.et as usize;
     let exprs = expressions_at(words, s);
     let k = wide(words[exprs]);
     let mut em = [0u16; 1024];
@@ -129,8 +129,8 @@ pub fn localize(
             maps,
             &em,
             stacks,
-            e.made,
-            e.bt,
+            e.made as usize,
+            e.bt as usize,
             offset,
             i,
             end,
@@ -210,7 +210,7 @@ pub fn localize(
             }
         }
     }
-    let b = e.bt;
+    let b = e.bt as usize;
     let kept = keep_names(words, &em, places, stacks, e, k, named);
     if kept.full {
         return kept;

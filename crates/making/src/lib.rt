@@ -218,7 +218,7 @@ pub fn write(
     ensures { λ _. ⌜ Wrote (shift (carriedBy (wentOf (now (words .entry)) n (now (log .entry)) (now (classes .entry)) (now (starts .entry)) (now (maps .entry)) ends (now (em .entry))) (now (tags .entry)) (now (words .entry)) at end) offset false) (ends .et) (now (stacks .entry)) (now (stacks .exit)) ⌝ }
 {
     let mut i = at;
-    let mut p = ends.et;
+    let mut p = ends.et as usize;
     let mut u = false;
     while i < end {
         let j = i;
@@ -291,8 +291,8 @@ pub fn append(
 {
     let at = slot(places[e]);
     let end = slot(places[e + 1]);
-    let et = ends.et;
-    let made = ends.made;
+    let et = ends.et as usize;
+    let made = ends.made as usize;
     if 16384 - et < end - at {
         return refuse(ends);
     }
@@ -320,9 +320,9 @@ pub fn append(
         used: ends.used,
         counts: c,
         pairs: ends.pairs,
-        et: et + (end - at),
+        et: (et + (end - at)) as u16,
         bt: ends.bt,
-        made: made + 1,
+        made: (made + 1) as u16,
     }
 }
 
@@ -401,10 +401,10 @@ fn next(stacks: &[[u32; 16384]; 4], ends: Ends, e1: usize, k: usize) -> usize
     requires { ⌜ (Stacks (now stacks) ends) × (k < ends .made) × (e1 + ends .made ≤ 16384) ⌝ }
     ensures { λ r. ⌜ r ≡ nextOf (drop (k + 1) (seatsOf (now (stacks .entry)) e1 ends)) (ends .et) ⌝ }
 {
-    if k + 1 < ends.made {
+    if k + 1 < ends.made as usize {
         return wide(stacks[SEATS][e1 + k + 1]);
     }
-    ends.et
+    ends.et as usize
 }
 
 // The first expression, from k on, that has the word y in place i; k where y is a word of a span, by its class s.
@@ -465,7 +465,7 @@ fn seat(
     requires { ⌜ (Stacks (now stacks) ends) × (Rising (seatsOf (now stacks) e1 ends) e1 (ends .et)) × (length (seatsOf (now stacks) e1 ends) ≡ ends .made) × (at < end) ⌝ }
     ensures { λ r. ⌜ r ≡ seatOf (madeOf (now (stacks .entry)) e1 ends) (carriedBy (wentOf (now (words .entry)) n (now (log .entry)) (now (classes .entry)) (now (starts .entry)) (now (maps .entry)) ends (now (em .entry))) (now (tags .entry)) (now (words .entry)) at end) ⌝ }
 {
-    let made = ends.made;
+    let made = ends.made as usize;
     let mut p = end - 1;
     let mut y = carried(
         words,
@@ -575,7 +575,7 @@ pub fn merge(
         at,
         end,
     );
-    if j < ends.made {
+    if j < ends.made as usize {
         em[e] = (j + 1) as u16;
         return ends;
     }
@@ -604,7 +604,7 @@ pub fn push(stacks: &mut [[u32; 16384]; 4], ends: Ends, w: u32) -> Ends
     requires { ⌜ Stacks (now stacks) ends ⌝ }
     ensures { λ r. ⌜ Pushed w (now (stacks .entry)) ends r (now (stacks .exit)) ⌝ }
 {
-    let bt = ends.bt;
+    let bt = ends.bt as usize;
     if bt == 16384 {
         return refuse(ends);
     }
@@ -616,7 +616,7 @@ pub fn push(stacks: &mut [[u32; 16384]; 4], ends: Ends, w: u32) -> Ends
         counts: c,
         pairs: ends.pairs,
         et: ends.et,
-        bt: bt + 1,
+        bt: (bt + 1) as u16,
         made: ends.made,
     }
 }

@@ -234,7 +234,7 @@ pub fn longer(e: Ends, n: usize) -> Ends
         counts: c,
         pairs: e.pairs,
         et: e.et,
-        bt: e.bt + n,
+        bt: (e.bt as usize + n) as u16,
         made: e.made,
     }
 }
@@ -350,8 +350,8 @@ pub fn declare(
             maps,
             em,
             stacks,
-            e.made,
-            e.bt,
+            e.made as usize,
+            e.bt as usize,
             offset,
             i,
             end,

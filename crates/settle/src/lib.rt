@@ -179,7 +179,7 @@ pub fn settle(
     ensures { λ r. ⌜ Lands (now (words .entry)) (settled (tabOf t) k (shift (carriedBy (wentR (now (maps .entry))) (now (tags .entry)) (now (words .entry)) at end) offset false)) (now (log .entry)) (now (classes .entry)) (now (starts .entry)) (now (maps .entry)) (now (marks .entry)) ends r (now (log .exit)) (now (classes .exit)) (now (starts .exit)) (now (maps .exit)) (now (marks .exit)) ⌝ }
 {
     let n = ends.counts[t] as usize;
-    let used = ends.used;
+    let used = ends.used as usize;
     let p = place(words, tags, kinds, maps, at, end, t);
     let j = sought(
         words,

@@ -50,7 +50,7 @@ fn paired(e: Ends) -> Ends
         full: false,
         used: e.used,
         counts: c,
-        pairs: e.pairs + 1,
+        pairs: (e.pairs as usize + 1) as u16,
         et: e.et,
         bt: e.bt,
         made: e.made,
@@ -188,7 +188,7 @@ fn pair(
     ensures { λ r. ⌜ Derives (now (words .entry)) (pairOf key (h .0) offset (srcOf (now (words .entry)) n)) (now (log .entry)) (now (classes .entry)) (now (starts .entry)) (now (maps .entry)) (now (marks .entry)) (now (special .entry)) ends r (now (log .exit)) (now (classes .exit)) (now (starts .exit)) (now (maps .exit)) (now (marks .exit)) (now (special .exit)) ⌝ }
 {
     let i = wide(h.0);
-    let v = derived(special, ends.pairs, key);
+    let v = derived(special, ends.pairs as usize, key);
     if v != 0 {
         maps[TYPES][i] = v as u32;
         return ends;
@@ -210,7 +210,7 @@ fn pair(
     if got.full {
         return got;
     }
-    let p = got.pairs;
+    let p = got.pairs as usize;
     if p == 512 {
         return refuse(got);
     }

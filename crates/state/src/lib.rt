@@ -21,12 +21,12 @@ ghost use Rattle.state.specs.Held.{recAt, Readable, Written, carriedBy};
 // one has; or that something did not fit.
 pub struct Ends {
     pub full: bool,
-    pub used: usize,
+    pub used: u16,
     pub counts: [u16; 8],
-    pub pairs: usize,
-    pub et: usize,
-    pub bt: usize,
-    pub made: usize,
+    pub pairs: u16,
+    pub et: u16,
+    pub bt: u16,
+    pub made: u16,
 }
 
 // Nothing yet.
@@ -76,7 +76,7 @@ pub fn grown(e: Ends, t: usize, n: usize) -> Ends
     c[t] = c[t] + 1;
     Ends {
         full: false,
-        used: e.used + n,
+        used: (e.used as usize + n) as u16,
         counts: c,
         pairs: e.pairs,
         et: e.et,
@@ -90,7 +90,7 @@ pub fn left(e: Ends) -> usize
     requires { ⌜ 23 + 2 * e .pairs + e .used ≤ 16384 ⌝ }
     ensures { λ r. ⌜ r + (23 + 2 * e .pairs + e .used) ≡ 16384 ⌝ }
 {
-    16361 - 2 * e.pairs - e.used
+    16361 - 2 * e.pairs as usize - e.used as usize
 }
 
 // The kinds of classes, by what a word of the class refers to: a record of a table has the table's number; an expression of the word's own function has that of

@@ -14,8 +14,20 @@ sub-front c = search needs
 sub-tail : tie.Need-sub-tail
 sub-tail c = search needs
 
+cast-et : tie.Need-cast-et
+cast-et c = search needs
+
+cast-e : tie.Need-cast-e
+cast-e c = search needs
+
+cast-b : tie.Need-cast-b
+cast-b c = search needs
+
 sub-made : tie.Need-sub-made
 sub-made c = search needs
+
+cast-names : tie.Need-cast-names
+cast-names c = search needs
 
 sub-names : tie.Need-sub-names
 sub-names c = search needs
@@ -80,6 +92,9 @@ returns-2 c =
     let p = st .pre in
     let q = p .1 .1 .1 .1 .1 in
     long (a .tags .now) (a .stacks .now) (a .before) (a .t6) (a .s) (a .exprs) (a .body) (a .end) (a .head) (p .0) (p .1 .0 .3) (p .1 .1 .0) (p .1 .1 .1 .0) (a .log .now) (a .classes .now) (a .starts .now) (a .limit) (a .t) (c .refuse2 .result) (c .refuse2 .ensures) (q .1) (q .2) (c .before .before .left .result) (c .before .before .left .ensures) (c .before .if2 .taken)
+
+cast-used : tie.Need-cast-used
+cast-used c = search needs
 
 add-p : tie.Need-add-p
 add-p c = search needs
@@ -219,18 +234,18 @@ element-write-classes-2 c = search needs
 
 add-copy-words-4 : tie.Need-add-copy-words-4
 add-copy-words-4 c =
-    let st = c .before .before .before .before .before .before .before .before .before .before .before .before .before .before .before .before .before .before .before in
+    let st = c .before .before .before .before .before .before .before .before .before .before .before .before .before .before .before .before .before .before in
     let a = st .args in
     let p = st .pre in
-    let r = room (a .tags .now) (a .before) (a .t6) (a .s) (a .exprs) (a .body) (a .end) (a .head) (p .0) (p .1 .0 .3) (p .1 .1 .0) (c .before .before .before .before .before .before .before .before .before .before .before .before .before .before .left .result) (c .before .before .before .before .before .before .before .before .before .before .before .before .before .before .left .ensures) (c .before .before .before .before .before .before .before .before .before .before .before .before .before .if2 .left) in
+    let r = room (a .tags .now) (a .before) (a .t6) (a .s) (a .exprs) (a .body) (a .end) (a .head) (p .0) (p .1 .0 .3) (p .1 .1 .0) (c .before .before .before .before .before .before .before .before .before .before .before .before .before .left .result) (c .before .before .before .before .before .before .before .before .before .before .before .before .before .left .ensures) (c .before .before .before .before .before .before .before .before .before .before .before .before .if2 .left) in
     let u = p .1 .0 in omega (arith, r)
 
 add-copy-words-5 : tie.Need-add-copy-words-5
 add-copy-words-5 c =
-    let st = c .before .before .before .before .before .before .before .before .before .before .before .before .before .before .before .before .before .before .before in
+    let st = c .before .before .before .before .before .before .before .before .before .before .before .before .before .before .before .before .before .before in
     let a = st .args in
     let p = st .pre in
-    let r = room (a .tags .now) (a .before) (a .t6) (a .s) (a .exprs) (a .body) (a .end) (a .head) (p .0) (p .1 .0 .3) (p .1 .1 .0) (c .before .before .before .before .before .before .before .before .before .before .before .before .before .before .left .result) (c .before .before .before .before .before .before .before .before .before .before .before .before .before .before .left .ensures) (c .before .before .before .before .before .before .before .before .before .before .before .before .before .if2 .left) in
+    let r = room (a .tags .now) (a .before) (a .t6) (a .s) (a .exprs) (a .body) (a .end) (a .head) (p .0) (p .1 .0 .3) (p .1 .1 .0) (c .before .before .before .before .before .before .before .before .before .before .before .before .before .left .result) (c .before .before .before .before .before .before .before .before .before .before .before .before .before .left .ensures) (c .before .before .before .before .before .before .before .before .before .before .before .before .if2 .left) in
     let u = p .1 .0 in omega (arith, r)
 
 add-copy-words-6 : tie.Need-add-copy-words-6
@@ -238,196 +253,204 @@ add-copy-words-6 c = search needs
 
 copy-words-requires-4 : tie.Need-copy-words-requires-4
 copy-words-requires-4 c κs =
-    let st = c .before .before .before .before .before .before .before .before .before .before .before .before .before .before .before .before .before .before .before .before in
+    let st = c .before .before .before .before .before .before .before .before .before .before .before .before .before .before .before .before .before .before .before in
     let a = st .args in
     let p = st .pre in
-    let r = room (a .tags .now) (a .before) (a .t6) (a .s) (a .exprs) (a .body) (a .end) (a .head) (p .0) (p .1 .0 .3) (p .1 .1 .0) (c .before .before .before .before .before .before .before .before .before .before .before .before .before .before .before .left .result) (c .before .before .before .before .before .before .before .before .before .before .before .before .before .before .before .left .ensures) (c .before .before .before .before .before .before .before .before .before .before .before .before .before .before .if2 .left) in
+    let r = room (a .tags .now) (a .before) (a .t6) (a .s) (a .exprs) (a .body) (a .end) (a .head) (p .0) (p .1 .0 .3) (p .1 .1 .0) (c .before .before .before .before .before .before .before .before .before .before .before .before .before .before .left .result) (c .before .before .before .before .before .before .before .before .before .before .before .before .before .before .left .ensures) (c .before .before .before .before .before .before .before .before .before .before .before .before .before .if2 .left) in
     let l₁ = p .1 .1 .1 .1 .1 .1 in
-    let l₂ = (simp (length-sets, length-set) at (ap length (c .before .before .before .before .before .before .before .before .before .before .before .before .copy-words .ensures))) ∙ l₁ in
-    let l₃ = (simp (length-sets, length-set) at (ap length (c .before .before .before .before .before .before .before .before .copy-words2 .ensures))) ∙ l₂ in
-    let l₄ = (simp (length-sets, length-set) at (ap length (c .before .before .before .before .copy-words3 .ensures))) ∙ l₃ in
+    let l₂ = (simp (length-sets, length-set) at (ap length (c .before .before .before .before .before .before .before .before .before .before .before .copy-words .ensures))) ∙ l₁ in
+    let l₃ = (simp (length-sets, length-set) at (ap length (c .before .before .before .before .before .before .before .copy-words2 .ensures))) ∙ l₂ in
+    let l₄ = (simp (length-sets, length-set) at (ap length (c .before .before .before .copy-words3 .ensures))) ∙ l₃ in
     (omega arith, omega (arith, r), omega (arith, r), simp length-set l₄, p .1 .1 .0 .0 .rows 3 (omega arith))
 
 add-name-classes : tie.Need-add-name-classes
 add-name-classes c =
-    let st = c .before .before .before .before .before .before .before .before .before .before .before .before .before .before .before .before .before .before .before .before .before .before in
+    let st = c .before .before .before .before .before .before .before .before .before .before .before .before .before .before .before .before .before .before .before .before .before in
     let a = st .args in
     let p = st .pre in
-    let r = room (a .tags .now) (a .before) (a .t6) (a .s) (a .exprs) (a .body) (a .end) (a .head) (p .0) (p .1 .0 .3) (p .1 .1 .0) (c .before .before .before .before .before .before .before .before .before .before .before .before .before .before .before .before .before .left .result) (c .before .before .before .before .before .before .before .before .before .before .before .before .before .before .before .before .before .left .ensures) (c .before .before .before .before .before .before .before .before .before .before .before .before .before .before .before .before .if2 .left) in
+    let r = room (a .tags .now) (a .before) (a .t6) (a .s) (a .exprs) (a .body) (a .end) (a .head) (p .0) (p .1 .0 .3) (p .1 .1 .0) (c .before .before .before .before .before .before .before .before .before .before .before .before .before .before .before .before .left .result) (c .before .before .before .before .before .before .before .before .before .before .before .before .before .before .before .before .left .ensures) (c .before .before .before .before .before .before .before .before .before .before .before .before .before .before .before .if2 .left) in
     let u = p .1 .0 in omega (arith, r)
 
 name-classes-requires : tie.Need-name-classes-requires
 name-classes-requires c κs =
-    let st = c .before .before .before .before .before .before .before .before .before .before .before .before .before .before .before .before .before .before .before .before .before .before in
+    let st = c .before .before .before .before .before .before .before .before .before .before .before .before .before .before .before .before .before .before .before .before .before in
     let a = st .args in
     let p = st .pre in
-    let r = room (a .tags .now) (a .before) (a .t6) (a .s) (a .exprs) (a .body) (a .end) (a .head) (p .0) (p .1 .0 .3) (p .1 .1 .0) (c .before .before .before .before .before .before .before .before .before .before .before .before .before .before .before .before .before .left .result) (c .before .before .before .before .before .before .before .before .before .before .before .before .before .before .before .before .before .left .ensures) (c .before .before .before .before .before .before .before .before .before .before .before .before .before .before .before .before .if2 .left) in
+    let r = room (a .tags .now) (a .before) (a .t6) (a .s) (a .exprs) (a .body) (a .end) (a .head) (p .0) (p .1 .0 .3) (p .1 .1 .0) (c .before .before .before .before .before .before .before .before .before .before .before .before .before .before .before .before .left .result) (c .before .before .before .before .before .before .before .before .before .before .before .before .before .before .before .before .left .ensures) (c .before .before .before .before .before .before .before .before .before .before .before .before .before .before .before .if2 .left) in
     let k₁ = p .1 .1 .1 .1 .1 .2 in
-    let k₂ = (simp (length-sets, length-set) at (ap length (c .before .before .before .before .before .before .before .before .before .before .before .before .copy-classes .ensures))) ∙ k₁ in
-    let k₃ = (simp (length-sets, length-set) at (ap length (c .before .before .before .before .before .before .before .before .copy-tags .ensures))) ∙ k₂ in
-    let k₄ = (simp (length-sets, length-set) at (ap length (c .before .before .before .before .copy-classes2 .ensures))) ∙ k₃ in
+    let k₂ = (simp (length-sets, length-set) at (ap length (c .before .before .before .before .before .before .before .before .before .before .before .copy-classes .ensures))) ∙ k₁ in
+    let k₃ = (simp (length-sets, length-set) at (ap length (c .before .before .before .before .before .before .before .copy-tags .ensures))) ∙ k₂ in
+    let k₄ = (simp (length-sets, length-set) at (ap length (c .before .before .before .copy-classes2 .ensures))) ∙ k₃ in
     (omega (arith, r), simp length-set k₄)
 
 add-copy-words-7 : tie.Need-add-copy-words-7
 add-copy-words-7 c =
-    let st = c .before .before .before .before .before .before .before .before .before .before .before .before .before .before .before .before .before .before .before .before .before .before .before .before in
+    let st = c .before .before .before .before .before .before .before .before .before .before .before .before .before .before .before .before .before .before .before .before .before .before in
     let a = st .args in
     let p = st .pre in
-    let r = room (a .tags .now) (a .before) (a .t6) (a .s) (a .exprs) (a .body) (a .end) (a .head) (p .0) (p .1 .0 .3) (p .1 .1 .0) (c .before .before .before .before .before .before .before .before .before .before .before .before .before .before .before .before .before .before .before .left .result) (c .before .before .before .before .before .before .before .before .before .before .before .before .before .before .before .before .before .before .before .left .ensures) (c .before .before .before .before .before .before .before .before .before .before .before .before .before .before .before .before .before .before .if2 .left) in
+    let r = room (a .tags .now) (a .before) (a .t6) (a .s) (a .exprs) (a .body) (a .end) (a .head) (p .0) (p .1 .0 .3) (p .1 .1 .0) (c .before .before .before .before .before .before .before .before .before .before .before .before .before .before .before .before .before .left .result) (c .before .before .before .before .before .before .before .before .before .before .before .before .before .before .before .before .before .left .ensures) (c .before .before .before .before .before .before .before .before .before .before .before .before .before .before .before .before .if2 .left) in
     let u = p .1 .0 in omega (arith, r)
 
 add-copy-words-8 : tie.Need-add-copy-words-8
 add-copy-words-8 c =
-    let st = c .before .before .before .before .before .before .before .before .before .before .before .before .before .before .before .before .before .before .before .before .before .before .before .before .before in
+    let st = c .before .before .before .before .before .before .before .before .before .before .before .before .before .before .before .before .before .before .before .before .before .before .before in
     let a = st .args in
     let p = st .pre in
-    let r = room (a .tags .now) (a .before) (a .t6) (a .s) (a .exprs) (a .body) (a .end) (a .head) (p .0) (p .1 .0 .3) (p .1 .1 .0) (c .before .before .before .before .before .before .before .before .before .before .before .before .before .before .before .before .before .before .before .before .left .result) (c .before .before .before .before .before .before .before .before .before .before .before .before .before .before .before .before .before .before .before .before .left .ensures) (c .before .before .before .before .before .before .before .before .before .before .before .before .before .before .before .before .before .before .before .if2 .left) in
+    let r = room (a .tags .now) (a .before) (a .t6) (a .s) (a .exprs) (a .body) (a .end) (a .head) (p .0) (p .1 .0 .3) (p .1 .1 .0) (c .before .before .before .before .before .before .before .before .before .before .before .before .before .before .before .before .before .before .left .result) (c .before .before .before .before .before .before .before .before .before .before .before .before .before .before .before .before .before .before .left .ensures) (c .before .before .before .before .before .before .before .before .before .before .before .before .before .before .before .before .before .if2 .left) in
     let u = p .1 .0 in omega (arith, r)
 
 add-copy-words-9 : tie.Need-add-copy-words-9
 add-copy-words-9 c =
-    let st = c .before .before .before .before .before .before .before .before .before .before .before .before .before .before .before .before .before .before .before .before .before .before .before .before .before in
+    let st = c .before .before .before .before .before .before .before .before .before .before .before .before .before .before .before .before .before .before .before .before .before .before .before in
     let a = st .args in
     let p = st .pre in
-    let r = room (a .tags .now) (a .before) (a .t6) (a .s) (a .exprs) (a .body) (a .end) (a .head) (p .0) (p .1 .0 .3) (p .1 .1 .0) (c .before .before .before .before .before .before .before .before .before .before .before .before .before .before .before .before .before .before .before .before .left .result) (c .before .before .before .before .before .before .before .before .before .before .before .before .before .before .before .before .before .before .before .before .left .ensures) (c .before .before .before .before .before .before .before .before .before .before .before .before .before .before .before .before .before .before .before .if2 .left) in
+    let r = room (a .tags .now) (a .before) (a .t6) (a .s) (a .exprs) (a .body) (a .end) (a .head) (p .0) (p .1 .0 .3) (p .1 .1 .0) (c .before .before .before .before .before .before .before .before .before .before .before .before .before .before .before .before .before .before .left .result) (c .before .before .before .before .before .before .before .before .before .before .before .before .before .before .before .before .before .before .left .ensures) (c .before .before .before .before .before .before .before .before .before .before .before .before .before .before .before .before .before .if2 .left) in
     let u = p .1 .0 in omega (arith, r)
 
 copy-words-requires-5 : tie.Need-copy-words-requires-5
 copy-words-requires-5 c κs =
-    let st = c .before .before .before .before .before .before .before .before .before .before .before .before .before .before .before .before .before .before .before .before .before .before .before .before .before in
+    let st = c .before .before .before .before .before .before .before .before .before .before .before .before .before .before .before .before .before .before .before .before .before .before .before in
     let a = st .args in
     let p = st .pre in
-    let r = room (a .tags .now) (a .before) (a .t6) (a .s) (a .exprs) (a .body) (a .end) (a .head) (p .0) (p .1 .0 .3) (p .1 .1 .0) (c .before .before .before .before .before .before .before .before .before .before .before .before .before .before .before .before .before .before .before .before .left .result) (c .before .before .before .before .before .before .before .before .before .before .before .before .before .before .before .before .before .before .before .before .left .ensures) (c .before .before .before .before .before .before .before .before .before .before .before .before .before .before .before .before .before .before .before .if2 .left) in
+    let r = room (a .tags .now) (a .before) (a .t6) (a .s) (a .exprs) (a .body) (a .end) (a .head) (p .0) (p .1 .0 .3) (p .1 .1 .0) (c .before .before .before .before .before .before .before .before .before .before .before .before .before .before .before .before .before .before .left .result) (c .before .before .before .before .before .before .before .before .before .before .before .before .before .before .before .before .before .before .left .ensures) (c .before .before .before .before .before .before .before .before .before .before .before .before .before .before .before .before .before .if2 .left) in
     let l₁ = p .1 .1 .1 .1 .1 .1 in
-    let l₂ = (simp (length-sets, length-set) at (ap length (c .before .before .before .before .before .before .before .before .before .before .before .before .before .before .before .before .before .copy-words .ensures))) ∙ l₁ in
-    let l₃ = (simp (length-sets, length-set) at (ap length (c .before .before .before .before .before .before .before .before .before .before .before .before .before .copy-words2 .ensures))) ∙ l₂ in
-    let l₄ = (simp (length-sets, length-set) at (ap length (c .before .before .before .before .before .before .before .before .before .copy-words3 .ensures))) ∙ l₃ in
-    let l₅ = (simp (length-sets, length-set) at (ap length (c .before .before .before .before .copy-words4 .ensures))) ∙ l₄ in
+    let l₂ = (simp (length-sets, length-set) at (ap length (c .before .before .before .before .before .before .before .before .before .before .before .before .before .before .before .copy-words .ensures))) ∙ l₁ in
+    let l₃ = (simp (length-sets, length-set) at (ap length (c .before .before .before .before .before .before .before .before .before .before .before .copy-words2 .ensures))) ∙ l₂ in
+    let l₄ = (simp (length-sets, length-set) at (ap length (c .before .before .before .before .before .before .before .copy-words3 .ensures))) ∙ l₃ in
+    let l₅ = (simp (length-sets, length-set) at (ap length (c .before .before .before .copy-words4 .ensures))) ∙ l₄ in
     (omega arith, omega (arith, r), omega (arith, r), l₅, p .1 .1 .0 .0 .rows 3 (omega arith))
 
 add-copy-tags : tie.Need-add-copy-tags
 add-copy-tags c =
-    let st = c .before .before .before .before .before .before .before .before .before .before .before .before .before .before .before .before .before .before .before .before .before .before .before .before .before .before .before in
+    let st = c .before .before .before .before .before .before .before .before .before .before .before .before .before .before .before .before .before .before .before .before .before .before .before .before .before in
     let a = st .args in
     let p = st .pre in
-    let r = room (a .tags .now) (a .before) (a .t6) (a .s) (a .exprs) (a .body) (a .end) (a .head) (p .0) (p .1 .0 .3) (p .1 .1 .0) (c .before .before .before .before .before .before .before .before .before .before .before .before .before .before .before .before .before .before .before .before .before .before .left .result) (c .before .before .before .before .before .before .before .before .before .before .before .before .before .before .before .before .before .before .before .before .before .before .left .ensures) (c .before .before .before .before .before .before .before .before .before .before .before .before .before .before .before .before .before .before .before .before .before .if2 .left) in
+    let r = room (a .tags .now) (a .before) (a .t6) (a .s) (a .exprs) (a .body) (a .end) (a .head) (p .0) (p .1 .0 .3) (p .1 .1 .0) (c .before .before .before .before .before .before .before .before .before .before .before .before .before .before .before .before .before .before .before .before .left .result) (c .before .before .before .before .before .before .before .before .before .before .before .before .before .before .before .before .before .before .before .before .left .ensures) (c .before .before .before .before .before .before .before .before .before .before .before .before .before .before .before .before .before .before .before .if2 .left) in
     let u = p .1 .0 in omega (arith, r)
 
 add-copy-tags-2 : tie.Need-add-copy-tags-2
 add-copy-tags-2 c =
-    let st = c .before .before .before .before .before .before .before .before .before .before .before .before .before .before .before .before .before .before .before .before .before .before .before .before .before .before .before in
+    let st = c .before .before .before .before .before .before .before .before .before .before .before .before .before .before .before .before .before .before .before .before .before .before .before .before .before in
     let a = st .args in
     let p = st .pre in
-    let r = room (a .tags .now) (a .before) (a .t6) (a .s) (a .exprs) (a .body) (a .end) (a .head) (p .0) (p .1 .0 .3) (p .1 .1 .0) (c .before .before .before .before .before .before .before .before .before .before .before .before .before .before .before .before .before .before .before .before .before .before .left .result) (c .before .before .before .before .before .before .before .before .before .before .before .before .before .before .before .before .before .before .before .before .before .before .left .ensures) (c .before .before .before .before .before .before .before .before .before .before .before .before .before .before .before .before .before .before .before .before .before .if2 .left) in
+    let r = room (a .tags .now) (a .before) (a .t6) (a .s) (a .exprs) (a .body) (a .end) (a .head) (p .0) (p .1 .0 .3) (p .1 .1 .0) (c .before .before .before .before .before .before .before .before .before .before .before .before .before .before .before .before .before .before .before .before .left .result) (c .before .before .before .before .before .before .before .before .before .before .before .before .before .before .before .before .before .before .before .before .left .ensures) (c .before .before .before .before .before .before .before .before .before .before .before .before .before .before .before .before .before .before .before .if2 .left) in
     let u = p .1 .0 in omega (arith, r)
 
 copy-tags-requires-2 : tie.Need-copy-tags-requires-2
 copy-tags-requires-2 c κs =
-    let st = c .before .before .before .before .before .before .before .before .before .before .before .before .before .before .before .before .before .before .before .before .before .before .before .before .before .before .before in
+    let st = c .before .before .before .before .before .before .before .before .before .before .before .before .before .before .before .before .before .before .before .before .before .before .before .before .before in
     let a = st .args in
     let p = st .pre in
-    let r = room (a .tags .now) (a .before) (a .t6) (a .s) (a .exprs) (a .body) (a .end) (a .head) (p .0) (p .1 .0 .3) (p .1 .1 .0) (c .before .before .before .before .before .before .before .before .before .before .before .before .before .before .before .before .before .before .before .before .before .before .left .result) (c .before .before .before .before .before .before .before .before .before .before .before .before .before .before .before .before .before .before .before .before .before .before .left .ensures) (c .before .before .before .before .before .before .before .before .before .before .before .before .before .before .before .before .before .before .before .before .before .if2 .left) in
+    let r = room (a .tags .now) (a .before) (a .t6) (a .s) (a .exprs) (a .body) (a .end) (a .head) (p .0) (p .1 .0 .3) (p .1 .1 .0) (c .before .before .before .before .before .before .before .before .before .before .before .before .before .before .before .before .before .before .before .before .left .result) (c .before .before .before .before .before .before .before .before .before .before .before .before .before .before .before .before .before .before .before .before .left .ensures) (c .before .before .before .before .before .before .before .before .before .before .before .before .before .before .before .before .before .before .before .if2 .left) in
     let k₁ = p .1 .1 .1 .1 .1 .2 in
-    let k₂ = (simp (length-sets, length-set) at (ap length (c .before .before .before .before .before .before .before .before .before .before .before .before .before .before .before .before .before .copy-classes .ensures))) ∙ k₁ in
-    let k₃ = (simp (length-sets, length-set) at (ap length (c .before .before .before .before .before .before .before .before .before .before .before .before .before .copy-tags .ensures))) ∙ k₂ in
-    let k₄ = (simp (length-sets, length-set) at (ap length (c .before .before .before .before .before .before .before .before .before .copy-classes2 .ensures))) ∙ k₃ in
-    let k₅ = (simp (length-sets, length-set) at (ap length (c .before .before .before .before .name-classes .ensures))) ∙ k₄ in
+    let k₂ = (simp (length-sets, length-set) at (ap length (c .before .before .before .before .before .before .before .before .before .before .before .before .before .before .before .copy-classes .ensures))) ∙ k₁ in
+    let k₃ = (simp (length-sets, length-set) at (ap length (c .before .before .before .before .before .before .before .before .before .before .before .copy-tags .ensures))) ∙ k₂ in
+    let k₄ = (simp (length-sets, length-set) at (ap length (c .before .before .before .before .before .before .before .copy-classes2 .ensures))) ∙ k₃ in
+    let k₅ = (simp (length-sets, length-set) at (ap length (c .before .before .before .name-classes .ensures))) ∙ k₄ in
     (omega (arith, r), omega (arith, r), p .0 .4, k₅)
 
 cast-starts : tie.Need-cast-starts
 cast-starts c =
-    let st = c .before .before .before .before .before .before .before .before .before .before .before .before .before .before .before .before .before .before .before .before .before .before .before .before .before .before .before .before in
+    let st = c .before .before .before .before .before .before .before .before .before .before .before .before .before .before .before .before .before .before .before .before .before .before .before .before .before .before in
     let a = st .args in
     let p = st .pre in
-    let r = room (a .tags .now) (a .before) (a .t6) (a .s) (a .exprs) (a .body) (a .end) (a .head) (p .0) (p .1 .0 .3) (p .1 .1 .0) (c .before .before .before .before .before .before .before .before .before .before .before .before .before .before .before .before .before .before .before .before .before .before .before .left .result) (c .before .before .before .before .before .before .before .before .before .before .before .before .before .before .before .before .before .before .before .before .before .before .before .left .ensures) (c .before .before .before .before .before .before .before .before .before .before .before .before .before .before .before .before .before .before .before .before .before .before .if2 .left) in
+    let r = room (a .tags .now) (a .before) (a .t6) (a .s) (a .exprs) (a .body) (a .end) (a .head) (p .0) (p .1 .0 .3) (p .1 .1 .0) (c .before .before .before .before .before .before .before .before .before .before .before .before .before .before .before .before .before .before .before .before .before .left .result) (c .before .before .before .before .before .before .before .before .before .before .before .before .before .before .before .before .before .before .before .before .before .left .ensures) (c .before .before .before .before .before .before .before .before .before .before .before .before .before .before .before .before .before .before .before .before .if2 .left) in
     let u = p .1 .0 in omega (arith, r)
 
 mul-starts : tie.Need-mul-starts
 mul-starts c =
-    let st = c .before .before .before .before .before .before .before .before .before .before .before .before .before .before .before .before .before .before .before .before .before .before .before .before .before .before .before .before in
+    let st = c .before .before .before .before .before .before .before .before .before .before .before .before .before .before .before .before .before .before .before .before .before .before .before .before .before .before in
     let a = st .args in
     let p = st .pre in
-    let r = room (a .tags .now) (a .before) (a .t6) (a .s) (a .exprs) (a .body) (a .end) (a .head) (p .0) (p .1 .0 .3) (p .1 .1 .0) (c .before .before .before .before .before .before .before .before .before .before .before .before .before .before .before .before .before .before .before .before .before .before .before .left .result) (c .before .before .before .before .before .before .before .before .before .before .before .before .before .before .before .before .before .before .before .before .before .before .before .left .ensures) (c .before .before .before .before .before .before .before .before .before .before .before .before .before .before .before .before .before .before .before .before .before .before .if2 .left) in
+    let r = room (a .tags .now) (a .before) (a .t6) (a .s) (a .exprs) (a .body) (a .end) (a .head) (p .0) (p .1 .0 .3) (p .1 .1 .0) (c .before .before .before .before .before .before .before .before .before .before .before .before .before .before .before .before .before .before .before .before .before .left .result) (c .before .before .before .before .before .before .before .before .before .before .before .before .before .before .before .before .before .before .before .before .before .left .ensures) (c .before .before .before .before .before .before .before .before .before .before .before .before .before .before .before .before .before .before .before .before .if2 .left) in
     let u = p .1 .0 in omega (arith, r)
 
 mul-starts-2 : tie.Need-mul-starts-2
 mul-starts-2 c =
-    let st = c .before .before .before .before .before .before .before .before .before .before .before .before .before .before .before .before .before .before .before .before .before .before .before .before .before .before .before .before in
+    let st = c .before .before .before .before .before .before .before .before .before .before .before .before .before .before .before .before .before .before .before .before .before .before .before .before .before .before in
     let a = st .args in
     let p = st .pre in
-    let r = room (a .tags .now) (a .before) (a .t6) (a .s) (a .exprs) (a .body) (a .end) (a .head) (p .0) (p .1 .0 .3) (p .1 .1 .0) (c .before .before .before .before .before .before .before .before .before .before .before .before .before .before .before .before .before .before .before .before .before .before .before .left .result) (c .before .before .before .before .before .before .before .before .before .before .before .before .before .before .before .before .before .before .before .before .before .before .before .left .ensures) (c .before .before .before .before .before .before .before .before .before .before .before .before .before .before .before .before .before .before .before .before .before .before .if2 .left) in
+    let r = room (a .tags .now) (a .before) (a .t6) (a .s) (a .exprs) (a .body) (a .end) (a .head) (p .0) (p .1 .0 .3) (p .1 .1 .0) (c .before .before .before .before .before .before .before .before .before .before .before .before .before .before .before .before .before .before .before .before .before .left .result) (c .before .before .before .before .before .before .before .before .before .before .before .before .before .before .before .before .before .before .before .before .before .left .ensures) (c .before .before .before .before .before .before .before .before .before .before .before .before .before .before .before .before .before .before .before .before .if2 .left) in
     let u = p .1 .0 in omega (arith, r)
 
 index-1-starts : tie.Need-index-1-starts
 index-1-starts c =
-    let st = c .before .before .before .before .before .before .before .before .before .before .before .before .before .before .before .before .before .before .before .before .before .before .before .before .before .before .before .before in
+    let st = c .before .before .before .before .before .before .before .before .before .before .before .before .before .before .before .before .before .before .before .before .before .before .before .before .before .before in
     let a = st .args in
     let p = st .pre in
-    let r = room (a .tags .now) (a .before) (a .t6) (a .s) (a .exprs) (a .body) (a .end) (a .head) (p .0) (p .1 .0 .3) (p .1 .1 .0) (c .before .before .before .before .before .before .before .before .before .before .before .before .before .before .before .before .before .before .before .before .before .before .before .left .result) (c .before .before .before .before .before .before .before .before .before .before .before .before .before .before .before .before .before .before .before .before .before .before .before .left .ensures) (c .before .before .before .before .before .before .before .before .before .before .before .before .before .before .before .before .before .before .before .before .before .before .if2 .left) in
+    let r = room (a .tags .now) (a .before) (a .t6) (a .s) (a .exprs) (a .body) (a .end) (a .head) (p .0) (p .1 .0 .3) (p .1 .1 .0) (c .before .before .before .before .before .before .before .before .before .before .before .before .before .before .before .before .before .before .before .before .before .left .result) (c .before .before .before .before .before .before .before .before .before .before .before .before .before .before .before .before .before .before .before .before .before .left .ensures) (c .before .before .before .before .before .before .before .before .before .before .before .before .before .before .before .before .before .before .before .before .if2 .left) in
     let u = p .1 .0 in omega (arith, r)
 
 index-2-starts : tie.Need-index-2-starts
 index-2-starts c =
-    let st = c .before .before .before .before .before .before .before .before .before .before .before .before .before .before .before .before .before .before .before .before .before .before .before .before .before .before .before .before in
+    let st = c .before .before .before .before .before .before .before .before .before .before .before .before .before .before .before .before .before .before .before .before .before .before .before .before .before .before in
     let a = st .args in
     let p = st .pre in
-    seated (getD (a .t6 .counts) (a .t) 0) (a .limit) (p .1 .0 .2) (c .before .before .before .before .before .before .before .before .before .before .before .before .before .before .before .before .before .before .before .before .before .before .before .before .if1 .left) (p .1 .0 .1)
+    seated (getD (a .t6 .counts) (a .t) 0) (a .limit) (p .1 .0 .2) (c .before .before .before .before .before .before .before .before .before .before .before .before .before .before .before .before .before .before .before .before .before .before .if1 .left) (p .1 .0 .1)
 
 add-c : tie.Need-add-c
 add-c c =
-    let st = c .before .before .before .before .before .before .before .before .before .before .before .before .before .before .before .before .before .before .before .before .before .before .before .before .before .before .before .before .before in
+    let st = c .before .before .before .before .before .before .before .before .before .before .before .before .before .before .before .before .before .before .before .before .before .before .before .before .before .before .before in
     let a = st .args in
     let p = st .pre in
-    let r = room (a .tags .now) (a .before) (a .t6) (a .s) (a .exprs) (a .body) (a .end) (a .head) (p .0) (p .1 .0 .3) (p .1 .1 .0) (c .before .before .before .before .before .before .before .before .before .before .before .before .before .before .before .before .before .before .before .before .before .before .before .before .left .result) (c .before .before .before .before .before .before .before .before .before .before .before .before .before .before .before .before .before .before .before .before .before .before .before .before .left .ensures) (c .before .before .before .before .before .before .before .before .before .before .before .before .before .before .before .before .before .before .before .before .before .before .before .if2 .left) in
+    let r = room (a .tags .now) (a .before) (a .t6) (a .s) (a .exprs) (a .body) (a .end) (a .head) (p .0) (p .1 .0 .3) (p .1 .1 .0) (c .before .before .before .before .before .before .before .before .before .before .before .before .before .before .before .before .before .before .before .before .before .before .left .result) (c .before .before .before .before .before .before .before .before .before .before .before .before .before .before .before .before .before .before .before .before .before .before .left .ensures) (c .before .before .before .before .before .before .before .before .before .before .before .before .before .before .before .before .before .before .before .before .before .if2 .left) in
     let u = p .1 .0 in omega (arith, r)
 
 cast-c : tie.Need-cast-c
 cast-c c =
-    let st = c .before .before .before .before .before .before .before .before .before .before .before .before .before .before .before .before .before .before .before .before .before .before .before .before .before .before .before .before .before in
+    let st = c .before .before .before .before .before .before .before .before .before .before .before .before .before .before .before .before .before .before .before .before .before .before .before .before .before .before .before in
     let a = st .args in
     let p = st .pre in
-    let r = room (a .tags .now) (a .before) (a .t6) (a .s) (a .exprs) (a .body) (a .end) (a .head) (p .0) (p .1 .0 .3) (p .1 .1 .0) (c .before .before .before .before .before .before .before .before .before .before .before .before .before .before .before .before .before .before .before .before .before .before .before .before .left .result) (c .before .before .before .before .before .before .before .before .before .before .before .before .before .before .before .before .before .before .before .before .before .before .before .before .left .ensures) (c .before .before .before .before .before .before .before .before .before .before .before .before .before .before .before .before .before .before .before .before .before .before .before .if2 .left) in
+    let r = room (a .tags .now) (a .before) (a .t6) (a .s) (a .exprs) (a .body) (a .end) (a .head) (p .0) (p .1 .0 .3) (p .1 .1 .0) (c .before .before .before .before .before .before .before .before .before .before .before .before .before .before .before .before .before .before .before .before .before .before .left .result) (c .before .before .before .before .before .before .before .before .before .before .before .before .before .before .before .before .before .before .before .before .before .before .left .ensures) (c .before .before .before .before .before .before .before .before .before .before .before .before .before .before .before .before .before .before .before .before .before .if2 .left) in
     let u = p .1 .0 in omega (arith, r)
 
 mul-c : tie.Need-mul-c
 mul-c c =
-    let st = c .before .before .before .before .before .before .before .before .before .before .before .before .before .before .before .before .before .before .before .before .before .before .before .before .before .before .before .before .before in
+    let st = c .before .before .before .before .before .before .before .before .before .before .before .before .before .before .before .before .before .before .before .before .before .before .before .before .before .before .before in
     let a = st .args in
     let p = st .pre in
-    let r = room (a .tags .now) (a .before) (a .t6) (a .s) (a .exprs) (a .body) (a .end) (a .head) (p .0) (p .1 .0 .3) (p .1 .1 .0) (c .before .before .before .before .before .before .before .before .before .before .before .before .before .before .before .before .before .before .before .before .before .before .before .before .left .result) (c .before .before .before .before .before .before .before .before .before .before .before .before .before .before .before .before .before .before .before .before .before .before .before .before .left .ensures) (c .before .before .before .before .before .before .before .before .before .before .before .before .before .before .before .before .before .before .before .before .before .before .before .if2 .left) in
+    let r = room (a .tags .now) (a .before) (a .t6) (a .s) (a .exprs) (a .body) (a .end) (a .head) (p .0) (p .1 .0 .3) (p .1 .1 .0) (c .before .before .before .before .before .before .before .before .before .before .before .before .before .before .before .before .before .before .before .before .before .before .left .result) (c .before .before .before .before .before .before .before .before .before .before .before .before .before .before .before .before .before .before .before .before .before .before .left .ensures) (c .before .before .before .before .before .before .before .before .before .before .before .before .before .before .before .before .before .before .before .before .before .if2 .left) in
     let u = p .1 .0 in omega (arith, r)
 
 array-write-c : tie.Need-array-write-c
 array-write-c c =
-    let st = c .before .before .before .before .before .before .before .before .before .before .before .before .before .before .before .before .before .before .before .before .before .before .before .before .before .before .before .before .before in
+    let st = c .before .before .before .before .before .before .before .before .before .before .before .before .before .before .before .before .before .before .before .before .before .before .before .before .before .before .before in
     let a = st .args in
     let p = st .pre in
-    let r = room (a .tags .now) (a .before) (a .t6) (a .s) (a .exprs) (a .body) (a .end) (a .head) (p .0) (p .1 .0 .3) (p .1 .1 .0) (c .before .before .before .before .before .before .before .before .before .before .before .before .before .before .before .before .before .before .before .before .before .before .before .before .left .result) (c .before .before .before .before .before .before .before .before .before .before .before .before .before .before .before .before .before .before .before .before .before .before .before .before .left .ensures) (c .before .before .before .before .before .before .before .before .before .before .before .before .before .before .before .before .before .before .before .before .before .before .before .if2 .left) in
+    let r = room (a .tags .now) (a .before) (a .t6) (a .s) (a .exprs) (a .body) (a .end) (a .head) (p .0) (p .1 .0 .3) (p .1 .1 .0) (c .before .before .before .before .before .before .before .before .before .before .before .before .before .before .before .before .before .before .before .before .before .before .left .result) (c .before .before .before .before .before .before .before .before .before .before .before .before .before .before .before .before .before .before .before .before .before .before .left .ensures) (c .before .before .before .before .before .before .before .before .before .before .before .before .before .before .before .before .before .before .before .before .before .if2 .left) in
     let u = p .1 .0 in omega (arith, r)
 
-add-t29 : tie.Need-add-t29
-add-t29 c =
-    let st = c .before .before .before .before .before .before .before .before .before .before .before .before .before .before .before .before .before .before .before .before .before .before .before .before .before .before .before .before .before in
+add-t33 : tie.Need-add-t33
+add-t33 c =
+    let st = c .before .before .before .before .before .before .before .before .before .before .before .before .before .before .before .before .before .before .before .before .before .before .before .before .before .before .before in
     let a = st .args in
     let p = st .pre in
-    let r = room (a .tags .now) (a .before) (a .t6) (a .s) (a .exprs) (a .body) (a .end) (a .head) (p .0) (p .1 .0 .3) (p .1 .1 .0) (c .before .before .before .before .before .before .before .before .before .before .before .before .before .before .before .before .before .before .before .before .before .before .before .before .left .result) (c .before .before .before .before .before .before .before .before .before .before .before .before .before .before .before .before .before .before .before .before .before .before .before .before .left .ensures) (c .before .before .before .before .before .before .before .before .before .before .before .before .before .before .before .before .before .before .before .before .before .before .before .if2 .left) in
+    let r = room (a .tags .now) (a .before) (a .t6) (a .s) (a .exprs) (a .body) (a .end) (a .head) (p .0) (p .1 .0 .3) (p .1 .1 .0) (c .before .before .before .before .before .before .before .before .before .before .before .before .before .before .before .before .before .before .before .before .before .before .left .result) (c .before .before .before .before .before .before .before .before .before .before .before .before .before .before .before .before .before .before .before .before .before .before .left .ensures) (c .before .before .before .before .before .before .before .before .before .before .before .before .before .before .before .before .before .before .before .before .before .if2 .left) in
     let u = p .1 .0 in omega (arith, r)
 
-add-t27 : tie.Need-add-t27
-add-t27 c =
-    let st = c .before .before .before .before .before .before .before .before .before .before .before .before .before .before .before .before .before .before .before .before .before .before .before .before .before .before .before .before .before in
+add-t31 : tie.Need-add-t31
+add-t31 c =
+    let st = c .before .before .before .before .before .before .before .before .before .before .before .before .before .before .before .before .before .before .before .before .before .before .before .before .before .before .before in
     let a = st .args in
     let p = st .pre in
-    let r = room (a .tags .now) (a .before) (a .t6) (a .s) (a .exprs) (a .body) (a .end) (a .head) (p .0) (p .1 .0 .3) (p .1 .1 .0) (c .before .before .before .before .before .before .before .before .before .before .before .before .before .before .before .before .before .before .before .before .before .before .before .before .left .result) (c .before .before .before .before .before .before .before .before .before .before .before .before .before .before .before .before .before .before .before .before .before .before .before .before .left .ensures) (c .before .before .before .before .before .before .before .before .before .before .before .before .before .before .before .before .before .before .before .before .before .before .before .if2 .left) in
+    let r = room (a .tags .now) (a .before) (a .t6) (a .s) (a .exprs) (a .body) (a .end) (a .head) (p .0) (p .1 .0 .3) (p .1 .1 .0) (c .before .before .before .before .before .before .before .before .before .before .before .before .before .before .before .before .before .before .before .before .before .before .left .result) (c .before .before .before .before .before .before .before .before .before .before .before .before .before .before .before .before .before .before .before .before .before .before .left .ensures) (c .before .before .before .before .before .before .before .before .before .before .before .before .before .before .before .before .before .before .before .before .before .if2 .left) in
+    let u = p .1 .0 in omega (arith, r)
+
+cast-t29 : tie.Need-cast-t29
+cast-t29 c =
+    let st = c .before .before .before .before .before .before .before .before .before .before .before .before .before .before .before .before .before .before .before .before .before .before .before .before .before .before .before in
+    let a = st .args in
+    let p = st .pre in
+    let r = room (a .tags .now) (a .before) (a .t6) (a .s) (a .exprs) (a .body) (a .end) (a .head) (p .0) (p .1 .0 .3) (p .1 .1 .0) (c .before .before .before .before .before .before .before .before .before .before .before .before .before .before .before .before .before .before .before .before .before .before .left .result) (c .before .before .before .before .before .before .before .before .before .before .before .before .before .before .before .before .before .before .before .before .before .before .left .ensures) (c .before .before .before .before .before .before .before .before .before .before .before .before .before .before .before .before .before .before .before .before .before .if2 .left) in
     let u = p .1 .0 in omega (arith, r)
 
 returns-3 : tie.Need-returns-3
 returns-3 c =
-    let st = c .before .before .before .before .before .before .before .before .before .before .before .before .before .before .before .before .before .before .before .before .before .before .before .before .before .before .before .before .before in
+    let st = c .before .before .before .before .before .before .before .before .before .before .before .before .before .before .before .before .before .before .before .before .before .before .before .before .before .before .before in
     let a = st .args in
     let p = st .pre in
     let q = p .1 .1 .1 .1 .1 in
-    closes (a .tags .now) (a .stacks .now) (a .before) (a .t6) (a .s) (a .exprs) (a .body) (a .end) (a .head) (p .0) (p .1 .0 .3) (p .1 .1 .0) (p .1 .1 .1 .0) (a .log .now) (a .classes .now) (c .before .before .before .before .before .before .before .before .before .before .before .before .before .before .before .before .before .before .before .before .before .copy-words .ensures) (c .before .before .before .before .before .before .before .before .before .before .before .before .before .before .before .before .before .copy-words2 .ensures) (c .before .before .before .before .before .before .before .before .before .before .before .before .before .copy-words3 .ensures) (c .before .before .before .before .before .before .before .before .copy-words4 .ensures) (c .before .before .before .copy-words5 .ensures) (c .before .before .before .before .before .before .before .before .before .before .before .before .before .before .before .before .before .before .before .copy-classes .ensures) (c .before .before .before .before .before .before .before .before .before .before .before .before .before .before .before .copy-tags .ensures) (c .before .before .before .before .before .before .before .before .before .before .before .copy-classes2 .ensures) (c .before .before .before .before .before .before .name-classes .ensures) (c .before .copy-tags2 .ensures) (a .limit) (a .t) (a .starts .now) (p .1 .0 .2) (c .before .before .before .before .before .before .before .before .before .before .before .before .before .before .before .before .before .before .before .before .before .before .before .before .before .if1 .left) (q .1) (q .2) (c .before .before .before .before .before .before .before .before .before .before .before .before .before .before .before .before .before .before .before .before .before .before .before .before .left .result) (c .before .before .before .before .before .before .before .before .before .before .before .before .before .before .before .before .before .before .before .before .before .before .before .before .left .ensures) (c .before .before .before .before .before .before .before .before .before .before .before .before .before .before .before .before .before .before .before .before .before .before .before .if2 .left)
+    closes (a .tags .now) (a .stacks .now) (a .before) (a .t6) (a .s) (a .exprs) (a .body) (a .end) (a .head) (p .0) (p .1 .0 .3) (p .1 .1 .0) (p .1 .1 .1 .0) (a .log .now) (a .classes .now) (c .before .before .before .before .before .before .before .before .before .before .before .before .before .before .before .before .before .before .before .copy-words .ensures) (c .before .before .before .before .before .before .before .before .before .before .before .before .before .before .before .copy-words2 .ensures) (c .before .before .before .before .before .before .before .before .before .before .before .copy-words3 .ensures) (c .before .before .before .before .before .before .before .copy-words4 .ensures) (c .before .before .before .copy-words5 .ensures) (c .before .before .before .before .before .before .before .before .before .before .before .before .before .before .before .before .before .copy-classes .ensures) (c .before .before .before .before .before .before .before .before .before .before .before .before .before .copy-tags .ensures) (c .before .before .before .before .before .before .before .before .before .copy-classes2 .ensures) (c .before .before .before .before .before .name-classes .ensures) (c .before .copy-tags2 .ensures) (a .limit) (a .t) (a .starts .now) (p .1 .0 .2) (c .before .before .before .before .before .before .before .before .before .before .before .before .before .before .before .before .before .before .before .before .before .before .before .if1 .left) (q .1) (q .2) (c .before .before .before .before .before .before .before .before .before .before .before .before .before .before .before .before .before .before .before .before .before .before .left .result) (c .before .before .before .before .before .before .before .before .before .before .before .before .before .before .before .before .before .before .before .before .before .before .left .ensures) (c .before .before .before .before .before .before .before .before .before .before .before .before .before .before .before .before .before .before .before .before .before .if2 .left)
 
 pub close-spec : {M : Type 1} → statement M
 close-spec =
@@ -435,7 +458,11 @@ close-spec =
     (tie.spec
     sub-front
     sub-tail
+    cast-et
+    cast-e
+    cast-b
     sub-made
+    cast-names
     sub-names
     sub-names-2
     sub-names-3
@@ -454,6 +481,7 @@ close-spec =
     add-if2
     refuse-requires-2
     returns-2
+    cast-used
     add-p
     add-p-2
     cast-log
@@ -506,6 +534,7 @@ close-spec =
     cast-c
     mul-c
     array-write-c
-    add-t29
-    add-t27
+    add-t33
+    add-t31
+    cast-t29
     returns-3)

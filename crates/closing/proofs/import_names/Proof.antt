@@ -24,6 +24,9 @@ abbrev μ-loop : tie.MeasureT-loop
 loop-holds : tie.Need-loop-holds Inv-loop μ-loop
 loop-holds c = let a = (c .args) in let p = (c .pre) in name-first (a .words .now) (a .n) (a .offset) (a .b) (a .log .now) (a .classes .now) (a .starts .now) (a .maps .now) (a .marks .now) (a .stacks .now) (a .ends) (p .1 .1 .1 .1) (p .1 .0 .0) (p .1 .1 .0) (p .1 .0 .1) (p .1 .1 .1 .0)
 
+cast-if1 : tie.Need-cast-if1 Inv-loop μ-loop
+cast-if1 c = search needs
+
 -- src/lib.rt:102:17
 add-j : tie.Need-add-j Inv-loop μ-loop
 add-j c = let a = (c .before .before .before .args) in let p = (c .before .before .before .pre) in let l = (c .before .before .loop) in let z = name-in (a .words .now) (a .n) (a .offset) (a .b) (a .log .now) (a .classes .now) (a .starts .now) (a .maps .now) (a .marks .now) (a .stacks .now) (a .ends) (p .1 .1 .1 .1) (l .log) (l .classes) (l .starts) (l .maps) (l .marks) (l .stacks) (l .e) (l .i) (l .inv) (c .if1 .taken) in omega arith
@@ -115,6 +118,7 @@ import-names-spec =
     Inv-loop
     μ-loop
     loop-holds
+    cast-if1
     add-j
     add-i
     mul-w

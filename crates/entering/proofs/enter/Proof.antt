@@ -38,6 +38,9 @@ returns-2 c =
     let p = c .before .before .before .before .before .before .before .before .before .before .before .before .before .before .before .before .before .before .before .pre in
     head-full (p .0 .source) (p .1 .0 .1) (a .j) (p .1 .0 .0) _ _ _ (c .before .before .before .before .before .before .before .before .before .before .before .before .before .before .before .before .before .before .record-at .ensures) (c .before .before .before .before .before .before .before .before .before .before .before .before .before .before .before .before .before .entry-function .ensures) (c .before .before .before .before .before .before .before .before .before .before .before .before .before .before .before .before .record-end .ensures) (a .offset) _ _ (a .log .now) (a .classes .now) (a .starts .now) (a .maps .now) (a .marks .now) (a .stacks .now) (a .ends) (p .1 .1 .1 .1) _ _ _ _ _ _ _ (c .before .before .before .before .before .before .before .before .localize .ensures) (c .before .before .before .before .before .before .before .if1 .left) _ _ _ _ _ _ (c .before .import-outside .ensures) (c .if2 .taken)
 
+cast-et : tie.Need-cast-et
+cast-et c = search needs
+
 sub-if3 : tie.Need-sub-if3
 sub-if3 c =
     let a = c .before .before .before .before .before .before .before .before .before .before .before .before .before .before .before .before .before .before .before .before .args in
@@ -110,6 +113,7 @@ enter-spec =
     returns
     import-outside-requires
     returns-2
+    cast-et
     sub-if3
     sub-if3-2
     refuse-requires

@@ -4,6 +4,7 @@ use mathlib.Core.Bool.{false≢true}
 use mathlib.Core.Logic.{⊎-elim}
 use Prim.Native.Nat.{_+_, _*_, _-_}
 use native.Mathlib.Omega.{arith}
+use borrow.Author.Needs.{needs}
 use Rattle.known.proofs.Bears.{bearing}
 use Rattle.import.proofs.Sources.{tape}
 use Rattle.parts.specs.Exprs.{expressions}
@@ -308,6 +309,38 @@ abbrev localize-μ-loop : localize-lts.MeasureT-loop
 localize-μ-loop words tags kinds n log₀ classes₀ starts₀ maps₀ marks₀ stacks₀ places₀ offset s end room e1 exprs k em₀ named body e₀ i₀ u₀ log classes starts maps marks stacks places em e i u =
     end - i
 
+localize-cast-e1 : (t : ℕ) → localize-lts.Need-cast-e1 (
+  expressions-at-reads.Asked,
+  expressions-at-reads.Learnt,
+  wide-reads.Asked,
+  wide-reads.Learnt,
+  find-reads.Asked,
+  find-reads.Learnt,
+  slot-reads.Asked,
+  slot-reads.Learnt,
+  begin-reads.Asked,
+  begin-reads.Learnt,
+  declare-reads.Asked,
+  declare-reads.Learnt,
+  run-reads.Asked,
+  run-reads.Learnt,
+  longer-reads.Asked,
+  longer-reads.Learnt,
+  flag-reads.Asked,
+  flag-reads.Learnt,
+  follow-below t,
+  follow.Post,
+  put-word-reads.Asked,
+  put-word-reads.Learnt,
+  pass-reads.Asked,
+  pass-reads.Learnt,
+  keep-names-reads.Asked,
+  keep-names-reads.Learnt,
+  import-names-reads.Asked,
+  import-names-reads.Learnt,
+) (localize-at t) localize.Post localize-Inv-loop localize-μ-loop
+localize-cast-e1 t c = search needs
+
 -- src/lib.rt:93:9
 localize-expressions-at-requires : (t : ℕ) → localize-lts.Need-expressions-at-requires (
   expressions-at-reads.Asked,
@@ -339,7 +372,7 @@ localize-expressions-at-requires : (t : ℕ) → localize-lts.Need-expressions-a
   import-names-reads.Asked,
   import-names-reads.Learnt,
 ) (localize-at t) localize.Post localize-Inv-loop localize-μ-loop
-localize-expressions-at-requires t c κs = let a = c .args in let p = c .pre .1 in exprs-in (p .1 .0)
+localize-expressions-at-requires t c κs = let a = c .before .args in let p = c .before .pre .1 in exprs-in (p .1 .0)
 
 -- src/lib.rt:94:18
 localize-mul-wide : (t : ℕ) → localize-lts.Need-mul-wide (
@@ -372,7 +405,7 @@ localize-mul-wide : (t : ℕ) → localize-lts.Need-mul-wide (
   import-names-reads.Asked,
   import-names-reads.Learnt,
 ) (localize-at t) localize.Post localize-Inv-loop localize-μ-loop
-localize-mul-wide t c = let a = c .before .args in let p = c .before .pre .1 in omega arith
+localize-mul-wide t c = let a = c .before .before .args in let p = c .before .before .pre .1 in omega arith
 
 -- src/lib.rt:94:18
 localize-element-copy-out-wide : (t : ℕ) → localize-lts.Need-element-copy-out-wide (
@@ -405,7 +438,7 @@ localize-element-copy-out-wide : (t : ℕ) → localize-lts.Need-element-copy-ou
   import-names-reads.Asked,
   import-names-reads.Learnt,
 ) (localize-at t) localize.Post localize-Inv-loop localize-μ-loop
-localize-element-copy-out-wide t c = let a = c .before .args in let p = c .before .pre .1 in let h = c .expressions-at .ensures .1 in omega arith
+localize-element-copy-out-wide t c = let a = c .before .before .args in let p = c .before .before .pre .1 in let h = c .expressions-at .ensures .1 in omega arith
 
 -- src/lib.rt:94:9
 localize-wide-requires : (t : ℕ) → localize-lts.Need-wide-requires (
@@ -471,7 +504,7 @@ localize-add-find : (t : ℕ) → localize-lts.Need-add-find (
   import-names-reads.Asked,
   import-names-reads.Learnt,
 ) (localize-at t) localize.Post localize-Inv-loop localize-μ-loop
-localize-add-find t c = let a = c .before .before .before .args in let p = c .before .before .before .pre .1 in let h = c .before .before .expressions-at .ensures .1 in omega arith
+localize-add-find t c = let a = c .before .before .before .before .args in let p = c .before .before .before .before .pre .1 in let h = c .before .before .expressions-at .ensures .1 in omega arith
 
 -- src/lib.rt:96:5
 localize-find-requires : (t : ℕ) → localize-lts.Need-find-requires (
@@ -504,7 +537,7 @@ localize-find-requires : (t : ℕ) → localize-lts.Need-find-requires (
   import-names-reads.Asked,
   import-names-reads.Learnt,
 ) (localize-at t) localize.Post localize-Inv-loop localize-μ-loop
-localize-find-requires t c κs = let a = c .before .before .before .before .args in let p = c .before .before .before .before .pre .1 in index-in (p .1 .0) (c .before .before .before .expressions-at .ensures .0)
+localize-find-requires t c κs = let a = c .before .before .before .before .before .args in let p = c .before .before .before .before .before .pre .1 in index-in (p .1 .0) (c .before .before .before .expressions-at .ensures .0)
 
 -- src/lib.rt:97:22
 localize-mul-slot : (t : ℕ) → localize-lts.Need-mul-slot (
@@ -537,7 +570,7 @@ localize-mul-slot : (t : ℕ) → localize-lts.Need-mul-slot (
   import-names-reads.Asked,
   import-names-reads.Learnt,
 ) (localize-at t) localize.Post localize-Inv-loop localize-μ-loop
-localize-mul-slot t c = let a = c .before .before .before .before .before .args in let p = c .before .before .before .before .before .pre .1 in let h = count-in (p .1 .0) (c .before .before .before .before .expressions-at .ensures .0) (c .before .before .wide .ensures .0) in omega arith
+localize-mul-slot t c = let a = c .before .before .before .before .before .before .args in let p = c .before .before .before .before .before .before .pre .1 in let h = count-in (p .1 .0) (c .before .before .before .before .expressions-at .ensures .0) (c .before .before .wide .ensures .0) in omega arith
 
 -- src/lib.rt:97:22
 localize-element-copy-out-slot : (t : ℕ) → localize-lts.Need-element-copy-out-slot (
@@ -570,7 +603,7 @@ localize-element-copy-out-slot : (t : ℕ) → localize-lts.Need-element-copy-ou
   import-names-reads.Asked,
   import-names-reads.Learnt,
 ) (localize-at t) localize.Post localize-Inv-loop localize-μ-loop
-localize-element-copy-out-slot t c = let a = c .before .before .before .before .before .args in let p = c .before .before .before .before .before .pre .1 in let h = count-in (p .1 .0) (c .before .before .before .before .expressions-at .ensures .0) (c .before .before .wide .ensures .0) in omega arith
+localize-element-copy-out-slot t c = let a = c .before .before .before .before .before .before .args in let p = c .before .before .before .before .before .before .pre .1 in let h = count-in (p .1 .0) (c .before .before .before .before .expressions-at .ensures .0) (c .before .before .wide .ensures .0) in omega arith
 
 -- src/lib.rt:97:9
 localize-slot-requires : (t : ℕ) → localize-lts.Need-slot-requires (
@@ -636,7 +669,7 @@ localize-add-body : (t : ℕ) → localize-lts.Need-add-body (
   import-names-reads.Asked,
   import-names-reads.Learnt,
 ) (localize-at t) localize.Post localize-Inv-loop localize-μ-loop
-localize-add-body t c = let a = c .before .before .before .before .before .before .before .args in let p = c .before .before .before .before .before .before .before .pre .1 in let h = named-in (p .1 .0) (c .before .before .before .before .before .before .expressions-at .ensures .0) (c .before .before .find .ensures) (c .before .before .before .before .wide .ensures .0) (c .slot .ensures .0) in let h₁ = h .0 in let h₂ = h .1 in omega arith
+localize-add-body t c = let a = c .before .before .before .before .before .before .before .before .args in let p = c .before .before .before .before .before .before .before .before .pre .1 in let h = named-in (p .1 .0) (c .before .before .before .before .before .before .expressions-at .ensures .0) (c .before .before .find .ensures) (c .before .before .before .before .wide .ensures .0) (c .slot .ensures .0) in let h₁ = h .0 in let h₂ = h .1 in omega arith
 
 -- src/lib.rt:98:37
 localize-mul-wide-2 : (t : ℕ) → localize-lts.Need-mul-wide-2 (
@@ -669,7 +702,7 @@ localize-mul-wide-2 : (t : ℕ) → localize-lts.Need-mul-wide-2 (
   import-names-reads.Asked,
   import-names-reads.Learnt,
 ) (localize-at t) localize.Post localize-Inv-loop localize-μ-loop
-localize-mul-wide-2 t c = let a = c .before .before .before .before .before .before .before .args in let p = c .before .before .before .before .before .before .before .pre .1 in let h = named-in (p .1 .0) (c .before .before .before .before .before .before .expressions-at .ensures .0) (c .before .before .find .ensures) (c .before .before .before .before .wide .ensures .0) (c .slot .ensures .0) in let h₁ = h .0 in let h₂ = h .1 in omega arith
+localize-mul-wide-2 t c = let a = c .before .before .before .before .before .before .before .before .args in let p = c .before .before .before .before .before .before .before .before .pre .1 in let h = named-in (p .1 .0) (c .before .before .before .before .before .before .expressions-at .ensures .0) (c .before .before .find .ensures) (c .before .before .before .before .wide .ensures .0) (c .slot .ensures .0) in let h₁ = h .0 in let h₂ = h .1 in omega arith
 
 -- src/lib.rt:98:37
 localize-element-copy-out-wide-2 : (t : ℕ) → localize-lts.Need-element-copy-out-wide-2 (
@@ -702,7 +735,7 @@ localize-element-copy-out-wide-2 : (t : ℕ) → localize-lts.Need-element-copy-
   import-names-reads.Asked,
   import-names-reads.Learnt,
 ) (localize-at t) localize.Post localize-Inv-loop localize-μ-loop
-localize-element-copy-out-wide-2 t c = let a = c .before .before .before .before .before .before .before .args in let p = c .before .before .before .before .before .before .before .pre .1 in let h = named-in (p .1 .0) (c .before .before .before .before .before .before .expressions-at .ensures .0) (c .before .before .find .ensures) (c .before .before .before .before .wide .ensures .0) (c .slot .ensures .0) in let h₁ = h .0 in let h₂ = h .1 in omega arith
+localize-element-copy-out-wide-2 t c = let a = c .before .before .before .before .before .before .before .before .args in let p = c .before .before .before .before .before .before .before .before .pre .1 in let h = named-in (p .1 .0) (c .before .before .before .before .before .before .expressions-at .ensures .0) (c .before .before .find .ensures) (c .before .before .before .before .wide .ensures .0) (c .slot .ensures .0) in let h₁ = h .0 in let h₂ = h .1 in omega arith
 
 -- src/lib.rt:98:32
 localize-wide-requires-2 : (t : ℕ) → localize-lts.Need-wide-requires-2 (
@@ -768,7 +801,7 @@ localize-mul-body : (t : ℕ) → localize-lts.Need-mul-body (
   import-names-reads.Asked,
   import-names-reads.Learnt,
 ) (localize-at t) localize.Post localize-Inv-loop localize-μ-loop
-localize-mul-body t c = let a = c .before .before .before .before .before .before .before .before .before .args in let p = c .before .before .before .before .before .before .before .before .before .pre .1 in let h = named-in (p .1 .0) (c .before .before .before .before .before .before .before .before .expressions-at .ensures .0) (c .before .before .before .before .find .ensures) (c .before .before .before .before .before .before .wide .ensures .0) (c .before .before .slot .ensures .0) in let h₁ = h .0 in let h₂ = h .1 in let w = c .wide2 .ensures .0 in omega arith
+localize-mul-body t c = let a = c .before .before .before .before .before .before .before .before .before .before .args in let p = c .before .before .before .before .before .before .before .before .before .before .pre .1 in let h = named-in (p .1 .0) (c .before .before .before .before .before .before .before .before .expressions-at .ensures .0) (c .before .before .before .before .find .ensures) (c .before .before .before .before .before .before .wide .ensures .0) (c .before .before .slot .ensures .0) in let h₁ = h .0 in let h₂ = h .1 in let w = c .wide2 .ensures .0 in omega arith
 
 -- src/lib.rt:98:16
 localize-add-body-2 : (t : ℕ) → localize-lts.Need-add-body-2 (
@@ -801,7 +834,7 @@ localize-add-body-2 : (t : ℕ) → localize-lts.Need-add-body-2 (
   import-names-reads.Asked,
   import-names-reads.Learnt,
 ) (localize-at t) localize.Post localize-Inv-loop localize-μ-loop
-localize-add-body-2 t c = let a = c .before .before .before .before .before .before .before .before .before .args in let p = c .before .before .before .before .before .before .before .before .before .pre .1 in let h = named-in (p .1 .0) (c .before .before .before .before .before .before .before .before .expressions-at .ensures .0) (c .before .before .before .before .find .ensures) (c .before .before .before .before .before .before .wide .ensures .0) (c .before .before .slot .ensures .0) in let h₁ = h .0 in let h₂ = h .1 in let w = c .wide2 .ensures .0 in omega arith
+localize-add-body-2 t c = let a = c .before .before .before .before .before .before .before .before .before .before .args in let p = c .before .before .before .before .before .before .before .before .before .before .pre .1 in let h = named-in (p .1 .0) (c .before .before .before .before .before .before .before .before .expressions-at .ensures .0) (c .before .before .before .before .find .ensures) (c .before .before .before .before .before .before .wide .ensures .0) (c .before .before .slot .ensures .0) in let h₁ = h .0 in let h₂ = h .1 in let w = c .wide2 .ensures .0 in omega arith
 
 -- src/lib.rt:112:9
 localize-begin-requires : (t : ℕ) → localize-lts.Need-begin-requires (
@@ -867,7 +900,7 @@ localize-declare-requires : (t : ℕ) → localize-lts.Need-declare-requires (
   import-names-reads.Asked,
   import-names-reads.Learnt,
 ) (localize-at t) localize.Post localize-Inv-loop localize-μ-loop
-localize-declare-requires t c κs = let a = c .before .before .before .before .before .before .before .before .before .before .before .before .before .before .before .before .before .before .args in let p = c .before .before .before .before .before .before .before .before .before .before .before .before .before .before .before .before .before .before .pre .1 in let x = (reading (p .1 .0) (c .before .before .before .before .before .before .before .before .before .before .before .before .before .before .before .before .before .expressions-at .ensures .0) (c .before .before .before .before .before .before .before .before .before .before .before .before .before .find .ensures) (c .before .before .before .before .before .before .before .before .before .before .before .before .before .before .before .wide .ensures .0) (c .before .before .before .before .before .before .before .before .before .before .before .slot .ensures .0) (c .before .before .before .before .before .before .before .before .before .wide2 .ensures .0) refl) in let b = c .begin .ensures in (p .0, (expressions (p .1 .0) x, (declares (p .1 .0) x, (ap (λ e. e .full) b, (begun-kept (p .1 .0) x (p .1 .1 .1 .1) b, begun-under (p .1 .0) x (p .1 .1 .1 .1) b (a .stacks .now) (p .1 .1 .1 .0 .1))))))
+localize-declare-requires t c κs = let a = c .before .before .before .before .before .before .before .before .before .before .before .before .before .before .before .before .before .before .before .args in let p = c .before .before .before .before .before .before .before .before .before .before .before .before .before .before .before .before .before .before .before .pre .1 in let x = (reading (p .1 .0) (c .before .before .before .before .before .before .before .before .before .before .before .before .before .before .before .before .before .expressions-at .ensures .0) (c .before .before .before .before .before .before .before .before .before .before .before .before .before .find .ensures) (c .before .before .before .before .before .before .before .before .before .before .before .before .before .before .before .wide .ensures .0) (c .before .before .before .before .before .before .before .before .before .before .before .slot .ensures .0) (c .before .before .before .before .before .before .before .before .before .wide2 .ensures .0) refl) in let b = c .begin .ensures in (p .0, (expressions (p .1 .0) x, (declares (p .1 .0) x, (ap (λ e. e .full) b, (begun-kept (p .1 .0) x (p .1 .1 .1 .1) b, begun-under (p .1 .0) x (p .1 .1 .1 .1) b (a .stacks .now) (p .1 .1 .1 .0 .1))))))
 
 -- src/lib.rt:120:9
 localize-returns : (t : ℕ) → localize-lts.Need-returns (
@@ -900,7 +933,7 @@ localize-returns : (t : ℕ) → localize-lts.Need-returns (
   import-names-reads.Asked,
   import-names-reads.Learnt,
 ) (localize-at t) localize.Post localize-Inv-loop localize-μ-loop
-localize-returns t c = let a = c .before .before .before .before .before .before .before .before .before .before .before .before .before .before .before .before .before .before .before .before .args in let p = c .before .before .before .before .before .before .before .before .before .before .before .before .before .before .before .before .before .before .before .before .pre .1 in declare-none (p .1 .0) (reading (p .1 .0) (c .before .before .before .before .before .before .before .before .before .before .before .before .before .before .before .before .before .before .before .expressions-at .ensures .0) (c .before .before .before .before .before .before .before .before .before .before .before .before .before .before .before .find .ensures) (c .before .before .before .before .before .before .before .before .before .before .before .before .before .before .before .before .before .wide .ensures .0) (c .before .before .before .before .before .before .before .before .before .before .before .before .before .slot .ensures .0) (c .before .before .before .before .before .before .before .before .before .before .before .wide2 .ensures .0) refl) (p .1 .1 .1 .1) (a .room) (c .before .before .begin .ensures) (c .before .declare .ensures) (c .if1 .taken)
+localize-returns t c = let a = c .before .before .before .before .before .before .before .before .before .before .before .before .before .before .before .before .before .before .before .before .before .args in let p = c .before .before .before .before .before .before .before .before .before .before .before .before .before .before .before .before .before .before .before .before .before .pre .1 in declare-none (p .1 .0) (reading (p .1 .0) (c .before .before .before .before .before .before .before .before .before .before .before .before .before .before .before .before .before .before .before .expressions-at .ensures .0) (c .before .before .before .before .before .before .before .before .before .before .before .before .before .before .before .find .ensures) (c .before .before .before .before .before .before .before .before .before .before .before .before .before .before .before .before .before .wide .ensures .0) (c .before .before .before .before .before .before .before .before .before .before .before .before .before .slot .ensures .0) (c .before .before .before .before .before .before .before .before .before .before .before .wide2 .ensures .0) refl) (p .1 .1 .1 .1) (a .room) (c .before .before .begin .ensures) (c .before .declare .ensures) (c .if1 .taken)
 
 -- src/lib.rt:124:5
 localize-loop-holds : (t : ℕ) → localize-lts.Need-loop-holds (
@@ -935,6 +968,70 @@ localize-loop-holds : (t : ℕ) → localize-lts.Need-loop-holds (
 ) (localize-at t) localize.Post localize-Inv-loop localize-μ-loop
 localize-loop-holds t c = record { on = λ _ _ g. g }
 
+localize-cast-run : (t : ℕ) → localize-lts.Need-cast-run (
+  expressions-at-reads.Asked,
+  expressions-at-reads.Learnt,
+  wide-reads.Asked,
+  wide-reads.Learnt,
+  find-reads.Asked,
+  find-reads.Learnt,
+  slot-reads.Asked,
+  slot-reads.Learnt,
+  begin-reads.Asked,
+  begin-reads.Learnt,
+  declare-reads.Asked,
+  declare-reads.Learnt,
+  run-reads.Asked,
+  run-reads.Learnt,
+  longer-reads.Asked,
+  longer-reads.Learnt,
+  flag-reads.Asked,
+  flag-reads.Learnt,
+  follow-below t,
+  follow.Post,
+  put-word-reads.Asked,
+  put-word-reads.Learnt,
+  pass-reads.Asked,
+  pass-reads.Learnt,
+  keep-names-reads.Asked,
+  keep-names-reads.Learnt,
+  import-names-reads.Asked,
+  import-names-reads.Learnt,
+) (localize-at t) localize.Post localize-Inv-loop localize-μ-loop
+localize-cast-run t c = search needs
+
+localize-cast-run-2 : (t : ℕ) → localize-lts.Need-cast-run-2 (
+  expressions-at-reads.Asked,
+  expressions-at-reads.Learnt,
+  wide-reads.Asked,
+  wide-reads.Learnt,
+  find-reads.Asked,
+  find-reads.Learnt,
+  slot-reads.Asked,
+  slot-reads.Learnt,
+  begin-reads.Asked,
+  begin-reads.Learnt,
+  declare-reads.Asked,
+  declare-reads.Learnt,
+  run-reads.Asked,
+  run-reads.Learnt,
+  longer-reads.Asked,
+  longer-reads.Learnt,
+  flag-reads.Asked,
+  flag-reads.Learnt,
+  follow-below t,
+  follow.Post,
+  put-word-reads.Asked,
+  put-word-reads.Learnt,
+  pass-reads.Asked,
+  pass-reads.Learnt,
+  keep-names-reads.Asked,
+  keep-names-reads.Learnt,
+  import-names-reads.Asked,
+  import-names-reads.Learnt,
+) (localize-at t) localize.Post localize-Inv-loop localize-μ-loop
+localize-cast-run-2 t c = search needs
+
 -- src/lib.rt:125:13
 localize-run-requires : (t : ℕ) → localize-lts.Need-run-requires (
   expressions-at-reads.Asked,
@@ -966,7 +1063,7 @@ localize-run-requires : (t : ℕ) → localize-lts.Need-run-requires (
   import-names-reads.Asked,
   import-names-reads.Learnt,
 ) (localize-at t) localize.Post localize-Inv-loop localize-μ-loop
-localize-run-requires t c κs = let a = c .before .before .before .before .before .before .before .before .before .before .before .before .before .before .before .before .before .before .before .before .before .before .before .before .before .args in let p = c .before .before .before .before .before .before .before .before .before .before .before .before .before .before .before .before .before .before .before .before .before .before .before .before .before .pre .1 in let g = c .before .before .before .before .loop .inv .on refl (p .1 .1 .1 .1) (going-start (p .1 .0) (reading (p .1 .0) (c .before .before .before .before .before .before .before .before .before .before .before .before .before .before .before .before .before .before .before .before .before .before .before .before .expressions-at .ensures .0) (c .before .before .before .before .before .before .before .before .before .before .before .before .before .before .before .before .before .before .before .before .find .ensures) (c .before .before .before .before .before .before .before .before .before .before .before .before .before .before .before .before .before .before .before .before .before .before .wide .ensures .0) (c .before .before .before .before .before .before .before .before .before .before .before .before .before .before .before .before .before .before .slot .ensures .0) (c .before .before .before .before .before .before .before .before .before .before .before .before .before .before .before .before .wide2 .ensures .0) refl) (p .1 .1 .1 .1) (a .room) (c .before .before .before .before .before .before .before .begin .ensures) (c .before .before .before .before .before .before .declare .ensures) (c .before .before .before .before .before .if1 .left)) in let K = g .turn .way .kept in let U = g .turn .way .under in (p .0 .kinds-are, (K .maps-six, (legible-all (k-few (p .1 .0) (g .read)) (g .turn .legible), U .stacks-are .high′, made-small U)))
+localize-run-requires t c κs = let a = c .before .before .before .before .before .before .before .before .before .before .before .before .before .before .before .before .before .before .before .before .before .before .before .before .before .before .before .before .args in let p = c .before .before .before .before .before .before .before .before .before .before .before .before .before .before .before .before .before .before .before .before .before .before .before .before .before .before .before .before .pre .1 in let g = c .before .before .before .before .before .before .loop .inv .on refl (p .1 .1 .1 .1) (going-start (p .1 .0) (reading (p .1 .0) (c .before .before .before .before .before .before .before .before .before .before .before .before .before .before .before .before .before .before .before .before .before .before .before .before .before .before .expressions-at .ensures .0) (c .before .before .before .before .before .before .before .before .before .before .before .before .before .before .before .before .before .before .before .before .before .before .find .ensures) (c .before .before .before .before .before .before .before .before .before .before .before .before .before .before .before .before .before .before .before .before .before .before .before .before .wide .ensures .0) (c .before .before .before .before .before .before .before .before .before .before .before .before .before .before .before .before .before .before .before .before .slot .ensures .0) (c .before .before .before .before .before .before .before .before .before .before .before .before .before .before .before .before .before .before .wide2 .ensures .0) refl) (p .1 .1 .1 .1) (a .room) (c .before .before .before .before .before .before .before .before .before .begin .ensures) (c .before .before .before .before .before .before .before .before .declare .ensures) (c .before .before .before .before .before .before .before .if1 .left)) in let K = g .turn .way .kept in let U = g .turn .way .under in (p .0 .kinds-are, (K .maps-six, (legible-all (k-few (p .1 .0) (g .read)) (g .turn .legible), U .stacks-are .high′, made-small U)))
 
 -- src/lib.rt:142:23
 localize-sub-longer : (t : ℕ) → localize-lts.Need-sub-longer (
@@ -1065,7 +1162,7 @@ localize-add-i : (t : ℕ) → localize-lts.Need-add-i (
   import-names-reads.Asked,
   import-names-reads.Learnt,
 ) (localize-at t) localize.Post localize-Inv-loop localize-μ-loop
-localize-add-i t c = let a = c .before .before .before .before .before .before .before .before .before .before .before .before .before .before .before .before .before .before .before .before .before .before .before .before .before .before .before .before .before .args in let p = c .before .before .before .before .before .before .before .before .before .before .before .before .before .before .before .before .before .before .before .before .before .before .before .before .before .before .before .before .before .pre .1 in let g = c .before .before .before .before .before .before .before .before .loop .inv .on refl (p .1 .1 .1 .1) (going-start (p .1 .0) (reading (p .1 .0) (c .before .before .before .before .before .before .before .before .before .before .before .before .before .before .before .before .before .before .before .before .before .before .before .before .before .before .before .before .expressions-at .ensures .0) (c .before .before .before .before .before .before .before .before .before .before .before .before .before .before .before .before .before .before .before .before .before .before .before .before .find .ensures) (c .before .before .before .before .before .before .before .before .before .before .before .before .before .before .before .before .before .before .before .before .before .before .before .before .before .before .wide .ensures .0) (c .before .before .before .before .before .before .before .before .before .before .before .before .before .before .before .before .before .before .before .before .before .before .slot .ensures .0) (c .before .before .before .before .before .before .before .before .before .before .before .before .before .before .before .before .before .before .before .before .wide2 .ensures .0) refl) (p .1 .1 .1 .1) (a .room) (c .before .before .before .before .before .before .before .before .before .before .before .begin .ensures) (c .before .before .before .before .before .before .before .before .before .before .declare .ensures) (c .before .before .before .before .before .before .before .before .before .if1 .left)) in let l = c .before .before .before .before .before .before .before .before .loop in let k = going-run (p .0 .source) (p .1 .0) (a .offset) (a .room) _ (expressions (p .1 .0) (g .read)) _ _ (p .1 .1 .1 .1) (a .stacks .now) (l .log) (l .classes) (l .starts) (l .maps) (l .marks) (l .em) (l .e) g (c .before .before .before .run .ensures) (c .before .longer .ensures) in let h = word-in (p .1 .0) (p .1 .1 .1 .1) k (c .if2 .taken) in omega arith
+localize-add-i t c = let a = c .before .before .before .before .before .before .before .before .before .before .before .before .before .before .before .before .before .before .before .before .before .before .before .before .before .before .before .before .before .before .before .before .args in let p = c .before .before .before .before .before .before .before .before .before .before .before .before .before .before .before .before .before .before .before .before .before .before .before .before .before .before .before .before .before .before .before .before .pre .1 in let g = c .before .before .before .before .before .before .before .before .before .before .loop .inv .on refl (p .1 .1 .1 .1) (going-start (p .1 .0) (reading (p .1 .0) (c .before .before .before .before .before .before .before .before .before .before .before .before .before .before .before .before .before .before .before .before .before .before .before .before .before .before .before .before .before .before .expressions-at .ensures .0) (c .before .before .before .before .before .before .before .before .before .before .before .before .before .before .before .before .before .before .before .before .before .before .before .before .before .before .find .ensures) (c .before .before .before .before .before .before .before .before .before .before .before .before .before .before .before .before .before .before .before .before .before .before .before .before .before .before .before .before .wide .ensures .0) (c .before .before .before .before .before .before .before .before .before .before .before .before .before .before .before .before .before .before .before .before .before .before .before .before .slot .ensures .0) (c .before .before .before .before .before .before .before .before .before .before .before .before .before .before .before .before .before .before .before .before .before .before .wide2 .ensures .0) refl) (p .1 .1 .1 .1) (a .room) (c .before .before .before .before .before .before .before .before .before .before .before .before .before .begin .ensures) (c .before .before .before .before .before .before .before .before .before .before .before .before .declare .ensures) (c .before .before .before .before .before .before .before .before .before .before .before .if1 .left)) in let l = c .before .before .before .before .before .before .before .before .before .before .loop in let k = going-run (p .0 .source) (p .1 .0) (a .offset) (a .room) _ (expressions (p .1 .0) (g .read)) _ _ (p .1 .1 .1 .1) (a .stacks .now) (l .log) (l .classes) (l .starts) (l .maps) (l .marks) (l .em) (l .e) g (c .before .before .before .run .ensures) (c .before .longer .ensures) in let h = word-in (p .1 .0) (p .1 .1 .1 .1) k (c .if2 .taken) in omega arith
 
 -- src/lib.rt:148:13
 localize-flag-requires : (t : ℕ) → localize-lts.Need-flag-requires (
@@ -1098,7 +1195,7 @@ localize-flag-requires : (t : ℕ) → localize-lts.Need-flag-requires (
   import-names-reads.Asked,
   import-names-reads.Learnt,
 ) (localize-at t) localize.Post localize-Inv-loop localize-μ-loop
-localize-flag-requires t c κs = let a = c .before .before .before .before .before .before .before .before .before .before .before .before .before .before .before .before .before .before .before .before .before .before .before .before .before .before .before .before .before .args in let p = c .before .before .before .before .before .before .before .before .before .before .before .before .before .before .before .before .before .before .before .before .before .before .before .before .before .before .before .before .before .pre .1 in let g = c .before .before .before .before .before .before .before .before .loop .inv .on refl (p .1 .1 .1 .1) (going-start (p .1 .0) (reading (p .1 .0) (c .before .before .before .before .before .before .before .before .before .before .before .before .before .before .before .before .before .before .before .before .before .before .before .before .before .before .before .before .expressions-at .ensures .0) (c .before .before .before .before .before .before .before .before .before .before .before .before .before .before .before .before .before .before .before .before .before .before .before .before .find .ensures) (c .before .before .before .before .before .before .before .before .before .before .before .before .before .before .before .before .before .before .before .before .before .before .before .before .before .before .wide .ensures .0) (c .before .before .before .before .before .before .before .before .before .before .before .before .before .before .before .before .before .before .before .before .before .before .slot .ensures .0) (c .before .before .before .before .before .before .before .before .before .before .before .before .before .before .before .before .before .before .before .before .wide2 .ensures .0) refl) (p .1 .1 .1 .1) (a .room) (c .before .before .before .before .before .before .before .before .before .before .before .begin .ensures) (c .before .before .before .before .before .before .before .before .before .before .declare .ensures) (c .before .before .before .before .before .before .before .before .before .if1 .left)) in let l = c .before .before .before .before .before .before .before .before .loop in let k = going-run (p .0 .source) (p .1 .0) (a .offset) (a .room) _ (expressions (p .1 .0) (g .read)) _ _ (p .1 .1 .1 .1) (a .stacks .now) (l .log) (l .classes) (l .starts) (l .maps) (l .marks) (l .em) (l .e) g (c .before .before .before .run .ensures) (c .before .longer .ensures) in (k .turn .legible .stretch, c .if2 .taken)
+localize-flag-requires t c κs = let a = c .before .before .before .before .before .before .before .before .before .before .before .before .before .before .before .before .before .before .before .before .before .before .before .before .before .before .before .before .before .before .before .before .args in let p = c .before .before .before .before .before .before .before .before .before .before .before .before .before .before .before .before .before .before .before .before .before .before .before .before .before .before .before .before .before .before .before .before .pre .1 in let g = c .before .before .before .before .before .before .before .before .before .before .loop .inv .on refl (p .1 .1 .1 .1) (going-start (p .1 .0) (reading (p .1 .0) (c .before .before .before .before .before .before .before .before .before .before .before .before .before .before .before .before .before .before .before .before .before .before .before .before .before .before .before .before .before .before .expressions-at .ensures .0) (c .before .before .before .before .before .before .before .before .before .before .before .before .before .before .before .before .before .before .before .before .before .before .before .before .before .before .find .ensures) (c .before .before .before .before .before .before .before .before .before .before .before .before .before .before .before .before .before .before .before .before .before .before .before .before .before .before .before .before .wide .ensures .0) (c .before .before .before .before .before .before .before .before .before .before .before .before .before .before .before .before .before .before .before .before .before .before .before .before .slot .ensures .0) (c .before .before .before .before .before .before .before .before .before .before .before .before .before .before .before .before .before .before .before .before .before .before .wide2 .ensures .0) refl) (p .1 .1 .1 .1) (a .room) (c .before .before .before .before .before .before .before .before .before .before .before .before .before .begin .ensures) (c .before .before .before .before .before .before .before .before .before .before .before .before .declare .ensures) (c .before .before .before .before .before .before .before .before .before .before .before .if1 .left)) in let l = c .before .before .before .before .before .before .before .before .before .before .loop in let k = going-run (p .0 .source) (p .1 .0) (a .offset) (a .room) _ (expressions (p .1 .0) (g .read)) _ _ (p .1 .1 .1 .1) (a .stacks .now) (l .log) (l .classes) (l .starts) (l .maps) (l .marks) (l .em) (l .e) g (c .before .before .before .run .ensures) (c .before .longer .ensures) in (k .turn .legible .stretch, c .if2 .taken)
 
 -- src/lib.rt:149:16
 localize-element-copy-out-if3 : (t : ℕ) → localize-lts.Need-element-copy-out-if3 (
@@ -1131,7 +1228,7 @@ localize-element-copy-out-if3 : (t : ℕ) → localize-lts.Need-element-copy-out
   import-names-reads.Asked,
   import-names-reads.Learnt,
 ) (localize-at t) localize.Post localize-Inv-loop localize-μ-loop
-localize-element-copy-out-if3 t c = let a = c .before .before .before .before .before .before .before .before .before .before .before .before .before .before .before .before .before .before .before .before .before .before .before .before .before .before .before .before .before .before .args in let p = c .before .before .before .before .before .before .before .before .before .before .before .before .before .before .before .before .before .before .before .before .before .before .before .before .before .before .before .before .before .before .pre .1 in let g = c .before .before .before .before .before .before .before .before .before .loop .inv .on refl (p .1 .1 .1 .1) (going-start (p .1 .0) (reading (p .1 .0) (c .before .before .before .before .before .before .before .before .before .before .before .before .before .before .before .before .before .before .before .before .before .before .before .before .before .before .before .before .before .expressions-at .ensures .0) (c .before .before .before .before .before .before .before .before .before .before .before .before .before .before .before .before .before .before .before .before .before .before .before .before .before .find .ensures) (c .before .before .before .before .before .before .before .before .before .before .before .before .before .before .before .before .before .before .before .before .before .before .before .before .before .before .before .wide .ensures .0) (c .before .before .before .before .before .before .before .before .before .before .before .before .before .before .before .before .before .before .before .before .before .before .before .slot .ensures .0) (c .before .before .before .before .before .before .before .before .before .before .before .before .before .before .before .before .before .before .before .before .before .wide2 .ensures .0) refl) (p .1 .1 .1 .1) (a .room) (c .before .before .before .before .before .before .before .before .before .before .before .before .begin .ensures) (c .before .before .before .before .before .before .before .before .before .before .before .declare .ensures) (c .before .before .before .before .before .before .before .before .before .before .if1 .left)) in let l = c .before .before .before .before .before .before .before .before .before .loop in let k = going-run (p .0 .source) (p .1 .0) (a .offset) (a .room) _ (expressions (p .1 .0) (g .read)) _ _ (p .1 .1 .1 .1) (a .stacks .now) (l .log) (l .classes) (l .starts) (l .maps) (l .marks) (l .em) (l .e) g (c .before .before .before .before .run .ensures) (c .before .before .longer .ensures) in let h = word-in (p .1 .0) (p .1 .1 .1 .1) k (c .before .if2 .taken) in omega arith
+localize-element-copy-out-if3 t c = let a = c .before .before .before .before .before .before .before .before .before .before .before .before .before .before .before .before .before .before .before .before .before .before .before .before .before .before .before .before .before .before .before .before .before .args in let p = c .before .before .before .before .before .before .before .before .before .before .before .before .before .before .before .before .before .before .before .before .before .before .before .before .before .before .before .before .before .before .before .before .before .pre .1 in let g = c .before .before .before .before .before .before .before .before .before .before .before .loop .inv .on refl (p .1 .1 .1 .1) (going-start (p .1 .0) (reading (p .1 .0) (c .before .before .before .before .before .before .before .before .before .before .before .before .before .before .before .before .before .before .before .before .before .before .before .before .before .before .before .before .before .before .before .expressions-at .ensures .0) (c .before .before .before .before .before .before .before .before .before .before .before .before .before .before .before .before .before .before .before .before .before .before .before .before .before .before .before .find .ensures) (c .before .before .before .before .before .before .before .before .before .before .before .before .before .before .before .before .before .before .before .before .before .before .before .before .before .before .before .before .before .wide .ensures .0) (c .before .before .before .before .before .before .before .before .before .before .before .before .before .before .before .before .before .before .before .before .before .before .before .before .before .slot .ensures .0) (c .before .before .before .before .before .before .before .before .before .before .before .before .before .before .before .before .before .before .before .before .before .before .before .wide2 .ensures .0) refl) (p .1 .1 .1 .1) (a .room) (c .before .before .before .before .before .before .before .before .before .before .before .before .before .before .begin .ensures) (c .before .before .before .before .before .before .before .before .before .before .before .before .before .declare .ensures) (c .before .before .before .before .before .before .before .before .before .before .before .before .if1 .left)) in let l = c .before .before .before .before .before .before .before .before .before .before .before .loop in let k = going-run (p .0 .source) (p .1 .0) (a .offset) (a .room) _ (expressions (p .1 .0) (g .read)) _ _ (p .1 .1 .1 .1) (a .stacks .now) (l .log) (l .classes) (l .starts) (l .maps) (l .marks) (l .em) (l .e) g (c .before .before .before .before .run .ensures) (c .before .before .longer .ensures) in let h = word-in (p .1 .0) (p .1 .1 .1 .1) k (c .before .if2 .taken) in omega arith
 
 -- src/lib.rt:164:26
 localize-mul-wide-3 : (t : ℕ) → localize-lts.Need-mul-wide-3 (
@@ -1164,7 +1261,7 @@ localize-mul-wide-3 : (t : ℕ) → localize-lts.Need-mul-wide-3 (
   import-names-reads.Asked,
   import-names-reads.Learnt,
 ) (localize-at t) localize.Post localize-Inv-loop localize-μ-loop
-localize-mul-wide-3 t c = let a = c .before .before .before .before .before .before .before .before .before .before .before .before .before .before .before .before .before .before .before .before .before .before .before .before .before .before .before .before .before .before .before .before .before .before .before .before .before .before .before .args in let p = c .before .before .before .before .before .before .before .before .before .before .before .before .before .before .before .before .before .before .before .before .before .before .before .before .before .before .before .before .before .before .before .before .before .before .before .before .before .before .before .pre .1 in let g = c .before .before .before .before .before .before .before .before .before .before .before .before .before .before .before .before .before .before .loop .inv .on refl (p .1 .1 .1 .1) (going-start (p .1 .0) (reading (p .1 .0) (c .before .before .before .before .before .before .before .before .before .before .before .before .before .before .before .before .before .before .before .before .before .before .before .before .before .before .before .before .before .before .before .before .before .before .before .before .before .before .expressions-at .ensures .0) (c .before .before .before .before .before .before .before .before .before .before .before .before .before .before .before .before .before .before .before .before .before .before .before .before .before .before .before .before .before .before .before .before .before .before .find .ensures) (c .before .before .before .before .before .before .before .before .before .before .before .before .before .before .before .before .before .before .before .before .before .before .before .before .before .before .before .before .before .before .before .before .before .before .before .before .wide .ensures .0) (c .before .before .before .before .before .before .before .before .before .before .before .before .before .before .before .before .before .before .before .before .before .before .before .before .before .before .before .before .before .before .before .before .slot .ensures .0) (c .before .before .before .before .before .before .before .before .before .before .before .before .before .before .before .before .before .before .before .before .before .before .before .before .before .before .before .before .before .before .wide2 .ensures .0) refl) (p .1 .1 .1 .1) (a .room) (c .before .before .before .before .before .before .before .before .before .before .before .before .before .before .before .before .before .before .before .before .before .begin .ensures) (c .before .before .before .before .before .before .before .before .before .before .before .before .before .before .before .before .before .before .before .before .declare .ensures) (c .before .before .before .before .before .before .before .before .before .before .before .before .before .before .before .before .before .before .before .if1 .left)) in let l = c .before .before .before .before .before .before .before .before .before .before .before .before .before .before .before .before .before .before .loop in let k = going-run (p .0 .source) (p .1 .0) (a .offset) (a .room) _ (expressions (p .1 .0) (g .read)) _ _ (p .1 .1 .1 .1) (a .stacks .now) (l .log) (l .classes) (l .starts) (l .maps) (l .marks) (l .em) (l .e) g (c .before .before .before .before .before .before .before .before .before .before .before .before .before .run .ensures) (c .before .before .before .before .before .before .before .before .before .before .before .longer .ensures) in let h = word-in (p .1 .0) (p .1 .1 .1 .1) k (c .before .before .before .before .before .before .before .before .before .before .if2 .taken) in omega arith
+localize-mul-wide-3 t c = let a = c .before .before .before .before .before .before .before .before .before .before .before .before .before .before .before .before .before .before .before .before .before .before .before .before .before .before .before .before .before .before .before .before .before .before .before .before .before .before .before .before .before .before .args in let p = c .before .before .before .before .before .before .before .before .before .before .before .before .before .before .before .before .before .before .before .before .before .before .before .before .before .before .before .before .before .before .before .before .before .before .before .before .before .before .before .before .before .before .pre .1 in let g = c .before .before .before .before .before .before .before .before .before .before .before .before .before .before .before .before .before .before .before .before .loop .inv .on refl (p .1 .1 .1 .1) (going-start (p .1 .0) (reading (p .1 .0) (c .before .before .before .before .before .before .before .before .before .before .before .before .before .before .before .before .before .before .before .before .before .before .before .before .before .before .before .before .before .before .before .before .before .before .before .before .before .before .before .before .expressions-at .ensures .0) (c .before .before .before .before .before .before .before .before .before .before .before .before .before .before .before .before .before .before .before .before .before .before .before .before .before .before .before .before .before .before .before .before .before .before .before .before .find .ensures) (c .before .before .before .before .before .before .before .before .before .before .before .before .before .before .before .before .before .before .before .before .before .before .before .before .before .before .before .before .before .before .before .before .before .before .before .before .before .before .wide .ensures .0) (c .before .before .before .before .before .before .before .before .before .before .before .before .before .before .before .before .before .before .before .before .before .before .before .before .before .before .before .before .before .before .before .before .before .before .slot .ensures .0) (c .before .before .before .before .before .before .before .before .before .before .before .before .before .before .before .before .before .before .before .before .before .before .before .before .before .before .before .before .before .before .before .before .wide2 .ensures .0) refl) (p .1 .1 .1 .1) (a .room) (c .before .before .before .before .before .before .before .before .before .before .before .before .before .before .before .before .before .before .before .before .before .before .before .begin .ensures) (c .before .before .before .before .before .before .before .before .before .before .before .before .before .before .before .before .before .before .before .before .before .before .declare .ensures) (c .before .before .before .before .before .before .before .before .before .before .before .before .before .before .before .before .before .before .before .before .before .if1 .left)) in let l = c .before .before .before .before .before .before .before .before .before .before .before .before .before .before .before .before .before .before .before .before .loop in let k = going-run (p .0 .source) (p .1 .0) (a .offset) (a .room) _ (expressions (p .1 .0) (g .read)) _ _ (p .1 .1 .1 .1) (a .stacks .now) (l .log) (l .classes) (l .starts) (l .maps) (l .marks) (l .em) (l .e) g (c .before .before .before .before .before .before .before .before .before .before .before .before .before .run .ensures) (c .before .before .before .before .before .before .before .before .before .before .before .longer .ensures) in let h = word-in (p .1 .0) (p .1 .1 .1 .1) k (c .before .before .before .before .before .before .before .before .before .before .if2 .taken) in omega arith
 
 -- src/lib.rt:164:26
 localize-element-copy-out-wide-3 : (t : ℕ) → localize-lts.Need-element-copy-out-wide-3 (
@@ -1197,7 +1294,7 @@ localize-element-copy-out-wide-3 : (t : ℕ) → localize-lts.Need-element-copy-
   import-names-reads.Asked,
   import-names-reads.Learnt,
 ) (localize-at t) localize.Post localize-Inv-loop localize-μ-loop
-localize-element-copy-out-wide-3 t c = let a = c .before .before .before .before .before .before .before .before .before .before .before .before .before .before .before .before .before .before .before .before .before .before .before .before .before .before .before .before .before .before .before .before .before .before .before .before .before .before .before .args in let p = c .before .before .before .before .before .before .before .before .before .before .before .before .before .before .before .before .before .before .before .before .before .before .before .before .before .before .before .before .before .before .before .before .before .before .before .before .before .before .before .pre .1 in let g = c .before .before .before .before .before .before .before .before .before .before .before .before .before .before .before .before .before .before .loop .inv .on refl (p .1 .1 .1 .1) (going-start (p .1 .0) (reading (p .1 .0) (c .before .before .before .before .before .before .before .before .before .before .before .before .before .before .before .before .before .before .before .before .before .before .before .before .before .before .before .before .before .before .before .before .before .before .before .before .before .before .expressions-at .ensures .0) (c .before .before .before .before .before .before .before .before .before .before .before .before .before .before .before .before .before .before .before .before .before .before .before .before .before .before .before .before .before .before .before .before .before .before .find .ensures) (c .before .before .before .before .before .before .before .before .before .before .before .before .before .before .before .before .before .before .before .before .before .before .before .before .before .before .before .before .before .before .before .before .before .before .before .before .wide .ensures .0) (c .before .before .before .before .before .before .before .before .before .before .before .before .before .before .before .before .before .before .before .before .before .before .before .before .before .before .before .before .before .before .before .before .slot .ensures .0) (c .before .before .before .before .before .before .before .before .before .before .before .before .before .before .before .before .before .before .before .before .before .before .before .before .before .before .before .before .before .before .wide2 .ensures .0) refl) (p .1 .1 .1 .1) (a .room) (c .before .before .before .before .before .before .before .before .before .before .before .before .before .before .before .before .before .before .before .before .before .begin .ensures) (c .before .before .before .before .before .before .before .before .before .before .before .before .before .before .before .before .before .before .before .before .declare .ensures) (c .before .before .before .before .before .before .before .before .before .before .before .before .before .before .before .before .before .before .before .if1 .left)) in let l = c .before .before .before .before .before .before .before .before .before .before .before .before .before .before .before .before .before .before .loop in let k = going-run (p .0 .source) (p .1 .0) (a .offset) (a .room) _ (expressions (p .1 .0) (g .read)) _ _ (p .1 .1 .1 .1) (a .stacks .now) (l .log) (l .classes) (l .starts) (l .maps) (l .marks) (l .em) (l .e) g (c .before .before .before .before .before .before .before .before .before .before .before .before .before .run .ensures) (c .before .before .before .before .before .before .before .before .before .before .before .longer .ensures) in let h = word-in (p .1 .0) (p .1 .1 .1 .1) k (c .before .before .before .before .before .before .before .before .before .before .if2 .taken) in omega arith
+localize-element-copy-out-wide-3 t c = let a = c .before .before .before .before .before .before .before .before .before .before .before .before .before .before .before .before .before .before .before .before .before .before .before .before .before .before .before .before .before .before .before .before .before .before .before .before .before .before .before .before .before .before .args in let p = c .before .before .before .before .before .before .before .before .before .before .before .before .before .before .before .before .before .before .before .before .before .before .before .before .before .before .before .before .before .before .before .before .before .before .before .before .before .before .before .before .before .before .pre .1 in let g = c .before .before .before .before .before .before .before .before .before .before .before .before .before .before .before .before .before .before .before .before .loop .inv .on refl (p .1 .1 .1 .1) (going-start (p .1 .0) (reading (p .1 .0) (c .before .before .before .before .before .before .before .before .before .before .before .before .before .before .before .before .before .before .before .before .before .before .before .before .before .before .before .before .before .before .before .before .before .before .before .before .before .before .before .before .expressions-at .ensures .0) (c .before .before .before .before .before .before .before .before .before .before .before .before .before .before .before .before .before .before .before .before .before .before .before .before .before .before .before .before .before .before .before .before .before .before .before .before .find .ensures) (c .before .before .before .before .before .before .before .before .before .before .before .before .before .before .before .before .before .before .before .before .before .before .before .before .before .before .before .before .before .before .before .before .before .before .before .before .before .before .wide .ensures .0) (c .before .before .before .before .before .before .before .before .before .before .before .before .before .before .before .before .before .before .before .before .before .before .before .before .before .before .before .before .before .before .before .before .before .before .slot .ensures .0) (c .before .before .before .before .before .before .before .before .before .before .before .before .before .before .before .before .before .before .before .before .before .before .before .before .before .before .before .before .before .before .before .before .wide2 .ensures .0) refl) (p .1 .1 .1 .1) (a .room) (c .before .before .before .before .before .before .before .before .before .before .before .before .before .before .before .before .before .before .before .before .before .before .before .begin .ensures) (c .before .before .before .before .before .before .before .before .before .before .before .before .before .before .before .before .before .before .before .before .before .before .declare .ensures) (c .before .before .before .before .before .before .before .before .before .before .before .before .before .before .before .before .before .before .before .before .before .if1 .left)) in let l = c .before .before .before .before .before .before .before .before .before .before .before .before .before .before .before .before .before .before .before .before .loop in let k = going-run (p .0 .source) (p .1 .0) (a .offset) (a .room) _ (expressions (p .1 .0) (g .read)) _ _ (p .1 .1 .1 .1) (a .stacks .now) (l .log) (l .classes) (l .starts) (l .maps) (l .marks) (l .em) (l .e) g (c .before .before .before .before .before .before .before .before .before .before .before .before .before .run .ensures) (c .before .before .before .before .before .before .before .before .before .before .before .longer .ensures) in let h = word-in (p .1 .0) (p .1 .1 .1 .1) k (c .before .before .before .before .before .before .before .before .before .before .if2 .taken) in omega arith
 
 -- src/lib.rt:164:21
 localize-wide-requires-3 : (t : ℕ) → localize-lts.Need-wide-requires-3 (
@@ -1263,7 +1360,7 @@ localize-add-follow : (t : ℕ) → localize-lts.Need-add-follow (
   import-names-reads.Asked,
   import-names-reads.Learnt,
 ) (localize-at t) localize.Post localize-Inv-loop localize-μ-loop
-localize-add-follow t c = let h = c .before .before .before .before .before .before .before .before .before .before .before .before .before .before .before .before .before .before .before .before .before .before .before .before .before .before .before .before .before .before .before .before .before .before .before .before .before .before .before .before .expressions-at .ensures .1 in omega arith
+localize-add-follow t c = let h = c .before .before .before .before .before .before .before .before .before .before .before .before .before .before .before .before .before .before .before .before .before .before .before .before .before .before .before .before .before .before .before .before .before .before .before .before .before .before .before .before .before .before .expressions-at .ensures .1 in omega arith
 
 -- src/lib.rt:150:17
 localize-follow-requires : (t : ℕ) → localize-lts.Need-follow-requires (
@@ -1296,7 +1393,7 @@ localize-follow-requires : (t : ℕ) → localize-lts.Need-follow-requires (
   import-names-reads.Asked,
   import-names-reads.Learnt,
 ) (localize-at t) localize.Post localize-Inv-loop localize-μ-loop
-localize-follow-requires t c κs = let a = c .before .before .before .before .before .before .before .before .before .before .before .before .before .before .before .before .before .before .before .before .before .before .before .before .before .before .before .before .before .before .before .before .before .before .before .before .before .before .before .before .before .args in let p = c .before .before .before .before .before .before .before .before .before .before .before .before .before .before .before .before .before .before .before .before .before .before .before .before .before .before .before .before .before .before .before .before .before .before .before .before .before .before .before .before .before .pre .1 in let g = c .before .before .before .before .before .before .before .before .before .before .before .before .before .before .before .before .before .before .before .before .loop .inv .on refl (p .1 .1 .1 .1) (going-start (p .1 .0) (reading (p .1 .0) (c .before .before .before .before .before .before .before .before .before .before .before .before .before .before .before .before .before .before .before .before .before .before .before .before .before .before .before .before .before .before .before .before .before .before .before .before .before .before .before .before .expressions-at .ensures .0) (c .before .before .before .before .before .before .before .before .before .before .before .before .before .before .before .before .before .before .before .before .before .before .before .before .before .before .before .before .before .before .before .before .before .before .before .before .find .ensures) (c .before .before .before .before .before .before .before .before .before .before .before .before .before .before .before .before .before .before .before .before .before .before .before .before .before .before .before .before .before .before .before .before .before .before .before .before .before .before .wide .ensures .0) (c .before .before .before .before .before .before .before .before .before .before .before .before .before .before .before .before .before .before .before .before .before .before .before .before .before .before .before .before .before .before .before .before .before .before .slot .ensures .0) (c .before .before .before .before .before .before .before .before .before .before .before .before .before .before .before .before .before .before .before .before .before .before .before .before .before .before .before .before .before .before .before .before .wide2 .ensures .0) refl) (p .1 .1 .1 .1) (a .room) (c .before .before .before .before .before .before .before .before .before .before .before .before .before .before .before .before .before .before .before .before .before .before .before .begin .ensures) (c .before .before .before .before .before .before .before .before .before .before .before .before .before .before .before .before .before .before .before .before .before .before .declare .ensures) (c .before .before .before .before .before .before .before .before .before .before .before .before .before .before .before .before .before .before .before .before .before .if1 .left)) in let l = c .before .before .before .before .before .before .before .before .before .before .before .before .before .before .before .before .before .before .before .before .loop in let k = going-run (p .0 .source) (p .1 .0) (a .offset) (a .room) _ (expressions (p .1 .0) (g .read)) _ _ (p .1 .1 .1 .1) (a .stacks .now) (l .log) (l .classes) (l .starts) (l .maps) (l .marks) (l .em) (l .e) g (c .before .before .before .before .before .before .before .before .before .before .before .before .before .before .before .run .ensures) (c .before .before .before .before .before .before .before .before .before .before .before .before .before .longer .ensures) in let q = c .before .before .before .before .before .before .before .before .before .before .before .before .before .before .before .before .before .before .before .before .before .before .before .before .before .before .before .before .before .before .before .before .before .before .before .before .before .before .before .before .before .pre .0 in (omega arith, (p .0, (callee-low (p .1 .0) (p .1 .1 .1 .1) k (c .before .before .before .before .before .before .before .before .before .before .before .before .if2 .taken) (c .before .before .before .before .before .before .before .before .before .if3 .taken) (c .wide3 .ensures .0), (callee-ready (p .1 .0) (p .1 .1 .1 .1) k (c .before .before .before .before .before .before .before .before .before .before .before .before .if2 .taken) (c .before .before .before .before .before .before .before .before .before .if3 .taken) (c .wide3 .ensures .0) (p .1 .1 .0), ((k .turn .way .going, k .turn .way .under .stacks-are), (k .turn .way .kept, (index-in (p .1 .0) (k .read .ea-is), k .read .places-are)))))))
+localize-follow-requires t c κs = let a = c .before .before .before .before .before .before .before .before .before .before .before .before .before .before .before .before .before .before .before .before .before .before .before .before .before .before .before .before .before .before .before .before .before .before .before .before .before .before .before .before .before .before .before .before .args in let p = c .before .before .before .before .before .before .before .before .before .before .before .before .before .before .before .before .before .before .before .before .before .before .before .before .before .before .before .before .before .before .before .before .before .before .before .before .before .before .before .before .before .before .before .before .pre .1 in let g = c .before .before .before .before .before .before .before .before .before .before .before .before .before .before .before .before .before .before .before .before .before .before .loop .inv .on refl (p .1 .1 .1 .1) (going-start (p .1 .0) (reading (p .1 .0) (c .before .before .before .before .before .before .before .before .before .before .before .before .before .before .before .before .before .before .before .before .before .before .before .before .before .before .before .before .before .before .before .before .before .before .before .before .before .before .before .before .before .before .expressions-at .ensures .0) (c .before .before .before .before .before .before .before .before .before .before .before .before .before .before .before .before .before .before .before .before .before .before .before .before .before .before .before .before .before .before .before .before .before .before .before .before .before .before .find .ensures) (c .before .before .before .before .before .before .before .before .before .before .before .before .before .before .before .before .before .before .before .before .before .before .before .before .before .before .before .before .before .before .before .before .before .before .before .before .before .before .before .before .wide .ensures .0) (c .before .before .before .before .before .before .before .before .before .before .before .before .before .before .before .before .before .before .before .before .before .before .before .before .before .before .before .before .before .before .before .before .before .before .before .before .slot .ensures .0) (c .before .before .before .before .before .before .before .before .before .before .before .before .before .before .before .before .before .before .before .before .before .before .before .before .before .before .before .before .before .before .before .before .before .before .wide2 .ensures .0) refl) (p .1 .1 .1 .1) (a .room) (c .before .before .before .before .before .before .before .before .before .before .before .before .before .before .before .before .before .before .before .before .before .before .before .before .before .begin .ensures) (c .before .before .before .before .before .before .before .before .before .before .before .before .before .before .before .before .before .before .before .before .before .before .before .before .declare .ensures) (c .before .before .before .before .before .before .before .before .before .before .before .before .before .before .before .before .before .before .before .before .before .before .before .if1 .left)) in let l = c .before .before .before .before .before .before .before .before .before .before .before .before .before .before .before .before .before .before .before .before .before .before .loop in let k = going-run (p .0 .source) (p .1 .0) (a .offset) (a .room) _ (expressions (p .1 .0) (g .read)) _ _ (p .1 .1 .1 .1) (a .stacks .now) (l .log) (l .classes) (l .starts) (l .maps) (l .marks) (l .em) (l .e) g (c .before .before .before .before .before .before .before .before .before .before .before .before .before .before .before .run .ensures) (c .before .before .before .before .before .before .before .before .before .before .before .before .before .longer .ensures) in let q = c .before .before .before .before .before .before .before .before .before .before .before .before .before .before .before .before .before .before .before .before .before .before .before .before .before .before .before .before .before .before .before .before .before .before .before .before .before .before .before .before .before .before .before .before .pre .0 in (omega arith, (p .0, (callee-low (p .1 .0) (p .1 .1 .1 .1) k (c .before .before .before .before .before .before .before .before .before .before .before .before .if2 .taken) (c .before .before .before .before .before .before .before .before .before .if3 .taken) (c .wide3 .ensures .0), (callee-ready (p .1 .0) (p .1 .1 .1 .1) k (c .before .before .before .before .before .before .before .before .before .before .before .before .if2 .taken) (c .before .before .before .before .before .before .before .before .before .if3 .taken) (c .wide3 .ensures .0) (p .1 .1 .0), ((k .turn .way .going, k .turn .way .under .stacks-are), (k .turn .way .kept, (index-in (p .1 .0) (k .read .ea-is), k .read .places-are)))))))
 
 -- src/lib.rt:170:21
 localize-returns-2 : (t : ℕ) → localize-lts.Need-returns-2 (
@@ -1329,7 +1426,7 @@ localize-returns-2 : (t : ℕ) → localize-lts.Need-returns-2 (
   import-names-reads.Asked,
   import-names-reads.Learnt,
 ) (localize-at t) localize.Post localize-Inv-loop localize-μ-loop
-localize-returns-2 t c = let a = c .before .before .before .before .before .before .before .before .before .before .before .before .before .before .before .before .before .before .before .before .before .before .before .before .before .before .before .before .before .before .before .before .before .before .before .before .before .before .before .before .before .before .before .args in let p = c .before .before .before .before .before .before .before .before .before .before .before .before .before .before .before .before .before .before .before .before .before .before .before .before .before .before .before .before .before .before .before .before .before .before .before .before .before .before .before .before .before .before .before .pre .1 in let g = c .before .before .before .before .before .before .before .before .before .before .before .before .before .before .before .before .before .before .before .before .before .before .loop .inv .on refl (p .1 .1 .1 .1) (going-start (p .1 .0) (reading (p .1 .0) (c .before .before .before .before .before .before .before .before .before .before .before .before .before .before .before .before .before .before .before .before .before .before .before .before .before .before .before .before .before .before .before .before .before .before .before .before .before .before .before .before .before .before .expressions-at .ensures .0) (c .before .before .before .before .before .before .before .before .before .before .before .before .before .before .before .before .before .before .before .before .before .before .before .before .before .before .before .before .before .before .before .before .before .before .before .before .before .before .find .ensures) (c .before .before .before .before .before .before .before .before .before .before .before .before .before .before .before .before .before .before .before .before .before .before .before .before .before .before .before .before .before .before .before .before .before .before .before .before .before .before .before .before .wide .ensures .0) (c .before .before .before .before .before .before .before .before .before .before .before .before .before .before .before .before .before .before .before .before .before .before .before .before .before .before .before .before .before .before .before .before .before .before .before .before .slot .ensures .0) (c .before .before .before .before .before .before .before .before .before .before .before .before .before .before .before .before .before .before .before .before .before .before .before .before .before .before .before .before .before .before .before .before .before .before .wide2 .ensures .0) refl) (p .1 .1 .1 .1) (a .room) (c .before .before .before .before .before .before .before .before .before .before .before .before .before .before .before .before .before .before .before .before .before .before .before .before .before .begin .ensures) (c .before .before .before .before .before .before .before .before .before .before .before .before .before .before .before .before .before .before .before .before .before .before .before .before .declare .ensures) (c .before .before .before .before .before .before .before .before .before .before .before .before .before .before .before .before .before .before .before .before .before .before .before .if1 .left)) in let l = c .before .before .before .before .before .before .before .before .before .before .before .before .before .before .before .before .before .before .before .before .before .before .loop in let k = going-run (p .0 .source) (p .1 .0) (a .offset) (a .room) _ (expressions (p .1 .0) (g .read)) _ _ (p .1 .1 .1 .1) (a .stacks .now) (l .log) (l .classes) (l .starts) (l .maps) (l .marks) (l .em) (l .e) g (c .before .before .before .before .before .before .before .before .before .before .before .before .before .before .before .before .before .run .ensures) (c .before .before .before .before .before .before .before .before .before .before .before .before .before .before .before .longer .ensures) in callee-full (p .1 .0) (p .1 .1 .1 .1) k (c .before .before .before .before .before .before .before .before .before .before .before .before .before .before .if2 .taken) (c .before .before .before .before .before .before .before .before .before .before .before .if3 .taken) (c .before .before .wide3 .ensures .0) (c .before .follow .ensures .0) (c .if4 .taken)
+localize-returns-2 t c = let a = c .before .before .before .before .before .before .before .before .before .before .before .before .before .before .before .before .before .before .before .before .before .before .before .before .before .before .before .before .before .before .before .before .before .before .before .before .before .before .before .before .before .before .before .before .before .before .args in let p = c .before .before .before .before .before .before .before .before .before .before .before .before .before .before .before .before .before .before .before .before .before .before .before .before .before .before .before .before .before .before .before .before .before .before .before .before .before .before .before .before .before .before .before .before .before .before .pre .1 in let g = c .before .before .before .before .before .before .before .before .before .before .before .before .before .before .before .before .before .before .before .before .before .before .before .before .loop .inv .on refl (p .1 .1 .1 .1) (going-start (p .1 .0) (reading (p .1 .0) (c .before .before .before .before .before .before .before .before .before .before .before .before .before .before .before .before .before .before .before .before .before .before .before .before .before .before .before .before .before .before .before .before .before .before .before .before .before .before .before .before .before .before .before .before .expressions-at .ensures .0) (c .before .before .before .before .before .before .before .before .before .before .before .before .before .before .before .before .before .before .before .before .before .before .before .before .before .before .before .before .before .before .before .before .before .before .before .before .before .before .before .before .find .ensures) (c .before .before .before .before .before .before .before .before .before .before .before .before .before .before .before .before .before .before .before .before .before .before .before .before .before .before .before .before .before .before .before .before .before .before .before .before .before .before .before .before .before .before .wide .ensures .0) (c .before .before .before .before .before .before .before .before .before .before .before .before .before .before .before .before .before .before .before .before .before .before .before .before .before .before .before .before .before .before .before .before .before .before .before .before .before .before .slot .ensures .0) (c .before .before .before .before .before .before .before .before .before .before .before .before .before .before .before .before .before .before .before .before .before .before .before .before .before .before .before .before .before .before .before .before .before .before .before .before .wide2 .ensures .0) refl) (p .1 .1 .1 .1) (a .room) (c .before .before .before .before .before .before .before .before .before .before .before .before .before .before .before .before .before .before .before .before .before .before .before .before .before .before .before .begin .ensures) (c .before .before .before .before .before .before .before .before .before .before .before .before .before .before .before .before .before .before .before .before .before .before .before .before .before .before .declare .ensures) (c .before .before .before .before .before .before .before .before .before .before .before .before .before .before .before .before .before .before .before .before .before .before .before .before .before .if1 .left)) in let l = c .before .before .before .before .before .before .before .before .before .before .before .before .before .before .before .before .before .before .before .before .before .before .before .before .loop in let k = going-run (p .0 .source) (p .1 .0) (a .offset) (a .room) _ (expressions (p .1 .0) (g .read)) _ _ (p .1 .1 .1 .1) (a .stacks .now) (l .log) (l .classes) (l .starts) (l .maps) (l .marks) (l .em) (l .e) g (c .before .before .before .before .before .before .before .before .before .before .before .before .before .before .before .before .before .run .ensures) (c .before .before .before .before .before .before .before .before .before .before .before .before .before .before .before .longer .ensures) in callee-full (p .1 .0) (p .1 .1 .1 .1) k (c .before .before .before .before .before .before .before .before .before .before .before .before .before .before .if2 .taken) (c .before .before .before .before .before .before .before .before .before .before .before .if3 .taken) (c .before .before .wide3 .ensures .0) (c .before .follow .ensures .0) (c .if4 .taken)
 
 -- src/lib.rt:172:17
 localize-put-word-requires : (t : ℕ) → localize-lts.Need-put-word-requires (
@@ -1362,7 +1459,7 @@ localize-put-word-requires : (t : ℕ) → localize-lts.Need-put-word-requires (
   import-names-reads.Asked,
   import-names-reads.Learnt,
 ) (localize-at t) localize.Post localize-Inv-loop localize-μ-loop
-localize-put-word-requires t c κs = let a = c .before .before .before .before .before .before .before .before .before .before .before .before .before .before .before .before .before .before .before .before .before .before .before .before .before .before .before .before .before .before .before .before .before .before .before .before .before .before .before .before .before .before .before .before .before .before .before .before .before .args in let p = c .before .before .before .before .before .before .before .before .before .before .before .before .before .before .before .before .before .before .before .before .before .before .before .before .before .before .before .before .before .before .before .before .before .before .before .before .before .before .before .before .before .before .before .before .before .before .before .before .before .pre .1 in let g = c .before .before .before .before .before .before .before .before .before .before .before .before .before .before .before .before .before .before .before .before .before .before .before .before .before .before .before .before .loop .inv .on refl (p .1 .1 .1 .1) (going-start (p .1 .0) (reading (p .1 .0) (c .before .before .before .before .before .before .before .before .before .before .before .before .before .before .before .before .before .before .before .before .before .before .before .before .before .before .before .before .before .before .before .before .before .before .before .before .before .before .before .before .before .before .before .before .before .before .before .before .expressions-at .ensures .0) (c .before .before .before .before .before .before .before .before .before .before .before .before .before .before .before .before .before .before .before .before .before .before .before .before .before .before .before .before .before .before .before .before .before .before .before .before .before .before .before .before .before .before .before .before .find .ensures) (c .before .before .before .before .before .before .before .before .before .before .before .before .before .before .before .before .before .before .before .before .before .before .before .before .before .before .before .before .before .before .before .before .before .before .before .before .before .before .before .before .before .before .before .before .before .before .wide .ensures .0) (c .before .before .before .before .before .before .before .before .before .before .before .before .before .before .before .before .before .before .before .before .before .before .before .before .before .before .before .before .before .before .before .before .before .before .before .before .before .before .before .before .before .before .slot .ensures .0) (c .before .before .before .before .before .before .before .before .before .before .before .before .before .before .before .before .before .before .before .before .before .before .before .before .before .before .before .before .before .before .before .before .before .before .before .before .before .before .before .before .wide2 .ensures .0) refl) (p .1 .1 .1 .1) (a .room) (c .before .before .before .before .before .before .before .before .before .before .before .before .before .before .before .before .before .before .before .before .before .before .before .before .before .before .before .before .before .before .before .begin .ensures) (c .before .before .before .before .before .before .before .before .before .before .before .before .before .before .before .before .before .before .before .before .before .before .before .before .before .before .before .before .before .before .declare .ensures) (c .before .before .before .before .before .before .before .before .before .before .before .before .before .before .before .before .before .before .before .before .before .before .before .before .before .before .before .before .before .if1 .left)) in let l = c .before .before .before .before .before .before .before .before .before .before .before .before .before .before .before .before .before .before .before .before .before .before .before .before .before .before .before .before .loop in let k = going-run (p .0 .source) (p .1 .0) (a .offset) (a .room) _ (expressions (p .1 .0) (g .read)) _ _ (p .1 .1 .1 .1) (a .stacks .now) (l .log) (l .classes) (l .starts) (l .maps) (l .marks) (l .em) (l .e) g (c .before .before .before .before .before .before .before .before .before .before .before .before .before .before .before .before .before .before .before .before .before .before .before .run .ensures) (c .before .before .before .before .before .before .before .before .before .before .before .before .before .before .before .before .before .before .before .before .before .longer .ensures) in let w = c .before .before .before .before .before .before .before .follow .ensures .0 in let z = c .before .before .before .before .before .before .if4 .left in (p .0, (bearing (w .kept z), (w .kept z .maps-six, (word-fits (p .1 .0) (p .1 .1 .1 .1) k (c .before .before .before .before .before .before .before .before .before .before .before .before .before .before .before .before .before .before .before .before .if2 .taken), w .stacks-are z))))
+localize-put-word-requires t c κs = let a = c .before .before .before .before .before .before .before .before .before .before .before .before .before .before .before .before .before .before .before .before .before .before .before .before .before .before .before .before .before .before .before .before .before .before .before .before .before .before .before .before .before .before .before .before .before .before .before .before .before .before .before .before .args in let p = c .before .before .before .before .before .before .before .before .before .before .before .before .before .before .before .before .before .before .before .before .before .before .before .before .before .before .before .before .before .before .before .before .before .before .before .before .before .before .before .before .before .before .before .before .before .before .before .before .before .before .before .before .pre .1 in let g = c .before .before .before .before .before .before .before .before .before .before .before .before .before .before .before .before .before .before .before .before .before .before .before .before .before .before .before .before .before .before .loop .inv .on refl (p .1 .1 .1 .1) (going-start (p .1 .0) (reading (p .1 .0) (c .before .before .before .before .before .before .before .before .before .before .before .before .before .before .before .before .before .before .before .before .before .before .before .before .before .before .before .before .before .before .before .before .before .before .before .before .before .before .before .before .before .before .before .before .before .before .before .before .before .before .expressions-at .ensures .0) (c .before .before .before .before .before .before .before .before .before .before .before .before .before .before .before .before .before .before .before .before .before .before .before .before .before .before .before .before .before .before .before .before .before .before .before .before .before .before .before .before .before .before .before .before .before .before .find .ensures) (c .before .before .before .before .before .before .before .before .before .before .before .before .before .before .before .before .before .before .before .before .before .before .before .before .before .before .before .before .before .before .before .before .before .before .before .before .before .before .before .before .before .before .before .before .before .before .before .before .wide .ensures .0) (c .before .before .before .before .before .before .before .before .before .before .before .before .before .before .before .before .before .before .before .before .before .before .before .before .before .before .before .before .before .before .before .before .before .before .before .before .before .before .before .before .before .before .before .before .slot .ensures .0) (c .before .before .before .before .before .before .before .before .before .before .before .before .before .before .before .before .before .before .before .before .before .before .before .before .before .before .before .before .before .before .before .before .before .before .before .before .before .before .before .before .before .before .wide2 .ensures .0) refl) (p .1 .1 .1 .1) (a .room) (c .before .before .before .before .before .before .before .before .before .before .before .before .before .before .before .before .before .before .before .before .before .before .before .before .before .before .before .before .before .before .before .before .before .begin .ensures) (c .before .before .before .before .before .before .before .before .before .before .before .before .before .before .before .before .before .before .before .before .before .before .before .before .before .before .before .before .before .before .before .before .declare .ensures) (c .before .before .before .before .before .before .before .before .before .before .before .before .before .before .before .before .before .before .before .before .before .before .before .before .before .before .before .before .before .before .before .if1 .left)) in let l = c .before .before .before .before .before .before .before .before .before .before .before .before .before .before .before .before .before .before .before .before .before .before .before .before .before .before .before .before .before .before .loop in let k = going-run (p .0 .source) (p .1 .0) (a .offset) (a .room) _ (expressions (p .1 .0) (g .read)) _ _ (p .1 .1 .1 .1) (a .stacks .now) (l .log) (l .classes) (l .starts) (l .maps) (l .marks) (l .em) (l .e) g (c .before .before .before .before .before .before .before .before .before .before .before .before .before .before .before .before .before .before .before .before .before .before .before .run .ensures) (c .before .before .before .before .before .before .before .before .before .before .before .before .before .before .before .before .before .before .before .before .before .longer .ensures) in let w = c .before .before .before .before .before .before .before .follow .ensures .0 in let z = c .before .before .before .before .before .before .if4 .left in (p .0, (bearing (w .kept z), (w .kept z .maps-six, (word-fits (p .1 .0) (p .1 .1 .1 .1) k (c .before .before .before .before .before .before .before .before .before .before .before .before .before .before .before .before .before .before .before .before .if2 .taken), w .stacks-are z))))
 
 -- src/lib.rt:189:17
 localize-pass-requires : (t : ℕ) → localize-lts.Need-pass-requires (
@@ -1395,7 +1492,7 @@ localize-pass-requires : (t : ℕ) → localize-lts.Need-pass-requires (
   import-names-reads.Asked,
   import-names-reads.Learnt,
 ) (localize-at t) localize.Post localize-Inv-loop localize-μ-loop
-localize-pass-requires t c κs = let a = c .before .before .before .before .before .before .before .before .before .before .before .before .before .before .before .before .before .before .before .before .before .before .before .before .before .before .before .before .before .before .before .before .before .before .before .before .before .before .before .before .args in let p = c .before .before .before .before .before .before .before .before .before .before .before .before .before .before .before .before .before .before .before .before .before .before .before .before .before .before .before .before .before .before .before .before .before .before .before .before .before .before .before .before .pre .1 in let g = c .before .before .before .before .before .before .before .before .before .before .before .before .before .before .before .before .before .before .before .loop .inv .on refl (p .1 .1 .1 .1) (going-start (p .1 .0) (reading (p .1 .0) (c .before .before .before .before .before .before .before .before .before .before .before .before .before .before .before .before .before .before .before .before .before .before .before .before .before .before .before .before .before .before .before .before .before .before .before .before .before .before .before .expressions-at .ensures .0) (c .before .before .before .before .before .before .before .before .before .before .before .before .before .before .before .before .before .before .before .before .before .before .before .before .before .before .before .before .before .before .before .before .before .before .before .find .ensures) (c .before .before .before .before .before .before .before .before .before .before .before .before .before .before .before .before .before .before .before .before .before .before .before .before .before .before .before .before .before .before .before .before .before .before .before .before .before .wide .ensures .0) (c .before .before .before .before .before .before .before .before .before .before .before .before .before .before .before .before .before .before .before .before .before .before .before .before .before .before .before .before .before .before .before .before .before .slot .ensures .0) (c .before .before .before .before .before .before .before .before .before .before .before .before .before .before .before .before .before .before .before .before .before .before .before .before .before .before .before .before .before .before .before .wide2 .ensures .0) refl) (p .1 .1 .1 .1) (a .room) (c .before .before .before .before .before .before .before .before .before .before .before .before .before .before .before .before .before .before .before .before .before .before .begin .ensures) (c .before .before .before .before .before .before .before .before .before .before .before .before .before .before .before .before .before .before .before .before .before .declare .ensures) (c .before .before .before .before .before .before .before .before .before .before .before .before .before .before .before .before .before .before .before .before .if1 .left)) in let l = c .before .before .before .before .before .before .before .before .before .before .before .before .before .before .before .before .before .before .before .loop in let k = going-run (p .0 .source) (p .1 .0) (a .offset) (a .room) _ (expressions (p .1 .0) (g .read)) _ _ (p .1 .1 .1 .1) (a .stacks .now) (l .log) (l .classes) (l .starts) (l .maps) (l .marks) (l .em) (l .e) g (c .before .before .before .before .before .before .before .before .before .before .before .before .before .before .run .ensures) (c .before .before .before .before .before .before .before .before .before .before .before .before .longer .ensures) in (p .0, (expressions (p .1 .0) (k .read), (word-bodied (p .1 .0) (p .1 .1 .1 .1) k (c .before .before .before .before .before .before .before .before .before .before .before .if2 .taken), (k .turn .way .going, (k .turn .way .kept, k .turn .way .under)))))
+localize-pass-requires t c κs = let a = c .before .before .before .before .before .before .before .before .before .before .before .before .before .before .before .before .before .before .before .before .before .before .before .before .before .before .before .before .before .before .before .before .before .before .before .before .before .before .before .before .before .before .before .args in let p = c .before .before .before .before .before .before .before .before .before .before .before .before .before .before .before .before .before .before .before .before .before .before .before .before .before .before .before .before .before .before .before .before .before .before .before .before .before .before .before .before .before .before .before .pre .1 in let g = c .before .before .before .before .before .before .before .before .before .before .before .before .before .before .before .before .before .before .before .before .before .loop .inv .on refl (p .1 .1 .1 .1) (going-start (p .1 .0) (reading (p .1 .0) (c .before .before .before .before .before .before .before .before .before .before .before .before .before .before .before .before .before .before .before .before .before .before .before .before .before .before .before .before .before .before .before .before .before .before .before .before .before .before .before .before .before .expressions-at .ensures .0) (c .before .before .before .before .before .before .before .before .before .before .before .before .before .before .before .before .before .before .before .before .before .before .before .before .before .before .before .before .before .before .before .before .before .before .before .before .before .find .ensures) (c .before .before .before .before .before .before .before .before .before .before .before .before .before .before .before .before .before .before .before .before .before .before .before .before .before .before .before .before .before .before .before .before .before .before .before .before .before .before .before .wide .ensures .0) (c .before .before .before .before .before .before .before .before .before .before .before .before .before .before .before .before .before .before .before .before .before .before .before .before .before .before .before .before .before .before .before .before .before .before .before .slot .ensures .0) (c .before .before .before .before .before .before .before .before .before .before .before .before .before .before .before .before .before .before .before .before .before .before .before .before .before .before .before .before .before .before .before .before .before .wide2 .ensures .0) refl) (p .1 .1 .1 .1) (a .room) (c .before .before .before .before .before .before .before .before .before .before .before .before .before .before .before .before .before .before .before .before .before .before .before .before .begin .ensures) (c .before .before .before .before .before .before .before .before .before .before .before .before .before .before .before .before .before .before .before .before .before .before .before .declare .ensures) (c .before .before .before .before .before .before .before .before .before .before .before .before .before .before .before .before .before .before .before .before .before .before .if1 .left)) in let l = c .before .before .before .before .before .before .before .before .before .before .before .before .before .before .before .before .before .before .before .before .before .loop in let k = going-run (p .0 .source) (p .1 .0) (a .offset) (a .room) _ (expressions (p .1 .0) (g .read)) _ _ (p .1 .1 .1 .1) (a .stacks .now) (l .log) (l .classes) (l .starts) (l .maps) (l .marks) (l .em) (l .e) g (c .before .before .before .before .before .before .before .before .before .before .before .before .before .before .run .ensures) (c .before .before .before .before .before .before .before .before .before .before .before .before .longer .ensures) in (p .0, (expressions (p .1 .0) (k .read), (word-bodied (p .1 .0) (p .1 .1 .1 .1) k (c .before .before .before .before .before .before .before .before .before .before .before .if2 .taken), (k .turn .way .going, (k .turn .way .kept, k .turn .way .under)))))
 
 -- src/lib.rt:212:17
 localize-returns-3 : (t : ℕ) → localize-lts.Need-returns-3 (
@@ -1428,7 +1525,7 @@ localize-returns-3 : (t : ℕ) → localize-lts.Need-returns-3 (
   import-names-reads.Asked,
   import-names-reads.Learnt,
 ) (localize-at t) localize.Post localize-Inv-loop localize-μ-loop
-localize-returns-3 t c = let a = c .before .before .before .before .before .before .before .before .before .before .before .before .before .before .before .before .before .before .before .before .before .before .before .before .before .before .before .before .before .before .before .before .before .args in let p = c .before .before .before .before .before .before .before .before .before .before .before .before .before .before .before .before .before .before .before .before .before .before .before .before .before .before .before .before .before .before .before .before .before .pre .1 in let g = c .before .before .before .before .before .before .before .before .before .before .before .before .loop .inv .on refl (p .1 .1 .1 .1) (going-start (p .1 .0) (reading (p .1 .0) (c .before .before .before .before .before .before .before .before .before .before .before .before .before .before .before .before .before .before .before .before .before .before .before .before .before .before .before .before .before .before .before .before .expressions-at .ensures .0) (c .before .before .before .before .before .before .before .before .before .before .before .before .before .before .before .before .before .before .before .before .before .before .before .before .before .before .before .before .find .ensures) (c .before .before .before .before .before .before .before .before .before .before .before .before .before .before .before .before .before .before .before .before .before .before .before .before .before .before .before .before .before .before .wide .ensures .0) (c .before .before .before .before .before .before .before .before .before .before .before .before .before .before .before .before .before .before .before .before .before .before .before .before .before .before .slot .ensures .0) (c .before .before .before .before .before .before .before .before .before .before .before .before .before .before .before .before .before .before .before .before .before .before .before .before .wide2 .ensures .0) refl) (p .1 .1 .1 .1) (a .room) (c .before .before .before .before .before .before .before .before .before .before .before .before .before .before .before .begin .ensures) (c .before .before .before .before .before .before .before .before .before .before .before .before .before .before .declare .ensures) (c .before .before .before .before .before .before .before .before .before .before .before .before .before .if1 .left)) in let l = c .before .before .before .before .before .before .before .before .before .before .before .before .loop in let k = going-run (p .0 .source) (p .1 .0) (a .offset) (a .room) _ (expressions (p .1 .0) (g .read)) _ _ (p .1 .1 .1 .1) (a .stacks .now) (l .log) (l .classes) (l .starts) (l .maps) (l .marks) (l .em) (l .e) g (c .before .before .before .before .before .before .before .run .ensures) (c .before .before .before .before .before .longer .ensures) in ⊎-elim (λ w. going-full (p .1 .0) (p .1 .1 .1 .1) k (c .before .before .before .before .if2 .taken) (c .before .before .before .flag .ensures) (runs-at (callee-runs (p .1 .0) (p .1 .1 .1 .1) k (c .before .before .before .before .if2 .taken) (w .0 .taken) (w .9 .ensures .0) (w .10 .ensures .0) (w .11 .left) (c .before .before .before .flag .result) (w .18 .ensures)) (w .19) (w .20) (w .21) (w .22) (w .23) (w .24) (w .26) (w .27)) (c .if5 .taken)) (λ w. going-full (p .1 .0) (p .1 .1 .1 .1) k (c .before .before .before .before .if2 .taken) (c .before .before .before .flag .ensures) (runs-at (other-runs (p .1 .0) (p .1 .1 .1 .1) k (c .before .before .before .before .if2 .taken) (w .0 .left) (c .before .before .before .flag .result) (runs-from refl (w .9 .ensures))) (w .10) (w .11) (w .12) (w .13) (w .14) (w .15) (w .17) (w .18)) (c .if5 .taken)) (c .before .if3 .came)
+localize-returns-3 t c = let a = c .before .before .before .before .before .before .before .before .before .before .before .before .before .before .before .before .before .before .before .before .before .before .before .before .before .before .before .before .before .before .before .before .before .before .before .before .args in let p = c .before .before .before .before .before .before .before .before .before .before .before .before .before .before .before .before .before .before .before .before .before .before .before .before .before .before .before .before .before .before .before .before .before .before .before .before .pre .1 in let g = c .before .before .before .before .before .before .before .before .before .before .before .before .before .before .loop .inv .on refl (p .1 .1 .1 .1) (going-start (p .1 .0) (reading (p .1 .0) (c .before .before .before .before .before .before .before .before .before .before .before .before .before .before .before .before .before .before .before .before .before .before .before .before .before .before .before .before .before .before .before .before .before .before .expressions-at .ensures .0) (c .before .before .before .before .before .before .before .before .before .before .before .before .before .before .before .before .before .before .before .before .before .before .before .before .before .before .before .before .before .before .find .ensures) (c .before .before .before .before .before .before .before .before .before .before .before .before .before .before .before .before .before .before .before .before .before .before .before .before .before .before .before .before .before .before .before .before .wide .ensures .0) (c .before .before .before .before .before .before .before .before .before .before .before .before .before .before .before .before .before .before .before .before .before .before .before .before .before .before .before .before .slot .ensures .0) (c .before .before .before .before .before .before .before .before .before .before .before .before .before .before .before .before .before .before .before .before .before .before .before .before .before .before .wide2 .ensures .0) refl) (p .1 .1 .1 .1) (a .room) (c .before .before .before .before .before .before .before .before .before .before .before .before .before .before .before .before .before .begin .ensures) (c .before .before .before .before .before .before .before .before .before .before .before .before .before .before .before .before .declare .ensures) (c .before .before .before .before .before .before .before .before .before .before .before .before .before .before .before .if1 .left)) in let l = c .before .before .before .before .before .before .before .before .before .before .before .before .before .before .loop in let k = going-run (p .0 .source) (p .1 .0) (a .offset) (a .room) _ (expressions (p .1 .0) (g .read)) _ _ (p .1 .1 .1 .1) (a .stacks .now) (l .log) (l .classes) (l .starts) (l .maps) (l .marks) (l .em) (l .e) g (c .before .before .before .before .before .before .before .run .ensures) (c .before .before .before .before .before .longer .ensures) in ⊎-elim (λ w. going-full (p .1 .0) (p .1 .1 .1 .1) k (c .before .before .before .before .if2 .taken) (c .before .before .before .flag .ensures) (runs-at (callee-runs (p .1 .0) (p .1 .1 .1 .1) k (c .before .before .before .before .if2 .taken) (w .0 .taken) (w .9 .ensures .0) (w .10 .ensures .0) (w .11 .left) (c .before .before .before .flag .result) (w .18 .ensures)) (w .19) (w .20) (w .21) (w .22) (w .23) (w .24) (w .26) (w .27)) (c .if5 .taken)) (λ w. going-full (p .1 .0) (p .1 .1 .1 .1) k (c .before .before .before .before .if2 .taken) (c .before .before .before .flag .ensures) (runs-at (other-runs (p .1 .0) (p .1 .1 .1 .1) k (c .before .before .before .before .if2 .taken) (w .0 .left) (c .before .before .before .flag .result) (runs-from refl (w .9 .ensures))) (w .10) (w .11) (w .12) (w .13) (w .14) (w .15) (w .17) (w .18)) (c .if5 .taken)) (c .before .if3 .came)
 
 -- src/lib.rt:124:5
 localize-loop-less : (t : ℕ) → localize-lts.Need-loop-less (
@@ -1461,7 +1558,7 @@ localize-loop-less : (t : ℕ) → localize-lts.Need-loop-less (
   import-names-reads.Asked,
   import-names-reads.Learnt,
 ) (localize-at t) localize.Post localize-Inv-loop localize-μ-loop
-localize-loop-less t c = let h = c .before .before .before .before .before .before .before .before .before .before .before .loop-test .taken in let z = c .before .before .before .before .before .before .before .run .ensures .reach in omega arith
+localize-loop-less t c = let h = c .before .before .before .before .before .before .before .before .before .before .before .before .before .loop-test .taken in let z = c .before .before .before .before .before .before .before .run .ensures .reach in omega arith
 
 -- src/lib.rt:124:5
 localize-loop-again : (t : ℕ) → localize-lts.Need-loop-again (
@@ -1494,7 +1591,7 @@ localize-loop-again : (t : ℕ) → localize-lts.Need-loop-again (
   import-names-reads.Asked,
   import-names-reads.Learnt,
 ) (localize-at t) localize.Post localize-Inv-loop localize-μ-loop
-localize-loop-again t c = let a = c .before .before .before .before .before .before .before .before .before .before .before .before .before .before .before .before .before .before .before .before .before .before .before .before .before .before .before .before .before .before .before .before .before .args in let p = c .before .before .before .before .before .before .before .before .before .before .before .before .before .before .before .before .before .before .before .before .before .before .before .before .before .before .before .before .before .before .before .before .before .pre .1 in record { on = λ q K₀ g₀. let g = c .before .before .before .before .before .before .before .before .before .before .before .before .loop .inv .on q K₀ g₀ in let l = c .before .before .before .before .before .before .before .before .before .before .before .before .loop in let k = going-run (p .0 .source) (p .1 .0) (a .offset) (a .room) _ (expressions (p .1 .0) (g .read)) _ _ K₀ _ (l .log) (l .classes) (l .starts) (l .maps) (l .marks) (l .em) (l .e) g (c .before .before .before .before .before .before .before .run .ensures) (c .before .before .before .before .before .longer .ensures) in ⊎-elim (λ w. going-at (w .25 ∙ w .10 .ensures .1 (w .11 .left) ∙ sym (k .read .places-are)) (going-next (p .1 .0) K₀ k (c .before .before .before .before .if2 .taken) (c .before .before .before .flag .ensures) (runs-at (callee-runs (p .1 .0) K₀ k (c .before .before .before .before .if2 .taken) (w .0 .taken) (w .9 .ensures .0) (w .10 .ensures .0) (w .11 .left) (c .before .before .before .flag .result) (w .18 .ensures)) (w .19) (w .20) (w .21) (w .22) (w .23) (w .24) (w .26) (w .27)) (c .if5 .left))) (λ w. going-at (w .16) (going-next (p .1 .0) K₀ k (c .before .before .before .before .if2 .taken) (c .before .before .before .flag .ensures) (runs-at (other-runs (p .1 .0) K₀ k (c .before .before .before .before .if2 .taken) (w .0 .left) (c .before .before .before .flag .result) (runs-from q (w .9 .ensures))) (w .10) (w .11) (w .12) (w .13) (w .14) (w .15) (w .17) (w .18)) (c .if5 .left))) (c .before .if3 .came) }
+localize-loop-again t c = let a = c .before .before .before .before .before .before .before .before .before .before .before .before .before .before .before .before .before .before .before .before .before .before .before .before .before .before .before .before .before .before .before .before .before .before .before .before .args in let p = c .before .before .before .before .before .before .before .before .before .before .before .before .before .before .before .before .before .before .before .before .before .before .before .before .before .before .before .before .before .before .before .before .before .before .before .before .pre .1 in record { on = λ q K₀ g₀. let g = c .before .before .before .before .before .before .before .before .before .before .before .before .before .before .loop .inv .on q K₀ g₀ in let l = c .before .before .before .before .before .before .before .before .before .before .before .before .before .before .loop in let k = going-run (p .0 .source) (p .1 .0) (a .offset) (a .room) _ (expressions (p .1 .0) (g .read)) _ _ K₀ _ (l .log) (l .classes) (l .starts) (l .maps) (l .marks) (l .em) (l .e) g (c .before .before .before .before .before .before .before .run .ensures) (c .before .before .before .before .before .longer .ensures) in ⊎-elim (λ w. going-at (w .25 ∙ w .10 .ensures .1 (w .11 .left) ∙ sym (k .read .places-are)) (going-next (p .1 .0) K₀ k (c .before .before .before .before .if2 .taken) (c .before .before .before .flag .ensures) (runs-at (callee-runs (p .1 .0) K₀ k (c .before .before .before .before .if2 .taken) (w .0 .taken) (w .9 .ensures .0) (w .10 .ensures .0) (w .11 .left) (c .before .before .before .flag .result) (w .18 .ensures)) (w .19) (w .20) (w .21) (w .22) (w .23) (w .24) (w .26) (w .27)) (c .if5 .left))) (λ w. going-at (w .16) (going-next (p .1 .0) K₀ k (c .before .before .before .before .if2 .taken) (c .before .before .before .flag .ensures) (runs-at (other-runs (p .1 .0) K₀ k (c .before .before .before .before .if2 .taken) (w .0 .left) (c .before .before .before .flag .result) (runs-from q (w .9 .ensures))) (w .10) (w .11) (w .12) (w .13) (w .14) (w .15) (w .17) (w .18)) (c .if5 .left))) (c .before .if3 .came) }
 
 -- src/lib.rt:124:5
 localize-loop-less-2 : (t : ℕ) → localize-lts.Need-loop-less-2 (
@@ -1527,7 +1624,7 @@ localize-loop-less-2 : (t : ℕ) → localize-lts.Need-loop-less-2 (
   import-names-reads.Asked,
   import-names-reads.Learnt,
 ) (localize-at t) localize.Post localize-Inv-loop localize-μ-loop
-localize-loop-less-2 t c = let h = c .before .before .before .before .before .before .before .loop-test .taken in let z = c .before .before .before .run .ensures .reach in let y = c .if2 .left in omega arith
+localize-loop-less-2 t c = let h = c .before .before .before .before .before .before .before .before .before .loop-test .taken in let z = c .before .before .before .run .ensures .reach in let y = c .if2 .left in omega arith
 
 -- src/lib.rt:124:5
 localize-loop-again-2 : (t : ℕ) → localize-lts.Need-loop-again-2 (
@@ -1560,7 +1657,39 @@ localize-loop-again-2 : (t : ℕ) → localize-lts.Need-loop-again-2 (
   import-names-reads.Asked,
   import-names-reads.Learnt,
 ) (localize-at t) localize.Post localize-Inv-loop localize-μ-loop
-localize-loop-again-2 t c = let a = c .before .before .before .before .before .before .before .before .before .before .before .before .before .before .before .before .before .before .before .before .before .before .before .before .before .before .before .before .before .args in let p = c .before .before .before .before .before .before .before .before .before .before .before .before .before .before .before .before .before .before .before .before .before .before .before .before .before .before .before .before .before .pre .1 in record { on = λ q K₀ g₀. let g = c .before .before .before .before .before .before .before .before .loop .inv .on q K₀ g₀ in let l = c .before .before .before .before .before .before .before .before .loop in let k = going-run (p .0 .source) (p .1 .0) (a .offset) (a .room) _ (expressions (p .1 .0) (g .read)) _ _ K₀ _ (l .log) (l .classes) (l .starts) (l .maps) (l .marks) (l .em) (l .e) g (c .before .before .before .run .ensures) (c .before .longer .ensures) in k }
+localize-loop-again-2 t c = let a = c .before .before .before .before .before .before .before .before .before .before .before .before .before .before .before .before .before .before .before .before .before .before .before .before .before .before .before .before .before .before .before .before .args in let p = c .before .before .before .before .before .before .before .before .before .before .before .before .before .before .before .before .before .before .before .before .before .before .before .before .before .before .before .before .before .before .before .before .pre .1 in record { on = λ q K₀ g₀. let g = c .before .before .before .before .before .before .before .before .before .before .loop .inv .on q K₀ g₀ in let l = c .before .before .before .before .before .before .before .before .before .before .loop in let k = going-run (p .0 .source) (p .1 .0) (a .offset) (a .room) _ (expressions (p .1 .0) (g .read)) _ _ K₀ _ (l .log) (l .classes) (l .starts) (l .maps) (l .marks) (l .em) (l .e) g (c .before .before .before .run .ensures) (c .before .longer .ensures) in k }
+
+localize-cast-b : (t : ℕ) → localize-lts.Need-cast-b (
+  expressions-at-reads.Asked,
+  expressions-at-reads.Learnt,
+  wide-reads.Asked,
+  wide-reads.Learnt,
+  find-reads.Asked,
+  find-reads.Learnt,
+  slot-reads.Asked,
+  slot-reads.Learnt,
+  begin-reads.Asked,
+  begin-reads.Learnt,
+  declare-reads.Asked,
+  declare-reads.Learnt,
+  run-reads.Asked,
+  run-reads.Learnt,
+  longer-reads.Asked,
+  longer-reads.Learnt,
+  flag-reads.Asked,
+  flag-reads.Learnt,
+  follow-below t,
+  follow.Post,
+  put-word-reads.Asked,
+  put-word-reads.Learnt,
+  pass-reads.Asked,
+  pass-reads.Learnt,
+  keep-names-reads.Asked,
+  keep-names-reads.Learnt,
+  import-names-reads.Asked,
+  import-names-reads.Learnt,
+) (localize-at t) localize.Post localize-Inv-loop localize-μ-loop
+localize-cast-b t c = search needs
 
 -- src/lib.rt:217:9
 localize-keep-names-requires : (t : ℕ) → localize-lts.Need-keep-names-requires (
@@ -1593,7 +1722,7 @@ localize-keep-names-requires : (t : ℕ) → localize-lts.Need-keep-names-requir
   import-names-reads.Asked,
   import-names-reads.Learnt,
 ) (localize-at t) localize.Post localize-Inv-loop localize-μ-loop
-localize-keep-names-requires t c κs = let a = c .before .before .before .before .before .before .before .before .before .before .before .before .before .before .before .before .before .before .before .before .before .before .before .before .before .args in let p = c .before .before .before .before .before .before .before .before .before .before .before .before .before .before .before .before .before .before .before .before .before .before .before .before .before .pre .1 in let g = c .before .before .before .before .loop .inv .on refl (p .1 .1 .1 .1) (going-start (p .1 .0) (reading (p .1 .0) (c .before .before .before .before .before .before .before .before .before .before .before .before .before .before .before .before .before .before .before .before .before .before .before .before .expressions-at .ensures .0) (c .before .before .before .before .before .before .before .before .before .before .before .before .before .before .before .before .before .before .before .before .find .ensures) (c .before .before .before .before .before .before .before .before .before .before .before .before .before .before .before .before .before .before .before .before .before .before .wide .ensures .0) (c .before .before .before .before .before .before .before .before .before .before .before .before .before .before .before .before .before .before .slot .ensures .0) (c .before .before .before .before .before .before .before .before .before .before .before .before .before .before .before .before .wide2 .ensures .0) refl) (p .1 .1 .1 .1) (a .room) (c .before .before .before .before .before .before .before .begin .ensures) (c .before .before .before .before .before .before .declare .ensures) (c .before .before .before .before .before .if1 .left)) in (keep-in (p .1 .0) (p .1 .1 .1 .1) g (c .before .before .before .loop-test .left), (keep-long (p .1 .0) (p .1 .1 .1 .1) g (c .before .before .before .loop-test .left), (keep-exprs (p .1 .0) (p .1 .1 .1 .1) g (c .before .before .before .loop-test .left), (keep-low (p .1 .0) (p .1 .1 .1 .1) g (c .before .before .before .loop-test .left), g .turn .way .under .stacks-are))))
+localize-keep-names-requires t c κs = let a = c .before .before .before .before .before .before .before .before .before .before .before .before .before .before .before .before .before .before .before .before .before .before .before .before .before .before .before .args in let p = c .before .before .before .before .before .before .before .before .before .before .before .before .before .before .before .before .before .before .before .before .before .before .before .before .before .before .before .pre .1 in let g = c .before .before .before .before .before .loop .inv .on refl (p .1 .1 .1 .1) (going-start (p .1 .0) (reading (p .1 .0) (c .before .before .before .before .before .before .before .before .before .before .before .before .before .before .before .before .before .before .before .before .before .before .before .before .before .expressions-at .ensures .0) (c .before .before .before .before .before .before .before .before .before .before .before .before .before .before .before .before .before .before .before .before .before .find .ensures) (c .before .before .before .before .before .before .before .before .before .before .before .before .before .before .before .before .before .before .before .before .before .before .before .wide .ensures .0) (c .before .before .before .before .before .before .before .before .before .before .before .before .before .before .before .before .before .before .before .slot .ensures .0) (c .before .before .before .before .before .before .before .before .before .before .before .before .before .before .before .before .before .wide2 .ensures .0) refl) (p .1 .1 .1 .1) (a .room) (c .before .before .before .before .before .before .before .before .begin .ensures) (c .before .before .before .before .before .before .before .declare .ensures) (c .before .before .before .before .before .before .if1 .left)) in (keep-in (p .1 .0) (p .1 .1 .1 .1) g (c .before .before .before .before .loop-test .left), (keep-long (p .1 .0) (p .1 .1 .1 .1) g (c .before .before .before .before .loop-test .left), (keep-exprs (p .1 .0) (p .1 .1 .1 .1) g (c .before .before .before .before .loop-test .left), (keep-low (p .1 .0) (p .1 .1 .1 .1) g (c .before .before .before .before .loop-test .left), g .turn .way .under .stacks-are))))
 
 -- src/lib.rt:219:9
 localize-returns-4 : (t : ℕ) → localize-lts.Need-returns-4 (
@@ -1626,7 +1755,7 @@ localize-returns-4 : (t : ℕ) → localize-lts.Need-returns-4 (
   import-names-reads.Asked,
   import-names-reads.Learnt,
 ) (localize-at t) localize.Post localize-Inv-loop localize-μ-loop
-localize-returns-4 t c = let a = c .before .before .before .before .before .before .before .before .before .before .before .before .before .before .before .before .before .before .before .before .before .before .before .before .before .before .before .args in let p = c .before .before .before .before .before .before .before .before .before .before .before .before .before .before .before .before .before .before .before .before .before .before .before .before .before .before .before .pre .1 in let g = c .before .before .before .before .before .before .loop .inv .on refl (p .1 .1 .1 .1) (going-start (p .1 .0) (reading (p .1 .0) (c .before .before .before .before .before .before .before .before .before .before .before .before .before .before .before .before .before .before .before .before .before .before .before .before .before .before .expressions-at .ensures .0) (c .before .before .before .before .before .before .before .before .before .before .before .before .before .before .before .before .before .before .before .before .before .before .find .ensures) (c .before .before .before .before .before .before .before .before .before .before .before .before .before .before .before .before .before .before .before .before .before .before .before .before .wide .ensures .0) (c .before .before .before .before .before .before .before .before .before .before .before .before .before .before .before .before .before .before .before .before .slot .ensures .0) (c .before .before .before .before .before .before .before .before .before .before .before .before .before .before .before .before .before .before .wide2 .ensures .0) refl) (p .1 .1 .1 .1) (a .room) (c .before .before .before .before .before .before .before .before .before .begin .ensures) (c .before .before .before .before .before .before .before .before .declare .ensures) (c .before .before .before .before .before .before .before .if1 .left)) in names-full (p .1 .0) (p .1 .1 .1 .1) g (c .before .before .before .before .before .loop-test .left) (c .before .keep-names .ensures) (c .if6 .taken)
+localize-returns-4 t c = let a = c .before .before .before .before .before .before .before .before .before .before .before .before .before .before .before .before .before .before .before .before .before .before .before .before .before .before .before .before .before .args in let p = c .before .before .before .before .before .before .before .before .before .before .before .before .before .before .before .before .before .before .before .before .before .before .before .before .before .before .before .before .before .pre .1 in let g = c .before .before .before .before .before .before .before .loop .inv .on refl (p .1 .1 .1 .1) (going-start (p .1 .0) (reading (p .1 .0) (c .before .before .before .before .before .before .before .before .before .before .before .before .before .before .before .before .before .before .before .before .before .before .before .before .before .before .before .expressions-at .ensures .0) (c .before .before .before .before .before .before .before .before .before .before .before .before .before .before .before .before .before .before .before .before .before .before .before .find .ensures) (c .before .before .before .before .before .before .before .before .before .before .before .before .before .before .before .before .before .before .before .before .before .before .before .before .before .wide .ensures .0) (c .before .before .before .before .before .before .before .before .before .before .before .before .before .before .before .before .before .before .before .before .before .slot .ensures .0) (c .before .before .before .before .before .before .before .before .before .before .before .before .before .before .before .before .before .before .before .wide2 .ensures .0) refl) (p .1 .1 .1 .1) (a .room) (c .before .before .before .before .before .before .before .before .before .before .begin .ensures) (c .before .before .before .before .before .before .before .before .before .declare .ensures) (c .before .before .before .before .before .before .before .before .if1 .left)) in names-full (p .1 .0) (p .1 .1 .1 .1) g (c .before .before .before .before .before .before .loop-test .left) (c .before .keep-names .ensures) (c .if6 .taken)
 
 -- src/lib.rt:221:5
 localize-import-names-requires : (t : ℕ) → localize-lts.Need-import-names-requires (
@@ -1659,7 +1788,7 @@ localize-import-names-requires : (t : ℕ) → localize-lts.Need-import-names-re
   import-names-reads.Asked,
   import-names-reads.Learnt,
 ) (localize-at t) localize.Post localize-Inv-loop localize-μ-loop
-localize-import-names-requires t c κs = let a = c .before .before .before .before .before .before .before .before .before .before .before .before .before .before .before .before .before .before .before .before .before .before .before .before .before .before .before .before .before .before .before .before .before .args in let p = c .before .before .before .before .before .before .before .before .before .before .before .before .before .before .before .before .before .before .before .before .before .before .before .before .before .before .before .before .before .before .before .before .before .pre .1 in let g = c .before .before .before .before .before .before .before .before .before .before .before .before .loop .inv .on refl (p .1 .1 .1 .1) (going-start (p .1 .0) (reading (p .1 .0) (c .before .before .before .before .before .before .before .before .before .before .before .before .before .before .before .before .before .before .before .before .before .before .before .before .before .before .before .before .before .before .before .before .expressions-at .ensures .0) (c .before .before .before .before .before .before .before .before .before .before .before .before .before .before .before .before .before .before .before .before .before .before .before .before .before .before .before .before .find .ensures) (c .before .before .before .before .before .before .before .before .before .before .before .before .before .before .before .before .before .before .before .before .before .before .before .before .before .before .before .before .before .before .wide .ensures .0) (c .before .before .before .before .before .before .before .before .before .before .before .before .before .before .before .before .before .before .before .before .before .before .before .before .before .before .slot .ensures .0) (c .before .before .before .before .before .before .before .before .before .before .before .before .before .before .before .before .before .before .before .before .before .before .before .before .wide2 .ensures .0) refl) (p .1 .1 .1 .1) (a .room) (c .before .before .before .before .before .before .before .before .before .before .before .before .before .before .before .begin .ensures) (c .before .before .before .before .before .before .before .before .before .before .before .before .before .before .declare .ensures) (c .before .before .before .before .before .before .before .before .before .before .before .before .before .if1 .left)) in (p .0, (names-in (p .1 .0) (p .1 .1 .1 .1) g (c .before .before .before .before .before .before .before .before .before .before .before .loop-test .left) (c .before .before .before .before .before .before .before .keep-names .ensures) (c .before .before .before .before .before .before .if6 .left), (names-words (p .1 .0) (p .1 .1 .1 .1) g (c .before .before .before .before .before .before .before .before .before .before .before .loop-test .left) (c .before .before .before .before .before .before .before .keep-names .ensures) (c .before .before .before .before .before .before .if6 .left), (c .before .before .before .before .before .before .before .keep-names .ensures .stacks-are (c .before .before .before .before .before .before .if6 .left), names-good (p .1 .0) (p .1 .1 .1 .1) g (c .before .before .before .before .before .before .before .before .before .before .before .loop-test .left) (c .before .before .before .before .before .before .before .keep-names .ensures) (c .before .before .before .before .before .before .if6 .left)))))
+localize-import-names-requires t c κs = let a = c .before .before .before .before .before .before .before .before .before .before .before .before .before .before .before .before .before .before .before .before .before .before .before .before .before .before .before .before .before .before .before .before .before .before .before .args in let p = c .before .before .before .before .before .before .before .before .before .before .before .before .before .before .before .before .before .before .before .before .before .before .before .before .before .before .before .before .before .before .before .before .before .before .before .pre .1 in let g = c .before .before .before .before .before .before .before .before .before .before .before .before .before .loop .inv .on refl (p .1 .1 .1 .1) (going-start (p .1 .0) (reading (p .1 .0) (c .before .before .before .before .before .before .before .before .before .before .before .before .before .before .before .before .before .before .before .before .before .before .before .before .before .before .before .before .before .before .before .before .before .expressions-at .ensures .0) (c .before .before .before .before .before .before .before .before .before .before .before .before .before .before .before .before .before .before .before .before .before .before .before .before .before .before .before .before .before .find .ensures) (c .before .before .before .before .before .before .before .before .before .before .before .before .before .before .before .before .before .before .before .before .before .before .before .before .before .before .before .before .before .before .before .wide .ensures .0) (c .before .before .before .before .before .before .before .before .before .before .before .before .before .before .before .before .before .before .before .before .before .before .before .before .before .before .before .slot .ensures .0) (c .before .before .before .before .before .before .before .before .before .before .before .before .before .before .before .before .before .before .before .before .before .before .before .before .before .wide2 .ensures .0) refl) (p .1 .1 .1 .1) (a .room) (c .before .before .before .before .before .before .before .before .before .before .before .before .before .before .before .before .begin .ensures) (c .before .before .before .before .before .before .before .before .before .before .before .before .before .before .before .declare .ensures) (c .before .before .before .before .before .before .before .before .before .before .before .before .before .before .if1 .left)) in (p .0, (names-in (p .1 .0) (p .1 .1 .1 .1) g (c .before .before .before .before .before .before .before .before .before .before .before .before .loop-test .left) (c .before .before .before .before .before .before .before .keep-names .ensures) (c .before .before .before .before .before .before .if6 .left), (names-words (p .1 .0) (p .1 .1 .1 .1) g (c .before .before .before .before .before .before .before .before .before .before .before .before .loop-test .left) (c .before .before .before .before .before .before .before .keep-names .ensures) (c .before .before .before .before .before .before .if6 .left), (c .before .before .before .before .before .before .before .keep-names .ensures .stacks-are (c .before .before .before .before .before .before .if6 .left), names-good (p .1 .0) (p .1 .1 .1 .1) g (c .before .before .before .before .before .before .before .before .before .before .before .before .loop-test .left) (c .before .before .before .before .before .before .before .keep-names .ensures) (c .before .before .before .before .before .before .if6 .left)))))
 
 -- src/lib.rt:67:1
 localize-returns-5 : (t : ℕ) → localize-lts.Need-returns-5 (
@@ -1692,7 +1821,7 @@ localize-returns-5 : (t : ℕ) → localize-lts.Need-returns-5 (
   import-names-reads.Asked,
   import-names-reads.Learnt,
 ) (localize-at t) localize.Post localize-Inv-loop localize-μ-loop
-localize-returns-5 t c = let a = c .before .before .before .before .before .before .before .before .before .before .before .before .before .before .before .before .before .before .before .before .before .before .before .before .before .before .before .before .before .before .before .before .before .before .args in let p = c .before .before .before .before .before .before .before .before .before .before .before .before .before .before .before .before .before .before .before .before .before .before .before .before .before .before .before .before .before .before .before .before .before .before .pre .1 in let g = c .before .before .before .before .before .before .before .before .before .before .before .before .before .loop .inv .on refl (p .1 .1 .1 .1) (going-start (p .1 .0) (reading (p .1 .0) (c .before .before .before .before .before .before .before .before .before .before .before .before .before .before .before .before .before .before .before .before .before .before .before .before .before .before .before .before .before .before .before .before .before .expressions-at .ensures .0) (c .before .before .before .before .before .before .before .before .before .before .before .before .before .before .before .before .before .before .before .before .before .before .before .before .before .before .before .before .before .find .ensures) (c .before .before .before .before .before .before .before .before .before .before .before .before .before .before .before .before .before .before .before .before .before .before .before .before .before .before .before .before .before .before .before .wide .ensures .0) (c .before .before .before .before .before .before .before .before .before .before .before .before .before .before .before .before .before .before .before .before .before .before .before .before .before .before .before .slot .ensures .0) (c .before .before .before .before .before .before .before .before .before .before .before .before .before .before .before .before .before .before .before .before .before .before .before .before .before .wide2 .ensures .0) refl) (p .1 .1 .1 .1) (a .room) (c .before .before .before .before .before .before .before .before .before .before .before .before .before .before .before .before .begin .ensures) (c .before .before .before .before .before .before .before .before .before .before .before .before .before .before .before .declare .ensures) (c .before .before .before .before .before .before .before .before .before .before .before .before .before .before .if1 .left)) in names-whole (p .1 .0) (p .1 .1 .1 .1) g (c .before .before .before .before .before .before .before .before .before .before .before .before .loop-test .left) (c .before .before .before .before .before .before .before .before .keep-names .ensures) (c .before .before .before .before .before .before .before .if6 .left) (c .import-names .ensures)
+localize-returns-5 t c = let a = c .before .before .before .before .before .before .before .before .before .before .before .before .before .before .before .before .before .before .before .before .before .before .before .before .before .before .before .before .before .before .before .before .before .before .before .before .args in let p = c .before .before .before .before .before .before .before .before .before .before .before .before .before .before .before .before .before .before .before .before .before .before .before .before .before .before .before .before .before .before .before .before .before .before .before .before .pre .1 in let g = c .before .before .before .before .before .before .before .before .before .before .before .before .before .before .loop .inv .on refl (p .1 .1 .1 .1) (going-start (p .1 .0) (reading (p .1 .0) (c .before .before .before .before .before .before .before .before .before .before .before .before .before .before .before .before .before .before .before .before .before .before .before .before .before .before .before .before .before .before .before .before .before .before .expressions-at .ensures .0) (c .before .before .before .before .before .before .before .before .before .before .before .before .before .before .before .before .before .before .before .before .before .before .before .before .before .before .before .before .before .before .find .ensures) (c .before .before .before .before .before .before .before .before .before .before .before .before .before .before .before .before .before .before .before .before .before .before .before .before .before .before .before .before .before .before .before .before .wide .ensures .0) (c .before .before .before .before .before .before .before .before .before .before .before .before .before .before .before .before .before .before .before .before .before .before .before .before .before .before .before .before .slot .ensures .0) (c .before .before .before .before .before .before .before .before .before .before .before .before .before .before .before .before .before .before .before .before .before .before .before .before .before .before .wide2 .ensures .0) refl) (p .1 .1 .1 .1) (a .room) (c .before .before .before .before .before .before .before .before .before .before .before .before .before .before .before .before .before .begin .ensures) (c .before .before .before .before .before .before .before .before .before .before .before .before .before .before .before .before .declare .ensures) (c .before .before .before .before .before .before .before .before .before .before .before .before .before .before .before .if1 .left)) in names-whole (p .1 .0) (p .1 .1 .1 .1) g (c .before .before .before .before .before .before .before .before .before .before .before .before .before .loop-test .left) (c .before .before .before .before .before .before .before .before .keep-names .ensures) (c .before .before .before .before .before .before .before .if6 .left) (c .import-names .ensures)
 
 pub +append+follow+localize-spec : {M : Type 1} → statement M
 +append+follow+localize-spec = close μ-append μ-follow μ-localize (λ t. append-lts.spec (
@@ -1771,6 +1900,7 @@ pub +append+follow+localize-spec : {M : Type 1} → statement M
     localize.Post
     localize-Inv-loop
     localize-μ-loop
+    (localize-cast-e1 t)
     (localize-expressions-at-requires t)
     (localize-mul-wide t)
     (localize-element-copy-out-wide t)
@@ -1790,6 +1920,8 @@ pub +append+follow+localize-spec : {M : Type 1} → statement M
     (localize-declare-requires t)
     (localize-returns t)
     (localize-loop-holds t)
+    (localize-cast-run t)
+    (localize-cast-run-2 t)
     (localize-run-requires t)
     (localize-sub-longer t)
     (localize-longer-requires t)
@@ -1809,6 +1941,7 @@ pub +append+follow+localize-spec : {M : Type 1} → statement M
     (localize-loop-again t)
     (localize-loop-less-2 t)
     (localize-loop-again-2 t)
+    (localize-cast-b t)
     (localize-keep-names-requires t)
     (localize-returns-4 t)
     (localize-import-names-requires t)

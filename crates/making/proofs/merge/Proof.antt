@@ -33,6 +33,9 @@ seat-requires c κs =
     let U = c .before .before .before .before .before .before .pre .1 .1 .1 .1 .1 in
     (p .0, (p .1 .0, (p .1 .1 .0, (legible (p .1 .1 .1 .0) (p .1 .1 .1 .1 .0 .0) (c .before .before .before .before .slot .ensures .0) (c .before .before .slot2 .ensures .0), (U .stacks-are, U .rising, U .made-is, rises (p .1 .1 .1 .0) (p .1 .1 .1 .1 .0 .0) (c .before .before .before .before .slot .ensures .0) (c .before .before .slot2 .ensures .0) .0)))))
 
+cast-if1 : tie.Need-cast-if1
+cast-if1 c = search needs
+
 add-em : tie.Need-add-em
 add-em c = search needs
 
@@ -85,6 +88,7 @@ merge-spec =
     element-copy-out-slot-2
     slot-requires-2
     seat-requires
+    cast-if1
     add-em
     cast-em
     mul-em

@@ -7,6 +7,9 @@ use Rattle.making.proofs.next.Tie as tie
 add-if1 : tie.Need-add-if1
 add-if1 c = search needs
 
+cast-if1 : tie.Need-cast-if1
+cast-if1 c = search needs
+
 add-wide : tie.Need-add-wide
 add-wide c = search needs
 
@@ -28,14 +31,18 @@ wide-requires c κs = search needs
 returns : tie.Need-returns
 returns c = let a = c .before .before .before .before .args in let p = c .before .before .before .before .pre in next-some (a .stacks .now) (a .e1) (a .ends) (p .0) (p .2) (a .k) (c .before .before .if1 .taken) _ (c .wide .ensures .0)
 
+cast-result : tie.Need-cast-result
+cast-result c = search needs
+
 returns-2 : tie.Need-returns-2
-returns-2 c = let a = c .before .before .args in let p = c .before .before .pre in next-none (a .stacks .now) (a .e1) (a .ends) (p .0) (p .2) (a .k) (c .if1 .left)
+returns-2 c = let a = c .before .before .before .args in let p = c .before .before .before .pre in next-none (a .stacks .now) (a .e1) (a .ends) (p .0) (p .2) (a .k) (c .before .if1 .left)
 
 pub next-spec : {M : Type 1} → statement M
 next-spec =
     tie.close
     (tie.spec
     add-if1
+    cast-if1
     add-wide
     add-wide-2
     mul-wide
@@ -43,4 +50,5 @@ next-spec =
     index-2-wide
     wide-requires
     returns
+    cast-result
     returns-2)

@@ -6,6 +6,9 @@ use borrow.Author.Needs.{needs}
 use Rattle.making.proofs.push.Statement.{statement}
 use Rattle.making.proofs.push.Tie as tie
 
+cast-bt : tie.Need-cast-bt
+cast-bt c = search needs
+
 refuse-requires : tie.Need-refuse-requires
 refuse-requires c κs = search needs
 
@@ -24,10 +27,22 @@ index-2-stacks c = search needs
 add-t9 : tie.Need-add-t9
 add-t9 c = search needs
 
+cast-t12 : tie.Need-cast-t12
+cast-t12 c = search needs
+
 returns-2 : tie.Need-returns-2
 returns-2 c = record { over = λ q. absurd (false≢true q); is = λ q. refl; ends = λ q. refl; room = λ q. omega arith }
 
 pub push-spec : {M : Type 1} → statement M
 push-spec =
     tie.close
-    (tie.spec refuse-requires returns mul-stacks index-1-stacks index-2-stacks add-t9 returns-2)
+    (tie.spec
+    cast-bt
+    refuse-requires
+    returns
+    mul-stacks
+    index-1-stacks
+    index-2-stacks
+    add-t9
+    cast-t12
+    returns-2)

@@ -1,6 +1,7 @@
 -- `declare` meets its contract: at each turn the words that bring nothing are written, then one word has what it refers to, and is written. Assumes nothing.
 use Prim.Native.Nat.{_-_, _<_}
 use native.Mathlib.Omega.{arith}
+use borrow.Author.Needs.{needs}
 use Rattle.known.proofs.Bears.{bearing}
 use Rattle.passing.specs.Runs.{unites}
 use Rattle.passing.proofs.Running.{made-small}
@@ -22,10 +23,16 @@ loop-holds : tie.Need-loop-holds Inv-loop μ-loop
 loop-holds c =
     let p = c .pre in declare-begin (p .1 .1 .1 .1 .0) (p .1 .1 .1 .1 .1) (p .1 .1 .1 .0) (p .1 .1 .0)
 
+cast-run : tie.Need-cast-run Inv-loop μ-loop
+cast-run c = search needs
+
+cast-run-2 : tie.Need-cast-run-2 Inv-loop μ-loop
+cast-run-2 c = search needs
+
 run-requires : tie.Need-run-requires Inv-loop μ-loop
 run-requires c κs =
-    let p = c .before .before .before .before .before .pre in
-    let D = c .before .before .before .before .loop .inv in
+    let p = c .before .before .before .before .before .before .before .pre in
+    let D = c .before .before .before .before .before .before .loop .inv in
     let K = D .runs .kept (D .going) in
     let U = D .runs .under (D .going) in
     (p .0 .kinds-are, (K .maps-six, (legible-all (p .1 .0 .few) (D .left .legible), U .stacks-are .high′, made-small U)))
@@ -43,18 +50,18 @@ longer-requires c κs =
 
 returns : tie.Need-returns Inv-loop μ-loop
 returns c =
-    let a = c .before .before .before .before .before .before .before .before .before .args in
-    let p = c .before .before .before .before .before .before .before .before .before .pre in
-    let l = c .before .before .before .before .before .before .before .before .loop in
+    let a = c .before .before .before .before .before .before .before .before .before .before .before .args in
+    let p = c .before .before .before .before .before .before .before .before .before .before .before .pre in
+    let l = c .before .before .before .before .before .before .before .before .before .before .loop in
     let K = p .1 .1 .1 .1 .0 in
     let D = declare-ran K (p .0 .source) (a .offset) (unites-idle (p .1 .0) (a .n) (a .offset)) (a .at) (a .end) (a .em .now) (a .stacks .now) (a .e1) (l .e) (l .log) (l .classes) (l .starts) (l .maps) (l .marks) (l .em) (l .inv) (c .before .before .before .run .ensures) (c .before .longer .ensures) in
     declare-done K D (let z = c .if1 .taken in omega arith)
 
 add-i : tie.Need-add-i Inv-loop μ-loop
 add-i c =
-    let a = c .before .before .before .before .before .before .before .before .before .args in
-    let p = c .before .before .before .before .before .before .before .before .before .pre in
-    let l = c .before .before .before .before .before .before .before .before .loop in
+    let a = c .before .before .before .before .before .before .before .before .before .before .before .args in
+    let p = c .before .before .before .before .before .before .before .before .before .before .before .pre in
+    let l = c .before .before .before .before .before .before .before .before .before .before .loop in
     let K = p .1 .1 .1 .1 .0 in
     let D = declare-ran K (p .0 .source) (a .offset) (unites-idle (p .1 .0) (a .n) (a .offset)) (a .at) (a .end) (a .em .now) (a .stacks .now) (a .e1) (l .e) (l .log) (l .classes) (l .starts) (l .maps) (l .marks) (l .em) (l .inv) (c .before .before .before .run .ensures) (c .before .longer .ensures) in
     let ne = c .if1 .left in
@@ -65,9 +72,9 @@ add-i c =
 
 flag-requires : tie.Need-flag-requires Inv-loop μ-loop
 flag-requires c κs =
-    let a = c .before .before .before .before .before .before .before .before .before .args in
-    let p = c .before .before .before .before .before .before .before .before .before .pre in
-    let l = c .before .before .before .before .before .before .before .before .loop in
+    let a = c .before .before .before .before .before .before .before .before .before .before .before .args in
+    let p = c .before .before .before .before .before .before .before .before .before .before .before .pre in
+    let l = c .before .before .before .before .before .before .before .before .before .before .loop in
     let K = p .1 .1 .1 .1 .0 in
     let D = declare-ran K (p .0 .source) (a .offset) (unites-idle (p .1 .0) (a .n) (a .offset)) (a .at) (a .end) (a .em .now) (a .stacks .now) (a .e1) (l .e) (l .log) (l .classes) (l .starts) (l .maps) (l .marks) (l .em) (l .inv) (c .before .before .before .run .ensures) (c .before .longer .ensures) in
     let ne = c .if1 .left in
@@ -77,9 +84,9 @@ flag-requires c κs =
 
 unite-requires : tie.Need-unite-requires Inv-loop μ-loop
 unite-requires c κs =
-    let a = c .before .before .before .before .before .before .before .before .before .before .before .before .before .before .before .before .before .args in
-    let p = c .before .before .before .before .before .before .before .before .before .before .before .before .before .before .before .before .before .pre in
-    let l = c .before .before .before .before .before .before .before .before .before .before .before .before .before .before .before .before .loop in
+    let a = c .before .before .before .before .before .before .before .before .before .before .before .before .before .before .before .before .before .before .before .args in
+    let p = c .before .before .before .before .before .before .before .before .before .before .before .before .before .before .before .before .before .before .before .pre in
+    let l = c .before .before .before .before .before .before .before .before .before .before .before .before .before .before .before .before .before .before .loop in
     let K = p .1 .1 .1 .1 .0 in
     let D = declare-ran K (p .0 .source) (a .offset) (unites-idle (p .1 .0) (a .n) (a .offset)) (a .at) (a .end) (a .em .now) (a .stacks .now) (a .e1) (l .e) (l .log) (l .classes) (l .starts) (l .maps) (l .marks) (l .em) (l .inv) (c .before .before .before .before .before .before .before .before .before .before .before .run .ensures) (c .before .before .before .before .before .before .before .before .before .longer .ensures) in
     let ne = c .before .before .before .before .before .before .before .before .if1 .left in
@@ -89,9 +96,9 @@ unite-requires c κs =
 
 returns-2 : tie.Need-returns-2 Inv-loop μ-loop
 returns-2 c =
-    let a = c .before .before .before .before .before .before .before .before .before .before .before .before .before .before .before .before .before .before .before .args in
-    let p = c .before .before .before .before .before .before .before .before .before .before .before .before .before .before .before .before .before .before .before .pre in
-    let l = c .before .before .before .before .before .before .before .before .before .before .before .before .before .before .before .before .before .before .loop in
+    let a = c .before .before .before .before .before .before .before .before .before .before .before .before .before .before .before .before .before .before .before .before .before .args in
+    let p = c .before .before .before .before .before .before .before .before .before .before .before .before .before .before .before .before .before .before .before .before .before .pre in
+    let l = c .before .before .before .before .before .before .before .before .before .before .before .before .before .before .before .before .before .before .before .before .loop in
     let K = p .1 .1 .1 .1 .0 in
     let D = declare-ran K (p .0 .source) (a .offset) (unites-idle (p .1 .0) (a .n) (a .offset)) (a .at) (a .end) (a .em .now) (a .stacks .now) (a .e1) (l .e) (l .log) (l .classes) (l .starts) (l .maps) (l .marks) (l .em) (l .inv) (c .before .before .before .before .before .before .before .before .before .before .before .before .before .run .ensures) (c .before .before .before .before .before .before .before .before .before .before .before .longer .ensures) in
     let ne = c .before .before .before .before .before .before .before .before .before .before .if1 .left in
@@ -101,9 +108,9 @@ returns-2 c =
 
 put-word-requires : tie.Need-put-word-requires Inv-loop μ-loop
 put-word-requires c κs =
-    let a = c .before .before .before .before .before .before .before .before .before .before .before .before .before .before .before .before .before .before .before .before .before .before .before .before .before .args in
-    let p = c .before .before .before .before .before .before .before .before .before .before .before .before .before .before .before .before .before .before .before .before .before .before .before .before .before .pre in
-    let l = c .before .before .before .before .before .before .before .before .before .before .before .before .before .before .before .before .before .before .before .before .before .before .before .before .loop in
+    let a = c .before .before .before .before .before .before .before .before .before .before .before .before .before .before .before .before .before .before .before .before .before .before .before .before .before .before .before .args in
+    let p = c .before .before .before .before .before .before .before .before .before .before .before .before .before .before .before .before .before .before .before .before .before .before .before .before .before .before .before .pre in
+    let l = c .before .before .before .before .before .before .before .before .before .before .before .before .before .before .before .before .before .before .before .before .before .before .before .before .before .before .loop in
     let K = p .1 .1 .1 .1 .0 in
     let D = declare-ran K (p .0 .source) (a .offset) (unites-idle (p .1 .0) (a .n) (a .offset)) (a .at) (a .end) (a .em .now) (a .stacks .now) (a .e1) (l .e) (l .log) (l .classes) (l .starts) (l .maps) (l .marks) (l .em) (l .inv) (c .before .before .before .before .before .before .before .before .before .before .before .before .before .before .before .before .before .before .before .run .ensures) (c .before .before .before .before .before .before .before .before .before .before .before .before .before .before .before .before .before .longer .ensures) in
     let ne = c .before .before .before .before .before .before .before .before .before .before .before .before .before .before .before .before .if1 .left in
@@ -115,9 +122,9 @@ put-word-requires c κs =
 
 returns-3 : tie.Need-returns-3 Inv-loop μ-loop
 returns-3 c =
-    let a = c .before .before .before .before .before .before .before .before .before .before .before .before .before .before .before .before .before .before .before .before .before .before .before .before .before .before .before .args in
-    let p = c .before .before .before .before .before .before .before .before .before .before .before .before .before .before .before .before .before .before .before .before .before .before .before .before .before .before .before .pre in
-    let l = c .before .before .before .before .before .before .before .before .before .before .before .before .before .before .before .before .before .before .before .before .before .before .before .before .before .before .loop in
+    let a = c .before .before .before .before .before .before .before .before .before .before .before .before .before .before .before .before .before .before .before .before .before .before .before .before .before .before .before .before .before .args in
+    let p = c .before .before .before .before .before .before .before .before .before .before .before .before .before .before .before .before .before .before .before .before .before .before .before .before .before .before .before .before .before .pre in
+    let l = c .before .before .before .before .before .before .before .before .before .before .before .before .before .before .before .before .before .before .before .before .before .before .before .before .before .before .before .before .loop in
     let K = p .1 .1 .1 .1 .0 in
     let D = declare-ran K (p .0 .source) (a .offset) (unites-idle (p .1 .0) (a .n) (a .offset)) (a .at) (a .end) (a .em .now) (a .stacks .now) (a .e1) (l .e) (l .log) (l .classes) (l .starts) (l .maps) (l .marks) (l .em) (l .inv) (c .before .before .before .before .before .before .before .before .before .before .before .before .before .before .before .before .before .before .before .before .before .run .ensures) (c .before .before .before .before .before .before .before .before .before .before .before .before .before .before .before .before .before .before .before .longer .ensures) in
     let ne = c .before .before .before .before .before .before .before .before .before .before .before .before .before .before .before .before .before .before .if1 .left in
@@ -127,15 +134,15 @@ returns-3 c =
 
 loop-less : tie.Need-loop-less Inv-loop μ-loop
 loop-less c =
-    let h = c .before .before .before .before .before .before .before .before .before .before .before .before .before .before .before .before .before .before .before .before .before .before .before .before .before .loop-test .taken in
+    let h = c .before .before .before .before .before .before .before .before .before .before .before .before .before .before .before .before .before .before .before .before .before .before .before .before .before .before .before .loop-test .taken in
     let z = c .before .before .before .before .before .before .before .before .before .before .before .before .before .before .before .before .before .before .before .before .before .run .ensures .reach in
     omega arith
 
 loop-again : tie.Need-loop-again Inv-loop μ-loop
 loop-again c =
-    let a = c .before .before .before .before .before .before .before .before .before .before .before .before .before .before .before .before .before .before .before .before .before .before .before .before .before .before .before .args in
-    let p = c .before .before .before .before .before .before .before .before .before .before .before .before .before .before .before .before .before .before .before .before .before .before .before .before .before .before .before .pre in
-    let l = c .before .before .before .before .before .before .before .before .before .before .before .before .before .before .before .before .before .before .before .before .before .before .before .before .before .before .loop in
+    let a = c .before .before .before .before .before .before .before .before .before .before .before .before .before .before .before .before .before .before .before .before .before .before .before .before .before .before .before .before .before .args in
+    let p = c .before .before .before .before .before .before .before .before .before .before .before .before .before .before .before .before .before .before .before .before .before .before .before .before .before .before .before .before .before .pre in
+    let l = c .before .before .before .before .before .before .before .before .before .before .before .before .before .before .before .before .before .before .before .before .before .before .before .before .before .before .before .before .loop in
     let K = p .1 .1 .1 .1 .0 in
     let D = declare-ran K (p .0 .source) (a .offset) (unites-idle (p .1 .0) (a .n) (a .offset)) (a .at) (a .end) (a .em .now) (a .stacks .now) (a .e1) (l .e) (l .log) (l .classes) (l .starts) (l .maps) (l .marks) (l .em) (l .inv) (c .before .before .before .before .before .before .before .before .before .before .before .before .before .before .before .before .before .before .before .before .before .run .ensures) (c .before .before .before .before .before .before .before .before .before .before .before .before .before .before .before .before .before .before .before .longer .ensures) in
     let ne = c .before .before .before .before .before .before .before .before .before .before .before .before .before .before .before .before .before .before .if1 .left in
@@ -154,6 +161,8 @@ declare-spec =
     Inv-loop
     μ-loop
     loop-holds
+    cast-run
+    cast-run-2
     run-requires
     sub-longer
     longer-requires

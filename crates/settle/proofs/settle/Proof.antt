@@ -17,6 +17,9 @@ element-copy-out-n c = search needs
 cast-n : tie.Need-cast-n
 cast-n c = search needs
 
+cast-used : tie.Need-cast-used
+cast-used c = search needs
+
 place-requires : tie.Need-place-requires
 place-requires c κs = let a = (c .before .before .args) in let p = (c .before .before .pre) in let R = p .0 in let q = p .1 .0 in let pl = p .1 .1 .0 in let K = p .1 .1 .1 in let f = K .few (a .t) (let z = q .0 in omega arith) in let rm = K .room in let z = q .0 in (R, (omega arith, K .maps-six))
 
@@ -138,6 +141,7 @@ settle-spec =
     mul-n
     element-copy-out-n
     cast-n
+    cast-used
     place-requires
     sought-requires
     add-maps
