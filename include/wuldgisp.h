@@ -5,7 +5,7 @@
  *
  * Stack: give a thread that calls wuldgisp_intake, wuldgisp_order or wuldgisp_redirect at least WULDGISP_STACK bytes, and one that calls wuldgisp_link,
  * wuldgisp_link_in, wuldgisp_session or wuldgisp_session_in at least WULDGISP_LINK_STACK. Measured (docs/PERFORMANCE.md): 120 KiB for the first three;
- * 1,444 KiB for link; for a session 1,400 KiB where 256 functions nest, and 2,172 KiB where, at their end, 1,024 initialisers, 181 constants and 512 types
+ * 1,220 KiB for link; for a session 1,324 KiB where 256 functions nest, and 1,920 KiB where, at their end, 1,024 initialisers, 181 constants and 512 types
  * nest too; 476 KiB less in lent memory.
  *
  * docs/RULES.md has the rules behind every refusal, and docs/IMAGE.md the image word by word.
