@@ -153,7 +153,7 @@ pub fn need(
 // Whether expression e is not mapped and stands. Most are mapped.
 fn wanted(words: &[u32; 16384], places: &[u16; 1025], em: &[u16; 1024], e: usize) -> bool
     requires { ⌜ (e < 1024) × (getD (now places) e 0 < 16384) ⌝ }
-    ensures { λ r. ⌜ (r ≡ true → standingKind (getD (now (words .entry)) (getD (now (places .entry)) e 0) 0) ≡ true) ⌝ }
+    ensures { λ r. ⌜ (r ≡ true → (getD (now (em .entry)) e 0 ≡ 0) × (standingKind (getD (now (words .entry)) (getD (now (places .entry)) e 0) 0) ≡ true)) ⌝ }
     ensures { λ r. ⌜ (r ≡ false → getD (now (em .entry)) e 0 ≡ 0 → standingKind (getD (now (words .entry)) (getD (now (places .entry)) e 0) 0) ≡ false) ⌝ }
 {
     if em[e] != 0 {

@@ -21,7 +21,7 @@ use views::OVERRIDES;
 use views::TYPES;
 use words::wide;
 ghost use mathlib.Core.Path.{_≡_};
-ghost use mathlib.Core.Bool.{false};
+ghost use mathlib.Core.Bool.{true, false};
 ghost use Prim.Native.Nat.{_<_};
 ghost use Rattle.model.specs.Module.{countAt};
 ghost use Rattle.model.specs.Between.{between};
@@ -155,6 +155,7 @@ pub fn import_by_table(
 // Whether record h of table t is not mapped; no where t is no table. This is asked of every word, and most records are mapped.
 pub fn missing(maps: &[[u32; 512]; 6], t: usize, h: u32) -> bool
     requires { ⌜ (t < 6 → h < 512) ⌝ }
+    ensures { λ r. ⌜ (r ≡ true → (t < 6) × (cell (now (maps .entry)) t h ≡ 0)) ⌝ }
     ensures { λ r. ⌜ (r ≡ false → t < 6 → 0 < cell (now (maps .entry)) t h) ⌝ }
 {
     if EXPRESSIONS < t {

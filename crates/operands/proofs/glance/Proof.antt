@@ -130,7 +130,7 @@ loop-again-2 c =
     let inv = c .before .before .before .before .before .before .before .before .loop .inv in
     let less = c .before .before .before .before .before .before .before .loop-test .taken in
     let t = c .before .before .before .before .refers-to .ensures in
-    along-next (p .1 .1 .1 .0) inv less (along-record (p .1 .1 .1 .0) inv less refl (t .0) (t .1) (c .before .before .before .if2 .taken) (lands-mapped (p .0 .source) (a .offset) (along-number (p .1 .1 .1 .0) inv less refl (t .0) (t .1) (c .before .before .before .if2 .taken)) (inv .going) (along-kept (p .1 .1 .1 .0) inv) (c .before .missing .ensures (c .if3 .left)))) (inv .going)
+    along-next (p .1 .1 .1 .0) inv less (along-record (p .1 .1 .1 .0) inv less refl (t .0) (t .1) (c .before .before .before .if2 .taken) (lands-mapped (p .0 .source) (a .offset) (along-number (p .1 .1 .1 .0) inv less refl (t .0) (t .1) (c .before .before .before .if2 .taken)) (inv .going) (along-kept (p .1 .1 .1 .0) inv) (c .before .missing .ensures .1 (c .if3 .left)))) (inv .going)
 
 wide-requires : tie.Need-wide-requires Inv-loop μ-loop
 wide-requires c κs = search needs
@@ -161,7 +161,7 @@ returns-3 c =
     let less = c .before .before .before .before .before .before .before .before .before .before .before .before .before .before .before .before .before .before .before .loop-test .taken in
     let t = c .before .before .before .before .before .before .before .before .before .before .before .before .before .before .before .before .refers-to .ensures in
     glance-full (p .1 .0) (a .n) (a .offset) (p .1 .1 .0 .1) (p .1 .1 .1 .0) (p .1 .1 .1 .1) (p .1 .1 .0 .0) (c .before .before .before .before .before .before .before .before .before .before .before .before .before .before .before .before .before .before .before .before .before .before .before .before .before .if1 .left) (c .before .before .before .before .before .before .before .before .before .before .before .before .before .before .before .before .before .before .before .before .before .slot2 .ensures .0) (c .before .before .before .before .before .before .before .before .before .before .before .before .before .before .before .before .before .before .before .before .before .before .before .slot .ensures .0) inv less
-    (operand-done (p .1 .0) (p .1 .1 .0 .0) (p .1 .1 .1 .0) inv less refl (t .0) (c .before .before .before .before .before .before .before .before .before .before .before .before .wide .ensures .0 ∙ t .1) (c .before .before .before .before .before .before .before .before .before .before .before .before .before .before .before .if2 .left) (c .before .before .before .before .before .before .before .before .before .before .before .before .before .if5 .taken) (c .before .before .before .before .before .before .before .before .before .before .wanted .ensures .0 (c .before .before .before .before .before .before .before .before .before .if6 .taken)) (c .before .bring .ensures)) (c .if7 .taken)
+    (operand-done (p .1 .0) (p .1 .1 .0 .0) (p .1 .1 .1 .0) inv less refl (t .0) (c .before .before .before .before .before .before .before .before .before .before .before .before .wide .ensures .0 ∙ t .1) (c .before .before .before .before .before .before .before .before .before .before .before .before .before .before .before .if2 .left) (c .before .before .before .before .before .before .before .before .before .before .before .before .before .if5 .taken) (c .before .before .before .before .before .before .before .before .before .before .wanted .ensures .0 (c .before .before .before .before .before .before .before .before .before .if6 .taken) .1) (c .before .bring .ensures)) (c .if7 .taken)
 
 loop-less-3 : tie.Need-loop-less-3 Inv-loop μ-loop
 loop-less-3 c =
@@ -174,7 +174,7 @@ loop-again-3 c =
     let inv = c .before .before .before .before .before .before .before .before .before .before .before .before .before .before .before .before .before .before .before .before .loop .inv in
     let less = c .before .before .before .before .before .before .before .before .before .before .before .before .before .before .before .before .before .before .before .loop-test .taken in
     let t = c .before .before .before .before .before .before .before .before .before .before .before .before .before .before .before .before .refers-to .ensures in
-    along-next (p .1 .1 .1 .0) inv less (operand-done (p .1 .0) (p .1 .1 .0 .0) (p .1 .1 .1 .0) inv less refl (t .0) (c .before .before .before .before .before .before .before .before .before .before .before .before .wide .ensures .0 ∙ t .1) (c .before .before .before .before .before .before .before .before .before .before .before .before .before .before .before .if2 .left) (c .before .before .before .before .before .before .before .before .before .before .before .before .before .if5 .taken) (c .before .before .before .before .before .before .before .before .before .before .wanted .ensures .0 (c .before .before .before .before .before .before .before .before .before .if6 .taken)) (c .before .bring .ensures)) (c .if7 .left)
+    along-next (p .1 .1 .1 .0) inv less (operand-done (p .1 .0) (p .1 .1 .0 .0) (p .1 .1 .1 .0) inv less refl (t .0) (c .before .before .before .before .before .before .before .before .before .before .before .before .wide .ensures .0 ∙ t .1) (c .before .before .before .before .before .before .before .before .before .before .before .before .before .before .before .if2 .left) (c .before .before .before .before .before .before .before .before .before .before .before .before .before .if5 .taken) (c .before .before .before .before .before .before .before .before .before .before .wanted .ensures .0 (c .before .before .before .before .before .before .before .before .before .if6 .taken) .1) (c .before .bring .ensures)) (c .if7 .left)
 
 loop-less-4 : tie.Need-loop-less-4 Inv-loop μ-loop
 loop-less-4 c =

@@ -38,7 +38,7 @@ returns-2 : tie.Need-returns-2
 returns-2 c =
     let a = c .before .before .before .before .before .before .args in
     let is = sym (ap (λ i. standingKind (getD (a .words .now) i 0)) (c .before .before .slot .ensures .0)) ∙ sym (c .stands .ensures) in
-    (λ q. is ∙ q, λ q z. is ∙ q)
+    (λ q. (c .before .before .before .before .if1 .left, is ∙ q), λ q z. is ∙ q)
 
 pub wanted-spec : {M : Type 1} → statement M
 wanted-spec =

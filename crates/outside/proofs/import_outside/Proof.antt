@@ -52,7 +52,7 @@ loop-less-2 : tie.Need-loop-less-2 Inv-loop μ-loop
 loop-less-2 c = let h = (c .before .before .before .before .before .before .before .loop-test .taken) in omega arith
 
 loop-again-2 : tie.Need-loop-again-2 Inv-loop μ-loop
-loop-again-2 c = let a = (c .before .before .before .before .before .before .before .before .before .args) in let p = (c .before .before .before .before .before .before .before .before .before .pre) in let l = (c .before .before .before .before .before .before .before .before .loop) in let t = (c .before .before .before .refers-to) in pass-next (a .words .now) (a .tags .now) (a .n) (a .offset) (a .at) (a .end) (a .log .now) (a .classes .now) (a .starts .now) (a .maps .now) (a .marks .now) (a .ends) (p .1 .1 .1) (l .log) (l .classes) (l .starts) (l .maps) (l .marks) (l .e) (l .i) (l .inv) (c .before .before .before .before .before .before .before .loop-test .taken) (getD (a .tags .now) (l .i) 0) refl (c .before .before .before .before .before .if1 .taken) (t .result .table) (t .result .number) (t .ensures .0) (t .ensures .1) (l .e) (l .log) (l .classes) (l .starts) (l .maps) (l .marks) (lands-mapped (p .0 .source) (a .offset) (pass-number (a .words .now) (a .tags .now) (a .n) (a .offset) (a .at) (a .end) (a .log .now) (a .classes .now) (a .starts .now) (a .maps .now) (a .marks .now) (a .ends) (p .1 .1 .1) (l .log) (l .classes) (l .starts) (l .maps) (l .marks) (l .e) (l .i) (l .inv) (c .before .before .before .before .before .before .before .loop-test .taken) (getD (a .tags .now) (l .i) 0) refl (c .before .before .before .before .before .if1 .taken) (t .result .table) (t .result .number) (t .ensures .0) (t .ensures .1)) (l .inv .going) (l .inv .kept) (c .before .missing .ensures (c .if2 .left))) (l .inv .going)
+loop-again-2 c = let a = (c .before .before .before .before .before .before .before .before .before .args) in let p = (c .before .before .before .before .before .before .before .before .before .pre) in let l = (c .before .before .before .before .before .before .before .before .loop) in let t = (c .before .before .before .refers-to) in pass-next (a .words .now) (a .tags .now) (a .n) (a .offset) (a .at) (a .end) (a .log .now) (a .classes .now) (a .starts .now) (a .maps .now) (a .marks .now) (a .ends) (p .1 .1 .1) (l .log) (l .classes) (l .starts) (l .maps) (l .marks) (l .e) (l .i) (l .inv) (c .before .before .before .before .before .before .before .loop-test .taken) (getD (a .tags .now) (l .i) 0) refl (c .before .before .before .before .before .if1 .taken) (t .result .table) (t .result .number) (t .ensures .0) (t .ensures .1) (l .e) (l .log) (l .classes) (l .starts) (l .maps) (l .marks) (lands-mapped (p .0 .source) (a .offset) (pass-number (a .words .now) (a .tags .now) (a .n) (a .offset) (a .at) (a .end) (a .log .now) (a .classes .now) (a .starts .now) (a .maps .now) (a .marks .now) (a .ends) (p .1 .1 .1) (l .log) (l .classes) (l .starts) (l .maps) (l .marks) (l .e) (l .i) (l .inv) (c .before .before .before .before .before .before .before .loop-test .taken) (getD (a .tags .now) (l .i) 0) refl (c .before .before .before .before .before .if1 .taken) (t .result .table) (t .result .number) (t .ensures .0) (t .ensures .1)) (l .inv .going) (l .inv .kept) (c .before .missing .ensures .1 (c .if2 .left))) (l .inv .going)
 
 loop-less-3 : tie.Need-loop-less-3 Inv-loop μ-loop
 loop-less-3 c = let h = (c .before .before .loop-test .taken) in omega arith

@@ -16,7 +16,7 @@ returns : tie.Need-returns
 returns c =
     let a = c .before .before .before .args in
     let p = c .before .before .before .pre in
-    lands-mapped (p .0 .source) (a .offset) (p .1 .0) (p .1 .1 .0) (p .1 .1 .1) (c .before .missing .ensures (not-true _ (c .if1 .taken)))
+    lands-mapped (p .0 .source) (a .offset) (p .1 .0) (p .1 .1 .0) (p .1 .1 .1) (c .before .missing .ensures .1 (not-true _ (c .if1 .taken)))
 
 import-by-table-requires : tie.Need-import-by-table-requires
 import-by-table-requires c κs = search needs

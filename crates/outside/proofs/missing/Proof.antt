@@ -1,14 +1,20 @@
--- `missing` meets its contract: a record of a table that is not missing has a number. Assumes nothing.
-use Prim.Native.Nat.{_<_}
+-- `missing` meets its contract: a record of a table is missing exactly if it has no number. Assumes nothing.
+use mathlib.Core.Path.{_≡_}
+use mathlib.Core.Bool.{false, false≢true}
+use Prim.Native.Nat.{ℕ, _<_}
+use lib.Dec.{eqb}
 use native.Mathlib.Omega.{arith}
 use borrow.Author.Needs.{needs}
-use borrow.Author.Tests.{eqb-false}
+use borrow.Author.Tests.{eqb-true, eqb-false}
 use Rattle.state.specs.Held.{cell}
 use Rattle.outside.proofs.missing.Statement.{statement}
 use Rattle.outside.proofs.missing.Tie as tie
 
+some : (v : ℕ) → eqb v 0 ≡ false → 0 < v
+some v q = let ne = eqb-false v 0 q in omega arith
+
 returns : tie.Need-returns
-returns c = search needs
+returns c = (λ q. absurd (false≢true q), λ q l. absurd (omega (arith, c .if1 .taken)))
 
 wide-requires : tie.Need-wide-requires
 wide-requires c κs = search needs
@@ -29,12 +35,11 @@ index-2-result c =
     omega arith
 
 returns-2 : tie.Need-returns-2
-returns-2 c q l =
+returns-2 c =
     let a = c .before .before .before .args in
-    let k = c .before .wide .result in
-    let ne = eqb-false (cell (a .maps .now) (a .t) k) 0 q in
-    let some : 0 < cell (a .maps .now) (a .t) k = omega arith in
-    rw (c .before .wide .ensures .0) at some
+    let k = c .before .wide .ensures .0 in
+    let v = cell (a .maps .now) (a .t) (c .before .wide .result) in
+    (λ q. (omega arith, rw k at (eqb-true v 0 q)), λ q l. rw k at (some v q))
 
 pub missing-spec : {M : Type 1} → statement M
 missing-spec =
