@@ -1,9 +1,9 @@
 #!/usr/bin/env python3
-"""Writes the theorems of the crate computed: the model's link and run of steps on vectors, each computed and compared by refl; and what the crate
-refuted computes.
+"""Writes the theorems of the crate model_vectors: the model's link and run of steps on vectors, each computed and compared by refl; and what the crate
+wuldgisp_refuted computes.
 
-    tools/compute_vectors.py [FOLDER]       writes Links.antt and Sessions.antt for the vectors named below, and Small.antt, to crates/computed/specs, and
-                                            Answers.antt to crates/refuted/specs; or all of them to another folder
+    tools/compute_vectors.py [FOLDER]       writes Links.antt and Sessions.antt for the vectors named below, and Small.antt, to crates/model_vectors/specs, and
+                                            Answers.antt to crates/wuldgisp_refuted/specs; or all of them to another folder
 
 A handful is in the gate, since a vector takes a second or more; others are tried by naming them here."""
 import os
@@ -131,7 +131,7 @@ def small():
 
 def small_sessions(uses, unfolding):
     """A run of steps: the result, the answers, and all that was written."""
-    text = ["use Rattle.words.specs.Words.{bytesOf}", "use Rattle.model.specs.Steps.{Said}", "",
+    text = ["use Rattle.base_words.specs.Words.{bytesOf}", "use Rattle.model.specs.Steps.{Said}", "",
             "-- the places and words of the steps that write",
             "unfoldable pub wrote : List Said → List (ℕ × List ℕ)", "wrote [] = []",
             "wrote (x ∷ xs) = elim (x .written) [ [] ↦ wrote xs | w ∷ ws ↦ (x .at, w ∷ ws) ∷ wrote xs ]", "",
@@ -164,11 +164,11 @@ def answers():
     uses, unfolding = imports(MODEL[: MODEL.index("Redirect") + 1])
     text = ["-- What the definitions behind the exported contracts answer for document 01's marked cases P5, P6 and P8, and for P6 with a name borne twice. Written by tools/compute_vectors.py.",
             "use mathlib.Core.Path.{_≡_, refl}", "use mathlib.Core.List.{List, [], _∷_}", "use Prim.Native.Nat.{ℕ}", "use lib.ListN.{length, getD}",
-            "use Rattle.words.specs.Words.{wordOf, wordsOf, bytesOf}", *uses, "use Rattle.redirect.specs.Passes.{told as redirect-told, imageAfter}",
-            "use Rattle.basic.specs.Images.{told, ofModule, afterIntake, orderImage, packed, written}",
-            "use Rattle.lines.specs.Lines.{decimal, nameText, nameIn, nameOf, numbersText, lineText, linesText, headed, orderedText}",
-            "use Rattle.listing.specs.Telling.{refusing, telling, ofModule as told-ofModule, afterIntake as told-afterIntake, tellingOf}",
-            "use Rattle.layered.specs.Images.{ofModule as redirect-ofModule, afterIntake as redirect-afterIntake, redirectImage, packed as redirect-packed}", ""]
+            "use Rattle.base_words.specs.Words.{wordOf, wordsOf, bytesOf}", *uses, "use Rattle.redirect_words.specs.Passes.{told as redirect-told, imageAfter}",
+            "use Rattle.order_bytes.specs.Images.{told, ofModule, afterIntake, orderImage, packed, written}",
+            "use Rattle.order_lines.specs.Lines.{decimal, nameText, nameIn, nameOf, numbersText, lineText, linesText, headed, orderedText}",
+            "use Rattle.order_text.specs.Telling.{refusing, telling, ofModule as told-ofModule, afterIntake as told-afterIntake, tellingOf}",
+            "use Rattle.redirect_bytes.specs.Images.{ofModule as redirect-ofModule, afterIntake as redirect-afterIntake, redirectImage, packed as redirect-packed}", ""]
     unfolding += " bytesOf redirect-told imageAfter told ofModule afterIntake orderImage packed written redirect-ofModule redirect-afterIntake redirectImage redirect-packed"
     unfolding += " decimal nameText nameIn nameOf numbersText lineText linesText headed orderedText refusing telling told-ofModule told-afterIntake tellingOf"
     p6 = bytes_of("001.img")
@@ -189,17 +189,17 @@ def answers():
 
 
 def main():
-    folder = os.path.abspath(sys.argv[1]) if len(sys.argv) > 1 else "crates/computed/specs"
+    folder = os.path.abspath(sys.argv[1]) if len(sys.argv) > 1 else "crates/model_vectors/specs"
     os.chdir(os.path.dirname(os.path.dirname(os.path.abspath(__file__))))
     uses, unfolding = imports(MODEL)
     head = ["use mathlib.Core.Path.{_≡_, refl}", "use mathlib.Core.List.{List, [], _∷_}", "use Prim.Native.Nat.{ℕ}", "use lib.ListN.{replicate}",
-            "use Rattle.words.specs.Words.{wordOf, wordsOf}", *uses]
+            "use Rattle.base_words.specs.Words.{wordOf, wordsOf}", *uses]
     first = {"Links": "-- Linking computed on vectors: the answer, or the linked image.", "Sessions": "-- Sessions computed on vectors: the answers of all steps, and what was written last.",
              "Small": "-- Sessions of a few steps computed: the answers of all steps, and what was written."}
     for name, body in (("Links", links(uses, unfolding)), ("Sessions", sessions(uses, unfolding)), ("Small", small_sessions(uses, unfolding))):
         with open(f"{folder}/{name}.antt", "w") as out:
             out.write("\n".join([first[name] + " Written by tools/compute_vectors.py.", *head, *body]))
-    with open(f"{folder if len(sys.argv) > 1 else 'crates/refuted/specs'}/Answers.antt", "w") as out:
+    with open(f"{folder if len(sys.argv) > 1 else 'crates/wuldgisp_refuted/specs'}/Answers.antt", "w") as out:
         out.write("\n".join(answers()))
 
 

@@ -23,13 +23,13 @@ fn print_refused(k: u32) -> bool {
 
 fn say(answer: u32) {
     if answer == 0 {
-        streams::write(b"check_image", b"accepted\n");
+        program_streams::write(b"check_image", b"accepted\n");
         return;
     }
     if !print_refused(answer) {
-        streams::unwritten(b"check_image");
+        program_streams::unwritten(b"check_image");
     }
-    streams::refused(b"check_image", answer);
+    program_streams::refused(b"check_image", answer);
 }
 
 // The answer for the first n bytes.
@@ -41,9 +41,9 @@ fn check(bytes: &[u8], n: usize) {
 
 fn main() {
     let mut bytes = buffer();
-    let input = streams::read(&mut bytes);
+    let input = program_streams::read(&mut bytes);
     if input.failed {
-        streams::unread(b"check_image");
+        program_streams::unread(b"check_image");
         return;
     }
     check(&bytes, input.count);

@@ -15,8 +15,8 @@ use Rattle.model.specs.Carry.{Each, each-none, each-next, WellFunction, WellEnt
 use Rattle.model.specs.Initial.{initialised}
 use Rattle.model.specs.Numbers.{Bounds, caps, bound, below, within, ordered, every, outside, inside, sound, soundFunction, soundEntry, constantOnly, numbered}
 use Rattle.model.specs.Names.{field, Few, NumbersFew}
-use Rattle.laws.specs.Lists.{and-split}
-use Rattle.laws.specs.Writing.{flat-right}
+use Rattle.theory_image.specs.Lists.{and-split}
+use Rattle.theory_image.specs.Writing.{flat-right}
 
 within-split : (b : Bounds) (xs ys : Cells) → within b (xs ++ ys) ≡ true → (within b xs ≡ true) × (within b ys ≡ true)
 unfolding within

@@ -5,7 +5,7 @@ use mathlib.Core.List.{List}
 use Prim.Native.Nat.{ℕ}
 use native.Mathlib.Omega.{arith}
 use lib.ListN.{length}
-use Rattle.words.specs.Words.{wordsOf}
+use Rattle.base_words.specs.Words.{wordsOf}
 use Rattle.model.specs.Outcome.{Laid, laid, bad, strange}
 use Rattle.model.specs.Module.{Module, read, sized}
 use Rattle.model.specs.Taped.{Taped, Tape}
@@ -14,12 +14,12 @@ use Rattle.model.specs.Lower.{lower}
 use Rattle.model.specs.Names.{named, Numbered}
 use Rattle.model.specs.Scope.{inScope}
 use Rattle.model.specs.Intake.{tested, verdict, intakeOf, Passes}
-use Rattle.numbers.specs.Passes.{Says}
-use Rattle.scope.specs.Functions.{InRange}
-use Rattle.image.specs.Layout.{Lays, size, misfit, unknown, shows, held, layoutOf}
-use Rattle.image.specs.declared.Layout.{Layout}
-use Rattle.image.specs.declared.Layout.the-variants.{Fits, Size as LaidSize, Misfit as LaidMisfit, Strange}
-use Rattle.image.proofs.Held.{HoldsImage, holds}
+use Rattle.intake_numbers.specs.Passes.{Says}
+use Rattle.intake_scope.specs.Functions.{InRange}
+use Rattle.intake_layout.specs.Layout.{Lays, size, misfit, unknown, shows, held, layoutOf}
+use Rattle.intake_layout.specs.declared.Layout.{Layout}
+use Rattle.intake_layout.specs.declared.Layout.the-variants.{Fits, Size as LaidSize, Misfit as LaidMisfit, Strange}
+use Rattle.intake_layout.proofs.Held.{HoldsImage, holds}
 use Rattle.intake.specs.Taken.{numberOf, Tested, Takes, Answers}
 use Rattle.intake.specs.declared.Taken.{Taken}
 use Rattle.intake.specs.declared.Taken.the-variants.{Accepted, Size, Misfit, Number, Order, Name, Scope}

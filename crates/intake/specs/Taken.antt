@@ -4,7 +4,7 @@ use mathlib.Core.Bool.{true}
 use mathlib.Core.List.{List}
 use Prim.Native.Nat.{ℕ}
 use lib.ListN.{length}
-use Rattle.words.specs.Words.{wordsOf}
+use Rattle.base_words.specs.Words.{wordsOf}
 use Rattle.model.specs.Refusals.{BAD-SIZE, BAD-LAYOUT, BAD-NUMBER, NOT-LOWER, BAD-NAME, OUT-OF-SCOPE}
 use Rattle.model.specs.Outcome.{laid}
 use Rattle.model.specs.Module.{Module, read, sized}

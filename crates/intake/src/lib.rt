@@ -1,5 +1,5 @@
 // Intake: the six tests of document 01 in sequence, on any bytes. Every product begins with it.
-use image::Layout;
+use intake_layout::Layout;
 ghost use mathlib.Core.Path.{_≡_};
 ghost use lib.ListN.{length};
 ghost use Rattle.model.specs.Taped.{Tape};
@@ -21,16 +21,16 @@ fn test(words: &[u32; 16384], tags: &[u8; 16384], n: usize) -> Taken
     requires { ⌜ Tape (now words) (now tags) n ⌝ }
     ensures { λ r. ⌜ Tested r (now (words .entry)) (now (tags .entry)) n ⌝ }
 {
-    if !numbers::numbered(words, tags, n) {
+    if !intake_numbers::numbered(words, tags, n) {
         return Taken::Number;
     }
-    if !lower::lower(words, tags, n) {
+    if !intake_lower::lower(words, tags, n) {
         return Taken::Order;
     }
-    if !names::named(words, tags, n) {
+    if !intake_names::named(words, tags, n) {
         return Taken::Name;
     }
-    if !scope::in_scope(words, tags, n) {
+    if !intake_scope::in_scope(words, tags, n) {
         return Taken::Scope;
     }
     Taken::Accepted(n)
@@ -42,7 +42,7 @@ pub fn take_in(image: &[u8], words: &mut [u32; 16384], tags: &mut [u8; 16384]) -
     requires { ⌜ length (now tags) ≡ 16384 ⌝ }
     ensures { λ r. ⌜ Takes r (now (words .exit)) (now (tags .exit)) (now (image .entry)) ⌝ }
 {
-    let r = image::lay_out(image, words, tags);
+    let r = intake_layout::lay_out(image, words, tags);
     match r {
         Layout::Fits(n) => test(words, tags, n),
         Layout::Size => Taken::Size,
@@ -57,12 +57,12 @@ pub fn number(taken: Taken) -> u32
 {
     match taken {
         Taken::Accepted(_) => 0,
-        Taken::Size => refusals::BAD_SIZE,
-        Taken::Misfit => refusals::BAD_LAYOUT,
-        Taken::Number => refusals::BAD_NUMBER,
-        Taken::Order => refusals::NOT_LOWER,
-        Taken::Name => refusals::BAD_NAME,
-        Taken::Scope => refusals::OUT_OF_SCOPE,
+        Taken::Size => base_refusals::BAD_SIZE,
+        Taken::Misfit => base_refusals::BAD_LAYOUT,
+        Taken::Number => base_refusals::BAD_NUMBER,
+        Taken::Order => base_refusals::NOT_LOWER,
+        Taken::Name => base_refusals::BAD_NAME,
+        Taken::Scope => base_refusals::OUT_OF_SCOPE,
     }
 }
 

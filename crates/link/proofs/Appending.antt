@@ -15,26 +15,26 @@ use Rattle.model.specs.Imports.{St}
 use Rattle.model.specs.Bodies.{append, follow}
 use Rattle.model.specs.Session.{Source as Src, ringing}
 use Rattle.model.specs.Link.{appendAll}
-use Rattle.finishing.specs.Fresh.{source}
-use Rattle.finishing.specs.Ringless.{none-ringing}
-use Rattle.finishing.specs.NamedSession.{NamedBy}
-use Rattle.sessions.specs.Operating.{GoodBy, Good}
-use Rattle.sessions.specs.Holding.{function-next}
-use Rattle.limits.specs.Reached.{Reached, At, function-at}
-use Rattle.nesting.specs.Nested.{appendS, followS, ReadyF, Ready}
-use Rattle.gather.proofs.Whole.{few}
-use Rattle.state.specs.Refers.{tabOf}
-use Rattle.state.specs.Source.{modOf}
-use Rattle.state.specs.Held.{tableOf, stOf, sizeR, Over, Kept}
-use Rattle.state.specs.declared.Ends.{Ends}
-use Rattle.state.proofs.Laws.{none-held}
-use Rattle.state.proofs.State.{tab-long}
-use Rattle.sourcing.proofs.Deriving.{specials-more}
-use Rattle.ground.specs.Fits.{Ground}
-use Rattle.making.specs.Stacks.{Stacks}
-use Rattle.functions.proofs.Sources.{at, ground, functions-are, ready-function, nested-function, append-same}
-use Rattle.localize.specs.Localized.{NestedF, Nests}
-use Rattle.operations.specs.Live.{sessionOf, Live}
+use Rattle.theory_finish.specs.Fresh.{source}
+use Rattle.theory_finish.specs.Ringless.{none-ringing}
+use Rattle.theory_finish.specs.NamedSession.{NamedBy}
+use Rattle.theory_sessions.specs.Operating.{GoodBy, Good}
+use Rattle.theory_sessions.specs.Holding.{function-next}
+use Rattle.derive_limits.specs.Reached.{Reached, At, function-at}
+use Rattle.function_nesting.specs.Nested.{appendS, followS, ReadyF, Ready}
+use Rattle.order_callees.proofs.Whole.{few}
+use Rattle.derive_state.specs.Refers.{tabOf}
+use Rattle.derive_state.specs.Source.{modOf}
+use Rattle.derive_state.specs.Held.{tableOf, stOf, sizeR, Over, Kept}
+use Rattle.derive_state.specs.declared.Ends.{Ends}
+use Rattle.derive_state.proofs.Laws.{none-held}
+use Rattle.derive_state.proofs.State.{tab-long}
+use Rattle.derive_source.proofs.Deriving.{specials-more}
+use Rattle.function_references.specs.Fits.{Ground}
+use Rattle.function_builder.specs.Stacks.{Stacks}
+use Rattle.session_functions.proofs.Sources.{at, ground, functions-are, ready-function, nested-function, append-same}
+use Rattle.function_localize.specs.Localized.{NestedF, Nests}
+use Rattle.session_operations.specs.Live.{sessionOf, Live}
 use Rattle.link.specs.Appends.{Roomy, Sequence, AppendsAll}
 
 -- ---- a session that is reached

@@ -6,33 +6,33 @@ use Prim.Native.Nat.{ℕ, _+_, _*_, _≤_}
 use native.Mathlib.Omega.{arith}
 use lib.ListN.{length, getD, take, length-take, replicate}
 use lib.Seq.{sets}
-use Rattle.words.specs.Words.{bytesOf}
+use Rattle.base_words.specs.Words.{bytesOf}
 use Rattle.model.specs.Module.{Module, countAt, write}
 use Rattle.model.specs.Intake.{Passes}
 use Rattle.model.specs.Imports.{St, fresh, emptied}
 use Rattle.model.specs.Special.{sourced}
 use Rattle.model.specs.Session.{Answer, answered, new, ringing, calleesOf, finishWithEntryPoints}
 use Rattle.model.specs.Link.{appendAll, linkBy, packed}
-use Rattle.finishing.specs.Fresh.{source, with}
-use Rattle.finishing.specs.Linking.{intake-passes}
-use Rattle.finishing.specs.Ringless.{none-ringing}
-use Rattle.limits.specs.Reached.{Reached, At}
-use Rattle.demand.specs.Demand.{Output}
-use Rattle.state.specs.Refers.{kindBytes}
-use Rattle.state.specs.Source.{modOf, Source}
-use Rattle.state.specs.Held.{stOf, Over, Kept, Specials}
-use Rattle.state.specs.declared.Ends.{Ends}
-use Rattle.state.proofs.Laws.{none-held}
-use Rattle.state.proofs.Fresh.{kept-nothing, st-nothing}
-use Rattle.operations.specs.Theorems.{live-new, zeros}
-use Rattle.sourcing.specs.Derives.{Sourced}
-use Rattle.making.specs.Stacks.{Stacks}
-use Rattle.ending.specs.Told.{told, Held, Ended}
-use Rattle.ending.specs.Theorems.{finish-with-told}
-use Rattle.operations.specs.Live.{sessionOf, Live}
-use Rattle.operations.specs.Lent.{Spaces}
-use Rattle.functions.proofs.Sources.{at}
-use Rattle.functions.specs.Brought.{EntersAll}
+use Rattle.theory_finish.specs.Fresh.{source, with}
+use Rattle.theory_finish.specs.Linking.{intake-passes}
+use Rattle.theory_finish.specs.Ringless.{none-ringing}
+use Rattle.derive_limits.specs.Reached.{Reached, At}
+use Rattle.theory_link.specs.Demand.{Output}
+use Rattle.derive_state.specs.Refers.{kindBytes}
+use Rattle.derive_state.specs.Source.{modOf, Source}
+use Rattle.derive_state.specs.Held.{stOf, Over, Kept, Specials}
+use Rattle.derive_state.specs.declared.Ends.{Ends}
+use Rattle.derive_state.proofs.Laws.{none-held}
+use Rattle.derive_state.proofs.Fresh.{kept-nothing, st-nothing}
+use Rattle.session_operations.specs.Theorems.{live-new, zeros}
+use Rattle.derive_source.specs.Derives.{Sourced}
+use Rattle.function_builder.specs.Stacks.{Stacks}
+use Rattle.derive_finish.specs.Told.{told, Held, Ended}
+use Rattle.derive_finish.specs.Theorems.{finish-with-told}
+use Rattle.session_operations.specs.Live.{sessionOf, Live}
+use Rattle.session_operations.specs.Lent.{Spaces}
+use Rattle.session_functions.proofs.Sources.{at}
+use Rattle.session_functions.specs.Brought.{EntersAll}
 use Rattle.link.specs.Appends.{Roomy, Sequence, AppendsAll, Linkable, LinksBy}
 use Rattle.link.proofs.Fresh.{fresh-at, set-fits, imported-roomy, finish-fits, link-output}
 use Rattle.link.proofs.Appending.{never, at-reached}

@@ -20,16 +20,16 @@ use Rattle.model.specs.Special.{sourced}
 use Rattle.model.specs.Bodies.{append, follow, enterAll, entriesMade}
 use Rattle.model.specs.Session.{Session, Answer, answered, refused, new, needing, kept, ringing, setting, set, importFunction, ending, calleesOf, withEntries, finishWithEntryPoints}
 use Rattle.model.specs.Link.{linkBy, inOrder}
-use Rattle.finishing.specs.Fresh.{source, with, Imported, no-more, and-then}
-use Rattle.finishing.specs.Ringless.{none-ringing}
-use Rattle.sessions.specs.Operating.{run}
-use Rattle.limits.specs.Full.{Full}
-use Rattle.limits.specs.Reached.{reached, At, function-at, sourced-at}
-use Rattle.limits.specs.Theorems.{exact-at, exact-end, kept-full, kept-room}
-use Rattle.demand.specs.Demand.{Linking, Output}
-use Rattle.demand.specs.Exactly.{link-is}
-use Rattle.demand.specs.Theorem.{demand3}
-use Rattle.state.specs.Held.{Over}
+use Rattle.theory_finish.specs.Fresh.{source, with, Imported, no-more, and-then}
+use Rattle.theory_finish.specs.Ringless.{none-ringing}
+use Rattle.theory_sessions.specs.Operating.{run}
+use Rattle.derive_limits.specs.Full.{Full}
+use Rattle.derive_limits.specs.Reached.{reached, At, function-at, sourced-at}
+use Rattle.derive_limits.specs.Theorems.{exact-at, exact-end, kept-full, kept-room}
+use Rattle.theory_link.specs.Demand.{Linking, Output}
+use Rattle.theory_link.specs.Exactly.{link-is}
+use Rattle.theory_link.specs.Theorem.{demand3}
+use Rattle.derive_state.specs.Held.{Over}
 use Rattle.link.specs.Appends.{Roomy}
 
 -- ---- a source that is set in a fresh session

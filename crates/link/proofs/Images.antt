@@ -5,7 +5,7 @@ use Prim.Native.Nat.{ℕ, suc, _+_, _*_, _<_, _≤_}
 use native.Mathlib.Omega.{arith}
 use lib.ListN.{length, take}
 use borrow.Author.Tests.{le-ltb}
-use Rattle.words.specs.Words.{wordsOf}
+use Rattle.base_words.specs.Words.{wordsOf}
 use Rattle.model.specs.Outcome.{laid}
 use Rattle.model.specs.Module.{read, write, countAt}
 use Rattle.model.specs.Intake.{intakeOf}
@@ -13,21 +13,21 @@ use Rattle.model.specs.Taped.{Taped, Tape}
 use Rattle.model.specs.Calls.{Order, ordered}
 use Rattle.model.specs.Callees.{orderOf}
 use Rattle.model.specs.Link.{Linked, linked, refused, ringed, inOrder, linkOf, link, linkBy, outputAfter, linkImage, packed}
-use Rattle.laws.specs.FunctionViews.{taped-functions}
-use Rattle.laws.specs.Modules.{sized-read-write}
-use Rattle.calls.specs.Placing.{shown}
-use Rattle.calls.specs.declared.Ordered.{Ordered}
-use Rattle.calls.specs.declared.Ordered.the-variants.{All, Ring}
-use Rattle.gather.specs.Gathering.{Known, Listed}
+use Rattle.theory_image.specs.FunctionViews.{taped-functions}
+use Rattle.theory_image.specs.Modules.{sized-read-write}
+use Rattle.order_ranks.specs.Placing.{shown}
+use Rattle.order_ranks.specs.declared.Ordered.{Ordered}
+use Rattle.order_ranks.specs.declared.Ordered.the-variants.{All, Ring}
+use Rattle.order_callees.specs.Gathering.{Known, Listed}
 use Rattle.intake.specs.Taken.{numberOf, Accepts, Takes}
 use Rattle.intake.specs.declared.Taken.{Taken}
 use Rattle.intake.specs.declared.Taken.the-variants.{Accepted}
 use Rattle.intake.proofs.Refusals.{NotFirst, refused-by}
-use Rattle.import.proofs.Sources.{mod-is, source-of}
-use Rattle.basic.proofs.Images.{list-long, list-asks}
-use Rattle.demand.specs.Demand.{Linking}
-use Rattle.demand.specs.OnBytes.{whole-words, not-taken, too-short}
-use Rattle.state.specs.Source.{modOf}
+use Rattle.derive_types.proofs.Sources.{mod-is, source-of}
+use Rattle.order_bytes.proofs.Images.{list-long, list-asks}
+use Rattle.theory_link.specs.Demand.{Linking}
+use Rattle.theory_link.specs.OnBytes.{whole-words, not-taken, too-short}
+use Rattle.derive_state.specs.Source.{modOf}
 use Rattle.link.specs.Linked.{Links}
 use Rattle.link.specs.Appends.{Linkable, LinksBy}
 

@@ -5,19 +5,19 @@ use mathlib.Core.List.{List, [], _∷_}
 use Prim.Native.Nat.{ℕ, _<_}
 use lib.ListN.{length, take}
 use lib.Seq.{sets}
-use Rattle.words.specs.Words.{bytesOf}
+use Rattle.base_words.specs.Words.{bytesOf}
 use Rattle.model.specs.Module.{Module, countAt, write}
 use Rattle.model.specs.Calls.{ordered}
 use Rattle.model.specs.Callees.{orderOf}
 use Rattle.model.specs.Imports.{St}
 use Rattle.model.specs.Bodies.{append, follow}
 use Rattle.model.specs.Link.{appendAll, linkBy, linked, packed}
-use Rattle.demand.specs.Demand.{Linking}
-use Rattle.state.specs.Source.{modOf, Source}
-use Rattle.state.specs.Held.{stOf, Over}
-use Rattle.state.specs.declared.Ends.{Ends}
-use Rattle.making.specs.Stacks.{Stacks}
-use Rattle.operations.specs.Live.{Live}
+use Rattle.theory_link.specs.Demand.{Linking}
+use Rattle.derive_state.specs.Source.{modOf, Source}
+use Rattle.derive_state.specs.Held.{stOf, Over}
+use Rattle.derive_state.specs.declared.Ends.{Ends}
+use Rattle.function_builder.specs.Stacks.{Stacks}
+use Rattle.session_operations.specs.Live.{Live}
 
 -- these are functions, and the state behind each is not too large
 unfoldable pub Roomy : Module → List ℕ → St → Type 0

@@ -3,9 +3,9 @@ use mathlib.Core.Path.{_≡_}
 use mathlib.Core.List.{List}
 use Prim.Native.Nat.{ℕ, _+_, _*_, _<_, _≤_}
 use lib.ListN.{length, getD, take}
-use Rattle.words.specs.Words.{bytesOf}
-use Rattle.demand.specs.Refuted.{Meets, P5, P6, P8, P11, empty}
-use Rattle.demand.specs.Refuted as Model
+use Rattle.base_words.specs.Words.{bytesOf}
+use Rattle.theory_link.specs.Refuted.{Meets, P5, P6, P8, P11, empty}
+use Rattle.theory_link.specs.Refuted as Model
 use Rattle.link.specs.Linked.{Links}
 
 meets : {r : ℕ} {output₀ output image : List ℕ} → Links r output₀ output image → Meets image output₀ r output

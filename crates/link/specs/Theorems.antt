@@ -8,15 +8,15 @@ use Prim.Native.Nat.{ℕ, zero, suc, _+_, _*_, _<_, _≤_}
 use native.Mathlib.Omega.{arith}
 use lib.Dec.{ltb}
 use lib.ListN.{length}
-use Rattle.words.specs.Words.{AllBelow, wordsOf}
+use Rattle.base_words.specs.Words.{AllBelow, wordsOf}
 use Rattle.model.specs.Outcome.{Laid, laid, bad, strange}
 use Rattle.model.specs.Module.{Module, read}
 use Rattle.model.specs.Intake.{intakeOf}
 use Rattle.model.specs.Calls.{Ring, Reaches, Count, Order, ordered, ring}
 use Rattle.model.specs.Callees.{calls, orderOf}
 use Rattle.model.specs.Link.{Linked, linked, refused, ringed, inOrder, linkOf, link, linkImage, packed}
-use Rattle.demand.specs.OnBytes.{Held, Demand3, demand3-bytes, not-taken, too-short, linked-only}
-use Rattle.demand.specs.Refuted.{intake-low}
+use Rattle.theory_link.specs.OnBytes.{Held, Demand3, demand3-bytes, not-taken, too-short, linked-only}
+use Rattle.theory_link.specs.Refuted.{intake-low}
 use Rattle.link.specs.Linked.{Links}
 
 -- ---- THE STATEMENT

@@ -1,27 +1,27 @@
 // Linking: one module in, one out, callees first. What a fresh session writes that sets the image, imports its functions in output order and finishes with its
 // entry points; nothing is copied on the way, since none of it is refused. `link_in` works in arrays that its caller lends, `link` in its own.
-use calls::Ordered;
-use functions::enter_all;
-use gather::order_of;
+use base_refusals::RING;
+use base_refusals::SHORT_OUTPUT;
+use base_views::FUNCTIONS;
+use base_views::count;
+use base_words::wide;
+use derive_source::source_types;
+use derive_state::Ends;
+use derive_state::kinds;
+use derive_state::nothing;
+use function_localize::append;
 use intake::Taken;
-use localize::append;
-use refusals::RING;
-use refusals::SHORT_OUTPUT;
-use sourcing::source_types;
-use state::Ends;
-use state::kinds;
-use state::nothing;
-use views::FUNCTIONS;
-use views::count;
-use words::wide;
+use order_callees::order_of;
+use order_ranks::Ordered;
+use session_functions::enter_all;
 ghost use mathlib.Core.Bool.{true};
 ghost use mathlib.Core.Path.{_≡_};
 ghost use lib.ListN.{length, take};
-ghost use Rattle.state.specs.Source.{modOf};
-ghost use Rattle.state.specs.Held.{stOf};
-ghost use Rattle.making.specs.Stacks.{Stacks};
-ghost use Rattle.operations.specs.Live.{Live};
-ghost use Rattle.operations.specs.Lent.{Spaces};
+ghost use Rattle.derive_state.specs.Source.{modOf};
+ghost use Rattle.derive_state.specs.Held.{stOf};
+ghost use Rattle.function_builder.specs.Stacks.{Stacks};
+ghost use Rattle.session_operations.specs.Live.{Live};
+ghost use Rattle.session_operations.specs.Lent.{Spaces};
 ghost use Rattle.link.specs.Linked.{Links};
 ghost use Rattle.link.specs.Appends.{Roomy, Sequence, AppendsAll, Linkable, LinksBy};
 
@@ -142,7 +142,7 @@ fn link_by(
         appended,
         0,
     );
-    let got = ending::finish(log, classes, starts, &special, ends, words, output);
+    let got = derive_finish::finish(log, classes, starts, &special, ends, words, output);
     got.refusal as u64 + (got.bytes as u64) * 4294967296
 }
 

@@ -11,11 +11,11 @@ fn buffer() -> [u8; 65537]
 
 // The refusal on standard error; with 12, `left` functions are left by a ring.
 fn complain(refusal: u32, left: u32) {
-    if refusal == refusals::RING {
-        streams::ring(b"link_image", left);
+    if refusal == base_refusals::RING {
+        program_streams::ring(b"link_image", left);
         return;
     }
-    streams::refused(b"link_image", refusal);
+    program_streams::refused(b"link_image", refusal);
 }
 
 // The linked image, or why there is none.
@@ -30,7 +30,7 @@ fn answer(image: &[u8]) {
     }
     let n = count as usize;
     if n <= output.len() {
-        streams::write(b"link_image", &output[..n]);
+        program_streams::write(b"link_image", &output[..n]);
     }
 }
 
@@ -43,9 +43,9 @@ fn run(bytes: &[u8], n: usize) {
 
 fn main() {
     let mut bytes = buffer();
-    let input = streams::read(&mut bytes);
+    let input = program_streams::read(&mut bytes);
     if input.failed {
-        streams::unread(b"link_image");
+        program_streams::unread(b"link_image");
         return;
     }
     run(&bytes, input.count);

@@ -5,7 +5,7 @@ use mathlib.Core.List.{List, [], _∷_, _++_}
 use mathlib.Core.Option.{none, some}
 use Prim.Native.Nat.{ℕ, suc, _*_}
 use lib.ListN.{length, replicate}
-use Rattle.words.specs.Words.{wordOf as wordAt4, wordsOf, bytesOf}
+use Rattle.base_words.specs.Words.{wordOf as wordAt4, wordsOf, bytesOf}
 use Rattle.model.specs.Outcome.{Cells, laid}
 use Rattle.model.specs.Outcome.{_⟫_, eat as Outcome-eat, mapO as Outcome-mapO, exact as Outcome-exact, both as Outcome-both, mapL as Outcome-mapL}
 use Rattle.model.specs.Table.{OPT-TYPE, types as Table-types, expressions as Table-expressions, levels as Table-levels, queries as Table-queries, values as Table-values, atomics as Table-atomics, results as Table-results, statements as Table-statements, nameRow as Table-nameRow, typeRow as Table-typeRow, constantRow as Table-constantRow, overrideRow as Table-overrideRow, globalRow as Table-globalRow, expressionRow as Table-expressionRow, functionHead as Table-functionHead, entryHead as Table-entryHead, counted as Table-counted, limit as Table-limit, variants as Table-variants, repeat as Table-repeat, text as Table-text, variant as Table-variant, more as Table-more, follow as Table-follow, run as Table-run}

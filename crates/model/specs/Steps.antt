@@ -6,7 +6,7 @@ use mathlib.Core.List.{List, [], _∷_, _++_}
 use Prim.Native.Nat.{ℕ, zero, suc, _+_, _*_}
 use lib.ListN.{length, getD, take, drop}
 use lib.Seq.{sets}
-use Rattle.words.specs.Words.{wordsOf, bytesOf}
+use Rattle.base_words.specs.Words.{wordsOf, bytesOf}
 use Rattle.model.specs.Refusals.{NO-RECORD}
 use Rattle.model.specs.Session.{Session, Answer, answered, refused, new, set, clear, mapSpan, importType, importConst, importPipelineOverride, importGlobal, importGlobalExpression, renameType, importFunction, mapFunctionHandle, importFunctionIfNew, hasRequiredSpecialTypes, finish, finishWithEntryPoints}
 

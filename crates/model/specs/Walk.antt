@@ -1,5 +1,5 @@
 -- Walks: a body followed by a finite list of numbers, to the events on the way and the end. The trace of a statement is made in front of the trace of what follows it, so the meaning of a statement takes what follows as an argument (`K`), and nothing is ever put together again.
--- A Loop has fuel, a unit for each round: a round takes a number, so one unit more than there are numbers is enough (`loop-unrolls` of the crate walks removes it).
+-- A Loop has fuel, a unit for each round: a round takes a number, so one unit more than there are numbers is enough (`loop-unrolls` of the crate theory_walks removes it).
 -- Document 01, "A walk follows a body by a finite list of numbers" to "are left out".
 use mathlib.Core.List.{List, [], _∷_}
 use mathlib.Core.Option.{Option, none, some}

@@ -1,5 +1,5 @@
 // Reads an image on standard input and prints the order of its functions, or why it is refused, which standard error is told too, with its sentence.
-// What is printed is `tellingOf` of listing's specs. Input longer than an image may be is refused 1 and not cut: the buffer holds one byte more.
+// What is printed is `tellingOf` of order_text's specs. Input longer than an image may be is refused 1 and not cut: the buffer holds one byte more.
 ghost use mathlib.Core.Path.{_≡_};
 ghost use lib.ListN.{length};
 
@@ -15,17 +15,17 @@ fn complain(refusal: u32, left: u32) {
         return;
     }
     if left == 0 {
-        streams::refused(b"order", refusal);
+        program_streams::refused(b"order", refusal);
         return;
     }
-    streams::ring(b"order", left);
+    program_streams::ring(b"order", left);
 }
 
 // The answer for an image.
 fn answer(image: &[u8]) {
     let mut out = io::large_buffer();
-    let said = listing::tell_of(image, &mut out);
-    streams::write(b"order", &out[..said.count]);
+    let said = order_text::tell_of(image, &mut out);
+    program_streams::write(b"order", &out[..said.count]);
     complain(said.refusal, said.left);
 }
 
@@ -38,9 +38,9 @@ fn check(bytes: &[u8], n: usize) {
 
 fn main() {
     let mut bytes = buffer();
-    let input = streams::read(&mut bytes);
+    let input = program_streams::read(&mut bytes);
     if input.failed {
-        streams::unread(b"order");
+        program_streams::unread(b"order");
         return;
     }
     check(&bytes, input.count);

@@ -1,7 +1,7 @@
 // Reads an image on standard input, redirects calls in it, and writes it to standard output. The arguments are numbers of names: the original's, the
 // replacement's, and those of omitted functions. A refusal, a wrong argument or a failed read is one line on standard error, and nothing is written.
-use layered::Answer;
 use libc::STDERR_FILENO;
+use redirect_bytes::Answer;
 ghost use mathlib.Core.Path.{_≡_};
 ghost use Prim.Native.Nat.{_≤_, _<_};
 ghost use lib.ListN.{length};
@@ -87,12 +87,12 @@ fn wrong(i: usize) {
 // The first n bytes, redirected.
 fn redirect(image: &mut [u8], n: usize, original: u32, replacement: u32, omit: &[u32]) {
     if n <= image.len() {
-        match layered::redirect_function(&mut image[..n], original, replacement, omit) {
+        match redirect_bytes::redirect_function(&mut image[..n], original, replacement, omit) {
             Answer::Done(_, _) => {
-                streams::write(b"redirect_image", &image[..n]);
+                program_streams::write(b"redirect_image", &image[..n]);
             }
             Answer::Refused(k) => {
-                streams::refused(b"redirect_image", k);
+                program_streams::refused(b"redirect_image", k);
             }
         }
     }
@@ -127,9 +127,9 @@ fn run(original: u32, replacement: u32, count: usize)
         return;
     }
     let mut image = buffer();
-    let input = streams::read(&mut image);
+    let input = program_streams::read(&mut image);
     if input.failed {
-        streams::unread(b"redirect_image");
+        program_streams::unread(b"redirect_image");
         return;
     }
     redirect(

@@ -14,21 +14,21 @@ enum Found {
 
 fn head() -> Found {
     let mut bytes = [0u8; 8];
-    let input = streams::read(&mut bytes);
+    let input = program_streams::read(&mut bytes);
     if input.failed {
         return Found::Failed;
     }
     if input.count < 8 {
         return Found::End;
     }
-    let want = words::word_at(&bytes, 0);
-    let n = words::word_at(&bytes, 4) as usize;
+    let want = base_words::word_at(&bytes, 0);
+    let n = base_words::word_at(&bytes, 4) as usize;
     Found::Vector(want, n)
 }
 
 // Reads an image that is as long as the slice, and compares intake's answer.
 fn one(bytes: &mut [u8], want: u32) -> bool {
-    let input = streams::read(bytes);
+    let input = program_streams::read(bytes);
     if input.count < bytes.len() {
         return false;
     }
@@ -88,18 +88,18 @@ fn main() {
                 if agrees(want, n) {
                     good += 1;
                 } else if !differs(all) {
-                    streams::unwritten(b"replay");
+                    program_streams::unwritten(b"replay");
                     return;
                 }
             }
             Found::End => {
                 if !last_line(all, good) {
-                    streams::unwritten(b"replay");
+                    program_streams::unwritten(b"replay");
                 }
                 return;
             }
             Found::Failed => {
-                streams::unread(b"replay");
+                program_streams::unread(b"replay");
                 return;
             }
         }

@@ -5,12 +5,12 @@ use mathlib.Core.List.{List}
 use Prim.Native.Nat.{ℕ, suc, _+_, _*_, _≤_, _<_}
 use native.Mathlib.Omega.{arith}
 use lib.ListN.{length, getD, replicate, set as put}
-use Rattle.state.specs.Refers.{kindBytes}
-use Rattle.state.specs.declared.Ends.{Ends}
-use Rattle.making.specs.Stacks.{Stacks}
-use Rattle.operations.specs.Live.{sessionOf, Live}
-use Rattle.operations.specs.Lent.{Spaces}
-use Rattle.operations.specs.Theorems.{Nothing, unmapped, Empty, starts-new, live-new, zeros}
+use Rattle.derive_state.specs.Refers.{kindBytes}
+use Rattle.derive_state.specs.declared.Ends.{Ends}
+use Rattle.function_builder.specs.Stacks.{Stacks}
+use Rattle.session_operations.specs.Live.{sessionOf, Live}
+use Rattle.session_operations.specs.Lent.{Spaces}
+use Rattle.session_operations.specs.Theorems.{Nothing, unmapped, Empty, starts-new, live-new, zeros}
 use Rattle.session.specs.Sessions.{saying, Stepped, orElse, numbered, Sessions}
 use Rattle.session.proofs.Running.{Left, left-start, left-end, left-next}
 

@@ -11,14 +11,14 @@ use lib.ListN.{length, set, take, drop, length-take, length-drop, length-set, ta
 use lib.Seq.{sets, take-set-le, drop-set-add, set-append-left}
 use borrow.Author.Tests.{ltb-false}
 use borrow.Rule.Slice.PartMut.{midOf, postOf, putMid, put-same}
-use Rattle.words.specs.Words.{bytesOf}
-use Rattle.words.proofs.Laws.{length-bytesOf}
+use Rattle.base_words.specs.Words.{bytesOf}
+use Rattle.base_words.proofs.Laws.{length-bytesOf}
 use Rattle.model.specs.Module.{Module, write}
 use Rattle.model.specs.Finish.{finished, tooLarge}
 use Rattle.model.specs.Session.{Source, Session, Answer, answered, refused, new, needing, ringing, calleesOf, withEntries, ending, finish, finishWithEntryPoints}
 use Rattle.model.specs.Steps.{Said, operations, writes, perform, part}
-use Rattle.ending.specs.Told.{told}
-use Rattle.operations.specs.Live.{Finishes}
+use Rattle.derive_finish.specs.Told.{told}
+use Rattle.session_operations.specs.Live.{Finishes}
 use Rattle.session.specs.Sessions.{saying, Stepped, Wrote}
 
 -- ---- what is cut

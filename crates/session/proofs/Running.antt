@@ -5,7 +5,7 @@ use Prim.Native.Nat.{ℕ, zero, suc, _+_, _-_, _*_, _%_, _≤_, _<_, min}
 use native.Mathlib.Omega.{arith}
 use lib.ListN.{length, getD, set, take, drop, length-take, length-drop, length-set}
 use lib.Seq.{sets, drop-cons, length-sets}
-use Rattle.words.specs.Words.{bytesOf}
+use Rattle.base_words.specs.Words.{bytesOf}
 use Rattle.model.specs.Session.{Session, new}
 use Rattle.model.specs.Steps.{Said, Operation, operations, sets-source, clears-source, maps-span, types, renames, constants, overrides, globals, expressions, functions, new-functions, handles, required, finishes, finishes-entries, unknown, perform, part, run, answersOf, outputOf, firstRefused, session}
 use Rattle.session.specs.Sessions.{saying, Stepped, orElse, numbered, Sessions}

@@ -6,18 +6,18 @@ use mathlib.Core.Option.{none, some}
 use Prim.Native.Nat.{ℕ, zero, suc, _+_, _-_, _*_, _≤_, _<_}
 use native.Mathlib.Omega.{arith}
 use lib.ListN.{length, getD, List·getD-eq-default}
-use Rattle.words.specs.Words.{wordsOf, bytesOf}
+use Rattle.base_words.specs.Words.{wordsOf, bytesOf}
 use Rattle.model.specs.Imports.{emptied}
 use Rattle.model.specs.Tables.{Tab}
 use Rattle.model.specs.References.{spanBy}
 use Rattle.model.specs.Session.{Session, Answer, answered, refused, needing, set, clear, mapSpan, importing, renameType, importFunction, mapFunctionHandle, hasRequiredSpecialTypes}
 use Rattle.model.specs.Steps.{Said, operations, unknown, says, perform, part}
-use Rattle.limits.specs.Reached.{Reached, does-reached, Public}
-use Rattle.sessions.specs.Operating.{does, clears}
-use Rattle.state.specs.Refers.{tabOf}
-use Rattle.state.specs.declared.Ends.{Ends}
-use Rattle.making.specs.Stacks.{Stacks}
-use Rattle.operations.specs.Live.{sessionOf, Live, answerOf, Does, Spans, Requires}
+use Rattle.derive_limits.specs.Reached.{Reached, does-reached, Public}
+use Rattle.theory_sessions.specs.Operating.{does, clears}
+use Rattle.derive_state.specs.Refers.{tabOf}
+use Rattle.derive_state.specs.declared.Ends.{Ends}
+use Rattle.function_builder.specs.Stacks.{Stacks}
+use Rattle.session_operations.specs.Live.{sessionOf, Live, answerOf, Does, Spans, Requires}
 use Rattle.session.specs.Sessions.{saying, Stepped, Quiet, Recorded, valueOf}
 
 -- ---- answers as words

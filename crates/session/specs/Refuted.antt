@@ -1,4 +1,4 @@
--- THE SESSIONS THAT THE CONTRACT SHUTS OUT, on small sources, with any answers and any output that are long enough: whatever kept the promise of `session` and `session_in` (`Sessions`) is none of these. Document 01: "A call to a name not yet known imports that function first"; an Emit "first imports the standing expressions under its range, then the range; the new range is what the second pass appended"; "Derived images number names by first appearance"; "Imports test 20, 13, 22, 21"; "derived module, set source and maps stay"; "undefined stays undefined; otherwise the 32-bit offset is added to start and end modulo 4,294,967,296". What the sessions do is computed in `crates/computed`.
+-- THE SESSIONS THAT THE CONTRACT SHUTS OUT, on small sources, with any answers and any output that are long enough: whatever kept the promise of `session` and `session_in` (`Sessions`) is none of these. Document 01: "A call to a name not yet known imports that function first"; an Emit "first imports the standing expressions under its range, then the range; the new range is what the second pass appended"; "Derived images number names by first appearance"; "Imports test 20, 13, 22, 21"; "derived module, set source and maps stay"; "undefined stays undefined; otherwise the 32-bit offset is added to start and end modulo 4,294,967,296". What the sessions do is computed in `crates/model_vectors`.
 use mathlib.Core.Path.{_≡_, refl, sym, ap, _∙_}
 use mathlib.Core.Bool.{Bool, true, _&&_}
 use mathlib.Core.List.{List, [], _∷_, _++_}
@@ -8,13 +8,13 @@ use lib.ListN.{length, getD, drop, replicate, length-drop}
 use lib.Seq.{sets, length-take-le, take-append-seam, drop-append-seam, getD-take}
 use lib.Dec.{leb}
 use borrow.Author.Tests.{leb-true}
-use Rattle.words.specs.Words.{bytesOf}
-use Rattle.words.proofs.Laws.{length-bytesOf, sets-front}
-use Rattle.laws.specs.Lists.{and-first, and-second}
+use Rattle.base_words.specs.Words.{bytesOf}
+use Rattle.base_words.proofs.Laws.{length-bytesOf, sets-front}
+use Rattle.theory_image.specs.Lists.{and-first, and-second}
 use Rattle.model.specs.Session.{Session, new, finish, finishWithEntryPoints}
 use Rattle.model.specs.Steps.{Operation, sets-source, clears-source, maps-span, types, renames, constants, overrides, globals, expressions, functions, new-functions, handles, required, finishes, finishes-entries, unknown, operations, Said, part, perform, writes, run, answersOf, outputOf, firstRefused, session}
-use Rattle.computed.specs.Small.{wrote, does, p5, p10, p11, nothing, unread, two-sources, p5-called, p10-passed, p11-emitted, unread-dropped, merged, nested-steps, nested-answers, refused-steps, refused-answers, passed-steps, passed-answers, emitted-steps, emitted-answers, dropped-steps, dropped-answers, spans-steps, spans-answers, types-steps, types-answers}
-use Rattle.computed.specs.Small as Small
+use Rattle.model_vectors.specs.Small.{wrote, does, p5, p10, p11, nothing, unread, two-sources, p5-called, p10-passed, p11-emitted, unread-dropped, merged, nested-steps, nested-answers, refused-steps, refused-answers, passed-steps, passed-answers, emitted-steps, emitted-answers, dropped-steps, dropped-answers, spans-steps, spans-answers, types-steps, types-answers}
+use Rattle.model_vectors.specs.Small as Small
 use Rattle.session.specs.Sessions.{Sessions}
 
 -- ---- of the output a run asks only how long its parts are: those that no step reaches behind are alike

@@ -4,7 +4,7 @@ use mathlib.Core.List.{List}
 use Prim.Native.Nat.{ℕ, zero, suc, _+_, _*_, _%_, _^_}
 use lib.ListN.{getD}
 use lib.Seq.{sets}
-use Rattle.words.specs.Words.{bytesOf}
+use Rattle.base_words.specs.Words.{bytesOf}
 use Rattle.model.specs.Session.{Session}
 use Rattle.model.specs.Steps.{Said, operations, unknown, perform, session}
 

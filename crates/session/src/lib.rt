@@ -1,29 +1,29 @@
 // A session as a list of steps: one call is given all sources, all steps and the output, and keeps nothing. A step is four words, an operation and its numbers; its
 // answer is three, the refusal and two values. A refused step changes nothing, and the next one follows. `session_in` works in arrays that its caller lends,
 // `session` in its own.
-use functions::finish_with_entries;
-use functions::import_function;
-use functions::map_function_handle;
-use operations::finish_plain;
-use operations::import;
-use operations::map_span;
-use operations::rename_type;
-use operations::required;
-use operations::set_source_of;
-use refusals::NO_RECORD;
-use state::Ends;
-use state::forget;
-use state::kinds;
-use state::nothing;
-use views::CONSTANTS;
-use views::TYPES;
-use words::wide;
+use base_refusals::NO_RECORD;
+use base_views::CONSTANTS;
+use base_views::TYPES;
+use base_words::wide;
+use derive_state::Ends;
+use derive_state::forget;
+use derive_state::kinds;
+use derive_state::nothing;
+use session_functions::finish_with_entries;
+use session_functions::import_function;
+use session_functions::map_function_handle;
+use session_operations::finish_plain;
+use session_operations::import;
+use session_operations::map_span;
+use session_operations::rename_type;
+use session_operations::required;
+use session_operations::set_source_of;
 ghost use mathlib.Core.Path.{_≡_};
 ghost use Prim.Native.Nat.{ℕ, _≤_, min};
 ghost use lib.ListN.{length, set};
-ghost use Rattle.making.specs.Stacks.{Stacks};
-ghost use Rattle.operations.specs.Live.{sessionOf, Live};
-ghost use Rattle.operations.specs.Lent.{Spaces};
+ghost use Rattle.function_builder.specs.Stacks.{Stacks};
+ghost use Rattle.session_operations.specs.Live.{sessionOf, Live};
+ghost use Rattle.session_operations.specs.Lent.{Spaces};
 ghost use Rattle.session.specs.Sessions.{saying, Stepped, Quiet, Wrote, Recorded, valueOf, orElse, numbered, Sessions};
 
 // The operations by their numbers, as include/wuldgisp.h lists them.
@@ -425,7 +425,7 @@ fn record_step(
     set: bool,
     offset: u32,
     o: Numbers,
-) -> operations::Said
+) -> session_operations::Said
     requires { ⌜ (3 ≤ o .operation) × (o .operation ≡ 12 → ⊥) × (o .operation ≡ 13 → ⊥) × (o .operation ≡ 14 → ⊥) ⌝ }
     requires { ⌜ Live set n offset (now words) (now tags) (now kinds) (now log) (now classes) (now starts) (now maps) (now marks) (now special) ends ⌝ }
     requires { ⌜ Stacks (now stacks) ends ⌝ }
@@ -528,7 +528,7 @@ fn record_step(
             o.a,
         );
     }
-    operations::Said {
+    session_operations::Said {
         refusal: NO_RECORD,
         value: 0,
         ends: ends,

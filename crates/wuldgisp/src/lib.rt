@@ -2,9 +2,9 @@
 ghost use mathlib.Core.Path.{_≡_};
 ghost use lib.ListN.{length};
 ghost use Rattle.intake.specs.Taken.{Answers};
-ghost use Rattle.basic.specs.Images.{Orders};
-ghost use Rattle.layered.specs.Images.{Answers as Redirects};
-ghost use Rattle.operations.specs.Lent.{Spaces};
+ghost use Rattle.order_bytes.specs.Images.{Orders};
+ghost use Rattle.redirect_bytes.specs.Images.{Answers as Redirects};
+ghost use Rattle.session_operations.specs.Lent.{Spaces};
 ghost use Rattle.link.specs.Linked.{Links};
 ghost use Rattle.session.specs.Sessions.{Sessions};
 
@@ -22,7 +22,7 @@ pub extern "C" fn wuldgisp_intake(image: &[u8]) -> u32
 pub extern "C" fn wuldgisp_order(image: &[u8], order: &mut [u32]) -> u64
     ensures { λ r. ⌜ Orders r (now (order .exit)) (now (order .entry)) (now (image .entry)) ⌝ }
 {
-    basic::order(image, order)
+    order_bytes::order(image, order)
 }
 
 // Redirects calls in the image itself. The low half of the answer is the number of the refusal, or 0; the high half is the original's number and 65,536
@@ -36,7 +36,7 @@ pub extern "C" fn wuldgisp_redirect(
 ) -> u64
     ensures { λ r. ⌜ Redirects r (now (image .exit)) (now (image .entry)) original replacement (now (omit .entry)) ⌝ }
 {
-    layered::redirect(image, original, replacement, omit)
+    redirect_bytes::redirect(image, original, replacement, omit)
 }
 
 // Links the image into the output. The low half of the answer is the number of the refusal, or 0; the high half is the count of bytes written, or, with

@@ -71,7 +71,7 @@ fn every_refusal_is_a_rule() {
 
 #[test]
 fn programs_and_library_say_the_same_of_a_refusal() {
-    let streams = page("crates/streams/src/lib.rt");
+    let streams = page("crates/program_streams/src/lib.rt");
     use wuldgisp::Refusal::*;
     for refusal in [
         Size,

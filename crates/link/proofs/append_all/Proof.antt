@@ -5,8 +5,8 @@ use lib.ListN.{take}
 use native.Mathlib.Omega.{arith}
 use borrow.Author.Needs.{needs}
 use Rattle.model.specs.Link.{appendAll}
-use Rattle.state.specs.Source.{modOf}
-use Rattle.state.specs.Held.{stOf}
+use Rattle.derive_state.specs.Source.{modOf}
+use Rattle.derive_state.specs.Held.{stOf}
 use Rattle.link.proofs.Appending.{Turn, few-all, turn-first, turn-asks, turn-next, turn-last}
 use Rattle.link.proofs.append_all.Statement.{statement}
 use Rattle.link.proofs.append_all.Tie as tie

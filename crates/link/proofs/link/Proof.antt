@@ -2,7 +2,7 @@
 use Prim.Native.Nat.{ℕ}
 use lib.ListN.{length-replicate}
 use borrow.Author.Needs.{needs}
-use Rattle.operations.specs.Theorems.{zeros-spaces}
+use Rattle.session_operations.specs.Theorems.{zeros-spaces}
 use Rattle.link.proofs.link.Statement.{statement}
 use Rattle.link.proofs.link.Tie as tie
 

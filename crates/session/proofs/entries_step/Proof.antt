@@ -8,9 +8,9 @@ use Rattle.session.proofs.entries_step.Statement.{statement}
 use Rattle.session.proofs.entries_step.Tie as tie
 use Rattle.session.proofs.entries_step.Reads as reads
 use Rattle.session.proofs.entries_step.Lts as lts
-use Rattle.functions.proofs.finish_with_entries.Reads as finish-with-entries-reads
+use Rattle.session_functions.proofs.finish_with_entries.Reads as finish-with-entries-reads
 use Rattle.session.proofs.least.Reads as least-reads
-use Rattle.words.proofs.wide.Reads as wide-reads
+use Rattle.base_words.proofs.wide.Reads as wide-reads
 
 -- src/lib.rt:193:22
 wide-requires : tie.Need-wide-requires

@@ -1,13 +1,13 @@
 use borrow.Author.Needs.{needs}
 use native.Mathlib.Omega.{arith}
-use Rattle.operations.specs.Live.{sessionOf}
+use Rattle.session_operations.specs.Live.{sessionOf}
 use Rattle.session.proofs.Saying.{clear-stepped, clear-live, span-stepped, required-stepped, stacks-low, by-number, by-first}
 use Rattle.session.proofs.perform.Statement.{statement}
 use Rattle.session.proofs.perform.Tie as tie
 use Rattle.session.proofs.perform.Reads as reads
 use Rattle.session.proofs.perform.Lts as lts
-use Rattle.operations.proofs.map_span.Reads as map-span-reads
-use Rattle.operations.proofs.required.Reads as required-reads
+use Rattle.session_operations.proofs.map_span.Reads as map-span-reads
+use Rattle.session_operations.proofs.required.Reads as required-reads
 use Rattle.session.proofs.entries_step.Reads as entries-step-reads
 use Rattle.session.proofs.plain_step.Reads as plain-step-reads
 use Rattle.session.proofs.record_step.Reads as record-step-reads

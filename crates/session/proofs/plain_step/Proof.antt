@@ -8,9 +8,9 @@ use Rattle.session.proofs.plain_step.Statement.{statement}
 use Rattle.session.proofs.plain_step.Tie as tie
 use Rattle.session.proofs.plain_step.Reads as reads
 use Rattle.session.proofs.plain_step.Lts as lts
-use Rattle.operations.proofs.finish_plain.Reads as finish-plain-reads
+use Rattle.session_operations.proofs.finish_plain.Reads as finish-plain-reads
 use Rattle.session.proofs.least.Reads as least-reads
-use Rattle.words.proofs.wide.Reads as wide-reads
+use Rattle.base_words.proofs.wide.Reads as wide-reads
 
 -- src/lib.rt:138:22
 wide-requires : tie.Need-wide-requires

@@ -7,11 +7,11 @@ use Rattle.session.proofs.record_step.Statement.{statement}
 use Rattle.session.proofs.record_step.Tie as tie
 use Rattle.session.proofs.record_step.Reads as reads
 use Rattle.session.proofs.record_step.Lts as lts
-use Rattle.functions.proofs.import_function.Reads as import-function-reads
-use Rattle.functions.proofs.map_function_handle.Reads as map-function-handle-reads
-use Rattle.operations.proofs.import.Reads as import-reads
-use Rattle.operations.proofs.rename_type.Reads as rename-type-reads
-use Rattle.words.proofs.wide.Reads as wide-reads
+use Rattle.session_functions.proofs.import_function.Reads as import-function-reads
+use Rattle.session_functions.proofs.map_function_handle.Reads as map-function-handle-reads
+use Rattle.session_operations.proofs.import.Reads as import-reads
+use Rattle.session_operations.proofs.rename_type.Reads as rename-type-reads
+use Rattle.base_words.proofs.wide.Reads as wide-reads
 
 -- src/lib.rt:271:9
 import-requires : tie.Need-import-requires

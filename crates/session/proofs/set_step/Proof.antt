@@ -9,9 +9,9 @@ use Rattle.session.proofs.set_step.Statement.{statement}
 use Rattle.session.proofs.set_step.Tie as tie
 use Rattle.session.proofs.set_step.Reads as reads
 use Rattle.session.proofs.set_step.Lts as lts
-use Rattle.operations.proofs.set_source_of.Reads as set-source-of-reads
+use Rattle.session_operations.proofs.set_source_of.Reads as set-source-of-reads
 use Rattle.session.proofs.least.Reads as least-reads
-use Rattle.words.proofs.wide.Reads as wide-reads
+use Rattle.base_words.proofs.wide.Reads as wide-reads
 
 -- src/lib.rt:85:22
 wide-requires : tie.Need-wide-requires

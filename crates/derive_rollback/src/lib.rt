@@ -1,0 +1,359 @@
+// The imports as operations of a session: where the result does not fit, nothing has changed. The starts and the maps that are in use are saved before, and
+// restored where it does not fit. What was written lies behind the log's end, and a mark that was left costs a search at most. What an import answers is
+// the number that the maps have then.
+use base_handles::ConstantHandle;
+use base_handles::ExpressionHandle;
+use base_handles::GlobalHandle;
+use base_handles::OverrideHandle;
+use base_handles::TypeHandle;
+use base_views::count;
+use base_words::wide;
+use derive_state::Ends;
+ghost use mathlib.Core.Path.{_≡_};
+ghost use mathlib.Core.Bool.{true, false};
+ghost use Prim.Native.Nat.{_≤_, _<_};
+ghost use lib.ListN.{length, getD};
+ghost use Rattle.model.specs.Module.{countAt};
+ghost use Rattle.model.specs.Tables.{types, constants, overrides, globals, exprs};
+ghost use Rattle.model.specs.Imports.{importT, renamed};
+ghost use Rattle.derive_state.specs.Refers.{kindBytes};
+ghost use Rattle.derive_state.specs.Source.{srcOf, Source};
+ghost use Rattle.derive_state.specs.Held.{Kept, Whole};
+ghost use Rattle.derive_rollback.specs.Taken.{Prefix, Prefixes, Saved, Restored, Answers};
+
+// The first n words of a row.
+fn save_row(row: &[u32; 512], n: usize, to: &mut [u32; 512])
+    requires { ⌜ (length (now row) ≡ 512) × (length (now to) ≡ 512) × (n ≤ 512) ⌝ }
+    ensures { λ _. ⌜ Prefix n (now (row .entry)) (now (to .entry)) (now (to .exit)) ⌝ }
+{
+    let mut i = 0;
+    while i < n {
+        to[i] = row[i];
+        i += 1;
+    }
+}
+
+// The starts of the records that are there.
+fn save_starts(starts: &[[u32; 512]; 8], ends: Ends, s: &mut [[u32; 512]; 8])
+    requires { ⌜ Prefixes 8 0 (λ t. getD (ends .counts) t 0) (now starts) (now s) ⌝ }
+    ensures { λ _. ⌜ Prefixes 8 8 (λ t. getD (ends .counts) t 0) (now (starts .entry)) (now (s .exit)) ⌝ }
+{
+    let mut i = 0;
+    while i < 8 {
+        let t = i;
+        i += 1;
+        save_row(&starts[t], ends.counts[t] as usize, &mut s[t]);
+    }
+}
+
+// The maps of the numbers that the source has.
+fn save_maps(words: &[u32; 16384], maps: &[[u32; 512]; 6], m: &mut [[u32; 512]; 6])
+    requires { ⌜ Prefixes 6 0 (λ t. countAt t (now words)) (now maps) (now m) ⌝ }
+    ensures { λ _. ⌜ Prefixes 6 6 (λ t. countAt t (now (words .entry))) (now (maps .entry)) (now (m .exit)) ⌝ }
+{
+    let mut i = 0;
+    while i < 6 {
+        let t = i;
+        i += 1;
+        save_row(&maps[t], count(words, t), &mut m[t]);
+    }
+}
+
+// What the starts and maps hold that is in use.
+pub fn save(
+    words: &[u32; 16384],
+    starts: &[[u32; 512]; 8],
+    maps: &[[u32; 512]; 6],
+    ends: Ends,
+    s: &mut [[u32; 512]; 8],
+    m: &mut [[u32; 512]; 6],
+)
+    requires { ⌜ Prefixes 8 0 (λ t. getD (ends .counts) t 0) (now starts) (now s) ⌝ }
+    requires { ⌜ Prefixes 6 0 (λ t. countAt t (now words)) (now maps) (now m) ⌝ }
+    ensures { λ _. ⌜ Saved (now (words .entry)) (now (starts .entry)) (now (maps .entry)) ends (now (s .exit)) (now (m .exit)) ⌝ }
+{
+    save_starts(starts, ends, s);
+    save_maps(words, maps, m);
+}
+
+// Starts and maps as they were saved, where something did not fit.
+pub fn restore(
+    starts: &mut [[u32; 512]; 8],
+    maps: &mut [[u32; 512]; 6],
+    s: &[[u32; 512]; 8],
+    m: &[[u32; 512]; 6],
+    full: bool,
+)
+    ensures { λ _. ⌜ Restored full (now (s .entry)) (now (m .entry)) (now (starts .entry)) (now (maps .entry)) (now (starts .exit)) (now (maps .exit)) ⌝ }
+{
+    if full {
+        *starts = *s;
+        *maps = *m;
+    }
+}
+
+// The derived number that number h of table t is mapped to.
+pub fn handle(maps: &[[u32; 512]; 6], t: usize, h: u32) -> u32
+    requires { ⌜ (t < 6) × (h < 512) ⌝ }
+    ensures { λ r. ⌜ Answers (now (maps .entry)) t h r ⌝ }
+{
+    let v = maps[t][wide(h)];
+    if v == 0 {
+        return 0;
+    }
+    v - 1
+}
+
+// Type h.
+pub fn import_type(
+    words: &[u32; 16384],
+    tags: &[u8; 16384],
+    kinds: &[u8; 256],
+    n: usize,
+    log: &mut [u32; 16384],
+    classes: &mut [u8; 16384],
+    starts: &mut [[u32; 512]; 8],
+    maps: &mut [[u32; 512]; 6],
+    marks: &mut [u16; 16384],
+    ends: Ends,
+    offset: u32,
+    h: TypeHandle,
+) -> Ends
+    requires { ⌜ Source (now words) (now tags) n ⌝ }
+    requires { ⌜ (h .0 < countAt 1 (now words)) × (ends .full ≡ false) ⌝ }
+    requires { ⌜ now kinds ≡ kindBytes ⌝ }
+    requires { ⌜ Kept (now log) (now classes) (now starts) (now maps) (now marks) ends ⌝ }
+    ensures { λ r. ⌜ Whole (now (words .entry)) (importT offset (srcOf (now (words .entry)) n) types (h .0)) (now (log .entry)) (now (classes .entry)) (now (starts .entry)) (now (maps .entry)) ends r (now (log .exit)) (now (classes .exit)) (now (starts .exit)) (now (maps .exit)) (now (marks .exit)) ⌝ }
+{
+    let mut s = [[0u32; 512]; 8];
+    let mut m = [[0u32; 512]; 6];
+    save(words, starts, maps, ends, &mut s, &mut m);
+    let got = derive_types::import_type(
+        words,
+        tags,
+        kinds,
+        n,
+        log,
+        classes,
+        starts,
+        maps,
+        marks,
+        ends,
+        offset,
+        h,
+    );
+    restore(starts, maps, &s, &m, got.full);
+    got
+}
+
+// Type h under the name of that number.
+pub fn rename_type(
+    words: &[u32; 16384],
+    tags: &[u8; 16384],
+    kinds: &[u8; 256],
+    n: usize,
+    log: &mut [u32; 16384],
+    classes: &mut [u8; 16384],
+    starts: &mut [[u32; 512]; 8],
+    maps: &mut [[u32; 512]; 6],
+    marks: &mut [u16; 16384],
+    ends: Ends,
+    offset: u32,
+    h: TypeHandle,
+    name: u32,
+) -> Ends
+    requires { ⌜ Source (now words) (now tags) n ⌝ }
+    requires { ⌜ (h .0 < countAt 1 (now words)) × (name < countAt 0 (now words)) × (ends .full ≡ false) ⌝ }
+    requires { ⌜ now kinds ≡ kindBytes ⌝ }
+    requires { ⌜ Kept (now log) (now classes) (now starts) (now maps) (now marks) ends ⌝ }
+    ensures { λ r. ⌜ Whole (now (words .entry)) (importT offset (renamed (srcOf (now (words .entry)) n) (h .0) name) types (h .0)) (now (log .entry)) (now (classes .entry)) (now (starts .entry)) (now (maps .entry)) ends r (now (log .exit)) (now (classes .exit)) (now (starts .exit)) (now (maps .exit)) (now (marks .exit)) ⌝ }
+{
+    let mut s = [[0u32; 512]; 8];
+    let mut m = [[0u32; 512]; 6];
+    save(words, starts, maps, ends, &mut s, &mut m);
+    let got = derive_types::rename_type(
+        words,
+        tags,
+        kinds,
+        n,
+        log,
+        classes,
+        starts,
+        maps,
+        marks,
+        ends,
+        offset,
+        h,
+        name,
+    );
+    restore(starts, maps, &s, &m, got.full);
+    got
+}
+
+// Constant h.
+pub fn import_const(
+    words: &[u32; 16384],
+    tags: &[u8; 16384],
+    kinds: &[u8; 256],
+    n: usize,
+    log: &mut [u32; 16384],
+    classes: &mut [u8; 16384],
+    starts: &mut [[u32; 512]; 8],
+    maps: &mut [[u32; 512]; 6],
+    marks: &mut [u16; 16384],
+    ends: Ends,
+    offset: u32,
+    h: ConstantHandle,
+) -> Ends
+    requires { ⌜ Source (now words) (now tags) n ⌝ }
+    requires { ⌜ (h .0 < countAt 2 (now words)) × (ends .full ≡ false) ⌝ }
+    requires { ⌜ now kinds ≡ kindBytes ⌝ }
+    requires { ⌜ Kept (now log) (now classes) (now starts) (now maps) (now marks) ends ⌝ }
+    ensures { λ r. ⌜ Whole (now (words .entry)) (importT offset (srcOf (now (words .entry)) n) constants (h .0)) (now (log .entry)) (now (classes .entry)) (now (starts .entry)) (now (maps .entry)) ends r (now (log .exit)) (now (classes .exit)) (now (starts .exit)) (now (maps .exit)) (now (marks .exit)) ⌝ }
+{
+    let mut s = [[0u32; 512]; 8];
+    let mut m = [[0u32; 512]; 6];
+    save(words, starts, maps, ends, &mut s, &mut m);
+    let got = derive_constants::import_const(
+        words,
+        tags,
+        kinds,
+        n,
+        log,
+        classes,
+        starts,
+        maps,
+        marks,
+        ends,
+        offset,
+        h,
+    );
+    restore(starts, maps, &s, &m, got.full);
+    got
+}
+
+// Override h.
+pub fn import_pipeline_override(
+    words: &[u32; 16384],
+    tags: &[u8; 16384],
+    kinds: &[u8; 256],
+    n: usize,
+    log: &mut [u32; 16384],
+    classes: &mut [u8; 16384],
+    starts: &mut [[u32; 512]; 8],
+    maps: &mut [[u32; 512]; 6],
+    marks: &mut [u16; 16384],
+    ends: Ends,
+    offset: u32,
+    h: OverrideHandle,
+) -> Ends
+    requires { ⌜ Source (now words) (now tags) n ⌝ }
+    requires { ⌜ (h .0 < countAt 3 (now words)) × (ends .full ≡ false) ⌝ }
+    requires { ⌜ now kinds ≡ kindBytes ⌝ }
+    requires { ⌜ Kept (now log) (now classes) (now starts) (now maps) (now marks) ends ⌝ }
+    ensures { λ r. ⌜ Whole (now (words .entry)) (importT offset (srcOf (now (words .entry)) n) overrides (h .0)) (now (log .entry)) (now (classes .entry)) (now (starts .entry)) (now (maps .entry)) ends r (now (log .exit)) (now (classes .exit)) (now (starts .exit)) (now (maps .exit)) (now (marks .exit)) ⌝ }
+{
+    let mut s = [[0u32; 512]; 8];
+    let mut m = [[0u32; 512]; 6];
+    save(words, starts, maps, ends, &mut s, &mut m);
+    let got = derive_constants::import_pipeline_override(
+        words,
+        tags,
+        kinds,
+        n,
+        log,
+        classes,
+        starts,
+        maps,
+        marks,
+        ends,
+        offset,
+        h,
+    );
+    restore(starts, maps, &s, &m, got.full);
+    got
+}
+
+// Global h.
+pub fn import_global(
+    words: &[u32; 16384],
+    tags: &[u8; 16384],
+    kinds: &[u8; 256],
+    n: usize,
+    log: &mut [u32; 16384],
+    classes: &mut [u8; 16384],
+    starts: &mut [[u32; 512]; 8],
+    maps: &mut [[u32; 512]; 6],
+    marks: &mut [u16; 16384],
+    ends: Ends,
+    offset: u32,
+    h: GlobalHandle,
+) -> Ends
+    requires { ⌜ Source (now words) (now tags) n ⌝ }
+    requires { ⌜ (h .0 < countAt 4 (now words)) × (ends .full ≡ false) ⌝ }
+    requires { ⌜ now kinds ≡ kindBytes ⌝ }
+    requires { ⌜ Kept (now log) (now classes) (now starts) (now maps) (now marks) ends ⌝ }
+    ensures { λ r. ⌜ Whole (now (words .entry)) (importT offset (srcOf (now (words .entry)) n) globals (h .0)) (now (log .entry)) (now (classes .entry)) (now (starts .entry)) (now (maps .entry)) ends r (now (log .exit)) (now (classes .exit)) (now (starts .exit)) (now (maps .exit)) (now (marks .exit)) ⌝ }
+{
+    let mut s = [[0u32; 512]; 8];
+    let mut m = [[0u32; 512]; 6];
+    save(words, starts, maps, ends, &mut s, &mut m);
+    let got = derive_constants::import_global(
+        words,
+        tags,
+        kinds,
+        n,
+        log,
+        classes,
+        starts,
+        maps,
+        marks,
+        ends,
+        offset,
+        h,
+    );
+    restore(starts, maps, &s, &m, got.full);
+    got
+}
+
+// Global expression h.
+pub fn import_global_expression(
+    words: &[u32; 16384],
+    tags: &[u8; 16384],
+    kinds: &[u8; 256],
+    n: usize,
+    log: &mut [u32; 16384],
+    classes: &mut [u8; 16384],
+    starts: &mut [[u32; 512]; 8],
+    maps: &mut [[u32; 512]; 6],
+    marks: &mut [u16; 16384],
+    ends: Ends,
+    offset: u32,
+    h: ExpressionHandle,
+) -> Ends
+    requires { ⌜ Source (now words) (now tags) n ⌝ }
+    requires { ⌜ (h .0 < countAt 5 (now words)) × (ends .full ≡ false) ⌝ }
+    requires { ⌜ now kinds ≡ kindBytes ⌝ }
+    requires { ⌜ Kept (now log) (now classes) (now starts) (now maps) (now marks) ends ⌝ }
+    ensures { λ r. ⌜ Whole (now (words .entry)) (importT offset (srcOf (now (words .entry)) n) exprs (h .0)) (now (log .entry)) (now (classes .entry)) (now (starts .entry)) (now (maps .entry)) ends r (now (log .exit)) (now (classes .exit)) (now (starts .exit)) (now (maps .exit)) (now (marks .exit)) ⌝ }
+{
+    let mut s = [[0u32; 512]; 8];
+    let mut m = [[0u32; 512]; 6];
+    save(words, starts, maps, ends, &mut s, &mut m);
+    let got = derive_constants::import_global_expression(
+        words,
+        tags,
+        kinds,
+        n,
+        log,
+        classes,
+        starts,
+        maps,
+        marks,
+        ends,
+        offset,
+        h,
+    );
+    restore(starts, maps, &s, &m, got.full);
+    got
+}

@@ -1,0 +1,622 @@
+// A function under way: its derived expressions on a stack, one behind the other, with the place of each; the words of its declarations and its body on
+// another; and where its expressions went. A word is carried through the maps of the tables, through the function's own map, or to the function of its name.
+// An expression is appended, or, where it belongs to an initialiser, merged.
+use base_classes::EXPR;
+use base_classes::EXPR_KIND;
+use base_classes::NAMED;
+use base_classes::SPAN;
+use base_classes::UPTO;
+use base_words::wide;
+use derive_lookup::known;
+use derive_state::Ends;
+use derive_state::FUNCTION;
+use derive_state::NOTHING;
+use derive_state::OPT_OWN;
+use derive_state::OWN;
+use derive_state::kind_of;
+use derive_state::less;
+use derive_state::moved;
+use derive_state::refuse;
+ghost use mathlib.Core.Path.{_≡_};
+ghost use mathlib.Core.Bool.{false};
+ghost use mathlib.Core.List.{List, []};
+ghost use Prim.Native.Nat.{ℕ, _+_, _-_, _≤_, _<_};
+ghost use lib.ListN.{length, drop};
+ghost use lib.Seq.{slice, sets};
+ghost use Rattle.model.specs.References.{target, refOf, through, firstWord, undefinedAt, shift, alikeC, alike, seat as seatOf};
+ghost use Rattle.model.specs.Between.{between};
+ghost use Rattle.model.specs.Bodies.{push as pushE, join};
+ghost use Rattle.theory_records.specs.RecordLaws.{All};
+ghost use Rattle.intake_initialisers.specs.Marks.{finds};
+ghost use Rattle.theory_passes.specs.Light.{still};
+ghost use Rattle.derive_state.specs.Refers.{kindOf, kindBytes};
+ghost use Rattle.derive_state.specs.Source.{modOf};
+ghost use Rattle.derive_state.specs.Held.{row, carriedBy};
+ghost use Rattle.derive_lookup.specs.Bearing.{Bearing};
+ghost use Rattle.function_references.specs.Fits.{FitN, Ground, Legible};
+ghost use Rattle.function_references.specs.Cuts.{nextOf, Rising, exprsOf, Expressions};
+ghost use Rattle.function_builder.specs.Stacks.{wentBy, wentOf, seatsOf, madeOf, Stacks, Under};
+ghost use Rattle.function_builder.specs.Makes.{Lays, Wrote, Hops, Apart, Pushed};
+
+// The rows of the stacks: words and classes of expressions, where each of them starts, and words of declarations, bodies and names.
+pub const WORDS: usize = 0;
+
+pub const CLASSES: usize = 1;
+
+pub const SEATS: usize = 2;
+
+pub const BODY: usize = 3;
+
+pub fn slot(x: u16) -> usize
+    ensures { λ r. ⌜ (r ≡ x) × (r < 65536) ⌝ }
+{
+    x as usize
+}
+
+// A word of the function's own map, and a class, as the stacks have words.
+fn mapped(x: u16) -> u32
+    ensures { λ r. ⌜ r ≡ x ⌝ }
+{
+    x as u32
+}
+
+fn class_word(s: u8) -> u32
+    ensures { λ r. ⌜ r ≡ s ⌝ }
+{
+    s as u32
+}
+
+// Where each expression record starts, from `at` on, and where the last one ends: a record starts with its kind, and behind the last stands the number of
+// named expressions.
+pub fn index(tags: &[u8; 16384], at: usize, end: usize, places: &mut [u16; 1025])
+    requires { ⌜ (length (now tags) ≡ 16384) × (at ≤ end) × (end ≤ 16384) × (length (finds at (slice at end (now tags))) ≤ 1025) ⌝ }
+    ensures { λ _. ⌜ now (places .exit) ≡ sets (now (places .entry)) 0 (finds at (slice at end (now (tags .entry)))) ⌝ }
+{
+    let mut k = 0;
+    let mut i = at;
+    while i < end {
+        let j = i;
+        i += 1;
+        let s = tags[j];
+        if s == NAMED {
+            places[k] = j as u16;
+            return;
+        }
+        if s == EXPR_KIND {
+            places[k] = j as u16;
+            k += 1;
+        }
+    }
+}
+
+// A word through the maps, of a class that names no function.
+pub fn by_maps(kinds: &[u8; 256], maps: &[[u32; 512]; 6], em: &[u16; 1024], s: u8, w: u32) -> u32
+    requires { ⌜ now kinds ≡ kindBytes ⌝ }
+    requires { ⌜ length (now maps) ≡ 6 ⌝ }
+    requires { ⌜ (kindOf (target s) ≡ 7 → ⊥) ⌝ }
+    requires { ⌜ ((ws : List ℕ) × All (FitN ws 1024) (refOf (target s) w [])) ⌝ }
+    ensures { λ r. ⌜ r ≡ through (wentBy (now (maps .entry)) (now (em .entry))) s w ⌝ }
+{
+    let u = kind_of(kinds, s);
+    if u == NOTHING {
+        return w;
+    }
+    if s < EXPR {
+        return derive_state::carried(kinds, maps, s, w);
+    }
+    if u == OWN {
+        return less(mapped(em[wide(w)]));
+    }
+    if u == OPT_OWN {
+        if w == 0 {
+            return 0;
+        }
+        return mapped(em[wide(w - 1)]);
+    }
+    w
+}
+
+// A word through the maps.
+pub fn carried(
+    words: &[u32; 16384],
+    tags: &[u8; 16384],
+    kinds: &[u8; 256],
+    n: usize,
+    log: &[u32; 16384],
+    classes: &[u8; 16384],
+    starts: &[[u32; 512]; 8],
+    maps: &[[u32; 512]; 6],
+    em: &[u16; 1024],
+    ends: Ends,
+    s: u8,
+    w: u32,
+) -> u32
+    requires { ⌜ Ground (now words) (now tags) (now kinds) n ⌝ }
+    requires { ⌜ Bearing (now log) (now classes) (now starts) ends ⌝ }
+    requires { ⌜ length (now maps) ≡ 6 ⌝ }
+    requires { ⌜ All (FitN (now words) 1024) (refOf (target s) w []) ⌝ }
+    ensures { λ r. ⌜ r ≡ through (wentOf (now (words .entry)) n (now (log .entry)) (now (classes .entry)) (now (starts .entry)) (now (maps .entry)) ends (now (em .entry))) s w ⌝ }
+{
+    if kind_of(kinds, s) == FUNCTION {
+        return less(known(words, tags, n, log, classes, starts, maps, ends, wide(w)));
+    }
+    by_maps(kinds, maps, em, s, w)
+}
+
+// Whether the span last met is undefined, once the word w of the class s is read, with the words from i on behind it.
+fn undefined_at(
+    words: &[u32; 16384],
+    tags: &[u8; 16384],
+    kinds: &[u8; 256],
+    n: usize,
+    log: &[u32; 16384],
+    classes: &[u8; 16384],
+    starts: &[[u32; 512]; 8],
+    maps: &[[u32; 512]; 6],
+    em: &[u16; 1024],
+    ends: Ends,
+    s: u8,
+    w: u32,
+    i: usize,
+    end: usize,
+    u: bool,
+) -> bool
+    requires { ⌜ Ground (now words) (now tags) (now kinds) n ⌝ }
+    requires { ⌜ Bearing (now log) (now classes) (now starts) ends ⌝ }
+    requires { ⌜ length (now maps) ≡ 6 ⌝ }
+    requires { ⌜ Legible (now words) (now tags) 1024 i end ⌝ }
+    ensures { λ r. ⌜ r ≡ undefinedAt (target s) w (firstWord (carriedBy (wentOf (now (words .entry)) n (now (log .entry)) (now (classes .entry)) (now (starts .entry)) (now (maps .entry)) ends (now (em .entry))) (now (tags .entry)) (now (words .entry)) i end)) u ⌝ }
+{
+    if s != SPAN {
+        return u;
+    }
+    if w != 0 {
+        return false;
+    }
+    if i < end {
+        return carried(
+            words,
+            tags,
+            kinds,
+            n,
+            log,
+            classes,
+            starts,
+            maps,
+            em,
+            ends,
+            tags[i],
+            words[i],
+        )
+            == 0;
+    }
+    true
+}
+
+// What the source's words from `at` to `end` become, on the top of the stack of expressions.
+pub fn write(
+    words: &[u32; 16384],
+    tags: &[u8; 16384],
+    kinds: &[u8; 256],
+    n: usize,
+    log: &[u32; 16384],
+    classes: &[u8; 16384],
+    starts: &[[u32; 512]; 8],
+    maps: &[[u32; 512]; 6],
+    em: &[u16; 1024],
+    stacks: &mut [[u32; 16384]; 4],
+    ends: Ends,
+    offset: u32,
+    at: usize,
+    end: usize,
+)
+    requires { ⌜ Ground (now words) (now tags) (now kinds) n ⌝ }
+    requires { ⌜ Bearing (now log) (now classes) (now starts) ends ⌝ }
+    requires { ⌜ length (now maps) ≡ 6 ⌝ }
+    requires { ⌜ Legible (now words) (now tags) 1024 at end ⌝ }
+    requires { ⌜ (Stacks (now stacks) ends) × (ends .et + (end - at) ≤ 16384) ⌝ }
+    ensures { λ _. ⌜ Wrote (shift (carriedBy (wentOf (now (words .entry)) n (now (log .entry)) (now (classes .entry)) (now (starts .entry)) (now (maps .entry)) ends (now (em .entry))) (now (tags .entry)) (now (words .entry)) at end) offset false) (ends .et) (now (stacks .entry)) (now (stacks .exit)) ⌝ }
+{
+    let mut i = at;
+    let mut p = ends.et as usize;
+    let mut u = false;
+    while i < end {
+        let j = i;
+        let q = p;
+        i += 1;
+        p += 1;
+        let s = tags[j];
+        let w = carried(
+            words,
+            tags,
+            kinds,
+            n,
+            log,
+            classes,
+            starts,
+            maps,
+            em,
+            ends,
+            s,
+            words[j],
+        );
+        u = undefined_at(
+            words,
+            tags,
+            kinds,
+            n,
+            log,
+            classes,
+            starts,
+            maps,
+            em,
+            ends,
+            s,
+            w,
+            i,
+            end,
+            u,
+        );
+        stacks[WORDS][q] = moved(s, w, offset, u);
+        stacks[CLASSES][q] = class_word(s);
+    }
+}
+
+// Expression e, of k, is appended.
+pub fn append(
+    words: &[u32; 16384],
+    tags: &[u8; 16384],
+    kinds: &[u8; 256],
+    n: usize,
+    places: &[u16; 1025],
+    log: &[u32; 16384],
+    classes: &[u8; 16384],
+    starts: &[[u32; 512]; 8],
+    maps: &[[u32; 512]; 6],
+    em: &mut [u16; 1024],
+    stacks: &mut [[u32; 16384]; 4],
+    ends: Ends,
+    offset: u32,
+    e1: usize,
+    k: usize,
+    e: usize,
+) -> Ends
+    requires { ⌜ Ground (now words) (now tags) (now kinds) n ⌝ }
+    requires { ⌜ Bearing (now log) (now classes) (now starts) ends ⌝ }
+    requires { ⌜ length (now maps) ≡ 6 ⌝ }
+    requires { ⌜ Expressions (now words) (now tags) (now places) k ⌝ }
+    requires { ⌜ (e < k) × (ends .full ≡ false) ⌝ }
+    requires { ⌜ Under k (now em) (now stacks) e1 ends ⌝ }
+    ensures { λ r. ⌜ Lays (now (words .entry)) k (pushE offset (modOf (now (words .entry)) n) still (exprsOf (now (words .entry)) (now (tags .entry)) (now (places .entry)) k) e) (now (log .entry)) (now (classes .entry)) (now (starts .entry)) (now (maps .entry)) (now (em .entry)) (now (stacks .entry)) e1 ends r (now (em .exit)) (now (stacks .exit)) ⌝ }
+{
+    let at = slot(places[e]);
+    let end = slot(places[e + 1]);
+    let et = ends.et as usize;
+    let made = ends.made as usize;
+    if 16384 - et < end - at {
+        return refuse(ends);
+    }
+    write(
+        words,
+        tags,
+        kinds,
+        n,
+        log,
+        classes,
+        starts,
+        maps,
+        em,
+        stacks,
+        ends,
+        offset,
+        at,
+        end,
+    );
+    stacks[SEATS][e1 + made] = et as u32;
+    em[e] = (made + 1) as u16;
+    let c = ends.counts;
+    Ends {
+        full: false,
+        used: ends.used,
+        counts: c,
+        pairs: ends.pairs,
+        et: (et + (end - at)) as u16,
+        bt: ends.bt,
+        made: (made + 1) as u16,
+    }
+}
+
+// Whether a word of the stack is a word, unless both are a span's.
+fn alike_cell(a: u32, x: u32, b: u8, y: u32) -> bool
+    ensures { λ r. ⌜ r ≡ alikeC (a, x) (b, y) ⌝ }
+{
+    if a != b as u32 {
+        return false;
+    }
+    if x == y {
+        return true;
+    }
+    if b == SPAN {
+        return true;
+    }
+    b == UPTO
+}
+
+// The first of the source's words that does not become what the expression on the stack from a to b, which is as long, has in its place, spans apart; or `end`.
+fn apart(
+    words: &[u32; 16384],
+    tags: &[u8; 16384],
+    kinds: &[u8; 256],
+    n: usize,
+    log: &[u32; 16384],
+    classes: &[u8; 16384],
+    starts: &[[u32; 512]; 8],
+    maps: &[[u32; 512]; 6],
+    em: &[u16; 1024],
+    stacks: &[[u32; 16384]; 4],
+    ends: Ends,
+    at: usize,
+    end: usize,
+    a: usize,
+    b: usize,
+) -> usize
+    requires { ⌜ Ground (now words) (now tags) (now kinds) n ⌝ }
+    requires { ⌜ Bearing (now log) (now classes) (now starts) ends ⌝ }
+    requires { ⌜ length (now maps) ≡ 6 ⌝ }
+    requires { ⌜ Legible (now words) (now tags) 1024 at end ⌝ }
+    requires { ⌜ (Stacks (now stacks) ends) × (a ≤ b) × (b ≤ 16384) × (b - a ≡ end - at) ⌝ }
+    ensures { λ r. ⌜ Apart at end (alike (between (row (now (stacks .entry)) 1) (row (now (stacks .entry)) 0) a b) (carriedBy (wentOf (now (words .entry)) n (now (log .entry)) (now (classes .entry)) (now (starts .entry)) (now (maps .entry)) ends (now (em .entry))) (now (tags .entry)) (now (words .entry)) at end)) r ⌝ }
+{
+    let mut i = at;
+    let mut p = a;
+    while i < end {
+        let j = i;
+        let q = p;
+        i += 1;
+        p += 1;
+        let s = tags[j];
+        let y = carried(
+            words,
+            tags,
+            kinds,
+            n,
+            log,
+            classes,
+            starts,
+            maps,
+            em,
+            ends,
+            s,
+            words[j],
+        );
+        if !alike_cell(stacks[CLASSES][q], stacks[WORDS][q], s, y) {
+            return j;
+        }
+    }
+    end
+}
+
+// Where expression k of those on the stack ends.
+fn next(stacks: &[[u32; 16384]; 4], ends: Ends, e1: usize, k: usize) -> usize
+    requires { ⌜ (Stacks (now stacks) ends) × (k < ends .made) × (e1 + ends .made ≤ 16384) ⌝ }
+    ensures { λ r. ⌜ r ≡ nextOf (drop (k + 1) (seatsOf (now (stacks .entry)) e1 ends)) (ends .et) ⌝ }
+{
+    if k + 1 < ends.made as usize {
+        return wide(stacks[SEATS][e1 + k + 1]);
+    }
+    ends.et as usize
+}
+
+// The first expression, from k on, that has the word y in place i; k where y is a word of a span, by its class s.
+fn hop(
+    stacks: &[[u32; 16384]; 4],
+    e1: usize,
+    made: usize,
+    i: usize,
+    s: u8,
+    y: u32,
+    k: usize,
+) -> usize
+    requires { ⌜ (e1 + made ≤ 16384) × (i ≤ 16384) × (k ≤ made) ⌝ }
+    ensures { λ r. ⌜ Hops (now (stacks .entry)) e1 made i s y k r ⌝ }
+{
+    if s == SPAN {
+        return k;
+    }
+    if s == UPTO {
+        return k;
+    }
+    let mut j = k;
+    while j < made {
+        let h = j;
+        j += 1;
+        let q = wide(stacks[SEATS][e1 + h]) + i;
+        if q < 16384 {
+            if stacks[WORDS][q] == y {
+                return h;
+            }
+        }
+    }
+    made
+}
+
+// The first expression that is, spans apart, what the source's words become; or how many there are. Most are told from it by one word: the last, or the one by
+// which another was told from it.
+fn seat(
+    words: &[u32; 16384],
+    tags: &[u8; 16384],
+    kinds: &[u8; 256],
+    n: usize,
+    log: &[u32; 16384],
+    classes: &[u8; 16384],
+    starts: &[[u32; 512]; 8],
+    maps: &[[u32; 512]; 6],
+    em: &[u16; 1024],
+    stacks: &[[u32; 16384]; 4],
+    ends: Ends,
+    e1: usize,
+    at: usize,
+    end: usize,
+) -> usize
+    requires { ⌜ Ground (now words) (now tags) (now kinds) n ⌝ }
+    requires { ⌜ Bearing (now log) (now classes) (now starts) ends ⌝ }
+    requires { ⌜ length (now maps) ≡ 6 ⌝ }
+    requires { ⌜ Legible (now words) (now tags) 1024 at end ⌝ }
+    requires { ⌜ (Stacks (now stacks) ends) × (Rising (seatsOf (now stacks) e1 ends) e1 (ends .et)) × (length (seatsOf (now stacks) e1 ends) ≡ ends .made) × (at < end) ⌝ }
+    ensures { λ r. ⌜ r ≡ seatOf (madeOf (now (stacks .entry)) e1 ends) (carriedBy (wentOf (now (words .entry)) n (now (log .entry)) (now (classes .entry)) (now (starts .entry)) (now (maps .entry)) ends (now (em .entry))) (now (tags .entry)) (now (words .entry)) at end) ⌝ }
+{
+    let made = ends.made as usize;
+    let mut p = end - 1;
+    let mut y = carried(
+        words,
+        tags,
+        kinds,
+        n,
+        log,
+        classes,
+        starts,
+        maps,
+        em,
+        ends,
+        tags[p],
+        words[p],
+    );
+    let mut k = 0;
+    while k < made {
+        let j = hop(stacks, e1, made, p - at, tags[p], y, k);
+        if j == made {
+            return made;
+        }
+        k = j + 1;
+        let a = wide(stacks[SEATS][e1 + j]);
+        let b = next(stacks, ends, e1, j);
+        if b - a == end - at {
+            p = apart(
+                words,
+                tags,
+                kinds,
+                n,
+                log,
+                classes,
+                starts,
+                maps,
+                em,
+                stacks,
+                ends,
+                at,
+                end,
+                a,
+                b,
+            );
+            if p == end {
+                return j;
+            }
+            y = carried(
+                words,
+                tags,
+                kinds,
+                n,
+                log,
+                classes,
+                starts,
+                maps,
+                em,
+                ends,
+                tags[p],
+                words[p],
+            );
+        }
+    }
+    made
+}
+
+// Expression e is the equal one, or appended.
+pub fn merge(
+    words: &[u32; 16384],
+    tags: &[u8; 16384],
+    kinds: &[u8; 256],
+    n: usize,
+    places: &[u16; 1025],
+    log: &[u32; 16384],
+    classes: &[u8; 16384],
+    starts: &[[u32; 512]; 8],
+    maps: &[[u32; 512]; 6],
+    em: &mut [u16; 1024],
+    stacks: &mut [[u32; 16384]; 4],
+    ends: Ends,
+    offset: u32,
+    e1: usize,
+    k: usize,
+    e: usize,
+) -> Ends
+    requires { ⌜ Ground (now words) (now tags) (now kinds) n ⌝ }
+    requires { ⌜ Bearing (now log) (now classes) (now starts) ends ⌝ }
+    requires { ⌜ length (now maps) ≡ 6 ⌝ }
+    requires { ⌜ Expressions (now words) (now tags) (now places) k ⌝ }
+    requires { ⌜ (e < k) × (ends .full ≡ false) ⌝ }
+    requires { ⌜ Under k (now em) (now stacks) e1 ends ⌝ }
+    ensures { λ r. ⌜ Lays (now (words .entry)) k (join offset (modOf (now (words .entry)) n) still (exprsOf (now (words .entry)) (now (tags .entry)) (now (places .entry)) k) e) (now (log .entry)) (now (classes .entry)) (now (starts .entry)) (now (maps .entry)) (now (em .entry)) (now (stacks .entry)) e1 ends r (now (em .exit)) (now (stacks .exit)) ⌝ }
+{
+    let at = slot(places[e]);
+    let end = slot(places[e + 1]);
+    let j = seat(
+        words,
+        tags,
+        kinds,
+        n,
+        log,
+        classes,
+        starts,
+        maps,
+        em,
+        stacks,
+        ends,
+        e1,
+        at,
+        end,
+    );
+    if j < ends.made as usize {
+        em[e] = (j + 1) as u16;
+        return ends;
+    }
+    append(
+        words,
+        tags,
+        kinds,
+        n,
+        places,
+        log,
+        classes,
+        starts,
+        maps,
+        em,
+        stacks,
+        ends,
+        offset,
+        e1,
+        k,
+        e,
+    )
+}
+
+// One word more of declarations, body or names.
+pub fn push(stacks: &mut [[u32; 16384]; 4], ends: Ends, w: u32) -> Ends
+    requires { ⌜ Stacks (now stacks) ends ⌝ }
+    ensures { λ r. ⌜ Pushed w (now (stacks .entry)) ends r (now (stacks .exit)) ⌝ }
+{
+    let bt = ends.bt as usize;
+    if bt == 16384 {
+        return refuse(ends);
+    }
+    stacks[BODY][bt] = w;
+    let c = ends.counts;
+    Ends {
+        full: false,
+        used: ends.used,
+        counts: c,
+        pairs: ends.pairs,
+        et: ends.et,
+        bt: (bt + 1) as u16,
+        made: ends.made,
+    }
+}

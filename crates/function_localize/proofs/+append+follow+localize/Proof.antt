@@ -1,0 +1,1948 @@
+-- The cycle of calls: localize follows a callee with the same room, follow appends it with less, append localizes with the same. Assumes nothing.
+use mathlib.Core.Path.{refl, sym, ap, _∙_}
+use mathlib.Core.Bool.{false≢true}
+use mathlib.Core.Logic.{⊎-elim}
+use Prim.Native.Nat.{_+_, _*_, _-_}
+use native.Mathlib.Omega.{arith}
+use borrow.Author.Needs.{needs}
+use Rattle.derive_lookup.proofs.Bears.{bearing}
+use Rattle.derive_types.proofs.Sources.{tape}
+use Rattle.function_parts.specs.Exprs.{expressions}
+use Rattle.function_parts.specs.Part.{k-few}
+use Rattle.function_passes.proofs.Running.{made-small}
+use Rattle.function_passes.proofs.Calm.{legible-all}
+use Rattle.function_localize.proofs.Calms.{going-run}
+use Rattle.function_localize.proofs.Starts.{declares}
+use Rattle.function_localize.proofs.Locals.{Onward, runs-at, runs-from, going-at, exprs-in, index-in, count-in, reading, named-in, begun-kept, begun-under, declare-none, going-start, word-in, word-fits, word-bodied, callee-low, callee-ready, callee-full, callee-runs, other-runs, going-full, going-next, keep-in, keep-long, keep-exprs, keep-low, names-full, names-in, names-words, names-good, names-whole}
+use Rattle.function_localize.proofs.Follows.{follow-none, follow-old, follow-ready, follow-append}
+use Rattle.function_localize.proofs.Appending.{append-part, append-nested, append-standing, close-order, close-few, close-stacks, close-names, close-classes, close-room, append-done, append-none}
+use Prim.Native.Nat.{ℕ, _<_}
+use borrow.Fn.Kinds.{In}
+use borrow.Fn.PlainCycle.{Measures, is, falls, and}
+use Rattle.function_localize.proofs.append.Reads as append
+use Rattle.function_localize.proofs.append.Kinds as append-kinds
+use Rattle.function_localize.proofs.+append+follow+localize.Lts-append as append-lts
+use Rattle.function_localize.proofs.follow.Reads as follow
+use Rattle.function_localize.proofs.follow.Kinds as follow-kinds
+use Rattle.function_localize.proofs.+append+follow+localize.Lts-follow as follow-lts
+use Rattle.function_localize.proofs.localize.Reads as localize
+use Rattle.function_localize.proofs.localize.Kinds as localize-kinds
+use Rattle.function_localize.proofs.+append+follow+localize.Lts-localize as localize-lts
+use Rattle.function_record.proofs.close.Reads as close-reads
+use Rattle.function_record.proofs.import_names.Reads as import-names-reads
+use Rattle.function_record.proofs.keep_names.Reads as keep-names-reads
+use Rattle.derive_lookup.proofs.known.Reads as known-reads
+use Rattle.function_localize.proofs.begin.Reads as begin-reads
+use Rattle.function_localize.proofs.find.Reads as find-reads
+use Rattle.function_builder.proofs.slot.Reads as slot-reads
+use Rattle.function_passes.proofs.declare.Reads as declare-reads
+use Rattle.function_passes.proofs.flag.Reads as flag-reads
+use Rattle.function_passes.proofs.longer.Reads as longer-reads
+use Rattle.function_passes.proofs.pass.Reads as pass-reads
+use Rattle.function_passes.proofs.put_word.Reads as put-word-reads
+use Rattle.function_passes.proofs.run.Reads as run-reads
+use Rattle.base_views.proofs.body_at.Reads as body-at-reads
+use Rattle.base_views.proofs.expressions_at.Reads as expressions-at-reads
+use Rattle.base_views.proofs.record_at.Reads as record-at-reads
+use Rattle.base_views.proofs.record_end.Reads as record-end-reads
+use Rattle.base_words.proofs.wide.Reads as wide-reads
+use Rattle.function_localize.proofs.+append+follow+localize.{statement}
+use Rattle.function_localize.proofs.+append+follow+localize.Tie.{close}
+
+abbrev μ-append : Measures 10 append-kinds.ps ℕ
+μ-append κs a = 3 * (a .1 .1 .1 .1 .1 .1 .1 .1 .1 .1 .1 .1 .1 .1 .0) + 2
+
+abbrev μ-follow : Measures 10 follow-kinds.ps ℕ
+μ-follow κs a = 3 * (a .1 .1 .1 .1 .1 .1 .1 .1 .1 .1 .1 .1 .1 .1 .0)
+
+abbrev μ-localize : Measures 10 localize-kinds.ps ℕ
+μ-localize κs a = 3 * (a .1 .1 .1 .1 .1 .1 .1 .1 .1 .1 .1 .1 .1 .1 .1 .0) + 1
+
+abbrev append-at : ℕ → In 10 append-kinds.ps
+append-at t = and 10 append-kinds.ps (is 10 append-kinds.ps μ-append t) append.Pre
+
+abbrev append-below : ℕ → In 10 append-kinds.ps
+append-below t = and 10 append-kinds.ps (falls 10 append-kinds.ps _<_ μ-append t) append.Pre
+
+abbrev follow-at : ℕ → In 10 follow-kinds.ps
+follow-at t = and 10 follow-kinds.ps (is 10 follow-kinds.ps μ-follow t) follow.Pre
+
+abbrev follow-below : ℕ → In 10 follow-kinds.ps
+follow-below t = and 10 follow-kinds.ps (falls 10 follow-kinds.ps _<_ μ-follow t) follow.Pre
+
+abbrev localize-at : ℕ → In 10 localize-kinds.ps
+localize-at t = and 10 localize-kinds.ps (is 10 localize-kinds.ps μ-localize t) localize.Pre
+
+abbrev localize-below : ℕ → In 10 localize-kinds.ps
+localize-below t =
+    and 10 localize-kinds.ps (falls 10 localize-kinds.ps _<_ μ-localize t) localize.Pre
+
+-- src/lib.rt:263:9
+append-record-at-requires : (t : ℕ) → append-lts.Need-record-at-requires (
+  record-at-reads.Asked,
+  record-at-reads.Learnt,
+  record-end-reads.Asked,
+  record-end-reads.Learnt,
+  localize-below t,
+  localize.Post,
+  expressions-at-reads.Asked,
+  expressions-at-reads.Learnt,
+  body-at-reads.Asked,
+  body-at-reads.Learnt,
+  close-reads.Asked,
+  close-reads.Learnt,
+) (append-at t) append.Post
+append-record-at-requires t c κs = let a = c .args in let p = c .pre .1 in (tape (a .words .now) (a .tags .now) (a .n) (p .0 .source), (omega arith, p .1 .0))
+
+-- src/lib.rt:264:9
+append-record-end-requires : (t : ℕ) → append-lts.Need-record-end-requires (
+  record-at-reads.Asked,
+  record-at-reads.Learnt,
+  record-end-reads.Asked,
+  record-end-reads.Learnt,
+  localize-below t,
+  localize.Post,
+  expressions-at-reads.Asked,
+  expressions-at-reads.Learnt,
+  body-at-reads.Asked,
+  body-at-reads.Learnt,
+  close-reads.Asked,
+  close-reads.Learnt,
+) (append-at t) append.Post
+append-record-end-requires t c κs = let a = c .before .args in let p = c .before .pre .1 in (tape (a .words .now) (a .tags .now) (a .n) (p .0 .source), (omega arith, p .1 .0))
+
+-- src/lib.rt:265:9
+append-localize-requires : (t : ℕ) → append-lts.Need-localize-requires (
+  record-at-reads.Asked,
+  record-at-reads.Learnt,
+  record-end-reads.Asked,
+  record-end-reads.Learnt,
+  localize-below t,
+  localize.Post,
+  expressions-at-reads.Asked,
+  expressions-at-reads.Learnt,
+  body-at-reads.Asked,
+  body-at-reads.Learnt,
+  close-reads.Asked,
+  close-reads.Learnt,
+) (append-at t) append.Post
+append-localize-requires t c κs = let a = c .before .before .before .before .before .before .before .before .before .args in let p = c .before .before .before .before .before .before .before .before .before .pre .1 in let q = c .before .before .before .before .before .before .before .before .before .pre .0 in (omega arith, (p .0, (append-part (p .0) (p .1 .0) (c .before .before .before .before .before .before .before .before .record-at .ensures) (c .before .before .before .before .before .before .before .record-end .ensures) (p .1 .1 .0 .scopes), (append-nested (p .0) (p .1 .0) (c .before .before .before .before .before .before .before .before .record-at .ensures) (c .before .before .before .before .before .before .before .record-end .ensures) (p .1 .1 .0 .scopes) (p .1 .1 .0), (p .1 .1 .1 .0, (p .1 .1 .1 .1))))))
+
+-- src/lib.rt:284:9
+append-returns : (t : ℕ) → append-lts.Need-returns (
+  record-at-reads.Asked,
+  record-at-reads.Learnt,
+  record-end-reads.Asked,
+  record-end-reads.Learnt,
+  localize-below t,
+  localize.Post,
+  expressions-at-reads.Asked,
+  expressions-at-reads.Learnt,
+  body-at-reads.Asked,
+  body-at-reads.Learnt,
+  close-reads.Asked,
+  close-reads.Learnt,
+) (append-at t) append.Post
+append-returns t c = let a = c .before .before .before .before .before .before .before .before .before .before .before .args in let p = c .before .before .before .before .before .before .before .before .before .before .before .pre .1 in append-none (p .0) (p .1 .0) (c .before .before .before .before .before .before .before .before .before .before .record-at .ensures) (c .before .before .before .before .before .before .before .before .before .record-end .ensures) (p .1 .1 .0 .scopes) (a .room) (c .before .localize .ensures) (c .if1 .taken)
+
+-- src/lib.rt:286:9
+append-expressions-at-requires : (t : ℕ) → append-lts.Need-expressions-at-requires (
+  record-at-reads.Asked,
+  record-at-reads.Learnt,
+  record-end-reads.Asked,
+  record-end-reads.Learnt,
+  localize-below t,
+  localize.Post,
+  expressions-at-reads.Asked,
+  expressions-at-reads.Learnt,
+  body-at-reads.Asked,
+  body-at-reads.Learnt,
+  close-reads.Asked,
+  close-reads.Learnt,
+) (append-at t) append.Post
+append-expressions-at-requires t c κs = let a = c .before .before .before .before .before .before .before .before .before .before .before .args in let p = c .before .before .before .before .before .before .before .before .before .before .before .pre .1 in exprs-in (append-part (p .0) (p .1 .0) (c .before .before .before .before .before .before .before .before .before .before .record-at .ensures) (c .before .before .before .before .before .before .before .before .before .record-end .ensures) (p .1 .1 .0 .scopes))
+
+-- src/lib.rt:287:9
+append-body-at-requires : (t : ℕ) → append-lts.Need-body-at-requires (
+  record-at-reads.Asked,
+  record-at-reads.Learnt,
+  record-end-reads.Asked,
+  record-end-reads.Learnt,
+  localize-below t,
+  localize.Post,
+  expressions-at-reads.Asked,
+  expressions-at-reads.Learnt,
+  body-at-reads.Asked,
+  body-at-reads.Learnt,
+  close-reads.Asked,
+  close-reads.Learnt,
+) (append-at t) append.Post
+append-body-at-requires t c κs = let a = c .before .before .before .before .before .before .before .before .before .before .before .before .args in let p = c .before .before .before .before .before .before .before .before .before .before .before .before .pre .1 in append-standing (p .0) (p .1 .0) (c .before .before .before .before .before .before .before .before .before .before .before .record-at .ensures) (c .before .before .before .before .before .before .before .before .before .before .record-end .ensures) (p .1 .1 .0 .scopes)
+
+-- src/lib.rt:288:5
+append-close-requires : (t : ℕ) → append-lts.Need-close-requires (
+  record-at-reads.Asked,
+  record-at-reads.Learnt,
+  record-end-reads.Asked,
+  record-end-reads.Learnt,
+  localize-below t,
+  localize.Post,
+  expressions-at-reads.Asked,
+  expressions-at-reads.Learnt,
+  body-at-reads.Asked,
+  body-at-reads.Learnt,
+  close-reads.Asked,
+  close-reads.Learnt,
+) (append-at t) append.Post
+append-close-requires t c κs = let a = c .before .before .before .before .before .before .before .before .before .before .before .before .before .before .before .before .before .args in let p = c .before .before .before .before .before .before .before .before .before .before .before .before .before .before .before .before .before .pre .1 in (close-order (p .0) (p .1 .0) (c .before .before .before .before .before .before .before .before .before .before .before .before .before .before .before .before .record-at .ensures) (c .before .before .before .before .before .before .before .before .before .before .before .before .before .before .before .record-end .ensures) (p .1 .1 .0 .scopes) (c .before .before .before .before .before .expressions-at .ensures .0) (c .before .before .before .before .body-at .ensures) (a .room) (p .1 .1 .1 .1) (c .before .before .before .before .before .before .before .localize .ensures) (c .before .before .before .before .before .before .if1 .left), (close-few (p .0) (p .1 .0) (c .before .before .before .before .before .before .before .before .before .before .before .before .before .before .before .before .record-at .ensures) (c .before .before .before .before .before .before .before .before .before .before .before .before .before .before .before .record-end .ensures) (p .1 .1 .0 .scopes) (c .before .before .before .before .before .expressions-at .ensures .0) (c .before .before .before .before .body-at .ensures) (a .room) (p .1 .1 .1 .1) (c .before .before .before .before .before .before .before .localize .ensures) (c .before .before .before .before .before .before .if1 .left), (close-stacks (p .0) (p .1 .0) (c .before .before .before .before .before .before .before .before .before .before .before .before .before .before .before .before .record-at .ensures) (c .before .before .before .before .before .before .before .before .before .before .before .before .before .before .before .record-end .ensures) (p .1 .1 .0 .scopes) (c .before .before .before .before .before .expressions-at .ensures .0) (c .before .before .before .before .body-at .ensures) (a .room) (p .1 .1 .1 .1) (c .before .before .before .before .before .before .before .localize .ensures) (c .before .before .before .before .before .before .if1 .left), (close-names (p .0) (p .1 .0) (c .before .before .before .before .before .before .before .before .before .before .before .before .before .before .before .before .record-at .ensures) (c .before .before .before .before .before .before .before .before .before .before .before .before .before .before .before .record-end .ensures) (p .1 .1 .0 .scopes) (c .before .before .before .before .before .expressions-at .ensures .0) (c .before .before .before .before .body-at .ensures) (a .room) (p .1 .1 .1 .1) (c .before .before .before .before .before .before .before .localize .ensures) (c .before .before .before .before .before .before .if1 .left), (close-classes (p .0) (p .1 .0) (c .before .before .before .before .before .before .before .before .before .before .before .before .before .before .before .before .record-at .ensures) (c .before .before .before .before .before .before .before .before .before .before .before .before .before .before .before .record-end .ensures) (p .1 .1 .0 .scopes) (c .before .before .before .before .before .expressions-at .ensures .0) (c .before .before .before .before .body-at .ensures) (a .room) (p .1 .1 .1 .1) (c .before .before .before .before .before .before .before .localize .ensures) (c .before .before .before .before .before .before .if1 .left), close-room (p .0) (p .1 .0) (c .before .before .before .before .before .before .before .before .before .before .before .before .before .before .before .before .record-at .ensures) (c .before .before .before .before .before .before .before .before .before .before .before .before .before .before .before .record-end .ensures) (p .1 .1 .0 .scopes) (c .before .before .before .before .before .expressions-at .ensures .0) (c .before .before .before .before .body-at .ensures) (a .room) (p .1 .1 .1 .1) (c .before .before .before .before .before .before .before .localize .ensures) (c .before .before .before .before .before .before .if1 .left))))))
+
+-- src/lib.rt:239:1
+append-returns-2 : (t : ℕ) → append-lts.Need-returns-2 (
+  record-at-reads.Asked,
+  record-at-reads.Learnt,
+  record-end-reads.Asked,
+  record-end-reads.Learnt,
+  localize-below t,
+  localize.Post,
+  expressions-at-reads.Asked,
+  expressions-at-reads.Learnt,
+  body-at-reads.Asked,
+  body-at-reads.Learnt,
+  close-reads.Asked,
+  close-reads.Learnt,
+) (append-at t) append.Post
+append-returns-2 t c = let a = c .before .before .before .before .before .before .before .before .before .before .before .before .before .before .before .before .before .before .args in let p = c .before .before .before .before .before .before .before .before .before .before .before .before .before .before .before .before .before .before .pre .1 in append-done (p .0) (p .1 .0) (c .before .before .before .before .before .before .before .before .before .before .before .before .before .before .before .before .before .record-at .ensures) (c .before .before .before .before .before .before .before .before .before .before .before .before .before .before .before .before .record-end .ensures) (p .1 .1 .0 .scopes) (c .before .before .before .before .before .before .expressions-at .ensures .0) (c .before .before .before .before .before .body-at .ensures) (a .room) (p .1 .1 .1 .1) (c .before .before .before .before .before .before .before .before .localize .ensures) (c .before .before .before .before .before .before .before .if1 .left) (p .1 .1 .0) (c .close .ensures)
+
+-- src/lib.rt:338:9
+follow-returns : (t : ℕ) → follow-lts.Need-returns (
+  known-reads.Asked,
+  known-reads.Learnt,
+  append-below t,
+  append.Post,
+  find-reads.Asked,
+  find-reads.Learnt,
+) (follow-at t) follow.Post
+follow-returns t c = let a = c .before .args in let p = c .before .pre .1 in (follow-none (a .words .now) (a .n) (a .offset) (a .f) (a .log .now) (a .classes .now) (a .starts .now) (a .maps .now) (a .marks .now) (a .stacks .now) (a .ends) (a .room) (c .if1 .taken) (p .1 .1 .1 .0 .0) (p .1 .1 .1 .0 .1) (p .1 .1 .1 .1 .0), λ _. p .1 .1 .1 .1 .1 .1)
+
+-- src/lib.rt:340:8
+follow-known-requires : (t : ℕ) → follow-lts.Need-known-requires (
+  known-reads.Asked,
+  known-reads.Learnt,
+  append-below t,
+  append.Post,
+  find-reads.Asked,
+  find-reads.Learnt,
+) (follow-at t) follow.Post
+follow-known-requires t c κs = let a = c .before .before .before .before .before .args in let p = c .before .before .before .before .before .pre .1 in (p .0 .source, (p .0 .names, (p .1 .0, bearing (p .1 .1 .1 .1 .0))))
+
+-- src/lib.rt:341:9
+follow-returns-2 : (t : ℕ) → follow-lts.Need-returns-2 (
+  known-reads.Asked,
+  known-reads.Learnt,
+  append-below t,
+  append.Post,
+  find-reads.Asked,
+  find-reads.Learnt,
+) (follow-at t) follow.Post
+follow-returns-2 t c = let a = c .before .before .before .before .before .before .before .args in let p = c .before .before .before .before .before .before .before .pre .1 in (follow-old (a .words .now) (a .n) (a .offset) (a .f) (a .log .now) (a .classes .now) (a .starts .now) (a .maps .now) (a .marks .now) (a .stacks .now) (a .ends) (a .room) (c .before .before .before .before .before .before .if1 .left) (c .before .known .result) (c .before .known .ensures) (c .if2 .taken) (p .1 .1 .1 .0 .0) (p .1 .1 .1 .0 .1) (p .1 .1 .1 .1 .0), λ _. p .1 .1 .1 .1 .1 .1)
+
+-- src/lib.rt:358:9
+follow-sub-append : (t : ℕ) → follow-lts.Need-sub-append (
+  known-reads.Asked,
+  known-reads.Learnt,
+  append-below t,
+  append.Post,
+  find-reads.Asked,
+  find-reads.Learnt,
+) (follow-at t) follow.Post
+follow-sub-append t c = let h = c .before .before .before .before .before .before .before .before .before .before .before .before .before .if1 .left in omega arith
+
+-- src/lib.rt:343:9
+follow-append-requires : (t : ℕ) → follow-lts.Need-append-requires (
+  known-reads.Asked,
+  known-reads.Learnt,
+  append-below t,
+  append.Post,
+  find-reads.Asked,
+  find-reads.Learnt,
+) (follow-at t) follow.Post
+follow-append-requires t c κs = let a = c .before .before .before .before .before .before .before .before .before .before .before .before .before .before .args in let p = c .before .before .before .before .before .before .before .before .before .before .before .before .before .before .pre .1 in let h = c .before .before .before .before .before .before .before .before .before .before .before .before .before .if1 .left in let q = c .before .before .before .before .before .before .before .before .before .before .before .before .before .before .pre .0 in (omega arith, (p .0, (p .1 .0, (follow-ready (a .words .now) (a .n) (a .offset) (a .f) (a .log .now) (a .classes .now) (a .starts .now) (a .maps .now) (a .marks .now) (a .stacks .now) (a .ends) (a .room) (c .before .before .before .before .before .before .before .before .before .before .before .before .before .if1 .left) (c .before .before .before .before .before .before .before .before .known .result) (c .before .before .before .before .before .before .before .before .known .ensures) (c .before .before .before .before .before .before .before .if2 .left) (p .1 .1 .0), (p .1 .1 .1 .0, (p .1 .1 .1 .1 .0))))))
+
+-- src/lib.rt:361:9
+follow-returns-3 : (t : ℕ) → follow-lts.Need-returns-3 (
+  known-reads.Asked,
+  known-reads.Learnt,
+  append-below t,
+  append.Post,
+  find-reads.Asked,
+  find-reads.Learnt,
+) (follow-at t) follow.Post
+follow-returns-3 t c = let a = c .before .before .before .before .before .before .before .before .before .before .before .before .before .before .before .before .args in let p = c .before .before .before .before .before .before .before .before .before .before .before .before .before .before .before .before .pre .1 in (follow-append (a .words .now) (a .n) (a .offset) (a .f) (a .log .now) (a .classes .now) (a .starts .now) (a .maps .now) (a .marks .now) (a .stacks .now) (a .ends) (a .room) (c .before .before .before .before .before .before .before .before .before .before .before .before .before .before .before .if1 .left) (c .before .before .before .before .before .before .before .before .before .before .known .result) (c .before .before .before .before .before .before .before .before .before .before .known .ensures) (c .before .before .before .before .before .before .before .before .before .if2 .left) (c .before .append .ensures), λ q. absurd (false≢true (sym q ∙ c .if3 .taken)))
+
+-- src/lib.rt:363:5
+follow-find-requires : (t : ℕ) → follow-lts.Need-find-requires (
+  known-reads.Asked,
+  known-reads.Learnt,
+  append-below t,
+  append.Post,
+  find-reads.Asked,
+  find-reads.Learnt,
+) (follow-at t) follow.Post
+follow-find-requires t c κs = c .before .before .before .before .before .before .before .before .before .before .before .before .before .before .before .before .before .pre .1 .1 .1 .1 .1 .1 .0
+
+-- src/lib.rt:308:1
+follow-returns-4 : (t : ℕ) → follow-lts.Need-returns-4 (
+  known-reads.Asked,
+  known-reads.Learnt,
+  append-below t,
+  append.Post,
+  find-reads.Asked,
+  find-reads.Learnt,
+) (follow-at t) follow.Post
+follow-returns-4 t c = let a = c .before .before .before .before .before .before .before .before .before .before .before .before .before .before .before .before .before .before .args in let p = c .before .before .before .before .before .before .before .before .before .before .before .before .before .before .before .before .before .before .pre .1 in (follow-append (a .words .now) (a .n) (a .offset) (a .f) (a .log .now) (a .classes .now) (a .starts .now) (a .maps .now) (a .marks .now) (a .stacks .now) (a .ends) (a .room) (c .before .before .before .before .before .before .before .before .before .before .before .before .before .before .before .before .before .if1 .left) (c .before .before .before .before .before .before .before .before .before .before .before .before .known .result) (c .before .before .before .before .before .before .before .before .before .before .before .before .known .ensures) (c .before .before .before .before .before .before .before .before .before .before .before .if2 .left) (c .before .before .before .append .ensures), λ _. c .find .ensures)
+
+abbrev localize-Inv-loop : localize-lts.InvT-loop
+localize-Inv-loop words tags kinds n log₀ classes₀ starts₀ maps₀ marks₀ stacks₀ places₀ offset s end room e1 exprs k em₀ named body e₀ i₀ u₀ log classes starts maps marks stacks places em e i u =
+    Onward words tags n offset room s end exprs places₀ k named body e1 log₀ classes₀ starts₀ maps₀ marks₀ em₀ stacks₀ e₀ i₀ u₀ places log classes starts maps marks em stacks e i u
+
+abbrev localize-μ-loop : localize-lts.MeasureT-loop
+localize-μ-loop words tags kinds n log₀ classes₀ starts₀ maps₀ marks₀ stacks₀ places₀ offset s end room e1 exprs k em₀ named body e₀ i₀ u₀ log classes starts maps marks stacks places em e i u =
+    end - i
+
+localize-cast-e1 : (t : ℕ) → localize-lts.Need-cast-e1 (
+  expressions-at-reads.Asked,
+  expressions-at-reads.Learnt,
+  wide-reads.Asked,
+  wide-reads.Learnt,
+  find-reads.Asked,
+  find-reads.Learnt,
+  slot-reads.Asked,
+  slot-reads.Learnt,
+  begin-reads.Asked,
+  begin-reads.Learnt,
+  declare-reads.Asked,
+  declare-reads.Learnt,
+  run-reads.Asked,
+  run-reads.Learnt,
+  longer-reads.Asked,
+  longer-reads.Learnt,
+  flag-reads.Asked,
+  flag-reads.Learnt,
+  follow-below t,
+  follow.Post,
+  put-word-reads.Asked,
+  put-word-reads.Learnt,
+  pass-reads.Asked,
+  pass-reads.Learnt,
+  keep-names-reads.Asked,
+  keep-names-reads.Learnt,
+  import-names-reads.Asked,
+  import-names-reads.Learnt,
+) (localize-at t) localize.Post localize-Inv-loop localize-μ-loop
+localize-cast-e1 t c = search needs
+
+-- src/lib.rt:93:9
+localize-expressions-at-requires : (t : ℕ) → localize-lts.Need-expressions-at-requires (
+  expressions-at-reads.Asked,
+  expressions-at-reads.Learnt,
+  wide-reads.Asked,
+  wide-reads.Learnt,
+  find-reads.Asked,
+  find-reads.Learnt,
+  slot-reads.Asked,
+  slot-reads.Learnt,
+  begin-reads.Asked,
+  begin-reads.Learnt,
+  declare-reads.Asked,
+  declare-reads.Learnt,
+  run-reads.Asked,
+  run-reads.Learnt,
+  longer-reads.Asked,
+  longer-reads.Learnt,
+  flag-reads.Asked,
+  flag-reads.Learnt,
+  follow-below t,
+  follow.Post,
+  put-word-reads.Asked,
+  put-word-reads.Learnt,
+  pass-reads.Asked,
+  pass-reads.Learnt,
+  keep-names-reads.Asked,
+  keep-names-reads.Learnt,
+  import-names-reads.Asked,
+  import-names-reads.Learnt,
+) (localize-at t) localize.Post localize-Inv-loop localize-μ-loop
+localize-expressions-at-requires t c κs = let a = c .before .args in let p = c .before .pre .1 in exprs-in (p .1 .0)
+
+-- src/lib.rt:94:18
+localize-mul-wide : (t : ℕ) → localize-lts.Need-mul-wide (
+  expressions-at-reads.Asked,
+  expressions-at-reads.Learnt,
+  wide-reads.Asked,
+  wide-reads.Learnt,
+  find-reads.Asked,
+  find-reads.Learnt,
+  slot-reads.Asked,
+  slot-reads.Learnt,
+  begin-reads.Asked,
+  begin-reads.Learnt,
+  declare-reads.Asked,
+  declare-reads.Learnt,
+  run-reads.Asked,
+  run-reads.Learnt,
+  longer-reads.Asked,
+  longer-reads.Learnt,
+  flag-reads.Asked,
+  flag-reads.Learnt,
+  follow-below t,
+  follow.Post,
+  put-word-reads.Asked,
+  put-word-reads.Learnt,
+  pass-reads.Asked,
+  pass-reads.Learnt,
+  keep-names-reads.Asked,
+  keep-names-reads.Learnt,
+  import-names-reads.Asked,
+  import-names-reads.Learnt,
+) (localize-at t) localize.Post localize-Inv-loop localize-μ-loop
+localize-mul-wide t c = let a = c .before .before .args in let p = c .before .before .pre .1 in omega arith
+
+-- src/lib.rt:94:18
+localize-element-copy-out-wide : (t : ℕ) → localize-lts.Need-element-copy-out-wide (
+  expressions-at-reads.Asked,
+  expressions-at-reads.Learnt,
+  wide-reads.Asked,
+  wide-reads.Learnt,
+  find-reads.Asked,
+  find-reads.Learnt,
+  slot-reads.Asked,
+  slot-reads.Learnt,
+  begin-reads.Asked,
+  begin-reads.Learnt,
+  declare-reads.Asked,
+  declare-reads.Learnt,
+  run-reads.Asked,
+  run-reads.Learnt,
+  longer-reads.Asked,
+  longer-reads.Learnt,
+  flag-reads.Asked,
+  flag-reads.Learnt,
+  follow-below t,
+  follow.Post,
+  put-word-reads.Asked,
+  put-word-reads.Learnt,
+  pass-reads.Asked,
+  pass-reads.Learnt,
+  keep-names-reads.Asked,
+  keep-names-reads.Learnt,
+  import-names-reads.Asked,
+  import-names-reads.Learnt,
+) (localize-at t) localize.Post localize-Inv-loop localize-μ-loop
+localize-element-copy-out-wide t c = let a = c .before .before .args in let p = c .before .before .pre .1 in let h = c .expressions-at .ensures .1 in omega arith
+
+-- src/lib.rt:94:9
+localize-wide-requires : (t : ℕ) → localize-lts.Need-wide-requires (
+  expressions-at-reads.Asked,
+  expressions-at-reads.Learnt,
+  wide-reads.Asked,
+  wide-reads.Learnt,
+  find-reads.Asked,
+  find-reads.Learnt,
+  slot-reads.Asked,
+  slot-reads.Learnt,
+  begin-reads.Asked,
+  begin-reads.Learnt,
+  declare-reads.Asked,
+  declare-reads.Learnt,
+  run-reads.Asked,
+  run-reads.Learnt,
+  longer-reads.Asked,
+  longer-reads.Learnt,
+  flag-reads.Asked,
+  flag-reads.Learnt,
+  follow-below t,
+  follow.Post,
+  put-word-reads.Asked,
+  put-word-reads.Learnt,
+  pass-reads.Asked,
+  pass-reads.Learnt,
+  keep-names-reads.Asked,
+  keep-names-reads.Learnt,
+  import-names-reads.Asked,
+  import-names-reads.Learnt,
+) (localize-at t) localize.Post localize-Inv-loop localize-μ-loop
+localize-wide-requires t c κs = tt
+
+-- src/lib.rt:96:16
+localize-add-find : (t : ℕ) → localize-lts.Need-add-find (
+  expressions-at-reads.Asked,
+  expressions-at-reads.Learnt,
+  wide-reads.Asked,
+  wide-reads.Learnt,
+  find-reads.Asked,
+  find-reads.Learnt,
+  slot-reads.Asked,
+  slot-reads.Learnt,
+  begin-reads.Asked,
+  begin-reads.Learnt,
+  declare-reads.Asked,
+  declare-reads.Learnt,
+  run-reads.Asked,
+  run-reads.Learnt,
+  longer-reads.Asked,
+  longer-reads.Learnt,
+  flag-reads.Asked,
+  flag-reads.Learnt,
+  follow-below t,
+  follow.Post,
+  put-word-reads.Asked,
+  put-word-reads.Learnt,
+  pass-reads.Asked,
+  pass-reads.Learnt,
+  keep-names-reads.Asked,
+  keep-names-reads.Learnt,
+  import-names-reads.Asked,
+  import-names-reads.Learnt,
+) (localize-at t) localize.Post localize-Inv-loop localize-μ-loop
+localize-add-find t c = let a = c .before .before .before .before .args in let p = c .before .before .before .before .pre .1 in let h = c .before .before .expressions-at .ensures .1 in omega arith
+
+-- src/lib.rt:96:5
+localize-find-requires : (t : ℕ) → localize-lts.Need-find-requires (
+  expressions-at-reads.Asked,
+  expressions-at-reads.Learnt,
+  wide-reads.Asked,
+  wide-reads.Learnt,
+  find-reads.Asked,
+  find-reads.Learnt,
+  slot-reads.Asked,
+  slot-reads.Learnt,
+  begin-reads.Asked,
+  begin-reads.Learnt,
+  declare-reads.Asked,
+  declare-reads.Learnt,
+  run-reads.Asked,
+  run-reads.Learnt,
+  longer-reads.Asked,
+  longer-reads.Learnt,
+  flag-reads.Asked,
+  flag-reads.Learnt,
+  follow-below t,
+  follow.Post,
+  put-word-reads.Asked,
+  put-word-reads.Learnt,
+  pass-reads.Asked,
+  pass-reads.Learnt,
+  keep-names-reads.Asked,
+  keep-names-reads.Learnt,
+  import-names-reads.Asked,
+  import-names-reads.Learnt,
+) (localize-at t) localize.Post localize-Inv-loop localize-μ-loop
+localize-find-requires t c κs = let a = c .before .before .before .before .before .args in let p = c .before .before .before .before .before .pre .1 in index-in (p .1 .0) (c .before .before .before .expressions-at .ensures .0)
+
+-- src/lib.rt:97:22
+localize-mul-slot : (t : ℕ) → localize-lts.Need-mul-slot (
+  expressions-at-reads.Asked,
+  expressions-at-reads.Learnt,
+  wide-reads.Asked,
+  wide-reads.Learnt,
+  find-reads.Asked,
+  find-reads.Learnt,
+  slot-reads.Asked,
+  slot-reads.Learnt,
+  begin-reads.Asked,
+  begin-reads.Learnt,
+  declare-reads.Asked,
+  declare-reads.Learnt,
+  run-reads.Asked,
+  run-reads.Learnt,
+  longer-reads.Asked,
+  longer-reads.Learnt,
+  flag-reads.Asked,
+  flag-reads.Learnt,
+  follow-below t,
+  follow.Post,
+  put-word-reads.Asked,
+  put-word-reads.Learnt,
+  pass-reads.Asked,
+  pass-reads.Learnt,
+  keep-names-reads.Asked,
+  keep-names-reads.Learnt,
+  import-names-reads.Asked,
+  import-names-reads.Learnt,
+) (localize-at t) localize.Post localize-Inv-loop localize-μ-loop
+localize-mul-slot t c = let a = c .before .before .before .before .before .before .args in let p = c .before .before .before .before .before .before .pre .1 in let h = count-in (p .1 .0) (c .before .before .before .before .expressions-at .ensures .0) (c .before .before .wide .ensures .0) in omega arith
+
+-- src/lib.rt:97:22
+localize-element-copy-out-slot : (t : ℕ) → localize-lts.Need-element-copy-out-slot (
+  expressions-at-reads.Asked,
+  expressions-at-reads.Learnt,
+  wide-reads.Asked,
+  wide-reads.Learnt,
+  find-reads.Asked,
+  find-reads.Learnt,
+  slot-reads.Asked,
+  slot-reads.Learnt,
+  begin-reads.Asked,
+  begin-reads.Learnt,
+  declare-reads.Asked,
+  declare-reads.Learnt,
+  run-reads.Asked,
+  run-reads.Learnt,
+  longer-reads.Asked,
+  longer-reads.Learnt,
+  flag-reads.Asked,
+  flag-reads.Learnt,
+  follow-below t,
+  follow.Post,
+  put-word-reads.Asked,
+  put-word-reads.Learnt,
+  pass-reads.Asked,
+  pass-reads.Learnt,
+  keep-names-reads.Asked,
+  keep-names-reads.Learnt,
+  import-names-reads.Asked,
+  import-names-reads.Learnt,
+) (localize-at t) localize.Post localize-Inv-loop localize-μ-loop
+localize-element-copy-out-slot t c = let a = c .before .before .before .before .before .before .args in let p = c .before .before .before .before .before .before .pre .1 in let h = count-in (p .1 .0) (c .before .before .before .before .expressions-at .ensures .0) (c .before .before .wide .ensures .0) in omega arith
+
+-- src/lib.rt:97:9
+localize-slot-requires : (t : ℕ) → localize-lts.Need-slot-requires (
+  expressions-at-reads.Asked,
+  expressions-at-reads.Learnt,
+  wide-reads.Asked,
+  wide-reads.Learnt,
+  find-reads.Asked,
+  find-reads.Learnt,
+  slot-reads.Asked,
+  slot-reads.Learnt,
+  begin-reads.Asked,
+  begin-reads.Learnt,
+  declare-reads.Asked,
+  declare-reads.Learnt,
+  run-reads.Asked,
+  run-reads.Learnt,
+  longer-reads.Asked,
+  longer-reads.Learnt,
+  flag-reads.Asked,
+  flag-reads.Learnt,
+  follow-below t,
+  follow.Post,
+  put-word-reads.Asked,
+  put-word-reads.Learnt,
+  pass-reads.Asked,
+  pass-reads.Learnt,
+  keep-names-reads.Asked,
+  keep-names-reads.Learnt,
+  import-names-reads.Asked,
+  import-names-reads.Learnt,
+) (localize-at t) localize.Post localize-Inv-loop localize-μ-loop
+localize-slot-requires t c κs = tt
+
+-- src/lib.rt:98:16
+localize-add-body : (t : ℕ) → localize-lts.Need-add-body (
+  expressions-at-reads.Asked,
+  expressions-at-reads.Learnt,
+  wide-reads.Asked,
+  wide-reads.Learnt,
+  find-reads.Asked,
+  find-reads.Learnt,
+  slot-reads.Asked,
+  slot-reads.Learnt,
+  begin-reads.Asked,
+  begin-reads.Learnt,
+  declare-reads.Asked,
+  declare-reads.Learnt,
+  run-reads.Asked,
+  run-reads.Learnt,
+  longer-reads.Asked,
+  longer-reads.Learnt,
+  flag-reads.Asked,
+  flag-reads.Learnt,
+  follow-below t,
+  follow.Post,
+  put-word-reads.Asked,
+  put-word-reads.Learnt,
+  pass-reads.Asked,
+  pass-reads.Learnt,
+  keep-names-reads.Asked,
+  keep-names-reads.Learnt,
+  import-names-reads.Asked,
+  import-names-reads.Learnt,
+) (localize-at t) localize.Post localize-Inv-loop localize-μ-loop
+localize-add-body t c = let a = c .before .before .before .before .before .before .before .before .args in let p = c .before .before .before .before .before .before .before .before .pre .1 in let h = named-in (p .1 .0) (c .before .before .before .before .before .before .expressions-at .ensures .0) (c .before .before .find .ensures) (c .before .before .before .before .wide .ensures .0) (c .slot .ensures .0) in let h₁ = h .0 in let h₂ = h .1 in omega arith
+
+-- src/lib.rt:98:37
+localize-mul-wide-2 : (t : ℕ) → localize-lts.Need-mul-wide-2 (
+  expressions-at-reads.Asked,
+  expressions-at-reads.Learnt,
+  wide-reads.Asked,
+  wide-reads.Learnt,
+  find-reads.Asked,
+  find-reads.Learnt,
+  slot-reads.Asked,
+  slot-reads.Learnt,
+  begin-reads.Asked,
+  begin-reads.Learnt,
+  declare-reads.Asked,
+  declare-reads.Learnt,
+  run-reads.Asked,
+  run-reads.Learnt,
+  longer-reads.Asked,
+  longer-reads.Learnt,
+  flag-reads.Asked,
+  flag-reads.Learnt,
+  follow-below t,
+  follow.Post,
+  put-word-reads.Asked,
+  put-word-reads.Learnt,
+  pass-reads.Asked,
+  pass-reads.Learnt,
+  keep-names-reads.Asked,
+  keep-names-reads.Learnt,
+  import-names-reads.Asked,
+  import-names-reads.Learnt,
+) (localize-at t) localize.Post localize-Inv-loop localize-μ-loop
+localize-mul-wide-2 t c = let a = c .before .before .before .before .before .before .before .before .args in let p = c .before .before .before .before .before .before .before .before .pre .1 in let h = named-in (p .1 .0) (c .before .before .before .before .before .before .expressions-at .ensures .0) (c .before .before .find .ensures) (c .before .before .before .before .wide .ensures .0) (c .slot .ensures .0) in let h₁ = h .0 in let h₂ = h .1 in omega arith
+
+-- src/lib.rt:98:37
+localize-element-copy-out-wide-2 : (t : ℕ) → localize-lts.Need-element-copy-out-wide-2 (
+  expressions-at-reads.Asked,
+  expressions-at-reads.Learnt,
+  wide-reads.Asked,
+  wide-reads.Learnt,
+  find-reads.Asked,
+  find-reads.Learnt,
+  slot-reads.Asked,
+  slot-reads.Learnt,
+  begin-reads.Asked,
+  begin-reads.Learnt,
+  declare-reads.Asked,
+  declare-reads.Learnt,
+  run-reads.Asked,
+  run-reads.Learnt,
+  longer-reads.Asked,
+  longer-reads.Learnt,
+  flag-reads.Asked,
+  flag-reads.Learnt,
+  follow-below t,
+  follow.Post,
+  put-word-reads.Asked,
+  put-word-reads.Learnt,
+  pass-reads.Asked,
+  pass-reads.Learnt,
+  keep-names-reads.Asked,
+  keep-names-reads.Learnt,
+  import-names-reads.Asked,
+  import-names-reads.Learnt,
+) (localize-at t) localize.Post localize-Inv-loop localize-μ-loop
+localize-element-copy-out-wide-2 t c = let a = c .before .before .before .before .before .before .before .before .args in let p = c .before .before .before .before .before .before .before .before .pre .1 in let h = named-in (p .1 .0) (c .before .before .before .before .before .before .expressions-at .ensures .0) (c .before .before .find .ensures) (c .before .before .before .before .wide .ensures .0) (c .slot .ensures .0) in let h₁ = h .0 in let h₂ = h .1 in omega arith
+
+-- src/lib.rt:98:32
+localize-wide-requires-2 : (t : ℕ) → localize-lts.Need-wide-requires-2 (
+  expressions-at-reads.Asked,
+  expressions-at-reads.Learnt,
+  wide-reads.Asked,
+  wide-reads.Learnt,
+  find-reads.Asked,
+  find-reads.Learnt,
+  slot-reads.Asked,
+  slot-reads.Learnt,
+  begin-reads.Asked,
+  begin-reads.Learnt,
+  declare-reads.Asked,
+  declare-reads.Learnt,
+  run-reads.Asked,
+  run-reads.Learnt,
+  longer-reads.Asked,
+  longer-reads.Learnt,
+  flag-reads.Asked,
+  flag-reads.Learnt,
+  follow-below t,
+  follow.Post,
+  put-word-reads.Asked,
+  put-word-reads.Learnt,
+  pass-reads.Asked,
+  pass-reads.Learnt,
+  keep-names-reads.Asked,
+  keep-names-reads.Learnt,
+  import-names-reads.Asked,
+  import-names-reads.Learnt,
+) (localize-at t) localize.Post localize-Inv-loop localize-μ-loop
+localize-wide-requires-2 t c κs = tt
+
+-- src/lib.rt:98:28
+localize-mul-body : (t : ℕ) → localize-lts.Need-mul-body (
+  expressions-at-reads.Asked,
+  expressions-at-reads.Learnt,
+  wide-reads.Asked,
+  wide-reads.Learnt,
+  find-reads.Asked,
+  find-reads.Learnt,
+  slot-reads.Asked,
+  slot-reads.Learnt,
+  begin-reads.Asked,
+  begin-reads.Learnt,
+  declare-reads.Asked,
+  declare-reads.Learnt,
+  run-reads.Asked,
+  run-reads.Learnt,
+  longer-reads.Asked,
+  longer-reads.Learnt,
+  flag-reads.Asked,
+  flag-reads.Learnt,
+  follow-below t,
+  follow.Post,
+  put-word-reads.Asked,
+  put-word-reads.Learnt,
+  pass-reads.Asked,
+  pass-reads.Learnt,
+  keep-names-reads.Asked,
+  keep-names-reads.Learnt,
+  import-names-reads.Asked,
+  import-names-reads.Learnt,
+) (localize-at t) localize.Post localize-Inv-loop localize-μ-loop
+localize-mul-body t c = let a = c .before .before .before .before .before .before .before .before .before .before .args in let p = c .before .before .before .before .before .before .before .before .before .before .pre .1 in let h = named-in (p .1 .0) (c .before .before .before .before .before .before .before .before .expressions-at .ensures .0) (c .before .before .before .before .find .ensures) (c .before .before .before .before .before .before .wide .ensures .0) (c .before .before .slot .ensures .0) in let h₁ = h .0 in let h₂ = h .1 in let w = c .wide2 .ensures .0 in omega arith
+
+-- src/lib.rt:98:16
+localize-add-body-2 : (t : ℕ) → localize-lts.Need-add-body-2 (
+  expressions-at-reads.Asked,
+  expressions-at-reads.Learnt,
+  wide-reads.Asked,
+  wide-reads.Learnt,
+  find-reads.Asked,
+  find-reads.Learnt,
+  slot-reads.Asked,
+  slot-reads.Learnt,
+  begin-reads.Asked,
+  begin-reads.Learnt,
+  declare-reads.Asked,
+  declare-reads.Learnt,
+  run-reads.Asked,
+  run-reads.Learnt,
+  longer-reads.Asked,
+  longer-reads.Learnt,
+  flag-reads.Asked,
+  flag-reads.Learnt,
+  follow-below t,
+  follow.Post,
+  put-word-reads.Asked,
+  put-word-reads.Learnt,
+  pass-reads.Asked,
+  pass-reads.Learnt,
+  keep-names-reads.Asked,
+  keep-names-reads.Learnt,
+  import-names-reads.Asked,
+  import-names-reads.Learnt,
+) (localize-at t) localize.Post localize-Inv-loop localize-μ-loop
+localize-add-body-2 t c = let a = c .before .before .before .before .before .before .before .before .before .before .args in let p = c .before .before .before .before .before .before .before .before .before .before .pre .1 in let h = named-in (p .1 .0) (c .before .before .before .before .before .before .before .before .expressions-at .ensures .0) (c .before .before .before .before .find .ensures) (c .before .before .before .before .before .before .wide .ensures .0) (c .before .before .slot .ensures .0) in let h₁ = h .0 in let h₂ = h .1 in let w = c .wide2 .ensures .0 in omega arith
+
+-- src/lib.rt:112:9
+localize-begin-requires : (t : ℕ) → localize-lts.Need-begin-requires (
+  expressions-at-reads.Asked,
+  expressions-at-reads.Learnt,
+  wide-reads.Asked,
+  wide-reads.Learnt,
+  find-reads.Asked,
+  find-reads.Learnt,
+  slot-reads.Asked,
+  slot-reads.Learnt,
+  begin-reads.Asked,
+  begin-reads.Learnt,
+  declare-reads.Asked,
+  declare-reads.Learnt,
+  run-reads.Asked,
+  run-reads.Learnt,
+  longer-reads.Asked,
+  longer-reads.Learnt,
+  flag-reads.Asked,
+  flag-reads.Learnt,
+  follow-below t,
+  follow.Post,
+  put-word-reads.Asked,
+  put-word-reads.Learnt,
+  pass-reads.Asked,
+  pass-reads.Learnt,
+  keep-names-reads.Asked,
+  keep-names-reads.Learnt,
+  import-names-reads.Asked,
+  import-names-reads.Learnt,
+) (localize-at t) localize.Post localize-Inv-loop localize-μ-loop
+localize-begin-requires t c κs = tt
+
+-- src/lib.rt:99:9
+localize-declare-requires : (t : ℕ) → localize-lts.Need-declare-requires (
+  expressions-at-reads.Asked,
+  expressions-at-reads.Learnt,
+  wide-reads.Asked,
+  wide-reads.Learnt,
+  find-reads.Asked,
+  find-reads.Learnt,
+  slot-reads.Asked,
+  slot-reads.Learnt,
+  begin-reads.Asked,
+  begin-reads.Learnt,
+  declare-reads.Asked,
+  declare-reads.Learnt,
+  run-reads.Asked,
+  run-reads.Learnt,
+  longer-reads.Asked,
+  longer-reads.Learnt,
+  flag-reads.Asked,
+  flag-reads.Learnt,
+  follow-below t,
+  follow.Post,
+  put-word-reads.Asked,
+  put-word-reads.Learnt,
+  pass-reads.Asked,
+  pass-reads.Learnt,
+  keep-names-reads.Asked,
+  keep-names-reads.Learnt,
+  import-names-reads.Asked,
+  import-names-reads.Learnt,
+) (localize-at t) localize.Post localize-Inv-loop localize-μ-loop
+localize-declare-requires t c κs = let a = c .before .before .before .before .before .before .before .before .before .before .before .before .before .before .before .before .before .before .before .args in let p = c .before .before .before .before .before .before .before .before .before .before .before .before .before .before .before .before .before .before .before .pre .1 in let x = (reading (p .1 .0) (c .before .before .before .before .before .before .before .before .before .before .before .before .before .before .before .before .before .expressions-at .ensures .0) (c .before .before .before .before .before .before .before .before .before .before .before .before .before .find .ensures) (c .before .before .before .before .before .before .before .before .before .before .before .before .before .before .before .wide .ensures .0) (c .before .before .before .before .before .before .before .before .before .before .before .slot .ensures .0) (c .before .before .before .before .before .before .before .before .before .wide2 .ensures .0) refl) in let b = c .begin .ensures in (p .0, (expressions (p .1 .0) x, (declares (p .1 .0) x, (ap (λ e. e .full) b, (begun-kept (p .1 .0) x (p .1 .1 .1 .1) b, begun-under (p .1 .0) x (p .1 .1 .1 .1) b (a .stacks .now) (p .1 .1 .1 .0 .1))))))
+
+-- src/lib.rt:120:9
+localize-returns : (t : ℕ) → localize-lts.Need-returns (
+  expressions-at-reads.Asked,
+  expressions-at-reads.Learnt,
+  wide-reads.Asked,
+  wide-reads.Learnt,
+  find-reads.Asked,
+  find-reads.Learnt,
+  slot-reads.Asked,
+  slot-reads.Learnt,
+  begin-reads.Asked,
+  begin-reads.Learnt,
+  declare-reads.Asked,
+  declare-reads.Learnt,
+  run-reads.Asked,
+  run-reads.Learnt,
+  longer-reads.Asked,
+  longer-reads.Learnt,
+  flag-reads.Asked,
+  flag-reads.Learnt,
+  follow-below t,
+  follow.Post,
+  put-word-reads.Asked,
+  put-word-reads.Learnt,
+  pass-reads.Asked,
+  pass-reads.Learnt,
+  keep-names-reads.Asked,
+  keep-names-reads.Learnt,
+  import-names-reads.Asked,
+  import-names-reads.Learnt,
+) (localize-at t) localize.Post localize-Inv-loop localize-μ-loop
+localize-returns t c = let a = c .before .before .before .before .before .before .before .before .before .before .before .before .before .before .before .before .before .before .before .before .before .args in let p = c .before .before .before .before .before .before .before .before .before .before .before .before .before .before .before .before .before .before .before .before .before .pre .1 in declare-none (p .1 .0) (reading (p .1 .0) (c .before .before .before .before .before .before .before .before .before .before .before .before .before .before .before .before .before .before .before .expressions-at .ensures .0) (c .before .before .before .before .before .before .before .before .before .before .before .before .before .before .before .find .ensures) (c .before .before .before .before .before .before .before .before .before .before .before .before .before .before .before .before .before .wide .ensures .0) (c .before .before .before .before .before .before .before .before .before .before .before .before .before .slot .ensures .0) (c .before .before .before .before .before .before .before .before .before .before .before .wide2 .ensures .0) refl) (p .1 .1 .1 .1) (a .room) (c .before .before .begin .ensures) (c .before .declare .ensures) (c .if1 .taken)
+
+-- src/lib.rt:124:5
+localize-loop-holds : (t : ℕ) → localize-lts.Need-loop-holds (
+  expressions-at-reads.Asked,
+  expressions-at-reads.Learnt,
+  wide-reads.Asked,
+  wide-reads.Learnt,
+  find-reads.Asked,
+  find-reads.Learnt,
+  slot-reads.Asked,
+  slot-reads.Learnt,
+  begin-reads.Asked,
+  begin-reads.Learnt,
+  declare-reads.Asked,
+  declare-reads.Learnt,
+  run-reads.Asked,
+  run-reads.Learnt,
+  longer-reads.Asked,
+  longer-reads.Learnt,
+  flag-reads.Asked,
+  flag-reads.Learnt,
+  follow-below t,
+  follow.Post,
+  put-word-reads.Asked,
+  put-word-reads.Learnt,
+  pass-reads.Asked,
+  pass-reads.Learnt,
+  keep-names-reads.Asked,
+  keep-names-reads.Learnt,
+  import-names-reads.Asked,
+  import-names-reads.Learnt,
+) (localize-at t) localize.Post localize-Inv-loop localize-μ-loop
+localize-loop-holds t c = record { on = λ _ _ g. g }
+
+localize-cast-run : (t : ℕ) → localize-lts.Need-cast-run (
+  expressions-at-reads.Asked,
+  expressions-at-reads.Learnt,
+  wide-reads.Asked,
+  wide-reads.Learnt,
+  find-reads.Asked,
+  find-reads.Learnt,
+  slot-reads.Asked,
+  slot-reads.Learnt,
+  begin-reads.Asked,
+  begin-reads.Learnt,
+  declare-reads.Asked,
+  declare-reads.Learnt,
+  run-reads.Asked,
+  run-reads.Learnt,
+  longer-reads.Asked,
+  longer-reads.Learnt,
+  flag-reads.Asked,
+  flag-reads.Learnt,
+  follow-below t,
+  follow.Post,
+  put-word-reads.Asked,
+  put-word-reads.Learnt,
+  pass-reads.Asked,
+  pass-reads.Learnt,
+  keep-names-reads.Asked,
+  keep-names-reads.Learnt,
+  import-names-reads.Asked,
+  import-names-reads.Learnt,
+) (localize-at t) localize.Post localize-Inv-loop localize-μ-loop
+localize-cast-run t c = search needs
+
+localize-cast-run-2 : (t : ℕ) → localize-lts.Need-cast-run-2 (
+  expressions-at-reads.Asked,
+  expressions-at-reads.Learnt,
+  wide-reads.Asked,
+  wide-reads.Learnt,
+  find-reads.Asked,
+  find-reads.Learnt,
+  slot-reads.Asked,
+  slot-reads.Learnt,
+  begin-reads.Asked,
+  begin-reads.Learnt,
+  declare-reads.Asked,
+  declare-reads.Learnt,
+  run-reads.Asked,
+  run-reads.Learnt,
+  longer-reads.Asked,
+  longer-reads.Learnt,
+  flag-reads.Asked,
+  flag-reads.Learnt,
+  follow-below t,
+  follow.Post,
+  put-word-reads.Asked,
+  put-word-reads.Learnt,
+  pass-reads.Asked,
+  pass-reads.Learnt,
+  keep-names-reads.Asked,
+  keep-names-reads.Learnt,
+  import-names-reads.Asked,
+  import-names-reads.Learnt,
+) (localize-at t) localize.Post localize-Inv-loop localize-μ-loop
+localize-cast-run-2 t c = search needs
+
+-- src/lib.rt:125:13
+localize-run-requires : (t : ℕ) → localize-lts.Need-run-requires (
+  expressions-at-reads.Asked,
+  expressions-at-reads.Learnt,
+  wide-reads.Asked,
+  wide-reads.Learnt,
+  find-reads.Asked,
+  find-reads.Learnt,
+  slot-reads.Asked,
+  slot-reads.Learnt,
+  begin-reads.Asked,
+  begin-reads.Learnt,
+  declare-reads.Asked,
+  declare-reads.Learnt,
+  run-reads.Asked,
+  run-reads.Learnt,
+  longer-reads.Asked,
+  longer-reads.Learnt,
+  flag-reads.Asked,
+  flag-reads.Learnt,
+  follow-below t,
+  follow.Post,
+  put-word-reads.Asked,
+  put-word-reads.Learnt,
+  pass-reads.Asked,
+  pass-reads.Learnt,
+  keep-names-reads.Asked,
+  keep-names-reads.Learnt,
+  import-names-reads.Asked,
+  import-names-reads.Learnt,
+) (localize-at t) localize.Post localize-Inv-loop localize-μ-loop
+localize-run-requires t c κs = let a = c .before .before .before .before .before .before .before .before .before .before .before .before .before .before .before .before .before .before .before .before .before .before .before .before .before .before .before .before .args in let p = c .before .before .before .before .before .before .before .before .before .before .before .before .before .before .before .before .before .before .before .before .before .before .before .before .before .before .before .before .pre .1 in let g = c .before .before .before .before .before .before .loop .inv .on refl (p .1 .1 .1 .1) (going-start (p .1 .0) (reading (p .1 .0) (c .before .before .before .before .before .before .before .before .before .before .before .before .before .before .before .before .before .before .before .before .before .before .before .before .before .before .expressions-at .ensures .0) (c .before .before .before .before .before .before .before .before .before .before .before .before .before .before .before .before .before .before .before .before .before .before .find .ensures) (c .before .before .before .before .before .before .before .before .before .before .before .before .before .before .before .before .before .before .before .before .before .before .before .before .wide .ensures .0) (c .before .before .before .before .before .before .before .before .before .before .before .before .before .before .before .before .before .before .before .before .slot .ensures .0) (c .before .before .before .before .before .before .before .before .before .before .before .before .before .before .before .before .before .before .wide2 .ensures .0) refl) (p .1 .1 .1 .1) (a .room) (c .before .before .before .before .before .before .before .before .before .begin .ensures) (c .before .before .before .before .before .before .before .before .declare .ensures) (c .before .before .before .before .before .before .before .if1 .left)) in let K = g .turn .way .kept in let U = g .turn .way .under in (p .0 .kinds-are, (K .maps-six, (legible-all (k-few (p .1 .0) (g .read)) (g .turn .legible), U .stacks-are .high′, made-small U)))
+
+-- src/lib.rt:142:23
+localize-sub-longer : (t : ℕ) → localize-lts.Need-sub-longer (
+  expressions-at-reads.Asked,
+  expressions-at-reads.Learnt,
+  wide-reads.Asked,
+  wide-reads.Learnt,
+  find-reads.Asked,
+  find-reads.Learnt,
+  slot-reads.Asked,
+  slot-reads.Learnt,
+  begin-reads.Asked,
+  begin-reads.Learnt,
+  declare-reads.Asked,
+  declare-reads.Learnt,
+  run-reads.Asked,
+  run-reads.Learnt,
+  longer-reads.Asked,
+  longer-reads.Learnt,
+  flag-reads.Asked,
+  flag-reads.Learnt,
+  follow-below t,
+  follow.Post,
+  put-word-reads.Asked,
+  put-word-reads.Learnt,
+  pass-reads.Asked,
+  pass-reads.Learnt,
+  keep-names-reads.Asked,
+  keep-names-reads.Learnt,
+  import-names-reads.Asked,
+  import-names-reads.Learnt,
+) (localize-at t) localize.Post localize-Inv-loop localize-μ-loop
+localize-sub-longer t c = let z = c .before .run .ensures .reach in omega arith
+
+-- src/lib.rt:142:9
+localize-longer-requires : (t : ℕ) → localize-lts.Need-longer-requires (
+  expressions-at-reads.Asked,
+  expressions-at-reads.Learnt,
+  wide-reads.Asked,
+  wide-reads.Learnt,
+  find-reads.Asked,
+  find-reads.Learnt,
+  slot-reads.Asked,
+  slot-reads.Learnt,
+  begin-reads.Asked,
+  begin-reads.Learnt,
+  declare-reads.Asked,
+  declare-reads.Learnt,
+  run-reads.Asked,
+  run-reads.Learnt,
+  longer-reads.Asked,
+  longer-reads.Learnt,
+  flag-reads.Asked,
+  flag-reads.Learnt,
+  follow-below t,
+  follow.Post,
+  put-word-reads.Asked,
+  put-word-reads.Learnt,
+  pass-reads.Asked,
+  pass-reads.Learnt,
+  keep-names-reads.Asked,
+  keep-names-reads.Learnt,
+  import-names-reads.Asked,
+  import-names-reads.Learnt,
+) (localize-at t) localize.Post localize-Inv-loop localize-μ-loop
+localize-longer-requires t c κs = let R = c .before .run .ensures in let z = R .reach in let y = R .room in omega arith
+
+-- src/lib.rt:147:13
+localize-add-i : (t : ℕ) → localize-lts.Need-add-i (
+  expressions-at-reads.Asked,
+  expressions-at-reads.Learnt,
+  wide-reads.Asked,
+  wide-reads.Learnt,
+  find-reads.Asked,
+  find-reads.Learnt,
+  slot-reads.Asked,
+  slot-reads.Learnt,
+  begin-reads.Asked,
+  begin-reads.Learnt,
+  declare-reads.Asked,
+  declare-reads.Learnt,
+  run-reads.Asked,
+  run-reads.Learnt,
+  longer-reads.Asked,
+  longer-reads.Learnt,
+  flag-reads.Asked,
+  flag-reads.Learnt,
+  follow-below t,
+  follow.Post,
+  put-word-reads.Asked,
+  put-word-reads.Learnt,
+  pass-reads.Asked,
+  pass-reads.Learnt,
+  keep-names-reads.Asked,
+  keep-names-reads.Learnt,
+  import-names-reads.Asked,
+  import-names-reads.Learnt,
+) (localize-at t) localize.Post localize-Inv-loop localize-μ-loop
+localize-add-i t c = let a = c .before .before .before .before .before .before .before .before .before .before .before .before .before .before .before .before .before .before .before .before .before .before .before .before .before .before .before .before .before .before .before .before .args in let p = c .before .before .before .before .before .before .before .before .before .before .before .before .before .before .before .before .before .before .before .before .before .before .before .before .before .before .before .before .before .before .before .before .pre .1 in let g = c .before .before .before .before .before .before .before .before .before .before .loop .inv .on refl (p .1 .1 .1 .1) (going-start (p .1 .0) (reading (p .1 .0) (c .before .before .before .before .before .before .before .before .before .before .before .before .before .before .before .before .before .before .before .before .before .before .before .before .before .before .before .before .before .before .expressions-at .ensures .0) (c .before .before .before .before .before .before .before .before .before .before .before .before .before .before .before .before .before .before .before .before .before .before .before .before .before .before .find .ensures) (c .before .before .before .before .before .before .before .before .before .before .before .before .before .before .before .before .before .before .before .before .before .before .before .before .before .before .before .before .wide .ensures .0) (c .before .before .before .before .before .before .before .before .before .before .before .before .before .before .before .before .before .before .before .before .before .before .before .before .slot .ensures .0) (c .before .before .before .before .before .before .before .before .before .before .before .before .before .before .before .before .before .before .before .before .before .before .wide2 .ensures .0) refl) (p .1 .1 .1 .1) (a .room) (c .before .before .before .before .before .before .before .before .before .before .before .before .before .begin .ensures) (c .before .before .before .before .before .before .before .before .before .before .before .before .declare .ensures) (c .before .before .before .before .before .before .before .before .before .before .before .if1 .left)) in let l = c .before .before .before .before .before .before .before .before .before .before .loop in let k = going-run (p .0 .source) (p .1 .0) (a .offset) (a .room) _ (expressions (p .1 .0) (g .read)) _ _ (p .1 .1 .1 .1) (a .stacks .now) (l .log) (l .classes) (l .starts) (l .maps) (l .marks) (l .em) (l .e) g (c .before .before .before .run .ensures) (c .before .longer .ensures) in let h = word-in (p .1 .0) (p .1 .1 .1 .1) k (c .if2 .taken) in omega arith
+
+-- src/lib.rt:148:13
+localize-flag-requires : (t : ℕ) → localize-lts.Need-flag-requires (
+  expressions-at-reads.Asked,
+  expressions-at-reads.Learnt,
+  wide-reads.Asked,
+  wide-reads.Learnt,
+  find-reads.Asked,
+  find-reads.Learnt,
+  slot-reads.Asked,
+  slot-reads.Learnt,
+  begin-reads.Asked,
+  begin-reads.Learnt,
+  declare-reads.Asked,
+  declare-reads.Learnt,
+  run-reads.Asked,
+  run-reads.Learnt,
+  longer-reads.Asked,
+  longer-reads.Learnt,
+  flag-reads.Asked,
+  flag-reads.Learnt,
+  follow-below t,
+  follow.Post,
+  put-word-reads.Asked,
+  put-word-reads.Learnt,
+  pass-reads.Asked,
+  pass-reads.Learnt,
+  keep-names-reads.Asked,
+  keep-names-reads.Learnt,
+  import-names-reads.Asked,
+  import-names-reads.Learnt,
+) (localize-at t) localize.Post localize-Inv-loop localize-μ-loop
+localize-flag-requires t c κs = let a = c .before .before .before .before .before .before .before .before .before .before .before .before .before .before .before .before .before .before .before .before .before .before .before .before .before .before .before .before .before .before .before .before .args in let p = c .before .before .before .before .before .before .before .before .before .before .before .before .before .before .before .before .before .before .before .before .before .before .before .before .before .before .before .before .before .before .before .before .pre .1 in let g = c .before .before .before .before .before .before .before .before .before .before .loop .inv .on refl (p .1 .1 .1 .1) (going-start (p .1 .0) (reading (p .1 .0) (c .before .before .before .before .before .before .before .before .before .before .before .before .before .before .before .before .before .before .before .before .before .before .before .before .before .before .before .before .before .before .expressions-at .ensures .0) (c .before .before .before .before .before .before .before .before .before .before .before .before .before .before .before .before .before .before .before .before .before .before .before .before .before .before .find .ensures) (c .before .before .before .before .before .before .before .before .before .before .before .before .before .before .before .before .before .before .before .before .before .before .before .before .before .before .before .before .wide .ensures .0) (c .before .before .before .before .before .before .before .before .before .before .before .before .before .before .before .before .before .before .before .before .before .before .before .before .slot .ensures .0) (c .before .before .before .before .before .before .before .before .before .before .before .before .before .before .before .before .before .before .before .before .before .before .wide2 .ensures .0) refl) (p .1 .1 .1 .1) (a .room) (c .before .before .before .before .before .before .before .before .before .before .before .before .before .begin .ensures) (c .before .before .before .before .before .before .before .before .before .before .before .before .declare .ensures) (c .before .before .before .before .before .before .before .before .before .before .before .if1 .left)) in let l = c .before .before .before .before .before .before .before .before .before .before .loop in let k = going-run (p .0 .source) (p .1 .0) (a .offset) (a .room) _ (expressions (p .1 .0) (g .read)) _ _ (p .1 .1 .1 .1) (a .stacks .now) (l .log) (l .classes) (l .starts) (l .maps) (l .marks) (l .em) (l .e) g (c .before .before .before .run .ensures) (c .before .longer .ensures) in (k .turn .legible .stretch, c .if2 .taken)
+
+-- src/lib.rt:149:16
+localize-element-copy-out-if3 : (t : ℕ) → localize-lts.Need-element-copy-out-if3 (
+  expressions-at-reads.Asked,
+  expressions-at-reads.Learnt,
+  wide-reads.Asked,
+  wide-reads.Learnt,
+  find-reads.Asked,
+  find-reads.Learnt,
+  slot-reads.Asked,
+  slot-reads.Learnt,
+  begin-reads.Asked,
+  begin-reads.Learnt,
+  declare-reads.Asked,
+  declare-reads.Learnt,
+  run-reads.Asked,
+  run-reads.Learnt,
+  longer-reads.Asked,
+  longer-reads.Learnt,
+  flag-reads.Asked,
+  flag-reads.Learnt,
+  follow-below t,
+  follow.Post,
+  put-word-reads.Asked,
+  put-word-reads.Learnt,
+  pass-reads.Asked,
+  pass-reads.Learnt,
+  keep-names-reads.Asked,
+  keep-names-reads.Learnt,
+  import-names-reads.Asked,
+  import-names-reads.Learnt,
+) (localize-at t) localize.Post localize-Inv-loop localize-μ-loop
+localize-element-copy-out-if3 t c = let a = c .before .before .before .before .before .before .before .before .before .before .before .before .before .before .before .before .before .before .before .before .before .before .before .before .before .before .before .before .before .before .before .before .before .args in let p = c .before .before .before .before .before .before .before .before .before .before .before .before .before .before .before .before .before .before .before .before .before .before .before .before .before .before .before .before .before .before .before .before .before .pre .1 in let g = c .before .before .before .before .before .before .before .before .before .before .before .loop .inv .on refl (p .1 .1 .1 .1) (going-start (p .1 .0) (reading (p .1 .0) (c .before .before .before .before .before .before .before .before .before .before .before .before .before .before .before .before .before .before .before .before .before .before .before .before .before .before .before .before .before .before .before .expressions-at .ensures .0) (c .before .before .before .before .before .before .before .before .before .before .before .before .before .before .before .before .before .before .before .before .before .before .before .before .before .before .before .find .ensures) (c .before .before .before .before .before .before .before .before .before .before .before .before .before .before .before .before .before .before .before .before .before .before .before .before .before .before .before .before .before .wide .ensures .0) (c .before .before .before .before .before .before .before .before .before .before .before .before .before .before .before .before .before .before .before .before .before .before .before .before .before .slot .ensures .0) (c .before .before .before .before .before .before .before .before .before .before .before .before .before .before .before .before .before .before .before .before .before .before .before .wide2 .ensures .0) refl) (p .1 .1 .1 .1) (a .room) (c .before .before .before .before .before .before .before .before .before .before .before .before .before .before .begin .ensures) (c .before .before .before .before .before .before .before .before .before .before .before .before .before .declare .ensures) (c .before .before .before .before .before .before .before .before .before .before .before .before .if1 .left)) in let l = c .before .before .before .before .before .before .before .before .before .before .before .loop in let k = going-run (p .0 .source) (p .1 .0) (a .offset) (a .room) _ (expressions (p .1 .0) (g .read)) _ _ (p .1 .1 .1 .1) (a .stacks .now) (l .log) (l .classes) (l .starts) (l .maps) (l .marks) (l .em) (l .e) g (c .before .before .before .before .run .ensures) (c .before .before .longer .ensures) in let h = word-in (p .1 .0) (p .1 .1 .1 .1) k (c .before .if2 .taken) in omega arith
+
+-- src/lib.rt:164:26
+localize-mul-wide-3 : (t : ℕ) → localize-lts.Need-mul-wide-3 (
+  expressions-at-reads.Asked,
+  expressions-at-reads.Learnt,
+  wide-reads.Asked,
+  wide-reads.Learnt,
+  find-reads.Asked,
+  find-reads.Learnt,
+  slot-reads.Asked,
+  slot-reads.Learnt,
+  begin-reads.Asked,
+  begin-reads.Learnt,
+  declare-reads.Asked,
+  declare-reads.Learnt,
+  run-reads.Asked,
+  run-reads.Learnt,
+  longer-reads.Asked,
+  longer-reads.Learnt,
+  flag-reads.Asked,
+  flag-reads.Learnt,
+  follow-below t,
+  follow.Post,
+  put-word-reads.Asked,
+  put-word-reads.Learnt,
+  pass-reads.Asked,
+  pass-reads.Learnt,
+  keep-names-reads.Asked,
+  keep-names-reads.Learnt,
+  import-names-reads.Asked,
+  import-names-reads.Learnt,
+) (localize-at t) localize.Post localize-Inv-loop localize-μ-loop
+localize-mul-wide-3 t c = let a = c .before .before .before .before .before .before .before .before .before .before .before .before .before .before .before .before .before .before .before .before .before .before .before .before .before .before .before .before .before .before .before .before .before .before .before .before .before .before .before .before .before .before .args in let p = c .before .before .before .before .before .before .before .before .before .before .before .before .before .before .before .before .before .before .before .before .before .before .before .before .before .before .before .before .before .before .before .before .before .before .before .before .before .before .before .before .before .before .pre .1 in let g = c .before .before .before .before .before .before .before .before .before .before .before .before .before .before .before .before .before .before .before .before .loop .inv .on refl (p .1 .1 .1 .1) (going-start (p .1 .0) (reading (p .1 .0) (c .before .before .before .before .before .before .before .before .before .before .before .before .before .before .before .before .before .before .before .before .before .before .before .before .before .before .before .before .before .before .before .before .before .before .before .before .before .before .before .before .expressions-at .ensures .0) (c .before .before .before .before .before .before .before .before .before .before .before .before .before .before .before .before .before .before .before .before .before .before .before .before .before .before .before .before .before .before .before .before .before .before .before .before .find .ensures) (c .before .before .before .before .before .before .before .before .before .before .before .before .before .before .before .before .before .before .before .before .before .before .before .before .before .before .before .before .before .before .before .before .before .before .before .before .before .before .wide .ensures .0) (c .before .before .before .before .before .before .before .before .before .before .before .before .before .before .before .before .before .before .before .before .before .before .before .before .before .before .before .before .before .before .before .before .before .before .slot .ensures .0) (c .before .before .before .before .before .before .before .before .before .before .before .before .before .before .before .before .before .before .before .before .before .before .before .before .before .before .before .before .before .before .before .before .wide2 .ensures .0) refl) (p .1 .1 .1 .1) (a .room) (c .before .before .before .before .before .before .before .before .before .before .before .before .before .before .before .before .before .before .before .before .before .before .before .begin .ensures) (c .before .before .before .before .before .before .before .before .before .before .before .before .before .before .before .before .before .before .before .before .before .before .declare .ensures) (c .before .before .before .before .before .before .before .before .before .before .before .before .before .before .before .before .before .before .before .before .before .if1 .left)) in let l = c .before .before .before .before .before .before .before .before .before .before .before .before .before .before .before .before .before .before .before .before .loop in let k = going-run (p .0 .source) (p .1 .0) (a .offset) (a .room) _ (expressions (p .1 .0) (g .read)) _ _ (p .1 .1 .1 .1) (a .stacks .now) (l .log) (l .classes) (l .starts) (l .maps) (l .marks) (l .em) (l .e) g (c .before .before .before .before .before .before .before .before .before .before .before .before .before .run .ensures) (c .before .before .before .before .before .before .before .before .before .before .before .longer .ensures) in let h = word-in (p .1 .0) (p .1 .1 .1 .1) k (c .before .before .before .before .before .before .before .before .before .before .if2 .taken) in omega arith
+
+-- src/lib.rt:164:26
+localize-element-copy-out-wide-3 : (t : ℕ) → localize-lts.Need-element-copy-out-wide-3 (
+  expressions-at-reads.Asked,
+  expressions-at-reads.Learnt,
+  wide-reads.Asked,
+  wide-reads.Learnt,
+  find-reads.Asked,
+  find-reads.Learnt,
+  slot-reads.Asked,
+  slot-reads.Learnt,
+  begin-reads.Asked,
+  begin-reads.Learnt,
+  declare-reads.Asked,
+  declare-reads.Learnt,
+  run-reads.Asked,
+  run-reads.Learnt,
+  longer-reads.Asked,
+  longer-reads.Learnt,
+  flag-reads.Asked,
+  flag-reads.Learnt,
+  follow-below t,
+  follow.Post,
+  put-word-reads.Asked,
+  put-word-reads.Learnt,
+  pass-reads.Asked,
+  pass-reads.Learnt,
+  keep-names-reads.Asked,
+  keep-names-reads.Learnt,
+  import-names-reads.Asked,
+  import-names-reads.Learnt,
+) (localize-at t) localize.Post localize-Inv-loop localize-μ-loop
+localize-element-copy-out-wide-3 t c = let a = c .before .before .before .before .before .before .before .before .before .before .before .before .before .before .before .before .before .before .before .before .before .before .before .before .before .before .before .before .before .before .before .before .before .before .before .before .before .before .before .before .before .before .args in let p = c .before .before .before .before .before .before .before .before .before .before .before .before .before .before .before .before .before .before .before .before .before .before .before .before .before .before .before .before .before .before .before .before .before .before .before .before .before .before .before .before .before .before .pre .1 in let g = c .before .before .before .before .before .before .before .before .before .before .before .before .before .before .before .before .before .before .before .before .loop .inv .on refl (p .1 .1 .1 .1) (going-start (p .1 .0) (reading (p .1 .0) (c .before .before .before .before .before .before .before .before .before .before .before .before .before .before .before .before .before .before .before .before .before .before .before .before .before .before .before .before .before .before .before .before .before .before .before .before .before .before .before .before .expressions-at .ensures .0) (c .before .before .before .before .before .before .before .before .before .before .before .before .before .before .before .before .before .before .before .before .before .before .before .before .before .before .before .before .before .before .before .before .before .before .before .before .find .ensures) (c .before .before .before .before .before .before .before .before .before .before .before .before .before .before .before .before .before .before .before .before .before .before .before .before .before .before .before .before .before .before .before .before .before .before .before .before .before .before .wide .ensures .0) (c .before .before .before .before .before .before .before .before .before .before .before .before .before .before .before .before .before .before .before .before .before .before .before .before .before .before .before .before .before .before .before .before .before .before .slot .ensures .0) (c .before .before .before .before .before .before .before .before .before .before .before .before .before .before .before .before .before .before .before .before .before .before .before .before .before .before .before .before .before .before .before .before .wide2 .ensures .0) refl) (p .1 .1 .1 .1) (a .room) (c .before .before .before .before .before .before .before .before .before .before .before .before .before .before .before .before .before .before .before .before .before .before .before .begin .ensures) (c .before .before .before .before .before .before .before .before .before .before .before .before .before .before .before .before .before .before .before .before .before .before .declare .ensures) (c .before .before .before .before .before .before .before .before .before .before .before .before .before .before .before .before .before .before .before .before .before .if1 .left)) in let l = c .before .before .before .before .before .before .before .before .before .before .before .before .before .before .before .before .before .before .before .before .loop in let k = going-run (p .0 .source) (p .1 .0) (a .offset) (a .room) _ (expressions (p .1 .0) (g .read)) _ _ (p .1 .1 .1 .1) (a .stacks .now) (l .log) (l .classes) (l .starts) (l .maps) (l .marks) (l .em) (l .e) g (c .before .before .before .before .before .before .before .before .before .before .before .before .before .run .ensures) (c .before .before .before .before .before .before .before .before .before .before .before .longer .ensures) in let h = word-in (p .1 .0) (p .1 .1 .1 .1) k (c .before .before .before .before .before .before .before .before .before .before .if2 .taken) in omega arith
+
+-- src/lib.rt:164:21
+localize-wide-requires-3 : (t : ℕ) → localize-lts.Need-wide-requires-3 (
+  expressions-at-reads.Asked,
+  expressions-at-reads.Learnt,
+  wide-reads.Asked,
+  wide-reads.Learnt,
+  find-reads.Asked,
+  find-reads.Learnt,
+  slot-reads.Asked,
+  slot-reads.Learnt,
+  begin-reads.Asked,
+  begin-reads.Learnt,
+  declare-reads.Asked,
+  declare-reads.Learnt,
+  run-reads.Asked,
+  run-reads.Learnt,
+  longer-reads.Asked,
+  longer-reads.Learnt,
+  flag-reads.Asked,
+  flag-reads.Learnt,
+  follow-below t,
+  follow.Post,
+  put-word-reads.Asked,
+  put-word-reads.Learnt,
+  pass-reads.Asked,
+  pass-reads.Learnt,
+  keep-names-reads.Asked,
+  keep-names-reads.Learnt,
+  import-names-reads.Asked,
+  import-names-reads.Learnt,
+) (localize-at t) localize.Post localize-Inv-loop localize-μ-loop
+localize-wide-requires-3 t c κs = tt
+
+-- src/lib.rt:166:21
+localize-add-follow : (t : ℕ) → localize-lts.Need-add-follow (
+  expressions-at-reads.Asked,
+  expressions-at-reads.Learnt,
+  wide-reads.Asked,
+  wide-reads.Learnt,
+  find-reads.Asked,
+  find-reads.Learnt,
+  slot-reads.Asked,
+  slot-reads.Learnt,
+  begin-reads.Asked,
+  begin-reads.Learnt,
+  declare-reads.Asked,
+  declare-reads.Learnt,
+  run-reads.Asked,
+  run-reads.Learnt,
+  longer-reads.Asked,
+  longer-reads.Learnt,
+  flag-reads.Asked,
+  flag-reads.Learnt,
+  follow-below t,
+  follow.Post,
+  put-word-reads.Asked,
+  put-word-reads.Learnt,
+  pass-reads.Asked,
+  pass-reads.Learnt,
+  keep-names-reads.Asked,
+  keep-names-reads.Learnt,
+  import-names-reads.Asked,
+  import-names-reads.Learnt,
+) (localize-at t) localize.Post localize-Inv-loop localize-μ-loop
+localize-add-follow t c = let h = c .before .before .before .before .before .before .before .before .before .before .before .before .before .before .before .before .before .before .before .before .before .before .before .before .before .before .before .before .before .before .before .before .before .before .before .before .before .before .before .before .before .before .expressions-at .ensures .1 in omega arith
+
+-- src/lib.rt:150:17
+localize-follow-requires : (t : ℕ) → localize-lts.Need-follow-requires (
+  expressions-at-reads.Asked,
+  expressions-at-reads.Learnt,
+  wide-reads.Asked,
+  wide-reads.Learnt,
+  find-reads.Asked,
+  find-reads.Learnt,
+  slot-reads.Asked,
+  slot-reads.Learnt,
+  begin-reads.Asked,
+  begin-reads.Learnt,
+  declare-reads.Asked,
+  declare-reads.Learnt,
+  run-reads.Asked,
+  run-reads.Learnt,
+  longer-reads.Asked,
+  longer-reads.Learnt,
+  flag-reads.Asked,
+  flag-reads.Learnt,
+  follow-below t,
+  follow.Post,
+  put-word-reads.Asked,
+  put-word-reads.Learnt,
+  pass-reads.Asked,
+  pass-reads.Learnt,
+  keep-names-reads.Asked,
+  keep-names-reads.Learnt,
+  import-names-reads.Asked,
+  import-names-reads.Learnt,
+) (localize-at t) localize.Post localize-Inv-loop localize-μ-loop
+localize-follow-requires t c κs = let a = c .before .before .before .before .before .before .before .before .before .before .before .before .before .before .before .before .before .before .before .before .before .before .before .before .before .before .before .before .before .before .before .before .before .before .before .before .before .before .before .before .before .before .before .before .args in let p = c .before .before .before .before .before .before .before .before .before .before .before .before .before .before .before .before .before .before .before .before .before .before .before .before .before .before .before .before .before .before .before .before .before .before .before .before .before .before .before .before .before .before .before .before .pre .1 in let g = c .before .before .before .before .before .before .before .before .before .before .before .before .before .before .before .before .before .before .before .before .before .before .loop .inv .on refl (p .1 .1 .1 .1) (going-start (p .1 .0) (reading (p .1 .0) (c .before .before .before .before .before .before .before .before .before .before .before .before .before .before .before .before .before .before .before .before .before .before .before .before .before .before .before .before .before .before .before .before .before .before .before .before .before .before .before .before .before .before .expressions-at .ensures .0) (c .before .before .before .before .before .before .before .before .before .before .before .before .before .before .before .before .before .before .before .before .before .before .before .before .before .before .before .before .before .before .before .before .before .before .before .before .before .before .find .ensures) (c .before .before .before .before .before .before .before .before .before .before .before .before .before .before .before .before .before .before .before .before .before .before .before .before .before .before .before .before .before .before .before .before .before .before .before .before .before .before .before .before .wide .ensures .0) (c .before .before .before .before .before .before .before .before .before .before .before .before .before .before .before .before .before .before .before .before .before .before .before .before .before .before .before .before .before .before .before .before .before .before .before .before .slot .ensures .0) (c .before .before .before .before .before .before .before .before .before .before .before .before .before .before .before .before .before .before .before .before .before .before .before .before .before .before .before .before .before .before .before .before .before .before .wide2 .ensures .0) refl) (p .1 .1 .1 .1) (a .room) (c .before .before .before .before .before .before .before .before .before .before .before .before .before .before .before .before .before .before .before .before .before .before .before .before .before .begin .ensures) (c .before .before .before .before .before .before .before .before .before .before .before .before .before .before .before .before .before .before .before .before .before .before .before .before .declare .ensures) (c .before .before .before .before .before .before .before .before .before .before .before .before .before .before .before .before .before .before .before .before .before .before .before .if1 .left)) in let l = c .before .before .before .before .before .before .before .before .before .before .before .before .before .before .before .before .before .before .before .before .before .before .loop in let k = going-run (p .0 .source) (p .1 .0) (a .offset) (a .room) _ (expressions (p .1 .0) (g .read)) _ _ (p .1 .1 .1 .1) (a .stacks .now) (l .log) (l .classes) (l .starts) (l .maps) (l .marks) (l .em) (l .e) g (c .before .before .before .before .before .before .before .before .before .before .before .before .before .before .before .run .ensures) (c .before .before .before .before .before .before .before .before .before .before .before .before .before .longer .ensures) in let q = c .before .before .before .before .before .before .before .before .before .before .before .before .before .before .before .before .before .before .before .before .before .before .before .before .before .before .before .before .before .before .before .before .before .before .before .before .before .before .before .before .before .before .before .before .pre .0 in (omega arith, (p .0, (callee-low (p .1 .0) (p .1 .1 .1 .1) k (c .before .before .before .before .before .before .before .before .before .before .before .before .if2 .taken) (c .before .before .before .before .before .before .before .before .before .if3 .taken) (c .wide3 .ensures .0), (callee-ready (p .1 .0) (p .1 .1 .1 .1) k (c .before .before .before .before .before .before .before .before .before .before .before .before .if2 .taken) (c .before .before .before .before .before .before .before .before .before .if3 .taken) (c .wide3 .ensures .0) (p .1 .1 .0), ((k .turn .way .going, k .turn .way .under .stacks-are), (k .turn .way .kept, (index-in (p .1 .0) (k .read .ea-is), k .read .places-are)))))))
+
+-- src/lib.rt:170:21
+localize-returns-2 : (t : ℕ) → localize-lts.Need-returns-2 (
+  expressions-at-reads.Asked,
+  expressions-at-reads.Learnt,
+  wide-reads.Asked,
+  wide-reads.Learnt,
+  find-reads.Asked,
+  find-reads.Learnt,
+  slot-reads.Asked,
+  slot-reads.Learnt,
+  begin-reads.Asked,
+  begin-reads.Learnt,
+  declare-reads.Asked,
+  declare-reads.Learnt,
+  run-reads.Asked,
+  run-reads.Learnt,
+  longer-reads.Asked,
+  longer-reads.Learnt,
+  flag-reads.Asked,
+  flag-reads.Learnt,
+  follow-below t,
+  follow.Post,
+  put-word-reads.Asked,
+  put-word-reads.Learnt,
+  pass-reads.Asked,
+  pass-reads.Learnt,
+  keep-names-reads.Asked,
+  keep-names-reads.Learnt,
+  import-names-reads.Asked,
+  import-names-reads.Learnt,
+) (localize-at t) localize.Post localize-Inv-loop localize-μ-loop
+localize-returns-2 t c = let a = c .before .before .before .before .before .before .before .before .before .before .before .before .before .before .before .before .before .before .before .before .before .before .before .before .before .before .before .before .before .before .before .before .before .before .before .before .before .before .before .before .before .before .before .before .before .before .args in let p = c .before .before .before .before .before .before .before .before .before .before .before .before .before .before .before .before .before .before .before .before .before .before .before .before .before .before .before .before .before .before .before .before .before .before .before .before .before .before .before .before .before .before .before .before .before .before .pre .1 in let g = c .before .before .before .before .before .before .before .before .before .before .before .before .before .before .before .before .before .before .before .before .before .before .before .before .loop .inv .on refl (p .1 .1 .1 .1) (going-start (p .1 .0) (reading (p .1 .0) (c .before .before .before .before .before .before .before .before .before .before .before .before .before .before .before .before .before .before .before .before .before .before .before .before .before .before .before .before .before .before .before .before .before .before .before .before .before .before .before .before .before .before .before .before .expressions-at .ensures .0) (c .before .before .before .before .before .before .before .before .before .before .before .before .before .before .before .before .before .before .before .before .before .before .before .before .before .before .before .before .before .before .before .before .before .before .before .before .before .before .before .before .find .ensures) (c .before .before .before .before .before .before .before .before .before .before .before .before .before .before .before .before .before .before .before .before .before .before .before .before .before .before .before .before .before .before .before .before .before .before .before .before .before .before .before .before .before .before .wide .ensures .0) (c .before .before .before .before .before .before .before .before .before .before .before .before .before .before .before .before .before .before .before .before .before .before .before .before .before .before .before .before .before .before .before .before .before .before .before .before .before .before .slot .ensures .0) (c .before .before .before .before .before .before .before .before .before .before .before .before .before .before .before .before .before .before .before .before .before .before .before .before .before .before .before .before .before .before .before .before .before .before .before .before .wide2 .ensures .0) refl) (p .1 .1 .1 .1) (a .room) (c .before .before .before .before .before .before .before .before .before .before .before .before .before .before .before .before .before .before .before .before .before .before .before .before .before .before .before .begin .ensures) (c .before .before .before .before .before .before .before .before .before .before .before .before .before .before .before .before .before .before .before .before .before .before .before .before .before .before .declare .ensures) (c .before .before .before .before .before .before .before .before .before .before .before .before .before .before .before .before .before .before .before .before .before .before .before .before .before .if1 .left)) in let l = c .before .before .before .before .before .before .before .before .before .before .before .before .before .before .before .before .before .before .before .before .before .before .before .before .loop in let k = going-run (p .0 .source) (p .1 .0) (a .offset) (a .room) _ (expressions (p .1 .0) (g .read)) _ _ (p .1 .1 .1 .1) (a .stacks .now) (l .log) (l .classes) (l .starts) (l .maps) (l .marks) (l .em) (l .e) g (c .before .before .before .before .before .before .before .before .before .before .before .before .before .before .before .before .before .run .ensures) (c .before .before .before .before .before .before .before .before .before .before .before .before .before .before .before .longer .ensures) in callee-full (p .1 .0) (p .1 .1 .1 .1) k (c .before .before .before .before .before .before .before .before .before .before .before .before .before .before .if2 .taken) (c .before .before .before .before .before .before .before .before .before .before .before .if3 .taken) (c .before .before .wide3 .ensures .0) (c .before .follow .ensures .0) (c .if4 .taken)
+
+-- src/lib.rt:172:17
+localize-put-word-requires : (t : ℕ) → localize-lts.Need-put-word-requires (
+  expressions-at-reads.Asked,
+  expressions-at-reads.Learnt,
+  wide-reads.Asked,
+  wide-reads.Learnt,
+  find-reads.Asked,
+  find-reads.Learnt,
+  slot-reads.Asked,
+  slot-reads.Learnt,
+  begin-reads.Asked,
+  begin-reads.Learnt,
+  declare-reads.Asked,
+  declare-reads.Learnt,
+  run-reads.Asked,
+  run-reads.Learnt,
+  longer-reads.Asked,
+  longer-reads.Learnt,
+  flag-reads.Asked,
+  flag-reads.Learnt,
+  follow-below t,
+  follow.Post,
+  put-word-reads.Asked,
+  put-word-reads.Learnt,
+  pass-reads.Asked,
+  pass-reads.Learnt,
+  keep-names-reads.Asked,
+  keep-names-reads.Learnt,
+  import-names-reads.Asked,
+  import-names-reads.Learnt,
+) (localize-at t) localize.Post localize-Inv-loop localize-μ-loop
+localize-put-word-requires t c κs = let a = c .before .before .before .before .before .before .before .before .before .before .before .before .before .before .before .before .before .before .before .before .before .before .before .before .before .before .before .before .before .before .before .before .before .before .before .before .before .before .before .before .before .before .before .before .before .before .before .before .before .before .before .before .args in let p = c .before .before .before .before .before .before .before .before .before .before .before .before .before .before .before .before .before .before .before .before .before .before .before .before .before .before .before .before .before .before .before .before .before .before .before .before .before .before .before .before .before .before .before .before .before .before .before .before .before .before .before .before .pre .1 in let g = c .before .before .before .before .before .before .before .before .before .before .before .before .before .before .before .before .before .before .before .before .before .before .before .before .before .before .before .before .before .before .loop .inv .on refl (p .1 .1 .1 .1) (going-start (p .1 .0) (reading (p .1 .0) (c .before .before .before .before .before .before .before .before .before .before .before .before .before .before .before .before .before .before .before .before .before .before .before .before .before .before .before .before .before .before .before .before .before .before .before .before .before .before .before .before .before .before .before .before .before .before .before .before .before .before .expressions-at .ensures .0) (c .before .before .before .before .before .before .before .before .before .before .before .before .before .before .before .before .before .before .before .before .before .before .before .before .before .before .before .before .before .before .before .before .before .before .before .before .before .before .before .before .before .before .before .before .before .before .find .ensures) (c .before .before .before .before .before .before .before .before .before .before .before .before .before .before .before .before .before .before .before .before .before .before .before .before .before .before .before .before .before .before .before .before .before .before .before .before .before .before .before .before .before .before .before .before .before .before .before .before .wide .ensures .0) (c .before .before .before .before .before .before .before .before .before .before .before .before .before .before .before .before .before .before .before .before .before .before .before .before .before .before .before .before .before .before .before .before .before .before .before .before .before .before .before .before .before .before .before .before .slot .ensures .0) (c .before .before .before .before .before .before .before .before .before .before .before .before .before .before .before .before .before .before .before .before .before .before .before .before .before .before .before .before .before .before .before .before .before .before .before .before .before .before .before .before .before .before .wide2 .ensures .0) refl) (p .1 .1 .1 .1) (a .room) (c .before .before .before .before .before .before .before .before .before .before .before .before .before .before .before .before .before .before .before .before .before .before .before .before .before .before .before .before .before .before .before .before .before .begin .ensures) (c .before .before .before .before .before .before .before .before .before .before .before .before .before .before .before .before .before .before .before .before .before .before .before .before .before .before .before .before .before .before .before .before .declare .ensures) (c .before .before .before .before .before .before .before .before .before .before .before .before .before .before .before .before .before .before .before .before .before .before .before .before .before .before .before .before .before .before .before .if1 .left)) in let l = c .before .before .before .before .before .before .before .before .before .before .before .before .before .before .before .before .before .before .before .before .before .before .before .before .before .before .before .before .before .before .loop in let k = going-run (p .0 .source) (p .1 .0) (a .offset) (a .room) _ (expressions (p .1 .0) (g .read)) _ _ (p .1 .1 .1 .1) (a .stacks .now) (l .log) (l .classes) (l .starts) (l .maps) (l .marks) (l .em) (l .e) g (c .before .before .before .before .before .before .before .before .before .before .before .before .before .before .before .before .before .before .before .before .before .before .before .run .ensures) (c .before .before .before .before .before .before .before .before .before .before .before .before .before .before .before .before .before .before .before .before .before .longer .ensures) in let w = c .before .before .before .before .before .before .before .follow .ensures .0 in let z = c .before .before .before .before .before .before .if4 .left in (p .0, (bearing (w .kept z), (w .kept z .maps-six, (word-fits (p .1 .0) (p .1 .1 .1 .1) k (c .before .before .before .before .before .before .before .before .before .before .before .before .before .before .before .before .before .before .before .before .if2 .taken), w .stacks-are z))))
+
+-- src/lib.rt:189:17
+localize-pass-requires : (t : ℕ) → localize-lts.Need-pass-requires (
+  expressions-at-reads.Asked,
+  expressions-at-reads.Learnt,
+  wide-reads.Asked,
+  wide-reads.Learnt,
+  find-reads.Asked,
+  find-reads.Learnt,
+  slot-reads.Asked,
+  slot-reads.Learnt,
+  begin-reads.Asked,
+  begin-reads.Learnt,
+  declare-reads.Asked,
+  declare-reads.Learnt,
+  run-reads.Asked,
+  run-reads.Learnt,
+  longer-reads.Asked,
+  longer-reads.Learnt,
+  flag-reads.Asked,
+  flag-reads.Learnt,
+  follow-below t,
+  follow.Post,
+  put-word-reads.Asked,
+  put-word-reads.Learnt,
+  pass-reads.Asked,
+  pass-reads.Learnt,
+  keep-names-reads.Asked,
+  keep-names-reads.Learnt,
+  import-names-reads.Asked,
+  import-names-reads.Learnt,
+) (localize-at t) localize.Post localize-Inv-loop localize-μ-loop
+localize-pass-requires t c κs = let a = c .before .before .before .before .before .before .before .before .before .before .before .before .before .before .before .before .before .before .before .before .before .before .before .before .before .before .before .before .before .before .before .before .before .before .before .before .before .before .before .before .before .before .before .args in let p = c .before .before .before .before .before .before .before .before .before .before .before .before .before .before .before .before .before .before .before .before .before .before .before .before .before .before .before .before .before .before .before .before .before .before .before .before .before .before .before .before .before .before .before .pre .1 in let g = c .before .before .before .before .before .before .before .before .before .before .before .before .before .before .before .before .before .before .before .before .before .loop .inv .on refl (p .1 .1 .1 .1) (going-start (p .1 .0) (reading (p .1 .0) (c .before .before .before .before .before .before .before .before .before .before .before .before .before .before .before .before .before .before .before .before .before .before .before .before .before .before .before .before .before .before .before .before .before .before .before .before .before .before .before .before .before .expressions-at .ensures .0) (c .before .before .before .before .before .before .before .before .before .before .before .before .before .before .before .before .before .before .before .before .before .before .before .before .before .before .before .before .before .before .before .before .before .before .before .before .before .find .ensures) (c .before .before .before .before .before .before .before .before .before .before .before .before .before .before .before .before .before .before .before .before .before .before .before .before .before .before .before .before .before .before .before .before .before .before .before .before .before .before .before .wide .ensures .0) (c .before .before .before .before .before .before .before .before .before .before .before .before .before .before .before .before .before .before .before .before .before .before .before .before .before .before .before .before .before .before .before .before .before .before .before .slot .ensures .0) (c .before .before .before .before .before .before .before .before .before .before .before .before .before .before .before .before .before .before .before .before .before .before .before .before .before .before .before .before .before .before .before .before .before .wide2 .ensures .0) refl) (p .1 .1 .1 .1) (a .room) (c .before .before .before .before .before .before .before .before .before .before .before .before .before .before .before .before .before .before .before .before .before .before .before .before .begin .ensures) (c .before .before .before .before .before .before .before .before .before .before .before .before .before .before .before .before .before .before .before .before .before .before .before .declare .ensures) (c .before .before .before .before .before .before .before .before .before .before .before .before .before .before .before .before .before .before .before .before .before .before .if1 .left)) in let l = c .before .before .before .before .before .before .before .before .before .before .before .before .before .before .before .before .before .before .before .before .before .loop in let k = going-run (p .0 .source) (p .1 .0) (a .offset) (a .room) _ (expressions (p .1 .0) (g .read)) _ _ (p .1 .1 .1 .1) (a .stacks .now) (l .log) (l .classes) (l .starts) (l .maps) (l .marks) (l .em) (l .e) g (c .before .before .before .before .before .before .before .before .before .before .before .before .before .before .run .ensures) (c .before .before .before .before .before .before .before .before .before .before .before .before .longer .ensures) in (p .0, (expressions (p .1 .0) (k .read), (word-bodied (p .1 .0) (p .1 .1 .1 .1) k (c .before .before .before .before .before .before .before .before .before .before .before .if2 .taken), (k .turn .way .going, (k .turn .way .kept, k .turn .way .under)))))
+
+-- src/lib.rt:212:17
+localize-returns-3 : (t : ℕ) → localize-lts.Need-returns-3 (
+  expressions-at-reads.Asked,
+  expressions-at-reads.Learnt,
+  wide-reads.Asked,
+  wide-reads.Learnt,
+  find-reads.Asked,
+  find-reads.Learnt,
+  slot-reads.Asked,
+  slot-reads.Learnt,
+  begin-reads.Asked,
+  begin-reads.Learnt,
+  declare-reads.Asked,
+  declare-reads.Learnt,
+  run-reads.Asked,
+  run-reads.Learnt,
+  longer-reads.Asked,
+  longer-reads.Learnt,
+  flag-reads.Asked,
+  flag-reads.Learnt,
+  follow-below t,
+  follow.Post,
+  put-word-reads.Asked,
+  put-word-reads.Learnt,
+  pass-reads.Asked,
+  pass-reads.Learnt,
+  keep-names-reads.Asked,
+  keep-names-reads.Learnt,
+  import-names-reads.Asked,
+  import-names-reads.Learnt,
+) (localize-at t) localize.Post localize-Inv-loop localize-μ-loop
+localize-returns-3 t c = let a = c .before .before .before .before .before .before .before .before .before .before .before .before .before .before .before .before .before .before .before .before .before .before .before .before .before .before .before .before .before .before .before .before .before .before .before .before .args in let p = c .before .before .before .before .before .before .before .before .before .before .before .before .before .before .before .before .before .before .before .before .before .before .before .before .before .before .before .before .before .before .before .before .before .before .before .before .pre .1 in let g = c .before .before .before .before .before .before .before .before .before .before .before .before .before .before .loop .inv .on refl (p .1 .1 .1 .1) (going-start (p .1 .0) (reading (p .1 .0) (c .before .before .before .before .before .before .before .before .before .before .before .before .before .before .before .before .before .before .before .before .before .before .before .before .before .before .before .before .before .before .before .before .before .before .expressions-at .ensures .0) (c .before .before .before .before .before .before .before .before .before .before .before .before .before .before .before .before .before .before .before .before .before .before .before .before .before .before .before .before .before .before .find .ensures) (c .before .before .before .before .before .before .before .before .before .before .before .before .before .before .before .before .before .before .before .before .before .before .before .before .before .before .before .before .before .before .before .before .wide .ensures .0) (c .before .before .before .before .before .before .before .before .before .before .before .before .before .before .before .before .before .before .before .before .before .before .before .before .before .before .before .before .slot .ensures .0) (c .before .before .before .before .before .before .before .before .before .before .before .before .before .before .before .before .before .before .before .before .before .before .before .before .before .before .wide2 .ensures .0) refl) (p .1 .1 .1 .1) (a .room) (c .before .before .before .before .before .before .before .before .before .before .before .before .before .before .before .before .before .begin .ensures) (c .before .before .before .before .before .before .before .before .before .before .before .before .before .before .before .before .declare .ensures) (c .before .before .before .before .before .before .before .before .before .before .before .before .before .before .before .if1 .left)) in let l = c .before .before .before .before .before .before .before .before .before .before .before .before .before .before .loop in let k = going-run (p .0 .source) (p .1 .0) (a .offset) (a .room) _ (expressions (p .1 .0) (g .read)) _ _ (p .1 .1 .1 .1) (a .stacks .now) (l .log) (l .classes) (l .starts) (l .maps) (l .marks) (l .em) (l .e) g (c .before .before .before .before .before .before .before .run .ensures) (c .before .before .before .before .before .longer .ensures) in ⊎-elim (λ w. going-full (p .1 .0) (p .1 .1 .1 .1) k (c .before .before .before .before .if2 .taken) (c .before .before .before .flag .ensures) (runs-at (callee-runs (p .1 .0) (p .1 .1 .1 .1) k (c .before .before .before .before .if2 .taken) (w .0 .taken) (w .9 .ensures .0) (w .10 .ensures .0) (w .11 .left) (c .before .before .before .flag .result) (w .18 .ensures)) (w .19) (w .20) (w .21) (w .22) (w .23) (w .24) (w .26) (w .27)) (c .if5 .taken)) (λ w. going-full (p .1 .0) (p .1 .1 .1 .1) k (c .before .before .before .before .if2 .taken) (c .before .before .before .flag .ensures) (runs-at (other-runs (p .1 .0) (p .1 .1 .1 .1) k (c .before .before .before .before .if2 .taken) (w .0 .left) (c .before .before .before .flag .result) (runs-from refl (w .9 .ensures))) (w .10) (w .11) (w .12) (w .13) (w .14) (w .15) (w .17) (w .18)) (c .if5 .taken)) (c .before .if3 .came)
+
+-- src/lib.rt:124:5
+localize-loop-less : (t : ℕ) → localize-lts.Need-loop-less (
+  expressions-at-reads.Asked,
+  expressions-at-reads.Learnt,
+  wide-reads.Asked,
+  wide-reads.Learnt,
+  find-reads.Asked,
+  find-reads.Learnt,
+  slot-reads.Asked,
+  slot-reads.Learnt,
+  begin-reads.Asked,
+  begin-reads.Learnt,
+  declare-reads.Asked,
+  declare-reads.Learnt,
+  run-reads.Asked,
+  run-reads.Learnt,
+  longer-reads.Asked,
+  longer-reads.Learnt,
+  flag-reads.Asked,
+  flag-reads.Learnt,
+  follow-below t,
+  follow.Post,
+  put-word-reads.Asked,
+  put-word-reads.Learnt,
+  pass-reads.Asked,
+  pass-reads.Learnt,
+  keep-names-reads.Asked,
+  keep-names-reads.Learnt,
+  import-names-reads.Asked,
+  import-names-reads.Learnt,
+) (localize-at t) localize.Post localize-Inv-loop localize-μ-loop
+localize-loop-less t c = let h = c .before .before .before .before .before .before .before .before .before .before .before .before .before .loop-test .taken in let z = c .before .before .before .before .before .before .before .run .ensures .reach in omega arith
+
+-- src/lib.rt:124:5
+localize-loop-again : (t : ℕ) → localize-lts.Need-loop-again (
+  expressions-at-reads.Asked,
+  expressions-at-reads.Learnt,
+  wide-reads.Asked,
+  wide-reads.Learnt,
+  find-reads.Asked,
+  find-reads.Learnt,
+  slot-reads.Asked,
+  slot-reads.Learnt,
+  begin-reads.Asked,
+  begin-reads.Learnt,
+  declare-reads.Asked,
+  declare-reads.Learnt,
+  run-reads.Asked,
+  run-reads.Learnt,
+  longer-reads.Asked,
+  longer-reads.Learnt,
+  flag-reads.Asked,
+  flag-reads.Learnt,
+  follow-below t,
+  follow.Post,
+  put-word-reads.Asked,
+  put-word-reads.Learnt,
+  pass-reads.Asked,
+  pass-reads.Learnt,
+  keep-names-reads.Asked,
+  keep-names-reads.Learnt,
+  import-names-reads.Asked,
+  import-names-reads.Learnt,
+) (localize-at t) localize.Post localize-Inv-loop localize-μ-loop
+localize-loop-again t c = let a = c .before .before .before .before .before .before .before .before .before .before .before .before .before .before .before .before .before .before .before .before .before .before .before .before .before .before .before .before .before .before .before .before .before .before .before .before .args in let p = c .before .before .before .before .before .before .before .before .before .before .before .before .before .before .before .before .before .before .before .before .before .before .before .before .before .before .before .before .before .before .before .before .before .before .before .before .pre .1 in record { on = λ q K₀ g₀. let g = c .before .before .before .before .before .before .before .before .before .before .before .before .before .before .loop .inv .on q K₀ g₀ in let l = c .before .before .before .before .before .before .before .before .before .before .before .before .before .before .loop in let k = going-run (p .0 .source) (p .1 .0) (a .offset) (a .room) _ (expressions (p .1 .0) (g .read)) _ _ K₀ _ (l .log) (l .classes) (l .starts) (l .maps) (l .marks) (l .em) (l .e) g (c .before .before .before .before .before .before .before .run .ensures) (c .before .before .before .before .before .longer .ensures) in ⊎-elim (λ w. going-at (w .25 ∙ w .10 .ensures .1 (w .11 .left) ∙ sym (k .read .places-are)) (going-next (p .1 .0) K₀ k (c .before .before .before .before .if2 .taken) (c .before .before .before .flag .ensures) (runs-at (callee-runs (p .1 .0) K₀ k (c .before .before .before .before .if2 .taken) (w .0 .taken) (w .9 .ensures .0) (w .10 .ensures .0) (w .11 .left) (c .before .before .before .flag .result) (w .18 .ensures)) (w .19) (w .20) (w .21) (w .22) (w .23) (w .24) (w .26) (w .27)) (c .if5 .left))) (λ w. going-at (w .16) (going-next (p .1 .0) K₀ k (c .before .before .before .before .if2 .taken) (c .before .before .before .flag .ensures) (runs-at (other-runs (p .1 .0) K₀ k (c .before .before .before .before .if2 .taken) (w .0 .left) (c .before .before .before .flag .result) (runs-from q (w .9 .ensures))) (w .10) (w .11) (w .12) (w .13) (w .14) (w .15) (w .17) (w .18)) (c .if5 .left))) (c .before .if3 .came) }
+
+-- src/lib.rt:124:5
+localize-loop-less-2 : (t : ℕ) → localize-lts.Need-loop-less-2 (
+  expressions-at-reads.Asked,
+  expressions-at-reads.Learnt,
+  wide-reads.Asked,
+  wide-reads.Learnt,
+  find-reads.Asked,
+  find-reads.Learnt,
+  slot-reads.Asked,
+  slot-reads.Learnt,
+  begin-reads.Asked,
+  begin-reads.Learnt,
+  declare-reads.Asked,
+  declare-reads.Learnt,
+  run-reads.Asked,
+  run-reads.Learnt,
+  longer-reads.Asked,
+  longer-reads.Learnt,
+  flag-reads.Asked,
+  flag-reads.Learnt,
+  follow-below t,
+  follow.Post,
+  put-word-reads.Asked,
+  put-word-reads.Learnt,
+  pass-reads.Asked,
+  pass-reads.Learnt,
+  keep-names-reads.Asked,
+  keep-names-reads.Learnt,
+  import-names-reads.Asked,
+  import-names-reads.Learnt,
+) (localize-at t) localize.Post localize-Inv-loop localize-μ-loop
+localize-loop-less-2 t c = let h = c .before .before .before .before .before .before .before .before .before .loop-test .taken in let z = c .before .before .before .run .ensures .reach in let y = c .if2 .left in omega arith
+
+-- src/lib.rt:124:5
+localize-loop-again-2 : (t : ℕ) → localize-lts.Need-loop-again-2 (
+  expressions-at-reads.Asked,
+  expressions-at-reads.Learnt,
+  wide-reads.Asked,
+  wide-reads.Learnt,
+  find-reads.Asked,
+  find-reads.Learnt,
+  slot-reads.Asked,
+  slot-reads.Learnt,
+  begin-reads.Asked,
+  begin-reads.Learnt,
+  declare-reads.Asked,
+  declare-reads.Learnt,
+  run-reads.Asked,
+  run-reads.Learnt,
+  longer-reads.Asked,
+  longer-reads.Learnt,
+  flag-reads.Asked,
+  flag-reads.Learnt,
+  follow-below t,
+  follow.Post,
+  put-word-reads.Asked,
+  put-word-reads.Learnt,
+  pass-reads.Asked,
+  pass-reads.Learnt,
+  keep-names-reads.Asked,
+  keep-names-reads.Learnt,
+  import-names-reads.Asked,
+  import-names-reads.Learnt,
+) (localize-at t) localize.Post localize-Inv-loop localize-μ-loop
+localize-loop-again-2 t c = let a = c .before .before .before .before .before .before .before .before .before .before .before .before .before .before .before .before .before .before .before .before .before .before .before .before .before .before .before .before .before .before .before .before .args in let p = c .before .before .before .before .before .before .before .before .before .before .before .before .before .before .before .before .before .before .before .before .before .before .before .before .before .before .before .before .before .before .before .before .pre .1 in record { on = λ q K₀ g₀. let g = c .before .before .before .before .before .before .before .before .before .before .loop .inv .on q K₀ g₀ in let l = c .before .before .before .before .before .before .before .before .before .before .loop in let k = going-run (p .0 .source) (p .1 .0) (a .offset) (a .room) _ (expressions (p .1 .0) (g .read)) _ _ K₀ _ (l .log) (l .classes) (l .starts) (l .maps) (l .marks) (l .em) (l .e) g (c .before .before .before .run .ensures) (c .before .longer .ensures) in k }
+
+localize-cast-b : (t : ℕ) → localize-lts.Need-cast-b (
+  expressions-at-reads.Asked,
+  expressions-at-reads.Learnt,
+  wide-reads.Asked,
+  wide-reads.Learnt,
+  find-reads.Asked,
+  find-reads.Learnt,
+  slot-reads.Asked,
+  slot-reads.Learnt,
+  begin-reads.Asked,
+  begin-reads.Learnt,
+  declare-reads.Asked,
+  declare-reads.Learnt,
+  run-reads.Asked,
+  run-reads.Learnt,
+  longer-reads.Asked,
+  longer-reads.Learnt,
+  flag-reads.Asked,
+  flag-reads.Learnt,
+  follow-below t,
+  follow.Post,
+  put-word-reads.Asked,
+  put-word-reads.Learnt,
+  pass-reads.Asked,
+  pass-reads.Learnt,
+  keep-names-reads.Asked,
+  keep-names-reads.Learnt,
+  import-names-reads.Asked,
+  import-names-reads.Learnt,
+) (localize-at t) localize.Post localize-Inv-loop localize-μ-loop
+localize-cast-b t c = search needs
+
+-- src/lib.rt:217:9
+localize-keep-names-requires : (t : ℕ) → localize-lts.Need-keep-names-requires (
+  expressions-at-reads.Asked,
+  expressions-at-reads.Learnt,
+  wide-reads.Asked,
+  wide-reads.Learnt,
+  find-reads.Asked,
+  find-reads.Learnt,
+  slot-reads.Asked,
+  slot-reads.Learnt,
+  begin-reads.Asked,
+  begin-reads.Learnt,
+  declare-reads.Asked,
+  declare-reads.Learnt,
+  run-reads.Asked,
+  run-reads.Learnt,
+  longer-reads.Asked,
+  longer-reads.Learnt,
+  flag-reads.Asked,
+  flag-reads.Learnt,
+  follow-below t,
+  follow.Post,
+  put-word-reads.Asked,
+  put-word-reads.Learnt,
+  pass-reads.Asked,
+  pass-reads.Learnt,
+  keep-names-reads.Asked,
+  keep-names-reads.Learnt,
+  import-names-reads.Asked,
+  import-names-reads.Learnt,
+) (localize-at t) localize.Post localize-Inv-loop localize-μ-loop
+localize-keep-names-requires t c κs = let a = c .before .before .before .before .before .before .before .before .before .before .before .before .before .before .before .before .before .before .before .before .before .before .before .before .before .before .before .args in let p = c .before .before .before .before .before .before .before .before .before .before .before .before .before .before .before .before .before .before .before .before .before .before .before .before .before .before .before .pre .1 in let g = c .before .before .before .before .before .loop .inv .on refl (p .1 .1 .1 .1) (going-start (p .1 .0) (reading (p .1 .0) (c .before .before .before .before .before .before .before .before .before .before .before .before .before .before .before .before .before .before .before .before .before .before .before .before .before .expressions-at .ensures .0) (c .before .before .before .before .before .before .before .before .before .before .before .before .before .before .before .before .before .before .before .before .before .find .ensures) (c .before .before .before .before .before .before .before .before .before .before .before .before .before .before .before .before .before .before .before .before .before .before .before .wide .ensures .0) (c .before .before .before .before .before .before .before .before .before .before .before .before .before .before .before .before .before .before .before .slot .ensures .0) (c .before .before .before .before .before .before .before .before .before .before .before .before .before .before .before .before .before .wide2 .ensures .0) refl) (p .1 .1 .1 .1) (a .room) (c .before .before .before .before .before .before .before .before .begin .ensures) (c .before .before .before .before .before .before .before .declare .ensures) (c .before .before .before .before .before .before .if1 .left)) in (keep-in (p .1 .0) (p .1 .1 .1 .1) g (c .before .before .before .before .loop-test .left), (keep-long (p .1 .0) (p .1 .1 .1 .1) g (c .before .before .before .before .loop-test .left), (keep-exprs (p .1 .0) (p .1 .1 .1 .1) g (c .before .before .before .before .loop-test .left), (keep-low (p .1 .0) (p .1 .1 .1 .1) g (c .before .before .before .before .loop-test .left), g .turn .way .under .stacks-are))))
+
+-- src/lib.rt:219:9
+localize-returns-4 : (t : ℕ) → localize-lts.Need-returns-4 (
+  expressions-at-reads.Asked,
+  expressions-at-reads.Learnt,
+  wide-reads.Asked,
+  wide-reads.Learnt,
+  find-reads.Asked,
+  find-reads.Learnt,
+  slot-reads.Asked,
+  slot-reads.Learnt,
+  begin-reads.Asked,
+  begin-reads.Learnt,
+  declare-reads.Asked,
+  declare-reads.Learnt,
+  run-reads.Asked,
+  run-reads.Learnt,
+  longer-reads.Asked,
+  longer-reads.Learnt,
+  flag-reads.Asked,
+  flag-reads.Learnt,
+  follow-below t,
+  follow.Post,
+  put-word-reads.Asked,
+  put-word-reads.Learnt,
+  pass-reads.Asked,
+  pass-reads.Learnt,
+  keep-names-reads.Asked,
+  keep-names-reads.Learnt,
+  import-names-reads.Asked,
+  import-names-reads.Learnt,
+) (localize-at t) localize.Post localize-Inv-loop localize-μ-loop
+localize-returns-4 t c = let a = c .before .before .before .before .before .before .before .before .before .before .before .before .before .before .before .before .before .before .before .before .before .before .before .before .before .before .before .before .before .args in let p = c .before .before .before .before .before .before .before .before .before .before .before .before .before .before .before .before .before .before .before .before .before .before .before .before .before .before .before .before .before .pre .1 in let g = c .before .before .before .before .before .before .before .loop .inv .on refl (p .1 .1 .1 .1) (going-start (p .1 .0) (reading (p .1 .0) (c .before .before .before .before .before .before .before .before .before .before .before .before .before .before .before .before .before .before .before .before .before .before .before .before .before .before .before .expressions-at .ensures .0) (c .before .before .before .before .before .before .before .before .before .before .before .before .before .before .before .before .before .before .before .before .before .before .before .find .ensures) (c .before .before .before .before .before .before .before .before .before .before .before .before .before .before .before .before .before .before .before .before .before .before .before .before .before .wide .ensures .0) (c .before .before .before .before .before .before .before .before .before .before .before .before .before .before .before .before .before .before .before .before .before .slot .ensures .0) (c .before .before .before .before .before .before .before .before .before .before .before .before .before .before .before .before .before .before .before .wide2 .ensures .0) refl) (p .1 .1 .1 .1) (a .room) (c .before .before .before .before .before .before .before .before .before .before .begin .ensures) (c .before .before .before .before .before .before .before .before .before .declare .ensures) (c .before .before .before .before .before .before .before .before .if1 .left)) in names-full (p .1 .0) (p .1 .1 .1 .1) g (c .before .before .before .before .before .before .loop-test .left) (c .before .keep-names .ensures) (c .if6 .taken)
+
+-- src/lib.rt:221:5
+localize-import-names-requires : (t : ℕ) → localize-lts.Need-import-names-requires (
+  expressions-at-reads.Asked,
+  expressions-at-reads.Learnt,
+  wide-reads.Asked,
+  wide-reads.Learnt,
+  find-reads.Asked,
+  find-reads.Learnt,
+  slot-reads.Asked,
+  slot-reads.Learnt,
+  begin-reads.Asked,
+  begin-reads.Learnt,
+  declare-reads.Asked,
+  declare-reads.Learnt,
+  run-reads.Asked,
+  run-reads.Learnt,
+  longer-reads.Asked,
+  longer-reads.Learnt,
+  flag-reads.Asked,
+  flag-reads.Learnt,
+  follow-below t,
+  follow.Post,
+  put-word-reads.Asked,
+  put-word-reads.Learnt,
+  pass-reads.Asked,
+  pass-reads.Learnt,
+  keep-names-reads.Asked,
+  keep-names-reads.Learnt,
+  import-names-reads.Asked,
+  import-names-reads.Learnt,
+) (localize-at t) localize.Post localize-Inv-loop localize-μ-loop
+localize-import-names-requires t c κs = let a = c .before .before .before .before .before .before .before .before .before .before .before .before .before .before .before .before .before .before .before .before .before .before .before .before .before .before .before .before .before .before .before .before .before .before .before .args in let p = c .before .before .before .before .before .before .before .before .before .before .before .before .before .before .before .before .before .before .before .before .before .before .before .before .before .before .before .before .before .before .before .before .before .before .before .pre .1 in let g = c .before .before .before .before .before .before .before .before .before .before .before .before .before .loop .inv .on refl (p .1 .1 .1 .1) (going-start (p .1 .0) (reading (p .1 .0) (c .before .before .before .before .before .before .before .before .before .before .before .before .before .before .before .before .before .before .before .before .before .before .before .before .before .before .before .before .before .before .before .before .before .expressions-at .ensures .0) (c .before .before .before .before .before .before .before .before .before .before .before .before .before .before .before .before .before .before .before .before .before .before .before .before .before .before .before .before .before .find .ensures) (c .before .before .before .before .before .before .before .before .before .before .before .before .before .before .before .before .before .before .before .before .before .before .before .before .before .before .before .before .before .before .before .wide .ensures .0) (c .before .before .before .before .before .before .before .before .before .before .before .before .before .before .before .before .before .before .before .before .before .before .before .before .before .before .before .slot .ensures .0) (c .before .before .before .before .before .before .before .before .before .before .before .before .before .before .before .before .before .before .before .before .before .before .before .before .before .wide2 .ensures .0) refl) (p .1 .1 .1 .1) (a .room) (c .before .before .before .before .before .before .before .before .before .before .before .before .before .before .before .before .begin .ensures) (c .before .before .before .before .before .before .before .before .before .before .before .before .before .before .before .declare .ensures) (c .before .before .before .before .before .before .before .before .before .before .before .before .before .before .if1 .left)) in (p .0, (names-in (p .1 .0) (p .1 .1 .1 .1) g (c .before .before .before .before .before .before .before .before .before .before .before .before .loop-test .left) (c .before .before .before .before .before .before .before .keep-names .ensures) (c .before .before .before .before .before .before .if6 .left), (names-words (p .1 .0) (p .1 .1 .1 .1) g (c .before .before .before .before .before .before .before .before .before .before .before .before .loop-test .left) (c .before .before .before .before .before .before .before .keep-names .ensures) (c .before .before .before .before .before .before .if6 .left), (c .before .before .before .before .before .before .before .keep-names .ensures .stacks-are (c .before .before .before .before .before .before .if6 .left), names-good (p .1 .0) (p .1 .1 .1 .1) g (c .before .before .before .before .before .before .before .before .before .before .before .before .loop-test .left) (c .before .before .before .before .before .before .before .keep-names .ensures) (c .before .before .before .before .before .before .if6 .left)))))
+
+-- src/lib.rt:67:1
+localize-returns-5 : (t : ℕ) → localize-lts.Need-returns-5 (
+  expressions-at-reads.Asked,
+  expressions-at-reads.Learnt,
+  wide-reads.Asked,
+  wide-reads.Learnt,
+  find-reads.Asked,
+  find-reads.Learnt,
+  slot-reads.Asked,
+  slot-reads.Learnt,
+  begin-reads.Asked,
+  begin-reads.Learnt,
+  declare-reads.Asked,
+  declare-reads.Learnt,
+  run-reads.Asked,
+  run-reads.Learnt,
+  longer-reads.Asked,
+  longer-reads.Learnt,
+  flag-reads.Asked,
+  flag-reads.Learnt,
+  follow-below t,
+  follow.Post,
+  put-word-reads.Asked,
+  put-word-reads.Learnt,
+  pass-reads.Asked,
+  pass-reads.Learnt,
+  keep-names-reads.Asked,
+  keep-names-reads.Learnt,
+  import-names-reads.Asked,
+  import-names-reads.Learnt,
+) (localize-at t) localize.Post localize-Inv-loop localize-μ-loop
+localize-returns-5 t c = let a = c .before .before .before .before .before .before .before .before .before .before .before .before .before .before .before .before .before .before .before .before .before .before .before .before .before .before .before .before .before .before .before .before .before .before .before .before .args in let p = c .before .before .before .before .before .before .before .before .before .before .before .before .before .before .before .before .before .before .before .before .before .before .before .before .before .before .before .before .before .before .before .before .before .before .before .before .pre .1 in let g = c .before .before .before .before .before .before .before .before .before .before .before .before .before .before .loop .inv .on refl (p .1 .1 .1 .1) (going-start (p .1 .0) (reading (p .1 .0) (c .before .before .before .before .before .before .before .before .before .before .before .before .before .before .before .before .before .before .before .before .before .before .before .before .before .before .before .before .before .before .before .before .before .before .expressions-at .ensures .0) (c .before .before .before .before .before .before .before .before .before .before .before .before .before .before .before .before .before .before .before .before .before .before .before .before .before .before .before .before .before .before .find .ensures) (c .before .before .before .before .before .before .before .before .before .before .before .before .before .before .before .before .before .before .before .before .before .before .before .before .before .before .before .before .before .before .before .before .wide .ensures .0) (c .before .before .before .before .before .before .before .before .before .before .before .before .before .before .before .before .before .before .before .before .before .before .before .before .before .before .before .before .slot .ensures .0) (c .before .before .before .before .before .before .before .before .before .before .before .before .before .before .before .before .before .before .before .before .before .before .before .before .before .before .wide2 .ensures .0) refl) (p .1 .1 .1 .1) (a .room) (c .before .before .before .before .before .before .before .before .before .before .before .before .before .before .before .before .before .begin .ensures) (c .before .before .before .before .before .before .before .before .before .before .before .before .before .before .before .before .declare .ensures) (c .before .before .before .before .before .before .before .before .before .before .before .before .before .before .before .if1 .left)) in names-whole (p .1 .0) (p .1 .1 .1 .1) g (c .before .before .before .before .before .before .before .before .before .before .before .before .before .loop-test .left) (c .before .before .before .before .before .before .before .before .keep-names .ensures) (c .before .before .before .before .before .before .before .if6 .left) (c .import-names .ensures)
+
+pub +append+follow+localize-spec : {M : Type 1} → statement M
++append+follow+localize-spec = close μ-append μ-follow μ-localize (λ t. append-lts.spec (
+  record-at-reads.Asked,
+  record-at-reads.Learnt,
+  record-end-reads.Asked,
+  record-end-reads.Learnt,
+  localize-below t,
+  localize.Post,
+  expressions-at-reads.Asked,
+  expressions-at-reads.Learnt,
+  body-at-reads.Asked,
+  body-at-reads.Learnt,
+  close-reads.Asked,
+  close-reads.Learnt,
+)
+    (append-at t)
+    append.Post
+    (append-record-at-requires t)
+    (append-record-end-requires t)
+    (append-localize-requires t)
+    (append-returns t)
+    (append-expressions-at-requires t)
+    (append-body-at-requires t)
+    (append-close-requires t)
+    (append-returns-2 t))
+    (λ t. follow-lts.spec (
+      known-reads.Asked,
+      known-reads.Learnt,
+      append-below t,
+      append.Post,
+      find-reads.Asked,
+      find-reads.Learnt,
+    )
+    (follow-at t)
+    follow.Post
+    (follow-returns t)
+    (follow-known-requires t)
+    (follow-returns-2 t)
+    (follow-sub-append t)
+    (follow-append-requires t)
+    (follow-returns-3 t)
+    (follow-find-requires t)
+    (follow-returns-4 t))
+    λ t. localize-lts.spec (
+      expressions-at-reads.Asked,
+      expressions-at-reads.Learnt,
+      wide-reads.Asked,
+      wide-reads.Learnt,
+      find-reads.Asked,
+      find-reads.Learnt,
+      slot-reads.Asked,
+      slot-reads.Learnt,
+      begin-reads.Asked,
+      begin-reads.Learnt,
+      declare-reads.Asked,
+      declare-reads.Learnt,
+      run-reads.Asked,
+      run-reads.Learnt,
+      longer-reads.Asked,
+      longer-reads.Learnt,
+      flag-reads.Asked,
+      flag-reads.Learnt,
+      follow-below t,
+      follow.Post,
+      put-word-reads.Asked,
+      put-word-reads.Learnt,
+      pass-reads.Asked,
+      pass-reads.Learnt,
+      keep-names-reads.Asked,
+      keep-names-reads.Learnt,
+      import-names-reads.Asked,
+      import-names-reads.Learnt,
+    )
+    (localize-at t)
+    localize.Post
+    localize-Inv-loop
+    localize-μ-loop
+    (localize-cast-e1 t)
+    (localize-expressions-at-requires t)
+    (localize-mul-wide t)
+    (localize-element-copy-out-wide t)
+    (localize-wide-requires t)
+    (localize-add-find t)
+    (localize-find-requires t)
+    (localize-mul-slot t)
+    (localize-element-copy-out-slot t)
+    (localize-slot-requires t)
+    (localize-add-body t)
+    (localize-mul-wide-2 t)
+    (localize-element-copy-out-wide-2 t)
+    (localize-wide-requires-2 t)
+    (localize-mul-body t)
+    (localize-add-body-2 t)
+    (localize-begin-requires t)
+    (localize-declare-requires t)
+    (localize-returns t)
+    (localize-loop-holds t)
+    (localize-cast-run t)
+    (localize-cast-run-2 t)
+    (localize-run-requires t)
+    (localize-sub-longer t)
+    (localize-longer-requires t)
+    (localize-add-i t)
+    (localize-flag-requires t)
+    (localize-element-copy-out-if3 t)
+    (localize-mul-wide-3 t)
+    (localize-element-copy-out-wide-3 t)
+    (localize-wide-requires-3 t)
+    (localize-add-follow t)
+    (localize-follow-requires t)
+    (localize-returns-2 t)
+    (localize-put-word-requires t)
+    (localize-pass-requires t)
+    (localize-returns-3 t)
+    (localize-loop-less t)
+    (localize-loop-again t)
+    (localize-loop-less-2 t)
+    (localize-loop-again-2 t)
+    (localize-cast-b t)
+    (localize-keep-names-requires t)
+    (localize-returns-4 t)
+    (localize-import-names-requires t)
+    (localize-returns-5 t)

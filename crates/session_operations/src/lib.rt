@@ -1,0 +1,552 @@
+// The operations of a session on the state that the arrays hold, but for those on functions: each with its refusals in their sequence, and where it is refused
+// the session is as it was.
+use base_handles::ConstantHandle;
+use base_handles::ExpressionHandle;
+use base_handles::GlobalHandle;
+use base_handles::OverrideHandle;
+use base_handles::TypeHandle;
+use base_refusals::FULL;
+use base_refusals::NO_RECORD;
+use base_refusals::NO_SOURCE;
+use base_views::CONSTANTS;
+use base_views::GLOBALS;
+use base_views::NAMES;
+use base_views::OVERRIDES;
+use base_views::TYPES;
+use base_views::count;
+use base_words::wide;
+use derive_finish::finish;
+use derive_rollback::handle;
+use derive_source::set_source;
+use derive_state::Ends;
+use derive_state::forget;
+use derive_state::nothing;
+use intake::Taken;
+use std::num::wrapping_add_u32;
+ghost use mathlib.Core.Path.{_≡_};
+ghost use mathlib.Core.Bool.{false};
+ghost use Prim.Native.Nat.{ℕ, _≤_, _<_};
+ghost use lib.ListN.{length};
+ghost use Rattle.base_words.specs.Words.{wordsOf};
+ghost use Rattle.model.specs.Module.{countAt};
+ghost use Rattle.model.specs.Imports.{importT};
+ghost use Rattle.model.specs.Session.{importing, renameType, set as setOf, finish as finishOf};
+ghost use Rattle.derive_state.specs.Refers.{kindBytes, tabOf};
+ghost use Rattle.derive_state.specs.Source.{srcOf, Source};
+ghost use Rattle.derive_state.specs.Held.{Kept, Specials, Whole};
+ghost use Rattle.session_operations.specs.Live.{sessionOf, Live, Does, Spans, Requires, Finishes};
+
+// What an operation says: its refusal, 0 for none; a value; and the ends of the state behind it.
+pub struct Said {
+    pub refusal: u32,
+    pub value: u32,
+    pub ends: Ends,
+}
+
+// Record h of table t, one of the five behind that of names.
+fn import_record(
+    words: &[u32; 16384],
+    tags: &[u8; 16384],
+    kinds: &[u8; 256],
+    n: usize,
+    log: &mut [u32; 16384],
+    classes: &mut [u8; 16384],
+    starts: &mut [[u32; 512]; 8],
+    maps: &mut [[u32; 512]; 6],
+    marks: &mut [u16; 16384],
+    ends: Ends,
+    offset: u32,
+    t: usize,
+    h: u32,
+) -> Ends
+    requires { ⌜ Source (now words) (now tags) n ⌝ }
+    requires { ⌜ (1 ≤ t) × (t < 6) × (h < countAt t (now words)) × (ends .full ≡ false) ⌝ }
+    requires { ⌜ now kinds ≡ kindBytes ⌝ }
+    requires { ⌜ Kept (now log) (now classes) (now starts) (now maps) (now marks) ends ⌝ }
+    ensures { λ r. ⌜ Whole (now (words .entry)) (importT offset (srcOf (now (words .entry)) n) (tabOf t) h) (now (log .entry)) (now (classes .entry)) (now (starts .entry)) (now (maps .entry)) ends r (now (log .exit)) (now (classes .exit)) (now (starts .exit)) (now (maps .exit)) (now (marks .exit)) ⌝ }
+{
+    if t == TYPES {
+        return derive_rollback::import_type(
+            words,
+            tags,
+            kinds,
+            n,
+            log,
+            classes,
+            starts,
+            maps,
+            marks,
+            ends,
+            offset,
+            TypeHandle(h),
+        );
+    }
+    if t == CONSTANTS {
+        return derive_rollback::import_const(
+            words,
+            tags,
+            kinds,
+            n,
+            log,
+            classes,
+            starts,
+            maps,
+            marks,
+            ends,
+            offset,
+            ConstantHandle(h),
+        );
+    }
+    if t == OVERRIDES {
+        return derive_rollback::import_pipeline_override(
+            words,
+            tags,
+            kinds,
+            n,
+            log,
+            classes,
+            starts,
+            maps,
+            marks,
+            ends,
+            offset,
+            OverrideHandle(h),
+        );
+    }
+    if t == GLOBALS {
+        return derive_rollback::import_global(
+            words,
+            tags,
+            kinds,
+            n,
+            log,
+            classes,
+            starts,
+            maps,
+            marks,
+            ends,
+            offset,
+            GlobalHandle(h),
+        );
+    }
+    derive_rollback::import_global_expression(
+        words,
+        tags,
+        kinds,
+        n,
+        log,
+        classes,
+        starts,
+        maps,
+        marks,
+        ends,
+        offset,
+        ExpressionHandle(h),
+    )
+}
+
+// import_type, import_const, import_pipeline_override, import_global, import_global_expression: record h of table t.
+pub fn import(
+    words: &[u32; 16384],
+    tags: &[u8; 16384],
+    kinds: &[u8; 256],
+    n: usize,
+    log: &mut [u32; 16384],
+    classes: &mut [u8; 16384],
+    starts: &mut [[u32; 512]; 8],
+    maps: &mut [[u32; 512]; 6],
+    marks: &mut [u16; 16384],
+    special: &[u32; 1027],
+    ends: Ends,
+    set: bool,
+    offset: u32,
+    t: usize,
+    h: u32,
+) -> Said
+    requires { ⌜ (1 ≤ t) × (t < 6) ⌝ }
+    requires { ⌜ Live set n offset (now words) (now tags) (now kinds) (now log) (now classes) (now starts) (now maps) (now marks) (now special) ends ⌝ }
+    ensures { λ r. ⌜ Does {A = ℕ} (importing (tabOf t) h) (sessionOf set n offset (now (words .entry)) (now (log .entry)) (now (classes .entry)) (now (starts .entry)) (now (maps .entry)) (now (special .entry)) ends) (r .refusal) (r .value) (sessionOf set n offset (now (words .entry)) (now (log .exit)) (now (classes .exit)) (now (starts .exit)) (now (maps .exit)) (now (special .entry)) (r .ends)) ⌝ }
+    ensures { λ r. ⌜ Live set n offset (now (words .entry)) (now (tags .entry)) (now (kinds .entry)) (now (log .exit)) (now (classes .exit)) (now (starts .exit)) (now (maps .exit)) (now (marks .exit)) (now (special .entry)) (r .ends) ⌝ }
+{
+    if !set {
+        return Said {
+            refusal: NO_SOURCE,
+            value: 0,
+            ends: ends,
+        };
+    }
+    if count(words, t) <= wide(h) {
+        return Said {
+            refusal: NO_RECORD,
+            value: 0,
+            ends: ends,
+        };
+    }
+    let imported = import_record(
+        words,
+        tags,
+        kinds,
+        n,
+        log,
+        classes,
+        starts,
+        maps,
+        marks,
+        ends,
+        offset,
+        t,
+        h,
+    );
+    if imported.full {
+        return Said {
+            refusal: FULL,
+            value: 0,
+            ends: ends,
+        };
+    }
+    let v = handle(maps, t, h);
+    Said {
+        refusal: 0,
+        value: v,
+        ends: imported,
+    }
+}
+
+// rename_type: type h under the name of that number.
+pub fn rename_type(
+    words: &[u32; 16384],
+    tags: &[u8; 16384],
+    kinds: &[u8; 256],
+    n: usize,
+    log: &mut [u32; 16384],
+    classes: &mut [u8; 16384],
+    starts: &mut [[u32; 512]; 8],
+    maps: &mut [[u32; 512]; 6],
+    marks: &mut [u16; 16384],
+    special: &[u32; 1027],
+    ends: Ends,
+    set: bool,
+    offset: u32,
+    h: u32,
+    name: u32,
+) -> Said
+    requires { ⌜ Live set n offset (now words) (now tags) (now kinds) (now log) (now classes) (now starts) (now maps) (now marks) (now special) ends ⌝ }
+    ensures { λ r. ⌜ Does {A = ℕ} (renameType h name) (sessionOf set n offset (now (words .entry)) (now (log .entry)) (now (classes .entry)) (now (starts .entry)) (now (maps .entry)) (now (special .entry)) ends) (r .refusal) (r .value) (sessionOf set n offset (now (words .entry)) (now (log .exit)) (now (classes .exit)) (now (starts .exit)) (now (maps .exit)) (now (special .entry)) (r .ends)) ⌝ }
+    ensures { λ r. ⌜ Live set n offset (now (words .entry)) (now (tags .entry)) (now (kinds .entry)) (now (log .exit)) (now (classes .exit)) (now (starts .exit)) (now (maps .exit)) (now (marks .exit)) (now (special .entry)) (r .ends) ⌝ }
+{
+    if !set {
+        return Said {
+            refusal: NO_SOURCE,
+            value: 0,
+            ends: ends,
+        };
+    }
+    if count(words, TYPES) <= wide(h) {
+        return Said {
+            refusal: NO_RECORD,
+            value: 0,
+            ends: ends,
+        };
+    }
+    if count(words, NAMES) <= wide(name) {
+        return Said {
+            refusal: NO_RECORD,
+            value: 0,
+            ends: ends,
+        };
+    }
+    let renamed = derive_rollback::rename_type(
+        words,
+        tags,
+        kinds,
+        n,
+        log,
+        classes,
+        starts,
+        maps,
+        marks,
+        ends,
+        offset,
+        TypeHandle(h),
+        name,
+    );
+    if renamed.full {
+        return Said {
+            refusal: FULL,
+            value: 0,
+            ends: ends,
+        };
+    }
+    let v = handle(maps, TYPES, h);
+    Said {
+        refusal: 0,
+        value: v,
+        ends: renamed,
+    }
+}
+
+// A span by the source's offset.
+pub struct Span {
+    pub refusal: u32,
+    pub start: u32,
+    pub end: u32,
+}
+
+// map_span
+pub fn map_span(set: bool, offset: u32, a: u32, b: u32) -> Span
+    ensures { λ r. ⌜ Spans set offset a b (r .refusal) (r .start) (r .end) ⌝ }
+{
+    if !set {
+        return Span {
+            refusal: NO_SOURCE,
+            start: 0,
+            end: 0,
+        };
+    }
+    if a == 0 {
+        if b == 0 {
+            return Span {
+                refusal: 0,
+                start: 0,
+                end: 0,
+            };
+        }
+    }
+    Span {
+        refusal: 0,
+        start: wrapping_add_u32(a, offset),
+        end: wrapping_add_u32(b, offset),
+    }
+}
+
+// has_required_special_types: 1 if there are any.
+pub fn required(special: &[u32; 1027], ends: Ends) -> u32
+    requires { ⌜ Specials (now special) ends ⌝ }
+    ensures { λ r. ⌜ Requires (now (special .entry)) ends r ⌝ }
+{
+    if ends.pairs != 0 {
+        return 1;
+    }
+    if special[0] != 0 {
+        return 1;
+    }
+    if special[1] != 0 {
+        return 1;
+    }
+    if special[2] != 0 {
+        return 1;
+    }
+    0
+}
+
+// What setting a source says: its refusal, 0 for none; the words of the source that is set then; and the ends.
+pub struct Set {
+    pub refusal: u32,
+    pub set: bool,
+    pub n: usize,
+    pub offset: u32,
+    pub ends: Ends,
+}
+
+// set_shader_source where no source is set: there is none that a refusal has to leave, so the image goes at once where a source's words are. What a refused one
+// left there is cleared.
+fn set_first(
+    image: &[u8],
+    words: &mut [u32; 16384],
+    tags: &mut [u8; 16384],
+    kinds: &[u8; 256],
+    n: usize,
+    log: &mut [u32; 16384],
+    classes: &mut [u8; 16384],
+    starts: &mut [[u32; 512]; 8],
+    maps: &mut [[u32; 512]; 6],
+    marks: &mut [u16; 16384],
+    special: &mut [u32; 1027],
+    ends: Ends,
+    offset: u32,
+    o: u32,
+) -> Set
+    requires { ⌜ Live false n offset (now words) (now tags) (now kinds) (now log) (now classes) (now starts) (now maps) (now marks) (now special) ends ⌝ }
+    ensures { λ r. ⌜ Does {A = Unit {0}} (setOf (length (now (image .entry))) (wordsOf (now (image .entry))) o) (sessionOf false n offset (now (words .entry)) (now (log .entry)) (now (classes .entry)) (now (starts .entry)) (now (maps .entry)) (now (special .entry)) ends) (r .refusal) tt (sessionOf (r .set) (r .n) (r .offset) (now (words .exit)) (now (log .exit)) (now (classes .exit)) (now (starts .exit)) (now (maps .exit)) (now (special .exit)) (r .ends)) ⌝ }
+    ensures { λ r. ⌜ Live (r .set) (r .n) (r .offset) (now (words .exit)) (now (tags .exit)) (now (kinds .entry)) (now (log .exit)) (now (classes .exit)) (now (starts .exit)) (now (maps .exit)) (now (marks .exit)) (now (special .exit)) (r .ends) ⌝ }
+{
+    let taken = intake::take_in(image, words, tags);
+    if let Taken::Accepted(m) = taken {
+        let got = set_source(
+            words,
+            tags,
+            kinds,
+            m,
+            log,
+            classes,
+            starts,
+            maps,
+            marks,
+            special,
+            ends,
+            o,
+        );
+        if got.full {
+            return Set {
+                refusal: FULL,
+                set: false,
+                n: n,
+                offset: offset,
+                ends: ends,
+            };
+        }
+        return Set {
+            refusal: 0,
+            set: true,
+            n: m,
+            offset: o,
+            ends: got,
+        };
+    }
+    *words = intake::fresh_words();
+    *tags = intake::fresh_tags();
+    Set {
+        refusal: intake::number(taken),
+        set: false,
+        n: n,
+        offset: offset,
+        ends: ends,
+    }
+}
+
+// set_shader_source: the image with the offset o. A source that is set stays until the image is accepted and fits.
+pub fn set_source_of(
+    image: &[u8],
+    words: &mut [u32; 16384],
+    tags: &mut [u8; 16384],
+    kinds: &[u8; 256],
+    n: usize,
+    log: &mut [u32; 16384],
+    classes: &mut [u8; 16384],
+    starts: &mut [[u32; 512]; 8],
+    maps: &mut [[u32; 512]; 6],
+    marks: &mut [u16; 16384],
+    special: &mut [u32; 1027],
+    ends: Ends,
+    set: bool,
+    offset: u32,
+    o: u32,
+) -> Set
+    requires { ⌜ Live set n offset (now words) (now tags) (now kinds) (now log) (now classes) (now starts) (now maps) (now marks) (now special) ends ⌝ }
+    ensures { λ r. ⌜ Does {A = Unit {0}} (setOf (length (now (image .entry))) (wordsOf (now (image .entry))) o) (sessionOf set n offset (now (words .entry)) (now (log .entry)) (now (classes .entry)) (now (starts .entry)) (now (maps .entry)) (now (special .entry)) ends) (r .refusal) tt (sessionOf (r .set) (r .n) (r .offset) (now (words .exit)) (now (log .exit)) (now (classes .exit)) (now (starts .exit)) (now (maps .exit)) (now (special .exit)) (r .ends)) ⌝ }
+    ensures { λ r. ⌜ Live (r .set) (r .n) (r .offset) (now (words .exit)) (now (tags .exit)) (now (kinds .entry)) (now (log .exit)) (now (classes .exit)) (now (starts .exit)) (now (maps .exit)) (now (marks .exit)) (now (special .exit)) (r .ends) ⌝ }
+{
+    if !set {
+        return set_first(
+            image,
+            words,
+            tags,
+            kinds,
+            n,
+            log,
+            classes,
+            starts,
+            maps,
+            marks,
+            special,
+            ends,
+            offset,
+            o,
+        );
+    }
+    let mut w = intake::fresh_words();
+    let mut t = intake::fresh_tags();
+    let taken = intake::take_in(image, &mut w, &mut t);
+    if let Taken::Accepted(m) = taken {
+        let got = set_source(
+            &w,
+            &t,
+            kinds,
+            m,
+            log,
+            classes,
+            starts,
+            maps,
+            marks,
+            special,
+            ends,
+            o,
+        );
+        if got.full {
+            return Set {
+                refusal: FULL,
+                set: set,
+                n: n,
+                offset: offset,
+                ends: ends,
+            };
+        }
+        *words = w;
+        *tags = t;
+        return Set {
+            refusal: 0,
+            set: true,
+            n: m,
+            offset: o,
+            ends: got,
+        };
+    }
+    Set {
+        refusal: intake::number(taken),
+        set: set,
+        n: n,
+        offset: offset,
+        ends: ends,
+    }
+}
+
+// What finishing says: its refusal, 0 for none; the bytes written; and the ends: those of a new session, or as they were.
+pub struct Finished {
+    pub refusal: u32,
+    pub bytes: usize,
+    pub set: bool,
+    pub ends: Ends,
+}
+
+// finish, without entry points.
+pub fn finish_plain(
+    words: &[u32; 16384],
+    tags: &[u8; 16384],
+    kinds: &[u8; 256],
+    n: usize,
+    log: &[u32; 16384],
+    classes: &[u8; 16384],
+    starts: &[[u32; 512]; 8],
+    maps: &mut [[u32; 512]; 6],
+    marks: &[u16; 16384],
+    special: &mut [u32; 1027],
+    ends: Ends,
+    set: bool,
+    offset: u32,
+    output: &mut [u8],
+) -> Finished
+    requires { ⌜ Live set n offset (now words) (now tags) (now kinds) (now log) (now classes) (now starts) (now maps) (now marks) (now special) ends ⌝ }
+    ensures { λ r. ⌜ Finishes (finishOf (length (now (output .entry))) (sessionOf set n offset (now (words .entry)) (now (log .entry)) (now (classes .entry)) (now (starts .entry)) (now (maps .entry)) (now (special .entry)) ends)) (sessionOf set n offset (now (words .entry)) (now (log .entry)) (now (classes .entry)) (now (starts .entry)) (now (maps .entry)) (now (special .entry)) ends) (r .refusal) (r .bytes) (now (output .entry)) (now (output .exit)) (sessionOf (r .set) n offset (now (words .entry)) (now (log .entry)) (now (classes .entry)) (now (starts .entry)) (now (maps .exit)) (now (special .exit)) (r .ends)) ⌝ }
+    ensures { λ r. ⌜ Live (r .set) n offset (now (words .entry)) (now (tags .entry)) (now (kinds .entry)) (now (log .entry)) (now (classes .entry)) (now (starts .entry)) (now (maps .exit)) (now (marks .entry)) (now (special .exit)) (r .ends) ⌝ }
+{
+    let mut out = [0u32; 16384];
+    let got = finish(log, classes, starts, special, ends, &mut out, output);
+    if got.refusal != 0 {
+        return Finished {
+            refusal: got.refusal,
+            bytes: 0,
+            set: set,
+            ends: ends,
+        };
+    }
+    forget(maps);
+    special[0] = 0;
+    special[1] = 0;
+    special[2] = 0;
+    Finished {
+        refusal: 0,
+        bytes: got.bytes,
+        set: false,
+        ends: nothing(),
+    }
+}

@@ -1,0 +1,1 @@
+// Theorems on importing a function's body, in specs/. No code.

@@ -1,0 +1,1 @@
+// Theorems on reading, writing, viewing and rewriting an image, in specs/. No code.

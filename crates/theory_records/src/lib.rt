@@ -1,0 +1,1 @@
+// Theorems on importing the records of tables, in specs/. No code.

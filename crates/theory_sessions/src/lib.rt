@@ -1,0 +1,1 @@
+// What holds of any session, in specs/. No code.
