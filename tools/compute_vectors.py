@@ -1,6 +1,6 @@
 #!/usr/bin/env python3
 """Writes the theorems of the crate model_vectors: the model's link and run of steps on vectors, each computed and compared by refl; and what the crate
-wuldgisp_refuted computes.
+wuldgisp_refuted computes of images.
 
     tools/compute_vectors.py [FOLDER]       writes Links.antt and Sessions.antt for the vectors named below, and Small.antt, to crates/model_vectors/specs, and
                                             Answers.antt to crates/wuldgisp_refuted/specs; or all of them to another folder
@@ -11,7 +11,9 @@ import re
 import struct
 import sys
 
-LINKS = ["000", "001", "002", "003", "004", "006", "008", "013"]
+LINKS = ["002", "003", "006", "008", "013"]
+# those that other files name
+NAMED = {"P5": "000", "P6": "001", "P11": "004"}
 SESSIONS = ["s001", "s008", "s104", "s106"]
 # the files of the model whose definitions have to be unfolded
 MODEL = ["Outcome", "Table", "Tree", "Module", "Carry", "Operands", "Lower", "Names", "Initial", "Numbers", "Scope", "Intake", "Calls", "Callees", "Redirect",
@@ -43,6 +45,11 @@ def listed(numbers):
     return "(" + " ∷ ".join(map(str, numbers)) + " ∷ [])" if numbers else "[]"
 
 
+def defined(name, numbers):
+    """A list of numbers under a name."""
+    return [f"unfoldable pub {name} : List ℕ", f"{name} = {listed(numbers)[1:-1]}", ""]
+
+
 def imports(files):
     """Use lines under names that do not meet, and what to unfold."""
     uses, names = [], []
@@ -60,14 +67,41 @@ def bytes_of(name):
     return open(f"vectors/{name}", "rb").read()
 
 
+def changed(image, at, byte):
+    return image[:at] + bytes([byte]) + image[at + 1 :]
+
+
+def p8():
+    """P6, with the callee in fog's call changed from tone to shade."""
+    return changed(bytes_of("001.img"), 284, 0)
+
+
+def image_of(names=(), types=(), constants=(), expressions=(), functions=(), ray=0, pairs=()):
+    """An image as words: of names as text, of records as words, of the first of the three optional special types, and of pairs of a key and a type."""
+    texts = [[len(name), *words(name.encode().ljust((len(name) + 3) // 4 * 4, b"\0"))] for name in names]
+    head, body = [], []
+    for records in (texts, types, constants, [], [], expressions, functions, []):
+        head += [len(records), 20 + len(body)]
+        body += [len(records) + sum(map(len, records[:i])) for i in range(len(records))] + sum(records, [])
+    head += [len(pairs), 20 + len(body)]
+    body += [ray, 0, 0, *sum(map(list, pairs), [])]
+    return [1, 20 + len(body), *head, *body]
+
+
 def links(uses, unfolding):
     """Link on an image, into an output as long as the image."""
     expected = {line.split("\t")[0]: line.split("\t")[1:] for line in open("vectors/expected.tsv").read().strip().split("\n")}
-    text = ["use Rattle.model.specs.Link.{linked, refused, ringed}", ""]
+    text = ["use Rattle.model.specs.Refusals.{done, refused, ringed}", "", "-- ---- marked cases by name"]
+    for name, number in NAMED.items():
+        image, linked = (words(bytes_of(f"{number}.{end}")) for end in ("img", "linked"))
+        text += [*defined(name, image), *defined(f"{name}-linked", linked), f"pub {name.lower()}-links : Link-link {4 * len(image)} {name} {4 * len(image)} ≡ done {name}-linked",
+                 f"{unfolding} {name} {name}-linked", f"{name.lower()}-links = refl", ""]
+    image = words(p8())
+    text += [*defined("P8", image), f"pub p8-rings : Link-link {4 * len(image)} P8 {4 * len(image)} ≡ ringed 2", f"{unfolding} P8", "p8-rings = refl", "", "-- ---- vectors by number"]
     for name in LINKS:
         image = bytes_of(f"{name}.img")
         if os.path.exists(f"vectors/{name}.linked"):
-            answer = "linked " + listed(words(bytes_of(f"{name}.linked")))
+            answer = "done " + listed(words(bytes_of(f"{name}.linked")))
         elif expected[name][0] != "ok":
             answer = "refused " + expected[name][0].split()[1]
         else:
@@ -114,14 +148,37 @@ def small():
     two = [1, 47, 0, 20, 2, 20, *[0, 44] * 7, 2, 13, 0, 3, 4, *[0] * 12, 1, *[0] * 9]
     lists["two-sources"] = one + two
     lists["merged"] = [*two[:23], 1, 2, *two[25:]]
+    literal, leaf = [0, 0, 0, 3, 7, 0], [0] * 11
+    # a function f: a literal that nothing reads, another, and an Emit of its Negate; and the same without the first
+    head, emit, negate = [1, *[0] * 5], [1, 6, 0, 0, 0], [16, 0, 0, 0]
+    lists["later"] = image_of(names=["f"], functions=[[*head, 3, *literal, *literal, *negate, 1, 0, *emit, 2, 3]])
+    lists["later-moved"] = image_of(names=["f"], functions=[[*head, 2, *literal, *negate, 0, 0, *emit, 1, 2]])
+    # a function f with two locals: the first starts as a Splat of a literal, named x, the second as its Negate; the body is empty
+    lists["initialised"] = image_of(names=["f", "x"], types=[leaf], functions=[[1, 0, 0, 0, 0, 2, *[0] * 4, 2, *[0] * 4, 3, 3, *literal, 7, 0, 0, 0, 0, *negate, 0, 1, 1, 2, 0]])
+    # a global expression that names a constant, whose value is a literal
+    lists["constant"] = image_of(types=[leaf], constants=[[0] * 5], expressions=[literal, [1, 0, 0, 0]])
+    # a source whose only type is special, by its place and for the key 7; and one with other types there, of which the second has the place
+    lists["special"] = image_of(types=[leaf], ray=1, pairs=[(7, 0)])
+    lists["two-special"] = lists["special"] + image_of(types=[[0, 0, 0, 0, kind, *[0] * 6] for kind in (1, 2)], ray=2, pairs=[(7, 0)])
     function, finish = [9, 0, 0, 0], [13, 0, 400, 0]
     return lists, {
         "nested": ("P5, of which a is imported, and b, which it calls, first", "p5", [0, 0, 276, 0, *function, *finish], 0, [0, 0, 0, 0, 1, 0, 0, 224, 0], "p5-called"),
         "refused": ("the same, and a function 7 where no source is set, and a function 3 of P5", "p5", [9, 7, 0, 0, 0, 0, 276, 0, 9, 3, 0, 0, *function, *finish], 20,
                     [20, 0, 0, 0, 0, 0, 13, 0, 0, 0, 1, 0, 0, 224, 0], "p5-called"),
-        "passed": ("P10", "p10", [0, 0, 336, 0, *function, *finish], 0, [0, 0, 0, 0, 0, 0, 0, 288, 0], "p10-passed"),
+        "known": ("P5, of which b is imported, and then a, which calls it", "p5", [0, 0, 276, 0, 9, 1, 0, 0, *function, *finish], 0, [0, 0, 0, 0, 0, 0, 0, 1, 0, 0, 224, 0],
+                  "p5-called"),
+        "ended": ("P5, finished with its entry points, of which it has none; and then an import", "p5", [0, 0, 276, 0, 14, 0, 400, 0, *function], 20 + 2 * 2**32,
+                  [0, 0, 0, 0, 92, 0, 20, 0, 0], "nothing"),
+        "passed": ("P10, with an offset: all its spans are undefined", "p10", [0, 0, 336, 10, *function, *finish], 0, [0, 0, 0, 0, 0, 0, 0, 288, 0], "p10-passed"),
         "emitted": ("P11", "p11", [0, 0, 280, 0, *function, *finish], 0, [0, 0, 0, 0, 0, 0, 0, 280, 0], "p11-emitted"),
         "dropped": ("a function f with a literal that nothing reads, named x", "unread", [0, 0, 188, 0, *function, *finish], 0, [0, 0, 0, 0, 0, 0, 0, 144, 0], "unread-dropped"),
+        "emitted-later": ("a function f with a literal that nothing reads, another, and an Emit of its Negate", "later", [0, 0, 236, 0, *function, *finish], 0,
+                          [0, 0, 0, 0, 0, 0, 0, 212, 0], "later-moved"),
+        "initial": ("a function f with two locals and their initialisers, one of them named x", "initialised", [0, 0, 316, 0, *function, *finish], 0,
+                    [0, 0, 0, 0, 0, 0, 0, 316, 0], "initialised"),
+        "constant-named": ("a global expression that names a constant", "constant", [0, 0, 212, 0, 8, 1, 0, 0, *finish], 0, [0, 0, 0, 0, 1, 0, 0, 212, 0], "constant"),
+        "shared": ("two sources with special types in one place and for one key; and after a finish, whether types are required", "two-special",
+                   [0, 0, 148, 0, 0, 148, 196, 0, 3, 0, 0, 0, 3, 1, 0, 0, *finish, 12, 0, 0, 0], 0, [*[0] * 12, 0, 148, 0, 0, 0, 0], "special"),
         "spans": ("P1 and P2, and by another offset P3 and P4", "nothing", [0, 0, 92, 10, 2, 0, 0, 0, 2, 0, 4, 0, 0, 0, 92, 4294967290, 2, 5, 9, 0, 2, 6, 6, 0], 0,
                   [0, 0, 0, 0, 0, 0, 0, 10, 14, 0, 0, 0, 0, 4294967295, 3, 0, 0, 0], None),
         "types": ("a type of one source; of another the same with another span, and a second", "two-sources",
@@ -135,24 +192,20 @@ def small_sessions(uses, unfolding):
             "-- the places and words of the steps that write",
             "unfoldable pub wrote : List Said → List (ℕ × List ℕ)", "wrote [] = []",
             "wrote (x ∷ xs) = elim (x .written) [ [] ↦ wrote xs | w ∷ ws ↦ (x .at, w ∷ ws) ∷ wrote xs ]", "",
-            "-- what these steps answer, tell and write with these sources, in an output of 400 bytes",
+            "-- what these steps answer and write with these sources, in an output of 400 bytes",
             "unfoldable pub does : List ℕ → List ℕ → ℕ × List ℕ × List (ℕ × List ℕ)",
             "does sources steps = let xs = Steps-run steps sources (replicate 400 0) Session-new in (Steps-firstRefused xs 0, Steps-answersOf xs, wrote xs)", "",
             "-- ---- sources, and images derived from them, as words"]
     lists, cases = small()
     for name, numbers in lists.items():
-        text += [f"unfoldable pub {name} : List ℕ", f"{name} = {listed(numbers)[1:-1]}", ""]
+        text += defined(name, numbers)
     for name, (shows, sources, steps, result, answers, written) in cases.items():
         text += [f"-- ---- {shows}"]
         for part, numbers in (("steps", steps), ("answers", answers)):
-            text += [f"unfoldable pub {name}-{part} : List ℕ", f"{name}-{part} = {listed(numbers)[1:-1]}", ""]
+            text += defined(f"{name}-{part}", numbers)
         text += [f"pub {name} : does (bytesOf {sources}) {name}-steps ≡ ({result}, {name}-answers, {f'(0, {written}) ∷ []' if written else '[]'})",
-                 f"{unfolding} bytesOf wrote does {name}-steps {name}-answers {sources} {written or ''}".rstrip(), f"{name} = refl", ""]
+                 f"{unfolding} bytesOf wrote does {name}-steps {name}-answers {sources}{f' {written}' if written and written != sources else ''}", f"{name} = refl", ""]
     return text
-
-
-def changed(image, at, byte):
-    return image[:at] + bytes([byte]) + image[at + 1 :]
 
 
 def spelt(text):
@@ -160,31 +213,30 @@ def spelt(text):
 
 
 def answers():
-    """What the definitions behind the exported contracts answer for marked cases."""
+    """What the exported functions and `order`'s text answer for marked cases."""
     uses, unfolding = imports(MODEL[: MODEL.index("Redirect") + 1])
-    text = ["-- What the definitions behind the exported contracts answer for document 01's marked cases P5, P6 and P8, and for P6 with a name borne twice. Written by tools/compute_vectors.py.",
-            "use mathlib.Core.Path.{_≡_, refl}", "use mathlib.Core.List.{List, [], _∷_}", "use Prim.Native.Nat.{ℕ}", "use lib.ListN.{length, getD}",
-            "use Rattle.base_words.specs.Words.{wordOf, wordsOf, bytesOf}", *uses, "use Rattle.redirect_words.specs.Passes.{told as redirect-told, imageAfter}",
-            "use Rattle.order_bytes.specs.Images.{told, ofModule, afterIntake, orderImage, packed, written}",
-            "use Rattle.order_lines.specs.Lines.{decimal, nameText, nameIn, nameOf, numbersText, lineText, linesText, headed, orderedText}",
-            "use Rattle.order_text.specs.Telling.{refusing, telling, ofModule as told-ofModule, afterIntake as told-afterIntake, tellingOf}",
-            "use Rattle.redirect_bytes.specs.Images.{ofModule as redirect-ofModule, afterIntake as redirect-afterIntake, redirectImage, packed as redirect-packed}", ""]
-    unfolding += " bytesOf redirect-told imageAfter told ofModule afterIntake orderImage packed written redirect-ofModule redirect-afterIntake redirectImage redirect-packed"
-    unfolding += " decimal nameText nameIn nameOf numbersText lineText linesText headed orderedText refusing telling told-ofModule told-afterIntake tellingOf"
+    on_bytes = ["onImage", "wuldgisp-intake", "orderEnded", "orderImage", "orderAfter", "wuldgisp-order", "redirectEnded", "redirectAfter", "redirectImage", "wuldgisp-redirect"]
+    lines = ["decimal", "nameText", "nameIn", "nameOf", "numbersText", "lineText", "linesText", "headed", "orderedText"]
+    telling = ["refusing", "telling", "tellingOf"]
+    text = ["-- What the exported functions and the text of `order` answer for document 01's marked cases P5, P6 and P8, and for P6 with two functions of one name. Written by tools/compute_vectors.py.",
+            "use mathlib.Core.Path.{_≡_, refl}", "use mathlib.Core.List.{List, [], _∷_}", "use Prim.Native.Nat.{ℕ}", "use lib.ListN.{getD}",
+            "use Rattle.base_words.specs.Words.{wordOf, wordsOf, bytesOf}", *uses, "use Rattle.model.specs.Refusals.{answerBy}", f"use Rattle.model.specs.Image.{{{', '.join(on_bytes)}, orderAnswer}}",
+            f"use Rattle.order_lines.specs.Lines.{{{', '.join(lines)}}}", f"use Rattle.order_text.specs.Telling.{{{', '.join(telling)}}}", ""]
+    unfolding = " ".join([unfolding, "bytesOf", "answerBy", *on_bytes])
     p6 = bytes_of("001.img")
-    # the callee in fog's call of tone, and the number of tone's name
-    images = {"p5": bytes_of("000.img"), "p6": p6, "p8": changed(p6, 284, 0), "twice": changed(p6, 196, 1)}
-    for name, image in images.items():
-        text += [f"unfoldable pub {name} : List ℕ", f"{name} = {listed(list(image))[1:-1]}", ""]
-    computed = [("p6-accepted", "Intake-intakeOf (length p6) (wordsOf p6)", "0"), ("twice-refused", "Intake-intakeOf (length twice) (wordsOf twice)", "5"),
-                ("p5-ordered", "written (orderImage p5) (9 ∷ 9 ∷ 9 ∷ [])", "1 ∷ 2 ∷ 0 ∷ []"), ("p8-left", "packed (orderImage p8)", str(12 + 2 * 2**32)),
+    # of the last the number of tone's name is changed
+    for name, numbers in {"p5": bytes_of("000.img"), "p6": p6, "p8": p8(), "twice": changed(p6, 196, 1)}.items():
+        text += defined(name, list(numbers))
+    computed = [("p6-accepted", "wuldgisp-intake p6", "0"), ("twice-refused", "wuldgisp-intake twice", "5"),
+                ("p5-ordered", "wuldgisp-order p5 (9 ∷ 9 ∷ 9 ∷ []) .1", "1 ∷ 2 ∷ 0 ∷ []"), ("p8-left", "orderAnswer (orderImage p8)", str(12 + 2 * 2**32)),
                 # byte 184 is the callee in shade's call, which is of fog at first
-                ("p6-called", "getD p6 184 0", "2"), ("p6-redirected", "getD (redirectImage p6 2 1 [] .1) 184 0", "1"),
+                ("p6-called", "getD p6 184 0", "2"), ("p6-redirected", "getD (wuldgisp-redirect p6 2 1 [] .1) 184 0", "1"),
+                ("p6-answered", "wuldgisp-redirect p6 2 1 [] .0", str((2 + 65536) * 2**32)),
                 ("p6-told", "tellingOf p6 .text", spelt("functions 3\n0 1 tone\n1 2 fog\n2 0 shade\n")), ("p8-told", "tellingOf p8 .text", spelt("refused 12 left 2\n")),
-                ("twice-told", "tellingOf twice .text", spelt("refused 5\n")),
-                ("p6-answered", "redirect-packed (redirectImage p6 2 1 [] .0)", str((2 + 65536) * 2**32))]
+                ("twice-told", "tellingOf twice .text", spelt("refused 5\n"))]
     for name, term, value in computed:
-        text += [f"pub {name} : {term} ≡ {value}", f"{unfolding} {name.split('-')[0]}", f"{name} = refl", ""]
+        told = " ".join(["", *lines, *telling]) if name.endswith("told") else ""
+        text += [f"pub {name} : {term} ≡ {value}", f"{unfolding}{told} {name.split('-')[0]}", f"{name} = refl", ""]
     return text
 
 

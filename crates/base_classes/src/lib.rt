@@ -1,4 +1,4 @@
-// The classes of words by name, as the tape has them and code compares them: the model's numbers, each written here once. What each class is, the
+// The classes of words by name, as the tags have them and code compares them: the model's numbers, each written here once. What each class is, the
 // model's field table says.
 ghost use mathlib.Core.Path.{_≡_};
 ghost use Rattle.base_classes.specs.Classes.{named};

@@ -1,4 +1,4 @@
--- The kinds that stand, that are emitted, and that may stand outside functions, by their ranges. Assumes nothing.
+-- The standing kinds, the emitted ones, and those that are allowed outside functions, by their ranges.
 use mathlib.Core.Path.{_≡_, refl, sym, _∙_}
 use mathlib.Core.Bool.{Bool, true, false}
 use Prim.Native.Nat.{ℕ, _≤_, _<_}

@@ -1,5 +1,5 @@
-// The kinds of expressions and statements by name, those that code compares, and what document 01 says of the kinds of expressions: which ones stand, which
-// are emitted and which may stand outside functions.
+// The kinds of expressions and statements by name, those that code compares, and what document 01 says of the kinds of expressions: which ones are standing,
+// which are emitted and which are allowed outside functions.
 ghost use mathlib.Core.Path.{_≡_};
 ghost use Rattle.model.specs.Operands.{standingKind, emittedKind, constantKind};
 

@@ -1,32 +1,32 @@
-// The refusals by name, as the code answers them: the model's numbers, each written here once.
+// The refusals by name, as the code answers them: the model's numbers, each written here once; and an answer as one number.
 ghost use mathlib.Core.Path.{_≡_};
-ghost use Rattle.model.specs.Refusals.{refusals};
+ghost use Rattle.model.specs.Refusals.{refusals, packed};
 
 pub const BAD_SIZE: u32 = 1;
 
 pub const BAD_LAYOUT: u32 = 2;
 
-pub const BAD_NUMBER: u32 = 3;
+pub const BAD_RANGE: u32 = 3;
 
-pub const NOT_LOWER: u32 = 4;
+pub const BAD_REFERENCE: u32 = 4;
 
-pub const BAD_NAME: u32 = 5;
+pub const BAD_NAMES: u32 = 5;
 
-pub const OUT_OF_SCOPE: u32 = 6;
+pub const BAD_SCOPE: u32 = 6;
 
 pub const SHORT_OUTPUT: u32 = 7;
 
-pub const NO_ORIGINAL: u32 = 8;
+pub const ORIGINAL_NOT_FOUND: u32 = 8;
 
-pub const NO_REPLACEMENT: u32 = 9;
+pub const REPLACEMENT_NOT_FOUND: u32 = 9;
 
-pub const OTHER_ARGUMENTS: u32 = 10;
+pub const ARGUMENT_TYPES: u32 = 10;
 
-pub const OTHER_RESULT: u32 = 11;
+pub const RESULT_TYPES: u32 = 11;
 
 pub const RING: u32 = 12;
 
-pub const NO_RECORD: u32 = 13;
+pub const NUMBER_GIVEN: u32 = 13;
 
 pub const NO_SOURCE: u32 = 20;
 
@@ -41,19 +41,26 @@ pub fn all() -> [u32; 16]
     [
         BAD_SIZE,
         BAD_LAYOUT,
-        BAD_NUMBER,
-        NOT_LOWER,
-        BAD_NAME,
-        OUT_OF_SCOPE,
+        BAD_RANGE,
+        BAD_REFERENCE,
+        BAD_NAMES,
+        BAD_SCOPE,
         SHORT_OUTPUT,
-        NO_ORIGINAL,
-        NO_REPLACEMENT,
-        OTHER_ARGUMENTS,
-        OTHER_RESULT,
+        ORIGINAL_NOT_FOUND,
+        REPLACEMENT_NOT_FOUND,
+        ARGUMENT_TYPES,
+        RESULT_TYPES,
         RING,
-        NO_RECORD,
+        NUMBER_GIVEN,
         NO_SOURCE,
         FULL,
         UNKNOWN_RING,
     ]
+}
+
+// An answer as one number: the refusal in the low half, 0 for none, and a value in the high half.
+pub fn pack(refusal: u32, value: u32) -> u64
+    ensures { λ r. ⌜ r ≡ packed refusal value ⌝ }
+{
+    refusal as u64 + value as u64 * 4294967296
 }

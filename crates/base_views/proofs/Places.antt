@@ -1,4 +1,4 @@
--- Sections, records and the lists of functions stand inside the words: what indexing them needs, and what is read there. Assumes nothing.
+-- Sections, records and the lists of functions are inside the words: what indexing them needs, and what is read there.
 use mathlib.Core.Path.{_≡_, refl, sym, ap, ap₂, _∙_}
 use mathlib.Core.Bool.{Bool, true, false}
 use mathlib.Core.List.{List, []}
@@ -8,6 +8,7 @@ use native.Mathlib.Omega.{arith}
 use lib.Dec.{ltb}
 use lib.ListN.{length, getD}
 use borrow.Author.Tests.{eq-eqb, ne-eqb, eqb-false, ltb-true, ltb-false}
+use Rattle.theory_lists.specs.Lists.{looked-at}
 use Rattle.model.specs.Outcome.{Cell, Cells, class}
 use Rattle.model.specs.Table.{NAMED, EXPR-KIND}
 use Rattle.model.specs.Tree.{Function, flatAll}
@@ -19,7 +20,8 @@ use Rattle.model.specs.Carry.{Each, each-none, each-next}
 use Rattle.model.specs.Redirect.{nothing}
 use Rattle.theory_image.specs.Quiet.{each-append, each-map}
 use Rattle.theory_image.specs.Betweens.{record-offset}
-use Rattle.theory_image.specs.FunctionViews.{each-at, part-tag, Stands, namedAt, bodyAt, field-not, Expression, expression, exprs-all, exprs-shapes, named-count, named-class, stands-end, looked-at, taped-length, taped-functions, taped-entries, taped-function, taped-entry}
+use Rattle.theory_image.specs.FunctionViews.{part-tag, Stands, namedAt, bodyAt, field-not, Expression, expression, exprs-all, exprs-shapes, named-count, named-class, stands-end, taped-length, taped-functions, taped-entries, taped-function, taped-entry}
+use Rattle.theory_image.specs.Members.{each-at}
 use Rattle.base_views.specs.Functions.{Standing, Named, Body}
 
 -- ---- records

@@ -1,4 +1,4 @@
--- A function that stands in words and tape, and where its named expressions and its body are: behind expressions, whose sizes differ.
+-- A function in words and tags, and where its named expressions and its body are: after expressions, whose sizes differ.
 use mathlib.Core.Path.{_≡_}
 use mathlib.Core.List.{List}
 use Prim.Native.Nat.{ℕ, _≤_, _<_}

@@ -1,6 +1,8 @@
-// Where the parts of a module stand in its words: sections and their records, by header and offsets; the lists of a function, by the counts before
+// Where the parts of a module are in its words: sections and their records, by header and offsets; the lists of a function, by the counts before
 // them. The one home of these places in code.
 use base_classes::NAMED;
+use base_words::Tags;
+use base_words::Words;
 use base_words::wide;
 ghost use mathlib.Core.Path.{_≡_};
 ghost use Prim.Native.Nat.{_+_, _*_, _^_, _≤_, _<_};
@@ -41,7 +43,7 @@ pub const SPECIAL: usize = 8;
 pub const ENTRY_HEAD: usize = 7;
 
 // How many records section k has.
-pub fn count(words: &[u32; 16384], k: usize) -> usize
+pub fn count(words: &Words, k: usize) -> usize
     requires { ⌜ k < 9 ⌝ }
     ensures { λ r. ⌜ (r ≡ countAt k (now (words .entry))) × (r < 2 ^ 32) ⌝ }
 {
@@ -49,7 +51,7 @@ pub fn count(words: &[u32; 16384], k: usize) -> usize
 }
 
 // Where section k starts.
-pub fn offset(words: &[u32; 16384], k: usize) -> usize
+pub fn offset(words: &Words, k: usize) -> usize
     requires { ⌜ k < 9 ⌝ }
     ensures { λ r. ⌜ (r ≡ offsetAt k (now (words .entry))) × (r < 2 ^ 32) ⌝ }
 {
@@ -57,7 +59,7 @@ pub fn offset(words: &[u32; 16384], k: usize) -> usize
 }
 
 // Where record j of section k starts: at its offset from the start of the section, which is one of the words.
-pub fn start_of(words: &[u32; 16384], k: usize, j: usize) -> usize
+pub fn start_of(words: &Words, k: usize, j: usize) -> usize
     requires { ⌜ (k < 9) × (offsetAt k (now words) + j < 16384) ⌝ }
     ensures { λ r. ⌜ (r ≡ recordAt k j (now (words .entry))) × (r < 2 ^ 33) ⌝ }
 {
@@ -66,7 +68,7 @@ pub fn start_of(words: &[u32; 16384], k: usize, j: usize) -> usize
 }
 
 // Where it ends: where the next one starts, or where the section ends.
-pub fn end_of(words: &[u32; 16384], k: usize, j: usize) -> usize
+pub fn end_of(words: &Words, k: usize, j: usize) -> usize
     requires { ⌜ (k < 8) × (j < countAt k (now words)) × (offsetAt k (now words) + countAt k (now words) ≤ 16384) ⌝ }
     ensures { λ r. ⌜ (r ≡ recordEnd k j (now (words .entry))) × (r < 2 ^ 33) ⌝ }
 {
@@ -76,8 +78,8 @@ pub fn end_of(words: &[u32; 16384], k: usize, j: usize) -> usize
     start_of(words, k, j + 1)
 }
 
-// Where record j of section k starts, of words and tape that hold a module.
-pub fn record_at(words: &[u32; 16384], tags: &[u8; 16384], n: usize, k: usize, j: usize) -> usize
+// Where record j of section k starts, of words and tags that hold a module.
+pub fn record_at(words: &Words, tags: &Tags, n: usize, k: usize, j: usize) -> usize
     requires { ⌜ Tape (now words) (now tags) n ⌝ }
     requires { ⌜ k < 8 ⌝ }
     requires { ⌜ j < countAt k (now words) ⌝ }
@@ -87,7 +89,7 @@ pub fn record_at(words: &[u32; 16384], tags: &[u8; 16384], n: usize, k: usize, j
 }
 
 // Where it ends.
-pub fn record_end(words: &[u32; 16384], tags: &[u8; 16384], n: usize, k: usize, j: usize) -> usize
+pub fn record_end(words: &Words, tags: &Tags, n: usize, k: usize, j: usize) -> usize
     requires { ⌜ Tape (now words) (now tags) n ⌝ }
     requires { ⌜ k < 8 ⌝ }
     requires { ⌜ j < countAt k (now words) ⌝ }
@@ -96,8 +98,8 @@ pub fn record_end(words: &[u32; 16384], tags: &[u8; 16384], n: usize, k: usize, 
     end_of(words, k, j)
 }
 
-// Where pair j of the special types stands, behind the three optional types.
-pub fn pair_at(words: &[u32; 16384], j: usize) -> usize
+// Where pair j of the special types is, after the three optional types.
+pub fn pair_at(words: &Words, j: usize) -> usize
     requires { ⌜ j < 2 ^ 32 ⌝ }
     ensures { λ r. ⌜ r ≡ offsetAt 8 (now (words .entry)) + 3 + 2 * j ⌝ }
 {
@@ -105,7 +107,7 @@ pub fn pair_at(words: &[u32; 16384], j: usize) -> usize
 }
 
 // Where the function of entry point j starts.
-pub fn entry_function(words: &[u32; 16384], tags: &[u8; 16384], n: usize, j: usize) -> usize
+pub fn entry_function(words: &Words, tags: &Tags, n: usize, j: usize) -> usize
     requires { ⌜ Tape (now words) (now tags) n ⌝ }
     requires { ⌜ j < countAt 7 (now words) ⌝ }
     ensures { λ r. ⌜ r ≡ recordAt 7 j (now (words .entry)) + ENTRY-HEAD ⌝ }
@@ -123,7 +125,7 @@ pub fn arguments_at(s: usize) -> usize
 }
 
 // How many arguments it has.
-pub fn arguments(words: &[u32; 16384], s: usize) -> usize
+pub fn arguments(words: &Words, s: usize) -> usize
     requires { ⌜ expressionsAt s (now words) < 16384 ⌝ }
     ensures { λ r. ⌜ (r ≡ getD (now (words .entry)) (argumentsAt s) 0) × (r < 2 ^ 32) ⌝ }
 {
@@ -138,14 +140,14 @@ pub fn argument_at(s: usize, i: usize) -> usize
     s + 4 + 8 * i
 }
 
-pub fn returns_at(words: &[u32; 16384], s: usize) -> usize
+pub fn returns_at(words: &Words, s: usize) -> usize
     requires { ⌜ expressionsAt s (now words) < 16384 ⌝ }
     ensures { λ r. ⌜ (r ≡ returnsAt s (now (words .entry))) × (r < 16384) ⌝ }
 {
     argument_at(s, arguments(words, s))
 }
 
-pub fn locals_at(words: &[u32; 16384], s: usize) -> usize
+pub fn locals_at(words: &Words, s: usize) -> usize
     requires { ⌜ expressionsAt s (now words) < 16384 ⌝ }
     ensures { λ r. ⌜ (r ≡ localsAt s (now (words .entry))) × (r < 16384) ⌝ }
 {
@@ -154,7 +156,7 @@ pub fn locals_at(words: &[u32; 16384], s: usize) -> usize
 }
 
 // Local i.
-pub fn local_at(words: &[u32; 16384], s: usize, i: usize) -> usize
+pub fn local_at(words: &Words, s: usize, i: usize) -> usize
     requires { ⌜ expressionsAt s (now words) < 16384 ⌝ }
     requires { ⌜ localAt s i (now words) < 16384 ⌝ }
     ensures { λ r. ⌜ r ≡ localAt s i (now (words .entry)) ⌝ }
@@ -162,7 +164,7 @@ pub fn local_at(words: &[u32; 16384], s: usize, i: usize) -> usize
     locals_at(words, s) + 1 + 5 * i
 }
 
-pub fn expressions_at(words: &[u32; 16384], s: usize) -> usize
+pub fn expressions_at(words: &Words, s: usize) -> usize
     requires { ⌜ expressionsAt s (now words) < 16384 ⌝ }
     ensures { λ r. ⌜ (r ≡ expressionsAt s (now (words .entry))) × (r < 16384) ⌝ }
 {
@@ -170,8 +172,8 @@ pub fn expressions_at(words: &[u32; 16384], s: usize) -> usize
     at + 1 + 5 * wide(words[at])
 }
 
-// Expressions have no fixed size: behind the last the tape has the class of the count of named expressions.
-pub fn named_at(words: &[u32; 16384], tags: &[u8; 16384], s: usize) -> usize
+// Expressions have no fixed size: after the last one, the tags have the class of the count of named expressions.
+pub fn named_at(words: &Words, tags: &Tags, s: usize) -> usize
     requires { ⌜ Standing (now words) (now tags) s ⌝ }
     ensures { λ r. ⌜ Named r (now (words .entry)) (now (tags .entry)) s ⌝ }
 {
@@ -182,7 +184,7 @@ pub fn named_at(words: &[u32; 16384], tags: &[u8; 16384], s: usize) -> usize
     i
 }
 
-pub fn body_at(words: &[u32; 16384], tags: &[u8; 16384], s: usize) -> usize
+pub fn body_at(words: &Words, tags: &Tags, s: usize) -> usize
     requires { ⌜ Standing (now words) (now tags) s ⌝ }
     ensures { λ r. ⌜ Body r (now (words .entry)) (now (tags .entry)) s ⌝ }
 {

@@ -1,4 +1,4 @@
--- Words and their bytes: each gives back the other. Every law goes word by word, and a word's own law is arithmetic. Assumes nothing.
+-- Words and their bytes: each gives back the other. Every law goes word by word, and a word's own law is arithmetic.
 use mathlib.Core.Path.{_≡_, refl, sym, ap, _∙_}
 use mathlib.Core.List.{List, [], _∷_, _++_, append-nil}
 use Prim.Native.Nat.{ℕ, zero, suc, _+_, _*_, _/_, _%_, _^_, _≤_, _<_}

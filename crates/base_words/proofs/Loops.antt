@@ -1,4 +1,4 @@
--- The loops: what is left to write from where a loop stands makes the whole. Assumes nothing.
+-- The loops: at every turn, what is left to write completes the whole.
 use mathlib.Core.Path.{_≡_, refl, sym, ap, _∙_}
 use mathlib.Core.List.{List, [], _∷_}
 use Prim.Native.Nat.{ℕ, suc, _+_, _*_, _/_, _%_, _≤_, _<_}

@@ -1,10 +1,16 @@
-// Bytes to words and back, little-endian, on lent slices.
+// Bytes to words and back, little-endian, on slices that the caller provides.
 ghost use mathlib.Core.Path.{_≡_};
 ghost use Prim.Native.Nat.{_+_, _*_, _/_, _^_, _≤_, _<_};
 ghost use lib.ListN.{length, take};
 ghost use lib.Seq.{sets};
 ghost use mathlib.Core.List.{[], _∷_};
 ghost use Rattle.base_words.specs.Words.{wordAt, wordsOf, bytesOf};
+
+// The words of an image.
+pub type Words = [u32; 16384];
+
+// The class of each word, at its place.
+pub type Tags = [u8; 16384];
 
 // A byte as a word.
 fn byte(x: u8) -> u32

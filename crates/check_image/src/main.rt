@@ -1,4 +1,4 @@
-// Reads an image on standard input and says what intake answers: `accepted`, or `refused` and the number, which standard error is told too, with its
+// Reads an image on standard input and says what intake answers: `accepted`, or `refused` and the number; a refusal is also reported on standard error, with its
 // sentence. Input longer than an image may be is refused 1 and not cut: the buffer holds one byte more.
 use libc::STDOUT_FILENO;
 ghost use mathlib.Core.Path.{_≡_};

@@ -1,5 +1,5 @@
 // The imports of derive.rs, of constants, overrides, global expressions and globals: what a record refers to comes first, in field order; then the record
-// is carried through the maps, and settled among the records of its table. A number that is mapped already is not imported again.
+// is carried through the maps, and interned among the records of its table. A number that is mapped already is not imported again.
 // Constants, overrides and global expressions import one another, and the number of the expression falls.
 use base_handles::ConstantHandle;
 use base_handles::ExpressionHandle;
@@ -14,9 +14,17 @@ use base_views::OVERRIDES;
 use base_views::TYPES;
 use base_views::record_at;
 use base_views::record_end;
+use base_words::Tags;
+use base_words::Words;
 use base_words::wide;
-use derive_intern::settle;
-use derive_state::Ends;
+use derive_intern::intern;
+use derive_state::Buckets;
+use derive_state::Log;
+use derive_state::LogTags;
+use derive_state::Maps;
+use derive_state::Sizes;
+use derive_state::Starts;
+use derive_state::Targets;
 use derive_types::import_name;
 use derive_types::import_type;
 use derive_types::refers_to;
@@ -26,30 +34,30 @@ ghost use Prim.Native.Nat.{_<_};
 ghost use Rattle.model.specs.Module.{countAt};
 ghost use Rattle.model.specs.Tables.{constants, overrides, globals, exprs};
 ghost use Rattle.model.specs.Imports.{importT};
-ghost use Rattle.derive_state.specs.Refers.{kindBytes};
+ghost use Rattle.derive_state.specs.Refers.{targetBytes};
 ghost use Rattle.derive_state.specs.Source.{srcOf, Source};
-ghost use Rattle.derive_state.specs.Held.{Kept, Lands};
+ghost use Rattle.derive_state.specs.Held.{ValidArrays, Lands};
 
-// Global expression h.
+// Imports global expression h.
 pub fn import_global_expression(
-    words: &[u32; 16384],
-    tags: &[u8; 16384],
-    kinds: &[u8; 256],
+    words: &Words,
+    tags: &Tags,
+    targets: &Targets,
     n: usize,
-    log: &mut [u32; 16384],
-    classes: &mut [u8; 16384],
-    starts: &mut [[u32; 512]; 8],
-    maps: &mut [[u32; 512]; 6],
-    marks: &mut [u16; 16384],
-    ends: Ends,
+    log: &mut Log,
+    logtags: &mut LogTags,
+    starts: &mut Starts,
+    maps: &mut Maps,
+    buckets: &mut Buckets,
+    ends: Sizes,
     offset: u32,
     h: ExpressionHandle,
-) -> Ends
+) -> Sizes
     requires { ⌜ Source (now words) (now tags) n ⌝ }
     requires { ⌜ ((h .0) < countAt 5 (now words)) × (ends .full ≡ false) ⌝ }
-    requires { ⌜ now kinds ≡ kindBytes ⌝ }
-    requires { ⌜ Kept (now log) (now classes) (now starts) (now maps) (now marks) ends ⌝ }
-    ensures { λ r. ⌜ Lands (now (words .entry)) (importT offset (srcOf (now (words .entry)) n) exprs (h .0)) (now (log .entry)) (now (classes .entry)) (now (starts .entry)) (now (maps .entry)) (now (marks .entry)) ends r (now (log .exit)) (now (classes .exit)) (now (starts .exit)) (now (maps .exit)) (now (marks .exit)) ⌝ }
+    requires { ⌜ now targets ≡ targetBytes ⌝ }
+    requires { ⌜ ValidArrays (now log) (now logtags) (now starts) (now maps) (now buckets) ends ⌝ }
+    ensures { λ r. ⌜ Lands (now (words .entry)) (importT offset (srcOf (now (words .entry)) n) exprs (h .0)) (now (log .entry)) (now (logtags .entry)) (now (starts .entry)) (now (maps .entry)) (now (buckets .entry)) ends r (now (log .exit)) (now (logtags .exit)) (now (starts .exit)) (now (maps .exit)) (now (buckets .exit)) ⌝ }
 {
     let k = wide(h.0);
     if maps[EXPRESSIONS][k] != 0 {
@@ -62,18 +70,18 @@ pub fn import_global_expression(
     while i < end {
         let j = i;
         i += 1;
-        let r = refers_to(kinds, tags[j], words[j]);
+        let r = refers_to(targets, tags[j], words[j]);
         if r.table == TYPES {
             e = import_type(
                 words,
                 tags,
-                kinds,
+                targets,
                 n,
                 log,
-                classes,
+                logtags,
                 starts,
                 maps,
-                marks,
+                buckets,
                 e,
                 offset,
                 TypeHandle(r.number),
@@ -85,13 +93,13 @@ pub fn import_global_expression(
             e = import_const(
                 words,
                 tags,
-                kinds,
+                targets,
                 n,
                 log,
-                classes,
+                logtags,
                 starts,
                 maps,
-                marks,
+                buckets,
                 e,
                 offset,
                 ConstantHandle(r.number),
@@ -103,13 +111,13 @@ pub fn import_global_expression(
             e = import_pipeline_override(
                 words,
                 tags,
-                kinds,
+                targets,
                 n,
                 log,
-                classes,
+                logtags,
                 starts,
                 maps,
-                marks,
+                buckets,
                 e,
                 offset,
                 OverrideHandle(r.number),
@@ -121,13 +129,13 @@ pub fn import_global_expression(
             e = import_global_expression(
                 words,
                 tags,
-                kinds,
+                targets,
                 n,
                 log,
-                classes,
+                logtags,
                 starts,
                 maps,
-                marks,
+                buckets,
                 e,
                 offset,
                 ExpressionHandle(r.number),
@@ -137,15 +145,15 @@ pub fn import_global_expression(
             }
         }
     }
-    settle(
+    intern(
         words,
         tags,
-        kinds,
+        targets,
         log,
-        classes,
+        logtags,
         starts,
         maps,
-        marks,
+        buckets,
         e,
         offset,
         EXPRESSIONS,
@@ -155,26 +163,26 @@ pub fn import_global_expression(
     )
 }
 
-// Constant h: its name, its type and its init.
+// Imports constant h: its name, its type and its init, then the constant.
 pub fn import_const(
-    words: &[u32; 16384],
-    tags: &[u8; 16384],
-    kinds: &[u8; 256],
+    words: &Words,
+    tags: &Tags,
+    targets: &Targets,
     n: usize,
-    log: &mut [u32; 16384],
-    classes: &mut [u8; 16384],
-    starts: &mut [[u32; 512]; 8],
-    maps: &mut [[u32; 512]; 6],
-    marks: &mut [u16; 16384],
-    ends: Ends,
+    log: &mut Log,
+    logtags: &mut LogTags,
+    starts: &mut Starts,
+    maps: &mut Maps,
+    buckets: &mut Buckets,
+    ends: Sizes,
     offset: u32,
     h: ConstantHandle,
-) -> Ends
+) -> Sizes
     requires { ⌜ Source (now words) (now tags) n ⌝ }
     requires { ⌜ ((h .0) < countAt 2 (now words)) × (ends .full ≡ false) ⌝ }
-    requires { ⌜ now kinds ≡ kindBytes ⌝ }
-    requires { ⌜ Kept (now log) (now classes) (now starts) (now maps) (now marks) ends ⌝ }
-    ensures { λ r. ⌜ Lands (now (words .entry)) (importT offset (srcOf (now (words .entry)) n) constants (h .0)) (now (log .entry)) (now (classes .entry)) (now (starts .entry)) (now (maps .entry)) (now (marks .entry)) ends r (now (log .exit)) (now (classes .exit)) (now (starts .exit)) (now (maps .exit)) (now (marks .exit)) ⌝ }
+    requires { ⌜ now targets ≡ targetBytes ⌝ }
+    requires { ⌜ ValidArrays (now log) (now logtags) (now starts) (now maps) (now buckets) ends ⌝ }
+    ensures { λ r. ⌜ Lands (now (words .entry)) (importT offset (srcOf (now (words .entry)) n) constants (h .0)) (now (log .entry)) (now (logtags .entry)) (now (starts .entry)) (now (maps .entry)) (now (buckets .entry)) ends r (now (log .exit)) (now (logtags .exit)) (now (starts .exit)) (now (maps .exit)) (now (buckets .exit)) ⌝ }
 {
     let k = wide(h.0);
     if maps[CONSTANTS][k] != 0 {
@@ -187,18 +195,18 @@ pub fn import_const(
     while i < end {
         let j = i;
         i += 1;
-        let r = refers_to(kinds, tags[j], words[j]);
+        let r = refers_to(targets, tags[j], words[j]);
         if r.table == NAMES {
             e = import_name(
                 words,
                 tags,
-                kinds,
+                targets,
                 n,
                 log,
-                classes,
+                logtags,
                 starts,
                 maps,
-                marks,
+                buckets,
                 e,
                 offset,
                 r.number,
@@ -210,13 +218,13 @@ pub fn import_const(
             e = import_type(
                 words,
                 tags,
-                kinds,
+                targets,
                 n,
                 log,
-                classes,
+                logtags,
                 starts,
                 maps,
-                marks,
+                buckets,
                 e,
                 offset,
                 TypeHandle(r.number),
@@ -228,13 +236,13 @@ pub fn import_const(
             e = import_global_expression(
                 words,
                 tags,
-                kinds,
+                targets,
                 n,
                 log,
-                classes,
+                logtags,
                 starts,
                 maps,
-                marks,
+                buckets,
                 e,
                 offset,
                 ExpressionHandle(r.number),
@@ -244,15 +252,15 @@ pub fn import_const(
             }
         }
     }
-    settle(
+    intern(
         words,
         tags,
-        kinds,
+        targets,
         log,
-        classes,
+        logtags,
         starts,
         maps,
-        marks,
+        buckets,
         e,
         offset,
         CONSTANTS,
@@ -262,26 +270,26 @@ pub fn import_const(
     )
 }
 
-// Override h: its name, its type, and its init if it has one.
+// Imports override h: its name, its type, and its init if it has one, then the override.
 pub fn import_pipeline_override(
-    words: &[u32; 16384],
-    tags: &[u8; 16384],
-    kinds: &[u8; 256],
+    words: &Words,
+    tags: &Tags,
+    targets: &Targets,
     n: usize,
-    log: &mut [u32; 16384],
-    classes: &mut [u8; 16384],
-    starts: &mut [[u32; 512]; 8],
-    maps: &mut [[u32; 512]; 6],
-    marks: &mut [u16; 16384],
-    ends: Ends,
+    log: &mut Log,
+    logtags: &mut LogTags,
+    starts: &mut Starts,
+    maps: &mut Maps,
+    buckets: &mut Buckets,
+    ends: Sizes,
     offset: u32,
     h: OverrideHandle,
-) -> Ends
+) -> Sizes
     requires { ⌜ Source (now words) (now tags) n ⌝ }
     requires { ⌜ ((h .0) < countAt 3 (now words)) × (ends .full ≡ false) ⌝ }
-    requires { ⌜ now kinds ≡ kindBytes ⌝ }
-    requires { ⌜ Kept (now log) (now classes) (now starts) (now maps) (now marks) ends ⌝ }
-    ensures { λ r. ⌜ Lands (now (words .entry)) (importT offset (srcOf (now (words .entry)) n) overrides (h .0)) (now (log .entry)) (now (classes .entry)) (now (starts .entry)) (now (maps .entry)) (now (marks .entry)) ends r (now (log .exit)) (now (classes .exit)) (now (starts .exit)) (now (maps .exit)) (now (marks .exit)) ⌝ }
+    requires { ⌜ now targets ≡ targetBytes ⌝ }
+    requires { ⌜ ValidArrays (now log) (now logtags) (now starts) (now maps) (now buckets) ends ⌝ }
+    ensures { λ r. ⌜ Lands (now (words .entry)) (importT offset (srcOf (now (words .entry)) n) overrides (h .0)) (now (log .entry)) (now (logtags .entry)) (now (starts .entry)) (now (maps .entry)) (now (buckets .entry)) ends r (now (log .exit)) (now (logtags .exit)) (now (starts .exit)) (now (maps .exit)) (now (buckets .exit)) ⌝ }
 {
     let k = wide(h.0);
     if maps[OVERRIDES][k] != 0 {
@@ -294,18 +302,18 @@ pub fn import_pipeline_override(
     while i < end {
         let j = i;
         i += 1;
-        let r = refers_to(kinds, tags[j], words[j]);
+        let r = refers_to(targets, tags[j], words[j]);
         if r.table == NAMES {
             e = import_name(
                 words,
                 tags,
-                kinds,
+                targets,
                 n,
                 log,
-                classes,
+                logtags,
                 starts,
                 maps,
-                marks,
+                buckets,
                 e,
                 offset,
                 r.number,
@@ -317,13 +325,13 @@ pub fn import_pipeline_override(
             e = import_type(
                 words,
                 tags,
-                kinds,
+                targets,
                 n,
                 log,
-                classes,
+                logtags,
                 starts,
                 maps,
-                marks,
+                buckets,
                 e,
                 offset,
                 TypeHandle(r.number),
@@ -335,13 +343,13 @@ pub fn import_pipeline_override(
             e = import_global_expression(
                 words,
                 tags,
-                kinds,
+                targets,
                 n,
                 log,
-                classes,
+                logtags,
                 starts,
                 maps,
-                marks,
+                buckets,
                 e,
                 offset,
                 ExpressionHandle(r.number),
@@ -351,15 +359,15 @@ pub fn import_pipeline_override(
             }
         }
     }
-    settle(
+    intern(
         words,
         tags,
-        kinds,
+        targets,
         log,
-        classes,
+        logtags,
         starts,
         maps,
-        marks,
+        buckets,
         e,
         offset,
         OVERRIDES,
@@ -369,26 +377,26 @@ pub fn import_pipeline_override(
     )
 }
 
-// Global h: its name, its type, and its init if it has one.
+// Imports global h: its name, its type, and its init if it has one, then the global.
 pub fn import_global(
-    words: &[u32; 16384],
-    tags: &[u8; 16384],
-    kinds: &[u8; 256],
+    words: &Words,
+    tags: &Tags,
+    targets: &Targets,
     n: usize,
-    log: &mut [u32; 16384],
-    classes: &mut [u8; 16384],
-    starts: &mut [[u32; 512]; 8],
-    maps: &mut [[u32; 512]; 6],
-    marks: &mut [u16; 16384],
-    ends: Ends,
+    log: &mut Log,
+    logtags: &mut LogTags,
+    starts: &mut Starts,
+    maps: &mut Maps,
+    buckets: &mut Buckets,
+    ends: Sizes,
     offset: u32,
     h: GlobalHandle,
-) -> Ends
+) -> Sizes
     requires { ⌜ Source (now words) (now tags) n ⌝ }
     requires { ⌜ ((h .0) < countAt 4 (now words)) × (ends .full ≡ false) ⌝ }
-    requires { ⌜ now kinds ≡ kindBytes ⌝ }
-    requires { ⌜ Kept (now log) (now classes) (now starts) (now maps) (now marks) ends ⌝ }
-    ensures { λ r. ⌜ Lands (now (words .entry)) (importT offset (srcOf (now (words .entry)) n) globals (h .0)) (now (log .entry)) (now (classes .entry)) (now (starts .entry)) (now (maps .entry)) (now (marks .entry)) ends r (now (log .exit)) (now (classes .exit)) (now (starts .exit)) (now (maps .exit)) (now (marks .exit)) ⌝ }
+    requires { ⌜ now targets ≡ targetBytes ⌝ }
+    requires { ⌜ ValidArrays (now log) (now logtags) (now starts) (now maps) (now buckets) ends ⌝ }
+    ensures { λ r. ⌜ Lands (now (words .entry)) (importT offset (srcOf (now (words .entry)) n) globals (h .0)) (now (log .entry)) (now (logtags .entry)) (now (starts .entry)) (now (maps .entry)) (now (buckets .entry)) ends r (now (log .exit)) (now (logtags .exit)) (now (starts .exit)) (now (maps .exit)) (now (buckets .exit)) ⌝ }
 {
     let k = wide(h.0);
     if maps[GLOBALS][k] != 0 {
@@ -401,18 +409,18 @@ pub fn import_global(
     while i < end {
         let j = i;
         i += 1;
-        let r = refers_to(kinds, tags[j], words[j]);
+        let r = refers_to(targets, tags[j], words[j]);
         if r.table == NAMES {
             e = import_name(
                 words,
                 tags,
-                kinds,
+                targets,
                 n,
                 log,
-                classes,
+                logtags,
                 starts,
                 maps,
-                marks,
+                buckets,
                 e,
                 offset,
                 r.number,
@@ -424,13 +432,13 @@ pub fn import_global(
             e = import_type(
                 words,
                 tags,
-                kinds,
+                targets,
                 n,
                 log,
-                classes,
+                logtags,
                 starts,
                 maps,
-                marks,
+                buckets,
                 e,
                 offset,
                 TypeHandle(r.number),
@@ -442,13 +450,13 @@ pub fn import_global(
             e = import_global_expression(
                 words,
                 tags,
-                kinds,
+                targets,
                 n,
                 log,
-                classes,
+                logtags,
                 starts,
                 maps,
-                marks,
+                buckets,
                 e,
                 offset,
                 ExpressionHandle(r.number),
@@ -458,15 +466,15 @@ pub fn import_global(
             }
         }
     }
-    settle(
+    intern(
         words,
         tags,
-        kinds,
+        targets,
         log,
-        classes,
+        logtags,
         starts,
         maps,
-        marks,
+        buckets,
         e,
         offset,
         GLOBALS,

@@ -1,16 +1,17 @@
--- The words from cells are those of the finished module. Assumes nothing.
+-- The words from cells are those of the finished module.
 use mathlib.Core.Path.{_≡_, refl, sym, ap, ap₂, _∙_}
 use mathlib.Core.List.{List, [], _∷_, _++_, map, append-nil}
 use Prim.Native.Nat.{ℕ, zero, suc, _+_}
 use native.Mathlib.Omega.{arith}
 use lib.Dec.{eqb}
 use lib.ListN.{length, getD, drop, length-map, length-append}
+use Rattle.theory_lists.specs.Lists.{map-append}
 use Rattle.model.specs.Outcome.{Cells, class, word}
 use Rattle.model.specs.Table.{NAME, nameRow}
 use Rattle.model.specs.Tree.{Function, Entry, flat, flatEntry, flatAll}
 use Rattle.model.specs.Module.{Module, Section, HEADER, pairRow, places, flatTable, flatSpecial, sections, pairsFrom, bodies, flatModule, write}
 use Rattle.model.specs.Carry.{carryCell, carryCells, carryFunction, carryEntry, carrySpecial, carry, Lays, Each, each-none, each-next}
-use Rattle.model.specs.Imports.{St}
+use Rattle.model.specs.Imports.{Derived}
 use Rattle.model.specs.Finish.{namesIn, firsts, appearing, renumber, withNames, namedBy, gathered, finished}
 use Rattle.theory_image.specs.Quiet.{each-append}
 use Rattle.theory_image.specs.Carries.{flat-carry-function, flat-carry-entry, flat-carry-special}
@@ -22,10 +23,6 @@ use Rattle.theory_finish.specs.Kept.{Parts}
 use Rattle.derive_sections.specs.Flat.{firstsT, tableSize, offsets, joined, tableWords, sizes, heads, tables, total, imageWords, chosen, newName, finishedWords, cellsOf}
 use Rattle.derive_sections.proofs.Tables.{length-table}
 use Rattle.derive_image.proofs.Whole.{namesR, namesT, firsts-tabs, length-tables}
-
-map-append : {A B : Type 0} (f : A → B) (xs ys : List A) → map f (xs ++ ys) ≡ map f xs ++ map f ys
-map-append f [] ys = refl
-map-append f (x ∷ xs) ys = ap (f x ∷_) (map-append f xs ys)
 
 assoc : {A : Type 0} (xs ys zs : List A) → (xs ++ ys) ++ zs ≡ xs ++ (ys ++ zs)
 assoc [] ys zs = refl
@@ -218,7 +215,7 @@ module _ (t : Module) (names-plain : Each (Each (Not NAME)) (t .names)) (special
   unfolding namedBy withNames carry
   named-special ns = special-same ns
 
-  -- THE WORDS FROM CELLS are those of the module with its names numbered anew
+  -- THE WORDS FROM CELLS are those of the module with its names numbered again
   pub finished-cells : finishedWords (cellsOf t) (length (t .special .pairs)) (map word (flatSpecial (t .special))) ≡ write (namedBy (appearing t) t)
   unfolding finishedWords cellsOf
   finished-cells =
@@ -246,7 +243,7 @@ pairs-plain each-none = each-none
 pairs-plain (each-next l ls) = each-append (nameless l refl) (pairs-plain ls)
 
 -- FINISH of a session's state, with these entry points
-pub finish-cells : (s : St) (es : List Entry) → Parts (gathered s es)
+pub finish-cells : (s : Derived) (es : List Entry) → Parts (gathered s es)
     → finishedWords (cellsOf (gathered s es)) (length (s .special .pairs)) (map word (flatSpecial (s .special))) ≡ write (finished s es)
 unfolding finished flatSpecial calms? calm? gathered
 finish-cells s es p = finished-cells (gathered s es) (rows-plain (p .names-each)) (each-append (nameless (p .rays-lays) refl) (pairs-plain (p .pairs-each)))

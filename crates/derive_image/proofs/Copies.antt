@@ -1,4 +1,4 @@
--- Words copied, and the starts of the names in their new order. Assumes nothing.
+-- Words copied, and the starts of the names in their new order.
 use mathlib.Core.Path.{_≡_, refl, sym, ap, ap₂, _∙_}
 use mathlib.Core.List.{List, [], _∷_, _++_, map}
 use Prim.Native.Nat.{ℕ, suc, _+_, _-_, _≤_, _<_}
@@ -7,6 +7,7 @@ use native.Mathlib.Numerals.{add-one}
 use native.Mathlib.Omega.{arith}
 use lib.ListN.{length, getD, set, take, replicate, length-set, length-replicate}
 use lib.Seq.{sets, slice, slice-cons, take-suc-set, take-suc}
+use Rattle.theory_lists.specs.Lists.{map-append}
 use Rattle.theory_image.specs.Betweens.{slice-none}
 
 pub record Moving (from : List ℕ) (n : ℕ) (out₀ : List ℕ) (at : ℕ) (out : List ℕ) (i : ℕ) : Type 0 where
@@ -33,10 +34,6 @@ pub record Choosing (row order : List ℕ) (n : ℕ) (r : List ℕ) (i : ℕ) : 
   pub within : i ≤ n
   pub long : length r ≡ 512
   pub same : take i r ≡ map (λ (k : ℕ). getD row k 0) (take i order)
-
-map-append : (f : ℕ → ℕ) (xs ys : List ℕ) → map f (xs ++ ys) ≡ map f xs ++ map f ys
-map-append f [] ys = refl
-map-append f (x ∷ xs) ys = ap (f x ∷_) (map-append f xs ys)
 
 module _ (row order : List ℕ) (n : ℕ) where
   pub choosing-begin : Choosing row order n (replicate 512 0) 0

@@ -1,4 +1,4 @@
--- Finish: the parts put together. Assumes nothing.
+-- Finish: the parts put together.
 use mathlib.Core.Path.{_≡_, refl, sym, ap, ap₂, _∙_}
 use mathlib.Core.List.{List, [], _∷_, _++_, map}
 use Prim.Native.Nat.{ℕ, zero, suc, _+_, _*_, _-_, _≤_, _<_}
@@ -7,27 +7,28 @@ use lib.ListN.{length, getD, set, take, drop, length-set, List·getD-eq-default}
 use lib.Seq.{sets, length-take-le, getD-take, getD-set-same, getD-set-other}
 use lib.Dec.{ltb}
 use borrow.Author.Tests.{ltb-true, ltb-false}
+use Rattle.theory_lists.specs.Stores.{sets-append}
+use Rattle.derive_state.proofs.State.{recs-long}
 use Rattle.theory_finish.specs.Firsts.{either}
 use Rattle.model.specs.Outcome.{Cell, Cells}
 use Rattle.model.specs.Finish.{namesIn}
 use Rattle.derive_sections.specs.Flat.{firstsT, sizes, heads, tables, total, imageWords, newName, ordered, finishedWords}
 use Rattle.derive_state.specs.Held.{recsAt}
 use Rattle.derive_sections.specs.Rows.{tabsOf, Row, Rows, Noted, named}
-use Rattle.derive_image.specs.Held.{Derived, Finishes}
-use Rattle.derive_sections.proofs.Writes.{sets-append, length-recs}
+use Rattle.derive_image.specs.Held.{ValidTables, Finishes}
 use Rattle.derive_image.proofs.Whole.{map-at, wide-rec, wide-row, rec-at, tabs-ordered, ordered-tables, length-tables, length-heads, length-tabs}
 
-tabs-first : (log tags : List ℕ) (starts : List (List ℕ)) (counts : List ℕ) → 0 < length starts → 0 < length counts → getD (tabsOf log tags starts counts) 0 [] ≡ recsAt log tags (take (getD counts 0 0) (getD starts 0 []))
+tabs-first : (log logtags : List ℕ) (starts : List (List ℕ)) (counts : List ℕ) → 0 < length starts → 0 < length counts → getD (tabsOf log logtags starts counts) 0 [] ≡ recsAt log logtags (take (getD counts 0 0) (getD starts 0 []))
 unfolding tabsOf
-tabs-first log tags [] counts h g = absurd (omega arith)
-tabs-first log tags (ss ∷ sss) [] h g = absurd (omega arith)
-tabs-first log tags (ss ∷ sss) (c ∷ cs) h g = refl
+tabs-first log logtags [] counts h g = absurd (omega arith)
+tabs-first log logtags (ss ∷ sss) [] h g = absurd (omega arith)
+tabs-first log logtags (ss ∷ sss) (c ∷ cs) h g = refl
 
-tabs-rest : (log tags : List ℕ) (starts : List (List ℕ)) (counts : List ℕ) → 0 < length starts → 0 < length counts → drop 1 (tabsOf log tags starts counts) ≡ tabsOf log tags (drop 1 starts) (drop 1 counts)
+tabs-rest : (log logtags : List ℕ) (starts : List (List ℕ)) (counts : List ℕ) → 0 < length starts → 0 < length counts → drop 1 (tabsOf log logtags starts counts) ≡ tabsOf log logtags (drop 1 starts) (drop 1 counts)
 unfolding tabsOf
-tabs-rest log tags [] counts h g = absurd (omega arith)
-tabs-rest log tags (ss ∷ sss) [] h g = absurd (omega arith)
-tabs-rest log tags (ss ∷ sss) (c ∷ cs) h g = refl
+tabs-rest log logtags [] counts h g = absurd (omega arith)
+tabs-rest log logtags (ss ∷ sss) [] h g = absurd (omega arith)
+tabs-rest log logtags (ss ∷ sss) (c ∷ cs) h g = refl
 
 pub finished-image : (rss : List (List Cells)) (pairs : ℕ) (special : List ℕ) → 0 < length rss → finishedWords rss pairs special ≡ imageWords (newName (firstsT (drop 1 rss) [])) (ordered rss) pairs special
 unfolding finishedWords ordered
@@ -39,15 +40,15 @@ unfolding ordered
 length-ordered [] = refl
 length-ordered (names ∷ rss) = refl
 
-module _ (log tags : List ℕ) (starts : List (List ℕ)) (counts : List ℕ) (d : Derived log tags starts counts) where
+module _ (log logtags : List ℕ) (starts : List (List ℕ)) (counts : List ℕ) (d : ValidTables log logtags starts counts) where
   pub names-few : getD counts 0 0 ≤ 512
   names-few = d .rows .rows 0 (omega arith) .few
 
   abbrev Tabs : List (List Cells)
-  Tabs = tabsOf log tags starts counts
+  Tabs = tabsOf log logtags starts counts
 
   abbrev Ns : List ℕ
-  Ns = firstsT (tabsOf log tags (drop 1 starts) (drop 1 counts)) []
+  Ns = firstsT (tabsOf log logtags (drop 1 starts) (drop 1 counts)) []
 
   module _ (order places : List ℕ) (n : ℕ) (v : Noted (getD counts 0 0) Ns order places n) where
     pub order-low : (j : ℕ) → j < n → getD order j 0 < 512
@@ -62,10 +63,10 @@ module _ (log tags : List ℕ) (starts : List (List ℕ)) (counts : List ℕ) (d
           sym (getD-take n ch k 0 h) ∙ ap (λ (l : List ℕ). getD l k 0) (w .0) ∙ map-at (λ (j : ℕ). getD (getD starts 0 []) j 0) (take n order) k (let z = order-length in omega arith)
           ∙ ap (λ (j : ℕ). getD (getD starts 0 []) j 0) (getD-take n order k 0 h)
 
-      chosen-row : Row 512 log tags ch n
+      chosen-row : Row 512 log logtags ch n
       chosen-row = record { row-long = w .1; few = v .few; recs = λ k h. rw (chosen-at k h) (wide-rec names-few (d .rows .rows 0 (omega arith) .recs (getD order k 0) (v .inside k h))) }
 
-      row-of : (t : ℕ) → t < 8 → Row 512 log tags (getD (set starts 0 ch) t []) (getD (set counts 0 n) t 0)
+      row-of : (t : ℕ) → t < 8 → Row 512 log logtags (getD (set starts 0 ch) t []) (getD (set counts 0 n) t 0)
       row-of zero h =
           let a = getD-set-same starts 0 ch [] (let z = d .rows .eight in omega arith) in
           let b = getD-set-same counts 0 n 0 (let z = d .rows .eight′ in omega arith) in
@@ -75,11 +76,11 @@ module _ (log tags : List ℕ) (starts : List (List ℕ)) (counts : List ℕ) (d
           let b = getD-set-other counts 0 (suc t) n 0 (λ e. omega arith) in
           rw (a, b) (wide-row names-few (d .rows .rows (suc t) h))
 
-      pub rows-chosen : Rows 512 log tags (set starts 0 ch) (set counts 0 n)
+      pub rows-chosen : Rows 512 log logtags (set starts 0 ch) (set counts 0 n)
       rows-chosen = record { eight = length-set starts 0 ch ∙ d .rows .eight; eight′ = length-set counts 0 n ∙ d .rows .eight′; log-long = d .rows .log-long; tags-long = d .rows .tags-long; rows = row-of }
 
       abbrev New : List (List Cells)
-      New = tabsOf log tags (set starts 0 ch) (set counts 0 n)
+      New = tabsOf log logtags (set starts 0 ch) (set counts 0 n)
 
       some : 0 < length starts
       some = let z = d .rows .eight in omega arith
@@ -91,23 +92,23 @@ module _ (log tags : List ℕ) (starts : List (List ℕ)) (counts : List ℕ) (d
       enough = let r = d .rows .rows 0 (omega arith) in let z = r .few in let y = r .row-long in omega arith
 
       pub new-ordered : New ≡ ordered Tabs
-      new-ordered = tabs-ordered log tags starts counts some some′ enough (take n order) (sym (v .is)) (λ j h. rw (getD-take n order j 0 (let z = order-length in omega arith)) (v .inside j (let z = order-length in omega arith))) ch n (w .0)
+      new-ordered = tabs-ordered log logtags starts counts some some′ enough (take n order) (sym (v .is)) (λ j h. rw (getD-take n order j 0 (let z = order-length in omega arith)) (v .inside j (let z = order-length in omega arith))) ch n (w .0)
 
       eight-tabs : length Tabs ≡ 8
-      eight-tabs = length-tabs log tags starts counts (d .rows .eight ∙ sym (d .rows .eight′)) ∙ d .rows .eight
+      eight-tabs = length-tabs log logtags starts counts (d .rows .eight ∙ sym (d .rows .eight′)) ∙ d .rows .eight
 
       names-low : length (firstsT (drop 1 Tabs) []) ≤ 512
-      names-low = rw (tabs-rest log tags starts counts some some′) (omega (arith, ap length (v .is), order-length, v .few))
+      names-low = rw (tabs-rest log logtags starts counts some some′) (omega (arith, ap length (v .is), order-length, v .few))
 
       -- names' records have no names
       plain-first : (k : ℕ) → namesIn (getD (getD Tabs 0 []) k []) ≡ []
       unfolding namesIn
-      plain-first k = rw (tabs-first log tags starts counts some some′) (either (ltb k (getD counts 0 0))
-          (λ e. let h = ltb-true k (getD counts 0 0) e in rw (rec-at log tags (getD starts 0 []) (getD counts 0 0) k h enough) (d .plain k h))
-          (λ e. let h = ltb-false k (getD counts 0 0) e in let l = length-recs log tags (take (getD counts 0 0) (getD starts 0 [])) in let m = length-take-le (getD counts 0 0) (getD starts 0 []) enough in rw (List·getD-eq-default (recsAt log tags (take (getD counts 0 0) (getD starts 0 []))) [] {n = k} (omega arith))))
+      plain-first k = rw (tabs-first log logtags starts counts some some′) (either (ltb k (getD counts 0 0))
+          (λ e. let h = ltb-true k (getD counts 0 0) e in rw (rec-at log logtags (getD starts 0 []) (getD counts 0 0) k h enough) (d .plain k h))
+          (λ e. let h = ltb-false k (getD counts 0 0) e in let l = recs-long log logtags (take (getD counts 0 0) (getD starts 0 [])) in let m = length-take-le (getD counts 0 0) (getD starts 0 []) enough in rw (List·getD-eq-default (recsAt log logtags (take (getD counts 0 0) (getD starts 0 []))) [] {n = k} (omega arith))))
 
       new-tables : tables (named places) New ≡ tables (newName (firstsT (drop 1 Tabs) [])) (ordered Tabs)
-      new-tables = rw new-ordered (ordered-tables Tabs places plain-first λ x. rw (tabs-rest log tags starts counts some some′) (v .agree x))
+      new-tables = rw new-ordered (ordered-tables Tabs places plain-first λ x. rw (tabs-rest log logtags starts counts some some′) (v .agree x))
 
       module _ (special : List ℕ) (pairs : ℕ) (few : pairs ≤ 512) (enough-special : length special ≡ 1027) where
         abbrev Sp : List ℕ

@@ -1,4 +1,4 @@
--- Refusal 21 by the model's test and by the counts that the code looks at. Assumes nothing.
+-- Refusal 21 by the model's test and by the counts that the code looks at.
 use mathlib.Core.Path.{_≡_, refl, sym, ap, ap₂, _∙_}
 use mathlib.Core.Bool.{Bool, true, false, _||_}
 use mathlib.Core.List.{List, [], _∷_, map}
@@ -7,6 +7,7 @@ use native.Mathlib.Omega.{arith}
 use lib.Dec.{ltb}
 use lib.ListN.{length, getD, drop, length-map}
 use borrow.Author.Tests.{lt-ltb, ltb-true}
+use Rattle.theory_lists.specs.Booleans.{or-l}
 use Rattle.model.specs.Outcome.{Cells, word}
 use Rattle.model.specs.Table.{NAME}
 use Rattle.model.specs.Tree.{flat, flatEntry}
@@ -22,9 +23,6 @@ use Rattle.derive_image.proofs.Storing.{length-finished}
 or-right : (a b : Bool) → b ≡ true → a || b ≡ true
 or-right true b e = refl
 or-right false b e = e
-
-or-left : (a b : Bool) → a ≡ true → a || b ≡ true
-or-left a b e = rw e
 
 neither : (a b : Bool) → a ≡ false → b ≡ false → a || b ≡ false
 neither a b e f = rw (e, f)
@@ -48,10 +46,10 @@ module _ (a b c d e f g h i : ℕ) where
   tests = ltb 512 a || (ltb 512 b || (ltb 512 c || (ltb 512 d || (ltb 512 e || (ltb 512 f || (ltb 256 g || (ltb 16 h || (ltb 512 i || false))))))))
 
   many-functions : 256 < g → tests ≡ true
-  many-functions l = or-right (ltb 512 a) _ (or-right (ltb 512 b) _ (or-right (ltb 512 c) _ (or-right (ltb 512 d) _ (or-right (ltb 512 e) _ (or-right (ltb 512 f) _ (or-left (ltb 256 g) (ltb 16 h || (ltb 512 i || false)) (lt-ltb 256 g l)))))))
+  many-functions l = or-right (ltb 512 a) _ (or-right (ltb 512 b) _ (or-right (ltb 512 c) _ (or-right (ltb 512 d) _ (or-right (ltb 512 e) _ (or-right (ltb 512 f) _ (or-l (ltb 256 g) (ltb 16 h || (ltb 512 i || false)) (lt-ltb 256 g l)))))))
 
   many-entries : 16 < h → tests ≡ true
-  many-entries l = or-right (ltb 512 a) _ (or-right (ltb 512 b) _ (or-right (ltb 512 c) _ (or-right (ltb 512 d) _ (or-right (ltb 512 e) _ (or-right (ltb 512 f) _ (or-right (ltb 256 g) _ (or-left (ltb 16 h) (ltb 512 i || false) (lt-ltb 16 h l))))))))
+  many-entries l = or-right (ltb 512 a) _ (or-right (ltb 512 b) _ (or-right (ltb 512 c) _ (or-right (ltb 512 d) _ (or-right (ltb 512 e) _ (or-right (ltb 512 f) _ (or-right (ltb 256 g) _ (or-l (ltb 16 h) (ltb 512 i || false) (lt-ltb 16 h l))))))))
 
   none-many : a ≤ 512 → b ≤ 512 → c ≤ 512 → d ≤ 512 → e ≤ 512 → f ≤ 512 → g ≤ 256 → h ≤ 16 → i ≤ 512 → tests ≡ false
   none-many ha hb hc hd he hf hg hh hi = rw (not-more 512 a ha, not-more 512 b hb, not-more 512 c hc, not-more 512 d hd, not-more 512 e he, not-more 512 f hf, not-more 256 g hg, not-more 16 h hh, not-more 512 i hi)
@@ -80,7 +78,7 @@ module _ (t : Module) (names-plain : Each (Each (Not NAME)) (t .names)) (special
   -- 21, where the code says so
   pub large-is : Large (cellsOf t) sp → tooLarge m ≡ true
   unfolding tooLarge cellsOf
-  large-is (long h) = or-left (ltb 65536 (4 * length (flatModule m))) (passes (sections m) limits) (lt-ltb 65536 (4 * length (flatModule m)) (let z = words-length in omega arith))
+  large-is (long h) = or-l (ltb 65536 (4 * length (flatModule m))) (passes (sections m) limits) (lt-ltb 65536 (4 * length (flatModule m)) (let z = words-length in omega arith))
   large-is (functions h) = or-right (ltb 65536 (4 * length (flatModule m))) (passes (sections m) limits) (passes-are ∙ many-functions (length (chosen ns (t .names))) (length (t .types)) (length (t .constants)) (length (t .overrides)) (length (t .globals)) (length (t .exprs)) (length (map flat (t .functions))) (length (map flatEntry (t .entries))) (length (t .special .pairs)) h)
   large-is (entries h) = or-right (ltb 65536 (4 * length (flatModule m))) (passes (sections m) limits) (passes-are ∙ many-entries (length (chosen ns (t .names))) (length (t .types)) (length (t .constants)) (length (t .overrides)) (length (t .globals)) (length (t .exprs)) (length (map flat (t .functions))) (length (map flatEntry (t .entries))) (length (t .special .pairs)) h)
 

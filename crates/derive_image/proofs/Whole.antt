@@ -1,4 +1,4 @@
--- The whole image: the chosen names, the places of all names that are met, and the parts one after the other. Assumes nothing.
+-- The whole image: the chosen names, the places of all names that are met, and the parts one after the other.
 use mathlib.Core.Path.{_≡_, refl, sym, ap, ap₂, _∙_}
 use mathlib.Core.List.{List, [], _∷_, _++_, map}
 use Prim.Native.Nat.{ℕ, zero, suc, _+_, _*_, _-_, _≤_, _<_}
@@ -96,44 +96,44 @@ unfolding heads
 length-heads [] at pairs = refl
 length-heads (rs ∷ rss) at pairs = let i = length-heads rss (at + tableSize rs) pairs in omega arith
 
-pub length-tabs : (log tags : List ℕ) (starts : List (List ℕ)) (counts : List ℕ) → length starts ≡ length counts → length (tabsOf log tags starts counts) ≡ length starts
+pub length-tabs : (log logtags : List ℕ) (starts : List (List ℕ)) (counts : List ℕ) → length starts ≡ length counts → length (tabsOf log logtags starts counts) ≡ length starts
 unfolding tabsOf
-length-tabs log tags [] ns h = refl
-length-tabs log tags (ss ∷ sss) [] h = absurd (omega arith)
-length-tabs log tags (ss ∷ sss) (n ∷ ns) h = ap suc (length-tabs log tags sss ns (omega arith))
+length-tabs log logtags [] ns h = refl
+length-tabs log logtags (ss ∷ sss) [] h = absurd (omega arith)
+length-tabs log logtags (ss ∷ sss) (n ∷ ns) h = ap suc (length-tabs log logtags sss ns (omega arith))
 
 -- ---- the chosen names
-pub rec-at : (log tags ss : List ℕ) (c k : ℕ) → k < c → c ≤ length ss → getD (recsAt log tags (take c ss)) k [] ≡ recAt log tags (getD ss k 0)
+pub rec-at : (log logtags ss : List ℕ) (c k : ℕ) → k < c → c ≤ length ss → getD (recsAt log logtags (take c ss)) k [] ≡ recAt log logtags (getD ss k 0)
 unfolding recsAt
-rec-at log tags [] c k h l = absurd (omega arith)
-rec-at log tags (s ∷ ss) zero k h l = absurd (omega arith)
-rec-at log tags (s ∷ ss) (suc c) zero h l = refl
-rec-at log tags (s ∷ ss) (suc c) (suc k) h l = rec-at log tags ss c k (omega arith) (omega arith)
+rec-at log logtags [] c k h l = absurd (omega arith)
+rec-at log logtags (s ∷ ss) zero k h l = absurd (omega arith)
+rec-at log logtags (s ∷ ss) (suc c) zero h l = refl
+rec-at log logtags (s ∷ ss) (suc c) (suc k) h l = rec-at log logtags ss c k (omega arith) (omega arith)
 
-chosen-recs : (log tags ss : List ℕ) (c : ℕ) → c ≤ length ss → (ns : List ℕ) → ((j : ℕ) → j < length ns → getD ns j 0 < c) → recsAt log tags (map (λ (k : ℕ). getD ss k 0) ns) ≡ chosen ns (recsAt log tags (take c ss))
+chosen-recs : (log logtags ss : List ℕ) (c : ℕ) → c ≤ length ss → (ns : List ℕ) → ((j : ℕ) → j < length ns → getD ns j 0 < c) → recsAt log logtags (map (λ (k : ℕ). getD ss k 0) ns) ≡ chosen ns (recsAt log logtags (take c ss))
 unfolding recsAt chosen
-chosen-recs log tags ss c l [] h = refl
-chosen-recs log tags ss c l (n ∷ ns) h = ap₂ _∷_ (sym (rec-at log tags ss c n (h 0 (omega arith)) l)) (chosen-recs log tags ss c l ns λ j g. h (suc j) (omega arith))
+chosen-recs log logtags ss c l [] h = refl
+chosen-recs log logtags ss c l (n ∷ ns) h = ap₂ _∷_ (sym (rec-at log logtags ss c n (h 0 (omega arith)) l)) (chosen-recs log logtags ss c l ns λ j g. h (suc j) (omega arith))
 
 pub map-at : (f : ℕ → ℕ) (l : List ℕ) (k : ℕ) → k < length l → getD (map f l) k 0 ≡ f (getD l k 0)
 map-at f [] k h = absurd (omega arith)
 map-at f (x ∷ l) zero h = refl
 map-at f (x ∷ l) (suc k) h = map-at f l k (omega arith)
 
-pub wide-rec : {names : ℕ} {log tags : List ℕ} {s : ℕ} → names ≤ 512 → Rec names log tags s → Rec 512 log tags s
+pub wide-rec : {names : ℕ} {log logtags : List ℕ} {s : ℕ} → names ≤ 512 → Rec names log logtags s → Rec 512 log logtags s
 wide-rec h r = record { log-long = r .log-long; tags-long = r .tags-long; within = r .within; low = λ i a b e. let z = r .low i a b e in omega arith }
 
-pub wide-row : {names : ℕ} {log tags ss : List ℕ} {n : ℕ} → names ≤ 512 → Row names log tags ss n → Row 512 log tags ss n
+pub wide-row : {names : ℕ} {log logtags ss : List ℕ} {n : ℕ} → names ≤ 512 → Row names log logtags ss n → Row 512 log logtags ss n
 wide-row h r = record { row-long = r .row-long; few = r .few; recs = λ k l. wide-rec h (r .recs k l) }
 
-pub tabs-ordered : (log tags : List ℕ) (starts : List (List ℕ)) (counts : List ℕ) → 0 < length starts → 0 < length counts → getD counts 0 0 ≤ length (getD starts 0 [])
-    → (ns : List ℕ) → firstsT (tabsOf log tags (drop 1 starts) (drop 1 counts)) [] ≡ ns → ((j : ℕ) → j < length ns → getD ns j 0 < getD counts 0 0)
+pub tabs-ordered : (log logtags : List ℕ) (starts : List (List ℕ)) (counts : List ℕ) → 0 < length starts → 0 < length counts → getD counts 0 0 ≤ length (getD starts 0 [])
+    → (ns : List ℕ) → firstsT (tabsOf log logtags (drop 1 starts) (drop 1 counts)) [] ≡ ns → ((j : ℕ) → j < length ns → getD ns j 0 < getD counts 0 0)
     → (ch : List ℕ) (n : ℕ) → take n ch ≡ map (λ (k : ℕ). getD (getD starts 0 []) k 0) ns
-    → tabsOf log tags (set starts 0 ch) (set counts 0 n) ≡ ordered (tabsOf log tags starts counts)
+    → tabsOf log logtags (set starts 0 ch) (set counts 0 n) ≡ ordered (tabsOf log logtags starts counts)
 unfolding tabsOf ordered
-tabs-ordered log tags [] counts h g l ns e low ch n q = absurd (omega arith)
-tabs-ordered log tags (ss ∷ sss) [] h g l ns e low ch n q = absurd (omega arith)
-tabs-ordered log tags (ss ∷ sss) (c ∷ cs) h g l ns e low ch n q = ap (_∷ tabsOf log tags sss cs) (ap (recsAt log tags) q ∙ chosen-recs log tags ss c l ns low ∙ ap (λ (z : List ℕ). chosen z (recsAt log tags (take c ss))) (sym e))
+tabs-ordered log logtags [] counts h g l ns e low ch n q = absurd (omega arith)
+tabs-ordered log logtags (ss ∷ sss) [] h g l ns e low ch n q = absurd (omega arith)
+tabs-ordered log logtags (ss ∷ sss) (c ∷ cs) h g l ns e low ch n q = ap (_∷ tabsOf log logtags sss cs) (ap (recsAt log logtags) q ∙ chosen-recs log logtags ss c l ns low ∙ ap (λ (z : List ℕ). chosen z (recsAt log logtags (take c ss))) (sym e))
 
 -- ---- the finished words with places in the place of numbers
 chosen-plain : (ns : List ℕ) (names : List Cells) → ((k : ℕ) → namesIn (getD names k []) ≡ []) → namesR (chosen ns names) ≡ []

@@ -1,4 +1,4 @@
--- A small module's words from its cells, and a state that meets what finish asks for. Assumes nothing.
+-- A small module's words from its cells, and a state that meets what finish requires.
 use mathlib.Core.Path.{_≡_, refl}
 use mathlib.Core.List.{List, [], _∷_}
 use Prim.Native.Nat.{ℕ, zero, suc, _<_, _≤_}
@@ -11,7 +11,7 @@ use Rattle.model.specs.Finish.{namesIn, firsts, keepN, indexN, renumber}
 use Rattle.derive_sections.specs.Flat.{finishedWords, imageWords, total, firstsT, firstsR, chosen, newName, heads, tables, sizes, tableSize, lengths, tableWords, offsets, joined}
 use Rattle.derive_state.specs.Held.{recAt}
 use Rattle.derive_sections.specs.Rows.{Rec, Row}
-use Rattle.derive_image.specs.Held.{Derived}
+use Rattle.derive_image.specs.Held.{ValidTables}
 
 -- of two names the second appears
 cells : List (List Cells)
@@ -26,8 +26,8 @@ words = refl
 abbrev log : List ℕ
 log = 1 ∷ 11 ∷ 2 ∷ 1 ∷ 7 ∷ replicate 16379 0
 
-abbrev tags : List ℕ
-tags = 0 ∷ 2 ∷ 0 ∷ 83 ∷ 0 ∷ replicate 16379 0
+abbrev logtags : List ℕ
+logtags = 0 ∷ 2 ∷ 0 ∷ 83 ∷ 0 ∷ replicate 16379 0
 
 abbrev starts : List (List ℕ)
 starts = (0 ∷ replicate 511 0) ∷ (2 ∷ replicate 511 0) ∷ replicate 6 (replicate 512 0)
@@ -35,18 +35,18 @@ starts = (0 ∷ replicate 511 0) ∷ (2 ∷ replicate 511 0) ∷ replicate 6 (re
 abbrev counts : List ℕ
 counts = 1 ∷ 1 ∷ replicate 6 0
 
-first : Rec 1 log tags 0
+first : Rec 1 log logtags 0
 first = record { log-long = omega (arith, length-replicate {A = ℕ} 16379 0); tags-long = omega (arith, length-replicate {A = ℕ} 16379 0); within = omega arith; low = go }
   where
-    go : (i : ℕ) → 0 < i → i < 2 → getD tags i 0 ≡ NAME → getD log i 0 ≤ 1
+    go : (i : ℕ) → 0 < i → i < 2 → getD logtags i 0 ≡ NAME → getD log i 0 ≤ 1
     go zero a b e = absurd (omega arith)
     go (suc zero) a b e = absurd (omega arith)
     go (suc (suc i)) a b e = absurd (omega arith)
 
-second : Rec 1 log tags 2
+second : Rec 1 log logtags 2
 second = record { log-long = omega (arith, length-replicate {A = ℕ} 16379 0); tags-long = omega (arith, length-replicate {A = ℕ} 16379 0); within = omega arith; low = go }
   where
-    go : (i : ℕ) → 2 < i → i < 5 → getD tags i 0 ≡ NAME → getD log i 0 ≤ 1
+    go : (i : ℕ) → 2 < i → i < 5 → getD logtags i 0 ≡ NAME → getD log i 0 ≤ 1
     go zero a b e = absurd (omega arith)
     go (suc zero) a b e = absurd (omega arith)
     go (suc (suc zero)) a b e = absurd (omega arith)
@@ -54,28 +54,28 @@ second = record { log-long = omega (arith, length-replicate {A = ℕ} 16379 0); 
     go (suc (suc (suc (suc zero)))) a b e = absurd (omega arith)
     go (suc (suc (suc (suc (suc i))))) a b e = absurd (omega arith)
 
-one : (s : ℕ) → Rec 1 log tags s → Row 1 log tags (s ∷ replicate 511 0) 1
+one : (s : ℕ) → Rec 1 log logtags s → Row 1 log logtags (s ∷ replicate 511 0) 1
 one s r = record { row-long = omega (arith, length-replicate {A = ℕ} 511 0); few = omega arith; recs = go }
   where
-    go : (k : ℕ) → k < 1 → Rec 1 log tags (getD (s ∷ replicate 511 0) k 0)
+    go : (k : ℕ) → k < 1 → Rec 1 log logtags (getD (s ∷ replicate 511 0) k 0)
     go zero h = r
     go (suc k) h = absurd (omega arith)
 
-none : Row 1 log tags (replicate 512 0) 0
+none : Row 1 log logtags (replicate 512 0) 0
 none = record { row-long = length-replicate {A = ℕ} 512 0; few = omega arith; recs = λ k h. absurd (omega arith) }
 
-rows : (t : ℕ) → t < 8 → Row 1 log tags (getD starts t []) (getD counts t 0)
+rows : (t : ℕ) → t < 8 → Row 1 log logtags (getD starts t []) (getD counts t 0)
 rows zero h = one 0 first
 rows (suc zero) h = one 2 second
 rows (suc (suc t)) h = rw (getD-replicate 6 t (replicate {A = ℕ} 512 0) [] (omega arith), getD-replicate {A = ℕ} 6 t 0 0 (omega arith)) none
 
-pub held : Derived log tags starts counts
+pub held : ValidTables log logtags starts counts
 unfolding recAt namesIn between beside
 held = record {
   rows = record { eight = refl; eight′ = refl; log-long = first .log-long; tags-long = first .tags-long; rows = rows };
   plain = go;
 }
   where
-    go : (k : ℕ) → k < 1 → namesIn (recAt log tags (getD (0 ∷ replicate 511 0) k 0)) ≡ []
+    go : (k : ℕ) → k < 1 → namesIn (recAt log logtags (getD (0 ∷ replicate 511 0) k 0)) ≡ []
     go zero h = refl
     go (suc k) h = absurd (omega arith)

@@ -1,4 +1,4 @@
--- What the arrays hold, and what is finished. Assumes nothing: these are definitions.
+-- What the arrays hold, and what is finished.
 use mathlib.Core.Path.{_≡_}
 use mathlib.Core.List.{List, []}
 use Prim.Native.Nat.{ℕ, _*_, _≤_, _<_}
@@ -12,9 +12,9 @@ use Rattle.derive_sections.specs.Flat.{firstsT, ordered, total, finishedWords}
 use Rattle.derive_sections.specs.Rows.{Rows}
 
 -- what is derived: every name that is met has a record, and names' records have no names
-pub record Derived (log tags : List ℕ) (starts : List (List ℕ)) (counts : List ℕ) : Type 0 where
-  pub rows : Rows (getD counts 0 0) log tags starts counts
-  pub plain : (k : ℕ) → k < getD counts 0 0 → namesIn (recAt log tags (getD (getD starts 0 []) k 0)) ≡ []
+pub record ValidTables (log logtags : List ℕ) (starts : List (List ℕ)) (counts : List ℕ) : Type 0 where
+  pub rows : Rows (getD counts 0 0) log logtags starts counts
+  pub plain : (k : ℕ) → k < getD counts 0 0 → namesIn (recAt log logtags (getD (getD starts 0 []) k 0)) ≡ []
 
 -- ---- finished, or too long: then nothing is written
 pub record Finishes (rss : List (List Cells)) (pairs : ℕ) (special out₀ : List ℕ) (r : ℕ) (out : List ℕ) : Type 0 where

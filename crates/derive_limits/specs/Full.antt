@@ -8,22 +8,22 @@ use native.Mathlib.Omega.{arith}
 use lib.Dec.{ltb}
 use lib.ListN.{length, length-append}
 use borrow.Author.Tests.{lt-ltb, ltb-true}
+use Rattle.theory_lists.specs.Booleans.{or-l, or-r, or-cases}
 use Rattle.model.specs.Outcome.{Cells}
 use Rattle.model.specs.Tree.{Entry, flat, flatEntry, flatAll}
 use Rattle.model.specs.Module.{Module, Section, pairRow, flatTable, flatSpecial, limits, sections, flatModule}
 use Rattle.model.specs.Carry.{Lays, Each, each-none, each-next}
 use Rattle.model.specs.Tables.{Tab, names, types, constants, overrides, globals, exprs, at, count}
-use Rattle.model.specs.Imports.{St}
+use Rattle.model.specs.Imports.{Derived}
 use Rattle.model.specs.Finish.{gathered, passes, tooLarge}
 use Rattle.theory_image.specs.Plain.{plain?, plain-length}
-use Rattle.theory_image.specs.Views.{length-cells}
-use Rattle.theory_walks.specs.Tests.{or-l, or-r, or-cases}
+use Rattle.theory_image.specs.Views.{length-cells, table-length}
 use Rattle.theory_finish.specs.Kept.{Parts}
-use Rattle.theory_finish.specs.Size.{table-length, special-length, all-length}
+use Rattle.theory_finish.specs.Size.{special-length, all-length}
 use Rattle.derive_state.specs.Held.{sizeR, sizeS, wordsOf, Over, long, many, crowd, keys}
 
 -- what the code means, with these entry points: too many words or records, or too many entry points
-pub data Full (s : St) (es : List Entry) : Type 0 where
+pub data Full (s : Derived) (es : List Entry) : Type 0 where
   over : Over (sizeR (map flatEntry es)) s → Full s es
   entries : 16 < length es → Full s es
 
@@ -44,7 +44,7 @@ is-passed [] ls h = absurd (false≢true h)
 is-passed (s ∷ ss) [] h = absurd (false≢true h)
 is-passed (s ∷ ss) (l ∷ ls) h = ⊎-elim (λ e. first (ltb-true l (s .0) e)) (λ e. later (is-passed ss ls e)) (or-cases (ltb l (s .0)) (passes ss ls) h)
 
-module _ (s : St) (es : List Entry) where
+module _ (s : Derived) (es : List Entry) where
   crowded : (t : Tab) → 512 < count (s .recs) t → Passed (sections (gathered s es)) limits
   unfolding sections limits gathered count at
   crowded names h = first h
@@ -93,7 +93,7 @@ unfolding flatAll plain?
 pairs-size each-none = refl
 pairs-size (each-next {a = r} {l = rs} l ls) = omega (arith, length-append r (flatAll rs), plain-length l refl, pairs-size ls)
 
-module _ (s : St) (es : List Entry) (p : Parts (gathered s es)) where
+module _ (s : Derived) (es : List Entry) (p : Parts (gathered s es)) where
   abbrev g : Module
   g = gathered s es
 

@@ -11,10 +11,10 @@ use Rattle.model.specs.Intake.{Passes}
 use Rattle.model.specs.Callees.{callees}
 use Rattle.model.specs.Redirect.{function}
 use Rattle.model.specs.Tables.{Tab, names, types, isT, tables, count}
-use Rattle.model.specs.Imports.{St, importT, renamed}
+use Rattle.model.specs.Imports.{Derived, importT, renamed}
 use Rattle.model.specs.Special.{sourced}
 use Rattle.model.specs.Bodies.{append, follow}
-use Rattle.model.specs.Session.{Source, Session, new, ringing}
+use Rattle.model.specs.Session.{Source, Session, new, meetsRing}
 use Rattle.theory_finish.specs.Shown.{Shown}
 use Rattle.theory_finish.specs.ShownSource.{None, nowhere, source-sound, rename-shown, record-shown, call-shown, import-function-shown, sourced-shown}
 use Rattle.theory_finish.specs.NamedSession.{NamedBy, Named, new-named, set-named, clear-named, span-named, import-named, rename-named, function-named, handle-named, finish-named, end-named}
@@ -65,7 +65,7 @@ pub reached : {ps : List Operation} → Each Public ps → Reached (run ps new)
 reached qs = run-reached qs new (record { good = new-good; named = new-named })
 
 -- ---- states with a source that is set
-pub record At (x : Source) (s : St) : Type 0 where
+pub record At (x : Source) (s : Derived) : Type 0 where
   pub set : Set x s
   pub shown : Shown (tables (x .image)) None None s
 
@@ -77,14 +77,14 @@ at-source {s} r x e = go (s .source) e (r .good) (r .named)
     go y e g v = record { set = subst (λ (z : Option Source). GoodBy z (s .state)) e g; shown = subst (λ (z : Option Source). NamedBy z (s .state)) e v .2 }
 
 -- ---- what an operation makes of one
-module _ {x : Source} {s : St} (a : At x s) where
+module _ {x : Source} {s : Derived} (a : At x s) where
   abbrev m : Module
   m = x .image
 
   abbrev o : ℕ
   o = x .offset
 
-  next : (r : St) → Holds (tables m) r → Shown (tables m) None None r → At x r
+  next : (r : Derived) → Holds (tables m) r → Shown (tables m) None None r → At x r
   next r h v = record { set = record { well = a .set .well; passes = a .set .passes; holds = h }; shown = v }
 
   pub import-at : (t : Tab) → isT t names ≡ false → (n : ℕ) → n < count (tables m) t → At x (importT o (tables m) t n s)
@@ -93,10 +93,10 @@ module _ {x : Source} {s : St} (a : At x s) where
   pub rename-at : (n name : ℕ) → n < count (tables m) types → name < count (tables m) names → At x (importT o (renamed (tables m) n name) types n s)
   rename-at n name l k = next _ (rename-next m (a .set .well) (a .set .passes) o n name s l k (a .set .holds) .holds) (rename-shown (tables m) (source-sound m (a .set .well) (a .set .passes .numbers)) n name k o None None s (a .shown))
 
-  pub function-at : (n : ℕ) → n < length (m .functions) → ringing (n ∷ callees (function m n)) m s ≡ false → At x (append o m (follow o m) n s)
+  pub function-at : (n : ℕ) → n < length (m .functions) → meetsRing (n ∷ callees (function m n)) m s ≡ false → At x (append o m (follow o m) n s)
   function-at n l e = next _ (function-next m (a .set .well) (a .set .passes) o n s l e (a .set .holds) .holds) (import-function-shown m (a .set .well) (a .set .passes .numbers) o None n s (a .shown))
 
-  pub handle-at : (n : ℕ) → n < length (m .functions) → ringing (n ∷ []) m s ≡ false → At x (follow o m n s)
+  pub handle-at : (n : ℕ) → n < length (m .functions) → meetsRing (n ∷ []) m s ≡ false → At x (follow o m n s)
   handle-at n l e = next _ (from-next (handle-from m (a .set .well) (a .set .passes) o n s l e (a .set .holds)) .holds) (call-shown m (a .set .well) (a .set .passes .numbers) o None n s (a .shown))
 
 -- a source that is set, after whatever was before

@@ -1,9 +1,10 @@
--- A good state has its functions' names in their first words. Assumes nothing.
+-- A good state has its functions' names in their first words.
 use mathlib.Core.Path.{_≡_, refl, sym, ap, _∙_}
-use mathlib.Core.List.{List, [], _∷_, _++_, map}
-use Prim.Native.Nat.{ℕ, zero, suc, _+_, _≤_, _<_}
+use mathlib.Core.List.{List, [], _++_, map}
+use Prim.Native.Nat.{ℕ, suc, _+_, _≤_, _<_}
 use native.Mathlib.Omega.{arith}
 use lib.ListN.{length, getD, length-map}
+use Rattle.theory_lists.specs.Lists.{map-at}
 use Rattle.model.specs.Outcome.{Cells, word, Outcome, fits, misfit, unknown}
 use Rattle.model.specs.Table.{ARGUMENTS, LOCALS, EXPRESSIONS, NAMED, functionHead}
 use Rattle.model.specs.Tree.{Function, flatList, flatBlock, flat, functionAt}
@@ -14,8 +15,8 @@ use Rattle.theory_image.specs.Writing.{flat-right}
 use Rattle.theory_image.specs.Readers.{read-well-function}
 use Rattle.theory_image.specs.Betweens.{between-next}
 use Rattle.derive_state.specs.Flats.{functionIn, functionOf}
-use Rattle.derive_state.specs.Held.{cell, row, recAt, tableOf, functionsOf, Kept}
-use Rattle.derive_state.specs.declared.Ends.{Ends}
+use Rattle.derive_state.specs.Held.{cell, row, recAt, tableOf, functionsOf, ValidArrays}
+use Rattle.derive_state.specs.declared.Sizes.{Sizes}
 use Rattle.derive_state.proofs.Passes.{length-between}
 use Rattle.derive_state.proofs.State.{table-at, table-long}
 use Rattle.derive_lookup.specs.Bearing.{Names, Heads, Bearing}
@@ -53,43 +54,38 @@ function-begins c = go (functionAt (map word c)) refl
     go unknown e = nothing-begins
 
 -- ---- of a record that is a flat function
-record Headed (log tags : List ℕ) (s : ℕ) : Type 0 where
+record Headed (log logtags : List ℕ) (s : ℕ) : Type 0 where
   some : 0 < getD log s 0
-  first : nameWord (functionOf (recAt log tags s)) ≡ getD log (suc s) 0
+  first : nameWord (functionOf (recAt log logtags s)) ≡ getD log (suc s) 0
 
-headed : (log tags : List ℕ) (s : ℕ) → length log ≡ 16384 → length tags ≡ 16384 → s + suc (getD log s 0) ≤ 16384 → flat (functionOf (recAt log tags s)) ≡ recAt log tags s → Headed log tags s
+headed : (log logtags : List ℕ) (s : ℕ) → length log ≡ 16384 → length logtags ≡ 16384 → s + suc (getD log s 0) ≤ 16384 → flat (functionOf (recAt log logtags s)) ≡ recAt log logtags s → Headed log logtags s
 unfolding recAt
-headed log tags s hl ht h e =
-    let b = function-begins (recAt log tags s) in
-    let l = length-between tags log (suc s) (suc s + getD log s 0) (omega arith) (omega arith) in
-    let m : length (flat (functionOf (recAt log tags s))) ≡ getD log s 0 = ap length e ∙ l ∙ omega arith in
-    let n = between-next tags log (suc s) (suc s + getD log s 0) (omega (arith, b .some)) (omega arith) (omega arith) in
+headed log logtags s hl ht h e =
+    let b = function-begins (recAt log logtags s) in
+    let l = length-between logtags log (suc s) (suc s + getD log s 0) (omega arith) (omega arith) in
+    let m : length (flat (functionOf (recAt log logtags s))) ≡ getD log s 0 = ap length e ∙ l ∙ omega arith in
+    let n = between-next logtags log (suc s) (suc s + getD log s 0) (omega (arith, b .some)) (omega arith) (omega arith) in
     record { some = omega (arith, b .some); first = b .first ∙ ap (λ c. word (getD c 0 (0, 0))) (e ∙ n) }
 
-map-at : {A B : Type 0} (f : A → B) (l : List A) (k : ℕ) (d : A) (x : B) → k < length l → getD (map f l) k x ≡ f (getD l k d)
-map-at f [] k d x h = absurd (omega arith)
-map-at f (y ∷ l) zero d x h = refl
-map-at f (y ∷ l) (suc k) d x h = map-at f l k d x (omega arith)
-
-module _ {log tags : List ℕ} {starts maps : List (List ℕ)} {marks : List ℕ} {e : Ends} (K : Kept log tags starts maps marks e) where
+module _ {log logtags : List ℕ} {starts maps : List (List ℕ)} {buckets : List ℕ} {e : Sizes} (K : ValidArrays log logtags starts maps buckets e) where
   inside : (t k : ℕ) → t < 8 → k < getD (e .counts) t 0 → cell starts t k + suc (getD log (cell starts t k) 0) ≤ 16384
   inside t k ht hk = let a = K .within t k ht hk in let b = K .room in omega arith
 
-  flat-at : (k : ℕ) → k < getD (e .counts) 6 0 → flat (functionOf (recAt log tags (cell starts 6 k))) ≡ recAt log tags (cell starts 6 k)
+  flat-at : (k : ℕ) → k < getD (e .counts) 6 0 → flat (functionOf (recAt log logtags (cell starts 6 k))) ≡ recAt log logtags (cell starts 6 k)
   unfolding functionsOf
   flat-at k h =
-      let T = tableOf log tags starts (e .counts) 6 in
-      let l = table-long log tags starts maps marks e K 6 (omega arith) in
-      let a = table-at log tags starts maps marks e K 6 k (omega arith) h in
+      let T = tableOf log logtags starts (e .counts) 6 in
+      let l = table-long log logtags starts maps buckets e K 6 (omega arith) in
+      let a = table-at log logtags starts maps buckets e K 6 k (omega arith) h in
       let q = ap (λ (x : List Cells). getD x k []) (K .flats) in
       let m = map-at flat (map functionOf T) k (functionOf []) [] (omega (arith, length-map T functionOf)) in
       let o = map-at functionOf T k [] (functionOf []) (omega arith) in
       ap (λ c. flat (functionOf c)) (sym a) ∙ ap flat (sym o) ∙ sym m ∙ q ∙ a
 
-  head-at : (k : ℕ) → k < getD (e .counts) 6 0 → Headed log tags (cell starts 6 k)
-  head-at k h = headed log tags (cell starts 6 k) (K .log-long) (K .tags-long) (inside 6 k (omega arith) h) (flat-at k h)
+  head-at : (k : ℕ) → k < getD (e .counts) 6 0 → Headed log logtags (cell starts 6 k)
+  head-at k h = headed log logtags (cell starts 6 k) (K .log-long) (K .tags-long) (inside 6 k (omega arith) h) (flat-at k h)
 
-  pub bearing : Bearing log tags starts e
+  pub bearing : Bearing log logtags starts e
   bearing = record {
     names = record {
       few = K .few 0 (omega arith);

@@ -1,4 +1,4 @@
--- Comparing a record of the log with words that are not carried: a case of state's comparison, by maps that leave every number where it is. Assumes nothing.
+-- Comparing a record of the log with words that are not carried: a case of derive_state's comparison, by maps that leave every number where it is.
 use mathlib.Core.Path.{_≡_, refl, sym, ap, ap₂, _∙_}
 use mathlib.Core.Bool.{Bool}
 use mathlib.Core.List.{List, [], _∷_}

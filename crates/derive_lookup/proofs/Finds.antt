@@ -1,4 +1,4 @@
--- The name of the source's function, and the function that bears it. Assumes nothing.
+-- The name of the source's function, and the function that has it.
 use mathlib.Core.Path.{_≡_, refl, sym, ap, _∙_}
 use mathlib.Core.Bool.{true, not, _&&_}
 use mathlib.Core.List.{List, [], map}
@@ -8,6 +8,7 @@ use native.Mathlib.Omega.{arith}
 use lib.Dec.{eqb}
 use lib.ListN.{length, getD, take}
 use borrow.Author.Tests.{eqb-false, not-true}
+use Rattle.theory_lists.specs.Booleans.{and-split}
 use Rattle.model.specs.Table.{NAME}
 use Rattle.model.specs.Tree.{Function}
 use Rattle.model.specs.Module.{countAt}
@@ -18,19 +19,18 @@ use Rattle.model.specs.Names.{field, present, functionNames, named}
 use Rattle.model.specs.Between.{between}
 use Rattle.model.specs.Redirect.{nameWord, nothing, function}
 use Rattle.model.specs.Tables.{names, codeT, six, at, tables, recAt as recT}
-use Rattle.model.specs.References.{seat}
+use Rattle.model.specs.References.{indexOf}
 use Rattle.model.specs.Bodies.{lastOf, known}
-use Rattle.theory_image.specs.Lists.{and-split}
-use Rattle.theory_image.specs.FunctionViews.{each-at}
+use Rattle.theory_bodies.specs.Names.{head-field, name-low}
 use Rattle.theory_image.specs.Betweens.{table-count}
-use Rattle.order_callees.proofs.Numbered.{functions-sound}
+use Rattle.theory_image.specs.Members.{each-at}
+use Rattle.theory_order.specs.Numbered.{functions-sound}
 use Rattle.redirect_calls.proofs.Places.{name-is, start-in, many}
-use Rattle.theory_sessions.specs.Named.{head-field, name-low}
-use Rattle.derive_state.specs.Refers.{tabOf, kindBytes}
+use Rattle.derive_state.specs.Refers.{tabOf, targetBytes}
 use Rattle.derive_state.specs.Flats.{functionOf}
 use Rattle.derive_state.specs.Source.{modOf, srcOf, Source}
 use Rattle.derive_state.specs.Held.{recAt, recsAt, recsOf, functionsOf, stOf, Readable}
-use Rattle.derive_state.specs.declared.Ends.{Ends}
+use Rattle.derive_state.specs.declared.Sizes.{Sizes}
 use Rattle.derive_types.proofs.Sources.{count-few, record-is, readable}
 use Rattle.derive_lookup.specs.Bearing.{Knows}
 
@@ -82,8 +82,8 @@ module _ (words tags : List ℕ) (n : ℕ) (src : Source words tags n) (five : n
       name-few = let a = name-in in let b = count-few words tags n src 0 (omega arith) in omega arith
 
       module _ (from to : ℕ) (hb : from ≡ recordAt 0 (v - 1) words) (he : to ≡ recordEnd 0 (v - 1) words) where
-        pub name-reads : Readable words tags kindBytes from to
-        name-reads = readable words tags n src 0 (v - 1) (omega arith) name-in from to hb he kindBytes refl
+        pub name-reads : Readable words tags targetBytes from to
+        name-reads = readable words tags n src 0 (v - 1) (omega arith) name-in from to hb he targetBytes refl
 
         name-text : between tags words from to ≡ recT (tables (modOf words n)) names (pred (nameWord (function (modOf words n) f)))
         unfolding srcOf tabOf
@@ -95,12 +95,12 @@ module _ (words tags : List ℕ) (n : ℕ) (src : Source words tags n) (five : n
             less x zero e = omega arith
             less x (suc y) e = omega arith
 
-        module _ (log classes : List ℕ) (starts : List (List ℕ)) (e : Ends) where
-          pub knows : (d r : ℕ) → d ≡ seat (recsAt log classes (take (getD (e .counts) 0 0) (getD starts 0 []))) (between tags words from to)
-              → (r ≡ lastOf (map functionOf (recsAt log classes (take (getD (e .counts) 6 0) (getD starts 6 [])))) 0 0 (d + 1)) × (r ≤ getD (e .counts) 6 0)
-              → Knows words n log classes starts e f r
+        module _ (log logtags : List ℕ) (starts : List (List ℕ)) (e : Sizes) where
+          pub knows : (d r : ℕ) → d ≡ indexOf (recsAt log logtags (take (getD (e .counts) 0 0) (getD starts 0 []))) (between tags words from to)
+              → (r ≡ lastOf (map functionOf (recsAt log logtags (take (getD (e .counts) 6 0) (getD starts 6 [])))) 0 0 (d + 1)) × (r ≤ getD (e .counts) 6 0)
+              → Knows words n log logtags starts e f r
           unfolding known stOf recsOf functionsOf six at codeT
           knows d r hd hr = record {
-            is = λ maps special. hr .0 ∙ ap (lastOf (map functionOf (recsAt log classes (take (getD (e .counts) 6 0) (getD starts 6 [])))) 0 0) (add-one d ∙ ap suc (hd ∙ ap (seat (recsAt log classes (take (getD (e .counts) 0 0) (getD starts 0 [])))) name-text));
+            is = λ maps special. hr .0 ∙ ap (lastOf (map functionOf (recsAt log logtags (take (getD (e .counts) 6 0) (getD starts 6 [])))) 0 0) (add-one d ∙ ap suc (hd ∙ ap (indexOf (recsAt log logtags (take (getD (e .counts) 0 0) (getD starts 0 [])))) name-text));
             low = hr .1;
           }

@@ -1,4 +1,4 @@
--- Whether words call a function of a kind, and whether a function or the functions of entry points do. Assumes nothing.
+-- Whether words call a function of a kind, and whether a function or the functions of entry points do.
 use mathlib.Core.Path.{_≡_, refl, sym, ap, ap₂, _∙_}
 use mathlib.Core.Bool.{Bool, true, false, cond}
 use mathlib.Core.List.{List, [], _∷_, _++_}
@@ -9,6 +9,8 @@ use lib.Dec.{eqb}
 use lib.ListN.{length, getD, drop}
 use lib.Seq.{drop-cons}
 use borrow.Author.Tests.{eqb-true, eq-eqb}
+use Rattle.theory_lists.specs.Lists.{looked-at}
+use Rattle.theory_lists.specs.Booleans.{bool-same}
 use Rattle.model.specs.Table.{CALLEE}
 use Rattle.model.specs.Tree.{Function, Entry}
 use Rattle.model.specs.Module.{countAt}
@@ -19,14 +21,15 @@ use Rattle.model.specs.Calls.{any}
 use Rattle.model.specs.Callees.{callees}
 use Rattle.model.specs.Redirect.{nothing, function}
 use Rattle.model.specs.Session.{calleesOf}
-use Rattle.theory_image.specs.FunctionViews.{each-at, looked-at, part-words, part-tags, taped-length, taped-functions, taped-function, taped-entries, taped-entry}
+use Rattle.theory_image.specs.FunctionViews.{part-words, part-tags, taped-length, taped-functions, taped-function, taped-entries, taped-entry}
+use Rattle.theory_image.specs.Members.{each-at}
 use Rattle.order_ranks.specs.Marks.{holds, members}
-use Rattle.order_ranks.proofs.Lists.{any-in, in-any}
-use Rattle.order_ranks.proofs.Marks.{one-test, in-members, members-in}
-use Rattle.order_callees.specs.Gathering.{picks, picked}
-use Rattle.order_callees.proofs.Cells.{cells-function}
+use Rattle.theory_order.specs.Lists.{any-in, in-any}
+use Rattle.order_ranks.proofs.Marks.{in-members, members-in}
+use Rattle.order_callees.specs.Gathering.{picked}
+use Rattle.theory_order.specs.Cells.{picks, cells-function}
 use Rattle.order_callees.proofs.Marking.{picked-one, picked-none, picked-end}
-use Rattle.order_callees.proofs.Numbered.{numbered-known, entries-known}
+use Rattle.theory_order.specs.Numbered.{numbered-known, entries-known}
 use Rattle.derive_state.specs.Flats.{noEntry}
 use Rattle.derive_state.specs.Source.{modOf, Source}
 use Rattle.derive_rings.specs.Rings.{Scannable}
@@ -38,7 +41,7 @@ isOf set k = any (members set) (eqb k)
 
 pub holds-is : (set : List ℕ) (k : ℕ) → k < 256 → holds set k ≡ isOf set k
 holds-is set k h =
-    one-test (holds set k) (isOf set k)
+    bool-same (holds set k) (isOf set k)
     (λ e. in-any (eqb k) (in-members set k h e) (eq-eqb k k refl))
     (λ e. let q = any-in (eqb k) (members set) e in rw (eqb-true k (q .0) (q .2)) (members-in set (q .0) (q .1) .1))
 

@@ -1,5 +1,5 @@
 -- What the rounds leave is the most that holds itself up: each of it calls one of it. So what they leave of a part of the functions lies in what they leave of all,
--- and the rounds may start from what the part has in common with that. Assumes nothing.
+-- and the rounds may start from what the part has in common with that.
 use mathlib.Core.Path.{_≡_, refl, sym, ap, _∙_}
 use mathlib.Core.Bool.{Bool, true, false, not, _&&_}
 use mathlib.Core.Logic.{_⊎_, inl, inr}
@@ -7,10 +7,10 @@ use mathlib.Core.List.{List, [], _∷_}
 use Prim.Native.Nat.{ℕ, zero, suc, _+_, _≤_, _<_}
 use native.Mathlib.Omega.{arith}
 use lib.ListN.{length}
+use Rattle.theory_lists.specs.Booleans.{bool-same, either}
 use Rattle.model.specs.Calls.{In, numbers, any, keep, free, held, Rounds, rounds}
-use Rattle.order_ranks.proofs.Lists.{either, keep-in, in-keep, keep-all, keep-ext, keep-keep, any-in, in-any, in-nil, length-parts, length-numbers}
-use Rattle.order_ranks.proofs.Marks.{one-test}
-use Rattle.order_ranks.proofs.Rounds.{length-round, no-round, last-round, some-round, length-rounds}
+use Rattle.theory_order.specs.Lists.{keep-in, in-keep, keep-all, keep-ext, keep-keep, any-in, in-any, in-nil, length-parts, length-numbers}
+use Rattle.theory_order.specs.Rounds.{length-round, no-round, last-round, some-round, length-rounds}
 
 none-or : (l : List ℕ) → (l ≡ []) ⊎ (0 < length l)
 none-or [] = inl refl
@@ -74,7 +74,7 @@ module _ (calls : ℕ → ℕ → Bool) where
 
 -- two parts of a list that have the same members
 same-part : (p q : ℕ → Bool) (ws : List ℕ) → ((i : ℕ) → In i (keep ws p) → In i (keep ws q)) → ((i : ℕ) → In i (keep ws q) → In i (keep ws p)) → keep ws p ≡ keep ws q
-same-part p q ws h k = keep-ext p q ws λ i m. one-test (p i) (q i) (λ e. keep-in q ws (h i (in-keep p m e)) .1) (λ e. keep-in p ws (k i (in-keep q m e)) .1)
+same-part p q ws h k = keep-ext p q ws λ i m. bool-same (p i) (q i) (λ e. keep-in q ws (h i (in-keep p m e)) .1) (λ e. keep-in p ws (k i (in-keep q m e)) .1)
 
 -- a part is no longer than the whole
 pub keep-few : (p : ℕ → Bool) (ws : List ℕ) → length (keep ws p) ≤ length ws

@@ -1,4 +1,4 @@
--- Those of a set of which a test holds, mark by mark: of the marks below i those are left of which it holds. Assumes nothing.
+-- Those of a set of which a test holds, mark by mark: of the marks below i those are left of which it holds.
 use mathlib.Core.Path.{_≡_, refl, sym, ap, _∙_}
 use mathlib.Core.Bool.{Bool, true, false, cond, _&&_}
 use mathlib.Core.Logic.{_⊎_, inl, inr}
@@ -8,9 +8,10 @@ use native.Mathlib.Omega.{arith}
 use lib.Dec.{eqb, ltb}
 use lib.ListN.{length}
 use borrow.Author.Tests.{ltb-false, le-ltb}
+use Rattle.theory_lists.specs.Booleans.{either}
 use Rattle.model.specs.Calls.{numbers, keep}
 use Rattle.order_ranks.specs.Marks.{holds, members, PutMark, Below}
-use Rattle.order_ranks.proofs.Lists.{either, keep-ext, keep-keep, numbers-in}
+use Rattle.theory_order.specs.Lists.{keep-ext, keep-keep, numbers-in}
 use Rattle.order_ranks.proofs.Turn.{more-same, more-off}
 
 module _ (u : ℕ → Bool) (n : ℕ) (began : List ℕ) where

@@ -1,7 +1,7 @@
-// Refusal 22, asked before anything changes: an import would follow calls, through functions whose names are unknown, back to one of those. The functions
-// from which it would are those that no round places where only functions of unknown name wait. They are among those that no round places where all wait,
-// so names are looked up for these alone: for none where no calls form a ring. Before that the function's own calls are looked at: where it calls none of
-// unknown name there is no such ring.
+// Refusal 22, tested before anything changes: an import would follow calls, through functions whose names are unknown, back to one of those. The functions from
+// which it would are those that no round places where only functions of unknown name wait. They are among those that no round places where all wait, so names
+// are looked up for these alone: for none where no calls form a ring. Before that the function's own calls are looked at: where it calls none of unknown name
+// there is no such ring.
 use base_classes::CALLEE;
 use base_handles::FunctionHandle;
 use base_views::ENTRIES;
@@ -10,10 +10,16 @@ use base_views::count;
 use base_views::entry_function;
 use base_views::record_at;
 use base_views::record_end;
+use base_words::Tags;
+use base_words::Words;
 use base_words::wide;
 use derive_lookup::known;
-use derive_state::Ends;
-use order_callees::gather;
+use derive_state::Log;
+use derive_state::LogTags;
+use derive_state::Maps;
+use derive_state::Sizes;
+use derive_state::Starts;
+use order_callees::gather_requirements;
 use order_ranks::clear;
 use order_ranks::first;
 use order_ranks::has;
@@ -40,21 +46,21 @@ ghost use Rattle.derive_rings.specs.Rings.{unknownBy, Unknowns, Stuck, R
 
 // Those of a set whose names are unknown.
 fn unknown(
-    words: &[u32; 16384],
-    tags: &[u8; 16384],
+    words: &Words,
+    tags: &Tags,
     n: usize,
-    log: &[u32; 16384],
-    classes: &[u8; 16384],
-    starts: &[[u32; 512]; 8],
-    maps: &[[u32; 512]; 6],
-    ends: Ends,
+    log: &Log,
+    logtags: &LogTags,
+    starts: &Starts,
+    maps: &Maps,
+    ends: Sizes,
     began: [u64; 4],
 ) -> [u64; 4]
     requires { ⌜ Source (now words) (now tags) n ⌝ }
     requires { ⌜ named (modOf (now words) n) ≡ true ⌝ }
-    requires { ⌜ Bearing (now log) (now classes) (now starts) ends ⌝ }
+    requires { ⌜ Bearing (now log) (now logtags) (now starts) ends ⌝ }
     requires { ⌜ (length began ≡ 4) × Below (countAt 6 (now words)) began ⌝ }
-    ensures { λ r. ⌜ Unknowns (now (words .entry)) n (now (log .entry)) (now (classes .entry)) (now (starts .entry)) ends began r ⌝ }
+    ensures { λ r. ⌜ Unknowns (now (words .entry)) n (now (log .entry)) (now (logtags .entry)) (now (starts .entry)) ends began r ⌝ }
 {
     let functions = count(words, FUNCTIONS);
     let mut set = began;
@@ -63,7 +69,7 @@ fn unknown(
         let f = i;
         i += 1;
         if has(&began, f) {
-            if known(words, tags, n, log, classes, starts, maps, ends, f) != 0 {
+            if known(words, tags, n, log, logtags, starts, maps, ends, f) != 0 {
                 leave(&mut set, f);
             }
         }
@@ -72,38 +78,32 @@ fn unknown(
 }
 
 // The functions of unknown name from which calls lead, through such functions, to a ring.
-pub fn stuck(
-    words: &[u32; 16384],
-    tags: &[u8; 16384],
+pub fn unknown_in_ring(
+    words: &Words,
+    tags: &Tags,
     n: usize,
-    log: &[u32; 16384],
-    classes: &[u8; 16384],
-    starts: &[[u32; 512]; 8],
-    maps: &[[u32; 512]; 6],
-    ends: Ends,
+    log: &Log,
+    logtags: &LogTags,
+    starts: &Starts,
+    maps: &Maps,
+    ends: Sizes,
     callees: &[u64; 1024],
 ) -> [u64; 4]
     requires { ⌜ Source (now words) (now tags) n ⌝ }
     requires { ⌜ named (modOf (now words) n) ≡ true ⌝ }
-    requires { ⌜ Bearing (now log) (now classes) (now starts) ends ⌝ }
+    requires { ⌜ Bearing (now log) (now logtags) (now starts) ends ⌝ }
     requires { ⌜ Gathered (now words) (now tags) n (now callees) ⌝ }
-    ensures { λ r. ⌜ Stuck (now (words .entry)) n (now (log .entry)) (now (classes .entry)) (now (starts .entry)) ends r ⌝ }
+    ensures { λ r. ⌜ Stuck (now (words .entry)) n (now (log .entry)) (now (logtags .entry)) (now (starts .entry)) ends r ⌝ }
 {
     let functions = count(words, FUNCTIONS);
     let all = first(functions);
     let led = left(callees, functions, all);
-    let waiting = unknown(words, tags, n, log, classes, starts, maps, ends, led);
+    let waiting = unknown(words, tags, n, log, logtags, starts, maps, ends, led);
     left(callees, functions, waiting)
 }
 
 // Whether the words from `at` to `end` call one of a set.
-fn calls_one(
-    words: &[u32; 16384],
-    tags: &[u8; 16384],
-    at: usize,
-    end: usize,
-    set: &[u64; 4],
-) -> bool
+fn calls_one(words: &Words, tags: &Tags, at: usize, end: usize, set: &[u64; 4]) -> bool
     requires { ⌜ Scannable (now words) (now tags) at end 256 ⌝ }
     ensures { λ r. ⌜ r ≡ any (picked (now (words .entry)) (now (tags .entry)) at end) (λ i. any (members (now (set .entry))) (eqb i)) ⌝ }
 {
@@ -121,7 +121,7 @@ fn calls_one(
 }
 
 // Whether the function of an entry point calls one of a set.
-fn entries_call(words: &[u32; 16384], tags: &[u8; 16384], n: usize, set: &[u64; 4]) -> bool
+fn entries_call(words: &Words, tags: &Tags, n: usize, set: &[u64; 4]) -> bool
     requires { ⌜ Source (now words) (now tags) n ⌝ }
     ensures { λ r. ⌜ r ≡ any (calleesOfAll (modOf (now (words .entry)) n .entries)) (λ i. any (members (now (set .entry))) (eqb i)) ⌝ }
 {
@@ -141,22 +141,22 @@ fn entries_call(words: &[u32; 16384], tags: &[u8; 16384], n: usize, set: &[u64; 
 
 // Whether the words from `at` to `end` call a function of unknown name.
 fn calls_unknown(
-    words: &[u32; 16384],
-    tags: &[u8; 16384],
+    words: &Words,
+    tags: &Tags,
     n: usize,
-    log: &[u32; 16384],
-    classes: &[u8; 16384],
-    starts: &[[u32; 512]; 8],
-    maps: &[[u32; 512]; 6],
-    ends: Ends,
+    log: &Log,
+    logtags: &LogTags,
+    starts: &Starts,
+    maps: &Maps,
+    ends: Sizes,
     at: usize,
     end: usize,
 ) -> bool
     requires { ⌜ Source (now words) (now tags) n ⌝ }
     requires { ⌜ named (modOf (now words) n) ≡ true ⌝ }
-    requires { ⌜ Bearing (now log) (now classes) (now starts) ends ⌝ }
+    requires { ⌜ Bearing (now log) (now logtags) (now starts) ends ⌝ }
     requires { ⌜ Scannable (now words) (now tags) at end (countAt 6 (now words)) ⌝ }
-    ensures { λ r. ⌜ r ≡ any (picked (now (words .entry)) (now (tags .entry)) at end) (unknownBy (now (words .entry)) n (now (log .entry)) (now (classes .entry)) (now (starts .entry)) ends) ⌝ }
+    ensures { λ r. ⌜ r ≡ any (picked (now (words .entry)) (now (tags .entry)) at end) (unknownBy (now (words .entry)) n (now (log .entry)) (now (logtags .entry)) (now (starts .entry)) ends) ⌝ }
 {
     let mut j = at;
     while j < end {
@@ -164,7 +164,7 @@ fn calls_unknown(
         j += 1;
         if tags[k] == CALLEE {
             let f = wide(words[k]);
-            if known(words, tags, n, log, classes, starts, maps, ends, f) == 0 {
+            if known(words, tags, n, log, logtags, starts, maps, ends, f) == 0 {
                 return true;
             }
         }
@@ -173,52 +173,52 @@ fn calls_unknown(
 }
 
 // Whether function f calls one of unknown name: where not, neither it nor one that it calls is stuck.
-fn leads(
-    words: &[u32; 16384],
-    tags: &[u8; 16384],
+fn calls_unknown_name(
+    words: &Words,
+    tags: &Tags,
     n: usize,
-    log: &[u32; 16384],
-    classes: &[u8; 16384],
-    starts: &[[u32; 512]; 8],
-    maps: &[[u32; 512]; 6],
-    ends: Ends,
+    log: &Log,
+    logtags: &LogTags,
+    starts: &Starts,
+    maps: &Maps,
+    ends: Sizes,
     f: usize,
 ) -> bool
     requires { ⌜ Source (now words) (now tags) n ⌝ }
     requires { ⌜ named (modOf (now words) n) ≡ true ⌝ }
-    requires { ⌜ Bearing (now log) (now classes) (now starts) ends ⌝ }
+    requires { ⌜ Bearing (now log) (now logtags) (now starts) ends ⌝ }
     requires { ⌜ f < countAt 6 (now words) ⌝ }
-    ensures { λ r. ⌜ r ≡ any (calleesOf (function (modOf (now (words .entry)) n) f)) (unknownBy (now (words .entry)) n (now (log .entry)) (now (classes .entry)) (now (starts .entry)) ends) ⌝ }
+    ensures { λ r. ⌜ r ≡ any (calleesOf (function (modOf (now (words .entry)) n) f)) (unknownBy (now (words .entry)) n (now (log .entry)) (now (logtags .entry)) (now (starts .entry)) ends) ⌝ }
 {
     let at = record_at(words, tags, n, FUNCTIONS, f);
     let end = record_end(words, tags, n, FUNCTIONS, f);
-    calls_unknown(words, tags, n, log, classes, starts, maps, ends, at, end)
+    calls_unknown(words, tags, n, log, logtags, starts, maps, ends, at, end)
 }
 
 // Refusal 22 of import_function: function f, or one that it calls, is stuck.
 pub fn import_rings(
-    words: &[u32; 16384],
-    tags: &[u8; 16384],
+    words: &Words,
+    tags: &Tags,
     n: usize,
-    log: &[u32; 16384],
-    classes: &[u8; 16384],
-    starts: &[[u32; 512]; 8],
-    maps: &[[u32; 512]; 6],
-    ends: Ends,
+    log: &Log,
+    logtags: &LogTags,
+    starts: &Starts,
+    maps: &Maps,
+    ends: Sizes,
     f: usize,
 ) -> bool
     requires { ⌜ Source (now words) (now tags) n ⌝ }
     requires { ⌜ named (modOf (now words) n) ≡ true ⌝ }
-    requires { ⌜ Bearing (now log) (now classes) (now starts) ends ⌝ }
+    requires { ⌜ Bearing (now log) (now logtags) (now starts) ends ⌝ }
     requires { ⌜ f < countAt 6 (now words) ⌝ }
-    ensures { λ r. ⌜ Rings (f ∷ calleesOf (function (modOf (now (words .entry)) n) f)) (now (words .entry)) n (now (log .entry)) (now (classes .entry)) (now (starts .entry)) ends r ⌝ }
+    ensures { λ r. ⌜ Rings (f ∷ calleesOf (function (modOf (now (words .entry)) n) f)) (now (words .entry)) n (now (log .entry)) (now (logtags .entry)) (now (starts .entry)) ends r ⌝ }
 {
-    if !leads(words, tags, n, log, classes, starts, maps, ends, f) {
+    if !calls_unknown_name(words, tags, n, log, logtags, starts, maps, ends, f) {
         return false;
     }
     let mut callees = clear();
-    gather(words, tags, n, &mut callees);
-    let set = stuck(words, tags, n, log, classes, starts, maps, ends, &callees);
+    gather_requirements(words, tags, n, &mut callees);
+    let set = unknown_in_ring(words, tags, n, log, logtags, starts, maps, ends, &callees);
     if has(&set, f) {
         return true;
     }
@@ -227,49 +227,49 @@ pub fn import_rings(
 
 // Refusal 22 of map_function_handle: function f is stuck.
 pub fn follow_rings(
-    words: &[u32; 16384],
-    tags: &[u8; 16384],
+    words: &Words,
+    tags: &Tags,
     n: usize,
-    log: &[u32; 16384],
-    classes: &[u8; 16384],
-    starts: &[[u32; 512]; 8],
-    maps: &[[u32; 512]; 6],
-    ends: Ends,
+    log: &Log,
+    logtags: &LogTags,
+    starts: &Starts,
+    maps: &Maps,
+    ends: Sizes,
     f: usize,
 ) -> bool
     requires { ⌜ Source (now words) (now tags) n ⌝ }
     requires { ⌜ named (modOf (now words) n) ≡ true ⌝ }
-    requires { ⌜ Bearing (now log) (now classes) (now starts) ends ⌝ }
+    requires { ⌜ Bearing (now log) (now logtags) (now starts) ends ⌝ }
     requires { ⌜ f < countAt 6 (now words) ⌝ }
-    ensures { λ r. ⌜ Rings (f ∷ []) (now (words .entry)) n (now (log .entry)) (now (classes .entry)) (now (starts .entry)) ends r ⌝ }
+    ensures { λ r. ⌜ Rings (f ∷ []) (now (words .entry)) n (now (log .entry)) (now (logtags .entry)) (now (starts .entry)) ends r ⌝ }
 {
-    if known(words, tags, n, log, classes, starts, maps, ends, f) != 0 {
+    if known(words, tags, n, log, logtags, starts, maps, ends, f) != 0 {
         return false;
     }
-    if !leads(words, tags, n, log, classes, starts, maps, ends, f) {
+    if !calls_unknown_name(words, tags, n, log, logtags, starts, maps, ends, f) {
         return false;
     }
     let mut callees = clear();
-    gather(words, tags, n, &mut callees);
-    let set = stuck(words, tags, n, log, classes, starts, maps, ends, &callees);
+    gather_requirements(words, tags, n, &mut callees);
+    let set = unknown_in_ring(words, tags, n, log, logtags, starts, maps, ends, &callees);
     has(&set, f)
 }
 
 // Whether the function of an entry point calls one of unknown name.
 fn entries_lead(
-    words: &[u32; 16384],
-    tags: &[u8; 16384],
+    words: &Words,
+    tags: &Tags,
     n: usize,
-    log: &[u32; 16384],
-    classes: &[u8; 16384],
-    starts: &[[u32; 512]; 8],
-    maps: &[[u32; 512]; 6],
-    ends: Ends,
+    log: &Log,
+    logtags: &LogTags,
+    starts: &Starts,
+    maps: &Maps,
+    ends: Sizes,
 ) -> bool
     requires { ⌜ Source (now words) (now tags) n ⌝ }
     requires { ⌜ named (modOf (now words) n) ≡ true ⌝ }
-    requires { ⌜ Bearing (now log) (now classes) (now starts) ends ⌝ }
-    ensures { λ r. ⌜ r ≡ any (calleesOfAll (modOf (now (words .entry)) n .entries)) (unknownBy (now (words .entry)) n (now (log .entry)) (now (classes .entry)) (now (starts .entry)) ends) ⌝ }
+    requires { ⌜ Bearing (now log) (now logtags) (now starts) ends ⌝ }
+    ensures { λ r. ⌜ r ≡ any (calleesOfAll (modOf (now (words .entry)) n .entries)) (unknownBy (now (words .entry)) n (now (log .entry)) (now (logtags .entry)) (now (starts .entry)) ends) ⌝ }
 {
     let entries = count(words, ENTRIES);
     let mut j = 0;
@@ -278,7 +278,7 @@ fn entries_lead(
         j += 1;
         let at = entry_function(words, tags, n, e);
         let end = record_end(words, tags, n, ENTRIES, e);
-        if calls_unknown(words, tags, n, log, classes, starts, maps, ends, at, end) {
+        if calls_unknown(words, tags, n, log, logtags, starts, maps, ends, at, end) {
             return true;
         }
     }
@@ -287,25 +287,25 @@ fn entries_lead(
 
 // Refusal 22 of finishing with entry points: a function that one of them calls is stuck.
 pub fn entries_ring(
-    words: &[u32; 16384],
-    tags: &[u8; 16384],
+    words: &Words,
+    tags: &Tags,
     n: usize,
-    log: &[u32; 16384],
-    classes: &[u8; 16384],
-    starts: &[[u32; 512]; 8],
-    maps: &[[u32; 512]; 6],
-    ends: Ends,
+    log: &Log,
+    logtags: &LogTags,
+    starts: &Starts,
+    maps: &Maps,
+    ends: Sizes,
 ) -> bool
     requires { ⌜ Source (now words) (now tags) n ⌝ }
     requires { ⌜ named (modOf (now words) n) ≡ true ⌝ }
-    requires { ⌜ Bearing (now log) (now classes) (now starts) ends ⌝ }
-    ensures { λ r. ⌜ Rings (calleesOfAll (modOf (now (words .entry)) n .entries)) (now (words .entry)) n (now (log .entry)) (now (classes .entry)) (now (starts .entry)) ends r ⌝ }
+    requires { ⌜ Bearing (now log) (now logtags) (now starts) ends ⌝ }
+    ensures { λ r. ⌜ Rings (calleesOfAll (modOf (now (words .entry)) n .entries)) (now (words .entry)) n (now (log .entry)) (now (logtags .entry)) (now (starts .entry)) ends r ⌝ }
 {
-    if !entries_lead(words, tags, n, log, classes, starts, maps, ends) {
+    if !entries_lead(words, tags, n, log, logtags, starts, maps, ends) {
         return false;
     }
     let mut callees = clear();
-    gather(words, tags, n, &mut callees);
-    let set = stuck(words, tags, n, log, classes, starts, maps, ends, &callees);
+    gather_requirements(words, tags, n, &mut callees);
+    let set = unknown_in_ring(words, tags, n, log, logtags, starts, maps, ends, &callees);
     entries_call(words, tags, n, &set)
 }

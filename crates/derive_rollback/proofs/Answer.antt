@@ -1,4 +1,4 @@
--- The number that the maps have is what an import answers. Assumes nothing.
+-- The number that the maps have is what an import answers.
 use mathlib.Core.Path.{_≡_, sym, ap, _∙_}
 use mathlib.Core.List.{List}
 use Prim.Native.Nat.{ℕ, _-_, _<_, pred}
@@ -11,8 +11,8 @@ use Rattle.derive_rollback.specs.Taken.{Answers}
 
 pub answers : (maps : List (List ℕ)) (t h i r : ℕ) → t < 6 → i ≡ h → r ≡ pred (cell maps t i) → Answers maps t h r
 answers maps t h i r ht hi hr = record {
-  is = λ words log tags starts special e l.
-      let m = map-is words log tags starts maps special e (tabOf t) h (rw (code-tab t ht) l) in
+  is = λ words log logtags starts special e l.
+      let m = map-is words log logtags starts maps special e (tabOf t) h (rw (code-tab t ht) l) in
       hr ∙ ap pred (ap (λ (j : ℕ). cell maps t j) hi ∙ sym (rw (code-tab t ht) at m));
 }
 

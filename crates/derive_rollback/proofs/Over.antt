@@ -1,11 +1,11 @@
--- An operation that restores what was saved where it does not fit leaves the state as it was there. Assumes nothing.
+-- An operation that restores what was saved where it does not fit leaves the state as it was there.
 use mathlib.Core.Path.{_≡_, refl, sym, _∙_}
 use mathlib.Core.Bool.{Bool, true, false, false≢true}
 use mathlib.Core.List.{List}
 use Prim.Native.Nat.{ℕ}
-use Rattle.model.specs.Imports.{St}
-use Rattle.derive_state.specs.Held.{Kept, Lands, Whole}
-use Rattle.derive_state.specs.declared.Ends.{Ends}
+use Rattle.model.specs.Imports.{Derived}
+use Rattle.derive_state.specs.Held.{ValidArrays, Lands, Whole}
+use Rattle.derive_state.specs.declared.Sizes.{Sizes}
 use Rattle.derive_state.proofs.State.{st-stays, kept-stays}
 use Rattle.derive_rollback.specs.Taken.{Saved, Restored}
 use Rattle.derive_rollback.proofs.Saved.{st-saved, kept-saved}
@@ -16,16 +16,16 @@ restored full starts maps s m q = record { stays = λ z. (refl, refl); taken = �
 pub not-restored : (full : Bool) (starts maps s m : List (List ℕ)) → full ≡ false → Restored full starts maps s m s m
 not-restored full starts maps s m q = record { stays = λ z. absurd (false≢true (sym q ∙ z)); taken = λ z. (refl, refl) }
 
-pub whole-of : (words log₀ classes₀ : List ℕ) (starts₀ maps₀ : List (List ℕ)) (marks₀ : List ℕ) (e : Ends) → Kept log₀ classes₀ starts₀ maps₀ marks₀ e
+pub whole-of : (words log₀ logtags₀ : List ℕ) (starts₀ maps₀ : List (List ℕ)) (buckets₀ : List ℕ) (e : Sizes) → ValidArrays log₀ logtags₀ starts₀ maps₀ buckets₀ e
     → (s₀ m₀ : List (List ℕ)) → Saved words starts₀ maps₀ e s₀ m₀
-    → (f : St → St) (r : Ends) (log classes : List ℕ) (s m : List (List ℕ)) (marks : List ℕ) → Lands words f log₀ classes₀ starts₀ maps₀ marks₀ e r log classes s m marks
-    → (starts maps : List (List ℕ)) → Restored (r .full) s₀ m₀ s m starts maps → Whole words f log₀ classes₀ starts₀ maps₀ e r log classes starts maps marks
-whole-of words log₀ classes₀ starts₀ maps₀ marks₀ e K s₀ m₀ S f r log classes s m marks L starts maps t =
-    let K′ = kept-saved words log₀ classes₀ starts₀ maps₀ e s₀ m₀ S marks₀ K in
+    → (f : Derived → Derived) (r : Sizes) (log logtags : List ℕ) (s m : List (List ℕ)) (buckets : List ℕ) → Lands words f log₀ logtags₀ starts₀ maps₀ buckets₀ e r log logtags s m buckets
+    → (starts maps : List (List ℕ)) → Restored (r .full) s₀ m₀ s m starts maps → Whole words f log₀ logtags₀ starts₀ maps₀ e r log logtags starts maps buckets
+whole-of words log₀ logtags₀ starts₀ maps₀ buckets₀ e K s₀ m₀ S f r log logtags s m buckets L starts maps t =
+    let K′ = kept-saved words log₀ logtags₀ starts₀ maps₀ e s₀ m₀ S buckets₀ K in
     record {
       over = L .over;
       stays = λ q. rw (t .stays q .0, t .stays q .1)
-          (λ special. st-stays log₀ classes₀ log classes s₀ m₀ marks₀ marks e K′ (L .below) (L .log-long) (L .tags-long) (L .marks-stay) words special ∙ st-saved words log₀ classes₀ starts₀ maps₀ e s₀ m₀ S special, kept-stays log₀ classes₀ log classes s₀ m₀ marks₀ marks e K′ (L .below) (L .log-long) (L .tags-long) (L .marks-stay));
+          (λ special. st-stays log₀ logtags₀ log logtags s₀ m₀ buckets₀ buckets e K′ (L .below) (L .log-long) (L .tags-long) (L .marks-stay) words special ∙ st-saved words log₀ logtags₀ starts₀ maps₀ e s₀ m₀ S special, kept-stays log₀ logtags₀ log logtags s₀ m₀ buckets₀ buckets e K′ (L .below) (L .log-long) (L .tags-long) (L .marks-stay));
       is = λ q. rw (t .taken q .0, t .taken q .1) (L .is q, L .kept q);
       beside = λ q. rw (t .taken q .0) (L .beside q);
     }

@@ -1,4 +1,4 @@
--- Starts and maps that were saved hold the state that they were saved of. Assumes nothing.
+-- Starts and maps that were saved hold the state that they were saved of.
 use mathlib.Core.Path.{_≡_, refl, sym, ap, ap₂, _∙_}
 use mathlib.Core.List.{List, map}
 use Prim.Native.Nat.{ℕ, zero, suc, _+_, _≤_, _<_}
@@ -7,24 +7,24 @@ use lib.ListN.{getD}
 use lib.Seq.{getD-take}
 use Rattle.model.specs.Tables.{codeT, six}
 use Rattle.derive_state.specs.Flats.{functionOf, specialOf}
-use Rattle.derive_state.specs.Held.{row, cell, recsAt, tableOf, recsOf, functionsOf, entriesOf, mapsOf, stOf, sizeR, sizesOf, Kept}
-use Rattle.derive_state.specs.declared.Ends.{Ends}
+use Rattle.derive_state.specs.Held.{row, cell, recsAt, tableOf, recsOf, functionsOf, entriesOf, mapsOf, stOf, sizeR, sizesOf, ValidArrays}
+use Rattle.derive_state.specs.declared.Sizes.{Sizes}
 use Rattle.derive_state.proofs.State.{code-low}
 use Rattle.derive_rollback.specs.Taken.{Saved}
 
-module _ (words log tags : List ℕ) (starts maps : List (List ℕ)) (e : Ends) (s m : List (List ℕ)) (S : Saved words starts maps e s m) where
-  table-saved : (t : ℕ) → t < 8 → tableOf log tags s (e .counts) t ≡ tableOf log tags starts (e .counts) t
-  table-saved t h = ap (recsAt log tags) (S .of-starts .same t h)
+module _ (words log logtags : List ℕ) (starts maps : List (List ℕ)) (e : Sizes) (s m : List (List ℕ)) (S : Saved words starts maps e s m) where
+  table-saved : (t : ℕ) → t < 8 → tableOf log logtags s (e .counts) t ≡ tableOf log logtags starts (e .counts) t
+  table-saved t h = ap (recsAt log logtags) (S .of-starts .same t h)
 
   cell-saved : (t k : ℕ) → t < 8 → k < getD (e .counts) t 0 → cell s t k ≡ cell starts t k
   cell-saved t k h l = sym (getD-take (getD (e .counts) t 0) (row s t) k 0 l) ∙ ap (λ (xs : List ℕ). getD xs k 0) (S .of-starts .same t h) ∙ getD-take (getD (e .counts) t 0) (row starts t) k 0 l
 
-  sizes-saved : (n : ℕ) → n ≤ 8 → sizesOf log tags s (e .counts) n ≡ sizesOf log tags starts (e .counts) n
+  sizes-saved : (n : ℕ) → n ≤ 8 → sizesOf log logtags s (e .counts) n ≡ sizesOf log logtags starts (e .counts) n
   unfolding sizesOf
   sizes-saved zero h = refl
   sizes-saved (suc n) h = ap₂ _+_ (sizes-saved n (omega arith)) (ap sizeR (table-saved n (omega arith)))
 
-  pub st-saved : (special : List ℕ) → stOf words log tags s m special e ≡ stOf words log tags starts maps special e
+  pub st-saved : (special : List ℕ) → stOf words log logtags s m special e ≡ stOf words log logtags starts maps special e
   unfolding stOf recsOf functionsOf mapsOf
   st-saved special i = record {
     recs = six (λ t. table-saved (codeT t) (omega (arith, code-low t)) i);
@@ -33,9 +33,9 @@ module _ (words log tags : List ℕ) (starts maps : List (List ℕ)) (e : Ends) 
     special = specialOf special (e .pairs);
   }
 
-  pub kept-saved : (marks : List ℕ) → Kept log tags starts maps marks e → Kept log tags s m marks e
+  pub kept-saved : (buckets : List ℕ) → ValidArrays log logtags starts maps buckets e → ValidArrays log logtags s m buckets e
   unfolding functionsOf entriesOf
-  kept-saved marks K = record {
+  kept-saved buckets K = record {
     room = K .room;
     few = K .few;
     few-functions = K .few-functions;

@@ -1,4 +1,4 @@
--- The loops that save starts and maps: word by word, and row by row. Assumes nothing.
+-- The loops that save starts and maps: word by word, and row by row.
 use mathlib.Core.Path.{_≡_, refl, sym, ap, _∙_}
 use mathlib.Core.Logic.{⊎-elim}
 use mathlib.Core.List.{List, [], _∷_, _++_}
@@ -10,8 +10,8 @@ use lib.ListN.{length, getD, set, take, replicate, length-set, length-replicate}
 use lib.Seq.{take-suc, take-suc-set, take-take, getD-set-same, getD-set-other}
 use Rattle.model.specs.Module.{countAt}
 use Rattle.derive_state.specs.Source.{Source}
-use Rattle.derive_state.specs.Held.{row, Kept}
-use Rattle.derive_state.specs.declared.Ends.{Ends}
+use Rattle.derive_state.specs.Held.{row, ValidArrays}
+use Rattle.derive_state.specs.declared.Sizes.{Sizes}
 use Rattle.derive_state.proofs.State.{same-or}
 use Rattle.derive_state.proofs.Fresh.{rows-at}
 use Rattle.derive_types.proofs.Sources.{count-few}
@@ -71,6 +71,6 @@ rows-begin n c from few rows = record {
   low = λ u k l. rw (rows-at (replicate 512 0) n u l) (zeros-low 512 k _);
 }
 
-pub save-begin : (words tags₀ : List ℕ) (n : ℕ) → Source words tags₀ n → (log tags : List ℕ) (starts maps : List (List ℕ)) (marks : List ℕ) (e : Ends) → Kept log tags starts maps marks e
+pub save-begin : (words tags₀ : List ℕ) (n : ℕ) → Source words tags₀ n → (log logtags : List ℕ) (starts maps : List (List ℕ)) (buckets : List ℕ) (e : Sizes) → ValidArrays log logtags starts maps buckets e
     → Prefixes 8 0 (λ t. getD (e .counts) t 0) starts (replicate 8 (replicate 512 0)) × Prefixes 6 0 (λ t. countAt t words) maps (replicate 6 (replicate 512 0))
-save-begin words tags₀ n src log tags starts maps marks e K = (rows-begin 8 (λ t. getD (e .counts) t 0) starts (K .few) (K .rows), rows-begin 6 (λ t. countAt t words) maps (count-few words tags₀ n src) (K .rows′))
+save-begin words tags₀ n src log logtags starts maps buckets e K = (rows-begin 8 (λ t. getD (e .counts) t 0) starts (K .few) (K .rows), rows-begin 6 (λ t. countAt t words) maps (count-few words tags₀ n src) (K .rows′))

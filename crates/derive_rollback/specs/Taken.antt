@@ -1,4 +1,4 @@
--- Starts and maps that are saved; that are restored, or stay as they were made; and what an import answers. Assumes nothing: these are definitions.
+-- Starts and maps that are saved; that are restored, or stay as they were made; and what an import answers.
 use mathlib.Core.Path.{_≡_}
 use mathlib.Core.Bool.{Bool, true, false}
 use mathlib.Core.List.{List}
@@ -8,7 +8,7 @@ use Rattle.model.specs.Module.{countAt}
 use Rattle.model.specs.Tables.{mapAt}
 use Rattle.derive_state.specs.Refers.{tabOf}
 use Rattle.derive_state.specs.Held.{row, cell, stOf}
-use Rattle.derive_state.specs.declared.Ends.{Ends}
+use Rattle.derive_state.specs.declared.Sizes.{Sizes}
 
 -- the first n words of `from` have gone over those of `to₀`
 pub record Prefix (n : ℕ) (from to₀ to : List ℕ) : Type 0 where
@@ -26,7 +26,7 @@ pub record Prefixes (n t : ℕ) (c : ℕ → ℕ) (from to : List (List ℕ)) : 
   pub low : (u k : ℕ) → u < n → cell to u k ≤ cell from u k
 
 -- s and m have the starts of the records that are there, and the maps of the numbers that the source has
-pub record Saved (words : List ℕ) (starts maps : List (List ℕ)) (e : Ends) (s m : List (List ℕ)) : Type 0 where
+pub record Saved (words : List ℕ) (starts maps : List (List ℕ)) (e : Sizes) (s m : List (List ℕ)) : Type 0 where
   pub of-starts : Prefixes 8 8 (λ t. getD (e .counts) t 0) starts s
   pub of-maps : Prefixes 6 6 (λ t. countAt t words) maps m
 
@@ -37,4 +37,4 @@ pub record Restored (full : Bool) (starts₀ maps₀ s m starts maps : List (Lis
 
 -- r is the derived number of number h of table t, in every state that has these maps
 pub record Answers (maps : List (List ℕ)) (t h r : ℕ) : Type 0 where
-  pub is : (words log tags : List ℕ) (starts : List (List ℕ)) (special : List ℕ) (e : Ends) → h < countAt t words → r ≡ pred (mapAt ((stOf words log tags starts maps special e) .maps) (tabOf t) h)
+  pub is : (words log logtags : List ℕ) (starts : List (List ℕ)) (special : List ℕ) (e : Sizes) → h < countAt t words → r ≡ pred (mapAt ((stOf words log logtags starts maps special e) .maps) (tabOf t) h)

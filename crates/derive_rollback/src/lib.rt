@@ -1,14 +1,22 @@
 // The imports as operations of a session: where the result does not fit, nothing has changed. The starts and the maps that are in use are saved before, and
-// restored where it does not fit. What was written lies behind the log's end, and a mark that was left costs a search at most. What an import answers is
-// the number that the maps have then.
+// restored where it does not fit. What was written lies after the log's end, and a bucket that was set costs a search at most. What an import answers is the
+// number that the maps then have.
 use base_handles::ConstantHandle;
 use base_handles::ExpressionHandle;
 use base_handles::GlobalHandle;
 use base_handles::OverrideHandle;
 use base_handles::TypeHandle;
 use base_views::count;
+use base_words::Tags;
+use base_words::Words;
 use base_words::wide;
-use derive_state::Ends;
+use derive_state::Buckets;
+use derive_state::Log;
+use derive_state::LogTags;
+use derive_state::Maps;
+use derive_state::Sizes;
+use derive_state::Starts;
+use derive_state::Targets;
 ghost use mathlib.Core.Path.{_≡_};
 ghost use mathlib.Core.Bool.{true, false};
 ghost use Prim.Native.Nat.{_≤_, _<_};
@@ -16,12 +24,12 @@ ghost use lib.ListN.{length, getD};
 ghost use Rattle.model.specs.Module.{countAt};
 ghost use Rattle.model.specs.Tables.{types, constants, overrides, globals, exprs};
 ghost use Rattle.model.specs.Imports.{importT, renamed};
-ghost use Rattle.derive_state.specs.Refers.{kindBytes};
+ghost use Rattle.derive_state.specs.Refers.{targetBytes};
 ghost use Rattle.derive_state.specs.Source.{srcOf, Source};
-ghost use Rattle.derive_state.specs.Held.{Kept, Whole};
+ghost use Rattle.derive_state.specs.Held.{ValidArrays, Whole};
 ghost use Rattle.derive_rollback.specs.Taken.{Prefix, Prefixes, Saved, Restored, Answers};
 
-// The first n words of a row.
+// Saves the first n words of a row.
 fn save_row(row: &[u32; 512], n: usize, to: &mut [u32; 512])
     requires { ⌜ (length (now row) ≡ 512) × (length (now to) ≡ 512) × (n ≤ 512) ⌝ }
     ensures { λ _. ⌜ Prefix n (now (row .entry)) (now (to .entry)) (now (to .exit)) ⌝ }
@@ -33,8 +41,8 @@ fn save_row(row: &[u32; 512], n: usize, to: &mut [u32; 512])
     }
 }
 
-// The starts of the records that are there.
-fn save_starts(starts: &[[u32; 512]; 8], ends: Ends, s: &mut [[u32; 512]; 8])
+// Saves the starts of the derived records.
+fn save_starts(starts: &Starts, ends: Sizes, s: &mut [[u32; 512]; 8])
     requires { ⌜ Prefixes 8 0 (λ t. getD (ends .counts) t 0) (now starts) (now s) ⌝ }
     ensures { λ _. ⌜ Prefixes 8 8 (λ t. getD (ends .counts) t 0) (now (starts .entry)) (now (s .exit)) ⌝ }
 {
@@ -46,8 +54,8 @@ fn save_starts(starts: &[[u32; 512]; 8], ends: Ends, s: &mut [[u32; 512]; 8])
     }
 }
 
-// The maps of the numbers that the source has.
-fn save_maps(words: &[u32; 16384], maps: &[[u32; 512]; 6], m: &mut [[u32; 512]; 6])
+// Saves the maps of the numbers that the source has.
+fn save_maps(words: &Words, maps: &Maps, m: &mut [[u32; 512]; 6])
     requires { ⌜ Prefixes 6 0 (λ t. countAt t (now words)) (now maps) (now m) ⌝ }
     ensures { λ _. ⌜ Prefixes 6 6 (λ t. countAt t (now (words .entry))) (now (maps .entry)) (now (m .exit)) ⌝ }
 {
@@ -59,12 +67,12 @@ fn save_maps(words: &[u32; 16384], maps: &[[u32; 512]; 6], m: &mut [[u32; 512]; 
     }
 }
 
-// What the starts and maps hold that is in use.
+// Saves the part of starts and maps that is in use.
 pub fn save(
-    words: &[u32; 16384],
-    starts: &[[u32; 512]; 8],
-    maps: &[[u32; 512]; 6],
-    ends: Ends,
+    words: &Words,
+    starts: &Starts,
+    maps: &Maps,
+    ends: Sizes,
     s: &mut [[u32; 512]; 8],
     m: &mut [[u32; 512]; 6],
 )
@@ -76,10 +84,10 @@ pub fn save(
     save_maps(words, maps, m);
 }
 
-// Starts and maps as they were saved, where something did not fit.
+// Restores starts and maps as they were saved, where something did not fit.
 pub fn restore(
-    starts: &mut [[u32; 512]; 8],
-    maps: &mut [[u32; 512]; 6],
+    starts: &mut Starts,
+    maps: &mut Maps,
     s: &[[u32; 512]; 8],
     m: &[[u32; 512]; 6],
     full: bool,
@@ -93,7 +101,7 @@ pub fn restore(
 }
 
 // The derived number that number h of table t is mapped to.
-pub fn handle(maps: &[[u32; 512]; 6], t: usize, h: u32) -> u32
+pub fn mapped_to(maps: &Maps, t: usize, h: u32) -> u32
     requires { ⌜ (t < 6) × (h < 512) ⌝ }
     ensures { λ r. ⌜ Answers (now (maps .entry)) t h r ⌝ }
 {
@@ -104,26 +112,26 @@ pub fn handle(maps: &[[u32; 512]; 6], t: usize, h: u32) -> u32
     v - 1
 }
 
-// Type h.
+// Imports type h.
 pub fn import_type(
-    words: &[u32; 16384],
-    tags: &[u8; 16384],
-    kinds: &[u8; 256],
+    words: &Words,
+    tags: &Tags,
+    targets: &Targets,
     n: usize,
-    log: &mut [u32; 16384],
-    classes: &mut [u8; 16384],
-    starts: &mut [[u32; 512]; 8],
-    maps: &mut [[u32; 512]; 6],
-    marks: &mut [u16; 16384],
-    ends: Ends,
+    log: &mut Log,
+    logtags: &mut LogTags,
+    starts: &mut Starts,
+    maps: &mut Maps,
+    buckets: &mut Buckets,
+    ends: Sizes,
     offset: u32,
     h: TypeHandle,
-) -> Ends
+) -> Sizes
     requires { ⌜ Source (now words) (now tags) n ⌝ }
     requires { ⌜ (h .0 < countAt 1 (now words)) × (ends .full ≡ false) ⌝ }
-    requires { ⌜ now kinds ≡ kindBytes ⌝ }
-    requires { ⌜ Kept (now log) (now classes) (now starts) (now maps) (now marks) ends ⌝ }
-    ensures { λ r. ⌜ Whole (now (words .entry)) (importT offset (srcOf (now (words .entry)) n) types (h .0)) (now (log .entry)) (now (classes .entry)) (now (starts .entry)) (now (maps .entry)) ends r (now (log .exit)) (now (classes .exit)) (now (starts .exit)) (now (maps .exit)) (now (marks .exit)) ⌝ }
+    requires { ⌜ now targets ≡ targetBytes ⌝ }
+    requires { ⌜ ValidArrays (now log) (now logtags) (now starts) (now maps) (now buckets) ends ⌝ }
+    ensures { λ r. ⌜ Whole (now (words .entry)) (importT offset (srcOf (now (words .entry)) n) types (h .0)) (now (log .entry)) (now (logtags .entry)) (now (starts .entry)) (now (maps .entry)) ends r (now (log .exit)) (now (logtags .exit)) (now (starts .exit)) (now (maps .exit)) (now (buckets .exit)) ⌝ }
 {
     let mut s = [[0u32; 512]; 8];
     let mut m = [[0u32; 512]; 6];
@@ -131,13 +139,13 @@ pub fn import_type(
     let got = derive_types::import_type(
         words,
         tags,
-        kinds,
+        targets,
         n,
         log,
-        classes,
+        logtags,
         starts,
         maps,
-        marks,
+        buckets,
         ends,
         offset,
         h,
@@ -146,27 +154,27 @@ pub fn import_type(
     got
 }
 
-// Type h under the name of that number.
+// Imports type h under the name with the given number.
 pub fn rename_type(
-    words: &[u32; 16384],
-    tags: &[u8; 16384],
-    kinds: &[u8; 256],
+    words: &Words,
+    tags: &Tags,
+    targets: &Targets,
     n: usize,
-    log: &mut [u32; 16384],
-    classes: &mut [u8; 16384],
-    starts: &mut [[u32; 512]; 8],
-    maps: &mut [[u32; 512]; 6],
-    marks: &mut [u16; 16384],
-    ends: Ends,
+    log: &mut Log,
+    logtags: &mut LogTags,
+    starts: &mut Starts,
+    maps: &mut Maps,
+    buckets: &mut Buckets,
+    ends: Sizes,
     offset: u32,
     h: TypeHandle,
     name: u32,
-) -> Ends
+) -> Sizes
     requires { ⌜ Source (now words) (now tags) n ⌝ }
     requires { ⌜ (h .0 < countAt 1 (now words)) × (name < countAt 0 (now words)) × (ends .full ≡ false) ⌝ }
-    requires { ⌜ now kinds ≡ kindBytes ⌝ }
-    requires { ⌜ Kept (now log) (now classes) (now starts) (now maps) (now marks) ends ⌝ }
-    ensures { λ r. ⌜ Whole (now (words .entry)) (importT offset (renamed (srcOf (now (words .entry)) n) (h .0) name) types (h .0)) (now (log .entry)) (now (classes .entry)) (now (starts .entry)) (now (maps .entry)) ends r (now (log .exit)) (now (classes .exit)) (now (starts .exit)) (now (maps .exit)) (now (marks .exit)) ⌝ }
+    requires { ⌜ now targets ≡ targetBytes ⌝ }
+    requires { ⌜ ValidArrays (now log) (now logtags) (now starts) (now maps) (now buckets) ends ⌝ }
+    ensures { λ r. ⌜ Whole (now (words .entry)) (importT offset (renamed (srcOf (now (words .entry)) n) (h .0) name) types (h .0)) (now (log .entry)) (now (logtags .entry)) (now (starts .entry)) (now (maps .entry)) ends r (now (log .exit)) (now (logtags .exit)) (now (starts .exit)) (now (maps .exit)) (now (buckets .exit)) ⌝ }
 {
     let mut s = [[0u32; 512]; 8];
     let mut m = [[0u32; 512]; 6];
@@ -174,13 +182,13 @@ pub fn rename_type(
     let got = derive_types::rename_type(
         words,
         tags,
-        kinds,
+        targets,
         n,
         log,
-        classes,
+        logtags,
         starts,
         maps,
-        marks,
+        buckets,
         ends,
         offset,
         h,
@@ -190,26 +198,26 @@ pub fn rename_type(
     got
 }
 
-// Constant h.
+// Imports constant h.
 pub fn import_const(
-    words: &[u32; 16384],
-    tags: &[u8; 16384],
-    kinds: &[u8; 256],
+    words: &Words,
+    tags: &Tags,
+    targets: &Targets,
     n: usize,
-    log: &mut [u32; 16384],
-    classes: &mut [u8; 16384],
-    starts: &mut [[u32; 512]; 8],
-    maps: &mut [[u32; 512]; 6],
-    marks: &mut [u16; 16384],
-    ends: Ends,
+    log: &mut Log,
+    logtags: &mut LogTags,
+    starts: &mut Starts,
+    maps: &mut Maps,
+    buckets: &mut Buckets,
+    ends: Sizes,
     offset: u32,
     h: ConstantHandle,
-) -> Ends
+) -> Sizes
     requires { ⌜ Source (now words) (now tags) n ⌝ }
     requires { ⌜ (h .0 < countAt 2 (now words)) × (ends .full ≡ false) ⌝ }
-    requires { ⌜ now kinds ≡ kindBytes ⌝ }
-    requires { ⌜ Kept (now log) (now classes) (now starts) (now maps) (now marks) ends ⌝ }
-    ensures { λ r. ⌜ Whole (now (words .entry)) (importT offset (srcOf (now (words .entry)) n) constants (h .0)) (now (log .entry)) (now (classes .entry)) (now (starts .entry)) (now (maps .entry)) ends r (now (log .exit)) (now (classes .exit)) (now (starts .exit)) (now (maps .exit)) (now (marks .exit)) ⌝ }
+    requires { ⌜ now targets ≡ targetBytes ⌝ }
+    requires { ⌜ ValidArrays (now log) (now logtags) (now starts) (now maps) (now buckets) ends ⌝ }
+    ensures { λ r. ⌜ Whole (now (words .entry)) (importT offset (srcOf (now (words .entry)) n) constants (h .0)) (now (log .entry)) (now (logtags .entry)) (now (starts .entry)) (now (maps .entry)) ends r (now (log .exit)) (now (logtags .exit)) (now (starts .exit)) (now (maps .exit)) (now (buckets .exit)) ⌝ }
 {
     let mut s = [[0u32; 512]; 8];
     let mut m = [[0u32; 512]; 6];
@@ -217,13 +225,13 @@ pub fn import_const(
     let got = derive_constants::import_const(
         words,
         tags,
-        kinds,
+        targets,
         n,
         log,
-        classes,
+        logtags,
         starts,
         maps,
-        marks,
+        buckets,
         ends,
         offset,
         h,
@@ -232,26 +240,26 @@ pub fn import_const(
     got
 }
 
-// Override h.
+// Imports override h.
 pub fn import_pipeline_override(
-    words: &[u32; 16384],
-    tags: &[u8; 16384],
-    kinds: &[u8; 256],
+    words: &Words,
+    tags: &Tags,
+    targets: &Targets,
     n: usize,
-    log: &mut [u32; 16384],
-    classes: &mut [u8; 16384],
-    starts: &mut [[u32; 512]; 8],
-    maps: &mut [[u32; 512]; 6],
-    marks: &mut [u16; 16384],
-    ends: Ends,
+    log: &mut Log,
+    logtags: &mut LogTags,
+    starts: &mut Starts,
+    maps: &mut Maps,
+    buckets: &mut Buckets,
+    ends: Sizes,
     offset: u32,
     h: OverrideHandle,
-) -> Ends
+) -> Sizes
     requires { ⌜ Source (now words) (now tags) n ⌝ }
     requires { ⌜ (h .0 < countAt 3 (now words)) × (ends .full ≡ false) ⌝ }
-    requires { ⌜ now kinds ≡ kindBytes ⌝ }
-    requires { ⌜ Kept (now log) (now classes) (now starts) (now maps) (now marks) ends ⌝ }
-    ensures { λ r. ⌜ Whole (now (words .entry)) (importT offset (srcOf (now (words .entry)) n) overrides (h .0)) (now (log .entry)) (now (classes .entry)) (now (starts .entry)) (now (maps .entry)) ends r (now (log .exit)) (now (classes .exit)) (now (starts .exit)) (now (maps .exit)) (now (marks .exit)) ⌝ }
+    requires { ⌜ now targets ≡ targetBytes ⌝ }
+    requires { ⌜ ValidArrays (now log) (now logtags) (now starts) (now maps) (now buckets) ends ⌝ }
+    ensures { λ r. ⌜ Whole (now (words .entry)) (importT offset (srcOf (now (words .entry)) n) overrides (h .0)) (now (log .entry)) (now (logtags .entry)) (now (starts .entry)) (now (maps .entry)) ends r (now (log .exit)) (now (logtags .exit)) (now (starts .exit)) (now (maps .exit)) (now (buckets .exit)) ⌝ }
 {
     let mut s = [[0u32; 512]; 8];
     let mut m = [[0u32; 512]; 6];
@@ -259,13 +267,13 @@ pub fn import_pipeline_override(
     let got = derive_constants::import_pipeline_override(
         words,
         tags,
-        kinds,
+        targets,
         n,
         log,
-        classes,
+        logtags,
         starts,
         maps,
-        marks,
+        buckets,
         ends,
         offset,
         h,
@@ -274,26 +282,26 @@ pub fn import_pipeline_override(
     got
 }
 
-// Global h.
+// Imports global h.
 pub fn import_global(
-    words: &[u32; 16384],
-    tags: &[u8; 16384],
-    kinds: &[u8; 256],
+    words: &Words,
+    tags: &Tags,
+    targets: &Targets,
     n: usize,
-    log: &mut [u32; 16384],
-    classes: &mut [u8; 16384],
-    starts: &mut [[u32; 512]; 8],
-    maps: &mut [[u32; 512]; 6],
-    marks: &mut [u16; 16384],
-    ends: Ends,
+    log: &mut Log,
+    logtags: &mut LogTags,
+    starts: &mut Starts,
+    maps: &mut Maps,
+    buckets: &mut Buckets,
+    ends: Sizes,
     offset: u32,
     h: GlobalHandle,
-) -> Ends
+) -> Sizes
     requires { ⌜ Source (now words) (now tags) n ⌝ }
     requires { ⌜ (h .0 < countAt 4 (now words)) × (ends .full ≡ false) ⌝ }
-    requires { ⌜ now kinds ≡ kindBytes ⌝ }
-    requires { ⌜ Kept (now log) (now classes) (now starts) (now maps) (now marks) ends ⌝ }
-    ensures { λ r. ⌜ Whole (now (words .entry)) (importT offset (srcOf (now (words .entry)) n) globals (h .0)) (now (log .entry)) (now (classes .entry)) (now (starts .entry)) (now (maps .entry)) ends r (now (log .exit)) (now (classes .exit)) (now (starts .exit)) (now (maps .exit)) (now (marks .exit)) ⌝ }
+    requires { ⌜ now targets ≡ targetBytes ⌝ }
+    requires { ⌜ ValidArrays (now log) (now logtags) (now starts) (now maps) (now buckets) ends ⌝ }
+    ensures { λ r. ⌜ Whole (now (words .entry)) (importT offset (srcOf (now (words .entry)) n) globals (h .0)) (now (log .entry)) (now (logtags .entry)) (now (starts .entry)) (now (maps .entry)) ends r (now (log .exit)) (now (logtags .exit)) (now (starts .exit)) (now (maps .exit)) (now (buckets .exit)) ⌝ }
 {
     let mut s = [[0u32; 512]; 8];
     let mut m = [[0u32; 512]; 6];
@@ -301,13 +309,13 @@ pub fn import_global(
     let got = derive_constants::import_global(
         words,
         tags,
-        kinds,
+        targets,
         n,
         log,
-        classes,
+        logtags,
         starts,
         maps,
-        marks,
+        buckets,
         ends,
         offset,
         h,
@@ -316,26 +324,26 @@ pub fn import_global(
     got
 }
 
-// Global expression h.
+// Imports global expression h.
 pub fn import_global_expression(
-    words: &[u32; 16384],
-    tags: &[u8; 16384],
-    kinds: &[u8; 256],
+    words: &Words,
+    tags: &Tags,
+    targets: &Targets,
     n: usize,
-    log: &mut [u32; 16384],
-    classes: &mut [u8; 16384],
-    starts: &mut [[u32; 512]; 8],
-    maps: &mut [[u32; 512]; 6],
-    marks: &mut [u16; 16384],
-    ends: Ends,
+    log: &mut Log,
+    logtags: &mut LogTags,
+    starts: &mut Starts,
+    maps: &mut Maps,
+    buckets: &mut Buckets,
+    ends: Sizes,
     offset: u32,
     h: ExpressionHandle,
-) -> Ends
+) -> Sizes
     requires { ⌜ Source (now words) (now tags) n ⌝ }
     requires { ⌜ (h .0 < countAt 5 (now words)) × (ends .full ≡ false) ⌝ }
-    requires { ⌜ now kinds ≡ kindBytes ⌝ }
-    requires { ⌜ Kept (now log) (now classes) (now starts) (now maps) (now marks) ends ⌝ }
-    ensures { λ r. ⌜ Whole (now (words .entry)) (importT offset (srcOf (now (words .entry)) n) exprs (h .0)) (now (log .entry)) (now (classes .entry)) (now (starts .entry)) (now (maps .entry)) ends r (now (log .exit)) (now (classes .exit)) (now (starts .exit)) (now (maps .exit)) (now (marks .exit)) ⌝ }
+    requires { ⌜ now targets ≡ targetBytes ⌝ }
+    requires { ⌜ ValidArrays (now log) (now logtags) (now starts) (now maps) (now buckets) ends ⌝ }
+    ensures { λ r. ⌜ Whole (now (words .entry)) (importT offset (srcOf (now (words .entry)) n) exprs (h .0)) (now (log .entry)) (now (logtags .entry)) (now (starts .entry)) (now (maps .entry)) ends r (now (log .exit)) (now (logtags .exit)) (now (starts .exit)) (now (maps .exit)) (now (buckets .exit)) ⌝ }
 {
     let mut s = [[0u32; 512]; 8];
     let mut m = [[0u32; 512]; 6];
@@ -343,13 +351,13 @@ pub fn import_global_expression(
     let got = derive_constants::import_global_expression(
         words,
         tags,
-        kinds,
+        targets,
         n,
         log,
-        classes,
+        logtags,
         starts,
         maps,
-        marks,
+        buckets,
         ends,
         offset,
         h,

@@ -1,4 +1,4 @@
--- Names in the order of first appearance, and their places. Assumes nothing.
+-- Names in the order of first appearance, and their places.
 use mathlib.Core.Path.{_≡_, refl, sym, ap, _∙_}
 use mathlib.Core.Bool.{cond}
 use mathlib.Core.List.{List, [], _∷_, _++_}
@@ -9,6 +9,7 @@ use lib.Dec.{eqb}
 use lib.ListN.{length, getD, set, take, replicate, length-set, length-replicate}
 use lib.Seq.{take-suc-set, getD-set-same, getD-set-other, length-take-le}
 use borrow.Author.Tests.{eqb-true, eqb-false, eq-eqb, ne-eqb}
+use Rattle.theory_lists.specs.Lists.{zeros}
 use Rattle.model.specs.Outcome.{Cell, Cells}
 use Rattle.model.specs.Table.{NAME}
 use Rattle.model.specs.Finish.{namesIn, firsts, keepN}
@@ -55,10 +56,6 @@ nonzero-le (zero ∷ l) = omega (arith, nonzero-le l)
 nonzero-le (suc x ∷ l) = omega (arith, nonzero-le l)
 
 -- ---- nothing noted
-zeros : (n x : ℕ) → getD (replicate {A = ℕ} n 0) x 0 ≡ 0
-zeros zero x = refl
-zeros (suc n) zero = refl
-zeros (suc n) (suc x) = zeros n x
 
 none : (n : ℕ) → nonzero (replicate n 0) ≡ 0
 unfolding nonzero

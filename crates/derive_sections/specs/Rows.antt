@@ -1,4 +1,4 @@
--- What the arrays hold: tables of records in a log, and the names met so far. Assumes nothing: these are definitions.
+-- What the arrays hold: tables of records in a log, and the names met so far.
 use mathlib.Core.Path.{_≡_}
 use mathlib.Core.Bool.{cond}
 use mathlib.Core.List.{List, [], _∷_}
@@ -11,33 +11,33 @@ use Rattle.derive_state.specs.Held.{recsAt}
 
 -- the tables from these starts on, with these counts
 unfoldable pub tabsOf : List ℕ → List ℕ → List (List ℕ) → List ℕ → List (List Cells)
-tabsOf log tags [] ns = []
-tabsOf log tags (ss ∷ sss) [] = []
-tabsOf log tags (ss ∷ sss) (n ∷ ns) = recsAt log tags (take n ss) ∷ tabsOf log tags sss ns
+tabsOf log logtags [] ns = []
+tabsOf log logtags (ss ∷ sss) [] = []
+tabsOf log logtags (ss ∷ sss) (n ∷ ns) = recsAt log logtags (take n ss) ∷ tabsOf log logtags sss ns
 
 -- a record lies in the log, and its names are among the first
-pub record Rec (names : ℕ) (log tags : List ℕ) (s : ℕ) : Type 0 where
+pub record Rec (names : ℕ) (log logtags : List ℕ) (s : ℕ) : Type 0 where
   pub log-long : length log ≡ 16384
-  pub tags-long : length tags ≡ 16384
+  pub tags-long : length logtags ≡ 16384
   pub within : s + suc (getD log s 0) ≤ 16384
-  pub low : (i : ℕ) → s < i → i < suc s + getD log s 0 → getD tags i 0 ≡ NAME → getD log i 0 ≤ names
+  pub low : (i : ℕ) → s < i → i < suc s + getD log s 0 → getD logtags i 0 ≡ NAME → getD log i 0 ≤ names
 
 -- a table's records
-pub record Row (names : ℕ) (log tags ss : List ℕ) (n : ℕ) : Type 0 where
+pub record Row (names : ℕ) (log logtags ss : List ℕ) (n : ℕ) : Type 0 where
   pub row-long : length ss ≡ 512
   pub few : n ≤ 512
-  pub recs : (k : ℕ) → k < n → Rec names log tags (getD ss k 0)
+  pub recs : (k : ℕ) → k < n → Rec names log logtags (getD ss k 0)
 
 -- all tables
-pub record Rows (names : ℕ) (log tags : List ℕ) (starts : List (List ℕ)) (counts : List ℕ) : Type 0 where
+pub record Rows (names : ℕ) (log logtags : List ℕ) (starts : List (List ℕ)) (counts : List ℕ) : Type 0 where
   pub eight : length starts ≡ 8
   pub eight′ : length counts ≡ 8
   pub log-long : length log ≡ 16384
-  pub tags-long : length tags ≡ 16384
-  pub rows : (t : ℕ) → t < 8 → Row names log tags (getD starts t []) (getD counts t 0)
+  pub tags-long : length logtags ≡ 16384
+  pub rows : (t : ℕ) → t < 8 → Row names log logtags (getD starts t []) (getD counts t 0)
 
 -- ---- names met so far
--- 0, or where a number stands plus 1
+-- 0, or the place of a number plus 1
 unfoldable pub up : ℕ → ℕ
 up zero = zero
 up (suc n) = suc (suc n)

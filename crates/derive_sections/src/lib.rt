@@ -1,8 +1,11 @@
-// The sections of an image from the records of a log: one pass over the tables behind the names meets the names in the order of first appearance, and each
+// The sections of an image from the records of a log: one pass over the tables after the names meets the names in the order of first appearance, and each
 // table is written as its offsets and its records, with the names' new numbers.
 use base_classes::NAME;
 use base_views::HEADER;
 use base_words::wide;
+use derive_state::Log;
+use derive_state::LogTags;
+use derive_state::Starts;
 ghost use mathlib.Core.Path.{_≡_};
 ghost use mathlib.Core.List.{[], _∷_, map};
 ghost use Prim.Native.Nat.{_+_, _*_, _≤_, _<_};
@@ -14,7 +17,7 @@ ghost use Rattle.derive_state.specs.Held.{recAt, recsAt};
 ghost use Rattle.derive_sections.specs.Flat.{firstsR, firstsT, lengths, tableSize, offsets, joined, tableWords, sizes, heads, tables};
 ghost use Rattle.derive_sections.specs.Rows.{tabsOf, Rec, Row, Rows, Noted, named};
 
-// One name met: behind the n that were met, unless it is among them.
+// Notes one name: after the n that were met, unless it is among them.
 fn note(order: &mut [u32; 512], places: &mut [u32; 512], names: usize, n: usize, m: usize) -> usize
     requires { ⌜ (m < names) × Noted names (take n (now order)) (now order) (now places) n ⌝ }
     ensures { λ r. ⌜ Noted names (keepN (take n (now (order .entry))) m) (now (order .exit)) (now (places .exit)) r ⌝ }
@@ -27,7 +30,7 @@ fn note(order: &mut [u32; 512], places: &mut [u32; 512], names: usize, n: usize,
     n + 1
 }
 
-// One word met, of the class s.
+// Notes one word of the class s.
 fn note_word(
     order: &mut [u32; 512],
     places: &mut [u32; 512],
@@ -49,19 +52,19 @@ fn note_word(
     note(order, places, names, n, wide(w - 1))
 }
 
-// The names of the record at s.
+// Notes the names of the record at s.
 fn note_record(
-    log: &[u32; 16384],
-    classes: &[u8; 16384],
+    log: &Log,
+    logtags: &LogTags,
     order: &mut [u32; 512],
     places: &mut [u32; 512],
     names: usize,
     n: usize,
     s: usize,
 ) -> usize
-    requires { ⌜ Rec names (now log) (now classes) s ⌝ }
+    requires { ⌜ Rec names (now log) (now logtags) s ⌝ }
     requires { ⌜ Noted names (take n (now order)) (now order) (now places) n ⌝ }
-    ensures { λ r. ⌜ Noted names (firsts (namesIn (recAt (now (log .entry)) (now (classes .entry)) s)) (take n (now (order .entry)))) (now (order .exit)) (now (places .exit)) r ⌝ }
+    ensures { λ r. ⌜ Noted names (firsts (namesIn (recAt (now (log .entry)) (now (logtags .entry)) s)) (take n (now (order .entry)))) (now (order .exit)) (now (places .exit)) r ⌝ }
 {
     let end = s + 1 + wide(log[s]);
     let mut i = s + 1;
@@ -69,15 +72,15 @@ fn note_record(
     while i < end {
         let j = i;
         i += 1;
-        k = note_word(order, places, names, k, classes[j], log[j]);
+        k = note_word(order, places, names, k, logtags[j], log[j]);
     }
     k
 }
 
-// The names of a table.
+// Notes the names of a table.
 fn note_table(
-    log: &[u32; 16384],
-    classes: &[u8; 16384],
+    log: &Log,
+    logtags: &LogTags,
     row: &[u32; 512],
     count: usize,
     order: &mut [u32; 512],
@@ -85,45 +88,45 @@ fn note_table(
     names: usize,
     n: usize,
 ) -> usize
-    requires { ⌜ Row names (now log) (now classes) (now row) count ⌝ }
+    requires { ⌜ Row names (now log) (now logtags) (now row) count ⌝ }
     requires { ⌜ Noted names (take n (now order)) (now order) (now places) n ⌝ }
-    ensures { λ r. ⌜ Noted names (firstsR (recsAt (now (log .entry)) (now (classes .entry)) (take count (now (row .entry)))) (take n (now (order .entry)))) (now (order .exit)) (now (places .exit)) r ⌝ }
+    ensures { λ r. ⌜ Noted names (firstsR (recsAt (now (log .entry)) (now (logtags .entry)) (take count (now (row .entry)))) (take n (now (order .entry)))) (now (order .exit)) (now (places .exit)) r ⌝ }
 {
     let mut i = 0;
     let mut k = n;
     while i < count {
         let j = i;
         i += 1;
-        k = note_record(log, classes, order, places, names, k, wide(row[j]));
+        k = note_record(log, logtags, order, places, names, k, wide(row[j]));
     }
     k
 }
 
-// The names of the tables from 1 on, in the order of first appearance.
+// Notes the names of the tables from 1 on, in the order of first appearance.
 pub fn appearing(
-    log: &[u32; 16384],
-    classes: &[u8; 16384],
-    starts: &[[u32; 512]; 8],
+    log: &Log,
+    logtags: &LogTags,
+    starts: &Starts,
     counts: [usize; 8],
     order: &mut [u32; 512],
     places: &mut [u32; 512],
     names: usize,
 ) -> usize
-    requires { ⌜ Rows names (now log) (now classes) (now starts) counts ⌝ }
+    requires { ⌜ Rows names (now log) (now logtags) (now starts) counts ⌝ }
     requires { ⌜ Noted names [] (now order) (now places) 0 ⌝ }
-    ensures { λ r. ⌜ Noted names (firstsT (tabsOf (now (log .entry)) (now (classes .entry)) (drop 1 (now (starts .entry))) (drop 1 counts)) []) (now (order .exit)) (now (places .exit)) r ⌝ }
+    ensures { λ r. ⌜ Noted names (firstsT (tabsOf (now (log .entry)) (now (logtags .entry)) (drop 1 (now (starts .entry))) (drop 1 counts)) []) (now (order .exit)) (now (places .exit)) r ⌝ }
 {
     let mut t = 1;
     let mut k = 0;
     while t < 8 {
         let u = t;
         t += 1;
-        k = note_table(log, classes, &starts[u], counts[u], order, places, names, k);
+        k = note_table(log, logtags, &starts[u], counts[u], order, places, names, k);
     }
     k
 }
 
-// A word of the class s: a name's number through the places.
+// A word of the class s as it is written: a name gets its new number.
 fn renamed(places: &[u32; 512], s: u8, w: u32) -> u32
     requires { ⌜ (s ≡ NAME → w ≤ 512) ⌝ }
     ensures { λ r. ⌜ r ≡ named (now (places .entry)) (s, w) ⌝ }
@@ -137,18 +140,18 @@ fn renamed(places: &[u32; 512], s: u8, w: u32) -> u32
     places[wide(w - 1)]
 }
 
-// The record at s, from `at` on; answers where it ends.
+// Writes the record at s, from `at` on; answers where it ends.
 fn write_record(
-    log: &[u32; 16384],
-    classes: &[u8; 16384],
+    log: &Log,
+    logtags: &LogTags,
     places: &[u32; 512],
     out: &mut [u32; 16384],
     s: usize,
     at: usize,
 ) -> usize
-    requires { ⌜ Rec 512 (now log) (now classes) s ⌝ }
+    requires { ⌜ Rec 512 (now log) (now logtags) s ⌝ }
     requires { ⌜ (at + getD (now log) s 0 ≤ 16384) × (length (now out) ≡ 16384) ⌝ }
-    ensures { λ r. ⌜ (now (out .exit) ≡ sets (now (out .entry)) at (map (named (now (places .entry))) (recAt (now (log .entry)) (now (classes .entry)) s))) × (r ≡ at + getD (now (log .entry)) s 0) ⌝ }
+    ensures { λ r. ⌜ (now (out .exit) ≡ sets (now (out .entry)) at (map (named (now (places .entry))) (recAt (now (log .entry)) (now (logtags .entry)) s))) × (r ≡ at + getD (now (log .entry)) s 0) ⌝ }
 {
     let end = s + 1 + wide(log[s]);
     let mut i = s + 1;
@@ -158,23 +161,23 @@ fn write_record(
         let q = p;
         i += 1;
         p += 1;
-        out[q] = renamed(places, classes[j], log[j]);
+        out[q] = renamed(places, logtags[j], log[j]);
     }
     p
 }
 
-// The offsets of a table's records, from `at` on.
+// Writes the offsets of a table's records, from `at` on.
 fn write_offsets(
-    log: &[u32; 16384],
-    classes: &[u8; 16384],
+    log: &Log,
+    logtags: &LogTags,
     row: &[u32; 512],
     count: usize,
     out: &mut [u32; 16384],
     at: usize,
 )
-    requires { ⌜ Row 512 (now log) (now classes) (now row) count ⌝ }
+    requires { ⌜ Row 512 (now log) (now logtags) (now row) count ⌝ }
     requires { ⌜ (at + count ≤ 16384) × (length (now out) ≡ 16384) ⌝ }
-    ensures { λ _. ⌜ now (out .exit) ≡ sets (now (out .entry)) at (offsets (recsAt (now (log .entry)) (now (classes .entry)) (take count (now (row .entry)))) count) ⌝ }
+    ensures { λ _. ⌜ now (out .exit) ≡ sets (now (out .entry)) at (offsets (recsAt (now (log .entry)) (now (logtags .entry)) (take count (now (row .entry)))) count) ⌝ }
 {
     let mut i = 0;
     let mut o = count;
@@ -186,52 +189,52 @@ fn write_offsets(
     }
 }
 
-// A table's records, from `at` on; answers where they end.
+// Writes a table's records, from `at` on; answers where they end.
 fn write_records(
-    log: &[u32; 16384],
-    classes: &[u8; 16384],
+    log: &Log,
+    logtags: &LogTags,
     places: &[u32; 512],
     row: &[u32; 512],
     count: usize,
     out: &mut [u32; 16384],
     at: usize,
 ) -> usize
-    requires { ⌜ Row 512 (now log) (now classes) (now row) count ⌝ }
-    requires { ⌜ (at + lengths (recsAt (now log) (now classes) (take count (now row))) ≤ 16384) × (length (now out) ≡ 16384) ⌝ }
-    ensures { λ r. ⌜ (now (out .exit) ≡ sets (now (out .entry)) at (joined (named (now (places .entry))) (recsAt (now (log .entry)) (now (classes .entry)) (take count (now (row .entry)))))) × (r ≡ at + lengths (recsAt (now (log .entry)) (now (classes .entry)) (take count (now (row .entry))))) ⌝ }
+    requires { ⌜ Row 512 (now log) (now logtags) (now row) count ⌝ }
+    requires { ⌜ (at + lengths (recsAt (now log) (now logtags) (take count (now row))) ≤ 16384) × (length (now out) ≡ 16384) ⌝ }
+    ensures { λ r. ⌜ (now (out .exit) ≡ sets (now (out .entry)) at (joined (named (now (places .entry))) (recsAt (now (log .entry)) (now (logtags .entry)) (take count (now (row .entry)))))) × (r ≡ at + lengths (recsAt (now (log .entry)) (now (logtags .entry)) (take count (now (row .entry))))) ⌝ }
 {
     let mut i = 0;
     let mut p = at;
     while i < count {
         let j = i;
         i += 1;
-        p = write_record(log, classes, places, out, wide(row[j]), p);
+        p = write_record(log, logtags, places, out, wide(row[j]), p);
     }
     p
 }
 
-// A table, from `at` on; answers where it ends.
+// Writes a table, from `at` on; answers where it ends.
 fn write_table(
-    log: &[u32; 16384],
-    classes: &[u8; 16384],
+    log: &Log,
+    logtags: &LogTags,
     places: &[u32; 512],
     row: &[u32; 512],
     count: usize,
     out: &mut [u32; 16384],
     at: usize,
 ) -> usize
-    requires { ⌜ Row 512 (now log) (now classes) (now row) count ⌝ }
-    requires { ⌜ (at + tableSize (recsAt (now log) (now classes) (take count (now row))) ≤ 16384) × (length (now out) ≡ 16384) ⌝ }
-    ensures { λ r. ⌜ (now (out .exit) ≡ sets (now (out .entry)) at (tableWords (named (now (places .entry))) (recsAt (now (log .entry)) (now (classes .entry)) (take count (now (row .entry)))))) × (r ≡ at + tableSize (recsAt (now (log .entry)) (now (classes .entry)) (take count (now (row .entry))))) ⌝ }
+    requires { ⌜ Row 512 (now log) (now logtags) (now row) count ⌝ }
+    requires { ⌜ (at + tableSize (recsAt (now log) (now logtags) (take count (now row))) ≤ 16384) × (length (now out) ≡ 16384) ⌝ }
+    ensures { λ r. ⌜ (now (out .exit) ≡ sets (now (out .entry)) at (tableWords (named (now (places .entry))) (recsAt (now (log .entry)) (now (logtags .entry)) (take count (now (row .entry)))))) × (r ≡ at + tableSize (recsAt (now (log .entry)) (now (logtags .entry)) (take count (now (row .entry))))) ⌝ }
 {
-    write_offsets(log, classes, row, count, out, at);
-    write_records(log, classes, places, row, count, out, at + count)
+    write_offsets(log, logtags, row, count, out, at);
+    write_records(log, logtags, places, row, count, out, at + count)
 }
 
-// The words of a table.
-fn table_size(log: &[u32; 16384], classes: &[u8; 16384], row: &[u32; 512], count: usize) -> usize
-    requires { ⌜ Row 512 (now log) (now classes) (now row) count ⌝ }
-    ensures { λ r. ⌜ (r ≡ tableSize (recsAt (now (log .entry)) (now (classes .entry)) (take count (now (row .entry))))) × (r ≤ 512 * 16384) ⌝ }
+// How many words a table takes.
+fn table_size(log: &Log, logtags: &LogTags, row: &[u32; 512], count: usize) -> usize
+    requires { ⌜ Row 512 (now log) (now logtags) (now row) count ⌝ }
+    ensures { λ r. ⌜ (r ≡ tableSize (recsAt (now (log .entry)) (now (logtags .entry)) (take count (now (row .entry))))) × (r ≤ 512 * 16384) ⌝ }
 {
     let mut i = 0;
     let mut o = count;
@@ -243,62 +246,57 @@ fn table_size(log: &[u32; 16384], classes: &[u8; 16384], row: &[u32; 512], count
     o
 }
 
-// All tables, from `at` on; answers where they end.
+// Writes all tables, from `at` on; answers where they end.
 pub fn write_tables(
-    log: &[u32; 16384],
-    classes: &[u8; 16384],
+    log: &Log,
+    logtags: &LogTags,
     places: &[u32; 512],
-    starts: &[[u32; 512]; 8],
+    starts: &Starts,
     counts: [usize; 8],
     out: &mut [u32; 16384],
     at: usize,
 ) -> usize
-    requires { ⌜ Rows 512 (now log) (now classes) (now starts) counts ⌝ }
-    requires { ⌜ (at + sizes (tabsOf (now log) (now classes) (now starts) counts) ≤ 16384) × (length (now out) ≡ 16384) ⌝ }
-    ensures { λ r. ⌜ (now (out .exit) ≡ sets (now (out .entry)) at (tables (named (now (places .entry))) (tabsOf (now (log .entry)) (now (classes .entry)) (now (starts .entry)) counts))) × (r ≡ at + sizes (tabsOf (now (log .entry)) (now (classes .entry)) (now (starts .entry)) counts)) ⌝ }
+    requires { ⌜ Rows 512 (now log) (now logtags) (now starts) counts ⌝ }
+    requires { ⌜ (at + sizes (tabsOf (now log) (now logtags) (now starts) counts) ≤ 16384) × (length (now out) ≡ 16384) ⌝ }
+    ensures { λ r. ⌜ (now (out .exit) ≡ sets (now (out .entry)) at (tables (named (now (places .entry))) (tabsOf (now (log .entry)) (now (logtags .entry)) (now (starts .entry)) counts))) × (r ≡ at + sizes (tabsOf (now (log .entry)) (now (logtags .entry)) (now (starts .entry)) counts)) ⌝ }
 {
     let mut t = 0;
     let mut p = at;
     while t < 8 {
         let u = t;
         t += 1;
-        p = write_table(log, classes, places, &starts[u], counts[u], out, p);
+        p = write_table(log, logtags, places, &starts[u], counts[u], out, p);
     }
     p
 }
 
-// The words of all tables.
-pub fn all_sizes(
-    log: &[u32; 16384],
-    classes: &[u8; 16384],
-    starts: &[[u32; 512]; 8],
-    counts: [usize; 8],
-) -> usize
-    requires { ⌜ Rows 512 (now log) (now classes) (now starts) counts ⌝ }
-    ensures { λ r. ⌜ (r ≡ sizes (tabsOf (now (log .entry)) (now (classes .entry)) (now (starts .entry)) counts)) × (r ≤ 4096 * 16384) ⌝ }
+// How many words all tables take.
+pub fn all_sizes(log: &Log, logtags: &LogTags, starts: &Starts, counts: [usize; 8]) -> usize
+    requires { ⌜ Rows 512 (now log) (now logtags) (now starts) counts ⌝ }
+    ensures { λ r. ⌜ (r ≡ sizes (tabsOf (now (log .entry)) (now (logtags .entry)) (now (starts .entry)) counts)) × (r ≤ 4096 * 16384) ⌝ }
 {
     let mut t = 0;
     let mut p = 0;
     while t < 8 {
         let u = t;
         t += 1;
-        p += table_size(log, classes, &starts[u], counts[u]);
+        p += table_size(log, logtags, &starts[u], counts[u]);
     }
     p
 }
 
-// Counts and offsets, from word 2 on.
+// Writes counts and offsets, from word 2 on.
 pub fn write_heads(
-    log: &[u32; 16384],
-    classes: &[u8; 16384],
-    starts: &[[u32; 512]; 8],
+    log: &Log,
+    logtags: &LogTags,
+    starts: &Starts,
     counts: [usize; 8],
     pairs: u32,
     out: &mut [u32; 16384],
 )
-    requires { ⌜ Rows 512 (now log) (now classes) (now starts) counts ⌝ }
+    requires { ⌜ Rows 512 (now log) (now logtags) (now starts) counts ⌝ }
     requires { ⌜ length (now out) ≡ 16384 ⌝ }
-    ensures { λ _. ⌜ now (out .exit) ≡ sets (now (out .entry)) 2 (heads (tabsOf (now (log .entry)) (now (classes .entry)) (now (starts .entry)) counts) 20 pairs) ⌝ }
+    ensures { λ _. ⌜ now (out .exit) ≡ sets (now (out .entry)) 2 (heads (tabsOf (now (log .entry)) (now (logtags .entry)) (now (starts .entry)) counts) 20 pairs) ⌝ }
 {
     let mut t = 0;
     let mut p = HEADER;
@@ -307,7 +305,7 @@ pub fn write_heads(
         t += 1;
         out[2 + 2 * u] = counts[u] as u32;
         out[3 + 2 * u] = p as u32;
-        p += table_size(log, classes, &starts[u], counts[u]);
+        p += table_size(log, logtags, &starts[u], counts[u]);
     }
     out[18] = pairs;
     out[19] = p as u32;

@@ -1,5 +1,5 @@
 -- What each step of setting a source does to the arrays: a type that is mapped to the derived one, a type that is imported for its place or its key, and steps one
--- behind the other. Assumes nothing.
+-- after the other.
 use mathlib.Core.Path.{_≡_, refl, sym, ap, _∙_}
 use mathlib.Core.Logic.{_⊎_, ⊎-elim}
 use mathlib.Core.Bool.{true, false, false≢true}
@@ -12,30 +12,30 @@ use lib.Seq.{getD-set-same, getD-set-other, length-take-le}
 use Rattle.model.specs.Table.{KEY, TYPE}
 use Rattle.model.specs.Module.{countAt}
 use Rattle.model.specs.Tables.{types, codeT, at, Tables, count, mapAt}
-use Rattle.model.specs.Imports.{St, importT}
+use Rattle.model.specs.Imports.{Derived, importT}
 use Rattle.model.specs.Special.{force, withSpecial, putRay, putPair}
 use Rattle.theory_records.specs.TableLaws.{at-six}
 use Rattle.theory_records.specs.Trace.{Sized, import-trace}
 use Rattle.derive_state.specs.Refers.{tabOf}
 use Rattle.derive_state.specs.Flats.{pairsAt, specialOf}
 use Rattle.derive_state.specs.Source.{srcOf, Source}
-use Rattle.derive_state.specs.Held.{cell, put, tableOf, mapsOf, stOf, sizeR, wordsOf, Over, long, keys, Kept, Specials, Same, Beside, Lands}
+use Rattle.derive_state.specs.Held.{cell, put, tableOf, mapsOf, stOf, sizeR, wordsOf, Over, long, keys, ValidArrays, Specials, Same, Beside, Lands}
 use Rattle.derive_state.specs.Marks.{Marks}
-use Rattle.derive_state.specs.declared.Ends.{Ends}
+use Rattle.derive_state.specs.declared.Sizes.{Sizes}
 use Rattle.derive_state.proofs.State.{tab-code, code-low, same-or, same-refl, marks-refl, pairs-long, tab-long, words-are, table-stays, kept-point}
 use Rattle.derive_types.proofs.Sources.{wf, count-is, count-few, inside, small-number}
 use Rattle.derive_types.proofs.Growth.{Grow, over-grow, grow-T}
 use Rattle.derive_source.specs.Derives.{Aside, Derives}
 use Rattle.derive_source.proofs.Words.{with-pair, force-is, type-map, put-ray-is, put-pair-is, kept-paired}
 
--- ---- what stands beside the tables
-pub aside-refl : (starts : List (List ℕ)) (e : Ends) → Aside starts starts e e
+-- ---- what is beside the tables
+pub aside-refl : (starts : List (List ℕ)) (e : Sizes) → Aside starts starts e e
 aside-refl starts e = record { functions-same = (refl, refl); entries-same = (refl, refl); tops-same = (refl, refl, refl) }
 
-aside-of : {starts starts′ : List (List ℕ)} {e r : Ends} → Beside starts starts′ e r → Aside starts starts′ e r
+aside-of : {starts starts′ : List (List ℕ)} {e r : Sizes} → Beside starts starts′ e r → Aside starts starts′ e r
 aside-of b = record { functions-same = b .functions-same; entries-same = b .entries-same; tops-same = b .tops-same }
 
-pub aside-then : {a b c : List (List ℕ)} {e f g : Ends} → Aside a b e f → Aside b c f g → Aside a c e g
+pub aside-then : {a b c : List (List ℕ)} {e f g : Sizes} → Aside a b e f → Aside b c f g → Aside a c e g
 aside-then x y = record {
   functions-same = (y .functions-same .0 ∙ x .functions-same .0, y .functions-same .1 ∙ x .functions-same .1);
   entries-same = (y .entries-same .0 ∙ x .entries-same .0, y .entries-same .1 ∙ x .entries-same .1);
@@ -44,10 +44,10 @@ aside-then x y = record {
 
 -- ---- special types
 -- there are more types now
-pub specials-more : {special : List ℕ} {e r : Ends} → r .pairs ≡ e .pairs → getD (e .counts) 1 0 ≤ getD (r .counts) 1 0 → Specials special e → Specials special r
+pub specials-more : {special : List ℕ} {e r : Sizes} → r .pairs ≡ e .pairs → getD (e .counts) 1 0 ≤ getD (r .counts) 1 0 → Specials special e → Specials special r
 specials-more p h S = record { special-long = S .special-long; rays-in = λ i l. le-trans (S .rays-in i l) h; pairs-in = λ i l. le-trans (S .pairs-in i (rw p at l)) h }
 
-specials-ray : (special : List ℕ) (e : Ends) (k v : ℕ) → Specials special e → k < 3 → v ≤ getD (e .counts) 1 0 → Specials (set special k v) e
+specials-ray : (special : List ℕ) (e : Sizes) (k v : ℕ) → Specials special e → k < 3 → v ≤ getD (e .counts) 1 0 → Specials (set special k v) e
 specials-ray special e k v S h l =
     let z = S .special-long in
     record {
@@ -56,7 +56,7 @@ specials-ray special e k v S h l =
       pairs-in = λ i q. rw (getD-set-other special k (4 + 2 * i) v 0 (λ p. omega arith)) (S .pairs-in i q);
     }
 
-specials-pair : (special : List ℕ) (e : Ends) (key v : ℕ) → Specials special e → e .pairs < 512 → v < getD (e .counts) 1 0 → (r : Ends) → r ≡ record { full = false; used = e .used; counts = e .counts; pairs = e .pairs + 1; et = e .et; bt = e .bt; made = e .made } → Specials (with-pair special (e .pairs) key v) r
+specials-pair : (special : List ℕ) (e : Sizes) (key v : ℕ) → Specials special e → e .pairs < 512 → v < getD (e .counts) 1 0 → (r : Sizes) → r ≡ record { full = false; loglen = e .loglen; counts = e .counts; pairs = e .pairs + 1; exprtop = e .exprtop; bodytop = e .bodytop; made = e .made } → Specials (with-pair special (e .pairs) key v) r
 specials-pair special e key v S h l r er =
     let z = S .special-long in
     let y = length-set special (3 + 2 * e .pairs) key in
@@ -71,9 +71,9 @@ specials-pair special e key v S h l r er =
     })
 
 -- where it is full
-pub full-derives : (words log₀ classes₀ : List ℕ) (starts₀ maps₀ : List (List ℕ)) (marks₀ special₀ : List ℕ) (e₀ : Ends) (f : St → St) (r : Ends) (log classes : List ℕ) (starts maps : List (List ℕ)) (marks special : List ℕ) → r .full ≡ true → Over (sizeR (tableOf log₀ classes₀ starts₀ (e₀ .counts) 7)) (f (stOf words log₀ classes₀ starts₀ maps₀ special₀ e₀))
-    → Same (e₀ .used) log₀ classes₀ log classes → length log ≡ 16384 → length classes ≡ 16384 → Marks marks₀ marks → Derives words f log₀ classes₀ starts₀ maps₀ marks₀ special₀ e₀ r log classes starts maps marks special
-full-derives words log₀ classes₀ starts₀ maps₀ marks₀ special₀ e₀ f r log classes starts maps marks special q x s a b m = record {
+pub full-derives : (words log₀ logtags₀ : List ℕ) (starts₀ maps₀ : List (List ℕ)) (buckets₀ special₀ : List ℕ) (e₀ : Sizes) (f : Derived → Derived) (r : Sizes) (log logtags : List ℕ) (starts maps : List (List ℕ)) (buckets special : List ℕ) → r .full ≡ true → Over (sizeR (tableOf log₀ logtags₀ starts₀ (e₀ .counts) 7)) (f (stOf words log₀ logtags₀ starts₀ maps₀ special₀ e₀))
+    → Same (e₀ .loglen) log₀ logtags₀ log logtags → length log ≡ 16384 → length logtags ≡ 16384 → Marks buckets₀ buckets → Derives words f log₀ logtags₀ starts₀ maps₀ buckets₀ special₀ e₀ r log logtags starts maps buckets special
+full-derives words log₀ logtags₀ starts₀ maps₀ buckets₀ special₀ e₀ f r log logtags starts maps buckets special q x s a b m = record {
   over = λ z. x;
   is = λ z. absurd (false≢true (sym z ∙ q));
   kept = λ z. absurd (false≢true (sym z ∙ q));
@@ -87,15 +87,15 @@ full-derives words log₀ classes₀ starts₀ maps₀ marks₀ special₀ e₀ 
 }
 
 -- ---- a step from these arrays
-module _ (words tags : List ℕ) (n : ℕ) (src : Source words tags n) (o : ℕ) (log₀ classes₀ : List ℕ) (starts₀ maps₀ : List (List ℕ)) (marks₀ special₀ : List ℕ) (e₀ : Ends) (nf : e₀ .full ≡ false) (K₀ : Kept log₀ classes₀ starts₀ maps₀ marks₀ e₀) (P₀ : Specials special₀ e₀) where
+module _ (words tags : List ℕ) (n : ℕ) (src : Source words tags n) (o : ℕ) (log₀ logtags₀ : List ℕ) (starts₀ maps₀ : List (List ℕ)) (buckets₀ special₀ : List ℕ) (e₀ : Sizes) (nf : e₀ .full ≡ false) (K₀ : ValidArrays log₀ logtags₀ starts₀ maps₀ buckets₀ e₀) (P₀ : Specials special₀ e₀) where
   abbrev T : Tables
   T = srcOf words n
 
-  abbrev S₀ : St
-  S₀ = stOf words log₀ classes₀ starts₀ maps₀ special₀ e₀
+  abbrev S₀ : Derived
+  S₀ = stOf words log₀ logtags₀ starts₀ maps₀ special₀ e₀
 
   -- nothing but the maps changes
-  pub maps-derive : (f : St → St) (maps : List (List ℕ)) → f S₀ ≡ stOf words log₀ classes₀ starts₀ maps special₀ e₀ → Kept log₀ classes₀ starts₀ maps marks₀ e₀ → Derives words f log₀ classes₀ starts₀ maps₀ marks₀ special₀ e₀ e₀ log₀ classes₀ starts₀ maps marks₀ special₀
+  pub maps-derive : (f : Derived → Derived) (maps : List (List ℕ)) → f S₀ ≡ stOf words log₀ logtags₀ starts₀ maps special₀ e₀ → ValidArrays log₀ logtags₀ starts₀ maps buckets₀ e₀ → Derives words f log₀ logtags₀ starts₀ maps₀ buckets₀ special₀ e₀ e₀ log₀ logtags₀ starts₀ maps buckets₀ special₀
   maps-derive f maps q K = record {
     over = λ z. absurd (false≢true (sym nf ∙ z));
     is = λ z. q;
@@ -103,19 +103,19 @@ module _ (words tags : List ℕ) (n : ℕ) (src : Source words tags n) (o : ℕ)
     specials = λ z. P₀;
     aside = λ z. aside-refl starts₀ e₀;
     more = λ z. le-refl _;
-    below = same-refl (e₀ .used) log₀ classes₀;
+    below = same-refl (e₀ .loglen) log₀ logtags₀;
     log-long = K₀ .log-long;
     tags-long = K₀ .tags-long;
-    marks-stay = marks-refl marks₀ (K₀ .marks-long);
+    marks-stay = marks-refl buckets₀ (K₀ .marks-long);
   }
 
   -- a type that is mapped to the derived one, v - 1
-  pub force-derives : (f : St → St) (h v : ℕ) → h < countAt 1 words → v ≤ getD (e₀ .counts) 1 0 → f S₀ ≡ force h v S₀ → Derives words f log₀ classes₀ starts₀ maps₀ marks₀ special₀ e₀ e₀ log₀ classes₀ starts₀ (put maps₀ 1 h v) marks₀ special₀
+  pub force-derives : (f : Derived → Derived) (h v : ℕ) → h < countAt 1 words → v ≤ getD (e₀ .counts) 1 0 → f S₀ ≡ force h v S₀ → Derives words f log₀ logtags₀ starts₀ maps₀ buckets₀ special₀ e₀ e₀ log₀ logtags₀ starts₀ (put maps₀ 1 h v) buckets₀ special₀
   force-derives f h v hh hv q =
-      maps-derive f (put maps₀ 1 h v) (q ∙ force-is words log₀ classes₀ starts₀ maps₀ special₀ e₀ h hh v (K₀ .maps-six))
-      (kept-point log₀ classes₀ starts₀ maps₀ marks₀ e₀ K₀ 1 h v (omega arith) (small-number words tags n src 1 h (omega arith) hh) hv)
+      maps-derive f (put maps₀ 1 h v) (q ∙ force-is words log₀ logtags₀ starts₀ maps₀ special₀ e₀ h hh v (K₀ .maps-six))
+      (kept-point log₀ logtags₀ starts₀ maps₀ buckets₀ e₀ K₀ 1 h v (omega arith) (small-number words tags n src 1 h (omega arith) hh) hv)
 
-  sized : Sized (srcOf words n) (stOf words log₀ classes₀ starts₀ maps₀ special₀ e₀)
+  sized : Sized (srcOf words n) (stOf words log₀ logtags₀ starts₀ maps₀ special₀ e₀)
   unfolding Sized stOf mapsOf
   sized u =
       let a = count-is words tags n src (codeT u) (code-low u) in
@@ -125,18 +125,18 @@ module _ (words tags : List ℕ) (n : ℕ) (src : Source words tags n) (o : ℕ)
       ∙ length-take-le (countAt (codeT u) words) (getD maps₀ (codeT u) []) (omega arith)
       ∙ rw (tab-code u) at a
 
-  types-many : (special : List ℕ) {log classes : List ℕ} {starts maps : List (List ℕ)} {marks : List ℕ} {e : Ends} → Kept log classes starts maps marks e → count ((stOf words log classes starts maps special e) .recs) types ≡ getD (e .counts) 1 0
+  types-many : (special : List ℕ) {log logtags : List ℕ} {starts maps : List (List ℕ)} {buckets : List ℕ} {e : Sizes} → ValidArrays log logtags starts maps buckets e → count ((stOf words log logtags starts maps special e) .recs) types ≡ getD (e .counts) 1 0
   unfolding stOf count tabOf
-  types-many special {log} {classes} {starts} {maps} {marks} {e} K = tab-long log classes starts maps marks e K 1 (omega arith)
+  types-many special {log} {logtags} {starts} {maps} {buckets} {e} K = tab-long log logtags starts maps buckets e K 1 (omega arith)
 
   -- ---- type h is imported
-  module _ (h : ℕ) (hh : h < countAt 1 words) (r : Ends) (log classes : List ℕ) (starts maps : List (List ℕ)) (marks : List ℕ) (L : Lands words (importT o (srcOf words n) types h) log₀ classes₀ starts₀ maps₀ marks₀ e₀ r log classes starts maps marks) where
-    abbrev S : St
-    S = stOf words log classes starts maps special₀ r
+  module _ (h : ℕ) (hh : h < countAt 1 words) (r : Sizes) (log logtags : List ℕ) (starts maps : List (List ℕ)) (buckets : List ℕ) (L : Lands words (importT o (srcOf words n) types h) log₀ logtags₀ starts₀ maps₀ buckets₀ e₀ r log logtags starts maps buckets) where
+    abbrev S : Derived
+    S = stOf words log logtags starts maps special₀ r
 
     -- it does not fit
-    pub import-full : (f : St → St) → Grow (importT o (srcOf words n) types h S₀) (f S₀) → r .full ≡ true → Derives words f log₀ classes₀ starts₀ maps₀ marks₀ special₀ e₀ r log classes starts maps marks special₀
-    import-full f g q = full-derives words log₀ classes₀ starts₀ maps₀ marks₀ special₀ e₀ f r log classes starts maps marks special₀ q (over-grow _ g (L .over q special₀)) (L .below) (L .log-long) (L .tags-long) (L .marks-stay)
+    pub import-full : (f : Derived → Derived) → Grow (importT o (srcOf words n) types h S₀) (f S₀) → r .full ≡ true → Derives words f log₀ logtags₀ starts₀ maps₀ buckets₀ special₀ e₀ r log logtags starts maps buckets special₀
+    import-full f g q = full-derives words log₀ logtags₀ starts₀ maps₀ buckets₀ special₀ e₀ f r log logtags starts maps buckets special₀ q (over-grow _ g (L .over q special₀)) (L .below) (L .log-long) (L .tags-long) (L .marks-stay)
 
     module _ (q : r .full ≡ false) where
       many : getD (e₀ .counts) 1 0 ≤ getD (r .counts) 1 0
@@ -154,16 +154,16 @@ module _ (words tags : List ℕ) (n : ℕ) (src : Source words tags n) (o : ℕ)
       import-mapped =
           let a = import-trace o (srcOf words n) (wf words tags n src) types h S₀ (inside words tags n src 1 h (omega arith) hh) sized .1 in
           let b = rw (L .is q special₀) at a in
-          rw (type-map words log classes starts maps special₀ r h hh) at b
+          rw (type-map words log logtags starts maps special₀ r h hh) at b
 
       pub import-low : cell maps 1 h ≤ getD (r .counts) 1 0
       import-low = L .kept q .mapped 1 h (omega arith)
 
       -- it is the one derived for place k
-      pub put-derives : (f : St → St) (k : ℕ) → k < 3 → f S₀ ≡ putRay k h (importT o (srcOf words n) types h S₀) → Derives words f log₀ classes₀ starts₀ maps₀ marks₀ special₀ e₀ r log classes starts maps marks (set special₀ k (cell maps 1 h))
+      pub put-derives : (f : Derived → Derived) (k : ℕ) → k < 3 → f S₀ ≡ putRay k h (importT o (srcOf words n) types h S₀) → Derives words f log₀ logtags₀ starts₀ maps₀ buckets₀ special₀ e₀ r log logtags starts maps buckets (set special₀ k (cell maps 1 h))
       put-derives f k hk is = record {
         over = λ z. absurd (false≢true (sym q ∙ z));
-        is = λ z. is ∙ ap (putRay k h) (L .is q special₀) ∙ put-ray-is words log classes starts maps special₀ r h hh k hk (P₀ .special-long);
+        is = λ z. is ∙ ap (putRay k h) (L .is q special₀) ∙ put-ray-is words log logtags starts maps special₀ r h hh k hk (P₀ .special-long);
         kept = λ z. L .kept q;
         specials = λ z. specials-ray special₀ r k (cell maps 1 h) import-specials hk import-low;
         aside = λ z. aside-of (L .beside q);
@@ -175,39 +175,39 @@ module _ (words tags : List ℕ) (n : ℕ) (src : Source words tags n) (o : ℕ)
       }
 
       -- it is the one derived for a key
-      module _ (f : St → St) (key : ℕ) (is : f S₀ ≡ putPair key h (importT o (srcOf words n) types h S₀)) where
+      module _ (f : Derived → Derived) (key : ℕ) (is : f S₀ ≡ putPair key h (importT o (srcOf words n) types h S₀)) where
         at-end : f S₀ ≡ putPair key h S
         at-end = is ∙ ap (putPair key h) (L .is q special₀)
 
-        entries : sizeR (tableOf log classes starts (r .counts) 7) ≡ sizeR (tableOf log₀ classes₀ starts₀ (e₀ .counts) 7)
+        entries : sizeR (tableOf log logtags starts (r .counts) 7) ≡ sizeR (tableOf log₀ logtags₀ starts₀ (e₀ .counts) 7)
         entries =
             rw (L .beside q .entries-same .0, L .beside q .entries-same .1)
-            (ap sizeR (table-stays log₀ classes₀ log classes starts₀ maps₀ marks₀ marks e₀ K₀ (L .below) (L .log-long) (L .tags-long) (L .marks-stay) 7 (omega arith)))
+            (ap sizeR (table-stays log₀ logtags₀ log logtags starts₀ maps₀ buckets₀ buckets e₀ K₀ (L .below) (L .log-long) (L .tags-long) (L .marks-stay) 7 (omega arith)))
 
         key-long : length (putPair key h S .special .pairs) ≡ suc (r .pairs)
         unfolding putPair withSpecial stOf specialOf
         key-long = length-append (pairsAt special₀ 3 (r .pairs)) _ ∙ rw (pairs-long special₀ (r .pairs) 3) (omega arith)
 
         -- there are 512 keys
-        pub key-many : r .pairs ≡ 512 → (r′ : Ends) → r′ .full ≡ true → Derives words f log₀ classes₀ starts₀ maps₀ marks₀ special₀ e₀ r′ log classes starts maps marks special₀
-        key-many p r′ q′ = let k = key-long in full-derives words log₀ classes₀ starts₀ maps₀ marks₀ special₀ e₀ f r′ log classes starts maps marks special₀ q′ (keys (rw at-end (omega arith))) (L .below) (L .log-long) (L .tags-long) (L .marks-stay)
+        pub key-many : r .pairs ≡ 512 → (r′ : Sizes) → r′ .full ≡ true → Derives words f log₀ logtags₀ starts₀ maps₀ buckets₀ special₀ e₀ r′ log logtags starts maps buckets special₀
+        key-many p r′ q′ = let k = key-long in full-derives words log₀ logtags₀ starts₀ maps₀ buckets₀ special₀ e₀ f r′ log logtags starts maps buckets special₀ q′ (keys (rw at-end (omega arith))) (L .below) (L .log-long) (L .tags-long) (L .marks-stay)
 
         -- the image has no room
         key-words : wordsOf (putPair key h S) ≡ 2 + wordsOf S
         unfolding wordsOf putPair withSpecial
         key-words = let l = length-append (S .special .pairs) (((KEY, key) ∷ (TYPE, pred (mapAt (S .maps) types h)) ∷ []) ∷ []) in omega arith
 
-        pub key-left : (room : ℕ) → room + (23 + 2 * r .pairs + r .used) ≡ 16384 → room < 2 → (r′ : Ends) → r′ .full ≡ true → Derives words f log₀ classes₀ starts₀ maps₀ marks₀ special₀ e₀ r′ log classes starts maps marks special₀
+        pub key-left : (room : ℕ) → room + (23 + 2 * r .pairs + r .loglen) ≡ 16384 → room < 2 → (r′ : Sizes) → r′ .full ≡ true → Derives words f log₀ logtags₀ starts₀ maps₀ buckets₀ special₀ e₀ r′ log logtags starts maps buckets special₀
         key-left room hr lt r′ q′ =
-            let w = words-are log classes starts maps marks r (L .kept q) words special₀ in
+            let w = words-are log logtags starts maps buckets r (L .kept q) words special₀ in
             let k = key-words in
             let s = entries in
-            full-derives words log₀ classes₀ starts₀ maps₀ marks₀ special₀ e₀ f r′ log classes starts maps marks special₀ q′ (long (rw (at-end, ← entries) (omega arith))) (L .below) (L .log-long) (L .tags-long) (L .marks-stay)
+            full-derives words log₀ logtags₀ starts₀ maps₀ buckets₀ special₀ e₀ f r′ log logtags starts maps buckets special₀ q′ (long (rw (at-end, ← entries) (omega arith))) (L .below) (L .log-long) (L .tags-long) (L .marks-stay)
 
         -- a pair more
-        pub key-derives : (r .pairs ≡ 512 → ⊥) → (room : ℕ) → room + (23 + 2 * r .pairs + r .used) ≡ 16384 → 2 ≤ room
-            → (r′ : Ends) → r′ ≡ record { full = false; used = r .used; counts = r .counts; pairs = r .pairs + 1; et = r .et; bt = r .bt; made = r .made }
-            → Derives words f log₀ classes₀ starts₀ maps₀ marks₀ special₀ e₀ r′ log classes starts maps marks (with-pair special₀ (r .pairs) key (cell maps 1 h - 1))
+        pub key-derives : (r .pairs ≡ 512 → ⊥) → (room : ℕ) → room + (23 + 2 * r .pairs + r .loglen) ≡ 16384 → 2 ≤ room
+            → (r′ : Sizes) → r′ ≡ record { full = false; loglen = r .loglen; counts = r .counts; pairs = r .pairs + 1; exprtop = r .exprtop; bodytop = r .bodytop; made = r .made }
+            → Derives words f log₀ logtags₀ starts₀ maps₀ buckets₀ special₀ e₀ r′ log logtags starts maps buckets (with-pair special₀ (r .pairs) key (cell maps 1 h - 1))
         key-derives ne room hr le r′ er =
             let few = L .kept q .few-pairs in
             let m = import-mapped in
@@ -216,9 +216,9 @@ module _ (words tags : List ℕ) (n : ℕ) (src : Source words tags n) (o : ℕ)
             let hp : r .pairs < 512 = omega arith in
             let b = aside-of (L .beside q) in
             record {
-              over = λ y. absurd (false≢true (sym (ap (λ (x : Ends). x .full) er) ∙ y));
-              is = λ y. at-end ∙ rw z (put-pair-is words log classes starts maps special₀ r h hh key hp (P₀ .special-long) r′ er);
-              kept = λ y. kept-paired log classes starts maps marks r (L .kept q) hp (omega arith) r′ er;
+              over = λ y. absurd (false≢true (sym (ap (λ (x : Sizes). x .full) er) ∙ y));
+              is = λ y. at-end ∙ rw z (put-pair-is words log logtags starts maps special₀ r h hh key hp (P₀ .special-long) r′ er);
+              kept = λ y. kept-paired log logtags starts maps buckets r (L .kept q) hp (omega arith) r′ er;
               specials = λ y. specials-pair special₀ r key (cell maps 1 h - 1) import-specials hp (omega arith) r′ er;
               aside = λ y. rw er (record { functions-same = b .functions-same; entries-same = b .entries-same; tops-same = b .tops-same });
               more = λ y. rw er (L .more q);

@@ -1,4 +1,4 @@
--- The type derived for a key, as the code seeks it among the words of the special types. Assumes nothing.
+-- The type derived for a key, as the code searches for it among the words of the special types.
 use mathlib.Core.Path.{_≡_, refl, sym, _∙_}
 use mathlib.Core.Bool.{Bool, true, false}
 use mathlib.Core.List.{List}
@@ -24,7 +24,7 @@ keyed-none : (ws : List ℕ) (i key : ℕ) → keyed (pairsAt ws i 0) key ≡ 0
 unfolding keyed pairsAt
 keyed-none ws i key = refl
 
--- the pairs behind those that have another key
+-- the pairs after those that have another key
 pub record Seeking (special : List ℕ) (n key i : ℕ) : Type 0 where
   pub low : i ≤ n
   pub rest : keyed (pairsAt special (3 + 2 * i) (n - i)) key ≡ keyed (pairsAt special 3 n) key

@@ -1,5 +1,5 @@
 -- The special types of the source as its words hold them: three optional types where their section starts, then the pairs; and their numbers are types of the
--- source. Assumes nothing.
+-- source.
 use mathlib.Core.Path.{_≡_, refl, sym, ap, ap₂, _∙_}
 use mathlib.Core.Bool.{true}
 use mathlib.Core.List.{List, [], _∷_}
@@ -9,6 +9,7 @@ use native.Mathlib.Omega.{arith}
 use lib.Dec.{ltb}
 use lib.ListN.{length, getD}
 use borrow.Author.Tests.{ltb-true}
+use Rattle.theory_lists.specs.Booleans.{and-split}
 use Rattle.model.specs.Outcome.{Cells, word}
 use Rattle.model.specs.Table.{OPT-TYPE, KEY, TYPE}
 use Rattle.model.specs.Tree.{flatAll}
@@ -16,7 +17,6 @@ use Rattle.model.specs.Module.{Module, pairRow, countAt, offsetAt, endAt, flatS
 use Rattle.model.specs.Carry.{Lays, Each, each-none, each-next}
 use Rattle.model.specs.Numbers.{bound, caps, below as under, within, outside}
 use Rattle.model.specs.Tables.{types, at, tables, count}
-use Rattle.theory_image.specs.Lists.{and-split}
 use Rattle.theory_image.specs.Plain.{plain?, plain-start}
 use Rattle.theory_image.specs.Sections.{start-end}
 use Rattle.theory_image.specs.Quiet.{Plainly, plain-none, plain-next, plainly}

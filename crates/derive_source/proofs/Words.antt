@@ -1,4 +1,4 @@
--- The words of the special types: a place that is set, a pair more, and what the model makes of the state then. Assumes nothing.
+-- The words of the special types: a place that is set, a pair more, and what the model makes of the state then.
 use mathlib.Core.Path.{_≡_, refl, sym, ap, ap₂, _∙_}
 use mathlib.Core.Bool.{false}
 use mathlib.Core.List.{List, [], _∷_, _++_}
@@ -14,12 +14,12 @@ use Rattle.model.specs.Tables.{types, codeT, Maps, mapAt}
 use Rattle.model.specs.Special.{force, withSpecial, putRay, putPair}
 use Rattle.derive_state.specs.Refers.{tabOf}
 use Rattle.derive_state.specs.Flats.{pairsAt, specialOf}
-use Rattle.derive_state.specs.Held.{cell, put, recsOf, functionsOf, stOf, Kept}
-use Rattle.derive_state.specs.declared.Ends.{Ends}
+use Rattle.derive_state.specs.Held.{cell, put, recsOf, functionsOf, stOf, ValidArrays}
+use Rattle.derive_state.specs.declared.Sizes.{Sizes}
 use Rattle.derive_state.proofs.State.{maps-put}
 use Rattle.derive_types.proofs.Turns.{map-is}
 
--- ---- words elsewhere play no part
+-- ---- words elsewhere do not matter
 pairs-apart : (ws : List ℕ) (k v n i : ℕ) → ((j : ℕ) → i ≤ j → j < i + 2 * n → j ≡ k → ⊥) → pairsAt (set ws k v) i n ≡ pairsAt ws i n
 unfolding pairsAt
 pairs-apart ws k v zero i h = refl
@@ -81,36 +81,36 @@ special-pair special n key v h l =
         rw (a, b)
 
 -- ---- what the model makes of the state
-module _ (words log tags : List ℕ) (starts maps : List (List ℕ)) (special : List ℕ) (e : Ends) (n : ℕ) (hn : n < countAt 1 words) where
-  pub force-is : (v : ℕ) → length maps ≡ 6 → force n v (stOf words log tags starts maps special e) ≡ stOf words log tags starts (put maps 1 n v) special e
+module _ (words log logtags : List ℕ) (starts maps : List (List ℕ)) (special : List ℕ) (e : Sizes) (n : ℕ) (hn : n < countAt 1 words) where
+  pub force-is : (v : ℕ) → length maps ≡ 6 → force n v (stOf words log logtags starts maps special e) ≡ stOf words log logtags starts (put maps 1 n v) special e
   unfolding force stOf tabOf
   force-is v h =
-      ap (λ (m : Maps). record { recs = recsOf log tags starts (e .counts); maps = m; functions = functionsOf log tags starts (e .counts); special = specialOf special (e .pairs) })
+      ap (λ (m : Maps). record { recs = recsOf log logtags starts (e .counts); maps = m; functions = functionsOf log logtags starts (e .counts); special = specialOf special (e .pairs) })
       (maps-put words maps 1 n v (omega arith) h hn)
 
-  pub type-map : mapAt ((stOf words log tags starts maps special e) .maps) types n ≡ cell maps 1 n
+  pub type-map : mapAt ((stOf words log logtags starts maps special e) .maps) types n ≡ cell maps 1 n
   unfolding codeT
-  type-map = map-is words log tags starts maps special e types n hn
+  type-map = map-is words log logtags starts maps special e types n hn
 
-  pub put-ray-is : (k : ℕ) → k < 3 → length special ≡ 1027 → putRay k n (stOf words log tags starts maps special e) ≡ stOf words log tags starts maps (set special k (cell maps 1 n)) e
+  pub put-ray-is : (k : ℕ) → k < 3 → length special ≡ 1027 → putRay k n (stOf words log logtags starts maps special e) ≡ stOf words log logtags starts maps (set special k (cell maps 1 n)) e
   unfolding putRay withSpecial stOf
   put-ray-is k h l =
-      ap (λ (v : ℕ). withSpecial (record { rays = set (specialOf special (e .pairs) .rays) k (OPT-TYPE, v); pairs = specialOf special (e .pairs) .pairs }) (stOf words log tags starts maps special e)) type-map
-      ∙ ap (λ (p : Special). withSpecial p (stOf words log tags starts maps special e)) (special-ray special (e .pairs) k (cell maps 1 n) h l)
+      ap (λ (v : ℕ). withSpecial (record { rays = set (specialOf special (e .pairs) .rays) k (OPT-TYPE, v); pairs = specialOf special (e .pairs) .pairs }) (stOf words log logtags starts maps special e)) type-map
+      ∙ ap (λ (p : Special). withSpecial p (stOf words log logtags starts maps special e)) (special-ray special (e .pairs) k (cell maps 1 n) h l)
 
-  pub put-pair-is : (key : ℕ) → e .pairs < 512 → length special ≡ 1027 → (r : Ends) → r ≡ record { full = false; used = e .used; counts = e .counts; pairs = e .pairs + 1; et = e .et; bt = e .bt; made = e .made }
-      → putPair key n (stOf words log tags starts maps special e) ≡ stOf words log tags starts maps (with-pair special (e .pairs) key (pred (cell maps 1 n))) r
+  pub put-pair-is : (key : ℕ) → e .pairs < 512 → length special ≡ 1027 → (r : Sizes) → r ≡ record { full = false; loglen = e .loglen; counts = e .counts; pairs = e .pairs + 1; exprtop = e .exprtop; bodytop = e .bodytop; made = e .made }
+      → putPair key n (stOf words log logtags starts maps special e) ≡ stOf words log logtags starts maps (with-pair special (e .pairs) key (pred (cell maps 1 n))) r
   unfolding putPair withSpecial stOf
   put-pair-is key h l r er =
-      ap (λ (v : ℕ). withSpecial (record { rays = specialOf special (e .pairs) .rays; pairs = specialOf special (e .pairs) .pairs ++ (((KEY, key) ∷ (TYPE, pred v) ∷ []) ∷ []) }) (stOf words log tags starts maps special e)) type-map
-      ∙ ap (λ (p : Special). withSpecial p (stOf words log tags starts maps special e)) (special-pair special (e .pairs) key (pred (cell maps 1 n)) h l)
-      ∙ ap (λ (m : ℕ). withSpecial (specialOf (with-pair special (e .pairs) key (pred (cell maps 1 n))) m) (stOf words log tags starts maps special e)) (sym (add-one (e .pairs)))
-      ∙ ap (λ (x : Ends). stOf words log tags starts maps (with-pair special (e .pairs) key (pred (cell maps 1 n))) x) (sym er)
+      ap (λ (v : ℕ). withSpecial (record { rays = specialOf special (e .pairs) .rays; pairs = specialOf special (e .pairs) .pairs ++ (((KEY, key) ∷ (TYPE, pred v) ∷ []) ∷ []) }) (stOf words log logtags starts maps special e)) type-map
+      ∙ ap (λ (p : Special). withSpecial p (stOf words log logtags starts maps special e)) (special-pair special (e .pairs) key (pred (cell maps 1 n)) h l)
+      ∙ ap (λ (m : ℕ). withSpecial (specialOf (with-pair special (e .pairs) key (pred (cell maps 1 n))) m) (stOf words log logtags starts maps special e)) (sym (add-one (e .pairs)))
+      ∙ ap (λ (x : Sizes). stOf words log logtags starts maps (with-pair special (e .pairs) key (pred (cell maps 1 n))) x) (sym er)
 
 -- ---- one pair more fits
-pub kept-paired : (log tags : List ℕ) (starts maps : List (List ℕ)) (marks : List ℕ) (e : Ends) → Kept log tags starts maps marks e → e .pairs < 512 → 23 + 2 * (e .pairs + 1) + e .used ≤ 16384
-    → (r : Ends) → r ≡ record { full = false; used = e .used; counts = e .counts; pairs = e .pairs + 1; et = e .et; bt = e .bt; made = e .made } → Kept log tags starts maps marks r
-kept-paired log tags starts maps marks e K h fits r er = rw er (record {
+pub kept-paired : (log logtags : List ℕ) (starts maps : List (List ℕ)) (buckets : List ℕ) (e : Sizes) → ValidArrays log logtags starts maps buckets e → e .pairs < 512 → 23 + 2 * (e .pairs + 1) + e .loglen ≤ 16384
+    → (r : Sizes) → r ≡ record { full = false; loglen = e .loglen; counts = e .counts; pairs = e .pairs + 1; exprtop = e .exprtop; bodytop = e .bodytop; made = e .made } → ValidArrays log logtags starts maps buckets r
+kept-paired log logtags starts maps buckets e K h fits r er = rw er (record {
   room = fits;
   few = K .few;
   few-functions = K .few-functions;

@@ -5,12 +5,21 @@ use base_views::SPECIAL;
 use base_views::TYPES;
 use base_views::count;
 use base_views::pair_at;
+use base_words::Tags;
+use base_words::Words;
 use base_words::wide;
 use derive_rollback::restore;
-use derive_state::Ends;
-use derive_state::forget;
-use derive_state::left;
-use derive_state::refuse;
+use derive_state::Buckets;
+use derive_state::Log;
+use derive_state::LogTags;
+use derive_state::Maps;
+use derive_state::Sizes;
+use derive_state::Special;
+use derive_state::Starts;
+use derive_state::Targets;
+use derive_state::clear_maps;
+use derive_state::mark_full;
+use derive_state::words_left;
 use derive_types::import_type;
 ghost use mathlib.Core.Path.{_≡_};
 ghost use mathlib.Core.Bool.{true, false};
@@ -18,14 +27,14 @@ ghost use Prim.Native.Nat.{_+_, _≤_, _<_};
 ghost use lib.ListN.{length, replicate};
 ghost use Rattle.model.specs.Module.{countAt};
 ghost use Rattle.model.specs.Special.{ray as rayOf, rays as raysOf, keyed, pairs as pairsOf};
-ghost use Rattle.derive_state.specs.Refers.{kindBytes};
+ghost use Rattle.derive_state.specs.Refers.{targetBytes};
 ghost use Rattle.derive_state.specs.Flats.{pairsAt};
 ghost use Rattle.derive_state.specs.Source.{modOf, srcOf, Source};
-ghost use Rattle.derive_state.specs.Held.{Kept, Specials};
+ghost use Rattle.derive_state.specs.Held.{ValidArrays, Specials};
 ghost use Rattle.derive_source.specs.Derives.{pairOf, Derives, Sourced, SourceSet, Replaced};
 
 // The type derived for a key among n pairs: 0 for none, else its number plus 1.
-fn derived(special: &[u32; 1027], n: usize, key: u32) -> usize
+fn derived(special: &Special, n: usize, key: u32) -> usize
     requires { ⌜ (n ≤ 512) × (length (now special) ≡ 1027) ⌝ }
     ensures { λ r. ⌜ r ≡ keyed (pairsAt (now (special .entry)) 3 n) key ⌝ }
 {
@@ -40,46 +49,46 @@ fn derived(special: &[u32; 1027], n: usize, key: u32) -> usize
     0
 }
 
-// One pair more.
-fn paired(e: Ends) -> Ends
+// The sizes with one pair more.
+fn paired(e: Sizes) -> Sizes
     requires { ⌜ e .pairs < 512 ⌝ }
-    ensures { λ r. ⌜ r ≡ record { full = false; used = e .used; counts = e .counts; pairs = e .pairs + 1; et = e .et; bt = e .bt; made = e .made } ⌝ }
+    ensures { λ r. ⌜ r ≡ record { full = false; loglen = e .loglen; counts = e .counts; pairs = e .pairs + 1; exprtop = e .exprtop; bodytop = e .bodytop; made = e .made } ⌝ }
 {
     let c = e.counts;
-    Ends {
+    Sizes {
         full: false,
-        used: e.used,
+        loglen: e.loglen,
         counts: c,
         pairs: (e.pairs as usize + 1) as u16,
-        et: e.et,
-        bt: e.bt,
+        exprtop: e.exprtop,
+        bodytop: e.bodytop,
         made: e.made,
     }
 }
 
-// The source's optional type w, for place k of the three.
+// Derives the source's optional type w, for place k of the three.
 fn ray(
-    words: &[u32; 16384],
-    tags: &[u8; 16384],
-    kinds: &[u8; 256],
+    words: &Words,
+    tags: &Tags,
+    targets: &Targets,
     n: usize,
-    log: &mut [u32; 16384],
-    classes: &mut [u8; 16384],
-    starts: &mut [[u32; 512]; 8],
-    maps: &mut [[u32; 512]; 6],
-    marks: &mut [u16; 16384],
-    special: &mut [u32; 1027],
-    ends: Ends,
+    log: &mut Log,
+    logtags: &mut LogTags,
+    starts: &mut Starts,
+    maps: &mut Maps,
+    buckets: &mut Buckets,
+    special: &mut Special,
+    ends: Sizes,
     offset: u32,
     k: usize,
     w: u32,
-) -> Ends
+) -> Sizes
     requires { ⌜ Source (now words) (now tags) n ⌝ }
     requires { ⌜ (k < 3) × (w ≤ countAt 1 (now words)) × (ends .full ≡ false) ⌝ }
-    requires { ⌜ now kinds ≡ kindBytes ⌝ }
-    requires { ⌜ Kept (now log) (now classes) (now starts) (now maps) (now marks) ends ⌝ }
+    requires { ⌜ now targets ≡ targetBytes ⌝ }
+    requires { ⌜ ValidArrays (now log) (now logtags) (now starts) (now maps) (now buckets) ends ⌝ }
     requires { ⌜ Specials (now special) ends ⌝ }
-    ensures { λ r. ⌜ Derives (now (words .entry)) (rayOf w k offset (srcOf (now (words .entry)) n)) (now (log .entry)) (now (classes .entry)) (now (starts .entry)) (now (maps .entry)) (now (marks .entry)) (now (special .entry)) ends r (now (log .exit)) (now (classes .exit)) (now (starts .exit)) (now (maps .exit)) (now (marks .exit)) (now (special .exit)) ⌝ }
+    ensures { λ r. ⌜ Derives (now (words .entry)) (rayOf w k offset (srcOf (now (words .entry)) n)) (now (log .entry)) (now (logtags .entry)) (now (starts .entry)) (now (maps .entry)) (now (buckets .entry)) (now (special .entry)) ends r (now (log .exit)) (now (logtags .exit)) (now (starts .exit)) (now (maps .exit)) (now (buckets .exit)) (now (special .exit)) ⌝ }
 {
     if w == 0 {
         return ends;
@@ -94,13 +103,13 @@ fn ray(
     let got = import_type(
         words,
         tags,
-        kinds,
+        targets,
         n,
         log,
-        classes,
+        logtags,
         starts,
         maps,
-        marks,
+        buckets,
         ends,
         offset,
         TypeHandle(h),
@@ -112,27 +121,27 @@ fn ray(
     got
 }
 
-// The three optional types.
+// Derives the three optional types.
 fn rays(
-    words: &[u32; 16384],
-    tags: &[u8; 16384],
-    kinds: &[u8; 256],
+    words: &Words,
+    tags: &Tags,
+    targets: &Targets,
     n: usize,
-    log: &mut [u32; 16384],
-    classes: &mut [u8; 16384],
-    starts: &mut [[u32; 512]; 8],
-    maps: &mut [[u32; 512]; 6],
-    marks: &mut [u16; 16384],
-    special: &mut [u32; 1027],
-    ends: Ends,
+    log: &mut Log,
+    logtags: &mut LogTags,
+    starts: &mut Starts,
+    maps: &mut Maps,
+    buckets: &mut Buckets,
+    special: &mut Special,
+    ends: Sizes,
     offset: u32,
-) -> Ends
+) -> Sizes
     requires { ⌜ Source (now words) (now tags) n ⌝ }
     requires { ⌜ ends .full ≡ false ⌝ }
-    requires { ⌜ now kinds ≡ kindBytes ⌝ }
-    requires { ⌜ Kept (now log) (now classes) (now starts) (now maps) (now marks) ends ⌝ }
+    requires { ⌜ now targets ≡ targetBytes ⌝ }
+    requires { ⌜ ValidArrays (now log) (now logtags) (now starts) (now maps) (now buckets) ends ⌝ }
     requires { ⌜ Specials (now special) ends ⌝ }
-    ensures { λ r. ⌜ Derives (now (words .entry)) (raysOf (modOf (now (words .entry)) n .special .rays) 0 offset (srcOf (now (words .entry)) n)) (now (log .entry)) (now (classes .entry)) (now (starts .entry)) (now (maps .entry)) (now (marks .entry)) (now (special .entry)) ends r (now (log .exit)) (now (classes .exit)) (now (starts .exit)) (now (maps .exit)) (now (marks .exit)) (now (special .exit)) ⌝ }
+    ensures { λ r. ⌜ Derives (now (words .entry)) (raysOf (modOf (now (words .entry)) n .special .rays) 0 offset (srcOf (now (words .entry)) n)) (now (log .entry)) (now (logtags .entry)) (now (starts .entry)) (now (maps .entry)) (now (buckets .entry)) (now (special .entry)) ends r (now (log .exit)) (now (logtags .exit)) (now (starts .exit)) (now (maps .exit)) (now (buckets .exit)) (now (special .exit)) ⌝ }
 {
     let at = base_views::offset(words, SPECIAL);
     let mut e = ends;
@@ -143,13 +152,13 @@ fn rays(
         e = ray(
             words,
             tags,
-            kinds,
+            targets,
             n,
             log,
-            classes,
+            logtags,
             starts,
             maps,
-            marks,
+            buckets,
             special,
             e,
             offset,
@@ -163,29 +172,29 @@ fn rays(
     e
 }
 
-// The source's type h, for a key.
+// Derives the source's type h, for a key.
 fn pair(
-    words: &[u32; 16384],
-    tags: &[u8; 16384],
-    kinds: &[u8; 256],
+    words: &Words,
+    tags: &Tags,
+    targets: &Targets,
     n: usize,
-    log: &mut [u32; 16384],
-    classes: &mut [u8; 16384],
-    starts: &mut [[u32; 512]; 8],
-    maps: &mut [[u32; 512]; 6],
-    marks: &mut [u16; 16384],
-    special: &mut [u32; 1027],
-    ends: Ends,
+    log: &mut Log,
+    logtags: &mut LogTags,
+    starts: &mut Starts,
+    maps: &mut Maps,
+    buckets: &mut Buckets,
+    special: &mut Special,
+    ends: Sizes,
     offset: u32,
     key: u32,
     h: TypeHandle,
-) -> Ends
+) -> Sizes
     requires { ⌜ Source (now words) (now tags) n ⌝ }
     requires { ⌜ (h .0 < countAt 1 (now words)) × (ends .full ≡ false) ⌝ }
-    requires { ⌜ now kinds ≡ kindBytes ⌝ }
-    requires { ⌜ Kept (now log) (now classes) (now starts) (now maps) (now marks) ends ⌝ }
+    requires { ⌜ now targets ≡ targetBytes ⌝ }
+    requires { ⌜ ValidArrays (now log) (now logtags) (now starts) (now maps) (now buckets) ends ⌝ }
     requires { ⌜ Specials (now special) ends ⌝ }
-    ensures { λ r. ⌜ Derives (now (words .entry)) (pairOf key (h .0) offset (srcOf (now (words .entry)) n)) (now (log .entry)) (now (classes .entry)) (now (starts .entry)) (now (maps .entry)) (now (marks .entry)) (now (special .entry)) ends r (now (log .exit)) (now (classes .exit)) (now (starts .exit)) (now (maps .exit)) (now (marks .exit)) (now (special .exit)) ⌝ }
+    ensures { λ r. ⌜ Derives (now (words .entry)) (pairOf key (h .0) offset (srcOf (now (words .entry)) n)) (now (log .entry)) (now (logtags .entry)) (now (starts .entry)) (now (maps .entry)) (now (buckets .entry)) (now (special .entry)) ends r (now (log .exit)) (now (logtags .exit)) (now (starts .exit)) (now (maps .exit)) (now (buckets .exit)) (now (special .exit)) ⌝ }
 {
     let i = wide(h.0);
     let v = derived(special, ends.pairs as usize, key);
@@ -196,13 +205,13 @@ fn pair(
     let got = import_type(
         words,
         tags,
-        kinds,
+        targets,
         n,
         log,
-        classes,
+        logtags,
         starts,
         maps,
-        marks,
+        buckets,
         ends,
         offset,
         h,
@@ -212,37 +221,37 @@ fn pair(
     }
     let p = got.pairs as usize;
     if p == 512 {
-        return refuse(got);
+        return mark_full(got);
     }
-    if left(got) < 2 {
-        return refuse(got);
+    if words_left(got) < 2 {
+        return mark_full(got);
     }
     special[3 + 2 * p] = key;
     special[4 + 2 * p] = maps[TYPES][i] - 1;
     paired(got)
 }
 
-// The pairs.
+// Derives the pairs.
 fn pairs(
-    words: &[u32; 16384],
-    tags: &[u8; 16384],
-    kinds: &[u8; 256],
+    words: &Words,
+    tags: &Tags,
+    targets: &Targets,
     n: usize,
-    log: &mut [u32; 16384],
-    classes: &mut [u8; 16384],
-    starts: &mut [[u32; 512]; 8],
-    maps: &mut [[u32; 512]; 6],
-    marks: &mut [u16; 16384],
-    special: &mut [u32; 1027],
-    ends: Ends,
+    log: &mut Log,
+    logtags: &mut LogTags,
+    starts: &mut Starts,
+    maps: &mut Maps,
+    buckets: &mut Buckets,
+    special: &mut Special,
+    ends: Sizes,
     offset: u32,
-) -> Ends
+) -> Sizes
     requires { ⌜ Source (now words) (now tags) n ⌝ }
     requires { ⌜ ends .full ≡ false ⌝ }
-    requires { ⌜ now kinds ≡ kindBytes ⌝ }
-    requires { ⌜ Kept (now log) (now classes) (now starts) (now maps) (now marks) ends ⌝ }
+    requires { ⌜ now targets ≡ targetBytes ⌝ }
+    requires { ⌜ ValidArrays (now log) (now logtags) (now starts) (now maps) (now buckets) ends ⌝ }
     requires { ⌜ Specials (now special) ends ⌝ }
-    ensures { λ r. ⌜ Derives (now (words .entry)) (pairsOf (modOf (now (words .entry)) n .special .pairs) offset (srcOf (now (words .entry)) n)) (now (log .entry)) (now (classes .entry)) (now (starts .entry)) (now (maps .entry)) (now (marks .entry)) (now (special .entry)) ends r (now (log .exit)) (now (classes .exit)) (now (starts .exit)) (now (maps .exit)) (now (marks .exit)) (now (special .exit)) ⌝ }
+    ensures { λ r. ⌜ Derives (now (words .entry)) (pairsOf (modOf (now (words .entry)) n .special .pairs) offset (srcOf (now (words .entry)) n)) (now (log .entry)) (now (logtags .entry)) (now (starts .entry)) (now (maps .entry)) (now (buckets .entry)) (now (special .entry)) ends r (now (log .exit)) (now (logtags .exit)) (now (starts .exit)) (now (maps .exit)) (now (buckets .exit)) (now (special .exit)) ⌝ }
 {
     let c = count(words, SPECIAL);
     let mut e = ends;
@@ -253,13 +262,13 @@ fn pairs(
         e = pair(
             words,
             tags,
-            kinds,
+            targets,
             n,
             log,
-            classes,
+            logtags,
             starts,
             maps,
-            marks,
+            buckets,
             special,
             e,
             offset,
@@ -273,39 +282,39 @@ fn pairs(
     e
 }
 
-// A source is set. What `maps` holds before is forgotten, so it may be anything: the state is asked for without them.
+// Sets a source. What `maps` holds before is cleared, so it may be anything: the requirement on the state leaves the maps out.
 pub fn source_types(
-    words: &[u32; 16384],
-    tags: &[u8; 16384],
-    kinds: &[u8; 256],
+    words: &Words,
+    tags: &Tags,
+    targets: &Targets,
     n: usize,
-    log: &mut [u32; 16384],
-    classes: &mut [u8; 16384],
-    starts: &mut [[u32; 512]; 8],
-    maps: &mut [[u32; 512]; 6],
-    marks: &mut [u16; 16384],
-    special: &mut [u32; 1027],
-    ends: Ends,
+    log: &mut Log,
+    logtags: &mut LogTags,
+    starts: &mut Starts,
+    maps: &mut Maps,
+    buckets: &mut Buckets,
+    special: &mut Special,
+    ends: Sizes,
     offset: u32,
-) -> Ends
+) -> Sizes
     requires { ⌜ Source (now words) (now tags) n ⌝ }
     requires { ⌜ ends .full ≡ false ⌝ }
-    requires { ⌜ now kinds ≡ kindBytes ⌝ }
-    requires { ⌜ Kept (now log) (now classes) (now starts) (replicate 6 (replicate 512 0)) (now marks) ends ⌝ }
+    requires { ⌜ now targets ≡ targetBytes ⌝ }
+    requires { ⌜ ValidArrays (now log) (now logtags) (now starts) (replicate 6 (replicate 512 0)) (now buckets) ends ⌝ }
     requires { ⌜ Specials (now special) ends ⌝ }
-    ensures { λ r. ⌜ Sourced (now (words .entry)) n offset (now (log .entry)) (now (classes .entry)) (now (starts .entry)) (now (marks .entry)) (now (special .entry)) ends r (now (log .exit)) (now (classes .exit)) (now (starts .exit)) (now (maps .exit)) (now (marks .exit)) (now (special .exit)) ⌝ }
+    ensures { λ r. ⌜ Sourced (now (words .entry)) n offset (now (log .entry)) (now (logtags .entry)) (now (starts .entry)) (now (buckets .entry)) (now (special .entry)) ends r (now (log .exit)) (now (logtags .exit)) (now (starts .exit)) (now (maps .exit)) (now (buckets .exit)) (now (special .exit)) ⌝ }
 {
-    forget(maps);
+    clear_maps(maps);
     let e = rays(
         words,
         tags,
-        kinds,
+        targets,
         n,
         log,
-        classes,
+        logtags,
         starts,
         maps,
-        marks,
+        buckets,
         special,
         ends,
         offset,
@@ -316,21 +325,21 @@ pub fn source_types(
     pairs(
         words,
         tags,
-        kinds,
+        targets,
         n,
         log,
-        classes,
+        logtags,
         starts,
         maps,
-        marks,
+        buckets,
         special,
         e,
         offset,
     )
 }
 
-// The special types as they were saved, where something did not fit.
-fn replace(special: &mut [u32; 1027], copy: &[u32; 1027], full: bool)
+// Restores the special types as they were saved, where something did not fit.
+fn replace(special: &mut Special, copy: &[u32; 1027], full: bool)
     ensures { λ _. ⌜ Replaced full (now (copy .entry)) (now (special .entry)) (now (special .exit)) ⌝ }
 {
     if full {
@@ -338,27 +347,27 @@ fn replace(special: &mut [u32; 1027], copy: &[u32; 1027], full: bool)
     }
 }
 
-// A source is set, or nothing has changed.
+// Sets a source, or, where it does not fit, changes nothing.
 pub fn set_source(
-    words: &[u32; 16384],
-    tags: &[u8; 16384],
-    kinds: &[u8; 256],
+    words: &Words,
+    tags: &Tags,
+    targets: &Targets,
     n: usize,
-    log: &mut [u32; 16384],
-    classes: &mut [u8; 16384],
-    starts: &mut [[u32; 512]; 8],
-    maps: &mut [[u32; 512]; 6],
-    marks: &mut [u16; 16384],
-    special: &mut [u32; 1027],
-    ends: Ends,
+    log: &mut Log,
+    logtags: &mut LogTags,
+    starts: &mut Starts,
+    maps: &mut Maps,
+    buckets: &mut Buckets,
+    special: &mut Special,
+    ends: Sizes,
     offset: u32,
-) -> Ends
+) -> Sizes
     requires { ⌜ Source (now words) (now tags) n ⌝ }
     requires { ⌜ ends .full ≡ false ⌝ }
-    requires { ⌜ now kinds ≡ kindBytes ⌝ }
-    requires { ⌜ Kept (now log) (now classes) (now starts) (now maps) (now marks) ends ⌝ }
+    requires { ⌜ now targets ≡ targetBytes ⌝ }
+    requires { ⌜ ValidArrays (now log) (now logtags) (now starts) (now maps) (now buckets) ends ⌝ }
     requires { ⌜ Specials (now special) ends ⌝ }
-    ensures { λ r. ⌜ SourceSet (now (words .entry)) n offset (now (log .entry)) (now (classes .entry)) (now (starts .entry)) (now (maps .entry)) (now (special .entry)) ends r (now (log .exit)) (now (classes .exit)) (now (starts .exit)) (now (maps .exit)) (now (marks .exit)) (now (special .exit)) ⌝ }
+    ensures { λ r. ⌜ SourceSet (now (words .entry)) n offset (now (log .entry)) (now (logtags .entry)) (now (starts .entry)) (now (maps .entry)) (now (special .entry)) ends r (now (log .exit)) (now (logtags .exit)) (now (starts .exit)) (now (maps .exit)) (now (buckets .exit)) (now (special .exit)) ⌝ }
 {
     let s = *starts;
     let m = *maps;
@@ -366,13 +375,13 @@ pub fn set_source(
     let got = source_types(
         words,
         tags,
-        kinds,
+        targets,
         n,
         log,
-        classes,
+        logtags,
         starts,
         maps,
-        marks,
+        buckets,
         special,
         ends,
         offset,

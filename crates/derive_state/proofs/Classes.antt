@@ -1,4 +1,4 @@
--- What the classes refer to, and what becomes of their words. Assumes nothing.
+-- What the classes refer to, and what becomes of their words.
 use mathlib.Core.Path.{_≡_, refl, sym, ap, _∙_}
 use mathlib.Core.Bool.{Bool, true, false, _&&_}
 use mathlib.Core.List.{List, []}
@@ -7,13 +7,14 @@ use native.Mathlib.Omega.{arith}
 use lib.Dec.{eqb, ltb}
 use lib.ListN.{length, getD, List·getD-eq-default}
 use borrow.Author.Tests.{eqb-true, eqb-false, eq-eqb, ne-eqb, lt-ltb, ltb-true, ltb-false}
+use Rattle.theory_lists.specs.Booleans.{and-split}
 use Rattle.model.specs.Outcome.{word}
-use Rattle.model.specs.Tables.{Tab, names, types, constants, overrides, globals, exprs, codeT}
+use Rattle.model.specs.Tables.{codeT}
 use Rattle.model.specs.References.{Place, table, own, function, Target, copied, start, upto, ref, opt, targets, target, refOf, carryW, through, undefined, add, undefinedAt, moved, alikeC}
+use Rattle.derive_state.proofs.State.{code-low}
 use Rattle.theory_records.specs.RecordLaws.{All, bareW}
 use Rattle.theory_records.specs.Kinds.{far-copied}
-use Rattle.theory_image.specs.Lists.{and-split}
-use Rattle.derive_state.specs.Refers.{codeP, kindOf, kindsFrom, kindBytes, wentR, Small}
+use Rattle.derive_state.specs.Refers.{codeP, targetOf, targetsFrom, targetBytes, wentR, Small}
 
 -- ---- a value that a function has on a range of numbers
 abbrev pub agrees : (ℕ → ℕ) → ℕ → ℕ → ℕ → Bool
@@ -30,12 +31,12 @@ span-of f v lo (suc n) e s a b =
     go true p here there = rw (eqb-true s lo p) here
     go false p here there = there (omega (arith, eqb-false s lo p))
 
--- ---- the table of kinds
-kinds-from : (n lo s : ℕ) → s < n → getD (kindsFrom lo n) s 0 ≡ kindOf (target (lo + s))
-unfolding kindsFrom
-kinds-from zero lo s h = absurd (omega arith)
-kinds-from (suc n) lo zero h = let z : lo + 0 ≡ lo = omega arith in rw z
-kinds-from (suc n) lo (suc s) h = let z : lo + suc s ≡ suc lo + s = omega arith in rw z (kinds-from n (suc lo) s (omega arith))
+-- ---- the table of targets
+targets-from : (n lo s : ℕ) → s < n → getD (targetsFrom lo n) s 0 ≡ targetOf (target (lo + s))
+unfolding targetsFrom
+targets-from zero lo s h = absurd (omega arith)
+targets-from (suc n) lo zero h = let z : lo + 0 ≡ lo = omega arith in rw z
+targets-from (suc n) lo (suc s) h = let z : lo + suc s ≡ suc lo + s = omega arith in rw z (targets-from n (suc lo) s (omega arith))
 
 -- a test that holds on a range of numbers
 abbrev below : (ℕ → ℕ) → ℕ → ℕ → ℕ → Bool
@@ -52,25 +53,17 @@ below-at f v lo (suc n) e s a b =
     go true p here there = rw (eqb-true s lo p) here
     go false p here there = there (omega (arith, eqb-false s lo p))
 
-pub kind-small : (s : ℕ) → s < 256 → kindOf (target s) < 14
-unfolding kindOf codeP codeT target targets
-kind-small s h = below-at (λ s. kindOf (target s)) 14 0 256 refl s (omega arith) h
+pub kind-small : (s : ℕ) → s < 256 → targetOf (target s) < 14
+unfolding targetOf codeP codeT target targets
+kind-small s h = below-at (λ s. targetOf (target s)) 14 0 256 refl s (omega arith) h
 
-pub kind-is : (kinds : List ℕ) → kinds ≡ kindBytes → (s i : ℕ) → i ≡ s → i < 256 → (r : ℕ) → r ≡ getD kinds i 0 → (r ≡ kindOf (target s)) × (r < 14)
-unfolding kindBytes
+pub kind-is : (kinds : List ℕ) → kinds ≡ targetBytes → (s i : ℕ) → i ≡ s → i < 256 → (r : ℕ) → r ≡ getD kinds i 0 → (r ≡ targetOf (target s)) × (r < 14)
+unfolding targetBytes
 kind-is kinds e s i q h r is =
-    let a : r ≡ kindOf (target s) = is ∙ rw (e, q) (let z : 0 + s ≡ s = omega arith in rw z at (kinds-from 256 0 s (omega arith))) in
+    let a : r ≡ targetOf (target s) = is ∙ rw (e, q) (let z : 0 + s ≡ s = omega arith in rw z at (targets-from 256 0 s (omega arith))) in
     (a, rw a (kind-small s (omega arith)))
 
 -- ---- codes of places
-code-low : (t : Tab) → codeT t < 6
-unfolding codeT
-code-low names = omega arith
-code-low types = omega arith
-code-low constants = omega arith
-code-low overrides = omega arith
-code-low globals = omega arith
-code-low exprs = omega arith
 
 place-six : (p : Place) → codeP p ≡ 6 → ⊥
 unfolding codeP
@@ -84,49 +77,49 @@ place-top (table t) = omega (arith, code-low t)
 place-top own = omega arith
 place-top function = omega arith
 
--- ---- a word through the maps, by its kind
+-- ---- a word through the maps, by its target
 module _ (maps : List (List ℕ)) (six : length maps ≡ 6) where
-  none-W : (g : Target) (w : ℕ) → kindOf g ≡ 6 → w ≡ carryW (wentR maps) g w
-  unfolding kindOf carryW
+  none-W : (g : Target) (w : ℕ) → targetOf g ≡ 6 → w ≡ carryW (wentR maps) g w
+  unfolding targetOf carryW
   none-W copied w e = refl
   none-W start w e = refl
   none-W upto w e = refl
   none-W (ref p) w e = absurd (place-six p e)
   none-W (opt p) w e = absurd (omega arith)
 
-  function-W : (g : Target) (w : ℕ) → kindOf g ≡ 7 → 0 ≡ carryW (wentR maps) g w
-  unfolding kindOf carryW wentR
+  function-W : (g : Target) (w : ℕ) → targetOf g ≡ 7 → 0 ≡ carryW (wentR maps) g w
+  unfolding targetOf carryW wentR
   function-W copied w e = absurd (omega arith)
   function-W start w e = absurd (omega arith)
   function-W upto w e = absurd (omega arith)
   function-W (ref p) w e = rw (e, List·getD-eq-default maps [] {n = 7} (omega arith))
   function-W (opt p) w e = absurd (omega arith)
 
-  ref-W : (g : Target) (w : ℕ) → kindOf g < 6 → pred (getD (getD maps (kindOf g) []) w 0) ≡ carryW (wentR maps) g w
-  unfolding kindOf carryW wentR
+  ref-W : (g : Target) (w : ℕ) → targetOf g < 6 → pred (getD (getD maps (targetOf g) []) w 0) ≡ carryW (wentR maps) g w
+  unfolding targetOf carryW wentR
   ref-W copied w e = absurd (omega arith)
   ref-W start w e = absurd (omega arith)
   ref-W upto w e = absurd (omega arith)
   ref-W (ref p) w e = refl
   ref-W (opt p) w e = absurd (omega arith)
 
-  opt-W : (g : Target) (w : ℕ) → 8 ≤ kindOf g → carryW (wentR maps) g (suc w) ≡ getD (getD maps (kindOf g - 8) []) w 0
-  unfolding kindOf carryW wentR
+  opt-W : (g : Target) (w : ℕ) → 8 ≤ targetOf g → carryW (wentR maps) g (suc w) ≡ getD (getD maps (targetOf g - 8) []) w 0
+  unfolding targetOf carryW wentR
   opt-W copied w e = absurd (omega arith)
   opt-W start w e = absurd (omega arith)
   opt-W upto w e = absurd (omega arith)
   opt-W (ref p) w e = absurd (omega (arith, place-top p))
   opt-W (opt p) w e = let q : 8 + codeP p - 8 ≡ codeP p = omega arith in rw q
 
-  zero-W : (g : Target) → 8 ≤ kindOf g → 0 ≡ carryW (wentR maps) g 0
-  unfolding kindOf carryW
+  zero-W : (g : Target) → 8 ≤ targetOf g → 0 ≡ carryW (wentR maps) g 0
+  unfolding targetOf carryW
   zero-W copied e = absurd (omega arith)
   zero-W start e = absurd (omega arith)
   zero-W upto e = absurd (omega arith)
   zero-W (ref p) e = absurd (omega (arith, place-top p))
   zero-W (opt p) e = refl
 
-  module _ (s w u : ℕ) (is : u ≡ kindOf (target s)) where
+  module _ (s w u : ℕ) (is : u ≡ targetOf (target s)) where
     pub carried-none : u ≡ 6 → w ≡ through (wentR maps) s w
     unfolding through
     carried-none e = none-W (target s) w (sym is ∙ e)
@@ -154,26 +147,26 @@ module _ (maps : List (List ℕ)) (six : length maps ≡ 6) where
     carried-opt e z m h = let q : w ≡ suc (w - 1) = omega arith in rw h (sym (ap (carryW (wentR maps) (target s)) q ∙ opt-W (target s) (w - 1) (omega arith) ∙ rw (← is)))
 
 -- the numbers are small
-ref-small : (g : Target) (w : ℕ) → kindOf g < 6 → All Small (refOf g w []) → w < 512
-unfolding kindOf refOf
+ref-small : (g : Target) (w : ℕ) → targetOf g < 6 → All Small (refOf g w []) → w < 512
+unfolding targetOf refOf
 ref-small copied w e a = absurd (omega arith)
 ref-small start w e a = absurd (omega arith)
 ref-small upto w e a = absurd (omega arith)
 ref-small (ref p) w e a = a .0
 ref-small (opt p) w e a = absurd (omega arith)
 
-opt-small : (g : Target) (w : ℕ) → 8 ≤ kindOf g → All Small (refOf g (suc w) []) → w < 512
-unfolding kindOf refOf
+opt-small : (g : Target) (w : ℕ) → 8 ≤ targetOf g → All Small (refOf g (suc w) []) → w < 512
+unfolding targetOf refOf
 opt-small copied w e a = absurd (omega arith)
 opt-small start w e a = absurd (omega arith)
 opt-small upto w e a = absurd (omega arith)
 opt-small (ref p) w e a = absurd (omega (arith, place-top p))
 opt-small (opt p) w e a = a .0
 
-pub small-ref : (s w u : ℕ) → u ≡ kindOf (target s) → u < 6 → All Small (refOf (target s) w []) → w < 512
+pub small-ref : (s w u : ℕ) → u ≡ targetOf (target s) → u < 6 → All Small (refOf (target s) w []) → w < 512
 small-ref s w u is e a = ref-small (target s) w (omega arith) a
 
-pub small-opt : (s w u : ℕ) → u ≡ kindOf (target s) → 8 ≤ u → (w ≡ 0 → ⊥) → All Small (refOf (target s) w []) → w - 1 < 512
+pub small-opt : (s w u : ℕ) → u ≡ targetOf (target s) → 8 ≤ u → (w ≡ 0 → ⊥) → All Small (refOf (target s) w []) → w - 1 < 512
 small-opt s w u is e z a = let q : w ≡ suc (w - 1) = omega arith in opt-small (target s) (w - 1) (omega arith) (rw q at a)
 
 -- ---- spans

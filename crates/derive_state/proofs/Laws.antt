@@ -1,5 +1,5 @@
 -- What a good state gives to those who write it out: flat records read back are the functions and entry points that they came from, names' records have no names, and
--- the words of special types are theirs. Assumes nothing.
+-- the words of special types are theirs.
 use mathlib.Core.Path.{_≡_, refl, sym, ap, ap₂, _∙_}
 use mathlib.Core.Logic.{⊎-elim}
 use mathlib.Core.List.{List, [], _∷_, _++_, map, append-nil}
@@ -38,21 +38,21 @@ unfolding namesIn
 nameless-none each-none = refl
 nameless-none (each-next {a = c} f q) = rw (ne-eqb (class c) NAME f, namesIn) (nameless-none q)
 
-named-at : (tags words : List ℕ) (n i end : ℕ) → end ≤ length tags → end ≤ length words → (d : ℕ) → i + d ≡ end → Named n (between tags words i end) → (j : ℕ) → i ≤ j → j < end → getD tags j 0 ≡ NAME → getD words j 0 ≤ n
-named-at tags words n i end t w zero e q j a b c = absurd (omega arith)
-named-at tags words n i end t w (suc d) e q j a b c =
-    go (rw (between-next tags words i end (omega arith) t w) at q) (λ r h. named-at tags words n (suc i) end t w d (omega arith) r j h b c)
+named-at : (logtags words : List ℕ) (n i end : ℕ) → end ≤ length logtags → end ≤ length words → (d : ℕ) → i + d ≡ end → Named n (between logtags words i end) → (j : ℕ) → i ≤ j → j < end → getD logtags j 0 ≡ NAME → getD words j 0 ≤ n
+named-at logtags words n i end t w zero e q j a b c = absurd (omega arith)
+named-at logtags words n i end t w (suc d) e q j a b c =
+    go (rw (between-next logtags words i end (omega arith) t w) at q) (λ r h. named-at logtags words n (suc i) end t w d (omega arith) r j h b c)
   where
-    go : Named n ((getD tags i 0, getD words i 0) ∷ between tags words (suc i) end) → (Named n (between tags words (suc i) end) → suc i ≤ j → getD words j 0 ≤ n) → getD words j 0 ≤ n
+    go : Named n ((getD logtags i 0, getD words i 0) ∷ between logtags words (suc i) end) → (Named n (between logtags words (suc i) end) → suc i ≤ j → getD words j 0 ≤ n) → getD words j 0 ≤ n
     go (each-next f r) there = ⊎-elim
-        (λ (p : i ≡ j). let f′ : getD tags j 0 ≡ NAME → getD words j 0 ≤ n = rw p at f in f′ c)
+        (λ (p : i ≡ j). let f′ : getD logtags j 0 ≡ NAME → getD words j 0 ≤ n = rw p at f in f′ c)
         (λ (ne : i ≡ j → ⊥). there r (omega arith))
         (same-or i j)
 
 -- a name in a record, by its place in the log
-pub name-low : (log tags : List ℕ) (n s : ℕ) → length log ≡ 16384 → length tags ≡ 16384 → s + suc (getD log s 0) ≤ 16384 → Named n (recAt log tags s) → (i : ℕ) → s < i → i < suc s + getD log s 0 → getD tags i 0 ≡ NAME → getD log i 0 ≤ n
+pub name-low : (log logtags : List ℕ) (n s : ℕ) → length log ≡ 16384 → length logtags ≡ 16384 → s + suc (getD log s 0) ≤ 16384 → Named n (recAt log logtags s) → (i : ℕ) → s < i → i < suc s + getD log s 0 → getD logtags i 0 ≡ NAME → getD log i 0 ≤ n
 unfolding recAt
-name-low log tags n s hl ht h q i a b c = named-at tags log n (suc s) (suc s + getD log s 0) (omega arith) (omega arith) (getD log s 0) refl q i a b c
+name-low log logtags n s hl ht h q i a b c = named-at logtags log n (suc s) (suc s + getD log s 0) (omega arith) (omega arith) (getD log s 0) refl q i a b c
 
 -- ---- special types
 pairs-words : (ws : List ℕ) (n i : ℕ) → i + 2 * n ≤ length ws → map word (flatAll (pairsAt ws i n)) ≡ slice i (i + 2 * n) ws
@@ -75,6 +75,6 @@ special-words ws n h =
     rw (pairs-words ws n 3 h) (sym (a ∙ rw (b, c)))
 
 -- ---- arrays that hold no entry points
-pub none-held : (log tags : List ℕ) (starts : List (List ℕ)) (counts : List ℕ) → getD counts 7 0 ≡ 0 → (entriesOf log tags starts counts ≡ []) × (sizeR (tableOf log tags starts counts 7) ≡ 0)
+pub none-held : (log logtags : List ℕ) (starts : List (List ℕ)) (counts : List ℕ) → getD counts 7 0 ≡ 0 → (entriesOf log logtags starts counts ≡ []) × (sizeR (tableOf log logtags starts counts 7) ≡ 0)
 unfolding entriesOf sizeR recsAt
-none-held log tags starts counts e = (rw e, rw e)
+none-held log logtags starts counts e = (rw e, rw e)

@@ -1,4 +1,4 @@
--- The passes over words and tape: comparing, seeking, writing. Assumes nothing.
+-- The passes over words and tags: comparing, searching, writing.
 use mathlib.Core.Path.{_≡_, refl, sym, ap, ap₂, _∙_}
 use mathlib.Core.Bool.{Bool, true, false}
 use mathlib.Core.List.{List, [], _∷_, map}
@@ -11,7 +11,7 @@ use lib.Seq.{slice, sets, length-slice, drop-cons, length-take-le, getD-take}
 use Rattle.model.specs.Outcome.{Cells, Cell, class, word}
 use Rattle.model.specs.Between.{beside, between, Stretch}
 use Rattle.model.specs.Carry.{carryCell}
-use Rattle.model.specs.References.{Place, Target, copied, start, upto, ref, opt, target, Node, refOf, refs, through, firstWord, undefinedAt, moved, shift, alikeC, alike, seat}
+use Rattle.model.specs.References.{Place, Target, copied, start, upto, ref, opt, target, Node, refOf, refs, through, firstWord, undefinedAt, moved, shift, alikeC, alike, indexOf}
 use Rattle.theory_records.specs.RecordLaws.{All, rest-of, bareW, bare}
 use Rattle.intake_distinct.specs.Places.{mix, mixed}
 use Rattle.theory_image.specs.Betweens.{between-none, between-next}
@@ -20,7 +20,7 @@ use Rattle.derive_state.specs.Marks.{hashR}
 use Rattle.derive_state.specs.Held.{recAt, recsAt, Readable, carriedBy, Written}
 
 -- ---- stretches
-length-beside : (ss ws : List ℕ) → length ss ≡ length ws → length (beside ss ws) ≡ length ss
+pub length-beside : (ss ws : List ℕ) → length ss ≡ length ws → length (beside ss ws) ≡ length ss
 unfolding beside
 length-beside [] ws e = refl
 length-beside (s ∷ ss) [] e = absurd (omega arith)
@@ -71,26 +71,26 @@ unfolding firstWord
 following-none went tags words i end h = rw (carried-nothing went tags words i end h)
 
 -- a record's words but for the first
-pub read-next : (words tags kinds : List ℕ) (i end : ℕ) → Readable words tags kinds i end → i < end → Readable words tags kinds (i + 1) end
-read-next words tags kinds i end R h =
+pub read-next : (words tags targets : List ℕ) (i end : ℕ) → Readable words tags targets i end → i < end → Readable words tags targets (i + 1) end
+read-next words tags targets i end R h =
     let s = R .stretch in
     record {
       stretch = record { rising = omega arith; small = s .small; in-words = s .in-words; in-tags = s .in-tags };
       words-long = R .words-long;
       tags-long = R .tags-long;
       small = rw add-one (all-next tags words i end h (s .in-tags) (s .in-words) Small (R .small));
-      kinds-are = R .kinds-are;
+      targets-are = R .targets-are;
     }
 
 -- ---- hashing
-module _ (words tags kinds : List ℕ) (went : Place → ℕ → ℕ) (at end t : ℕ) where
+module _ (words tags targets : List ℕ) (went : Place → ℕ → ℕ) (at end t : ℕ) where
   pub record Hashing (h i : ℕ) : Type 0 where
     pub within : i ≤ end
     pub small : h < 2 ^ 24
-    pub readable : Readable words tags kinds i end
+    pub readable : Readable words tags targets i end
     pub left : mixed (map word (bare (carriedBy went tags words i end))) h ≡ hashR t (carriedBy went tags words at end)
 
-  pub hash-begin : Readable words tags kinds at end → t < 8 → Hashing t at
+  pub hash-begin : Readable words tags targets at end → t < 8 → Hashing t at
   unfolding hashR
   hash-begin R h = record { within = R .stretch .rising; small = omega arith; readable = R; left = refl }
 
@@ -109,7 +109,7 @@ module _ (words tags kinds : List ℕ) (went : Place → ℕ → ℕ) (at end t 
           let R = inv .readable in
           let c = carried-next tags words i end less (R .stretch .in-tags) (R .stretch .in-words) went in
           let a = rw c at (inv .left) in
-          record { within = omega arith; small = re .1; readable = read-next words tags kinds i end R less; left = rw (re .0, be, we, add-one i) a }
+          record { within = omega arith; small = re .1; readable = read-next words tags targets i end R less; left = rw (re .0, be, we, add-one i) a }
 
 -- ---- comparing
 alike-short : (a b : Cells) → (length a ≡ length b → ⊥) → alike a b ≡ false
@@ -124,19 +124,19 @@ alike-short (c ∷ cs) (d ∷ ds) ne = go (alikeC c d) (alike-short cs ds (λ e.
     go false e = refl
 
 -- words and classes from `from` to `to` with what the source's words from `at` to `end` become; P holds of what these refer to
-module _ (P : Node → Type 0) (words tags log classes : List ℕ) (went : Place → ℕ → ℕ) (at end from to : ℕ) where
+module _ (P : Node → Type 0) (words tags log logtags : List ℕ) (went : Place → ℕ → ℕ) (at end from to : ℕ) where
   pub record Compares (i p : ℕ) : Type 0 where
     pub within : i ≤ end
     pub level : p + (end - i) ≡ to
     pub good : All P (refs (between tags words i end))
-    pub same : alike (between classes log p to) (carriedBy went tags words i end) ≡ alike (between classes log from to) (carriedBy went tags words at end)
+    pub same : alike (between logtags log p to) (carriedBy went tags words i end) ≡ alike (between logtags log from to) (carriedBy went tags words at end)
 
-  module _ (st : Stretch words tags at end) (gd : All P (refs (between tags words at end))) (rising : from ≤ to) (in-log : to ≤ 16384) (log-long : length log ≡ 16384) (classes-long : length classes ≡ 16384) where
-    pub compares-short : (n : ℕ) → n ≡ to - from → (n ≡ end - at → ⊥) → false ≡ alike (between classes log from to) (carriedBy went tags words at end)
+  module _ (st : Stretch words tags at end) (gd : All P (refs (between tags words at end))) (rising : from ≤ to) (in-log : to ≤ 16384) (log-long : length log ≡ 16384) (logtags-long : length logtags ≡ 16384) where
+    pub compares-short : (n : ℕ) → n ≡ to - from → (n ≡ end - at → ⊥) → false ≡ alike (between logtags log from to) (carriedBy went tags words at end)
     unfolding carriedBy
     compares-short n e ne =
-        sym (alike-short (between classes log from to) (carriedBy went tags words at end) (λ q.
-        let a = length-between classes log from to (omega arith) (omega arith) in
+        sym (alike-short (between logtags log from to) (carriedBy went tags words at end) (λ q.
+        let a = length-between logtags log from to (omega arith) (omega arith) in
         let b = length-between tags words at end (st .in-tags) (st .in-words) in
         let c = length-map (between tags words at end) (carryCell (through went)) in
         ne (omega arith)))
@@ -151,15 +151,15 @@ module _ (P : Node → Type 0) (words tags log classes : List ℕ) (went : Place
       pub compares-good : All P (refOf (target (getD tags i 0)) (getD words i 0) [])
       compares-good = all-here tags words i end less (st .in-tags) (st .in-words) P (inv .good)
 
-      module _ (y : ℕ) (ye : y ≡ through went (getD tags i 0) (getD words i 0)) (r : Bool) (re : r ≡ alikeC (getD classes p 0, getD log p 0) (getD tags i 0, y)) where
-        cut : elim r [ true ↦ alike (between classes log (suc p) to) (carriedBy went tags words (suc i) end) | false ↦ false ] ≡ alike (between classes log from to) (carriedBy went tags words at end)
+      module _ (y : ℕ) (ye : y ≡ through went (getD tags i 0) (getD words i 0)) (r : Bool) (re : r ≡ alikeC (getD logtags p 0, getD log p 0) (getD tags i 0, y)) where
+        cut : elim r [ true ↦ alike (between logtags log (suc p) to) (carriedBy went tags words (suc i) end) | false ↦ false ] ≡ alike (between logtags log from to) (carriedBy went tags words at end)
         unfolding alike
         cut =
-            let b = between-next classes log p to (omega (arith, inv .level)) (omega arith) (omega arith) in
+            let b = between-next logtags log p to (omega (arith, inv .level)) (omega arith) (omega arith) in
             let c = carried-next tags words i end less (st .in-tags) (st .in-words) went in
             rw (re, ye) (rw (b, c) at (inv .same))
 
-        pub compares-not : r ≡ false → false ≡ alike (between classes log from to) (carriedBy went tags words at end)
+        pub compares-not : r ≡ false → false ≡ alike (between logtags log from to) (carriedBy went tags words at end)
         compares-not e = rw e at cut
 
         pub compares-next : r ≡ true → Compares (i + 1) (p + 1)
@@ -167,69 +167,69 @@ module _ (P : Node → Type 0) (words tags log classes : List ℕ) (went : Place
             rw (add-one i, add-one p)
             (record { within = less; level = let l = inv .level in omega arith; good = all-next tags words i end less (st .in-tags) (st .in-words) P (inv .good); same = rw e at cut })
 
-    pub compares-done : (i p : ℕ) → Compares i p → end ≤ i → true ≡ alike (between classes log from to) (carriedBy went tags words at end)
+    pub compares-done : (i p : ℕ) → Compares i p → end ≤ i → true ≡ alike (between logtags log from to) (carriedBy went tags words at end)
     unfolding alike
     compares-done i p inv h =
-        let a = between-none classes log p to (omega (arith, inv .level)) in
+        let a = between-none logtags log p to (omega (arith, inv .level)) in
         let b = carried-nothing went tags words i end h in
         rw (a, b) at (inv .same)
 
 -- the same of the record at s
-module _ (words tags log classes : List ℕ) (went : Place → ℕ → ℕ) (at end s : ℕ) where
+module _ (words tags log logtags : List ℕ) (went : Place → ℕ → ℕ) (at end s : ℕ) where
   abbrev pub Comparing : ℕ → ℕ → Type 0
-  Comparing i p = Compares Small words tags log classes went at end (suc s) (suc s + getD log s 0) i p
+  Comparing i p = Compares Small words tags log logtags went at end (suc s) (suc s + getD log s 0) i p
 
-  module _ (st : Stretch words tags at end) (sm : All Small (refs (between tags words at end))) (in-log : s + suc (getD log s 0) ≤ 16384) (log-long : length log ≡ 16384) (classes-long : length classes ≡ 16384) where
-    pub compare-short : (n : ℕ) → n ≡ getD log s 0 → (n ≡ end - at → ⊥) → false ≡ alike (recAt log classes s) (carriedBy went tags words at end)
+  module _ (st : Stretch words tags at end) (sm : All Small (refs (between tags words at end))) (in-log : s + suc (getD log s 0) ≤ 16384) (log-long : length log ≡ 16384) (logtags-long : length logtags ≡ 16384) where
+    pub compare-short : (n : ℕ) → n ≡ getD log s 0 → (n ≡ end - at → ⊥) → false ≡ alike (recAt log logtags s) (carriedBy went tags words at end)
     unfolding recAt
-    compare-short n e ne = compares-short Small words tags log classes went at end (suc s) (suc s + getD log s 0) st sm (omega arith) (omega arith) log-long classes-long n (omega arith) ne
+    compare-short n e ne = compares-short Small words tags log logtags went at end (suc s) (suc s + getD log s 0) st sm (omega arith) (omega arith) log-long logtags-long n (omega arith) ne
 
     pub compare-begin : (n : ℕ) → n ≡ getD log s 0 → n ≡ end - at → Comparing at (s + 1)
-    compare-begin n e f = rw (add-one s) (compares-begin Small words tags log classes went at end (suc s) (suc s + getD log s 0) st sm (omega arith) (omega arith) log-long classes-long n (omega arith) f)
+    compare-begin n e f = rw (add-one s) (compares-begin Small words tags log logtags went at end (suc s) (suc s + getD log s 0) st sm (omega arith) (omega arith) log-long logtags-long n (omega arith) f)
 
     module _ (i p : ℕ) (inv : Comparing i p) (less : i < end) where
       pub compare-in : p < 16384
-      compare-in = compares-in Small words tags log classes went at end (suc s) (suc s + getD log s 0) st sm (omega arith) (omega arith) log-long classes-long i p inv less
+      compare-in = compares-in Small words tags log logtags went at end (suc s) (suc s + getD log s 0) st sm (omega arith) (omega arith) log-long logtags-long i p inv less
 
       pub compare-small : All Small (refOf (target (getD tags i 0)) (getD words i 0) [])
       compare-small = all-here tags words i end less (st .in-tags) (st .in-words) Small (inv .good)
 
-      module _ (y : ℕ) (ye : y ≡ through went (getD tags i 0) (getD words i 0)) (r : Bool) (re : r ≡ alikeC (getD classes p 0, getD log p 0) (getD tags i 0, y)) where
-        pub compare-not : r ≡ false → false ≡ alike (recAt log classes s) (carriedBy went tags words at end)
+      module _ (y : ℕ) (ye : y ≡ through went (getD tags i 0) (getD words i 0)) (r : Bool) (re : r ≡ alikeC (getD logtags p 0, getD log p 0) (getD tags i 0, y)) where
+        pub compare-not : r ≡ false → false ≡ alike (recAt log logtags s) (carriedBy went tags words at end)
         unfolding recAt
-        compare-not e = compares-not Small words tags log classes went at end (suc s) (suc s + getD log s 0) st sm (omega arith) (omega arith) log-long classes-long i p inv less y ye r re e
+        compare-not e = compares-not Small words tags log logtags went at end (suc s) (suc s + getD log s 0) st sm (omega arith) (omega arith) log-long logtags-long i p inv less y ye r re e
 
         pub compare-next : r ≡ true → Comparing (i + 1) (p + 1)
-        compare-next e = compares-next Small words tags log classes went at end (suc s) (suc s + getD log s 0) st sm (omega arith) (omega arith) log-long classes-long i p inv less y ye r re e
+        compare-next e = compares-next Small words tags log logtags went at end (suc s) (suc s + getD log s 0) st sm (omega arith) (omega arith) log-long logtags-long i p inv less y ye r re e
 
-    pub compare-done : (i p : ℕ) → Comparing i p → end ≤ i → true ≡ alike (recAt log classes s) (carriedBy went tags words at end)
+    pub compare-done : (i p : ℕ) → Comparing i p → end ≤ i → true ≡ alike (recAt log logtags s) (carriedBy went tags words at end)
     unfolding recAt
-    compare-done i p inv h = compares-done Small words tags log classes went at end (suc s) (suc s + getD log s 0) st sm (omega arith) (omega arith) log-long classes-long i p inv h
+    compare-done i p inv h = compares-done Small words tags log logtags went at end (suc s) (suc s + getD log s 0) st sm (omega arith) (omega arith) log-long logtags-long i p inv h
 
--- ---- seeking
-pub record Seeks (log classes ss : List ℕ) (c : Cells) (n k : ℕ) : Type 0 where
+-- ---- searching
+pub record Seeks (log logtags ss : List ℕ) (c : Cells) (n k : ℕ) : Type 0 where
   pub low : k ≤ n
-  pub rest : seat (recsAt log classes (take n ss)) c ≡ k + seat (recsAt log classes (drop k (take n ss))) c
+  pub rest : indexOf (recsAt log logtags (take n ss)) c ≡ k + indexOf (recsAt log logtags (drop k (take n ss))) c
 
-module _ (log classes ss : List ℕ) (c : Cells) (n : ℕ) (hn : n ≤ length ss) where
-  pub seek-first : Seeks log classes ss c n 0
+module _ (log logtags ss : List ℕ) (c : Cells) (n : ℕ) (hn : n ≤ length ss) where
+  pub seek-first : Seeks log logtags ss c n 0
   seek-first = record { low = omega arith; rest = sym (zero-add _) }
 
-  module _ (k : ℕ) (T : Seeks log classes ss c n k) where
+  module _ (k : ℕ) (T : Seeks log logtags ss c n k) where
     cons : k < n → drop k (take n ss) ≡ getD ss k 0 ∷ drop (k + 1) (take n ss)
     cons h = let l = length-take-le n ss hn in drop-cons (take n ss) k 0 (omega arith) ∙ rw (getD-take n ss k 0 h, add-one)
 
-    module _ (h : k < n) (s : ℕ) (hs : s ≡ getD ss k 0) (r : Bool) (re : r ≡ alike (recAt log classes s) c) where
-      pub seek-found : r ≡ true → k ≡ seat (recsAt log classes (take n ss)) c
-      unfolding recsAt seat
-      seek-found e = sym (T .rest ∙ rw (cons h, ← hs, sym re ∙ e, seat) (add-zero k))
+    module _ (h : k < n) (s : ℕ) (hs : s ≡ getD ss k 0) (r : Bool) (re : r ≡ alike (recAt log logtags s) c) where
+      pub seek-found : r ≡ true → k ≡ indexOf (recsAt log logtags (take n ss)) c
+      unfolding recsAt indexOf
+      seek-found e = sym (T .rest ∙ rw (cons h, ← hs, sym re ∙ e, indexOf) (add-zero k))
 
-      pub seek-more : r ≡ false → Seeks log classes ss c n (k + 1)
-      unfolding recsAt seat
-      seek-more e = record { low = omega arith; rest = T .rest ∙ rw (cons h, ← hs, sym re ∙ e, seat) (omega arith) }
+      pub seek-more : r ≡ false → Seeks log logtags ss c n (k + 1)
+      unfolding recsAt indexOf
+      seek-more e = record { low = omega arith; rest = T .rest ∙ rw (cons h, ← hs, sym re ∙ e, indexOf) (omega arith) }
 
-    pub seek-last : n ≤ k → n ≡ seat (recsAt log classes (take n ss)) c
-    unfolding recsAt seat
+    pub seek-last : n ≤ k → n ≡ indexOf (recsAt log logtags (take n ss)) c
+    unfolding recsAt indexOf
     seek-last h =
         let l = length-take-le n ss hn in
         let e : k ≡ n = let z = T .low in omega arith in
@@ -237,22 +237,22 @@ module _ (log classes ss : List ℕ) (c : Cells) (n : ℕ) (hn : n ≤ length ss
         sym (T .rest ∙ rw (e, d) (add-zero n))
 
 -- ---- writing; P holds of what the source's words refer to
-module _ (P : Node → Type 0) (words tags : List ℕ) (went : Place → ℕ → ℕ) (at end to o : ℕ) (log₀ classes₀ : List ℕ) where
-  pub record Writing (log classes : List ℕ) (i p : ℕ) (u : Bool) : Type 0 where
+module _ (P : Node → Type 0) (words tags : List ℕ) (went : Place → ℕ → ℕ) (at end to o : ℕ) (log₀ logtags₀ : List ℕ) where
+  pub record Writing (log logtags : List ℕ) (i p : ℕ) (u : Bool) : Type 0 where
     pub within : i ≤ end
     pub level : p + (end - i) ≤ 16384
     pub long : length log ≡ 16384
-    pub long′ : length classes ≡ 16384
+    pub long′ : length logtags ≡ 16384
     pub good : All P (refs (between tags words i end))
     pub words-are : sets log p (map word (shift (carriedBy went tags words i end) o u)) ≡ sets log₀ to (map word (shift (carriedBy went tags words at end) o false))
-    pub tags-are : sets classes p (map class (shift (carriedBy went tags words i end) o u)) ≡ sets classes₀ to (map class (shift (carriedBy went tags words at end) o false))
+    pub tags-are : sets logtags p (map class (shift (carriedBy went tags words i end) o u)) ≡ sets logtags₀ to (map class (shift (carriedBy went tags words at end) o false))
 
-  module _ (st : Stretch words tags at end) (gd : All P (refs (between tags words at end))) (room : to + (end - at) ≤ 16384) (log-long : length log₀ ≡ 16384) (classes-long : length classes₀ ≡ 16384) where
-    pub write-begin : Writing log₀ classes₀ at to false
-    write-begin = record { within = st .rising; level = room; long = log-long; long′ = classes-long; good = gd; words-are = refl; tags-are = refl }
+  module _ (st : Stretch words tags at end) (gd : All P (refs (between tags words at end))) (room : to + (end - at) ≤ 16384) (log-long : length log₀ ≡ 16384) (logtags-long : length logtags₀ ≡ 16384) where
+    pub write-begin : Writing log₀ logtags₀ at to false
+    write-begin = record { within = st .rising; level = room; long = log-long; long′ = logtags-long; good = gd; words-are = refl; tags-are = refl }
 
-    module _ (log classes : List ℕ) (i p : ℕ) (u : Bool) (inv : Writing log classes i p u) where
-      pub write-done : end ≤ i → Written (shift (carriedBy went tags words at end) o false) to log₀ classes₀ log classes
+    module _ (log logtags : List ℕ) (i p : ℕ) (u : Bool) (inv : Writing log logtags i p u) where
+      pub write-done : end ≤ i → Written (shift (carriedBy went tags words at end) o false) to log₀ logtags₀ log logtags
       unfolding shift
       write-done h =
           let e = carried-nothing went tags words i end h in
@@ -270,7 +270,7 @@ module _ (P : Node → Type 0) (words tags : List ℕ) (went : Place → ℕ →
 
         pub write-next : (w : ℕ) → w ≡ through went (getD tags i 0) (getD words i 0)
             → (v : Bool) → v ≡ undefinedAt (target (getD tags i 0)) w (firstWord (carriedBy went tags words (i + 1) end)) u → (x : ℕ) → x ≡ moved (target (getD tags i 0)) w o v
-            → Writing (set log p x) (set classes p (getD tags i 0)) (i + 1) (p + 1) v
+            → Writing (set log p x) (set logtags p (getD tags i 0)) (i + 1) (p + 1) v
         unfolding shift
         write-next w we v ve x xe =
             let c = carried-next tags words i end less (st .in-tags) (st .in-words) went in
@@ -282,7 +282,7 @@ module _ (P : Node → Type 0) (words tags : List ℕ) (went : Place → ℕ →
               within = less;
               level = let l = inv .level in omega arith;
               long = length-set log p x ∙ inv .long;
-              long′ = length-set classes p (getD tags i 0) ∙ inv .long′;
+              long′ = length-set logtags p (getD tags i 0) ∙ inv .long′;
               good = all-next tags words i end less (st .in-tags) (st .in-words) P (inv .good);
               words-are = rw (xe, ve′, we) a;
               tags-are = rw (ve′, we) b;

@@ -1,4 +1,4 @@
--- Functions and entry points as flat records, and special types as words: what a state keeps of them, read back. Assumes nothing: these are definitions.
+-- Functions and entry points as flat records, and special types as words: what a state keeps of them, read back.
 use mathlib.Core.List.{List, [], _∷_, map}
 use Prim.Native.Nat.{ℕ, zero, suc, _+_}
 use lib.ListN.{getD}

@@ -1,4 +1,4 @@
--- What a word refers to, as the code tells it: the code of a table, and where the numbers of the source went by rows of words. Assumes nothing: these are definitions.
+-- What a word refers to, as the code has it: the code of a table, and what the numbers of the source are mapped to by rows of words.
 use mathlib.Core.Bool.{Bool, true, false, cond}
 use mathlib.Core.List.{List, [], _∷_}
 use Prim.Native.Nat.{ℕ, zero, suc, _+_, _<_}
@@ -15,20 +15,20 @@ codeP own = 5
 codeP function = 7
 
 -- what a class refers to: a table's code, plus 8 where the number is optional; 6 where it refers to nothing
-unfoldable pub kindOf : Target → ℕ
-kindOf copied = 6
-kindOf start = 6
-kindOf upto = 6
-kindOf (ref p) = codeP p
-kindOf (opt p) = 8 + codeP p
+unfoldable pub targetOf : Target → ℕ
+targetOf copied = 6
+targetOf start = 6
+targetOf upto = 6
+targetOf (ref p) = codeP p
+targetOf (opt p) = 8 + codeP p
 
--- the kinds of all classes, as a table of bytes
-unfoldable pub kindsFrom : ℕ → ℕ → List ℕ
-kindsFrom s zero = []
-kindsFrom s (suc n) = kindOf (target s) ∷ kindsFrom (suc s) n
+-- the targets of all classes, as a table of bytes
+unfoldable pub targetsFrom : ℕ → ℕ → List ℕ
+targetsFrom s zero = []
+targetsFrom s (suc n) = targetOf (target s) ∷ targetsFrom (suc s) n
 
-unfoldable pub kindBytes : List ℕ
-kindBytes = kindsFrom 0 256
+unfoldable pub targetBytes : List ℕ
+targetBytes = targetsFrom 0 256
 
 unfoldable pub tabOf : ℕ → Tab
 tabOf zero = names
@@ -38,7 +38,7 @@ tabOf (suc (suc (suc zero))) = overrides
 tabOf (suc (suc (suc (suc zero)))) = globals
 tabOf (suc (suc (suc (suc (suc n))))) = exprs
 
--- where a number went, by rows
+-- what a number is mapped to, by rows
 unfoldable pub wentR : List (List ℕ) → Place → ℕ → ℕ
 wentR rows p n = getD (getD rows (codeP p) []) n 0
 

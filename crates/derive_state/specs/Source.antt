@@ -1,4 +1,4 @@
--- The source as the words hold it, and what a word refers to. Assumes nothing: these are definitions.
+-- The source as the words hold it, and what a word refers to.
 use mathlib.Core.Path.{_≡_}
 use mathlib.Core.Bool.{true, false, cond}
 use mathlib.Core.List.{List, []}
@@ -12,7 +12,7 @@ use Rattle.model.specs.Numbers.{numbered}
 use Rattle.model.specs.Lower.{lower}
 use Rattle.model.specs.Tables.{Tables, tables}
 use Rattle.model.specs.References.{Target}
-use Rattle.derive_state.specs.Refers.{kindOf}
+use Rattle.derive_state.specs.Refers.{targetOf}
 
 unfoldable pub none : Module
 none = record { names = []; types = []; constants = []; overrides = []; globals = []; exprs = []; functions = []; entries = []; special = record { rays = []; pairs = [] } }
@@ -29,7 +29,7 @@ modOf words n = heldBy (read (take n words))
 unfoldable pub srcOf : List ℕ → ℕ → Tables
 srcOf words n = tables (modOf words n)
 
--- words and tape of a module that passed tests 3 and 4
+-- words and tags of a module that passed tests 3 and 4
 pub record Source (words tags : List ℕ) (n : ℕ) : Type 0 where
   pub taped : Taped words tags n (modOf words n)
   pub three : numbered (modOf words n) ≡ true
@@ -41,11 +41,11 @@ ifSome zero u = 6
 ifSome (suc w) u = u
 
 unfoldable pub refersTo : Target → ℕ → ℕ
-refersTo g w = cond (ltb (kindOf g) 6) (kindOf g) (cond (ltb (kindOf g) 8) 6 (ifSome w (kindOf g - 8)))
+refersTo g w = cond (ltb (targetOf g) 6) (targetOf g) (cond (ltb (targetOf g) 8) 6 (ifSome w (targetOf g - 8)))
 
 unfoldable pub less : ℕ → ℕ
 less zero = 0
 less (suc w) = w
 
 unfoldable pub numberOf : Target → ℕ → ℕ
-numberOf g w = cond (ltb (kindOf g) 6) w (less w)
+numberOf g w = cond (ltb (targetOf g) 6) w (less w)

@@ -1,5 +1,5 @@
--- A type imported under another name: the import from a view of the source in which the type bears it. What the type refers to is lower, so that nothing else meets the
--- new name. Assumes nothing.
+-- A type imported under another name: the import from a view of the source in which the type has it. What the type refers to is lower, so that nothing else uses the
+-- new name.
 use mathlib.Core.Path.{_≡_, refl, sym, ap, ap₂, _∙_}
 use mathlib.Core.Bool.{Bool, true, false, false≢true}
 use mathlib.Core.List.{List, [], _∷_, map}
@@ -16,8 +16,8 @@ use Rattle.model.specs.View.{recordAt, recordEnd}
 use Rattle.model.specs.Carry.{Lays, lays-next, carryCells}
 use Rattle.model.specs.Between.{between, Stretch}
 use Rattle.model.specs.Tables.{Tab, names, types, constants, overrides, globals, exprs, codeT, at, upd, six, Tables, tables, recAt, count, Maps, mapAt}
-use Rattle.model.specs.References.{Place, table, own, function, target, targets, Node, node, refOf, refs, each, through, shift}
-use Rattle.model.specs.Imports.{St, once, settle, wentT, made, commit, stepT, importF, levels, importT, rename, renamed}
+use Rattle.model.specs.References.{Place, table, own, function, target, targets, Node, node, refOf, refs, foldRefs, through, shift}
+use Rattle.model.specs.Imports.{Derived, unlessMapped, intern, mappedToT, made, commit, stepT, importF, levels, importT, rename, renamed}
 use Rattle.theory_records.specs.RecordLaws.{All, all-map, rest-of}
 use Rattle.theory_records.specs.TableLaws.{at-same, at-other, at-six}
 use Rattle.theory_records.specs.Well.{home, WF, rank, Lower, falls, rank-below, May, type-name, type-type, const-name, const-type, const-init, over-name, over-type, over-init, global-name, global-type, global-init, expr-type, expr-const, expr-over, expr-own}
@@ -28,19 +28,19 @@ use Rattle.theory_image.specs.Sections.{startOf, cellsOf}
 use Rattle.theory_image.specs.Views.{offset-start}
 use Rattle.theory_image.specs.FunctionViews.{taped-offset}
 use Rattle.theory_image.specs.Betweens.{between-next, between-none}
-use Rattle.derive_state.specs.Refers.{tabOf, wentR, Small, kindBytes}
+use Rattle.derive_state.specs.Refers.{tabOf, wentR, Small, targetBytes}
 use Rattle.derive_state.specs.Source.{modOf, srcOf, Source}
 use Rattle.derive_state.specs.Flats.{specialOf}
-use Rattle.derive_state.specs.Held.{cell, recsOf, functionsOf, mapsOf, stOf, Kept, Lands, Nameless, Readable, carriedBy}
-use Rattle.derive_state.specs.declared.Ends.{Ends}
+use Rattle.derive_state.specs.Held.{cell, recsOf, functionsOf, mapsOf, stOf, ValidArrays, Lands, Nameless, Readable, carriedBy}
+use Rattle.derive_state.specs.declared.Sizes.{Sizes}
 use Rattle.derive_state.proofs.State.{code-low, six-ext, same-refl, marks-refl}
 use Rattle.derive_types.proofs.Growth.{Grow, then, over-grow, grow-settle, grow-each, grow-T}
 use Rattle.derive_types.proofs.Sources.{wf, count-is, inside, stretch, record-is, record-lower, small-of}
 use Rattle.derive_types.proofs.Turns.{Turn, beside-refl, lands-then, map-is, lands-known, turn-done, carried-by, turn-last}
 
 -- type k is taken for these cells, carried
-abbrev taken : ℕ → ℕ → Cells → St → St
-taken o k cs x = settle types k (shift (carryCells (through (wentT x)) cs) o false) x
+abbrev taken : ℕ → ℕ → Cells → Derived → Derived
+taken o k cs x = intern types k (shift (carryCells (through (mappedToT x)) cs) o false) x
 
 -- ---- the tables with the new name
 unfoldable Below : ℕ → Tab → ℕ → Type 0
@@ -103,16 +103,16 @@ module _ (T : Tables) (k name : ℕ) where
   levels-same = rw (at-same types (set (at types T) k (rename name (recAt T types k))) T, at-other types exprs (set (at types T) k (rename name (recAt T types k))) T exprs-apart, length-set (at types T) k (rename name (recAt T types k))) refl
 
   module _ (o : ℕ) (ok : WF T) where
-    commit-same : (u : Tab) (m : ℕ) → Below k u m → (s : St) → commit o (renamed T k name) u m s ≡ commit o T u m s
+    commit-same : (u : Tab) (m : ℕ) → Below k u m → (s : Derived) → commit o (renamed T k name) u m s ≡ commit o T u m s
     unfolding commit made
     commit-same u m b s = rw (rec-same u m b)
 
-    same-F : (f : ℕ) (u : Tab) (m : ℕ) (s : St) → m < count T u → Below k u m → importF f o (renamed T k name) u m s ≡ importF f o T u m s
+    same-F : (f : ℕ) (u : Tab) (m : ℕ) (s : Derived) → m < count T u → Below k u m → importF f o (renamed T k name) u m s ≡ importF f o T u m s
     unfolding importF Lower
     same-F zero u m s r b = refl
     same-F (suc f) u m s r b =
-        ap (λ (x : St). once (mapAt (s .maps) u m) (λ z. x) s)
-        (commit-same u m b _ ∙ ap (commit o T u m) (ap (λ (c : Cells). each (refs c) (stepT (importF f o (renamed T k name))) s) (rec-same u m b)
+        ap (λ (x : Derived). unlessMapped (mapAt (s .maps) u m) (λ z. x) s)
+        (commit-same u m b _ ∙ ap (commit o T u m) (ap (λ (c : Cells). foldRefs (refs c) (stepT (importF f o (renamed T k name))) s) (rec-same u m b)
         ∙ each-cong (Lower T u m) (stepT (importF f o (renamed T k name))) (stepT (importF f o T))
         (λ j s′ l. step-home (l .2) (importF f o (renamed T k name)) (j .num) s′ ∙ (same-F f (home (j .place)) (j .num) s′ (l .0) (below-next T k m (l .2) (j .num) b (l .1)) ∙ sym (step-home (l .2) (importF f o T) (j .num) s′)))
         (refs (recAt T u m)) s (falls T ok u m r)))
@@ -130,16 +130,16 @@ module _ (T : Tables) (k name : ℕ) where
       unfolding Lower home rank
       new-lower = ((hn, omega arith, type-name), rest-lower)
 
-      -- its name first, then the rest; then it is settled
-      pub renamed-is : (s : St) → importT o (renamed T k name) types k s
-          ≡ once (mapAt (s .maps) types k) (λ z. taken o k (rename name (recAt T types k)) (each (node (table names) name ∷ refs cs) (stepT (importT o T)) s)) s
+      -- its name first, then the rest; then it is interned
+      pub renamed-is : (s : Derived) → importT o (renamed T k name) types k s
+          ≡ unlessMapped (mapAt (s .maps) types k) (λ z. taken o k (rename name (recAt T types k)) (foldRefs (node (table names) name ∷ refs cs) (stepT (importT o T)) s)) s
       unfolding importT importF commit made Lower Below levels
       renamed-is s =
           let r = rank-below T ok types k hk in
           let b : 2 + (count T types + 2 * count T exprs) ≡ suc (1 + (count T types + 2 * count T exprs)) = omega arith in
           ap (λ (f : ℕ). importF f o (renamed T k name) types k s) (levels-same ∙ b)
           ∙ rw (rec-new hk, new-refs)
-          (ap (λ (x : St). once (mapAt (s .maps) types k) (λ z. taken o k (rename name (recAt T types k)) x) s)
+          (ap (λ (x : Derived). unlessMapped (mapAt (s .maps) types k) (λ z. taken o k (rename name (recAt T types k)) x) s)
           (each-cong (Lower T types k) (stepT (importF (1 + (count T types + 2 * count T exprs)) o (renamed T k name))) (stepT (importF (2 + (count T types + 2 * count T exprs)) o T))
           (λ j s′ l.
           step-home (l .2) (importF (1 + (count T types + 2 * count T exprs)) o (renamed T k name)) (j .num) s′
@@ -149,7 +149,7 @@ module _ (T : Tables) (k name : ℕ) where
           (node (table names) name ∷ refs cs) s new-lower))
 
 -- ---- in the words
--- a record stands behind the header
+-- a record follows the header
 start-low : (rs : List Cells) (i j : ℕ) → i ≤ startOf i rs j
 unfolding startOf
 start-low [] i j = le-refl _
@@ -161,17 +161,17 @@ unfolding countAt
 header-count words i v t h l = getD-set-other words i (2 + 2 * t) v 0 (λ e. omega arith)
 
 -- the maps are read by the counts alone
-st-view : (words view log tags : List ℕ) (starts maps : List (List ℕ)) (special : List ℕ) (e : Ends) → ((t : ℕ) → t < 6 → countAt t view ≡ countAt t words) → stOf view log tags starts maps special e ≡ stOf words log tags starts maps special e
+st-view : (words view log logtags : List ℕ) (starts maps : List (List ℕ)) (special : List ℕ) (e : Sizes) → ((t : ℕ) → t < 6 → countAt t view ≡ countAt t words) → stOf view log logtags starts maps special e ≡ stOf words log logtags starts maps special e
 unfolding stOf mapsOf
-st-view words view log tags starts maps special e h =
-    ap (λ (m : Maps). record { recs = recsOf log tags starts (e .counts); maps = m; functions = functionsOf log tags starts (e .counts); special = specialOf special (e .pairs) })
+st-view words view log logtags starts maps special e h =
+    ap (λ (m : Maps). record { recs = recsOf log logtags starts (e .counts); maps = m; functions = functionsOf log logtags starts (e .counts); special = specialOf special (e .pairs) })
     (six-ext _ _ (λ u. at-six u (λ t. take (countAt (codeT t) view) (getD maps (codeT t) [])) ∙ rw (h (codeT u) (code-low u)) (sym (at-six u (λ t. take (countAt (codeT t) words) (getD maps (codeT t) []))))))
 
-pub lands-view : (words view : List ℕ) (f : St → St) (log₀ tags₀ : List ℕ) (starts₀ maps₀ : List (List ℕ)) (marks₀ : List ℕ) (e r : Ends) (log tags : List ℕ) (starts maps : List (List ℕ)) (marks : List ℕ) → ((t : ℕ) → t < 6 → countAt t view ≡ countAt t words)
-    → Lands view f log₀ tags₀ starts₀ maps₀ marks₀ e r log tags starts maps marks → Lands words f log₀ tags₀ starts₀ maps₀ marks₀ e r log tags starts maps marks
-lands-view words view f log₀ tags₀ starts₀ maps₀ marks₀ e r log tags starts maps marks h L = record {
-  over = λ q special. rw (← st-view words view log₀ tags₀ starts₀ maps₀ special e h) (L .over q special);
-  is = λ q special. rw (← st-view words view log₀ tags₀ starts₀ maps₀ special e h, ← st-view words view log tags starts maps special r h) (L .is q special);
+pub lands-view : (words view : List ℕ) (f : Derived → Derived) (log₀ logtags₀ : List ℕ) (starts₀ maps₀ : List (List ℕ)) (buckets₀ : List ℕ) (e r : Sizes) (log logtags : List ℕ) (starts maps : List (List ℕ)) (buckets : List ℕ) → ((t : ℕ) → t < 6 → countAt t view ≡ countAt t words)
+    → Lands view f log₀ logtags₀ starts₀ maps₀ buckets₀ e r log logtags starts maps buckets → Lands words f log₀ logtags₀ starts₀ maps₀ buckets₀ e r log logtags starts maps buckets
+lands-view words view f log₀ logtags₀ starts₀ maps₀ buckets₀ e r log logtags starts maps buckets h L = record {
+  over = λ q special. rw (← st-view words view log₀ logtags₀ starts₀ maps₀ special e h) (L .over q special);
+  is = λ q special. rw (← st-view words view log₀ logtags₀ starts₀ maps₀ special e h, ← st-view words view log logtags starts maps special r h) (L .is q special);
   kept = L .kept;
   beside = L .beside;
   more = L .more;
@@ -202,7 +202,7 @@ module _ (words tags : List ℕ) (n : ℕ) (src : Source words tags n) (o k : �
   abbrev T : Tables
   T = srcOf words n
 
-  abbrev F : St → St
+  abbrev F : Derived → Derived
   F = importT o (renamed (srcOf words n) k name) types k
 
   ok : WF T
@@ -246,8 +246,8 @@ module _ (words tags : List ℕ) (n : ℕ) (src : Source words tags n) (o k : �
     rest = between tags words (suc begin) end
 
     -- what is left when the name is imported
-    abbrev pub G : St → St
-    G s = taken o k (rename name (recAt (srcOf words n) types k)) (each (refs (between tags words (suc begin) end)) (stepT (importT o (srcOf words n))) s)
+    abbrev pub G : Derived → Derived
+    G s = taken o k (rename name (recAt (srcOf words n) types k)) (foldRefs (refs (between tags words (suc begin) end)) (stepT (importT o (srcOf words n))) s)
 
     rec : recAt T types k ≡ (NAME, getD words begin 0) ∷ rest
     rec = split (recAt T types k) first (getD words begin 0) rest (getD tags begin 0) (sym is-rec ∙ between-next tags words begin end some-words (st .in-tags) (st .in-words))
@@ -255,7 +255,7 @@ module _ (words tags : List ℕ) (n : ℕ) (src : Source words tags n) (o k : �
     tag-name : getD tags begin 0 ≡ NAME
     tag-name = rw (sym is-rec ∙ between-next tags words begin end some-words (st .in-tags) (st .in-words)) at (first .0)
 
-    pub rename-ends : (s : St) → Grow (each (refs (between tags words (suc begin) end)) (stepT (importT o T)) s) (G s)
+    pub rename-ends : (s : Derived) → Grow (foldRefs (refs (between tags words (suc begin) end)) (stepT (importT o T)) s) (G s)
     rename-ends s = grow-settle types k _ _
 
     -- in the view the name is the new one
@@ -266,13 +266,13 @@ module _ (words tags : List ℕ) (n : ℕ) (src : Source words tags n) (o k : �
     low-view : All (Lower T types k) (refs (between tags (set words begin (name + 1)) begin end))
     low-view = rw (view-is, new-refs T k name o ok hk′ hn′ (getD words begin 0) rest rec) (new-lower T k name o ok hk′ hn′ (getD words begin 0) rest rec)
 
-    pub view-readable : (kinds : List ℕ) → kinds ≡ kindBytes → Readable (set words begin (name + 1)) tags kinds begin end
+    pub view-readable : (kinds : List ℕ) → kinds ≡ targetBytes → Readable (set words begin (name + 1)) tags kinds begin end
     view-readable kinds e = record {
       stretch = record { rising = st .rising; small = st .small; in-words = rw (length-set words begin (name + 1)) (st .in-words); in-tags = st .in-tags };
       words-long = length-set words begin (name + 1) ∙ src .taped .words-long;
       tags-long = src .taped .tags-long;
       small = all-map (refs (between tags (set words begin (name + 1)) begin end)) (λ j l. small-of words tags n src types k j l) low-view;
-      kinds-are = e;
+      targets-are = e;
     }
 
     behind-header : HEADER ≤ begin
@@ -282,9 +282,9 @@ module _ (words tags : List ℕ) (n : ℕ) (src : Source words tags n) (o k : �
     pub view-count : (t : ℕ) → t < 6 → countAt t (set words begin (name + 1)) ≡ countAt t words
     view-count t h = header-count words begin (name + 1) t behind-header h
 
-    -- behind the name: the loop begins, and its end is settled
-    module _ (log₁ classes₁ : List ℕ) (starts₁ maps₁ : List (List ℕ)) (marks₁ : List ℕ) (e₁ : Ends) (nf : e₁ .full ≡ false) (K₁ : Kept log₁ classes₁ starts₁ maps₁ marks₁ e₁) where
-      pub rename-first : Turn words tags n o 1 k (refs (between tags words (suc begin) end)) log₁ classes₁ starts₁ maps₁ marks₁ e₁ end log₁ classes₁ starts₁ maps₁ marks₁ e₁ (begin + 1)
+    -- after the name: the loop begins, and at its end the record is interned
+    module _ (log₁ logtags₁ : List ℕ) (starts₁ maps₁ : List (List ℕ)) (buckets₁ : List ℕ) (e₁ : Sizes) (nf : e₁ .full ≡ false) (K₁ : ValidArrays log₁ logtags₁ starts₁ maps₁ buckets₁ e₁) where
+      pub rename-first : Turn words tags n o 1 k (refs (between tags words (suc begin) end)) log₁ logtags₁ starts₁ maps₁ buckets₁ e₁ end log₁ logtags₁ starts₁ maps₁ buckets₁ e₁ (begin + 1)
       unfolding tabOf
       rename-first = rw (add-one begin) (record {
         within = some-words;
@@ -292,48 +292,48 @@ module _ (words tags : List ℕ) (n : ℕ) (src : Source words tags n) (o k : �
         kept = K₁;
         beside = beside-refl starts₁ e₁;
         more = le-refl _;
-        below = same-refl (e₁ .used) log₁ classes₁;
-        marks-stay = marks-refl marks₁ (K₁ .marks-long);
+        below = same-refl (e₁ .loglen) log₁ logtags₁;
+        marks-stay = marks-refl buckets₁ (K₁ .marks-long);
         lower = new-lower T k name o ok hk′ hn′ (getD words begin 0) rest rec .1;
         same = λ special. refl;
       })
 
-      module _ (log classes : List ℕ) (starts maps : List (List ℕ)) (marks : List ℕ) (e : Ends) (i : ℕ) (inv : Turn words tags n o 1 k (refs (between tags words (suc begin) end)) log₁ classes₁ starts₁ maps₁ marks₁ e₁ end log classes starts maps marks e i) (h : end ≤ i) where
-        settled : (special : List ℕ) → G (stOf words log₁ classes₁ starts₁ maps₁ special e₁) ≡ settle types k (shift (carriedBy (wentR maps) tags (set words begin (name + 1)) begin end) o false) (stOf words log classes starts maps special e)
+      module _ (log logtags : List ℕ) (starts maps : List (List ℕ)) (buckets : List ℕ) (e : Sizes) (i : ℕ) (inv : Turn words tags n o 1 k (refs (between tags words (suc begin) end)) log₁ logtags₁ starts₁ maps₁ buckets₁ e₁ end log logtags starts maps buckets e i) (h : end ≤ i) where
+        settled : (special : List ℕ) → G (stOf words log₁ logtags₁ starts₁ maps₁ special e₁) ≡ intern types k (shift (carriedBy (wentR maps) tags (set words begin (name + 1)) begin end) o false) (stOf words log logtags starts maps special e)
         unfolding carriedBy tabOf
         settled special =
-            rw (← turn-done words tags n src o 1 k (omega arith) hk log₁ classes₁ starts₁ maps₁ marks₁ e₁ nf K₁ G (refs rest) (λ sp. rename-ends (stOf words log₁ classes₁ starts₁ maps₁ sp e₁)) begin end hb he log classes starts maps marks e i inv h special, view-is, carried-by words tags n src o 1 k (omega arith) hk log₁ classes₁ starts₁ maps₁ marks₁ e₁ nf K₁ G (refs rest) (λ sp. rename-ends (stOf words log₁ classes₁ starts₁ maps₁ sp e₁)) begin end hb he log classes starts maps marks e i inv special (rename name (recAt T types k)) (rw (← view-is) low-view)) refl
+            rw (← turn-done words tags n src o 1 k (omega arith) hk log₁ logtags₁ starts₁ maps₁ buckets₁ e₁ nf K₁ G (refs rest) (λ sp. rename-ends (stOf words log₁ logtags₁ starts₁ maps₁ sp e₁)) begin end hb he log logtags starts maps buckets e i inv h special, view-is, carried-by words tags n src o 1 k (omega arith) hk log₁ logtags₁ starts₁ maps₁ buckets₁ e₁ nf K₁ G (refs rest) (λ sp. rename-ends (stOf words log₁ logtags₁ starts₁ maps₁ sp e₁)) begin end hb he log logtags starts maps buckets e i inv special (rename name (recAt T types k)) (rw (← view-is) low-view)) refl
 
-        pub rename-settled : (r : Ends) (log′ classes′ : List ℕ) (starts′ maps′ : List (List ℕ)) (marks′ : List ℕ)
-            → Lands (set words begin (name + 1)) (settle types k (shift (carriedBy (wentR maps) tags (set words begin (name + 1)) begin end) o false)) log classes starts maps marks e r log′ classes′ starts′ maps′ marks′
-            → Lands words G log₁ classes₁ starts₁ maps₁ marks₁ e₁ r log′ classes′ starts′ maps′ marks′
+        pub rename-settled : (r : Sizes) (log′ logtags′ : List ℕ) (starts′ maps′ : List (List ℕ)) (buckets′ : List ℕ)
+            → Lands (set words begin (name + 1)) (intern types k (shift (carriedBy (wentR maps) tags (set words begin (name + 1)) begin end) o false)) log logtags starts maps buckets e r log′ logtags′ starts′ maps′ buckets′
+            → Lands words G log₁ logtags₁ starts₁ maps₁ buckets₁ e₁ r log′ logtags′ starts′ maps′ buckets′
         unfolding tabOf
-        rename-settled r log′ classes′ starts′ maps′ marks′ L =
-            turn-last words tags n src o 1 k (omega arith) hk log₁ classes₁ starts₁ maps₁ marks₁ e₁ nf K₁ G (refs rest) (λ sp. rename-ends (stOf words log₁ classes₁ starts₁ maps₁ sp e₁)) begin end hb he log classes starts maps marks e i inv (shift (carriedBy (wentR maps) tags (set words begin (name + 1)) begin end) o false) settled r log′ classes′ starts′ maps′ marks′
-            (lands-view words (set words begin (name + 1)) _ log classes starts maps marks e r log′ classes′ starts′ maps′ marks′ view-count L)
+        rename-settled r log′ logtags′ starts′ maps′ buckets′ L =
+            turn-last words tags n src o 1 k (omega arith) hk log₁ logtags₁ starts₁ maps₁ buckets₁ e₁ nf K₁ G (refs rest) (λ sp. rename-ends (stOf words log₁ logtags₁ starts₁ maps₁ sp e₁)) begin end hb he log logtags starts maps buckets e i inv (shift (carriedBy (wentR maps) tags (set words begin (name + 1)) begin end) o false) settled r log′ logtags′ starts′ maps′ buckets′
+            (lands-view words (set words begin (name + 1)) _ log logtags starts maps buckets e r log′ logtags′ starts′ maps′ buckets′ view-count L)
 
     -- from the first state
-    module _ (log₀ classes₀ : List ℕ) (starts₀ maps₀ : List (List ℕ)) (marks₀ : List ℕ) (e₀ : Ends) (nf : e₀ .full ≡ false) (K₀ : Kept log₀ classes₀ starts₀ maps₀ marks₀ e₀) where
-      abbrev S₀ : List ℕ → St
-      S₀ special = stOf words log₀ classes₀ starts₀ maps₀ special e₀
+    module _ (log₀ logtags₀ : List ℕ) (starts₀ maps₀ : List (List ℕ)) (buckets₀ : List ℕ) (e₀ : Sizes) (nf : e₀ .full ≡ false) (K₀ : ValidArrays log₀ logtags₀ starts₀ maps₀ buckets₀ e₀) where
+      abbrev S₀ : List ℕ → Derived
+      S₀ special = stOf words log₀ logtags₀ starts₀ maps₀ special e₀
 
       map-here : (special : List ℕ) → mapAt (S₀ special .maps) types k ≡ cell maps₀ 1 k
       unfolding codeT
-      map-here special = map-is words log₀ classes₀ starts₀ maps₀ special e₀ types k hk
+      map-here special = map-is words log₀ logtags₀ starts₀ maps₀ special e₀ types k hk
 
-      is-new : (special : List ℕ) → F (S₀ special) ≡ once (cell maps₀ 1 k) (λ z. G (importT o T names name (S₀ special))) (S₀ special)
-      unfolding each stepT
+      is-new : (special : List ℕ) → F (S₀ special) ≡ unlessMapped (cell maps₀ 1 k) (λ z. G (importT o T names name (S₀ special))) (S₀ special)
+      unfolding foldRefs stepT
       is-new special = renamed-is T k name o ok hk′ hn′ (getD words begin 0) rest rec (S₀ special) ∙ rw (map-here special) refl
 
-      pub rename-known : (cell maps₀ 1 k ≡ 0 → ⊥) → Lands words F log₀ classes₀ starts₀ maps₀ marks₀ e₀ e₀ log₀ classes₀ starts₀ maps₀ marks₀
-      rename-known ne = lands-known words tags n src o 1 k (omega arith) hk log₀ classes₀ starts₀ maps₀ marks₀ e₀ nf K₀ F (λ special. is-new special ∙ once-is o T (λ r. r ≡ S₀ special) (cell maps₀ 1 k) _ (S₀ special) (λ z. absurd (ne z)) (λ g. refl))
+      pub rename-known : (cell maps₀ 1 k ≡ 0 → ⊥) → Lands words F log₀ logtags₀ starts₀ maps₀ buckets₀ e₀ e₀ log₀ logtags₀ starts₀ maps₀ buckets₀
+      rename-known ne = lands-known words tags n src o 1 k (omega arith) hk log₀ logtags₀ starts₀ maps₀ buckets₀ e₀ nf K₀ F (λ special. is-new special ∙ once-is o T (λ r. r ≡ S₀ special) (cell maps₀ 1 k) _ (S₀ special) (λ z. absurd (ne z)) (λ g. refl))
 
-      module _ (new : cell maps₀ 1 k ≡ 0) (e₁ : Ends) (log₁ classes₁ : List ℕ) (starts₁ maps₁ : List (List ℕ)) (marks₁ : List ℕ) (L : Lands words (importT o T names name) log₀ classes₀ starts₀ maps₀ marks₀ e₀ e₁ log₁ classes₁ starts₁ maps₁ marks₁) where
+      module _ (new : cell maps₀ 1 k ≡ 0) (e₁ : Sizes) (log₁ logtags₁ : List ℕ) (starts₁ maps₁ : List (List ℕ)) (buckets₁ : List ℕ) (L : Lands words (importT o T names name) log₀ logtags₀ starts₀ maps₀ buckets₀ e₀ e₁ log₁ logtags₁ starts₁ maps₁ buckets₁) where
         begins : (special : List ℕ) → F (S₀ special) ≡ G (importT o T names name (S₀ special))
-        unfolding once
+        unfolding unlessMapped
         begins special = is-new special ∙ rw new refl
 
-        pub rename-full : e₁ .full ≡ true → Lands words F log₀ classes₀ starts₀ maps₀ marks₀ e₀ e₁ log₁ classes₁ starts₁ maps₁ marks₁
+        pub rename-full : e₁ .full ≡ true → Lands words F log₀ logtags₀ starts₀ maps₀ buckets₀ e₀ e₁ log₁ logtags₁ starts₁ maps₁ buckets₁
         rename-full q = record {
           over = λ z special. rw (begins special) (over-grow _ (then (grow-each (importT o T) (grow-T o T) (refs rest) (importT o T names name (S₀ special))) (rename-ends (importT o T names name (S₀ special)))) (L .over q special));
           is = λ z. absurd (false≢true (sym z ∙ q));
@@ -346,10 +346,10 @@ module _ (words tags : List ℕ) (n : ℕ) (src : Source words tags n) (o k : �
           marks-stay = L .marks-stay;
         }
 
-        pub rename-then : e₁ .full ≡ false → (r : Ends) (log classes : List ℕ) (starts maps : List (List ℕ)) (marks : List ℕ) → Lands words G log₁ classes₁ starts₁ maps₁ marks₁ e₁ r log classes starts maps marks → Lands words F log₀ classes₀ starts₀ maps₀ marks₀ e₀ r log classes starts maps marks
-        rename-then q r log classes starts maps marks M = lands-then words log₀ classes₀ starts₀ maps₀ marks₀ e₀ K₀ (importT o T names name) e₁ log₁ classes₁ starts₁ maps₁ marks₁ L q G r log classes starts maps marks M F begins
+        pub rename-then : e₁ .full ≡ false → (r : Sizes) (log logtags : List ℕ) (starts maps : List (List ℕ)) (buckets : List ℕ) → Lands words G log₁ logtags₁ starts₁ maps₁ buckets₁ e₁ r log logtags starts maps buckets → Lands words F log₀ logtags₀ starts₀ maps₀ buckets₀ e₀ r log logtags starts maps buckets
+        rename-then q r log logtags starts maps buckets M = lands-then words log₀ logtags₀ starts₀ maps₀ buckets₀ e₀ K₀ (importT o T names name) e₁ log₁ logtags₁ starts₁ maps₁ buckets₁ L q G r log logtags starts maps buckets M F begins
 
 -- the same number, found another way
-pub renames-at : {words log₀ classes₀ : List ℕ} {starts₀ maps₀ : List (List ℕ)} {marks₀ : List ℕ} {e r : Ends} {log classes : List ℕ} {starts maps : List (List ℕ)} {marks : List ℕ} (o : ℕ) (T : Tables) (name k m : ℕ) → k ≡ m
-    → Lands words (importT o (renamed T k name) types k) log₀ classes₀ starts₀ maps₀ marks₀ e r log classes starts maps marks → Lands words (importT o (renamed T m name) types m) log₀ classes₀ starts₀ maps₀ marks₀ e r log classes starts maps marks
+pub renames-at : {words log₀ logtags₀ : List ℕ} {starts₀ maps₀ : List (List ℕ)} {buckets₀ : List ℕ} {e r : Sizes} {log logtags : List ℕ} {starts maps : List (List ℕ)} {buckets : List ℕ} (o : ℕ) (T : Tables) (name k m : ℕ) → k ≡ m
+    → Lands words (importT o (renamed T k name) types k) log₀ logtags₀ starts₀ maps₀ buckets₀ e r log logtags starts maps buckets → Lands words (importT o (renamed T m name) types m) log₀ logtags₀ starts₀ maps₀ buckets₀ e r log logtags starts maps buckets
 renames-at o T name k m q L = rw (← q) L

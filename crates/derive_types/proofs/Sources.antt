@@ -1,4 +1,4 @@
--- The source that words and tape hold: how many records its tables have, where they stand, and what they may refer to. Assumes nothing.
+-- The source that words and tags hold: how many records its tables have, where they are, and what they may refer to.
 use mathlib.Core.Path.{_≡_, refl, sym, ap, _∙_}
 use mathlib.Core.Bool.{true}
 use mathlib.Core.List.{List, [], _∷_}
@@ -23,11 +23,11 @@ use Rattle.theory_records.specs.Tested.{tested-wf, kinds-at}
 use Rattle.theory_image.specs.FunctionViews.{Part, taped-length}
 use Rattle.theory_image.specs.Betweens.{part-between, table-count, record-part}
 use Rattle.theory_image.specs.Modules.{write-read}
-use Rattle.derive_state.specs.Refers.{tabOf, Small, kindBytes}
+use Rattle.derive_state.specs.Refers.{tabOf, Small, targetBytes}
 use Rattle.derive_state.specs.Source.{heldBy, modOf, srcOf, Source}
 use Rattle.derive_state.specs.Held.{Nameless, Readable}
 
--- ---- words and tape of a module that passed tests 3 and 4 are a source
+-- ---- words and tags of a module that passed tests 3 and 4 are a source
 pub mod-is : {words tags : List ℕ} {n : ℕ} {m : Module} → Taped words tags n m → modOf words n ≡ m
 unfolding modOf heldBy
 mod-is {m} t = ap heldBy (ap read (t .words-are) ∙ write-read m (t .well))
@@ -128,13 +128,13 @@ module _ (words tags : List ℕ) (n : ℕ) (src : Source words tags n) where
       pub record-lower : All (Lower (srcOf words n) (tabOf t) k) (refs (between tags words begin end))
       record-lower = rw record-is (falls (srcOf words n) wf (tabOf t) k inside)
 
-      pub readable : (table : List ℕ) → table ≡ kindBytes → Readable words tags table begin end
+      pub readable : (table : List ℕ) → table ≡ targetBytes → Readable words tags table begin end
       readable table e = record {
         stretch = stretch;
         words-long = src .taped .words-long;
         tags-long = src .taped .tags-long;
         small = all-map (refs (between tags words begin end)) (λ j l. small-of (tabOf t) k j l) record-lower;
-        kinds-are = e;
+        targets-are = e;
       }
 
       pub plain-name : t ≡ 0 → Nameless (between tags words begin end)

@@ -1,4 +1,4 @@
--- What a word refers to: the step of the import, and that ranks fall. Assumes nothing.
+-- What a word refers to: the step of the import, and that ranks fall.
 use mathlib.Core.Path.{_≡_, refl, _∙_}
 use mathlib.Core.Logic.{_⊎_, inl, inr, ⊎-elim}
 use mathlib.Core.Bool.{Bool, true, false, cond}
@@ -8,15 +8,15 @@ use native.Mathlib.Omega.{arith}
 use lib.Dec.{ltb}
 use borrow.Author.Tests.{lt-ltb, le-ltb}
 use Rattle.model.specs.Tables.{Tab, names, types, constants, overrides, globals, exprs, codeT, Tables, count}
-use Rattle.model.specs.References.{Place, table, own, function, Target, copied, start, upto, ref, opt, target, Node, refOf, each}
-use Rattle.model.specs.Imports.{St, stepT}
+use Rattle.model.specs.References.{Place, table, own, function, Target, copied, start, upto, ref, opt, target, Node, refOf, foldRefs}
+use Rattle.model.specs.Imports.{Derived, stepT}
 use Rattle.theory_records.specs.RecordLaws.{All}
 use Rattle.theory_records.specs.Well.{home, rank, Lower, May, type-name, type-type, const-name, const-type, const-init, over-name, over-type, over-init, global-name, global-type, global-init, expr-type, expr-const, expr-over, expr-own}
-use Rattle.derive_state.specs.Refers.{codeP, kindOf, tabOf}
+use Rattle.derive_state.specs.Refers.{codeP, targetOf, tabOf}
 use Rattle.derive_state.specs.Source.{ifSome, refersTo, less, numberOf}
 
-pub step-is : (imp : Tab → ℕ → St → St) (g : Target) (w : ℕ) (rest : List Node) (s : St) → each (refOf g w rest) (stepT imp) s ≡ each rest (stepT imp) (cond (ltb (refersTo g w) 6) (imp (tabOf (refersTo g w)) (numberOf g w) s) s)
-unfolding refOf each stepT refersTo ifSome numberOf less kindOf codeP codeT tabOf
+pub step-is : (imp : Tab → ℕ → Derived → Derived) (g : Target) (w : ℕ) (rest : List Node) (s : Derived) → foldRefs (refOf g w rest) (stepT imp) s ≡ foldRefs rest (stepT imp) (cond (ltb (refersTo g w) 6) (imp (tabOf (refersTo g w)) (numberOf g w) s) s)
+unfolding refOf foldRefs stepT refersTo ifSome numberOf less targetOf codeP codeT tabOf
 step-is imp copied w rest s = refl
 step-is imp start w rest s = refl
 step-is imp upto w rest s = refl
@@ -46,7 +46,7 @@ step-is imp (opt function) zero rest s = refl
 step-is imp (opt function) (suc w) rest s = refl
 
 pub hit : (T : Tables) (t : Tab) (k : ℕ) (g : Target) (w : ℕ) → All (Lower T t k) (refOf g w []) → refersTo g w < 6 → (numberOf g w < count T (tabOf (refersTo g w))) × (rank T (tabOf (refersTo g w)) (numberOf g w) < rank T t k)
-unfolding refOf refersTo ifSome numberOf less kindOf codeP codeT tabOf Lower home
+unfolding refOf refersTo ifSome numberOf less targetOf codeP codeT tabOf Lower home
 hit T t k copied w a h = absurd (omega arith)
 hit T t k start w a h = absurd (omega arith)
 hit T t k upto w a h = absurd (omega arith)
@@ -103,7 +103,7 @@ may-code expr-over = inr (inr (inl refl))
 may-code expr-own = inr (inr (inr refl))
 
 pub allowed : (T : Tables) (t : Tab) (k : ℕ) (g : Target) (w : ℕ) → All (Lower T t k) (refOf g w []) → refersTo g w < 6 → Allowed t (refersTo g w)
-unfolding refOf refersTo ifSome kindOf codeP codeT Lower
+unfolding refOf refersTo ifSome targetOf codeP codeT Lower
 allowed T t k copied w a h = absurd (omega arith)
 allowed T t k start w a h = absurd (omega arith)
 allowed T t k upto w a h = absurd (omega arith)
@@ -172,7 +172,7 @@ unfolding less
 pred-is zero = refl
 pred-is (suc w) = refl
 
-module _ (s w u : ℕ) (is : u ≡ kindOf (target s)) where
+module _ (s w u : ℕ) (is : u ≡ targetOf (target s)) where
   pub to-ref : u < 6 → (u ≡ refersTo (target s) w) × (w ≡ numberOf (target s) w)
   unfolding refersTo numberOf
   to-ref h = (rw (← is, lt-ltb u 6 h), rw (← is, lt-ltb u 6 h))

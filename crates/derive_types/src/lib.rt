@@ -1,18 +1,26 @@
 // The imports of derive.rs, of names and types: a record with all that it refers to. What a record refers to comes first, in field order; then the record is
-// carried through the maps, and settled among the records of its table. A number that is mapped already is not imported again.
-// The import of a type calls itself on the types of lower numbers that it refers to.
+// carried through the maps, and interned among the records of its table. A number that is mapped already is not imported again. The import of a type calls
+// itself on the types of lower numbers that it refers to.
 use base_handles::TypeHandle;
 use base_views::NAMES;
 use base_views::TYPES;
 use base_views::record_at;
 use base_views::record_end;
+use base_words::Tags;
+use base_words::Words;
 use base_words::wide;
-use derive_intern::settle;
-use derive_state::Ends;
+use derive_intern::intern;
+use derive_state::Buckets;
+use derive_state::Log;
+use derive_state::LogTags;
+use derive_state::Maps;
 use derive_state::NOTHING;
 use derive_state::OPTIONAL;
-use derive_state::kind_of;
-use derive_state::less;
+use derive_state::Sizes;
+use derive_state::Starts;
+use derive_state::Targets;
+use derive_state::number_of;
+use derive_state::target_of;
 ghost use mathlib.Core.Path.{_≡_};
 ghost use mathlib.Core.Bool.{false};
 ghost use Prim.Native.Nat.{_<_};
@@ -20,22 +28,22 @@ ghost use Rattle.model.specs.Module.{countAt};
 ghost use Rattle.model.specs.References.{target};
 ghost use Rattle.model.specs.Tables.{names, types};
 ghost use Rattle.model.specs.Imports.{importT, renamed};
-ghost use Rattle.derive_state.specs.Refers.{kindBytes};
+ghost use Rattle.derive_state.specs.Refers.{targetBytes};
 ghost use Rattle.derive_state.specs.Source.{srcOf, Source, refersTo, numberOf};
-ghost use Rattle.derive_state.specs.Held.{Kept, Lands};
+ghost use Rattle.derive_state.specs.Held.{ValidArrays, Lands};
 
-// What a word refers to: the number of a table, or NOTHING, and a number in it.
+// What a word refers to: the number of a table, or NOTHING, and a number in that table.
 pub struct Reference {
     pub table: usize,
     pub number: u32,
 }
 
 // What the word w of the class s refers to.
-pub fn refers_to(kinds: &[u8; 256], s: u8, w: u32) -> Reference
-    requires { ⌜ now kinds ≡ kindBytes ⌝ }
+pub fn refers_to(targets: &Targets, s: u8, w: u32) -> Reference
+    requires { ⌜ now targets ≡ targetBytes ⌝ }
     ensures { λ r. ⌜ (r .table ≡ refersTo (target s) w) × (r .number ≡ numberOf (target s) w) ⌝ }
 {
-    let u = kind_of(kinds, s);
+    let u = target_of(targets, s);
     if u < NOTHING {
         return Reference {
             table: u,
@@ -45,7 +53,7 @@ pub fn refers_to(kinds: &[u8; 256], s: u8, w: u32) -> Reference
     if u < OPTIONAL {
         return Reference {
             table: NOTHING,
-            number: less(w),
+            number: number_of(w),
         };
     }
     if w == 0 {
@@ -60,26 +68,26 @@ pub fn refers_to(kinds: &[u8; 256], s: u8, w: u32) -> Reference
     }
 }
 
-// Name h, interned: a name is found by its text.
+// Imports name h: a name is found by its text.
 pub fn import_name(
-    words: &[u32; 16384],
-    tags: &[u8; 16384],
-    kinds: &[u8; 256],
+    words: &Words,
+    tags: &Tags,
+    targets: &Targets,
     n: usize,
-    log: &mut [u32; 16384],
-    classes: &mut [u8; 16384],
-    starts: &mut [[u32; 512]; 8],
-    maps: &mut [[u32; 512]; 6],
-    marks: &mut [u16; 16384],
-    ends: Ends,
+    log: &mut Log,
+    logtags: &mut LogTags,
+    starts: &mut Starts,
+    maps: &mut Maps,
+    buckets: &mut Buckets,
+    ends: Sizes,
     offset: u32,
     h: u32,
-) -> Ends
+) -> Sizes
     requires { ⌜ Source (now words) (now tags) n ⌝ }
     requires { ⌜ (h < countAt 0 (now words)) × (ends .full ≡ false) ⌝ }
-    requires { ⌜ now kinds ≡ kindBytes ⌝ }
-    requires { ⌜ Kept (now log) (now classes) (now starts) (now maps) (now marks) ends ⌝ }
-    ensures { λ r. ⌜ Lands (now (words .entry)) (importT offset (srcOf (now (words .entry)) n) names h) (now (log .entry)) (now (classes .entry)) (now (starts .entry)) (now (maps .entry)) (now (marks .entry)) ends r (now (log .exit)) (now (classes .exit)) (now (starts .exit)) (now (maps .exit)) (now (marks .exit)) ⌝ }
+    requires { ⌜ now targets ≡ targetBytes ⌝ }
+    requires { ⌜ ValidArrays (now log) (now logtags) (now starts) (now maps) (now buckets) ends ⌝ }
+    ensures { λ r. ⌜ Lands (now (words .entry)) (importT offset (srcOf (now (words .entry)) n) names h) (now (log .entry)) (now (logtags .entry)) (now (starts .entry)) (now (maps .entry)) (now (buckets .entry)) ends r (now (log .exit)) (now (logtags .exit)) (now (starts .exit)) (now (maps .exit)) (now (buckets .exit)) ⌝ }
 {
     let k = wide(h);
     if maps[NAMES][k] != 0 {
@@ -87,15 +95,15 @@ pub fn import_name(
     }
     let at = record_at(words, tags, n, NAMES, k);
     let end = record_end(words, tags, n, NAMES, k);
-    settle(
+    intern(
         words,
         tags,
-        kinds,
+        targets,
         log,
-        classes,
+        logtags,
         starts,
         maps,
-        marks,
+        buckets,
         ends,
         offset,
         NAMES,
@@ -105,26 +113,26 @@ pub fn import_name(
     )
 }
 
-// Type h: its name, its bases or its members' names and types, then the type.
+// Imports type h: its name, its bases or its members' names and types, then the type.
 pub fn import_type(
-    words: &[u32; 16384],
-    tags: &[u8; 16384],
-    kinds: &[u8; 256],
+    words: &Words,
+    tags: &Tags,
+    targets: &Targets,
     n: usize,
-    log: &mut [u32; 16384],
-    classes: &mut [u8; 16384],
-    starts: &mut [[u32; 512]; 8],
-    maps: &mut [[u32; 512]; 6],
-    marks: &mut [u16; 16384],
-    ends: Ends,
+    log: &mut Log,
+    logtags: &mut LogTags,
+    starts: &mut Starts,
+    maps: &mut Maps,
+    buckets: &mut Buckets,
+    ends: Sizes,
     offset: u32,
     h: TypeHandle,
-) -> Ends
+) -> Sizes
     requires { ⌜ Source (now words) (now tags) n ⌝ }
     requires { ⌜ ((h .0) < countAt 1 (now words)) × (ends .full ≡ false) ⌝ }
-    requires { ⌜ now kinds ≡ kindBytes ⌝ }
-    requires { ⌜ Kept (now log) (now classes) (now starts) (now maps) (now marks) ends ⌝ }
-    ensures { λ r. ⌜ Lands (now (words .entry)) (importT offset (srcOf (now (words .entry)) n) types (h .0)) (now (log .entry)) (now (classes .entry)) (now (starts .entry)) (now (maps .entry)) (now (marks .entry)) ends r (now (log .exit)) (now (classes .exit)) (now (starts .exit)) (now (maps .exit)) (now (marks .exit)) ⌝ }
+    requires { ⌜ now targets ≡ targetBytes ⌝ }
+    requires { ⌜ ValidArrays (now log) (now logtags) (now starts) (now maps) (now buckets) ends ⌝ }
+    ensures { λ r. ⌜ Lands (now (words .entry)) (importT offset (srcOf (now (words .entry)) n) types (h .0)) (now (log .entry)) (now (logtags .entry)) (now (starts .entry)) (now (maps .entry)) (now (buckets .entry)) ends r (now (log .exit)) (now (logtags .exit)) (now (starts .exit)) (now (maps .exit)) (now (buckets .exit)) ⌝ }
 {
     let k = wide(h.0);
     if maps[TYPES][k] != 0 {
@@ -137,18 +145,18 @@ pub fn import_type(
     while i < end {
         let j = i;
         i += 1;
-        let r = refers_to(kinds, tags[j], words[j]);
+        let r = refers_to(targets, tags[j], words[j]);
         if r.table == NAMES {
             e = import_name(
                 words,
                 tags,
-                kinds,
+                targets,
                 n,
                 log,
-                classes,
+                logtags,
                 starts,
                 maps,
-                marks,
+                buckets,
                 e,
                 offset,
                 r.number,
@@ -160,13 +168,13 @@ pub fn import_type(
             e = import_type(
                 words,
                 tags,
-                kinds,
+                targets,
                 n,
                 log,
-                classes,
+                logtags,
                 starts,
                 maps,
-                marks,
+                buckets,
                 e,
                 offset,
                 TypeHandle(r.number),
@@ -176,15 +184,15 @@ pub fn import_type(
             }
         }
     }
-    settle(
+    intern(
         words,
         tags,
-        kinds,
+        targets,
         log,
-        classes,
+        logtags,
         starts,
         maps,
-        marks,
+        buckets,
         e,
         offset,
         TYPES,
@@ -194,27 +202,27 @@ pub fn import_type(
     )
 }
 
-// Type h under the name of that number: as it would be imported from a source in which it bears that name.
+// Imports type h under the name with the given number, as from a source in which it has that name.
 pub fn rename_type(
-    words: &[u32; 16384],
-    tags: &[u8; 16384],
-    kinds: &[u8; 256],
+    words: &Words,
+    tags: &Tags,
+    targets: &Targets,
     n: usize,
-    log: &mut [u32; 16384],
-    classes: &mut [u8; 16384],
-    starts: &mut [[u32; 512]; 8],
-    maps: &mut [[u32; 512]; 6],
-    marks: &mut [u16; 16384],
-    ends: Ends,
+    log: &mut Log,
+    logtags: &mut LogTags,
+    starts: &mut Starts,
+    maps: &mut Maps,
+    buckets: &mut Buckets,
+    ends: Sizes,
     offset: u32,
     h: TypeHandle,
     name: u32,
-) -> Ends
+) -> Sizes
     requires { ⌜ Source (now words) (now tags) n ⌝ }
     requires { ⌜ ((h .0) < countAt 1 (now words)) × (name < countAt 0 (now words)) × (ends .full ≡ false) ⌝ }
-    requires { ⌜ now kinds ≡ kindBytes ⌝ }
-    requires { ⌜ Kept (now log) (now classes) (now starts) (now maps) (now marks) ends ⌝ }
-    ensures { λ r. ⌜ Lands (now (words .entry)) (importT offset (renamed (srcOf (now (words .entry)) n) (h .0) name) types (h .0)) (now (log .entry)) (now (classes .entry)) (now (starts .entry)) (now (maps .entry)) (now (marks .entry)) ends r (now (log .exit)) (now (classes .exit)) (now (starts .exit)) (now (maps .exit)) (now (marks .exit)) ⌝ }
+    requires { ⌜ now targets ≡ targetBytes ⌝ }
+    requires { ⌜ ValidArrays (now log) (now logtags) (now starts) (now maps) (now buckets) ends ⌝ }
+    ensures { λ r. ⌜ Lands (now (words .entry)) (importT offset (renamed (srcOf (now (words .entry)) n) (h .0) name) types (h .0)) (now (log .entry)) (now (logtags .entry)) (now (starts .entry)) (now (maps .entry)) (now (buckets .entry)) ends r (now (log .exit)) (now (logtags .exit)) (now (starts .exit)) (now (maps .exit)) (now (buckets .exit)) ⌝ }
 {
     let k = wide(h.0);
     if maps[TYPES][k] != 0 {
@@ -225,13 +233,13 @@ pub fn rename_type(
     let mut e = import_name(
         words,
         tags,
-        kinds,
+        targets,
         n,
         log,
-        classes,
+        logtags,
         starts,
         maps,
-        marks,
+        buckets,
         ends,
         offset,
         name,
@@ -243,18 +251,18 @@ pub fn rename_type(
     while i < end {
         let j = i;
         i += 1;
-        let r = refers_to(kinds, tags[j], words[j]);
+        let r = refers_to(targets, tags[j], words[j]);
         if r.table == NAMES {
             e = import_name(
                 words,
                 tags,
-                kinds,
+                targets,
                 n,
                 log,
-                classes,
+                logtags,
                 starts,
                 maps,
-                marks,
+                buckets,
                 e,
                 offset,
                 r.number,
@@ -266,13 +274,13 @@ pub fn rename_type(
             e = import_type(
                 words,
                 tags,
-                kinds,
+                targets,
                 n,
                 log,
-                classes,
+                logtags,
                 starts,
                 maps,
-                marks,
+                buckets,
                 e,
                 offset,
                 TypeHandle(r.number),
@@ -284,15 +292,15 @@ pub fn rename_type(
     }
     let mut view = *words;
     view[at] = name + 1;
-    settle(
+    intern(
         &view,
         tags,
-        kinds,
+        targets,
         log,
-        classes,
+        logtags,
         starts,
         maps,
-        marks,
+        buckets,
         e,
         offset,
         TYPES,

@@ -1,4 +1,4 @@
--- Each step only adds to what is under way, in the tables and in the words of the expressions made: what is too large stays too large. Assumes nothing.
+-- Each step only adds to the builder, in the tables and in the words of the expressions made: what is too large stays too large.
 use mathlib.Core.List.{List}
 use Prim.Native.Nat.{ℕ, _+_, _≤_}
 use native.Mathlib.Nat.{le-refl, le-trans}
@@ -8,19 +8,19 @@ use Rattle.model.specs.Outcome.{Cells}
 use Rattle.model.specs.Tree.{flatAll}
 use Rattle.model.specs.Module.{Module}
 use Rattle.model.specs.Tables.{tables}
-use Rattle.model.specs.Imports.{St}
-use Rattle.model.specs.Bodies.{Making, bring, push, join}
+use Rattle.model.specs.Imports.{Derived}
+use Rattle.model.specs.Bodies.{Builder, bring, appendExpr, internExpr}
 use Rattle.theory_passes.specs.Growth.{Growing, longer}
 use Rattle.theory_passes.specs.Light.{still}
 use Rattle.derive_state.specs.Held.{Over, long, many, crowd, keys}
 use Rattle.derive_types.proofs.Growth.{Grow, stay, then, over-grow, grow-T}
 
-pub record GrowM (m m′ : Making) : Type 0 where
+pub record GrowM (m m′ : Builder) : Type 0 where
   pub out-grows : Grow (m .out) (m′ .out)
   pub made-grows : length (flatAll (m .made)) ≤ length (flatAll (m′ .made))
 
-pub growing-by : (o : ℕ) (M : Module) (follow : ℕ → St → St) (xs : List Cells) → ((f : ℕ) (s : St) → Grow s (follow f s)) → Growing o M follow xs GrowM
-unfolding bring push join
+pub growing-by : (o : ℕ) (M : Module) (follow : ℕ → Derived → Derived) (xs : List Cells) → ((f : ℕ) (s : Derived) → Grow s (follow f s)) → Growing o M follow xs GrowM
+unfolding bring appendExpr internExpr
 growing-by o M follow xs calls = record {
   same = λ m. record { out-grows = stay (m .out); made-grows = le-refl _ };
   next = λ a b c p q. record { out-grows = then (p .out-grows) (q .out-grows); made-grows = le-trans (p .made-grows) (q .made-grows) };
@@ -34,14 +34,14 @@ pub growing : (o : ℕ) (M : Module) (xs : List Cells) → Growing o M still xs 
 growing o M xs = growing-by o M still xs (λ f s. stay s)
 
 -- with more words beside it
-pub over-more : (a b : ℕ) {s : St} → a ≤ b → Over a s → Over b s
+pub over-more : (a b : ℕ) {s : Derived} → a ≤ b → Over a s → Over b s
 over-more a b l (long h) = long (omega arith)
 over-more a b l (many t h) = many t h
 over-more a b l (crowd h) = crowd h
 over-more a b l (keys h) = keys h
 
 -- and the expressions made are beside it
-pub over-growM : (p : ℕ) {m m′ : Making} → GrowM m m′ → Over (p + length (flatAll (m .made))) (m .out) → Over (p + length (flatAll (m′ .made))) (m′ .out)
+pub over-growM : (p : ℕ) {m m′ : Builder} → GrowM m m′ → Over (p + length (flatAll (m .made))) (m .out) → Over (p + length (flatAll (m′ .made))) (m′ .out)
 over-growM p {m} {m′} g h =
     let l = g .made-grows in
     over-more (p + length (flatAll (m .made))) (p + length (flatAll (m′ .made))) (omega arith) (over-grow _ (g .out-grows) h)

@@ -1,4 +1,4 @@
--- Seeking an expression on the stack that equals a record: most are told from it by their lengths, or by one word of the record. Assumes nothing.
+-- Finding an expression on the stack that equals a record: most differ from it in their lengths, or in one word of the record.
 use mathlib.Core.Path.{_≡_, refl, sym, _∙_}
 use mathlib.Core.Bool.{Bool, true, false}
 use mathlib.Core.List.{List, []}
@@ -10,10 +10,10 @@ use lib.ListN.{length, getD, drop}
 use borrow.Author.Tests.{ltb-true, ltb-false, eqb-true, eqb-false, ne-eqb}
 use Rattle.model.specs.Outcome.{Cells}
 use Rattle.model.specs.Between.{between}
-use Rattle.model.specs.References.{Place, target, refOf, through, alikeC, alike, seat}
+use Rattle.model.specs.References.{Place, target, refOf, through, alikeC, alike, indexOf}
 use Rattle.theory_records.specs.RecordLaws.{All}
 use Rattle.derive_state.specs.Held.{row, cell, carriedBy}
-use Rattle.derive_state.specs.declared.Ends.{Ends}
+use Rattle.derive_state.specs.declared.Sizes.{Sizes}
 use Rattle.derive_state.proofs.Classes.{alike-class, alike-upto}
 use Rattle.derive_state.proofs.Passes.{compares-short}
 use Rattle.derive_state.proofs.Unlike.{all-at, unlike}
@@ -52,13 +52,13 @@ module _ (stacks : List (List ℕ)) (e₁ made i s y k : ℕ) where
       hop-next h = record { low = let l = H .low in omega arith; high = omega arith; not = λ x l u c v. hop-at x l u (ltb x j) refl c v }
 
 -- ---- what is left from expression k on is the whole; the record's word at p becomes y
-pub record Sieving (words tags : List ℕ) (went : Place → ℕ → ℕ) (at end : ℕ) (stacks : List (List ℕ)) (e₁ : ℕ) (e : Ends) (k p y : ℕ) : Type 0 where
+pub record Sieving (words tags : List ℕ) (went : Place → ℕ → ℕ) (at end : ℕ) (stacks : List (List ℕ)) (e₁ : ℕ) (e : Sizes) (k p y : ℕ) : Type 0 where
   pub seating : Seating stacks e₁ e (carriedBy went tags words at end) k
   pub low : at ≤ p
   pub high : p < end
   pub word : y ≡ through went (getD tags p 0) (getD words p 0)
 
-module _ (words tags : List ℕ) (went : Place → ℕ → ℕ) (at end : ℕ) (stacks : List (List ℕ)) (e₁ : ℕ) (e : Ends) (L : Legible words tags 1024 at end) (S : Stacks stacks e) (R : Rising (seatsOf stacks e₁ e) e₁ (e .et)) (many : length (seatsOf stacks e₁ e) ≡ e .made) where
+module _ (words tags : List ℕ) (went : Place → ℕ → ℕ) (at end : ℕ) (stacks : List (List ℕ)) (e₁ : ℕ) (e : Sizes) (L : Legible words tags 1024 at end) (S : Stacks stacks e) (R : Rising (seatsOf stacks e₁ e) e₁ (e .exprtop)) (many : length (seatsOf stacks e₁ e) ≡ e .made) where
   abbrev C : Cells
   C = carriedBy went tags words at end
 
@@ -75,19 +75,19 @@ module _ (words tags : List ℕ) (went : Place → ℕ → ℕ) (at end : ℕ) (
     pub sieve-word : p < 16384
     sieve-word = let h = G .high in let l = L .stretch .small in omega arith
 
-    pub sieve-last : e .made ≤ k → e .made ≡ seat (madeOf stacks e₁ e) C
+    pub sieve-last : e .made ≤ k → e .made ≡ indexOf (madeOf stacks e₁ e) C
     sieve-last h = seat-last stacks e₁ e C S R many k (G .seating) h
 
     pub sieve-seat : k < e .made → e₁ + k < 16384
     sieve-seat h = seat-at stacks e₁ e C S R many k (G .seating) h
 
-    module _ (h : k < e .made) (a b : ℕ) (ha : a ≡ getD (row stacks 2) (e₁ + k) 0) (hb : b ≡ nextOf (drop (k + 1) (seatsOf stacks e₁ e)) (e .et)) where
+    module _ (h : k < e .made) (a b : ℕ) (ha : a ≡ getD (row stacks 2) (e₁ + k) 0) (hb : b ≡ nextOf (drop (k + 1) (seatsOf stacks e₁ e)) (e .exprtop)) where
       pub sieve-within : (a < b) × (b ≤ 16384)
       sieve-within = seat-within stacks e₁ e C S R many k (G .seating) h a b ha hb
 
       -- it is the one, or not
       module _ (d : ℕ) (A : Apart at end (alike (between (row stacks 1) (row stacks 0) a b) C) d) where
-        pub sieve-found : d ≡ end → k ≡ seat (madeOf stacks e₁ e) C
+        pub sieve-found : d ≡ end → k ≡ indexOf (madeOf stacks e₁ e) C
         sieve-found q = seat-found stacks e₁ e C S R many k (G .seating) h a b ha hb true (A .all q) refl
 
         pub sieve-more : (d ≡ end → ⊥) → (z : ℕ) → z ≡ through went (getD tags d 0) (getD words d 0) → Sieving words tags went at end stacks e₁ e (k + 1) d z
@@ -138,7 +138,7 @@ module _ (words tags : List ℕ) (went : Place → ℕ → ℕ) (at end : ℕ) (
     hopped zero k l q G = let z : r ≡ k = omega arith in rw z G
     hopped (suc d) k l q G =
         let h = H .high in
-        let g = skip k p y G (omega arith) (cell stacks 2 (e₁ + k)) (nextOf (drop (k + 1) (seatsOf stacks e₁ e)) (e .et)) refl refl (λ c v. H .not k l (omega arith) c v) in
+        let g = skip k p y G (omega arith) (cell stacks 2 (e₁ + k)) (nextOf (drop (k + 1) (seatsOf stacks e₁ e)) (e .exprtop)) refl refl (λ c v. H .not k l (omega arith) c v) in
         hopped d (k + 1) (omega arith) (omega arith) g
 
     pub sieve-hop : Sieving words tags went at end stacks e₁ e k₀ p y → Sieving words tags went at end stacks e₁ e r p y

@@ -1,5 +1,5 @@
--- Records one behind the other, and the stacks that hold those of a function under way: cut at their places they are the stretch that they fill; one more is pushed
--- on their end; and what lies above the end does not count. Assumes nothing.
+-- Records one after the other, and the stacks that hold those of a function under construction: cut at their places they are the stretch that they fill; one more is pushed
+-- on their end; and what lies above the end does not count.
 use mathlib.Core.Path.{_≡_, refl, sym, ap, ap₂, _∙_}
 use mathlib.Core.Logic.{⊎-elim}
 use mathlib.Core.List.{List, [], _∷_, _++_, map}
@@ -8,6 +8,7 @@ use native.Mathlib.Nat.{le-refl}
 use native.Mathlib.Omega.{arith}
 use lib.ListN.{length, getD, set, take, drop, length-append, length-set, length-map, take-append-drop}
 use lib.Seq.{slice, sets, sets-eq, length-sets, length-slice, length-take-le, take-take, take-append-le, drop-append-le, take-at, drop-at, take-suc-set, take-set-le, getD-take, getD-set-same, getD-set-other}
+use Rattle.theory_lists.specs.Lists.{take-less}
 use Rattle.model.specs.Outcome.{Cells, class, word}
 use Rattle.model.specs.Tree.{flatAll}
 use Rattle.model.specs.Between.{beside, between}
@@ -15,7 +16,7 @@ use Rattle.model.specs.References.{Place, table, own, function, Node, refs}
 use Rattle.theory_records.specs.RecordLaws.{All, all-map}
 use Rattle.theory_image.specs.Betweens.{beside-cells, between-none}
 use Rattle.derive_state.specs.Held.{row, put, Written}
-use Rattle.derive_state.specs.declared.Ends.{Ends}
+use Rattle.derive_state.specs.declared.Sizes.{Sizes}
 use Rattle.derive_state.proofs.Passes.{length-between}
 use Rattle.derive_state.proofs.State.{same-or, row-other}
 use Rattle.function_references.specs.Fits.{Fits, FitN, Legible}
@@ -24,8 +25,6 @@ use Rattle.function_builder.specs.Stacks.{seatsOf, madeOf, Stacks, Under
 use Rattle.function_builder.specs.Makes.{Stays, Wrote}
 
 -- ---- stretches
-pub take-less : {A : Type 0} (m n : ℕ) (a b : List A) → m ≤ n → take n a ≡ take n b → take m a ≡ take m b
-take-less m n a b h e = sym (take-take m n a h) ∙ ap (take m) e ∙ take-take m n b h
 
 pub slice-join : (a b c : ℕ) (l : List ℕ) → a ≤ b → b ≤ c → c ≤ length l → slice a b l ++ slice b c l ≡ slice a c l
 slice-join a b c l h i j =
@@ -48,7 +47,7 @@ module _ (tags words : List ℕ) where
       let y = length-slice a b words (omega arith) in
       beside-join (slice a b tags) (slice b c tags) (slice a b words) (slice b c words) (x ∙ sym y) ∙ ap₂ beside (slice-join a b c tags h i t) (slice-join a b c words h i w)
 
--- what stands below a place counts alone
+-- only what is below a place counts
 pub between-same : (tags words tags′ words′ : List ℕ) (a b end : ℕ) → b ≤ end → take end tags′ ≡ take end tags → take end words′ ≡ take end words → between tags′ words′ a b ≡ between tags words a b
 unfolding between
 between-same tags words tags′ words′ a b end h t w = ap₂ (λ (x y : List ℕ). beside (drop a x) (drop a y)) (take-less b end tags′ tags h t) (take-less b end words′ words h w)
@@ -188,24 +187,24 @@ module _ {words tags places : List ℕ} {k : ℕ} (X : Expressions words tags pl
       }
 
 -- ---- the stacks
-module _ {k : ℕ} {em : List ℕ} {stacks : List (List ℕ)} {e₁ : ℕ} {e : Ends} (U : Under k em stacks e₁ e) where
-  pub made-low : e₁ + e .made ≤ e .et
-  made-low = let a = rising-low (seatsOf stacks e₁ e) e₁ (e .et) (U .rising) in let b = U .made-is in omega arith
+module _ {k : ℕ} {exprmap : List ℕ} {stacks : List (List ℕ)} {e₁ : ℕ} {e : Sizes} (U : Under k exprmap stacks e₁ e) where
+  pub made-low : e₁ + e .made ≤ e .exprtop
+  made-low = let a = rising-low (seatsOf stacks e₁ e) e₁ (e .exprtop) (U .rising) in let b = U .made-is in omega arith
 
   pub made-many : length (madeOf stacks e₁ e) ≡ e .made
   unfolding madeOf
-  made-many = cut-long (seatsOf stacks e₁ e) (e .et) (row stacks 1) (row stacks 0) ∙ U .made-is
+  made-many = cut-long (seatsOf stacks e₁ e) (e .exprtop) (row stacks 1) (row stacks 0) ∙ U .made-is
 
-  pub made-flat : flatAll (madeOf stacks e₁ e) ≡ between (row stacks 1) (row stacks 0) e₁ (e .et)
+  pub made-flat : flatAll (madeOf stacks e₁ e) ≡ between (row stacks 1) (row stacks 0) e₁ (e .exprtop)
   unfolding madeOf
   made-flat =
       let s = U .stacks-are in
       let h = s .high in
       let a = s .rows 0 (omega arith) in
       let b = s .rows 1 (omega arith) in
-      cut-flat (seatsOf stacks e₁ e) e₁ (e .et) (row stacks 1) (row stacks 0) (U .rising) (omega arith) (omega arith)
+      cut-flat (seatsOf stacks e₁ e) e₁ (e .exprtop) (row stacks 1) (row stacks 0) (U .rising) (omega arith) (omega arith)
 
-  pub made-words : e₁ + length (flatAll (madeOf stacks e₁ e)) ≡ e .et
+  pub made-words : e₁ + length (flatAll (madeOf stacks e₁ e)) ≡ e .exprtop
   made-words =
       let s = U .stacks-are in
       let h = s .high in
@@ -213,20 +212,20 @@ module _ {k : ℕ} {em : List ℕ} {stacks : List (List ℕ)} {e₁ : ℕ} {e : 
       let b = s .rows 1 (omega arith) in
       let l = made-low in
       let c = ap length made-flat in
-      let d = length-between (row stacks 1) (row stacks 0) e₁ (e .et) (omega arith) (omega arith) in
+      let d = length-between (row stacks 1) (row stacks 0) e₁ (e .exprtop) (omega arith) (omega arith) in
       omega arith
 
   -- what lies above the top does not count
-  module _ (stacks′ : List (List ℕ)) (e′ : Ends) (stay : (t : ℕ) → t < 3 → take (e .et) (row stacks′ t) ≡ take (e .et) (row stacks t)) (et-same : e′ .et ≡ e .et) (made-is : e′ .made ≡ e .made) where
+  module _ (stacks′ : List (List ℕ)) (e′ : Sizes) (stay : (t : ℕ) → t < 3 → take (e .exprtop) (row stacks′ t) ≡ take (e .exprtop) (row stacks t)) (et-same : e′ .exprtop ≡ e .exprtop) (made-is : e′ .made ≡ e .made) where
     pub seats-same : seatsOf stacks′ e₁ e′ ≡ seatsOf stacks e₁ e
     unfolding seatsOf
-    seats-same = rw made-is (ap (drop e₁) (take-less (e₁ + e .made) (e .et) (row stacks′ 2) (row stacks 2) made-low (stay 2 (omega arith))))
+    seats-same = rw made-is (ap (drop e₁) (take-less (e₁ + e .made) (e .exprtop) (row stacks′ 2) (row stacks 2) made-low (stay 2 (omega arith))))
 
     pub made-same : madeOf stacks′ e₁ e′ ≡ madeOf stacks e₁ e
     unfolding madeOf
-    made-same = rw (seats-same, et-same) (cut-same (seatsOf stacks e₁ e) e₁ (e .et) (row stacks 1) (row stacks 0) (row stacks′ 1) (row stacks′ 0) (U .rising) (stay 1 (omega arith)) (stay 0 (omega arith)))
+    made-same = rw (seats-same, et-same) (cut-same (seatsOf stacks e₁ e) e₁ (e .exprtop) (row stacks 1) (row stacks 0) (row stacks′ 1) (row stacks′ 0) (U .rising) (stay 1 (omega arith)) (stay 0 (omega arith)))
 
-    pub under-same : Stacks stacks′ e′ → Under k em stacks′ e₁ e′
+    pub under-same : Stacks stacks′ e′ → Under k exprmap stacks′ e₁ e′
     under-same S = record {
       few = U .few;
       em-long = U .em-long;
@@ -272,24 +271,24 @@ module _ (cs : Cells) (p : ℕ) (words tags words′ tags′ : List ℕ) (hw : l
 pub set-low : (ms : List ℕ) (i v n : ℕ) → i < length ms → ((y : ℕ) → getD ms y 0 ≤ n) → v ≤ n → (y : ℕ) → getD (set ms i v) y 0 ≤ n
 set-low ms i v n l h hv y = ⊎-elim (λ (q : y ≡ i). rw (q, getD-set-same ms i v 0 l) hv) (λ (ne : y ≡ i → ⊥). rw (getD-set-other ms i y v 0 ne) (h y)) (same-or y i)
 
-module _ {k : ℕ} {em : List ℕ} {stacks : List (List ℕ)} {e₁ : ℕ} {e : Ends} (U : Under k em stacks e₁ e) (cs : Cells) (some : 0 < length cs) (fits : e .et + length cs ≤ 16384) (stacks′ : List (List ℕ)) (W : Wrote cs (e .et) stacks stacks′) where
+module _ {k : ℕ} {exprmap : List ℕ} {stacks : List (List ℕ)} {e₁ : ℕ} {e : Sizes} (U : Under k exprmap stacks e₁ e) (cs : Cells) (some : 0 < length cs) (fits : e .exprtop + length cs ≤ 16384) (stacks′ : List (List ℕ)) (W : Wrote cs (e .exprtop) stacks stacks′) where
   abbrev pub seated : List (List ℕ)
-  seated = put stacks′ 2 (e₁ + e .made) (e .et)
+  seated = put stacks′ 2 (e₁ + e .made) (e .exprtop)
 
   others : (t : ℕ) → (t ≡ 2 → ⊥) → row seated t ≡ row stacks′ t
-  others t ne = row-other stacks′ 2 t (e₁ + e .made) (e .et) ne
+  others t ne = row-other stacks′ 2 t (e₁ + e .made) (e .exprtop) ne
 
-  seats : row seated 2 ≡ set (row stacks 2) (e₁ + e .made) (e .et)
-  seats = let f = W .four in rw (← W .seats-same) (getD-set-same stacks′ 2 (set (getD stacks′ 2 []) (e₁ + e .made) (e .et)) [] (omega arith))
+  seats : row seated 2 ≡ set (row stacks 2) (e₁ + e .made) (e .exprtop)
+  seats = let f = W .four in rw (← W .seats-same) (getD-set-same stacks′ 2 (set (getD stacks′ 2 []) (e₁ + e .made) (e .exprtop)) [] (omega arith))
 
   abbrev R : (t : ℕ) → t < 4 → length (row stacks t) ≡ 16384
   R = U .stacks-are .rows
 
-  words-below : take (e .et) (row seated 0) ≡ take (e .et) (row stacks 0)
-  words-below = rw (others 0 (λ q. omega arith)) (wrote-words cs (e .et) (row stacks 0) (row stacks 1) (row stacks′ 0) (row stacks′ 1) (R 0 (omega arith)) (R 1 (omega arith)) fits (W .cells))
+  words-below : take (e .exprtop) (row seated 0) ≡ take (e .exprtop) (row stacks 0)
+  words-below = rw (others 0 (λ q. omega arith)) (wrote-words cs (e .exprtop) (row stacks 0) (row stacks 1) (row stacks′ 0) (row stacks′ 1) (R 0 (omega arith)) (R 1 (omega arith)) fits (W .cells))
 
-  tags-below : take (e .et) (row seated 1) ≡ take (e .et) (row stacks 1)
-  tags-below = rw (others 1 (λ q. omega arith)) (wrote-tags cs (e .et) (row stacks 0) (row stacks 1) (row stacks′ 0) (row stacks′ 1) (R 0 (omega arith)) (R 1 (omega arith)) fits (W .cells))
+  tags-below : take (e .exprtop) (row seated 1) ≡ take (e .exprtop) (row stacks 1)
+  tags-below = rw (others 1 (λ q. omega arith)) (wrote-tags cs (e .exprtop) (row stacks 0) (row stacks 1) (row stacks′ 0) (row stacks′ 1) (R 0 (omega arith)) (R 1 (omega arith)) fits (W .cells))
 
   room : e₁ + e .made < 16384
   room = let a = made-low U in omega arith
@@ -298,46 +297,46 @@ module _ {k : ℕ} {em : List ℕ} {stacks : List (List ℕ)} {e₁ : ℕ} {e : 
   pub stays-more : Stays e₁ stacks seated
   stays-more = record { expressions = kept; body = others 3 (λ q. omega arith) ∙ W .body-same }
     where
-      low : e₁ ≤ e .et
+      low : e₁ ≤ e .exprtop
       low = let a = made-low U in omega arith
 
       kept : (t : ℕ) → t < 3 → take e₁ (row seated t) ≡ take e₁ (row stacks t)
-      kept zero h = take-less e₁ (e .et) (row seated 0) (row stacks 0) low words-below
-      kept (suc zero) h = take-less e₁ (e .et) (row seated 1) (row stacks 1) low tags-below
-      kept (suc (suc zero)) h = rw seats (take-set-le e₁ (row stacks 2) (e₁ + e .made) (e .et) (omega arith))
+      kept zero h = take-less e₁ (e .exprtop) (row seated 0) (row stacks 0) low words-below
+      kept (suc zero) h = take-less e₁ (e .exprtop) (row seated 1) (row stacks 1) low tags-below
+      kept (suc (suc zero)) h = rw seats (take-set-le e₁ (row stacks 2) (e₁ + e .made) (e .exprtop) (omega arith))
       kept (suc (suc (suc t))) h = absurd (omega arith)
 
-  module _ (r : Ends) (et-is : r .et ≡ e .et + length cs) (made-is : r .made ≡ e .made + 1) where
-    pub seats-more : seatsOf seated e₁ r ≡ seatsOf stacks e₁ e ++ (e .et ∷ [])
+  module _ (r : Sizes) (et-is : r .exprtop ≡ e .exprtop + length cs) (made-is : r .made ≡ e .made + 1) where
+    pub seats-more : seatsOf seated e₁ r ≡ seatsOf stacks e₁ e ++ (e .exprtop ∷ [])
     unfolding seatsOf
     seats-more =
         let l = R 2 (omega arith) in
         let b = room in
         let t = length-take-le (e₁ + e .made) (row stacks 2) (omega arith) in
         let n : e₁ + r .made ≡ suc (e₁ + e .made) = omega arith in
-        rw (seats, n, take-suc-set (row stacks 2) (e₁ + e .made) (e .et) (omega arith)) (drop-append-le e₁ (take (e₁ + e .made) (row stacks 2)) (e .et ∷ []) (omega arith))
+        rw (seats, n, take-suc-set (row stacks 2) (e₁ + e .made) (e .exprtop) (omega arith)) (drop-append-le e₁ (take (e₁ + e .made) (row stacks 2)) (e .exprtop ∷ []) (omega arith))
 
     pub made-more : madeOf seated e₁ r ≡ madeOf stacks e₁ e ++ (cs ∷ [])
     unfolding madeOf
     made-more =
-        let a = cut-same (seatsOf stacks e₁ e) e₁ (e .et) (row stacks 1) (row stacks 0) (row seated 1) (row seated 0) (U .rising) tags-below words-below in
-        let b = wrote-cells cs (e .et) (row stacks 0) (row stacks 1) (row stacks′ 0) (row stacks′ 1) (R 0 (omega arith)) (R 1 (omega arith)) fits (W .cells) in
-        let c : between (row seated 1) (row seated 0) (e .et) (e .et + length cs) ≡ cs = rw (others 0 (λ q. omega arith), others 1 (λ q. omega arith)) b in
-        rw (seats-more, et-is, cut-more (seatsOf stacks e₁ e) (e .et) (e .et + length cs) (row seated 1) (row seated 0), a, c)
+        let a = cut-same (seatsOf stacks e₁ e) e₁ (e .exprtop) (row stacks 1) (row stacks 0) (row seated 1) (row seated 0) (U .rising) tags-below words-below in
+        let b = wrote-cells cs (e .exprtop) (row stacks 0) (row stacks 1) (row stacks′ 0) (row stacks′ 1) (R 0 (omega arith)) (R 1 (omega arith)) fits (W .cells) in
+        let c : between (row seated 1) (row seated 0) (e .exprtop) (e .exprtop + length cs) ≡ cs = rw (others 0 (λ q. omega arith), others 1 (λ q. omega arith)) b in
+        rw (seats-more, et-is, cut-more (seatsOf stacks e₁ e) (e .exprtop) (e .exprtop + length cs) (row seated 1) (row seated 0), a, c)
 
-    pub under-more : r .bt ≡ e .bt → (i : ℕ) → i < 1024 → Under k (set em i (e .made + 1)) seated e₁ r
+    pub under-more : r .bodytop ≡ e .bodytop → (i : ℕ) → i < 1024 → Under k (set exprmap i (e .made + 1)) seated e₁ r
     under-more bt-is i hi = record {
       few = U .few;
-      em-long = length-set em i (e .made + 1) ∙ U .em-long;
+      em-long = length-set exprmap i (e .made + 1) ∙ U .em-long;
       stacks-are = record { four = length-set stacks′ 2 _ ∙ W .four; rows = rows; high = rw et-is fits; high′ = rw bt-is (U .stacks-are .high′) };
-      rising = rw (seats-more, et-is) (rising-more (seatsOf stacks e₁ e) e₁ (e .et) (e .et + length cs) (U .rising) (omega arith));
-      made-is = rw seats-more (length-append (seatsOf stacks e₁ e) (e .et ∷ []) ∙ (let z = U .made-is in omega arith));
-      within = λ x. rw made-is (set-low em i (e .made + 1) (e .made + 1) (let z = U .em-long in omega arith) (λ y. let z = U .within y in omega arith) (le-refl _) x);
+      rising = rw (seats-more, et-is) (rising-more (seatsOf stacks e₁ e) e₁ (e .exprtop) (e .exprtop + length cs) (U .rising) (omega arith));
+      made-is = rw seats-more (length-append (seatsOf stacks e₁ e) (e .exprtop ∷ []) ∙ (let z = U .made-is in omega arith));
+      within = λ x. rw made-is (set-low exprmap i (e .made + 1) (e .made + 1) (let z = U .em-long in omega arith) (λ y. let z = U .within y in omega arith) (le-refl _) x);
     }
       where
         rows : (t : ℕ) → t < 4 → length (row seated t) ≡ 16384
-        rows zero h = rw (others 0 (λ q. omega arith)) (wrote-long cs (e .et) (row stacks 0) (row stacks 1) (row stacks′ 0) (row stacks′ 1) (R 0 (omega arith)) (R 1 (omega arith)) fits (W .cells))
-        rows (suc zero) h = rw (others 1 (λ q. omega arith)) (wrote-long′ cs (e .et) (row stacks 0) (row stacks 1) (row stacks′ 0) (row stacks′ 1) (R 0 (omega arith)) (R 1 (omega arith)) fits (W .cells))
-        rows (suc (suc zero)) h = rw seats (length-set (row stacks 2) (e₁ + e .made) (e .et) ∙ R 2 (omega arith))
+        rows zero h = rw (others 0 (λ q. omega arith)) (wrote-long cs (e .exprtop) (row stacks 0) (row stacks 1) (row stacks′ 0) (row stacks′ 1) (R 0 (omega arith)) (R 1 (omega arith)) fits (W .cells))
+        rows (suc zero) h = rw (others 1 (λ q. omega arith)) (wrote-long′ cs (e .exprtop) (row stacks 0) (row stacks 1) (row stacks′ 0) (row stacks′ 1) (R 0 (omega arith)) (R 1 (omega arith)) fits (W .cells))
+        rows (suc (suc zero)) h = rw seats (length-set (row stacks 2) (e₁ + e .made) (e .exprtop) ∙ R 2 (omega arith))
         rows (suc (suc (suc zero))) h = rw (others 3 (λ q. omega arith), W .body-same) (R 3 (omega arith))
         rows (suc (suc (suc (suc t)))) h = absurd (omega arith)

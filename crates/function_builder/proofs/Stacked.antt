@@ -1,4 +1,4 @@
--- The stacks of a function under way: where its expressions start and end, and the first that equals a record. Assumes nothing.
+-- The stacks of a function under construction: where its expressions start and end, and the first that equals a record.
 use mathlib.Core.Path.{_≡_, refl, sym, _∙_}
 use mathlib.Core.Bool.{Bool, true, false}
 use mathlib.Core.List.{List, [], _∷_}
@@ -9,15 +9,15 @@ use lib.ListN.{length, getD, take, drop, drop-of-length-le}
 use lib.Seq.{slice, drop-drop, slice-cons, length-take-le}
 use Rattle.model.specs.Outcome.{Cells}
 use Rattle.model.specs.Between.{between}
-use Rattle.model.specs.References.{alike, seat}
+use Rattle.model.specs.References.{alike, indexOf}
 use Rattle.derive_state.specs.Held.{row}
-use Rattle.derive_state.specs.declared.Ends.{Ends}
+use Rattle.derive_state.specs.declared.Sizes.{Sizes}
 use Rattle.function_references.specs.Cuts.{nextOf, cut, Rising}
 use Rattle.function_builder.specs.Stacks.{seatsOf, madeOf, Stacks}
 use Rattle.function_builder.proofs.Stack.{rising-low}
 
 -- ---- where expressions start
-module _ (stacks : List (List ℕ)) (e₁ : ℕ) (e : Ends) where
+module _ (stacks : List (List ℕ)) (e₁ : ℕ) (e : Sizes) where
   pub seats-from : (k : ℕ) → drop k (seatsOf stacks e₁ e) ≡ slice (e₁ + k) (e₁ + e .made) (row stacks 2)
   unfolding seatsOf
   seats-from k = drop-drop k e₁ (take (e₁ + e .made) (row stacks 2))
@@ -36,11 +36,11 @@ module _ (stacks : List (List ℕ)) (e₁ : ℕ) (e : Ends) where
         seats-from k ∙ drop-of-length-le (take (e₁ + e .made) (row stacks 2)) {i = e₁ + k} (omega arith)
 
     -- ---- where one ends
-    pub next-some : (k : ℕ) → k + 1 < e .made → (r : ℕ) → r ≡ getD (row stacks 2) (e₁ + k + 1) 0 → r ≡ nextOf (drop (k + 1) (seatsOf stacks e₁ e)) (e .et)
+    pub next-some : (k : ℕ) → k + 1 < e .made → (r : ℕ) → r ≡ getD (row stacks 2) (e₁ + k + 1) 0 → r ≡ nextOf (drop (k + 1) (seatsOf stacks e₁ e)) (e .exprtop)
     unfolding nextOf
     next-some k h r hr = let q : e₁ + k + 1 ≡ e₁ + (k + 1) = omega arith in hr ∙ rw (q, seats-cons (k + 1) h)
 
-    pub next-none : (k : ℕ) → e .made ≤ k + 1 → e .et ≡ nextOf (drop (k + 1) (seatsOf stacks e₁ e)) (e .et)
+    pub next-none : (k : ℕ) → e .made ≤ k + 1 → e .exprtop ≡ nextOf (drop (k + 1) (seatsOf stacks e₁ e)) (e .exprtop)
     unfolding nextOf
     next-none k h = rw (seats-end (k + 1) h)
 
@@ -55,14 +55,14 @@ rising-cons : (x : ℕ) (rest : List ℕ) (a end : ℕ) → Rising (x ∷ rest) 
 unfolding Rising
 rising-cons x rest a end r = let h = r .0 in let l = r .1 in let t = rising-low rest (nextOf rest end) end (r .2) in (omega arith, omega arith)
 
--- ---- seeking an expression: what is left from number k on is the whole
-pub record Seating (stacks : List (List ℕ)) (e₁ : ℕ) (e : Ends) (c : Cells) (k : ℕ) : Type 0 where
+-- ---- finding an expression: what is left from number k on is the whole
+pub record Seating (stacks : List (List ℕ)) (e₁ : ℕ) (e : Sizes) (c : Cells) (k : ℕ) : Type 0 where
   pub low : k ≤ e .made
-  pub rest : seat (madeOf stacks e₁ e) c ≡ k + seat (cut (drop k (seatsOf stacks e₁ e)) (e .et) (row stacks 1) (row stacks 0)) c
+  pub rest : indexOf (madeOf stacks e₁ e) c ≡ k + indexOf (cut (drop k (seatsOf stacks e₁ e)) (e .exprtop) (row stacks 1) (row stacks 0)) c
 
-module _ (stacks : List (List ℕ)) (e₁ : ℕ) (e : Ends) (c : Cells) (S : Stacks stacks e) (R : Rising (seatsOf stacks e₁ e) e₁ (e .et)) (many : length (seatsOf stacks e₁ e) ≡ e .made) where
+module _ (stacks : List (List ℕ)) (e₁ : ℕ) (e : Sizes) (c : Cells) (S : Stacks stacks e) (R : Rising (seatsOf stacks e₁ e) e₁ (e .exprtop)) (many : length (seatsOf stacks e₁ e) ≡ e .made) where
   pub seat-room : e₁ + e .made ≤ 16384
-  seat-room = let r = rising-low (seatsOf stacks e₁ e) e₁ (e .et) R in let h = S .high in omega arith
+  seat-room = let r = rising-low (seatsOf stacks e₁ e) e₁ (e .exprtop) R in let h = S .high in omega arith
 
   pub seat-first : Seating stacks e₁ e c 0
   unfolding madeOf
@@ -73,31 +73,31 @@ module _ (stacks : List (List ℕ)) (e₁ : ℕ) (e : Ends) (c : Cells) (S : Sta
       pub seat-at : e₁ + k < 16384
       seat-at = let r = seat-room in omega arith
 
-      module _ (a b : ℕ) (ha : a ≡ getD (row stacks 2) (e₁ + k) 0) (hb : b ≡ nextOf (drop (k + 1) (seatsOf stacks e₁ e)) (e .et)) where
+      module _ (a b : ℕ) (ha : a ≡ getD (row stacks 2) (e₁ + k) 0) (hb : b ≡ nextOf (drop (k + 1) (seatsOf stacks e₁ e)) (e .exprtop)) where
         here : drop k (seatsOf stacks e₁ e) ≡ a ∷ drop (k + 1) (seatsOf stacks e₁ e)
         here = rw ha (seats-cons stacks e₁ e S seat-room k h)
 
         pub seat-within : (a < b) × (b ≤ 16384)
         seat-within =
-            let r = rising-cons a (drop (k + 1) (seatsOf stacks e₁ e)) (getD (seatsOf stacks e₁ e) k 0) (e .et) (rw here at (rising-from (seatsOf stacks e₁ e) e₁ (e .et) k R (omega arith))) in
+            let r = rising-cons a (drop (k + 1) (seatsOf stacks e₁ e)) (getD (seatsOf stacks e₁ e) k 0) (e .exprtop) (rw here at (rising-from (seatsOf stacks e₁ e) e₁ (e .exprtop) k R (omega arith))) in
             let h = S .high in
             (rw hb (r .0), rw hb (let z = r .1 in omega arith))
 
-        cut-here : cut (drop k (seatsOf stacks e₁ e)) (e .et) (row stacks 1) (row stacks 0) ≡ between (row stacks 1) (row stacks 0) a b ∷ cut (drop (k + 1) (seatsOf stacks e₁ e)) (e .et) (row stacks 1) (row stacks 0)
+        cut-here : cut (drop k (seatsOf stacks e₁ e)) (e .exprtop) (row stacks 1) (row stacks 0) ≡ between (row stacks 1) (row stacks 0) a b ∷ cut (drop (k + 1) (seatsOf stacks e₁ e)) (e .exprtop) (row stacks 1) (row stacks 0)
         unfolding cut
         cut-here = rw (here, hb)
 
         module _ (r : Bool) (re : r ≡ alike (between (row stacks 1) (row stacks 0) a b) c) where
-          pub seat-found : r ≡ true → k ≡ seat (madeOf stacks e₁ e) c
-          unfolding seat
-          seat-found q = sym (T .rest ∙ rw (cut-here, sym re ∙ q, seat) (add-zero k))
+          pub seat-found : r ≡ true → k ≡ indexOf (madeOf stacks e₁ e) c
+          unfolding indexOf
+          seat-found q = sym (T .rest ∙ rw (cut-here, sym re ∙ q, indexOf) (add-zero k))
 
           pub seat-more : r ≡ false → Seating stacks e₁ e c (k + 1)
-          unfolding seat
-          seat-more q = record { low = omega arith; rest = T .rest ∙ rw (cut-here, sym re ∙ q, seat) (omega arith) }
+          unfolding indexOf
+          seat-more q = record { low = omega arith; rest = T .rest ∙ rw (cut-here, sym re ∙ q, indexOf) (omega arith) }
 
-    pub seat-last : e .made ≤ k → e .made ≡ seat (madeOf stacks e₁ e) c
-    unfolding cut seat
+    pub seat-last : e .made ≤ k → e .made ≡ indexOf (madeOf stacks e₁ e) c
+    unfolding cut indexOf
     seat-last h =
         let q : k ≡ e .made = let z = T .low in omega arith in
         sym (T .rest ∙ rw (seats-end stacks e₁ e S seat-room k h) (omega arith))

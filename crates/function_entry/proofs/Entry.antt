@@ -1,4 +1,4 @@
--- An entry point that is imported: where its function is whole on the stacks and what its head refers to is there, its record is the head, carried by the maps, and the function's cells; the state is the one behind it, with this record among the entry points. Assumes nothing.
+-- An entry point that is imported: where its function is whole on the stacks and what its head refers to is there, its record is the head, carried by the maps, and the function's cells; the state is the one after it, with this record among the entry points.
 use mathlib.Core.Path.{_≡_, refl, sym, ap, ap₂, _∙_}
 use mathlib.Core.Logic.{_⊎_, inl, inr, ⊎-elim}
 use mathlib.Core.Bool.{true, false, false≢true}
@@ -8,6 +8,7 @@ use native.Mathlib.Nat.{le-trans}
 use native.Mathlib.Omega.{arith}
 use lib.ListN.{length, getD, set, take, length-append}
 use lib.Seq.{slice, getD-set-same}
+use Rattle.theory_lists.specs.Lists.{take-less}
 use Rattle.model.specs.Outcome.{Cells, class}
 use Rattle.model.specs.Table.{EXPRESSIONS, NAMED}
 use Rattle.model.specs.Tree.{Function, Entry, flatAll, flatList, flatEntry}
@@ -19,21 +20,22 @@ use Rattle.model.specs.Carry.{carryCells, Each}
 use Rattle.model.specs.Scope.{inScope}
 use Rattle.model.specs.Tables.{names, codeT, count, mapAt}
 use Rattle.model.specs.References.{Place, table, own, function, refs, through, shift}
-use Rattle.model.specs.Imports.{St}
-use Rattle.model.specs.Bodies.{known, Making, went, carried}
+use Rattle.model.specs.Imports.{Derived}
+use Rattle.model.specs.Bodies.{known, Builder, mappedTo, carried}
 use Rattle.theory_records.specs.RecordLaws.{All, all-map, carry-same, length-shift, length-carry}
 use Rattle.theory_records.specs.TableLaws.{at-six}
 use Rattle.theory_image.specs.Quiet.{each-append}
-use Rattle.theory_image.specs.FunctionViews.{each-at, looked-each, taped-length}
+use Rattle.theory_image.specs.FunctionViews.{taped-length}
+use Rattle.theory_image.specs.Members.{each-at, looked-each}
 use Rattle.base_views.specs.Functions.{Standing, Body}
 use Rattle.theory_passes.specs.Operands.{outward}
 use Rattle.theory_passes.specs.Light.{still}
 use Rattle.derive_state.specs.Refers.{tabOf}
 use Rattle.derive_state.specs.Flats.{functionOf, entryOf}
 use Rattle.derive_state.specs.Source.{modOf, Source}
-use Rattle.derive_state.specs.Held.{row, tableOf, recsOf, functionsOf, stOf, sizeR, Over, long, Named, Kept, Same, Lands, carriedBy}
+use Rattle.derive_state.specs.Held.{row, tableOf, recsOf, functionsOf, stOf, sizeR, Over, long, Named, ValidArrays, Same, Lands, carriedBy}
 use Rattle.derive_state.specs.Marks.{Marks}
-use Rattle.derive_state.specs.declared.Ends.{Ends}
+use Rattle.derive_state.specs.declared.Sizes.{Sizes}
 use Rattle.derive_state.proofs.Passes.{length-between}
 use Rattle.derive_state.proofs.State.{six-ext, code-low, same-then, marks-refl, marks-then, tab-long, words-are, table-stays, Joins, table-more, table-same, kept-more}
 use Rattle.derive_types.proofs.Growth.{over-grow}
@@ -43,7 +45,7 @@ use Rattle.derive_lookup.proofs.Bears.{bearing}
 use Rattle.function_references.specs.Fits.{Fits, FitN, Legible}
 use Rattle.function_builder.specs.Stacks.{wentOf, Stacks}
 use Rattle.function_builder.specs.Makes.{Wrote}
-use Rattle.function_builder.proofs.Stack.{take-less, between-join, between-same, wrote-words, wrote-tags, wrote-long, wrote-long′, wrote-cells}
+use Rattle.function_builder.proofs.Stack.{between-join, between-same, wrote-words, wrote-tags, wrote-long, wrote-long′, wrote-cells}
 use Rattle.function_builder.proofs.Growth.{over-more}
 use Rattle.function_builder.proofs.Then.{kept-tops}
 use Rattle.function_outside.proofs.Passing.{grow-outward}
@@ -79,7 +81,7 @@ module _ {words tags : List ℕ} {n : ℕ} (src : Source words tags n) (scopes :
   pub entry-piece : Part words tags n s end (functionOf (between tags words s end))
   entry-piece = rw function-is piece
 
-  pub entry-nested : {log classes : List ℕ} {starts maps : List (List ℕ)} {e : Ends} {o room : ℕ} → NestedE words n log classes starts maps e o room E → Nested words n log classes starts maps e o room (functionOf (between tags words s end))
+  pub entry-nested : {log logtags : List ℕ} {starts maps : List (List ℕ)} {e : Sizes} {o room : ℕ} → NestedE words n log logtags starts maps e o room E → Nested words n log logtags starts maps e o room (functionOf (between tags words s end))
   unfolding ReadyF
   entry-nested N = rw function-is (record { scopes = scopes; special = N .special; ready = N .made .ready .1 })
 
@@ -106,18 +108,18 @@ module _ {words tags : List ℕ} {n : ℕ} (src : Source words tags n) (scopes :
   head-long = let h = head-read in let a = h .stretch .in-words in let b = h .stretch .in-tags in ap length head-words ∙ length-between tags words at s b a
 
   -- ---- its function on the stacks
-  module _ (o : ℕ) (ready : ℕ → St → Type 0) (follow : ℕ → St → St) (log₀ classes₀ : List ℕ) (starts₀ maps₀ : List (List ℕ)) (marks₀ : List ℕ) (stacks₀ : List (List ℕ)) (e : Ends) (K₀ : Kept log₀ classes₀ starts₀ maps₀ marks₀ e)
-      (got : Ends) (log₁ classes₁ : List ℕ) (starts₁ maps₁ : List (List ℕ)) (marks₁ : List ℕ) (stacks₁ : List (List ℕ)) (L₀ : Localizes words n o ready follow (functionOf (between tags words s end)) log₀ classes₀ starts₀ maps₀ marks₀ stacks₀ e got log₁ classes₁ starts₁ maps₁ marks₁ stacks₁) where
-    abbrev S₀ : List ℕ → St
-    S₀ special = stOf words log₀ classes₀ starts₀ maps₀ special e
+  module _ (o : ℕ) (ready : ℕ → Derived → Type 0) (follow : ℕ → Derived → Derived) (log₀ logtags₀ : List ℕ) (starts₀ maps₀ : List (List ℕ)) (buckets₀ : List ℕ) (stacks₀ : List (List ℕ)) (e : Sizes) (K₀ : ValidArrays log₀ logtags₀ starts₀ maps₀ buckets₀ e)
+      (got : Sizes) (log₁ logtags₁ : List ℕ) (starts₁ maps₁ : List (List ℕ)) (buckets₁ : List ℕ) (stacks₁ : List (List ℕ)) (L₀ : Localizes words n o ready follow (functionOf (between tags words s end)) log₀ logtags₀ starts₀ maps₀ buckets₀ stacks₀ e got log₁ logtags₁ starts₁ maps₁ buckets₁ stacks₁) where
+    abbrev S₀ : List ℕ → Derived
+    S₀ special = stOf words log₀ logtags₀ starts₀ maps₀ special e
 
     abbrev size₀ : ℕ
-    size₀ = sizeR (tableOf log₀ classes₀ starts₀ (e .counts) 7)
+    size₀ = sizeR (tableOf log₀ logtags₀ starts₀ (e .counts) 7)
 
     abbrev rest : List ℕ → ℕ
-    rest special = size₀ + suc (e .et + e .bt + length (entryCellsS o M follow E (S₀ special)))
+    rest special = size₀ + suc (e .exprtop + e .bodytop + length (entryCellsS o M follow E (S₀ special)))
 
-    L : Localizes words n o ready follow F log₀ classes₀ starts₀ maps₀ marks₀ stacks₀ e got log₁ classes₁ starts₁ maps₁ marks₁ stacks₁
+    L : Localizes words n o ready follow F log₀ logtags₀ starts₀ maps₀ buckets₀ stacks₀ e got log₁ logtags₁ starts₁ maps₁ buckets₁ stacks₁
     L = rw function-is at L₀
 
     cells-more : (special : List ℕ) → length (entryCellsS o M follow E (S₀ special)) ≡ (s - at) + length (cellsS o M follow F (S₀ special))
@@ -125,16 +127,16 @@ module _ {words tags : List ℕ} {n : ℕ} (src : Source words tags n) (scopes :
     cells-more special =
         let x = enteredS o M follow E (S₀ special) in
         let a = length-append (carried o M x (E .head)) (cellsS o M follow F (S₀ special)) in
-        let b = length-shift (carryCells (through (went M x)) (E .head)) o false ∙ length-carry (through (went M x)) (E .head) in
+        let b = length-shift (carryCells (through (mappedTo M x)) (E .head)) o false ∙ length-carry (through (mappedTo M x)) (E .head) in
         let c = head-long in
         omega arith
 
     -- full on the way
-    full : (r : Ends) (log classes : List ℕ) (starts maps : List (List ℕ)) (marks : List ℕ) (stacks : List (List ℕ)) → r .full ≡ true
+    full : (r : Sizes) (log logtags : List ℕ) (starts maps : List (List ℕ)) (buckets : List ℕ) (stacks : List (List ℕ)) → r .full ≡ true
         → ((special : List ℕ) → ReadyF o M ready follow F (S₀ special) → Over (rest special) (enteredS o M follow E (S₀ special) .out) ⊎ (16 ≤ getD (e .counts) 7 0))
-        → Same (e .used) log₀ classes₀ log classes → length log ≡ 16384 → length classes ≡ 16384 → Marks marks₀ marks
-        → Enters words n o ready follow E log₀ classes₀ starts₀ maps₀ marks₀ stacks₀ e r log classes starts maps marks stacks
-    full r log classes starts maps marks stacks z v b l l′ m = record {
+        → Same (e .loglen) log₀ logtags₀ log logtags → length log ≡ 16384 → length logtags ≡ 16384 → Marks buckets₀ buckets
+        → Enters words n o ready follow E log₀ logtags₀ starts₀ maps₀ buckets₀ stacks₀ e r log logtags starts maps buckets stacks
+    full r log logtags starts maps buckets stacks z v b l l′ m = record {
       over = λ _. v;
       is = λ y. absurd (false≢true (sym y ∙ z));
       table = λ y. absurd (false≢true (sym y ∙ z));
@@ -151,51 +153,51 @@ module _ {words tags : List ℕ} {n : ℕ} (src : Source words tags n) (scopes :
       marks-stay = m;
     }
 
-    pub function-full : got .full ≡ true → Enters words n o ready follow E log₀ classes₀ starts₀ maps₀ marks₀ stacks₀ e got log₁ classes₁ starts₁ maps₁ marks₁ stacks₁
+    pub function-full : got .full ≡ true → Enters words n o ready follow E log₀ logtags₀ starts₀ maps₀ buckets₀ stacks₀ e got log₁ logtags₁ starts₁ maps₁ buckets₁ stacks₁
     unfolding enteredS ReadyF
-    function-full z = full got log₁ classes₁ starts₁ maps₁ marks₁ stacks₁ z over (L .below) (L .log-long) (L .tags-long) (L .marks-stay)
+    function-full z = full got log₁ logtags₁ starts₁ maps₁ buckets₁ stacks₁ z over (L .below) (L .log-long) (L .tags-long) (L .marks-stay)
       where
         over : (special : List ℕ) → ReadyF o M ready follow F (S₀ special) → Over (rest special) (enteredS o M follow E (S₀ special) .out) ⊎ (16 ≤ getD (e .counts) 7 0)
         over special h = let c = cells-more special in inl (over-more _ _ (omega arith) (over-grow _ (grow-outward o M (E .head) (finalS o M follow F (S₀ special) .out)) (L .over z special (h .1))))
 
     -- ---- what its head refers to
-    module _ (z : got .full ≡ false) (led : Ends) (log₂ classes₂ : List ℕ) (starts₂ maps₂ : List (List ℕ)) (marks₂ : List ℕ) (O : Lands words (outward o M still (between tags words at s)) log₁ classes₁ starts₁ maps₁ marks₁ got led log₂ classes₂ starts₂ maps₂ marks₂) where
-      led-is : (special : List ℕ) → enteredS o M follow E (S₀ special) .out ≡ outward o M still (between tags words at s) (stOf words log₁ classes₁ starts₁ maps₁ special got)
+    module _ (z : got .full ≡ false) (led : Sizes) (log₂ logtags₂ : List ℕ) (starts₂ maps₂ : List (List ℕ)) (buckets₂ : List ℕ) (O : Lands words (outward o M still (between tags words at s)) log₁ logtags₁ starts₁ maps₁ buckets₁ got led log₂ logtags₂ starts₂ maps₂ buckets₂) where
+      led-is : (special : List ℕ) → enteredS o M follow E (S₀ special) .out ≡ outward o M still (between tags words at s) (stOf words log₁ logtags₁ starts₁ maps₁ special got)
       unfolding enteredS
       led-is special = ap₂ (outward o M still) head-words (L .is z special)
 
-      entries₁ : tableOf log₁ classes₁ starts₁ (got .counts) 7 ≡ tableOf log₀ classes₀ starts₀ (e .counts) 7
+      entries₁ : tableOf log₁ logtags₁ starts₁ (got .counts) 7 ≡ tableOf log₀ logtags₀ starts₀ (e .counts) 7
       entries₁ =
           rw (L .along z .entries-same .0, L .along z .entries-same .1)
-          (table-stays log₀ classes₀ log₁ classes₁ starts₀ maps₀ marks₀ marks₁ e K₀ (L .below) (L .log-long) (L .tags-long) (L .marks-stay) 7 (omega arith))
+          (table-stays log₀ logtags₀ log₁ logtags₁ starts₀ maps₀ buckets₀ buckets₁ e K₀ (L .below) (L .log-long) (L .tags-long) (L .marks-stay) 7 (omega arith))
 
-      below₂ : Same (e .used) log₀ classes₀ log₂ classes₂
-      below₂ = same-then (e .used) (got .used) log₀ classes₀ log₁ classes₁ log₂ classes₂ (L .more z) (L .below) (O .below)
+      below₂ : Same (e .loglen) log₀ logtags₀ log₂ logtags₂
+      below₂ = same-then (e .loglen) (got .loglen) log₀ logtags₀ log₁ logtags₁ log₂ logtags₂ (L .more z) (L .below) (O .below)
 
-      marks-stay₂ : Marks marks₀ marks₂
-      marks-stay₂ = marks-then marks₀ marks₁ marks₂ (L .marks-stay) (O .marks-stay)
+      marks-stay₂ : Marks buckets₀ buckets₂
+      marks-stay₂ = marks-then buckets₀ buckets₁ buckets₂ (L .marks-stay) (O .marks-stay)
 
-      pub head-full : led .full ≡ true → Enters words n o ready follow E log₀ classes₀ starts₀ maps₀ marks₀ stacks₀ e led log₂ classes₂ starts₂ maps₂ marks₂ stacks₁
-      head-full y = full led log₂ classes₂ starts₂ maps₂ marks₂ stacks₁ y (λ special h. let a = ap sizeR entries₁ in inl (rw (led-is special) (over-more _ _ (omega arith) (O .over y special)))) below₂ (O .log-long) (O .tags-long) marks-stay₂
+      pub head-full : led .full ≡ true → Enters words n o ready follow E log₀ logtags₀ starts₀ maps₀ buckets₀ stacks₀ e led log₂ logtags₂ starts₂ maps₂ buckets₂ stacks₁
+      head-full y = full led log₂ logtags₂ starts₂ maps₂ buckets₂ stacks₁ y (λ special h. let a = ap sizeR entries₁ in inl (rw (led-is special) (over-more _ _ (omega arith) (O .over y special)))) below₂ (O .log-long) (O .tags-long) marks-stay₂
 
       module _ (y : led .full ≡ false) where
-        -- the tops are as they were behind the function
-        et-same : led .et ≡ got .et
+        -- the tops are as they were after the function
+        et-same : led .exprtop ≡ got .exprtop
         et-same = O .beside y .tops-same .0
 
-        bt-same : led .bt ≡ got .bt
+        bt-same : led .bodytop ≡ got .bodytop
         bt-same = O .beside y .tops-same .1
 
         made-same : led .made ≡ got .made
         made-same = O .beside y .tops-same .2
 
-        entered-is : (special : List ℕ) → enteredS o M follow E (S₀ special) .out ≡ stOf words log₂ classes₂ starts₂ maps₂ special led
+        entered-is : (special : List ℕ) → enteredS o M follow E (S₀ special) .out ≡ stOf words log₂ logtags₂ starts₂ maps₂ special led
         entered-is special = led-is special ∙ O .is y special
 
-        entries₂ : tableOf log₂ classes₂ starts₂ (led .counts) 7 ≡ tableOf log₀ classes₀ starts₀ (e .counts) 7
+        entries₂ : tableOf log₂ logtags₂ starts₂ (led .counts) 7 ≡ tableOf log₀ logtags₀ starts₀ (e .counts) 7
         entries₂ =
             rw (O .beside y .entries-same .0, O .beside y .entries-same .1)
-            (table-stays log₁ classes₁ log₂ classes₂ starts₁ maps₁ marks₁ marks₂ got (L .kept z) (O .below) (O .log-long) (O .tags-long) (O .marks-stay) 7 (omega arith))
+            (table-stays log₁ logtags₁ log₂ logtags₂ starts₁ maps₁ buckets₁ buckets₂ got (L .kept z) (O .below) (O .log-long) (O .tags-long) (O .marks-stay) 7 (omega arith))
             ∙ entries₁
 
         count-same : getD (led .counts) 7 0 ≡ getD (e .counts) 7 0
@@ -205,13 +207,13 @@ module _ {words tags : List ℕ} {n : ℕ} (src : Source words tags n) (scopes :
         stacks-led = let a = L .stacks-are z in record { four = a .four; rows = a .rows; high = rw et-same (a .high); high′ = rw bt-same (a .high′) }
 
         -- how much is made
-        made-long : (special : List ℕ) → e .et + length (flatAll (walkedS o M follow F (S₀ special) .made)) ≡ led .et
+        made-long : (special : List ℕ) → e .exprtop + length (flatAll (walkedS o M follow F (S₀ special) .made)) ≡ led .exprtop
         made-long special =
             let a = L .stacks-are z in
             let h = a .high in
             let x = a .rows 0 (omega arith) in
             let w = a .rows 1 (omega arith) in
-            let b = length-between (row stacks₁ 1) (row stacks₁ 0) (e .et) (got .et) (omega arith) (omega arith) in
+            let b = length-between (row stacks₁ 1) (row stacks₁ 0) (e .exprtop) (got .exprtop) (omega arith) (omega arith) in
             let c = ap length (L .exprs z special) in
             let d = L .along z .et-more in
             let q = et-same in
@@ -226,58 +228,58 @@ module _ {words tags : List ℕ} {n : ℕ} (src : Source words tags n) (scopes :
             let d = bodyS o M follow F (S₀ special) in
             omega (arith, length-append (a ++ b ++ c) d, length-append (a ++ b) c, length-append a b)
 
-        pub write-full : 16384 - led .et < s - at → (r : Ends) → r .full ≡ true → Enters words n o ready follow E log₀ classes₀ starts₀ maps₀ marks₀ stacks₀ e r log₂ classes₂ starts₂ maps₂ marks₂ stacks₁
+        pub write-full : 16384 - led .exprtop < s - at → (r : Sizes) → r .full ≡ true → Enters words n o ready follow E log₀ logtags₀ starts₀ maps₀ buckets₀ stacks₀ e r log₂ logtags₂ starts₂ maps₂ buckets₂ stacks₁
         write-full q r f =
-            full r log₂ classes₂ starts₂ maps₂ marks₂ stacks₁ f
+            full r log₂ logtags₂ starts₂ maps₂ buckets₂ stacks₁ f
             (λ special h. let a = made-long special in let b = cells-many special in let c = cells-more special in inl (long (omega arith)))
             below₂ (O .log-long) (O .tags-long) marks-stay₂
 
-        pub led-bears : Bearing log₂ classes₂ starts₂ led
+        pub led-bears : Bearing log₂ logtags₂ starts₂ led
         led-bears = bearing (O .kept y)
 
         -- ---- the head, written above the expressions
-        module _ (em : List ℕ) (room : s - at ≤ 16384 - led .et) (stacks₂ : List (List ℕ)) (W : Wrote (shift (carriedBy (wentOf words n log₂ classes₂ starts₂ maps₂ led em) tags words at s) o false) (led .et) stacks₁ stacks₂) where
-          fits : led .et + (s - at) ≤ 16384
+        module _ (exprmap : List ℕ) (room : s - at ≤ 16384 - led .exprtop) (stacks₂ : List (List ℕ)) (W : Wrote (shift (carriedBy (wentOf words n log₂ logtags₂ starts₂ maps₂ led exprmap) tags words at s) o false) (led .exprtop) stacks₁ stacks₂) where
+          fits : led .exprtop + (s - at) ≤ 16384
           fits = let h = stacks-led .high in omega arith
 
           abbrev C : Cells
-          C = shift (carriedBy (wentOf words n log₂ classes₂ starts₂ maps₂ led em) tags words at s) o false
+          C = shift (carriedBy (wentOf words n log₂ logtags₂ starts₂ maps₂ led exprmap) tags words at s) o false
 
           c-long : length C ≡ s - at
           unfolding carriedBy
           c-long =
-              length-shift (carriedBy (wentOf words n log₂ classes₂ starts₂ maps₂ led em) tags words at s) o false ∙ length-carry (through (wentOf words n log₂ classes₂ starts₂ maps₂ led em)) (between tags words at s)
+              length-shift (carriedBy (wentOf words n log₂ logtags₂ starts₂ maps₂ led exprmap) tags words at s) o false ∙ length-carry (through (wentOf words n log₂ logtags₂ starts₂ maps₂ led exprmap)) (between tags words at s)
               ∙ ap length (sym head-words) ∙ head-long
 
-          -- by what is under way, as the head refers to tables alone
-          went-is : (special : List ℕ) (m : Making) → m .out ≡ stOf words log₂ classes₂ starts₂ maps₂ special led → (p : Place) (i : ℕ) → Fits words 0 p i → went M m p i ≡ wentOf words n log₂ classes₂ starts₂ maps₂ led em p i
-          unfolding went wentOf Fits
-          went-is special m q (table t) i h = ap (λ (x : St). mapAt (x .maps) t i) q ∙ map-is words log₂ classes₂ starts₂ maps₂ special led t i (h .0)
+          -- by the builder, as the head refers to tables alone
+          went-is : (special : List ℕ) (m : Builder) → m .out ≡ stOf words log₂ logtags₂ starts₂ maps₂ special led → (p : Place) (i : ℕ) → Fits words 0 p i → mappedTo M m p i ≡ wentOf words n log₂ logtags₂ starts₂ maps₂ led exprmap p i
+          unfolding mappedTo wentOf Fits
+          went-is special m q (table t) i h = ap (λ (x : Derived). mapAt (x .maps) t i) q ∙ map-is words log₂ logtags₂ starts₂ maps₂ special led t i (h .0)
           went-is special m q own i h = absurd (omega arith)
-          went-is special m q function i h = ap (λ (x : St). known M x i) q ∙ (unfold known stOf in refl)
+          went-is special m q function i h = ap (λ (x : Derived). known M x i) q ∙ (unfold known stOf in refl)
 
           head-cells : (special : List ℕ) → carried o M (enteredS o M follow E (S₀ special)) (E .head) ≡ C
           unfolding carried carriedBy
           head-cells special =
               ap (λ (cs : Cells). shift cs o false)
-              (carry-same (wentOf words n log₂ classes₂ starts₂ maps₂ led em) (went M (enteredS o M follow E (S₀ special))) (E .head) (all-map (refs (E .head)) (λ i f. went-is special (enteredS o M follow E (S₀ special)) (entered-is special) (i .place) (i .num) f) fits₀)
-              ∙ ap (carryCells (through (wentOf words n log₂ classes₂ starts₂ maps₂ led em))) head-words)
+              (carry-same (wentOf words n log₂ logtags₂ starts₂ maps₂ led exprmap) (mappedTo M (enteredS o M follow E (S₀ special))) (E .head) (all-map (refs (E .head)) (λ i f. went-is special (enteredS o M follow E (S₀ special)) (entered-is special) (i .place) (i .num) f) fits₀)
+              ∙ ap (carryCells (through (wentOf words n log₂ logtags₂ starts₂ maps₂ led exprmap))) head-words)
 
           abbrev R : (t : ℕ) → t < 4 → length (row stacks₁ t) ≡ 16384
           R = L .stacks-are z .rows
 
-          high : led .et + length C ≤ 16384
+          high : led .exprtop + length C ≤ 16384
           high = let c = c-long in omega arith
 
-          words-below : take (led .et) (row stacks₂ 0) ≡ take (led .et) (row stacks₁ 0)
-          words-below = wrote-words C (led .et) (row stacks₁ 0) (row stacks₁ 1) (row stacks₂ 0) (row stacks₂ 1) (R 0 (omega arith)) (R 1 (omega arith)) high (W .cells)
+          words-below : take (led .exprtop) (row stacks₂ 0) ≡ take (led .exprtop) (row stacks₁ 0)
+          words-below = wrote-words C (led .exprtop) (row stacks₁ 0) (row stacks₁ 1) (row stacks₂ 0) (row stacks₂ 1) (R 0 (omega arith)) (R 1 (omega arith)) high (W .cells)
 
-          tags-below : take (led .et) (row stacks₂ 1) ≡ take (led .et) (row stacks₁ 1)
-          tags-below = wrote-tags C (led .et) (row stacks₁ 0) (row stacks₁ 1) (row stacks₂ 0) (row stacks₂ 1) (R 0 (omega arith)) (R 1 (omega arith)) high (W .cells)
+          tags-below : take (led .exprtop) (row stacks₂ 1) ≡ take (led .exprtop) (row stacks₁ 1)
+          tags-below = wrote-tags C (led .exprtop) (row stacks₁ 0) (row stacks₁ 1) (row stacks₂ 0) (row stacks₂ 1) (R 0 (omega arith)) (R 1 (omega arith)) high (W .cells)
 
           rows₂ : (t : ℕ) → t < 4 → length (row stacks₂ t) ≡ 16384
-          rows₂ zero h = wrote-long C (led .et) (row stacks₁ 0) (row stacks₁ 1) (row stacks₂ 0) (row stacks₂ 1) (R 0 (omega arith)) (R 1 (omega arith)) high (W .cells)
-          rows₂ (suc zero) h = wrote-long′ C (led .et) (row stacks₁ 0) (row stacks₁ 1) (row stacks₂ 0) (row stacks₂ 1) (R 0 (omega arith)) (R 1 (omega arith)) high (W .cells)
+          rows₂ zero h = wrote-long C (led .exprtop) (row stacks₁ 0) (row stacks₁ 1) (row stacks₂ 0) (row stacks₂ 1) (R 0 (omega arith)) (R 1 (omega arith)) high (W .cells)
+          rows₂ (suc zero) h = wrote-long′ C (led .exprtop) (row stacks₁ 0) (row stacks₁ 1) (row stacks₂ 0) (row stacks₂ 1) (R 0 (omega arith)) (R 1 (omega arith)) high (W .cells)
           rows₂ (suc (suc zero)) h = rw (W .seats-same) (R 2 (omega arith))
           rows₂ (suc (suc (suc zero))) h = rw (W .body-same) (R 3 (omega arith))
           rows₂ (suc (suc (suc (suc t)))) h = absurd (omega arith)
@@ -285,25 +287,25 @@ module _ {words tags : List ℕ} {n : ℕ} (src : Source words tags n) (scopes :
           stacks-wrote : Stacks stacks₂ led
           stacks-wrote = record { four = W .four; rows = rows₂; high = stacks-led .high; high′ = stacks-led .high′ }
 
-          top-cells : between (row stacks₂ 1) (row stacks₂ 0) (led .et) (led .et + (s - at)) ≡ C
-          top-cells = rw (← c-long) (wrote-cells C (led .et) (row stacks₁ 0) (row stacks₁ 1) (row stacks₂ 0) (row stacks₂ 1) (R 0 (omega arith)) (R 1 (omega arith)) high (W .cells))
+          top-cells : between (row stacks₂ 1) (row stacks₂ 0) (led .exprtop) (led .exprtop + (s - at)) ≡ C
+          top-cells = rw (← c-long) (wrote-cells C (led .exprtop) (row stacks₁ 0) (row stacks₁ 1) (row stacks₂ 0) (row stacks₂ 1) (R 0 (omega arith)) (R 1 (omega arith)) high (W .cells))
 
-          exprs-same : between (row stacks₂ 1) (row stacks₂ 0) (e .et) (got .et) ≡ between (row stacks₁ 1) (row stacks₁ 0) (e .et) (got .et)
-          exprs-same = between-same (row stacks₁ 1) (row stacks₁ 0) (row stacks₂ 1) (row stacks₂ 0) (e .et) (got .et) (led .et) (let q = et-same in omega arith) tags-below words-below
+          exprs-same : between (row stacks₂ 1) (row stacks₂ 0) (e .exprtop) (got .exprtop) ≡ between (row stacks₁ 1) (row stacks₁ 0) (e .exprtop) (got .exprtop)
+          exprs-same = between-same (row stacks₁ 1) (row stacks₁ 0) (row stacks₂ 1) (row stacks₂ 0) (e .exprtop) (got .exprtop) (led .exprtop) (let q = et-same in omega arith) tags-below words-below
 
-          deep-then : Deep (e .et) (e .bt) stacks₀ stacks₂
-          deep-then = record { expressions = kept; body = ap (take (e .bt)) (W .body-same) ∙ L .deep z .body }
+          deep-then : Deep (e .exprtop) (e .bodytop) stacks₀ stacks₂
+          deep-then = record { expressions = kept; body = ap (take (e .bodytop)) (W .body-same) ∙ L .deep z .body }
             where
-              low : e .et ≤ led .et
+              low : e .exprtop ≤ led .exprtop
               low = rw et-same (L .along z .et-more)
 
-              kept : (t : ℕ) → t < 3 → take (e .et) (row stacks₂ t) ≡ take (e .et) (row stacks₀ t)
-              kept zero h = take-less (e .et) (led .et) (row stacks₂ 0) (row stacks₁ 0) low words-below ∙ L .deep z .expressions 0 (omega arith)
-              kept (suc zero) h = take-less (e .et) (led .et) (row stacks₂ 1) (row stacks₁ 1) low tags-below ∙ L .deep z .expressions 1 (omega arith)
-              kept (suc (suc zero)) h = ap (take (e .et)) (W .seats-same) ∙ L .deep z .expressions 2 (omega arith)
+              kept : (t : ℕ) → t < 3 → take (e .exprtop) (row stacks₂ t) ≡ take (e .exprtop) (row stacks₀ t)
+              kept zero h = take-less (e .exprtop) (led .exprtop) (row stacks₂ 0) (row stacks₁ 0) low words-below ∙ L .deep z .expressions 0 (omega arith)
+              kept (suc zero) h = take-less (e .exprtop) (led .exprtop) (row stacks₂ 1) (row stacks₁ 1) low tags-below ∙ L .deep z .expressions 1 (omega arith)
+              kept (suc (suc zero)) h = ap (take (e .exprtop)) (W .seats-same) ∙ L .deep z .expressions 2 (omega arith)
               kept (suc (suc (suc t))) h = absurd (omega arith)
 
-          -- ---- what closing asks for
+          -- ---- what closing requires
           module _ (ea body : ℕ) (ea-is : ea ≡ expressionsAt s words) (B : Body body words tags s) where
             read : Indexed words tags s end ea (placesOf tags ea end) (getD words ea 0) (getD (placesOf tags ea end) (getD words ea 0) 0) body
             read = rw ea-is (record { ea-is = refl; places-are = refl; k-is = refl; named-is = refl; body-is = B .same (piece .stands) ∙ sym (body-here piece (indexed words tags s end)) })
@@ -311,62 +313,62 @@ module _ {words tags : List ℕ} {n : ℕ} (src : Source words tags n) (scopes :
             close-sides : (s ≤ ea) × (ea ≤ body) × (body ≤ end) × (end ≤ 16384) × (length tags ≡ 16384)
             close-sides = let a = order piece read in (a .to-exprs, omega (arith, a), omega (arith, a), a .in-words, src .taped .tags-long)
 
-            close-tops : (e .et ≤ led .et) × (e .bt + ((ea - s) + (end - body)) ≤ led .bt)
-            close-tops = (rw et-same (L .along z .et-more), rw bt-same (close-low piece read o ready follow log₀ classes₀ starts₀ maps₀ marks₀ stacks₀ e got log₁ classes₁ starts₁ maps₁ marks₁ stacks₁ L z))
+            close-tops : (e .exprtop ≤ led .exprtop) × (e .bodytop + ((ea - s) + (end - body)) ≤ led .bodytop)
+            close-tops = (rw et-same (L .along z .et-more), rw bt-same (close-low piece read o ready follow log₀ logtags₀ starts₀ maps₀ buckets₀ stacks₀ e got log₁ logtags₁ starts₁ maps₁ buckets₁ stacks₁ L z))
 
             close-made : led .made ≤ 16384
             close-made = let a = made-same ∙ L .made z [] in let b = made-few piece read o follow (S₀ []) in let d = k-few piece read in omega arith
 
-            close-pairs : length (pairsIn (slice (e .bt + ((ea - s) + (end - body))) (led .bt) (row stacks₂ 3))) * 2 + (e .bt + ((ea - s) + (end - body))) ≡ led .bt
-            close-pairs = rw (bt-same, W .body-same) (pairs-fill piece read o ready follow log₀ classes₀ starts₀ maps₀ marks₀ stacks₀ e got log₁ classes₁ starts₁ maps₁ marks₁ stacks₁ L z)
+            close-pairs : length (pairsIn (slice (e .bodytop + ((ea - s) + (end - body))) (led .bodytop) (row stacks₂ 3))) * 2 + (e .bodytop + ((ea - s) + (end - body))) ≡ led .bodytop
+            close-pairs = rw (bt-same, W .body-same) (pairs-fill piece read o ready follow log₀ logtags₀ starts₀ maps₀ buckets₀ stacks₀ e got log₁ logtags₁ starts₁ maps₁ buckets₁ stacks₁ L z)
 
-            close-bytes : (i : ℕ) → e .et ≤ i → i < led .et + (s - at) → getD (row stacks₂ 1) i 0 < 256
+            close-bytes : (i : ℕ) → e .exprtop ≤ i → i < led .exprtop + (s - at) → getD (row stacks₂ 1) i 0 < 256
             close-bytes i h g =
                 let l = close-tops .0 in
                 let x = rows₂ 0 (omega arith) in
                 let w = rows₂ 1 (omega arith) in
-                let a : between (row stacks₂ 1) (row stacks₂ 0) (e .et) (led .et) ≡ flatAll (walkedS o M follow F (S₀ []) .made) = ap (between (row stacks₂ 1) (row stacks₂ 0) (e .et)) et-same ∙ exprs-same ∙ L .exprs z [] in
-                let b : Each (λ c. class c < 256) (between (row stacks₂ 1) (row stacks₂ 0) (e .et) (led .et)) = rw a (made-bytes o M follow F (piece .pass .well) (S₀ [])) in
-                let c : Each (λ c. class c < 256) (between (row stacks₂ 1) (row stacks₂ 0) (led .et) (led .et + (s - at))) = rw (top-cells, ← head-cells []) (head-bytes o M (enteredS o M follow E (S₀ [])) E (looked-each (src .taped .well .entries-ok .each) j (entry-there src j there))) in
-                let d = rw (between-join (row stacks₂ 1) (row stacks₂ 0) (e .et) (led .et) (led .et + (s - at)) (omega arith) (omega arith) (omega arith) (omega arith)) at (each-append b c) in
-                let m = length-between (row stacks₂ 1) (row stacks₂ 0) (e .et) (led .et + (s - at)) (omega arith) (omega arith) in
-                let q : e .et + (i - e .et) ≡ i = omega arith in
-                rw (← q) (rw (between-at (row stacks₂ 1) (row stacks₂ 0) (i - e .et) (e .et) (led .et + (s - at)) (omega arith) (omega arith) (omega arith)) at (each-at d (i - e .et) (0, 0) (omega arith)))
+                let a : between (row stacks₂ 1) (row stacks₂ 0) (e .exprtop) (led .exprtop) ≡ flatAll (walkedS o M follow F (S₀ []) .made) = ap (between (row stacks₂ 1) (row stacks₂ 0) (e .exprtop)) et-same ∙ exprs-same ∙ L .exprs z [] in
+                let b : Each (λ c. class c < 256) (between (row stacks₂ 1) (row stacks₂ 0) (e .exprtop) (led .exprtop)) = rw a (made-bytes o M follow F (piece .pass .well) (S₀ [])) in
+                let c : Each (λ c. class c < 256) (between (row stacks₂ 1) (row stacks₂ 0) (led .exprtop) (led .exprtop + (s - at))) = rw (top-cells, ← head-cells []) (head-bytes o M (enteredS o M follow E (S₀ [])) E (looked-each (src .taped .well .entries-ok .each) j (entry-there src j there))) in
+                let d = rw (between-join (row stacks₂ 1) (row stacks₂ 0) (e .exprtop) (led .exprtop) (led .exprtop + (s - at)) (omega arith) (omega arith) (omega arith) (omega arith)) at (each-append b c) in
+                let m = length-between (row stacks₂ 1) (row stacks₂ 0) (e .exprtop) (led .exprtop + (s - at)) (omega arith) (omega arith) in
+                let q : e .exprtop + (i - e .exprtop) ≡ i = omega arith in
+                rw (← q) (rw (between-at (row stacks₂ 1) (row stacks₂ 0) (i - e .exprtop) (e .exprtop) (led .exprtop + (s - at)) (omega arith) (omega arith) (omega arith)) at (each-at d (i - e .exprtop) (0, 0) (omega arith)))
 
             pub close-may : ((s ≤ ea) × (ea ≤ body) × (body ≤ end) × (end ≤ 16384) × (length tags ≡ 16384))
-                × (((7 < 8) × (16 ≤ 512) × (getD (led .counts) 7 0 ≤ 16) × (led .et + (s - at) ≤ 16384) × (led .made ≤ 16384) × (led .full ≡ false))
-                × (((Stacks stacks₂ led) × (e .et ≤ led .et) × (e .bt + ((ea - s) + (end - body)) ≤ led .bt))
-                × ((length (pairsIn (slice (e .bt + ((ea - s) + (end - body))) (led .bt) (row stacks₂ 3))) * 2 + (e .bt + ((ea - s) + (end - body))) ≡ led .bt)
-                × (((i : ℕ) → e .et ≤ i → i < led .et + (s - at) → getD (row stacks₂ 1) i 0 < 256)
-                × ((23 + 2 * led .pairs + led .used ≤ 16384) × (length log₂ ≡ 16384) × (length classes₂ ≡ 16384) × (length starts₂ ≡ 8) × (length (row starts₂ 7) ≡ 512) × (length (led .counts) ≡ 8))))))
+                × (((7 < 8) × (16 ≤ 512) × (getD (led .counts) 7 0 ≤ 16) × (led .exprtop + (s - at) ≤ 16384) × (led .made ≤ 16384) × (led .full ≡ false))
+                × (((Stacks stacks₂ led) × (e .exprtop ≤ led .exprtop) × (e .bodytop + ((ea - s) + (end - body)) ≤ led .bodytop))
+                × ((length (pairsIn (slice (e .bodytop + ((ea - s) + (end - body))) (led .bodytop) (row stacks₂ 3))) * 2 + (e .bodytop + ((ea - s) + (end - body))) ≡ led .bodytop)
+                × (((i : ℕ) → e .exprtop ≤ i → i < led .exprtop + (s - at) → getD (row stacks₂ 1) i 0 < 256)
+                × ((23 + 2 * led .pairs + led .loglen ≤ 16384) × (length log₂ ≡ 16384) × (length logtags₂ ≡ 16384) × (length starts₂ ≡ 8) × (length (row starts₂ 7) ≡ 512) × (length (led .counts) ≡ 8))))))
             close-may =
                 let K = O .kept y in
                 let t = close-tops in
                 (close-sides, ((omega arith, omega arith, K .few-entries, fits, close-made, y), ((stacks-wrote, t .0, t .1), (close-pairs, (close-bytes, (K .room, K .log-long, K .tags-long, K .starts-eight, K .rows 7 (omega arith), K .counts-eight))))))
 
-            -- what stands above the expressions has no part in the function's record
+            -- what is above the expressions has no part in the function's record
             closing-same : closing tags stacks₂ e led s ea body end ≡ closing tags stacks₁ e got s ea body end
             unfolding closing
             closing-same = rw (et-same, bt-same, made-same, W .body-same, exprs-same) refl
 
-            record-is : (special : List ℕ) → between (row stacks₂ 1) (row stacks₂ 0) (led .et) (led .et + (s - at)) ++ closing tags stacks₂ e led s ea body end ≡ entryCellsS o M follow E (S₀ special)
+            record-is : (special : List ℕ) → between (row stacks₂ 1) (row stacks₂ 0) (led .exprtop) (led .exprtop + (s - at)) ++ closing tags stacks₂ e led s ea body end ≡ entryCellsS o M follow E (S₀ special)
             unfolding entryCellsS
-            record-is special = ap₂ (λ (a b : Cells). a ++ b) (top-cells ∙ sym (head-cells special)) (closing-same ∙ closing-is piece read o ready follow log₀ classes₀ starts₀ maps₀ marks₀ stacks₀ e got log₁ classes₁ starts₁ maps₁ marks₁ stacks₁ L z special)
+            record-is special = ap₂ (λ (a b : Cells). a ++ b) (top-cells ∙ sym (head-cells special)) (closing-same ∙ closing-is piece read o ready follow log₀ logtags₀ starts₀ maps₀ buckets₀ stacks₀ e got log₁ logtags₁ starts₁ maps₁ buckets₁ stacks₁ L z special)
 
             -- ---- the record among the entry points
             abbrev c : Cells
-            c = between (row stacks₂ 1) (row stacks₂ 0) (led .et) (led .et + (s - at)) ++ closing tags stacks₂ e led s ea body end
+            c = between (row stacks₂ 1) (row stacks₂ 0) (led .exprtop) (led .exprtop + (s - at)) ++ closing tags stacks₂ e led s ea body end
 
-            module _ (r : Ends) (log₃ classes₃ : List ℕ) (starts₃ : List (List ℕ)) (X : Closes c 16 7 e led log₂ classes₂ starts₂ r log₃ classes₃ starts₃) where
-              K₂ : Kept log₂ classes₂ starts₂ maps₂ marks₂ led
+            module _ (r : Sizes) (log₃ logtags₃ : List ℕ) (starts₃ : List (List ℕ)) (X : Closes c 16 7 e led log₂ logtags₂ starts₂ r log₃ logtags₃ starts₃) where
+              K₂ : ValidArrays log₂ logtags₂ starts₂ maps₂ buckets₂ led
               K₂ = O .kept y
 
               over : r .full ≡ true → (special : List ℕ) → Over (rest special) (enteredS o M follow E (S₀ special) .out) ⊎ (16 ≤ getD (e .counts) 7 0)
               over x special = ⊎-elim (λ (q : getD (led .counts) 7 0 ≡ 16). let a = count-same in inr (omega arith)) large (X .over x)
                 where
-                  large : 16384 < 23 + 2 * led .pairs + (led .used + suc (length c)) → Over (rest special) (enteredS o M follow E (S₀ special) .out) ⊎ (16 ≤ getD (e .counts) 7 0)
+                  large : 16384 < 23 + 2 * led .pairs + (led .loglen + suc (length c)) → Over (rest special) (enteredS o M follow E (S₀ special) .out) ⊎ (16 ≤ getD (e .counts) 7 0)
                   large q =
-                      let w = words-are log₂ classes₂ starts₂ maps₂ marks₂ led K₂ words special in
+                      let w = words-are log₂ logtags₂ starts₂ maps₂ buckets₂ led K₂ words special in
                       let a = ap sizeR entries₂ in
                       let b = ap length (record-is special) in
                       inl (rw (entered-is special) (long (omega arith)))
@@ -378,39 +380,39 @@ module _ {words tags : List ℕ} {n : ℕ} (src : Source words tags n) (scopes :
                 low : getD (led .counts) 7 0 < 512
                 low = let a = few in omega arith
 
-                marks-same : Marks marks₂ marks₂
-                marks-same = marks-refl marks₂ (K₂ .marks-long)
+                marks-same : Marks buckets₂ buckets₂
+                marks-same = marks-refl buckets₂ (K₂ .marks-long)
 
                 counts-are : r .counts ≡ set (led .counts) 7 (getD (led .counts) 7 0 + 1)
-                counts-are = ap (λ (v : Ends). v .counts) (X .ends x)
+                counts-are = ap (λ (v : Sizes). v .counts) (X .ends x)
 
-                used-is : r .used ≡ led .used + suc (length c)
-                used-is = ap (λ (v : Ends). v .used) (X .ends x)
+                used-is : r .loglen ≡ led .loglen + suc (length c)
+                used-is = ap (λ (v : Sizes). v .loglen) (X .ends x)
 
                 pairs-is : r .pairs ≡ led .pairs
-                pairs-is = ap (λ (v : Ends). v .pairs) (X .ends x)
+                pairs-is = ap (λ (v : Sizes). v .pairs) (X .ends x)
 
-                other : (u : ℕ) → u < 7 → tableOf log₃ classes₃ starts₃ (r .counts) u ≡ tableOf log₂ classes₂ starts₂ (led .counts) u
-                other u h = rw (X .starts-are x, counts-are) (table-same log₂ classes₂ log₃ classes₃ starts₂ maps₂ marks₂ marks₂ led K₂ (X .below) (X .log-long) (X .tags-long) marks-same 7 (omega arith) c (X .is x) (X .size x) (X .room x .1) low u (omega arith) (λ q. omega arith))
+                other : (u : ℕ) → u < 7 → tableOf log₃ logtags₃ starts₃ (r .counts) u ≡ tableOf log₂ logtags₂ starts₂ (led .counts) u
+                other u h = rw (X .starts-are x, counts-are) (table-same log₂ logtags₂ log₃ logtags₃ starts₂ maps₂ buckets₂ buckets₂ led K₂ (X .below) (X .log-long) (X .tags-long) marks-same 7 (omega arith) c (X .is x) (X .size x) (X .room x .1) low u (omega arith) (λ q. omega arith))
 
-                recs-same : recsOf log₃ classes₃ starts₃ (r .counts) ≡ recsOf log₂ classes₂ starts₂ (led .counts)
+                recs-same : recsOf log₃ logtags₃ starts₃ (r .counts) ≡ recsOf log₂ logtags₂ starts₂ (led .counts)
                 unfolding recsOf
-                recs-same = six-ext _ _ (λ u. at-six u (λ t. tableOf log₃ classes₃ starts₃ (r .counts) (codeT t)) ∙ other (codeT u) (omega (arith, code-low u)) ∙ sym (at-six u (λ t. tableOf log₂ classes₂ starts₂ (led .counts) (codeT t))))
+                recs-same = six-ext _ _ (λ u. at-six u (λ t. tableOf log₃ logtags₃ starts₃ (r .counts) (codeT t)) ∙ other (codeT u) (omega (arith, code-low u)) ∙ sym (at-six u (λ t. tableOf log₂ logtags₂ starts₂ (led .counts) (codeT t))))
 
-                state-same : (special : List ℕ) → stOf words log₃ classes₃ starts₃ maps₂ special r ≡ stOf words log₂ classes₂ starts₂ maps₂ special led
+                state-same : (special : List ℕ) → stOf words log₃ logtags₃ starts₃ maps₂ special r ≡ stOf words log₂ logtags₂ starts₂ maps₂ special led
                 unfolding stOf functionsOf
                 state-same special = rw (recs-same, other 6 (omega arith), pairs-is)
 
-                entries₃ : tableOf log₃ classes₃ starts₃ (r .counts) 7 ≡ tableOf log₀ classes₀ starts₀ (e .counts) 7 ++ (c ∷ [])
-                entries₃ = rw (X .starts-are x, counts-are) (table-more log₂ classes₂ log₃ classes₃ starts₂ maps₂ marks₂ marks₂ led K₂ (X .below) (X .log-long) (X .tags-long) marks-same 7 (omega arith) c (X .is x) (X .size x) (X .room x .1) low)
+                entries₃ : tableOf log₃ logtags₃ starts₃ (r .counts) 7 ≡ tableOf log₀ logtags₀ starts₀ (e .counts) 7 ++ (c ∷ [])
+                entries₃ = rw (X .starts-are x, counts-are) (table-more log₂ logtags₂ log₃ logtags₃ starts₂ maps₂ buckets₂ buckets₂ led K₂ (X .below) (X .log-long) (X .tags-long) marks-same 7 (omega arith) c (X .is x) (X .size x) (X .room x .1) low)
                     ∙ ap (λ (l : List Cells). l ++ (c ∷ [])) entries₂
 
                 module _ (special : List ℕ) (reads : flatEntry (entryOf (entryCellsS o M follow E (S₀ special))) ≡ entryCellsS o M follow E (S₀ special)) (named : Named (count (enteredS o M follow E (S₀ special) .out .recs) names) (entryCellsS o M follow E (S₀ special))) where
                   names-many : count (enteredS o M follow E (S₀ special) .out .recs) names ≡ getD (led .counts) 0 0
                   unfolding count stOf
-                  names-many = ap (λ (v : St). count (v .recs) names) (entered-is special) ∙ (unfold tabOf in tab-long log₂ classes₂ starts₂ maps₂ marks₂ led K₂ 0 (omega arith))
+                  names-many = ap (λ (v : Derived). count (v .recs) names) (entered-is special) ∙ (unfold tabOf in tab-long log₂ logtags₂ starts₂ maps₂ buckets₂ led K₂ 0 (omega arith))
 
-                  joins : Joins 7 (getD (led .counts) 7 0) (getD (led .counts) 0 0) (tableOf log₂ classes₂ starts₂ (led .counts) 7) c marks₂
+                  joins : Joins 7 (getD (led .counts) 7 0) (getD (led .counts) 0 0) (tableOf log₂ logtags₂ starts₂ (led .counts) 7) c buckets₂
                   joins = record {
                     few = low;
                     few-functions = λ q. absurd (omega arith);
@@ -423,24 +425,24 @@ module _ {words tags : List ℕ} {n : ℕ} (src : Source words tags n) (scopes :
                     flats′ = λ q. rw (record-is special) reads;
                   }
 
-                  kept₃ : Kept log₃ classes₃ starts₃ maps₂ marks₂ r
+                  kept₃ : ValidArrays log₃ logtags₃ starts₃ maps₂ buckets₂ r
                   kept₃ = rw (X .starts-are x)
-                      (kept-tops (kept-more log₂ classes₂ log₃ classes₃ starts₂ maps₂ marks₂ marks₂ led K₂ (X .below) (X .log-long) (X .tags-long) marks-same 7 (omega arith) c (X .is x) (X .size x) (X .room x .1) low joins) r used-is counts-are pairs-is)
+                      (kept-tops (kept-more log₂ logtags₂ log₃ logtags₃ starts₂ maps₂ buckets₂ buckets₂ led K₂ (X .below) (X .log-long) (X .tags-long) marks-same 7 (omega arith) c (X .is x) (X .size x) (X .room x .1) low joins) r used-is counts-are pairs-is)
 
               pub entry-done : (special : List ℕ) → flatEntry (entryOf (entryCellsS o M follow E (S₀ special))) ≡ entryCellsS o M follow E (S₀ special) → Named (count (enteredS o M follow E (S₀ special) .out .recs) names) (entryCellsS o M follow E (S₀ special))
-                  → Enters words n o ready follow E log₀ classes₀ starts₀ maps₀ marks₀ stacks₀ e r log₃ classes₃ starts₃ maps₂ marks₂ stacks₂
+                  → Enters words n o ready follow E log₀ logtags₀ starts₀ maps₀ buckets₀ stacks₀ e r log₃ logtags₃ starts₃ maps₂ buckets₂ stacks₂
               entry-done special reads named = record {
                 over = λ x special h. over x special;
                 is = λ x special. entered-is special ∙ sym (state-same x special);
-                table = λ x special. entries₃ x ∙ ap (λ (d : Cells). tableOf log₀ classes₀ starts₀ (e .counts) 7 ++ (d ∷ [])) (record-is special);
+                table = λ x special. entries₃ x ∙ ap (λ (d : Cells). tableOf log₀ logtags₀ starts₀ (e .counts) 7 ++ (d ∷ [])) (record-is special);
                 count = λ x. let a = K₂ .counts-eight in let b = count-same in let d = ap (λ (v : List ℕ). getD v 7 0) (counts-are x) ∙ getD-set-same (led .counts) 7 (getD (led .counts) 7 0 + 1) 0 (omega arith) in omega arith;
                 kept = λ x. kept₃ x special reads named;
                 pairs-same = λ x. pairs-is x ∙ O .beside y .pairs-same ∙ L .along z .pairs-same;
-                tops = λ x. (ap (λ (v : Ends). v .et) (X .ends x), ap (λ (v : Ends). v .bt) (X .ends x), ap (λ (v : Ends). v .made) (X .ends x));
+                tops = λ x. (ap (λ (v : Sizes). v .exprtop) (X .ends x), ap (λ (v : Sizes). v .bodytop) (X .ends x), ap (λ (v : Sizes). v .made) (X .ends x));
                 more = λ x. let a = used-is x in let b = L .more z in let d = O .more y in omega arith;
                 deep = λ x. deep-then;
-                stacks-are = λ x. let a = stacks-wrote in let b = close-tops in record { four = a .four; rows = a .rows; high = rw (ap (λ (v : Ends). v .et) (X .ends x)) (le-trans (b .0) (a .high)); high′ = rw (ap (λ (v : Ends). v .bt) (X .ends x)) (le-trans (L .along z .bt-more) (L .stacks-are z .high′)) };
-                below = same-then (e .used) (led .used) log₀ classes₀ log₂ classes₂ log₃ classes₃ (le-trans (L .more z) (O .more y)) below₂ (X .below);
+                stacks-are = λ x. let a = stacks-wrote in let b = close-tops in record { four = a .four; rows = a .rows; high = rw (ap (λ (v : Sizes). v .exprtop) (X .ends x)) (le-trans (b .0) (a .high)); high′ = rw (ap (λ (v : Sizes). v .bodytop) (X .ends x)) (le-trans (L .along z .bt-more) (L .stacks-are z .high′)) };
+                below = same-then (e .loglen) (led .loglen) log₀ logtags₀ log₂ logtags₂ log₃ logtags₃ (le-trans (L .more z) (O .more y)) below₂ (X .below);
                 log-long = X .log-long;
                 tags-long = X .tags-long;
                 marks-stay = marks-stay₂;

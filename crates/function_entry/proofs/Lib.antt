@@ -1,1 +1,3 @@
 pub mod Entry
+pub mod Sources
+pub mod Entering

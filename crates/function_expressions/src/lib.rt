@@ -1,11 +1,22 @@
-// The expressions of a function that is imported. A word of the body has its expression where it is not mapped: what it refers to outside the function, and
-// then itself, once. An Emit's first pass takes of each expression of its range what it refers to outside and the operands that stand. The expressions of
-// initialisers come with their operands, and merge.
+// The expressions of a function that is imported. A word of the body imports its expression unless it is mapped: first what the expression refers to outside the
+// function, then itself, once. An Emit's first pass imports, of each expression of its range, what it refers to outside and the standing operands. The
+// expressions of initialisers are imported with their operands, and merge.
 use base_classes::EXPR;
 use base_kinds::stands;
 use base_views::EXPRESSIONS;
+use base_words::Tags;
+use base_words::Words;
 use base_words::wide;
-use derive_state::Ends;
+use derive_state::Buckets;
+use derive_state::ExprMap;
+use derive_state::Log;
+use derive_state::LogTags;
+use derive_state::Maps;
+use derive_state::Places;
+use derive_state::Sizes;
+use derive_state::StackRows;
+use derive_state::Starts;
+use derive_state::Targets;
 use derive_types::refers_to;
 use function_builder::append;
 use function_builder::merge;
@@ -19,44 +30,44 @@ ghost use mathlib.Core.Bool.{true, false};
 ghost use Prim.Native.Nat.{_<_};
 ghost use lib.ListN.{getD};
 ghost use Rattle.model.specs.Operands.{standingKind};
-ghost use Rattle.model.specs.Bodies.{unique as uniqueE};
+ghost use Rattle.model.specs.Bodies.{importInitialiser as uniqueE};
 ghost use Rattle.theory_bodies.specs.Shallow.{need as needE, glance as glanceE};
 ghost use Rattle.theory_passes.specs.Light.{still};
 ghost use Rattle.derive_state.specs.Source.{modOf};
-ghost use Rattle.derive_state.specs.Held.{Kept};
+ghost use Rattle.derive_state.specs.Held.{ValidArrays};
 ghost use Rattle.function_references.specs.Fits.{Ground};
 ghost use Rattle.function_references.specs.Cuts.{exprsOf, Expressions};
 ghost use Rattle.function_builder.specs.Stacks.{Under};
 ghost use Rattle.function_builder.specs.Makes.{Makes};
 
-// Expression e of k, where it is not mapped, with what it refers to outside the function.
-fn bring(
-    words: &[u32; 16384],
-    tags: &[u8; 16384],
-    kinds: &[u8; 256],
+// Imports expression e of k, which is not mapped, with what it refers to outside the function.
+fn import_unmapped(
+    words: &Words,
+    tags: &Tags,
+    targets: &Targets,
     n: usize,
-    places: &[u16; 1025],
-    log: &mut [u32; 16384],
-    classes: &mut [u8; 16384],
-    starts: &mut [[u32; 512]; 8],
-    maps: &mut [[u32; 512]; 6],
-    marks: &mut [u16; 16384],
-    em: &mut [u16; 1024],
-    stacks: &mut [[u32; 16384]; 4],
-    ends: Ends,
+    places: &Places,
+    log: &mut Log,
+    logtags: &mut LogTags,
+    starts: &mut Starts,
+    maps: &mut Maps,
+    buckets: &mut Buckets,
+    exprmap: &mut ExprMap,
+    stacks: &mut StackRows,
+    ends: Sizes,
     offset: u32,
     e1: usize,
     k: usize,
     e: usize,
-) -> Ends
-    requires { ⌜ Ground (now words) (now tags) (now kinds) n ⌝ }
+) -> Sizes
+    requires { ⌜ Ground (now words) (now tags) (now targets) n ⌝ }
     requires { ⌜ Expressions (now words) (now tags) (now places) k ⌝ }
     requires { ⌜ (e < k) × (ends .full ≡ false) ⌝ }
-    requires { ⌜ Kept (now log) (now classes) (now starts) (now maps) (now marks) ends ⌝ }
-    requires { ⌜ Under k (now em) (now stacks) e1 ends ⌝ }
-    ensures { λ r. ⌜ Makes (now (words .entry)) k (needE offset (modOf (now (words .entry)) n) still (exprsOf (now (words .entry)) (now (tags .entry)) (now (places .entry)) k) e) (now (log .entry)) (now (classes .entry)) (now (starts .entry)) (now (maps .entry)) (now (marks .entry)) (now (em .entry)) (now (stacks .entry)) e1 ends r (now (log .exit)) (now (classes .exit)) (now (starts .exit)) (now (maps .exit)) (now (marks .exit)) (now (em .exit)) (now (stacks .exit)) ⌝ }
+    requires { ⌜ ValidArrays (now log) (now logtags) (now starts) (now maps) (now buckets) ends ⌝ }
+    requires { ⌜ Under k (now exprmap) (now stacks) e1 ends ⌝ }
+    ensures { λ r. ⌜ Makes (now (words .entry)) k (needE offset (modOf (now (words .entry)) n) still (exprsOf (now (words .entry)) (now (tags .entry)) (now (places .entry)) k) e) (now (log .entry)) (now (logtags .entry)) (now (starts .entry)) (now (maps .entry)) (now (buckets .entry)) (now (exprmap .entry)) (now (stacks .entry)) e1 ends r (now (log .exit)) (now (logtags .exit)) (now (starts .exit)) (now (maps .exit)) (now (buckets .exit)) (now (exprmap .exit)) (now (stacks .exit)) ⌝ }
 {
-    if em[e] != 0 {
+    if exprmap[e] != 0 {
         return ends;
     }
     let at = slot(places[e]);
@@ -64,13 +75,13 @@ fn bring(
     let got = import_outside(
         words,
         tags,
-        kinds,
+        targets,
         n,
         log,
-        classes,
+        logtags,
         starts,
         maps,
-        marks,
+        buckets,
         ends,
         offset,
         at,
@@ -82,14 +93,14 @@ fn bring(
     append(
         words,
         tags,
-        kinds,
+        targets,
         n,
         places,
         log,
-        classes,
+        logtags,
         starts,
         maps,
-        em,
+        exprmap,
         stacks,
         got,
         offset,
@@ -99,48 +110,48 @@ fn bring(
     )
 }
 
-// The same, seen first to be mapped or not: this is asked of every operand and is small, since most are mapped.
-pub fn need(
-    words: &[u32; 16384],
-    tags: &[u8; 16384],
-    kinds: &[u8; 256],
+// The same, but tests first whether e is mapped: it is called for every operand and is small, since most are mapped.
+pub fn import_operand(
+    words: &Words,
+    tags: &Tags,
+    targets: &Targets,
     n: usize,
-    places: &[u16; 1025],
-    log: &mut [u32; 16384],
-    classes: &mut [u8; 16384],
-    starts: &mut [[u32; 512]; 8],
-    maps: &mut [[u32; 512]; 6],
-    marks: &mut [u16; 16384],
-    em: &mut [u16; 1024],
-    stacks: &mut [[u32; 16384]; 4],
-    ends: Ends,
+    places: &Places,
+    log: &mut Log,
+    logtags: &mut LogTags,
+    starts: &mut Starts,
+    maps: &mut Maps,
+    buckets: &mut Buckets,
+    exprmap: &mut ExprMap,
+    stacks: &mut StackRows,
+    ends: Sizes,
     offset: u32,
     e1: usize,
     k: usize,
     e: usize,
-) -> Ends
-    requires { ⌜ Ground (now words) (now tags) (now kinds) n ⌝ }
+) -> Sizes
+    requires { ⌜ Ground (now words) (now tags) (now targets) n ⌝ }
     requires { ⌜ Expressions (now words) (now tags) (now places) k ⌝ }
     requires { ⌜ (e < k) × (ends .full ≡ false) ⌝ }
-    requires { ⌜ Kept (now log) (now classes) (now starts) (now maps) (now marks) ends ⌝ }
-    requires { ⌜ Under k (now em) (now stacks) e1 ends ⌝ }
-    ensures { λ r. ⌜ Makes (now (words .entry)) k (needE offset (modOf (now (words .entry)) n) still (exprsOf (now (words .entry)) (now (tags .entry)) (now (places .entry)) k) e) (now (log .entry)) (now (classes .entry)) (now (starts .entry)) (now (maps .entry)) (now (marks .entry)) (now (em .entry)) (now (stacks .entry)) e1 ends r (now (log .exit)) (now (classes .exit)) (now (starts .exit)) (now (maps .exit)) (now (marks .exit)) (now (em .exit)) (now (stacks .exit)) ⌝ }
+    requires { ⌜ ValidArrays (now log) (now logtags) (now starts) (now maps) (now buckets) ends ⌝ }
+    requires { ⌜ Under k (now exprmap) (now stacks) e1 ends ⌝ }
+    ensures { λ r. ⌜ Makes (now (words .entry)) k (needE offset (modOf (now (words .entry)) n) still (exprsOf (now (words .entry)) (now (tags .entry)) (now (places .entry)) k) e) (now (log .entry)) (now (logtags .entry)) (now (starts .entry)) (now (maps .entry)) (now (buckets .entry)) (now (exprmap .entry)) (now (stacks .entry)) e1 ends r (now (log .exit)) (now (logtags .exit)) (now (starts .exit)) (now (maps .exit)) (now (buckets .exit)) (now (exprmap .exit)) (now (stacks .exit)) ⌝ }
 {
-    if em[e] != 0 {
+    if exprmap[e] != 0 {
         return ends;
     }
-    bring(
+    import_unmapped(
         words,
         tags,
-        kinds,
+        targets,
         n,
         places,
         log,
-        classes,
+        logtags,
         starts,
         maps,
-        marks,
-        em,
+        buckets,
+        exprmap,
         stacks,
         ends,
         offset,
@@ -150,46 +161,46 @@ pub fn need(
     )
 }
 
-// Whether expression e is not mapped and stands. Most are mapped.
-fn wanted(words: &[u32; 16384], places: &[u16; 1025], em: &[u16; 1024], e: usize) -> bool
+// Whether expression e is not mapped and is standing. Most are mapped.
+fn is_unmapped_standing(words: &Words, places: &Places, exprmap: &ExprMap, e: usize) -> bool
     requires { ⌜ (e < 1024) × (getD (now places) e 0 < 16384) ⌝ }
-    ensures { λ r. ⌜ (r ≡ true → (getD (now (em .entry)) e 0 ≡ 0) × (standingKind (getD (now (words .entry)) (getD (now (places .entry)) e 0) 0) ≡ true)) ⌝ }
-    ensures { λ r. ⌜ (r ≡ false → getD (now (em .entry)) e 0 ≡ 0 → standingKind (getD (now (words .entry)) (getD (now (places .entry)) e 0) 0) ≡ false) ⌝ }
+    ensures { λ r. ⌜ (r ≡ true → (getD (now (exprmap .entry)) e 0 ≡ 0) × (standingKind (getD (now (words .entry)) (getD (now (places .entry)) e 0) 0) ≡ true)) ⌝ }
+    ensures { λ r. ⌜ (r ≡ false → getD (now (exprmap .entry)) e 0 ≡ 0 → standingKind (getD (now (words .entry)) (getD (now (places .entry)) e 0) 0) ≡ false) ⌝ }
 {
-    if em[e] != 0 {
+    if exprmap[e] != 0 {
         return false;
     }
     stands(words[slot(places[e])])
 }
 
-// What an Emit's first pass takes of expression e, where it is not mapped.
-pub fn glance(
-    words: &[u32; 16384],
-    tags: &[u8; 16384],
-    kinds: &[u8; 256],
+// What an Emit's first pass imports of expression e, where it is not mapped.
+pub fn import_standing(
+    words: &Words,
+    tags: &Tags,
+    targets: &Targets,
     n: usize,
-    places: &[u16; 1025],
-    log: &mut [u32; 16384],
-    classes: &mut [u8; 16384],
-    starts: &mut [[u32; 512]; 8],
-    maps: &mut [[u32; 512]; 6],
-    marks: &mut [u16; 16384],
-    em: &mut [u16; 1024],
-    stacks: &mut [[u32; 16384]; 4],
-    ends: Ends,
+    places: &Places,
+    log: &mut Log,
+    logtags: &mut LogTags,
+    starts: &mut Starts,
+    maps: &mut Maps,
+    buckets: &mut Buckets,
+    exprmap: &mut ExprMap,
+    stacks: &mut StackRows,
+    ends: Sizes,
     offset: u32,
     e1: usize,
     k: usize,
     e: usize,
-) -> Ends
-    requires { ⌜ Ground (now words) (now tags) (now kinds) n ⌝ }
+) -> Sizes
+    requires { ⌜ Ground (now words) (now tags) (now targets) n ⌝ }
     requires { ⌜ Expressions (now words) (now tags) (now places) k ⌝ }
     requires { ⌜ (e < k) × (ends .full ≡ false) ⌝ }
-    requires { ⌜ Kept (now log) (now classes) (now starts) (now maps) (now marks) ends ⌝ }
-    requires { ⌜ Under k (now em) (now stacks) e1 ends ⌝ }
-    ensures { λ r. ⌜ Makes (now (words .entry)) k (glanceE offset (modOf (now (words .entry)) n) still (exprsOf (now (words .entry)) (now (tags .entry)) (now (places .entry)) k) e) (now (log .entry)) (now (classes .entry)) (now (starts .entry)) (now (maps .entry)) (now (marks .entry)) (now (em .entry)) (now (stacks .entry)) e1 ends r (now (log .exit)) (now (classes .exit)) (now (starts .exit)) (now (maps .exit)) (now (marks .exit)) (now (em .exit)) (now (stacks .exit)) ⌝ }
+    requires { ⌜ ValidArrays (now log) (now logtags) (now starts) (now maps) (now buckets) ends ⌝ }
+    requires { ⌜ Under k (now exprmap) (now stacks) e1 ends ⌝ }
+    ensures { λ r. ⌜ Makes (now (words .entry)) k (glanceE offset (modOf (now (words .entry)) n) still (exprsOf (now (words .entry)) (now (tags .entry)) (now (places .entry)) k) e) (now (log .entry)) (now (logtags .entry)) (now (starts .entry)) (now (maps .entry)) (now (buckets .entry)) (now (exprmap .entry)) (now (stacks .entry)) e1 ends r (now (log .exit)) (now (logtags .exit)) (now (starts .exit)) (now (maps .exit)) (now (buckets .exit)) (now (exprmap .exit)) (now (stacks .exit)) ⌝ }
 {
-    if em[e] != 0 {
+    if exprmap[e] != 0 {
         return ends;
     }
     let end = slot(places[e + 1]);
@@ -199,19 +210,19 @@ pub fn glance(
         let j = i;
         i += 1;
         let s = tags[j];
-        let r = refers_to(kinds, s, words[j]);
+        let r = refers_to(targets, s, words[j]);
         if s < EXPR {
             if missing(maps, r.table, r.number) {
                 got = import_by_table(
                     words,
                     tags,
-                    kinds,
+                    targets,
                     n,
                     log,
-                    classes,
+                    logtags,
                     starts,
                     maps,
-                    marks,
+                    buckets,
                     got,
                     offset,
                     r.table,
@@ -223,19 +234,19 @@ pub fn glance(
             }
         } else if r.table == EXPRESSIONS {
             let x = wide(r.number);
-            if wanted(words, places, em, x) {
-                got = bring(
+            if is_unmapped_standing(words, places, exprmap, x) {
+                got = import_unmapped(
                     words,
                     tags,
-                    kinds,
+                    targets,
                     n,
                     places,
                     log,
-                    classes,
+                    logtags,
                     starts,
                     maps,
-                    marks,
-                    em,
+                    buckets,
+                    exprmap,
                     stacks,
                     got,
                     offset,
@@ -252,34 +263,34 @@ pub fn glance(
     got
 }
 
-// Expression e of an initialiser, with its operands, where it is not mapped.
+// Imports expression e of an initialiser, with its operands, where it is not mapped.
 pub fn unique(
-    words: &[u32; 16384],
-    tags: &[u8; 16384],
-    kinds: &[u8; 256],
+    words: &Words,
+    tags: &Tags,
+    targets: &Targets,
     n: usize,
-    places: &[u16; 1025],
-    log: &mut [u32; 16384],
-    classes: &mut [u8; 16384],
-    starts: &mut [[u32; 512]; 8],
-    maps: &mut [[u32; 512]; 6],
-    marks: &mut [u16; 16384],
-    em: &mut [u16; 1024],
-    stacks: &mut [[u32; 16384]; 4],
-    ends: Ends,
+    places: &Places,
+    log: &mut Log,
+    logtags: &mut LogTags,
+    starts: &mut Starts,
+    maps: &mut Maps,
+    buckets: &mut Buckets,
+    exprmap: &mut ExprMap,
+    stacks: &mut StackRows,
+    ends: Sizes,
     offset: u32,
     e1: usize,
     k: usize,
     e: usize,
-) -> Ends
-    requires { ⌜ Ground (now words) (now tags) (now kinds) n ⌝ }
+) -> Sizes
+    requires { ⌜ Ground (now words) (now tags) (now targets) n ⌝ }
     requires { ⌜ Expressions (now words) (now tags) (now places) k ⌝ }
     requires { ⌜ (e < k) × (ends .full ≡ false) ⌝ }
-    requires { ⌜ Kept (now log) (now classes) (now starts) (now maps) (now marks) ends ⌝ }
-    requires { ⌜ Under k (now em) (now stacks) e1 ends ⌝ }
-    ensures { λ r. ⌜ Makes (now (words .entry)) k (uniqueE offset (modOf (now (words .entry)) n) still (exprsOf (now (words .entry)) (now (tags .entry)) (now (places .entry)) k) e) (now (log .entry)) (now (classes .entry)) (now (starts .entry)) (now (maps .entry)) (now (marks .entry)) (now (em .entry)) (now (stacks .entry)) e1 ends r (now (log .exit)) (now (classes .exit)) (now (starts .exit)) (now (maps .exit)) (now (marks .exit)) (now (em .exit)) (now (stacks .exit)) ⌝ }
+    requires { ⌜ ValidArrays (now log) (now logtags) (now starts) (now maps) (now buckets) ends ⌝ }
+    requires { ⌜ Under k (now exprmap) (now stacks) e1 ends ⌝ }
+    ensures { λ r. ⌜ Makes (now (words .entry)) k (uniqueE offset (modOf (now (words .entry)) n) still (exprsOf (now (words .entry)) (now (tags .entry)) (now (places .entry)) k) e) (now (log .entry)) (now (logtags .entry)) (now (starts .entry)) (now (maps .entry)) (now (buckets .entry)) (now (exprmap .entry)) (now (stacks .entry)) e1 ends r (now (log .exit)) (now (logtags .exit)) (now (starts .exit)) (now (maps .exit)) (now (buckets .exit)) (now (exprmap .exit)) (now (stacks .exit)) ⌝ }
 {
-    if em[e] != 0 {
+    if exprmap[e] != 0 {
         return ends;
     }
     let end = slot(places[e + 1]);
@@ -289,18 +300,18 @@ pub fn unique(
         let j = i;
         i += 1;
         let s = tags[j];
-        let r = refers_to(kinds, s, words[j]);
+        let r = refers_to(targets, s, words[j]);
         if s < EXPR {
             got = import_record(
                 words,
                 tags,
-                kinds,
+                targets,
                 n,
                 log,
-                classes,
+                logtags,
                 starts,
                 maps,
-                marks,
+                buckets,
                 got,
                 offset,
                 r.table,
@@ -313,15 +324,15 @@ pub fn unique(
             got = unique(
                 words,
                 tags,
-                kinds,
+                targets,
                 n,
                 places,
                 log,
-                classes,
+                logtags,
                 starts,
                 maps,
-                marks,
-                em,
+                buckets,
+                exprmap,
                 stacks,
                 got,
                 offset,
@@ -337,14 +348,14 @@ pub fn unique(
     merge(
         words,
         tags,
-        kinds,
+        targets,
         n,
         places,
         log,
-        classes,
+        logtags,
         starts,
         maps,
-        em,
+        exprmap,
         stacks,
         got,
         offset,

@@ -1,4 +1,4 @@
--- The record of a function that is whole on the stacks is what the passes wrote: its declarations and its body have the classes of the source. Assumes nothing.
+-- The record of a function that is whole on the stacks is what the passes wrote: its declarations and its body have the classes of the source.
 use mathlib.Core.Path.{_≡_, refl, sym, ap, ap₂, _∙_}
 use mathlib.Core.Bool.{Bool, false}
 use mathlib.Core.List.{List, [], _∷_, _++_, map}
@@ -12,14 +12,15 @@ use Rattle.model.specs.Tree.{Function, flatList, flatBlock}
 use Rattle.model.specs.Module.{Module}
 use Rattle.model.specs.Between.{beside, between}
 use Rattle.model.specs.References.{target, through, firstWord, undefinedAt}
-use Rattle.model.specs.Imports.{St}
-use Rattle.model.specs.Bodies.{Making, went}
+use Rattle.model.specs.Imports.{Derived}
+use Rattle.model.specs.Bodies.{Builder, mappedTo}
 use Rattle.theory_image.specs.Betweens.{beside-cells, between-next}
-use Rattle.theory_image.specs.FunctionViews.{each-at, part-tags}
+use Rattle.theory_image.specs.FunctionViews.{part-tags}
+use Rattle.theory_image.specs.Members.{each-at}
 use Rattle.theory_passes.specs.Pass.{arrive, passed, written, rows, front}
 use Rattle.derive_state.specs.Source.{modOf}
 use Rattle.derive_state.specs.Held.{row, stOf}
-use Rattle.derive_state.specs.declared.Ends.{Ends}
+use Rattle.derive_state.specs.declared.Sizes.{Sizes}
 use Rattle.derive_state.proofs.Passes.{length-between}
 use Rattle.function_parts.specs.Part.{Part, Indexed, front-is, front-run, body-is, body-run, order, long}
 use Rattle.function_record.specs.Closed.{pairsIn, nameCells, closing}
@@ -29,7 +30,7 @@ use Rattle.function_localize.specs.Localized.{Localizes}
 use Rattle.function_localize.proofs.Names.{rows-long}
 
 -- ---- classes stay
-written-classes : (o : ℕ) (M : Module) (follow : ℕ → St → St) (p q : ℕ → Making → Making) (cs : Cells) (u : Bool) (m : Making) → map class (written o M follow p q cs u m) ≡ map class cs
+written-classes : (o : ℕ) (M : Module) (follow : ℕ → Derived → Derived) (p q : ℕ → Builder → Builder) (cs : Cells) (u : Bool) (m : Builder) → map class (written o M follow p q cs u m) ≡ map class cs
 unfolding written
 written-classes o M follow p q [] u m = refl
 written-classes o M follow p q (c ∷ cs) u m = ap (class c ∷_) (written-classes o M follow p q cs (undefinedAt (target (class c)) (word c) (firstWord cs) u) (passed o M follow p q c cs m))
@@ -39,13 +40,13 @@ by-parts : (cs ds : Cells) (ss ws : List ℕ) → ss ≡ map class ds → map cl
 by-parts cs ds ss ws a b c = ap₂ beside (a ∙ sym b) c ∙ beside-cells cs
 
 -- named expressions by their words
-module _ (o : ℕ) (M : Module) (follow : ℕ → St → St) (p q : ℕ → Making → Making) where
-  names-back : (ks : List (ℕ × ℕ)) (m : Making) → nameCells (map word (rows o M follow p q ks m)) ≡ rows o M follow p q ks m
+module _ (o : ℕ) (M : Module) (follow : ℕ → Derived → Derived) (p q : ℕ → Builder → Builder) where
+  names-back : (ks : List (ℕ × ℕ)) (m : Builder) → nameCells (map word (rows o M follow p q ks m)) ≡ rows o M follow p q ks m
   unfolding rows nameCells
   names-back [] m = refl
-  names-back (k ∷ ks) m = ap (λ (l : Cells). (NAMED-EXPR, k .0) ∷ (NAME, through (went M (arrive o M follow p q (target NAME) (k .1) m)) NAME (k .1)) ∷ l) (names-back ks (arrive o M follow p q (target NAME) (k .1) m))
+  names-back (k ∷ ks) m = ap (λ (l : Cells). (NAMED-EXPR, k .0) ∷ (NAME, through (mappedTo M (arrive o M follow p q (target NAME) (k .1) m)) NAME (k .1)) ∷ l) (names-back ks (arrive o M follow p q (target NAME) (k .1) m))
 
-  names-count : (ks : List (ℕ × ℕ)) (m : Making) → length (pairsIn (map word (rows o M follow p q ks m))) ≡ length ks
+  names-count : (ks : List (ℕ × ℕ)) (m : Builder) → length (pairsIn (map word (rows o M follow p q ks m))) ≡ length ks
   unfolding rows pairsIn
   names-count [] m = refl
   names-count (k ∷ ks) m = ap suc (names-count ks (arrive o M follow p q (target NAME) (k .1) m))
@@ -59,10 +60,10 @@ join-four : {a a′ b b′ c c′ d d′ : Cells} → a ≡ a′ → b ≡ b′ 
 join-four p q r s i = p i ++ q i ++ r i ++ s i
 
 module _ {words tags : List ℕ} {n s end : ℕ} {F : Function} (p : Part words tags n s end F) {ea : ℕ} {places : List ℕ} {k named body : ℕ} (x : Indexed words tags s end ea places k named body)
-    (o : ℕ) (ready : ℕ → St → Type 0) (follow : ℕ → St → St) (log₀ tags₀ : List ℕ) (starts₀ maps₀ : List (List ℕ)) (marks₀ : List ℕ) (stacks₀ : List (List ℕ)) (e₀ : Ends)
-    (r : Ends) (log classes : List ℕ) (starts maps : List (List ℕ)) (marks : List ℕ) (stacks : List (List ℕ)) (L : Localizes words n o ready follow F log₀ tags₀ starts₀ maps₀ marks₀ stacks₀ e₀ r log classes starts maps marks stacks) (z : r .full ≡ false) where
-  abbrev S₀ : List ℕ → St
-  S₀ special = stOf words log₀ tags₀ starts₀ maps₀ special e₀
+    (o : ℕ) (ready : ℕ → Derived → Type 0) (follow : ℕ → Derived → Derived) (log₀ logtags₀ : List ℕ) (starts₀ maps₀ : List (List ℕ)) (buckets₀ : List ℕ) (stacks₀ : List (List ℕ)) (e₀ : Sizes)
+    (r : Sizes) (log logtags : List ℕ) (starts maps : List (List ℕ)) (buckets : List ℕ) (stacks : List (List ℕ)) (L : Localizes words n o ready follow F log₀ logtags₀ starts₀ maps₀ buckets₀ stacks₀ e₀ r log logtags starts maps buckets stacks) (z : r .full ≡ false) where
+  abbrev S₀ : List ℕ → Derived
+  S₀ special = stOf words log₀ logtags₀ starts₀ maps₀ special e₀
 
   hw : end ≤ length words
   hw = let a = order p x .in-words in let b = long p .words-long in omega arith
@@ -77,26 +78,26 @@ module _ {words tags : List ℕ} {n s end : ℕ} {F : Function} (p : Part words 
   body-size = sym (ap length (body-is p x) ∙ length-between tags words body end ht hw)
 
   abbrev start : ℕ
-  start = e₀ .bt + (ea - s) + (end - body)
+  start = e₀ .bodytop + (ea - s) + (end - body)
 
-  names-there : (special : List ℕ) → slice start (r .bt) (row stacks 3) ≡ map word (namesS o (modOf words n) follow F (S₀ special))
+  names-there : (special : List ℕ) → slice start (r .bodytop) (row stacks 3) ≡ map word (namesS o (modOf words n) follow F (S₀ special))
   names-there special = rw (front-size, body-size) (L .names z special)
 
-  front-cells : (special : List ℕ) → beside (slice s ea tags) (slice (e₀ .bt) (e₀ .bt + (ea - s)) (row stacks 3)) ≡ frontS o (modOf words n) follow F (S₀ special)
+  front-cells : (special : List ℕ) → beside (slice s ea tags) (slice (e₀ .bodytop) (e₀ .bodytop + (ea - s)) (row stacks 3)) ≡ frontS o (modOf words n) follow F (S₀ special)
   unfolding frontS
   front-cells special = by-parts _ (front F) _ _ (rw (x .ea-is) (part-tags (p .stands .held) (front-run p))) (written-classes o (modOf words n) _ _ _ (front F) false _) (rw front-size (L .fronts z special))
 
-  body-cells : (special : List ℕ) → beside (slice body end tags) (slice (e₀ .bt + (ea - s)) start (row stacks 3)) ≡ bodyS o (modOf words n) follow F (S₀ special)
+  body-cells : (special : List ℕ) → beside (slice body end tags) (slice (e₀ .bodytop + (ea - s)) start (row stacks 3)) ≡ bodyS o (modOf words n) follow F (S₀ special)
   unfolding bodyS
   body-cells special = by-parts _ (flatBlock (F .body)) _ _ (part-tags (p .stands .held) (body-run p x)) (written-classes o (modOf words n) _ _ _ (flatBlock (F .body)) false _) (rw (front-size, body-size) (L .bodies z special))
 
-  name-cells : (special : List ℕ) → _≡_ {A = Cells} ((NAMED, length (pairsIn (slice start (r .bt) (row stacks 3)))) ∷ nameCells (slice start (r .bt) (row stacks 3))) ((NAMED, length (keptS o (modOf words n) follow F (S₀ special))) ∷ namesS o (modOf words n) follow F (S₀ special))
+  name-cells : (special : List ℕ) → _≡_ {A = Cells} ((NAMED, length (pairsIn (slice start (r .bodytop) (row stacks 3)))) ∷ nameCells (slice start (r .bodytop) (row stacks 3))) ((NAMED, length (keptS o (modOf words n) follow F (S₀ special))) ∷ namesS o (modOf words n) follow F (S₀ special))
   unfolding namesS
   name-cells special =
       let t = names-there special in
       ap₂ (λ (c : ℕ) (l : Cells). (NAMED, c) ∷ l) (ap (λ (l : List ℕ). length (pairsIn l)) t ∙ names-count o (modOf words n) _ _ _ (keptS o (modOf words n) follow F (S₀ special)) _) (ap nameCells t ∙ names-back o (modOf words n) _ _ _ (keptS o (modOf words n) follow F (S₀ special)) _)
 
-  expr-cells : (special : List ℕ) → _≡_ {A = Cells} ((EXPRESSIONS, r .made) ∷ between (row stacks 1) (row stacks 0) (e₀ .et) (r .et)) (flatList EXPRESSIONS (walkedS o (modOf words n) follow F (S₀ special) .made))
+  expr-cells : (special : List ℕ) → _≡_ {A = Cells} ((EXPRESSIONS, r .made) ∷ between (row stacks 1) (row stacks 0) (e₀ .exprtop) (r .exprtop)) (flatList EXPRESSIONS (walkedS o (modOf words n) follow F (S₀ special) .made))
   unfolding flatList
   expr-cells special = ap₂ (λ (c : ℕ) (l : Cells). (EXPRESSIONS, c) ∷ l) (L .made z special) (L .exprs z special)
 
@@ -105,14 +106,14 @@ module _ {words tags : List ℕ} {n s end : ℕ} {F : Function} (p : Part words 
   unfolding closing cellsS
   closing-is special = join-four (front-cells special) (expr-cells special) (name-cells special) (body-cells special)
 
-  -- what `close` asks
-  pub close-low : e₀ .bt + ((ea - s) + (end - body)) ≤ r .bt
+  -- what `append_record` requires
+  pub close-low : e₀ .bodytop + ((ea - s) + (end - body)) ≤ r .bodytop
   close-low = let a = front-size in let b = body-size in let c = L .longer z in omega arith
 
-  pub close-pairs : length (pairsIn (slice (e₀ .bt + ((ea - s) + (end - body))) (r .bt) (row stacks 3))) * 2 + (e₀ .bt + ((ea - s) + (end - body))) ≡ r .bt
+  pub close-pairs : length (pairsIn (slice (e₀ .bodytop + ((ea - s) + (end - body))) (r .bodytop) (row stacks 3))) * 2 + (e₀ .bodytop + ((ea - s) + (end - body))) ≡ r .bodytop
   unfolding namesS
   close-pairs =
-      let q : e₀ .bt + ((ea - s) + (end - body)) ≡ start = omega arith in
+      let q : e₀ .bodytop + ((ea - s) + (end - body)) ≡ start = omega arith in
       let t = names-there [] in
       let ks = keptS o (modOf words n) follow F (S₀ []) in
       let a = ap (λ (l : List ℕ). length (pairsIn l)) t ∙ names-count o (modOf words n) _ _ _ ks _ in
@@ -120,17 +121,17 @@ module _ {words tags : List ℕ} {n s end : ℕ} {F : Function} (p : Part words 
       let st = L .stacks-are z in
       let h = st .high′ in
       let g = st .rows 3 (omega arith) in
-      let c = length-slice start (r .bt) (row stacks 3) (omega arith) in
+      let c = length-slice start (r .bodytop) (row stacks 3) (omega arith) in
       let d = close-low in
       rw q (omega arith)
 
-  pub close-bytes : (i : ℕ) → e₀ .et ≤ i → i < r .et + 0 → getD (row stacks 1) i 0 < 256
+  pub close-bytes : (i : ℕ) → e₀ .exprtop ≤ i → i < r .exprtop + 0 → getD (row stacks 1) i 0 < 256
   close-bytes i h l =
       let st = L .stacks-are z in
       let g = st .high in
       let a = st .rows 0 (omega arith) in
       let b = st .rows 1 (omega arith) in
-      let q : e₀ .et + (i - e₀ .et) ≡ i = omega arith in
-      let c = length-between (row stacks 1) (row stacks 0) (e₀ .et) (r .et) (omega arith) (omega arith) in
+      let q : e₀ .exprtop + (i - e₀ .exprtop) ≡ i = omega arith in
+      let c = length-between (row stacks 1) (row stacks 0) (e₀ .exprtop) (r .exprtop) (omega arith) (omega arith) in
       let d = rw (← L .exprs z []) at (made-bytes o (modOf words n) follow F (p .pass .well) (S₀ [])) in
-      rw (← q) (rw (between-at (row stacks 1) (row stacks 0) (i - e₀ .et) (e₀ .et) (r .et) (omega arith) (omega arith) (omega arith)) at (each-at d (i - e₀ .et) (0, 0) (omega arith)))
+      rw (← q) (rw (between-at (row stacks 1) (row stacks 0) (i - e₀ .exprtop) (e₀ .exprtop) (r .exprtop) (omega arith) (omega arith) (omega arith)) at (each-at d (i - e₀ .exprtop) (0, 0) (omega arith)))

@@ -15,11 +15,11 @@ use Rattle.model.specs.Table.{FROM, STMT-KIND}
 use Rattle.model.specs.Tree.{Function, flatBlock}
 use Rattle.model.specs.Module.{Module}
 use Rattle.model.specs.Between.{between}
-use Rattle.model.specs.References.{Place, table, own, function, Target, copied, start, upto, ref, opt, target, Node, refOf, refs, each, firstWord, alike, merged}
+use Rattle.model.specs.References.{Place, table, own, function, Target, copied, start, upto, ref, opt, target, Node, refOf, refs, foldRefs, firstWord, alike, interned}
 use Rattle.model.specs.Operands.{standing}
 use Rattle.model.specs.Scope.{upFrom, inRange}
-use Rattle.model.specs.Imports.{St}
-use Rattle.model.specs.Bodies.{Making, bring, carried, step, push, join, importE, unique, comparesOf, eachE}
+use Rattle.model.specs.Imports.{Derived}
+use Rattle.model.specs.Bodies.{Builder, bring, carried, step, appendExpr, internExpr, importE, importInitialiser, comparesOf, eachE}
 use Rattle.theory_records.specs.RecordLaws.{All}
 use Rattle.theory_image.specs.Betweens.{between-none, between-next}
 use Rattle.theory_bodies.specs.Context.{once-is}
@@ -29,7 +29,8 @@ use Rattle.theory_passes.specs.Light.{still}
 use Rattle.derive_state.specs.Source.{modOf}
 use Rattle.function_references.specs.Fits.{Fits, FitN, Legible}
 use Rattle.function_outside.proofs.Passing.{legible-next, legible-here}
-use Rattle.function_passes.proofs.Words.{first-some, Lows, compares-lows}
+use Rattle.function_runs.proofs.Firsts.{first-some}
+use Rattle.function_passes.proofs.Words.{Lows, compares-lows}
 use Rattle.function_parts.specs.Part.{Part, Indexed, k-many, front-is, body-is}
 use Rattle.function_parts.specs.Fitting.{expr-fits, front-legible, body-legible}
 use Rattle.function_nesting.specs.Nested.{declaredS, walkedS}
@@ -61,65 +62,65 @@ filled-none zero = refl
 filled-none (suc n) = filled-none n
 
 -- what is made fills places below b
-record Fills (b : ℕ) (m m′ : Making) : Type 0 where
+record Fills (b : ℕ) (m m′ : Builder) : Type 0 where
   long : length (m′ .memo) ≡ length (m .memo)
   few : length (m′ .made) + filled (m .memo) ≤ length (m .made) + filled (m′ .memo)
   same : (y : ℕ) → b ≤ y → getD (m′ .memo) y 0 ≡ getD (m .memo) y 0
 
-fills-none : (b : ℕ) (m : Making) → Fills b m m
+fills-none : (b : ℕ) (m : Builder) → Fills b m m
 fills-none b m = record { long = refl; few = le-refl _; same = λ y h. refl }
 
-fills-beside : (b : ℕ) (m m′ : Making) → m′ .memo ≡ m .memo → m′ .made ≡ m .made → Fills b m m′
+fills-beside : (b : ℕ) (m m′ : Builder) → m′ .memo ≡ m .memo → m′ .made ≡ m .made → Fills b m m′
 fills-beside b m m′ p q = record { long = ap length p; few = rw (p, q) (le-refl _); same = λ y h. ap (λ (l : List ℕ). getD l y 0) p }
 
-fills-then : (b : ℕ) {m m′ m″ : Making} → Fills b m m′ → Fills b m′ m″ → Fills b m m″
+fills-then : (b : ℕ) {m m′ m″ : Builder} → Fills b m m′ → Fills b m′ m″ → Fills b m m″
 fills-then b p q = record { long = q .long ∙ p .long; few = let x = p .few in let y = q .few in omega arith; same = λ y h. q .same y h ∙ p .same y h }
 
-fills-more : (b c : ℕ) {m m′ : Making} → b ≤ c → Fills b m m′ → Fills c m m′
+fills-more : (b c : ℕ) {m m′ : Builder} → b ≤ c → Fills b m m′ → Fills c m m′
 fills-more b c l p = record { long = p .long; few = p .few; same = λ y h. p .same y (omega arith) }
 
-fills-one : (e v : ℕ) (m d : Making) (ds : List Cells) (s : St) → Fills e m d → getD (m .memo) e 0 ≡ 0 → e < length (m .memo) → length ds ≤ suc (length (d .made)) → Fills (suc e) m (record { out = s; memo = set (d .memo) e (suc v); made = ds })
+fills-one : (e v : ℕ) (m d : Builder) (ds : List Cells) (s : Derived) → Fills e m d → getD (m .memo) e 0 ≡ 0 → e < length (m .memo) → length ds ≤ suc (length (d .made)) → Fills (suc e) m (record { out = s; memo = set (d .memo) e (suc v); made = ds })
 fills-one e v m d ds s p z h l = record {
   long = length-set (d .memo) e (suc v) ∙ p .long;
   few = let a = filled-set (d .memo) e v (let x = p .long in omega arith) (p .same e (le-refl _) ∙ z) in let b = p .few in omega arith;
   same = λ y g. getD-set-other (d .memo) e y (suc v) 0 (λ q. omega arith) ∙ p .same y (omega arith);
 }
 
-merged-more : (ds : List Cells) (r : Cells) → length (merged ds r) ≤ suc (length ds)
-unfolding merged
+merged-more : (ds : List Cells) (r : Cells) → length (interned ds r) ≤ suc (length ds)
+unfolding interned
 merged-more [] r = omega arith
 merged-more (d ∷ ds) r = go (alike d r) (merged-more ds r)
   where
-    go : (b : Bool) → length (merged ds r) ≤ suc (length ds) → length {A = Cells} (elim b [ true ↦ d ∷ ds | false ↦ d ∷ merged ds r ]) ≤ suc (suc (length ds))
+    go : (b : Bool) → length (interned ds r) ≤ suc (length ds) → length {A = Cells} (elim b [ true ↦ d ∷ ds | false ↦ d ∷ interned ds r ]) ≤ suc (suc (length ds))
     go true h = omega arith
     go false h = omega arith
 
 -- ---- references
 module _ (words : List ℕ) (o : ℕ) (M : Module) (k : ℕ) where
-  abbrev Imports : ℕ → (ℕ → Making → Making) → Type 0
-  Imports b h = (e : ℕ) (m : Making) → e < b → length (m .memo) ≡ k → Fills b m (h e m)
+  abbrev Imports : ℕ → (ℕ → Builder → Builder) → Type 0
+  Imports b h = (e : ℕ) (m : Builder) → e < b → length (m .memo) ≡ k → Fills b m (h e m)
 
-  module _ (follow : ℕ → St → St) (b : ℕ) (h : ℕ → Making → Making) (H : Imports b h) where
-    step-fills : (s : Place) (n : ℕ) (m : Making) → Fits words b s n → length (m .memo) ≡ k → Fills b m (step o M follow h s n m)
+  module _ (follow : ℕ → Derived → Derived) (b : ℕ) (h : ℕ → Builder → Builder) (H : Imports b h) where
+    step-fills : (s : Place) (n : ℕ) (m : Builder) → Fits words b s n → length (m .memo) ≡ k → Fills b m (step o M follow h s n m)
     unfolding step bring Fits
     step-fills (table t) n m f l = fills-beside b m _ refl refl
     step-fills own n m f l = H n m f l
     step-fills function n m f l = fills-beside b m _ refl refl
 
-    each-fills : (js : List Node) (m : Making) → All (FitN words b) js → length (m .memo) ≡ k → Fills b m (each js (step o M follow h) m)
-    unfolding each
+    each-fills : (js : List Node) (m : Builder) → All (FitN words b) js → length (m .memo) ≡ k → Fills b m (foldRefs js (step o M follow h) m)
+    unfolding foldRefs
     each-fills [] m a l = fills-none b m
     each-fills (j ∷ js) m a l = let f = step-fills (j .place) (j .num) m (a .0) l in fills-then b f (each-fills js (step o M follow h (j .place) (j .num) m) (a .1) (f .long ∙ l))
 
-    all-fills : (es : List ℕ) (m : Making) → Lows b es → length (m .memo) ≡ k → Fills b m (eachE es h m)
+    all-fills : (es : List ℕ) (m : Builder) → Lows b es → length (m .memo) ≡ k → Fills b m (eachE es h m)
     unfolding eachE
     all-fills [] m a l = fills-none b m
     all-fills (e ∷ es) m a l = let f = H e m (a .0) l in fills-then b f (all-fills es (h e m) (a .1) (f .long ∙ l))
 
   -- ---- one expression
   module _ (xs : List Cells) (fits : (e : ℕ) → e < k → All (FitN words e) (refs (getD xs e []))) where
-    idle-fills : (b : ℕ) (js : List Node) (m : Making) → Fills b m (each js (step o M still (λ x m. m)) m)
-    unfolding each
+    idle-fills : (b : ℕ) (js : List Node) (m : Builder) → Fills b m (foldRefs js (step o M still (λ x m. m)) m)
+    unfolding foldRefs
     idle-fills b [] m = fills-none b m
     idle-fills b (j ∷ js) m = fills-then b (one (j .place) (j .num)) (idle-fills b js (step o M still (λ x m. m) (j .place) (j .num) m))
       where
@@ -128,13 +129,13 @@ module _ (words : List ℕ) (o : ℕ) (M : Module) (k : ℕ) where
         one own n = unfold step in fills-none b m
         one function n = unfold step bring in fills-beside b m _ refl refl
 
-    need-fills : (e : ℕ) (m : Making) → e < k → length (m .memo) ≡ k → Fills (suc e) m (need o M still xs e m)
-    unfolding need push
+    need-fills : (e : ℕ) (m : Builder) → e < k → length (m .memo) ≡ k → Fills (suc e) m (need o M still xs e m)
+    unfolding need appendExpr
     need-fills e m h l = once-is (Fills (suc e) m) (getD (m .memo) e 0) _ m
-        (λ z. fills-one e _ m (each (refs (getD xs e [])) (step o M still (λ x m. m)) m) _ _ (idle-fills e (refs (getD xs e [])) m) z (omega arith) (let d : Making = each (refs (getD xs e [])) (step o M still (λ x m. m)) m in let a = length-append (d .made) (carried o M d (getD xs e []) ∷ []) in omega arith))
+        (λ z. fills-one e _ m (foldRefs (refs (getD xs e [])) (step o M still (λ x m. m)) m) _ _ (idle-fills e (refs (getD xs e [])) m) z (omega arith) (let d : Builder = foldRefs (refs (getD xs e [])) (step o M still (λ x m. m)) m in let a = length-append (d .made) (carried o M d (getD xs e []) ∷ []) in omega arith))
         (λ z. fills-none (suc e) m)
 
-    peek-fills : (e : ℕ) (m : Making) → e < k → length (m .memo) ≡ k → Fills (suc e) m (peek o M still xs e m)
+    peek-fills : (e : ℕ) (m : Builder) → e < k → length (m .memo) ≡ k → Fills (suc e) m (peek o M still xs e m)
     unfolding peek
     peek-fills e m h l = go (standing xs e)
       where
@@ -142,17 +143,17 @@ module _ (words : List ℕ) (o : ℕ) (M : Module) (k : ℕ) where
         go true = need-fills e m h l
         go false = fills-none (suc e) m
 
-    glance-fills : (e : ℕ) (m : Making) → e < k → length (m .memo) ≡ k → Fills (suc e) m (glance o M still xs e m)
+    glance-fills : (e : ℕ) (m : Builder) → e < k → length (m .memo) ≡ k → Fills (suc e) m (glance o M still xs e m)
     unfolding glance
     glance-fills e m h l = once-is (Fills (suc e) m) (getD (m .memo) e 0) _ m
         (λ z. fills-more e (suc e) (omega arith) (each-fills still e (peek o M still xs) (λ x d g q. fills-more (suc x) e g (peek-fills x d (omega arith) q)) (refs (getD xs e [])) m (fits e h) l))
         (λ z. fills-none (suc e) m)
 
-    join-fills : (n e : ℕ) (m : Making) → e < k → length (m .memo) ≡ k → Fills (suc e) m (importE o M still xs (join o M still xs) n e m)
-    unfolding importE join
+    join-fills : (n e : ℕ) (m : Builder) → e < k → length (m .memo) ≡ k → Fills (suc e) m (importE o M still xs (internExpr o M still xs) n e m)
+    unfolding importE internExpr
     join-fills zero e m h l = fills-none (suc e) m
     join-fills (suc n) e m h l = once-is (Fills (suc e) m) (getD (m .memo) e 0) _ m
-        (λ z. fills-one e _ m _ _ _ (each-fills still e (importE o M still xs (join o M still xs) n) (λ x d g q. fills-more (suc x) e g (join-fills n x d (omega arith) q)) (refs (getD xs e [])) m (fits e h) l) z (omega arith) (merged-more _ _))
+        (λ z. fills-one e _ m _ _ _ (each-fills still e (importE o M still xs (internExpr o M still xs) n) (λ x d g q. fills-more (suc x) e g (join-fills n x d (omega arith) q)) (refs (getD xs e [])) m (fits e h) l) z (omega arith) (merged-more _ _))
         (λ z. fills-none (suc e) m)
 
     need-all : Imports k (need o M still xs)
@@ -161,8 +162,8 @@ module _ (words : List ℕ) (o : ℕ) (M : Module) (k : ℕ) where
     glance-all : Imports k (glance o M still xs)
     glance-all e m h l = fills-more (suc e) k h (glance-fills e m h l)
 
-    unique-all : Imports k (unique o M still xs)
-    unfolding unique
+    unique-all : Imports k (importInitialiser o M still xs)
+    unfolding importInitialiser
     unique-all e m h l = fills-more (suc e) k h (join-fills (length xs) e m h l)
 
   -- ---- the passes
@@ -176,8 +177,8 @@ module _ (words : List ℕ) (o : ℕ) (M : Module) (k : ℕ) where
   Sound [] = Unit {0}
   Sound (c ∷ cs) = All (FitN words k) (refOf (target (class c)) (word c) []) × (class c ≡ FROM → firstWord cs ≤ k) × Lows k (comparesOf cs) × Sound cs
 
-  module _ (follow : ℕ → St → St) (p q : ℕ → Making → Making) (P : Imports k p) (Q : Imports k q) where
-    arrive-fills : (t : Target) (w : ℕ) (m : Making) → All (FitN words k) (refOf t w []) → length (m .memo) ≡ k → Fills k m (arrive o M follow p q t w m)
+  module _ (follow : ℕ → Derived → Derived) (p q : ℕ → Builder → Builder) (P : Imports k p) (Q : Imports k q) where
+    arrive-fills : (t : Target) (w : ℕ) (m : Builder) → All (FitN words k) (refOf t w []) → length (m .memo) ≡ k → Fills k m (arrive o M follow p q t w m)
     unfolding arrive refOf
     arrive-fills copied w m a l = fills-none k m
     arrive-fills start w m a l = fills-none k m
@@ -186,14 +187,14 @@ module _ (words : List ℕ) (o : ℕ) (M : Module) (k : ℕ) where
     arrive-fills (opt s) zero m a l = fills-none k m
     arrive-fills (opt s) (suc n) m a l = step-fills follow k p P s n m (a .0) l
 
-    both-fills : (a b : ℕ) (m : Making) → b ≤ k → length (m .memo) ≡ k → Fills k m (both o M follow p q a b m)
+    both-fills : (a b : ℕ) (m : Builder) → b ≤ k → length (m .memo) ≡ k → Fills k m (both o M follow p q a b m)
     unfolding both first inRange
     both-fills a b m h l =
         let r : Lows k (upFrom (b - a) a) = range-low (b - a) a (λ z. omega arith) in
         let f = all-fills follow k q Q (upFrom (b - a) a) m r l in
         fills-then k f (all-fills follow k p P (upFrom (b - a) a) _ r (f .long ∙ l))
 
-    early-fills : (w : ℕ) (cs : Cells) (m : Making) → Lows k (comparesOf cs) → length (m .memo) ≡ k → Fills k m (early o M follow p q w cs m)
+    early-fills : (w : ℕ) (cs : Cells) (m : Builder) → Lows k (comparesOf cs) → length (m .memo) ≡ k → Fills k m (early o M follow p q w cs m)
     unfolding early
     early-fills w cs m a l = go (atomicKind w)
       where
@@ -201,7 +202,7 @@ module _ (words : List ℕ) (o : ℕ) (M : Module) (k : ℕ) where
         go true = all-fills follow k p P (comparesOf cs) m a l
         go false = fills-none k m
 
-    passed-fills : (c : Cell) (cs : Cells) (m : Making) → Sound (c ∷ cs) → length (m .memo) ≡ k → Fills k m (passed o M follow p q c cs m)
+    passed-fills : (c : Cell) (cs : Cells) (m : Builder) → Sound (c ∷ cs) → length (m .memo) ≡ k → Fills k m (passed o M follow p q c cs m)
     unfolding passed Sound
     passed-fills c cs m a l = go (eqb (class c) FROM) (eqb (class c) STMT-KIND) refl
       where
@@ -210,7 +211,7 @@ module _ (words : List ℕ) (o : ℕ) (M : Module) (k : ℕ) where
         go false true e = early-fills (word c) cs m (a .2) l
         go false false e = arrive-fills (target (class c)) (word c) m (a .0) l
 
-    after-fills : (cs : Cells) (m : Making) → Sound cs → length (m .memo) ≡ k → Fills k m (after o M follow p q cs m)
+    after-fills : (cs : Cells) (m : Builder) → Sound cs → length (m .memo) ≡ k → Fills k m (after o M follow p q cs m)
     unfolding after Sound
     after-fills [] m a l = fills-none k m
     after-fills (c ∷ cs) m a l = let f = passed-fills c cs m a l in fills-then k f (after-fills cs (passed o M follow p q c cs m) (a .3) (f .long ∙ l))
@@ -227,7 +228,7 @@ sound-words words tags o M k (suc d) i end q L h =
     (legible-here L g, (λ e. let r = h i (le-refl _) g e in rw (← first-some tags words i end (let z = r .0 in omega arith) (st .in-tags) (st .in-words), add-one i) (r .1)), compares-lows words k (between tags words (suc i) end) (N .fits), sound-words words tags o M k d (suc i) end (omega arith) N (λ j b l e. h j (omega arith) l e))
 
 -- LAW
-module _ {words tags : List ℕ} {n s end : ℕ} {F : Function} (p : Part words tags n s end F) {ea : ℕ} {places : List ℕ} {k named body : ℕ} (x : Indexed words tags s end ea places k named body) (o : ℕ) (follow : ℕ → St → St) (st : St) where
+module _ {words tags : List ℕ} {n s end : ℕ} {F : Function} (p : Part words tags n s end F) {ea : ℕ} {places : List ℕ} {k named body : ℕ} (x : Indexed words tags s end ea places k named body) (o : ℕ) (follow : ℕ → Derived → Derived) (st : Derived) where
   abbrev M : Module
   M = modOf words n
 
@@ -252,7 +253,7 @@ module _ {words tags : List ℕ} {n s end : ℕ} {F : Function} (p : Part words 
 
   declared-fills : Fills k (begin F st) (declaredS o M follow F st)
   unfolding declaredS
-  declared-fills = after-fills words o M k still (unique o M still (F .exprs)) (unique o M still (F .exprs)) (unique-all words o M k (F .exprs) fits) (unique-all words o M k (F .exprs) fits) (front F) (begin F st) front-sound begins
+  declared-fills = after-fills words o M k still (importInitialiser o M still (F .exprs)) (importInitialiser o M still (F .exprs)) (unique-all words o M k (F .exprs) fits) (unique-all words o M k (F .exprs) fits) (front F) (begin F st) front-sound begins
 
   walked-fills : Fills k (declaredS o M follow F st) (walkedS o M follow F st)
   unfolding walkedS

@@ -1,5 +1,4 @@
 -- The names of the expressions that stay, as pairs on the stack: those of the source, whose names lie in their table; and their import, in which no expression has a say.
--- Assumes nothing.
 use mathlib.Core.Path.{_≡_, refl, sym, ap, ap₂, _∙_}
 use mathlib.Core.Bool.{Bool, true, false}
 use mathlib.Core.List.{List, [], _∷_}
@@ -14,8 +13,8 @@ use Rattle.model.specs.Names.{field}
 use Rattle.model.specs.Tree.{Function}
 use Rattle.model.specs.Module.{Module, countAt}
 use Rattle.model.specs.References.{target, targets, through, carryW}
-use Rattle.model.specs.Imports.{St}
-use Rattle.model.specs.Bodies.{Making, bring, went, step, putName, nameIf, keepNames}
+use Rattle.model.specs.Imports.{Derived}
+use Rattle.model.specs.Bodies.{Builder, bring, mappedTo, step, putName, nameIf, keepNames}
 use Rattle.theory_passes.specs.Pass.{arrive, named, rows}
 use Rattle.theory_passes.specs.Light.{still}
 use Rattle.function_parts.specs.Part.{Part, Indexed, named-many}
@@ -84,7 +83,7 @@ module _ {words tags : List ℕ} {n s end : ℕ} {F : Function} (p : Part words 
   pub named-exprs : (i : ℕ) → i < getD words named 0 → getD words (named + 1 + 2 * i) 0 < k
   named-exprs i h = named-at p x i h .expr-in
 
-  -- the names of those that stay, where they stand from b on
+  -- the names of those that stay, where they are from b on
   pub kept-low : (memo stack : List ℕ) (b top : ℕ) → slice b top stack ≡ pairWords (keepNames (namedRecords words (named + 1) (getD words named 0)) memo [])
       → top ≡ b + 2 * length (keepNames (namedRecords words (named + 1) (getD words named 0)) memo []) → (i : ℕ) → b + 2 * i < top → (suc (b + 2 * i) < top) × (getD stack (suc (b + 2 * i)) 0 ≤ countAt 0 words)
   kept-low memo stack b top is t i h =
@@ -99,43 +98,43 @@ module _ {words tags : List ℕ} {n s end : ℕ} {F : Function} (p : Part words 
 -- ---- their import
 module _ (o : ℕ) (M : Module) where
   -- one of them
-  abbrev lone : ℕ → St → Making
+  abbrev lone : ℕ → Derived → Builder
   lone w s = arrive o M still idle idle (target NAME) w (bare s)
 
-  lone-bare : (w : ℕ) (s : St) → lone w s ≡ bare (lone w s .out)
+  lone-bare : (w : ℕ) (s : Derived) → lone w s ≡ bare (lone w s .out)
   unfolding arrive target targets step bring
   lone-bare zero s = refl
   lone-bare (suc j) s = refl
 
-  module _ (p q : ℕ → Making → Making) where
-    lone-is : (w : ℕ) (m : Making) → arrive o M still p q (target NAME) w m ≡ record { out = lone w (m .out) .out; memo = m .memo; made = m .made }
+  module _ (p q : ℕ → Builder → Builder) where
+    lone-is : (w : ℕ) (m : Builder) → arrive o M still p q (target NAME) w m ≡ record { out = lone w (m .out) .out; memo = m .memo; made = m .made }
     unfolding arrive target targets step bring
     lone-is zero m = refl
     lone-is (suc j) m = refl
 
-    lone-went : (w : ℕ) (m : Making) → through (went M (arrive o M still p q (target NAME) w m)) NAME w ≡ through (went M (lone w (m .out))) NAME w
-    unfolding arrive target targets step bring through carryW went
+    lone-went : (w : ℕ) (m : Builder) → through (mappedTo M (arrive o M still p q (target NAME) w m)) NAME w ≡ through (mappedTo M (lone w (m .out))) NAME w
+    unfolding arrive target targets step bring through carryW mappedTo
     lone-went zero m = refl
     lone-went (suc j) m = refl
 
-    pub named-is : (ks : List (ℕ × ℕ)) (m : Making) → named o M still p q ks m ≡ record { out = namesOut o M ks (m .out); memo = m .memo; made = m .made }
+    pub named-is : (ks : List (ℕ × ℕ)) (m : Builder) → named o M still p q ks m ≡ record { out = namesOut o M ks (m .out); memo = m .memo; made = m .made }
     unfolding named namesOut
     named-is [] m = refl
     named-is (k ∷ ks) m =
         named-is ks (arrive o M still p q (target NAME) (k .1) m)
-        ∙ ap (λ (a : Making). record { out = named o M still idle idle ks (bare (a .out)) .out; memo = a .memo; made = a .made }) (lone-is (k .1) m)
-        ∙ ap (λ (b : Making). record { out = named o M still idle idle ks b .out; memo = m .memo; made = m .made }) (sym (lone-bare (k .1) (m .out)))
+        ∙ ap (λ (a : Builder). record { out = named o M still idle idle ks (bare (a .out)) .out; memo = a .memo; made = a .made }) (lone-is (k .1) m)
+        ∙ ap (λ (b : Builder). record { out = named o M still idle idle ks b .out; memo = m .memo; made = m .made }) (sym (lone-bare (k .1) (m .out)))
 
-    pub rows-is : (ks : List (ℕ × ℕ)) (m : Making) → rows o M still p q ks m ≡ namesRows o M ks (m .out)
+    pub rows-is : (ks : List (ℕ × ℕ)) (m : Builder) → rows o M still p q ks m ≡ namesRows o M ks (m .out)
     unfolding rows namesRows
     rows-is [] m = refl
     rows-is (k ∷ ks) m =
         ap₂ (λ (w : ℕ) (l : Cells). (NAMED-EXPR, k .0) ∷ (NAME, w) ∷ l) (lone-went (k .1) m)
         (rows-is ks (arrive o M still p q (target NAME) (k .1) m)
-        ∙ ap (λ (a : Making). rows o M still idle idle ks (bare (a .out))) (lone-is (k .1) m)
-        ∙ ap (λ (b : Making). rows o M still idle idle ks b) (sym (lone-bare (k .1) (m .out))))
+        ∙ ap (λ (a : Builder). rows o M still idle idle ks (bare (a .out))) (lone-is (k .1) m)
+        ∙ ap (λ (b : Builder). rows o M still idle idle ks b) (sym (lone-bare (k .1) (m .out))))
 
-pub rows-long : (o : ℕ) (M : Module) (follow : ℕ → St → St) (p q : ℕ → Making → Making) (ks : List (ℕ × ℕ)) (m : Making) → length (rows o M follow p q ks m) ≡ 2 * length ks
+pub rows-long : (o : ℕ) (M : Module) (follow : ℕ → Derived → Derived) (p q : ℕ → Builder → Builder) (ks : List (ℕ × ℕ)) (m : Builder) → length (rows o M follow p q ks m) ≡ 2 * length ks
 unfolding rows
 rows-long o M follow p q [] m = refl
 rows-long o M follow p q (k ∷ ks) m = let h = rows-long o M follow p q ks (arrive o M follow p q (target NAME) (k .1) m) in omega arith

@@ -1,5 +1,5 @@
--- A function of the source before its first word: nothing is made, its declarations and its body are the words that the code passes, and behind the declarations the body is
--- to come. Assumes nothing.
+-- A function of the source before its first word: nothing is made, its declarations and its body are the words that the code passes, and after the declarations the body is
+-- to come.
 use mathlib.Core.Path.{_≡_, refl, sym, ap, ap₂, _∙_}
 use mathlib.Core.Bool.{true, false}
 use mathlib.Core.List.{List, [], _∷_, _++_, map}
@@ -9,20 +9,21 @@ use native.Mathlib.Omega.{arith}
 use lib.ListN.{length, getD, take, replicate, length-map, length-replicate}
 use lib.Seq.{slice, length-slice, slice-empty}
 use borrow.Author.Tests.{eqb-false}
+use Rattle.theory_lists.specs.Lists.{zeros}
 use Rattle.model.specs.Outcome.{word}
 use Rattle.model.specs.Table.{FROM, TO, STMT-KIND}
 use Rattle.model.specs.Tree.{Function, flatBlock}
 use Rattle.model.specs.Between.{between}
-use Rattle.model.specs.Imports.{St}
-use Rattle.model.specs.Bodies.{Making}
+use Rattle.model.specs.Imports.{Derived}
+use Rattle.model.specs.Bodies.{Builder}
 use Rattle.theory_image.specs.Betweens.{held-between}
 use Rattle.theory_bodies.specs.Shallow.{need, glance}
 use Rattle.theory_passes.specs.Pass.{after, written, front, begin}
 use Rattle.theory_passes.specs.Light.{still, still-grow-body}
 use Rattle.derive_state.specs.Flats.{functionOf}
 use Rattle.derive_state.specs.Source.{modOf}
-use Rattle.derive_state.specs.Held.{row, tableOf, stOf, sizeR, Over, Kept}
-use Rattle.derive_state.specs.declared.Ends.{Ends}
+use Rattle.derive_state.specs.Held.{row, tableOf, stOf, sizeR, Over, ValidArrays}
+use Rattle.derive_state.specs.declared.Sizes.{Sizes}
 use Rattle.derive_types.proofs.Growth.{Grow}
 use Rattle.function_references.specs.Cuts.{cut, Rising}
 use Rattle.function_builder.specs.Stacks.{seatsOf, madeOf, makingOf, Stacks, Under}
@@ -49,19 +50,14 @@ take-zeros zero n h = refl
 take-zeros (suc k) zero h = absurd (omega arith)
 take-zeros (suc k) (suc n) h = ap (0 ∷_) (take-zeros k n (omega arith))
 
-zeros-low : (n x : ℕ) → _≡_ {A = ℕ} (getD (replicate n 0) x 0) 0
-zeros-low zero x = refl
-zeros-low (suc n) zero = refl
-zeros-low (suc n) (suc x) = zeros-low n x
+abbrev pub begun : Sizes → Sizes
+begun e = record { full = false; loglen = e .loglen; counts = e .counts; pairs = e .pairs; exprtop = e .exprtop; bodytop = e .bodytop; made = 0 }
 
-abbrev pub begun : Ends → Ends
-begun e = record { full = false; used = e .used; counts = e .counts; pairs = e .pairs; et = e .et; bt = e .bt; made = 0 }
-
-no-seats : (stacks : List (List ℕ)) (e : Ends) → seatsOf stacks (e .et) (begun e) ≡ []
+no-seats : (stacks : List (List ℕ)) (e : Sizes) → seatsOf stacks (e .exprtop) (begun e) ≡ []
 unfolding seatsOf
-no-seats stacks e = let q : e .et + 0 ≡ e .et = omega arith in rw q (slice-empty (e .et) (row stacks 2))
+no-seats stacks e = let q : e .exprtop + 0 ≡ e .exprtop = omega arith in rw q (slice-empty (e .exprtop) (row stacks 2))
 
-pub start-under : (k : ℕ) (stacks : List (List ℕ)) (e : Ends) → k ≤ 1024 → Stacks stacks e → Under k (replicate 1024 0) stacks (e .et) (begun e)
+pub start-under : (k : ℕ) (stacks : List (List ℕ)) (e : Sizes) → k ≤ 1024 → Stacks stacks e → Under k (replicate 1024 0) stacks (e .exprtop) (begun e)
 unfolding Rising
 start-under k stacks e h S = record {
   few = h;
@@ -69,13 +65,13 @@ start-under k stacks e h S = record {
   stacks-are = record { four = S .four; rows = S .rows; high = S .high; high′ = S .high′ };
   rising = rw (no-seats stacks e) refl;
   made-is = rw (no-seats stacks e) refl;
-  within = λ x. let z = zeros-low 1024 x in omega arith;
+  within = λ x. let z = zeros 1024 x in omega arith;
 }
 
-pub start-is : (F : Function) (words : List ℕ) (k : ℕ) (log tags : List ℕ) (starts maps : List (List ℕ)) (special : List ℕ) (stacks : List (List ℕ)) (e : Ends) → k ≡ length (F .exprs) → k ≤ 1024
-    → makingOf words k log tags starts maps special (begun e) (replicate 1024 0) stacks (e .et) ≡ begin F (stOf words log tags starts maps special e)
+pub start-is : (F : Function) (words : List ℕ) (k : ℕ) (log logtags : List ℕ) (starts maps : List (List ℕ)) (special : List ℕ) (stacks : List (List ℕ)) (e : Sizes) → k ≡ length (F .exprs) → k ≤ 1024
+    → makingOf words k log logtags starts maps special (begun e) (replicate 1024 0) stacks (e .exprtop) ≡ begin F (stOf words log logtags starts maps special e)
 unfolding makingOf begin madeOf stOf
-start-is F words k log tags starts maps special stacks e hk h = making-is refl (take-zeros k 1024 h ∙ ap (λ (n : ℕ). replicate n 0) hk) (rw (no-seats stacks e) (unfold cut in refl))
+start-is F words k log logtags starts maps special stacks e hk h = making-is refl (take-zeros k 1024 h ∙ ap (λ (n : ℕ). replicate n 0) hk) (rw (no-seats stacks e) (unfold cut in refl))
 
 -- ---- what the code reads
 module _ {words tags : List ℕ} {n s end : ℕ} {F : Function} (p : Part words tags n s end F) {ea : ℕ} {places : List ℕ} {k named body : ℕ} (x : Indexed words tags s end ea places k named body) where
@@ -88,19 +84,19 @@ module _ {words tags : List ℕ} {n s end : ℕ} {F : Function} (p : Part words 
   pub ranges : (i : ℕ) → body ≤ i → i < end → getD tags i 0 ≡ FROM → (suc i < end) × (getD words (suc i) 0 ≤ k)
   ranges i h l q = let e = emit-at p x i h l q in (e .next-in, e .few)
 
-  -- ---- behind the declarations
-  module _ (o : ℕ) (follow : ℕ → St → St) (calls : (f : ℕ) (s : St) → Grow s (follow f s)) (ready : ℕ → St → Type 0) (log₀ tags₀ : List ℕ) (starts₀ maps₀ : List (List ℕ)) (marks₀ : List ℕ) (stacks₀ : List (List ℕ)) (e₀ : Ends) (K₀ : Kept log₀ tags₀ starts₀ maps₀ marks₀ e₀)
-      (r : Ends) (log classes : List ℕ) (starts maps : List (List ℕ)) (marks em : List ℕ) (stacks : List (List ℕ))
-      (R : Runs words k (after o (modOf words n) still (unites o words tags n places k) (unites o words tags n places k) (between tags words s ea)) (λ (m : Making). map word (written o (modOf words n) still (unites o words tags n places k) (unites o words tags n places k) (between tags words s ea) false m))
-      log₀ tags₀ starts₀ maps₀ marks₀ (replicate 1024 0) stacks₀ (e₀ .et) (begun e₀) r log classes starts maps marks em stacks) where
-    abbrev m₀ : List ℕ → Making
-    m₀ special = makingOf words k log₀ tags₀ starts₀ maps₀ special (begun e₀) (replicate 1024 0) stacks₀ (e₀ .et)
+  -- ---- after the declarations
+  module _ (o : ℕ) (follow : ℕ → Derived → Derived) (calls : (f : ℕ) (s : Derived) → Grow s (follow f s)) (ready : ℕ → Derived → Type 0) (log₀ logtags₀ : List ℕ) (starts₀ maps₀ : List (List ℕ)) (buckets₀ : List ℕ) (stacks₀ : List (List ℕ)) (e₀ : Sizes) (K₀ : ValidArrays log₀ logtags₀ starts₀ maps₀ buckets₀ e₀)
+      (r : Sizes) (log logtags : List ℕ) (starts maps : List (List ℕ)) (buckets exprmap : List ℕ) (stacks : List (List ℕ))
+      (R : Runs words k (after o (modOf words n) still (unites o words tags n places k) (unites o words tags n places k) (between tags words s ea)) (λ (m : Builder). map word (written o (modOf words n) still (unites o words tags n places k) (unites o words tags n places k) (between tags words s ea) false m))
+      log₀ logtags₀ starts₀ maps₀ buckets₀ (replicate 1024 0) stacks₀ (e₀ .exprtop) (begun e₀) r log logtags starts maps buckets exprmap stacks) where
+    abbrev m₀ : List ℕ → Builder
+    m₀ special = makingOf words k log₀ logtags₀ starts₀ maps₀ special (begun e₀) (replicate 1024 0) stacks₀ (e₀ .exprtop)
 
-    abbrev S₀ : List ℕ → St
-    S₀ special = stOf words log₀ tags₀ starts₀ maps₀ special e₀
+    abbrev S₀ : List ℕ → Derived
+    S₀ special = stOf words log₀ logtags₀ starts₀ maps₀ special e₀
 
     begun-is : (special : List ℕ) → m₀ special ≡ begin F (S₀ special)
-    begun-is special = start-is F words k log₀ tags₀ starts₀ maps₀ special stacks₀ e₀ (k-many p x) (k-few p x)
+    begun-is special = start-is F words k log₀ logtags₀ starts₀ maps₀ special stacks₀ e₀ (k-many p x) (k-few p x)
 
     declared-is : (special : List ℕ) → after o (modOf words n) still (unites o words tags n places k) (unites o words tags n places k) (between tags words s ea) (m₀ special) ≡ declaredS o (modOf words n) follow F (S₀ special)
     unfolding declaredS
@@ -119,54 +115,54 @@ module _ {words tags : List ℕ} {n s end : ℕ} {F : Function} (p : Part words 
     low : body ≤ end
     low = let a = order p x .to-end in omega arith
 
-    pub declare-full : r .full ≡ true → Localizes words n o ready follow F log₀ tags₀ starts₀ maps₀ marks₀ stacks₀ e₀ r log classes starts maps marks stacks
-    declare-full z = way-full words tags n o follow calls ready F k body end low hw ht (body-is p x) log₀ tags₀ starts₀ maps₀ marks₀ stacks₀ e₀ K₀ log classes starts maps marks stacks r z (λ special b. over special) (R .below) (R .log-long) (R .tags-long) (R .marks-stay)
+    pub declare-full : r .full ≡ true → Localizes words n o ready follow F log₀ logtags₀ starts₀ maps₀ buckets₀ stacks₀ e₀ r log logtags starts maps buckets stacks
+    declare-full z = way-full words tags n o follow calls ready F k body end low hw ht (body-is p x) log₀ logtags₀ starts₀ maps₀ buckets₀ stacks₀ e₀ K₀ log logtags starts maps buckets stacks r z (λ special b. over special) (R .below) (R .log-long) (R .tags-long) (R .marks-stay)
       where
-        over : (special : List ℕ) → Over (sizeR (tableOf log₀ tags₀ starts₀ (e₀ .counts) 7) + (e₀ .et + e₀ .bt + length (cellsS o (modOf words n) follow F (S₀ special)))) (finalS o (modOf words n) follow F (S₀ special) .out)
+        over : (special : List ℕ) → Over (sizeR (tableOf log₀ logtags₀ starts₀ (e₀ .counts) 7) + (e₀ .exprtop + e₀ .bodytop + length (cellsS o (modOf words n) follow F (S₀ special)))) (finalS o (modOf words n) follow F (S₀ special) .out)
         over special =
-            let d : Making = declaredS o (modOf words n) follow F (S₀ special) in
+            let d : Builder = declaredS o (modOf words n) follow F (S₀ special) in
             let g : GrowM d (walkedS o (modOf words n) follow F (S₀ special)) = (unfold walkedS in still-grow-body o (modOf words n) follow (F .exprs) GrowM (growing-by o (modOf words n) follow (F .exprs) calls) (flatBlock (F .body)) d) in
             let v = rw (declared-is special, front-words special) at (R .over z special) in
             let a = length-map (frontS o (modOf words n) follow F (S₀ special)) word in
-            let b = front-long words tags n o follow calls ready F k body end low hw ht (body-is p x) log₀ tags₀ starts₀ maps₀ marks₀ stacks₀ e₀ K₀ (S₀ special) in
-            walked-over words tags n o follow calls ready F k body end low hw ht (body-is p x) log₀ tags₀ starts₀ maps₀ marks₀ stacks₀ e₀ K₀ (S₀ special) d (e₀ .et + e₀ .bt + length (front F)) g (omega arith) (over-more _ _ (omega arith) v)
+            let b = front-long words tags n o follow calls ready F k body end low hw ht (body-is p x) log₀ logtags₀ starts₀ maps₀ buckets₀ stacks₀ e₀ K₀ (S₀ special) in
+            walked-over words tags n o follow calls ready F k body end low hw ht (body-is p x) log₀ logtags₀ starts₀ maps₀ buckets₀ stacks₀ e₀ K₀ (S₀ special) d (e₀ .exprtop + e₀ .bodytop + length (front F)) g (omega arith) (over-more _ _ (omega arith) v)
 
     module _ (z : r .full ≡ false) where
-      high : r .bt ≤ length (row stacks 3)
+      high : r .bodytop ≤ length (row stacks 3)
       high = let a = R .under z .stacks-are in let h = a .high′ in let y = a .rows 3 (omega arith) in omega arith
 
-      front-is-there : (special : List ℕ) → slice (e₀ .bt) (r .bt) (row stacks 3) ≡ map word (frontS o (modOf words n) follow F (S₀ special))
+      front-is-there : (special : List ℕ) → slice (e₀ .bodytop) (r .bodytop) (row stacks 3) ≡ map word (frontS o (modOf words n) follow F (S₀ special))
       front-is-there special = R .wrote z special ∙ front-words special
 
-      top : r .bt ≡ e₀ .bt + length (front F)
+      top : r .bodytop ≡ e₀ .bodytop + length (front F)
       top =
           let a = ap length (front-is-there []) in
-          let b = length-slice (e₀ .bt) (r .bt) (row stacks 3) high in
+          let b = length-slice (e₀ .bodytop) (r .bodytop) (row stacks 3) high in
           let c = length-map (frontS o (modOf words n) follow F (S₀ [])) word in
-          let d = front-long words tags n o follow calls ready F k body end low hw ht (body-is p x) log₀ tags₀ starts₀ maps₀ marks₀ stacks₀ e₀ K₀ (S₀ []) in
+          let d = front-long words tags n o follow calls ready F k body end low hw ht (body-is p x) log₀ logtags₀ starts₀ maps₀ buckets₀ stacks₀ e₀ K₀ (S₀ []) in
           let e = R .along z .bt-more in
           omega arith
 
-      abbrev m : List ℕ → Making
-      m special = makingOf words k log classes starts maps special r em stacks (e₀ .et)
+      abbrev m : List ℕ → Builder
+      m special = makingOf words k log logtags starts maps special r exprmap stacks (e₀ .exprtop)
 
-      abbrev P : ℕ → Making → Making
+      abbrev P : ℕ → Builder → Builder
       P = need o (modOf words n) still (F .exprs)
 
-      abbrev Q : ℕ → Making → Making
+      abbrev Q : ℕ → Builder → Builder
       Q = glance o (modOf words n) still (F .exprs)
 
       same : (special : List ℕ) → after o (modOf words n) follow P Q (between tags words body end) (m special) ≡ walkedS o (modOf words n) follow F (S₀ special)
       unfolding walkedS
       same special = rw (← body-is p x) (ap (after o (modOf words n) follow P Q (flatBlock (F .body))) (sym (R .is z special) ∙ declared-is special))
 
-      wrote : (special : List ℕ) → slice (e₀ .bt + length (front F)) (r .bt) (row stacks 3) ++ map word (written o (modOf words n) follow P Q (between tags words body end) false (m special)) ≡ map word (bodyS o (modOf words n) follow F (S₀ special))
+      wrote : (special : List ℕ) → slice (e₀ .bodytop + length (front F)) (r .bodytop) (row stacks 3) ++ map word (written o (modOf words n) follow P Q (between tags words body end) false (m special)) ≡ map word (bodyS o (modOf words n) follow F (S₀ special))
       unfolding bodyS
       wrote special =
-          let a : slice (e₀ .bt + length (front F)) (r .bt) (row stacks 3) ≡ [] = ap (λ (b : ℕ). slice (e₀ .bt + length (front F)) b (row stacks 3)) top ∙ slice-empty (e₀ .bt + length (front F)) (row stacks 3) in
-          rw (← body-is p x) (ap₂ (λ (l : List ℕ) (d : Making). l ++ map word (written o (modOf words n) follow P Q (flatBlock (F .body)) false d)) a (sym (R .is z special) ∙ declared-is special))
+          let a : slice (e₀ .bodytop + length (front F)) (r .bodytop) (row stacks 3) ≡ [] = ap (λ (b : ℕ). slice (e₀ .bodytop + length (front F)) b (row stacks 3)) top ∙ slice-empty (e₀ .bodytop + length (front F)) (row stacks 3) in
+          rw (← body-is p x) (ap₂ (λ (l : List ℕ) (d : Builder). l ++ map word (written o (modOf words n) follow P Q (flatBlock (F .body)) false d)) a (sym (R .is z special) ∙ declared-is special))
 
-      pub turn-start : Turn words tags n o follow ready F k body end log₀ tags₀ starts₀ maps₀ marks₀ stacks₀ e₀ log classes starts maps marks em stacks r body false
+      pub turn-start : Turn words tags n o follow ready F k body end log₀ logtags₀ starts₀ maps₀ buckets₀ stacks₀ e₀ log logtags starts maps buckets exprmap stacks r body false
       turn-start = record {
         from = le-refl _;
         within = low;

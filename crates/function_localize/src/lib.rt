@@ -1,25 +1,35 @@
 // The import of a function: its declarations, its body and its names are passed from left to right and written on the stacks, then the record goes to the log. A
-// callee whose name is not known is imported at its Call, above what is on the stacks, which are then as they were.
+// call to an unknown name imports that function first, on top of the stacks, and leaves the stacks as it found them.
 use base_classes::CALLEE;
 use base_views::FUNCTIONS;
 use base_views::body_at;
 use base_views::expressions_at;
 use base_views::record_at;
 use base_views::record_end;
+use base_words::Tags;
+use base_words::Words;
 use base_words::wide;
 use derive_lookup::known;
-use derive_state::Ends;
+use derive_state::Buckets;
+use derive_state::Log;
+use derive_state::LogTags;
+use derive_state::Maps;
+use derive_state::Places;
+use derive_state::Sizes;
+use derive_state::StackRows;
+use derive_state::Starts;
+use derive_state::Targets;
 use function_builder::index;
 use function_builder::slot;
+use function_passes::advance;
 use function_passes::declare;
-use function_passes::flag;
-use function_passes::longer;
-use function_passes::pass;
+use function_passes::import_word;
 use function_passes::put_word;
-use function_passes::run;
-use function_record::close;
+use function_record::append_record;
 use function_record::import_names;
 use function_record::keep_names;
+use function_runs::copy_mapped_run;
+use function_runs::span_undefined;
 ghost use mathlib.Core.Path.{_≡_};
 ghost use mathlib.Core.Bool.{false};
 ghost use Prim.Native.Nat.{_≤_, _<_};
@@ -32,30 +42,30 @@ ghost use Rattle.intake_initialisers.specs.Marks.{finds};
 ghost use Rattle.function_nesting.specs.Nested.{appendS, followS, Ready, ReadyF};
 ghost use Rattle.derive_state.specs.Flats.{functionOf};
 ghost use Rattle.derive_state.specs.Source.{modOf};
-ghost use Rattle.derive_state.specs.Held.{Kept};
+ghost use Rattle.derive_state.specs.Held.{ValidArrays};
 ghost use Rattle.function_references.specs.Fits.{Ground};
 ghost use Rattle.function_parts.specs.Part.{Part};
 ghost use Rattle.function_builder.specs.Stacks.{Stacks};
 ghost use Rattle.function_localize.specs.Localized.{Nested, NestedF, NestedAt, Localizes, Nests};
 
-// Nothing is made yet.
-fn begin(e: Ends) -> Ends
-    ensures { λ r. ⌜ r ≡ record { full = false; used = e .used; counts = e .counts; pairs = e .pairs; et = e .et; bt = e .bt; made = 0 } ⌝ }
+// The sizes with no expressions made yet.
+fn no_expressions(e: Sizes) -> Sizes
+    ensures { λ r. ⌜ r ≡ record { full = false; loglen = e .loglen; counts = e .counts; pairs = e .pairs; exprtop = e .exprtop; bodytop = e .bodytop; made = 0 } ⌝ }
 {
     let c = e.counts;
-    Ends {
+    Sizes {
         full: false,
-        used: e.used,
+        loglen: e.loglen,
         counts: c,
         pairs: e.pairs,
-        et: e.et,
-        bt: e.bt,
+        exprtop: e.exprtop,
+        bodytop: e.bodytop,
         made: 0,
     }
 }
 
-// Where each expression record starts, from `at` on, and where the last one ends, and nothing else.
-fn find(tags: &[u8; 16384], at: usize, end: usize, places: &mut [u16; 1025])
+// Fills `places` with where each expression record starts, from `at` on, and where the last one ends; the rest is 0.
+fn index_expressions(tags: &Tags, at: usize, end: usize, places: &mut Places)
     requires { ⌜ (length (now tags) ≡ 16384) × (at ≤ end) × (end ≤ 16384) × (length (finds at (slice at end (now tags))) ≤ 1025) ⌝ }
     ensures { λ _. ⌜ now (places .exit) ≡ sets (replicate 1025 0) 0 (finds at (slice at end (now (tags .entry)))) ⌝ }
 {
@@ -63,53 +73,53 @@ fn find(tags: &[u8; 16384], at: usize, end: usize, places: &mut [u16; 1025])
     index(tags, at, end, places);
 }
 
-// The function that stands from s to `end`, whole on the stacks, with room for so many functions in progress.
+// Puts the function from s to `end` whole on the stacks, with room for `room` functions in progress.
 pub fn localize(
-    words: &[u32; 16384],
-    tags: &[u8; 16384],
-    kinds: &[u8; 256],
+    words: &Words,
+    tags: &Tags,
+    targets: &Targets,
     n: usize,
-    log: &mut [u32; 16384],
-    classes: &mut [u8; 16384],
-    starts: &mut [[u32; 512]; 8],
-    maps: &mut [[u32; 512]; 6],
-    marks: &mut [u16; 16384],
-    stacks: &mut [[u32; 16384]; 4],
-    places: &mut [u16; 1025],
-    ends: Ends,
+    log: &mut Log,
+    logtags: &mut LogTags,
+    starts: &mut Starts,
+    maps: &mut Maps,
+    buckets: &mut Buckets,
+    stacks: &mut StackRows,
+    places: &mut Places,
+    ends: Sizes,
     offset: u32,
     s: usize,
     end: usize,
     room: usize,
-) -> Ends
-    requires { ⌜ Ground (now words) (now tags) (now kinds) n ⌝ }
+) -> Sizes
+    requires { ⌜ Ground (now words) (now tags) (now targets) n ⌝ }
     requires { ⌜ Part (now words) (now tags) n s end (functionOf (between (now tags) (now words) s end)) ⌝ }
-    requires { ⌜ Nested (now words) n (now log) (now classes) (now starts) (now maps) ends offset room (functionOf (between (now tags) (now words) s end)) ⌝ }
+    requires { ⌜ Nested (now words) n (now log) (now logtags) (now starts) (now maps) ends offset room (functionOf (between (now tags) (now words) s end)) ⌝ }
     requires { ⌜ (ends .full ≡ false) × (Stacks (now stacks) ends) ⌝ }
-    requires { ⌜ Kept (now log) (now classes) (now starts) (now maps) (now marks) ends ⌝ }
-    ensures { λ r. ⌜ Localizes (now (words .entry)) n offset (Ready offset (modOf (now (words .entry)) n) room) (followS offset (modOf (now (words .entry)) n) room) (functionOf (between (now (tags .entry)) (now (words .entry)) s end)) (now (log .entry)) (now (classes .entry)) (now (starts .entry)) (now (maps .entry)) (now (marks .entry)) (now (stacks .entry)) ends r (now (log .exit)) (now (classes .exit)) (now (starts .exit)) (now (maps .exit)) (now (marks .exit)) (now (stacks .exit)) ⌝ }
+    requires { ⌜ ValidArrays (now log) (now logtags) (now starts) (now maps) (now buckets) ends ⌝ }
+    ensures { λ r. ⌜ Localizes (now (words .entry)) n offset (Ready offset (modOf (now (words .entry)) n) room) (followS offset (modOf (now (words .entry)) n) room) (functionOf (between (now (tags .entry)) (now (words .entry)) s end)) (now (log .entry)) (now (logtags .entry)) (now (starts .entry)) (now (maps .entry)) (now (buckets .entry)) (now (stacks .entry)) ends r (now (log .exit)) (now (logtags .exit)) (now (starts .exit)) (now (maps .exit)) (now (buckets .exit)) (now (stacks .exit)) ⌝ }
 {
-    let e1 = ends.et as usize;
+    let e1 = ends.exprtop as usize;
     let exprs = expressions_at(words, s);
     let k = wide(words[exprs]);
-    let mut em = [0u16; 1024];
-    find(tags, exprs + 1, end, places);
+    let mut exprmap = [0u16; 1024];
+    index_expressions(tags, exprs + 1, end, places);
     let named = slot(places[k]);
     let body = named + 1 + 2 * wide(words[named]);
     let mut e = declare(
         words,
         tags,
-        kinds,
+        targets,
         n,
         places,
         log,
-        classes,
+        logtags,
         starts,
         maps,
-        marks,
-        &mut em,
+        buckets,
+        &mut exprmap,
         stacks,
-        begin(ends),
+        no_expressions(ends),
         offset,
         e1,
         k,
@@ -122,38 +132,38 @@ pub fn localize(
     let mut i = body;
     let mut u = false;
     while i < end {
-        let r = run(
+        let r = copy_mapped_run(
             words,
             tags,
-            kinds,
+            targets,
             maps,
-            &em,
+            &exprmap,
             stacks,
             e.made as usize,
-            e.bt as usize,
+            e.bodytop as usize,
             offset,
             i,
             end,
             u,
         );
-        e = longer(e, r.at - i);
+        e = advance(e, r.at - i);
         i = r.at;
         u = r.undefined;
         if i < end {
             let j = i;
             i += 1;
-            u = flag(words, tags, j, end, u);
+            u = span_undefined(words, tags, j, end, u);
             if tags[j] == CALLEE {
                 e = follow(
                     words,
                     tags,
-                    kinds,
+                    targets,
                     n,
                     log,
-                    classes,
+                    logtags,
                     starts,
                     maps,
-                    marks,
+                    buckets,
                     stacks,
                     places,
                     e,
@@ -169,13 +179,13 @@ pub fn localize(
                 e = put_word(
                     words,
                     tags,
-                    kinds,
+                    targets,
                     n,
                     log,
-                    classes,
+                    logtags,
                     starts,
                     maps,
-                    &em,
+                    &exprmap,
                     stacks,
                     e,
                     offset,
@@ -183,18 +193,18 @@ pub fn localize(
                     u,
                 );
             } else {
-                e = pass(
+                e = import_word(
                     words,
                     tags,
-                    kinds,
+                    targets,
                     n,
                     places,
                     log,
-                    classes,
+                    logtags,
                     starts,
                     maps,
-                    marks,
-                    &mut em,
+                    buckets,
+                    &mut exprmap,
                     stacks,
                     e,
                     offset,
@@ -210,21 +220,21 @@ pub fn localize(
             }
         }
     }
-    let b = e.bt as usize;
-    let kept = keep_names(words, &em, places, stacks, e, k, named);
+    let b = e.bodytop as usize;
+    let kept = keep_names(words, &exprmap, places, stacks, e, k, named);
     if kept.full {
         return kept;
     }
     import_names(
         words,
         tags,
-        kinds,
+        targets,
         n,
         log,
-        classes,
+        logtags,
         starts,
         maps,
-        marks,
+        buckets,
         stacks,
         kept,
         offset,
@@ -232,43 +242,43 @@ pub fn localize(
     )
 }
 
-// Function f is appended.
+// Appends function f.
 pub fn append(
-    words: &[u32; 16384],
-    tags: &[u8; 16384],
-    kinds: &[u8; 256],
+    words: &Words,
+    tags: &Tags,
+    targets: &Targets,
     n: usize,
-    log: &mut [u32; 16384],
-    classes: &mut [u8; 16384],
-    starts: &mut [[u32; 512]; 8],
-    maps: &mut [[u32; 512]; 6],
-    marks: &mut [u16; 16384],
-    stacks: &mut [[u32; 16384]; 4],
-    places: &mut [u16; 1025],
-    ends: Ends,
+    log: &mut Log,
+    logtags: &mut LogTags,
+    starts: &mut Starts,
+    maps: &mut Maps,
+    buckets: &mut Buckets,
+    stacks: &mut StackRows,
+    places: &mut Places,
+    ends: Sizes,
     offset: u32,
     f: usize,
     room: usize,
-) -> Ends
-    requires { ⌜ Ground (now words) (now tags) (now kinds) n ⌝ }
+) -> Sizes
+    requires { ⌜ Ground (now words) (now tags) (now targets) n ⌝ }
     requires { ⌜ f < countAt 6 (now words) ⌝ }
-    requires { ⌜ NestedF (now words) n (now log) (now classes) (now starts) (now maps) ends offset room (function (modOf (now words) n) f) ⌝ }
+    requires { ⌜ NestedF (now words) n (now log) (now logtags) (now starts) (now maps) ends offset room (function (modOf (now words) n) f) ⌝ }
     requires { ⌜ (ends .full ≡ false) × (Stacks (now stacks) ends) ⌝ }
-    requires { ⌜ Kept (now log) (now classes) (now starts) (now maps) (now marks) ends ⌝ }
-    ensures { λ r. ⌜ Nests (now (words .entry)) (ReadyF offset (modOf (now (words .entry)) n) (Ready offset (modOf (now (words .entry)) n) room) (followS offset (modOf (now (words .entry)) n) room) (function (modOf (now (words .entry)) n) f)) (appendS offset (modOf (now (words .entry)) n) (followS offset (modOf (now (words .entry)) n) room) f) (now (log .entry)) (now (classes .entry)) (now (starts .entry)) (now (maps .entry)) (now (marks .entry)) (now (stacks .entry)) ends r (now (log .exit)) (now (classes .exit)) (now (starts .exit)) (now (maps .exit)) (now (marks .exit)) (now (stacks .exit)) ⌝ }
+    requires { ⌜ ValidArrays (now log) (now logtags) (now starts) (now maps) (now buckets) ends ⌝ }
+    ensures { λ r. ⌜ Nests (now (words .entry)) (ReadyF offset (modOf (now (words .entry)) n) (Ready offset (modOf (now (words .entry)) n) room) (followS offset (modOf (now (words .entry)) n) room) (function (modOf (now (words .entry)) n) f)) (appendS offset (modOf (now (words .entry)) n) (followS offset (modOf (now (words .entry)) n) room) f) (now (log .entry)) (now (logtags .entry)) (now (starts .entry)) (now (maps .entry)) (now (buckets .entry)) (now (stacks .entry)) ends r (now (log .exit)) (now (logtags .exit)) (now (starts .exit)) (now (maps .exit)) (now (buckets .exit)) (now (stacks .exit)) ⌝ }
 {
     let s = record_at(words, tags, n, FUNCTIONS, f);
     let end = record_end(words, tags, n, FUNCTIONS, f);
     let got = localize(
         words,
         tags,
-        kinds,
+        targets,
         n,
         log,
-        classes,
+        logtags,
         starts,
         maps,
-        marks,
+        buckets,
         stacks,
         places,
         ends,
@@ -282,10 +292,10 @@ pub fn append(
     }
     let exprs = expressions_at(words, s);
     let body = body_at(words, tags, s);
-    close(
+    append_record(
         tags,
         log,
-        classes,
+        logtags,
         starts,
         stacks,
         got,
@@ -300,53 +310,53 @@ pub fn append(
     )
 }
 
-// Function f, where its name is not known, with room for so many functions in progress; the places are then again those of its caller, whose expressions stand
-// from `at` on, and which stands to `end`.
+// Imports function f if its name is not known, with room for `room` functions in progress; `places` is then restored for its caller, whose expressions start at
+// `at`, and which ends at `end`.
 pub fn follow(
-    words: &[u32; 16384],
-    tags: &[u8; 16384],
-    kinds: &[u8; 256],
+    words: &Words,
+    tags: &Tags,
+    targets: &Targets,
     n: usize,
-    log: &mut [u32; 16384],
-    classes: &mut [u8; 16384],
-    starts: &mut [[u32; 512]; 8],
-    maps: &mut [[u32; 512]; 6],
-    marks: &mut [u16; 16384],
-    stacks: &mut [[u32; 16384]; 4],
-    places: &mut [u16; 1025],
-    ends: Ends,
+    log: &mut Log,
+    logtags: &mut LogTags,
+    starts: &mut Starts,
+    maps: &mut Maps,
+    buckets: &mut Buckets,
+    stacks: &mut StackRows,
+    places: &mut Places,
+    ends: Sizes,
     offset: u32,
     f: usize,
     room: usize,
     at: usize,
     end: usize,
-) -> Ends
-    requires { ⌜ Ground (now words) (now tags) (now kinds) n ⌝ }
+) -> Sizes
+    requires { ⌜ Ground (now words) (now tags) (now targets) n ⌝ }
     requires { ⌜ f < countAt 6 (now words) ⌝ }
-    requires { ⌜ NestedAt (now words) n (now log) (now classes) (now starts) (now maps) ends offset room f ⌝ }
+    requires { ⌜ NestedAt (now words) n (now log) (now logtags) (now starts) (now maps) ends offset room f ⌝ }
     requires { ⌜ (ends .full ≡ false) × (Stacks (now stacks) ends) ⌝ }
-    requires { ⌜ Kept (now log) (now classes) (now starts) (now maps) (now marks) ends ⌝ }
+    requires { ⌜ ValidArrays (now log) (now logtags) (now starts) (now maps) (now buckets) ends ⌝ }
     requires { ⌜ (length (now tags) ≡ 16384) × (at ≤ end) × (end ≤ 16384) × (length (finds at (slice at end (now tags))) ≤ 1025) ⌝ }
     requires { ⌜ now places ≡ sets (replicate 1025 0) 0 (finds at (slice at end (now tags))) ⌝ }
-    ensures { λ r. ⌜ Nests (now (words .entry)) (Ready offset (modOf (now (words .entry)) n) room f) (followS offset (modOf (now (words .entry)) n) room f) (now (log .entry)) (now (classes .entry)) (now (starts .entry)) (now (maps .entry)) (now (marks .entry)) (now (stacks .entry)) ends r (now (log .exit)) (now (classes .exit)) (now (starts .exit)) (now (maps .exit)) (now (marks .exit)) (now (stacks .exit)) ⌝ }
+    ensures { λ r. ⌜ Nests (now (words .entry)) (Ready offset (modOf (now (words .entry)) n) room f) (followS offset (modOf (now (words .entry)) n) room f) (now (log .entry)) (now (logtags .entry)) (now (starts .entry)) (now (maps .entry)) (now (buckets .entry)) (now (stacks .entry)) ends r (now (log .exit)) (now (logtags .exit)) (now (starts .exit)) (now (maps .exit)) (now (buckets .exit)) (now (stacks .exit)) ⌝ }
     ensures { λ r. ⌜ (r .full ≡ false → now (places .exit) ≡ sets (replicate 1025 0) 0 (finds at (slice at end (now (tags .entry))))) ⌝ }
 {
     if room == 0 {
         return ends;
     }
-    if known(words, tags, n, log, classes, starts, maps, ends, f) != 0 {
+    if known(words, tags, n, log, logtags, starts, maps, ends, f) != 0 {
         return ends;
     }
     let got = append(
         words,
         tags,
-        kinds,
+        targets,
         n,
         log,
-        classes,
+        logtags,
         starts,
         maps,
-        marks,
+        buckets,
         stacks,
         places,
         ends,
@@ -357,6 +367,6 @@ pub fn follow(
     if got.full {
         return got;
     }
-    find(tags, at, end, places);
+    index_expressions(tags, at, end, places);
     got
 }

@@ -7,15 +7,15 @@ use native.Mathlib.Omega.{arith}
 use lib.Dec.{eqb, ltb, leb}
 use lib.ListN.{getD}
 use borrow.Author.Tests.{eqb-true, ltb-true}
+use Rattle.theory_lists.specs.Booleans.{and-split}
 use Rattle.model.specs.Outcome.{Cell, Cells, class, word}
 use Rattle.model.specs.Table.{Row, UPTO, TYPE, CONSTANT, OVERRIDE, GLOBAL, FUNCTION, EXPR, OPT-EXPR, ARGUMENT, LOCAL, PAD, OPERANDS, EXPR-KIND, LEVEL, QUERY, expressionRow, counted, entryHead}
 use Rattle.model.specs.Tree.{Function, Entry, flatAll, flatBlock}
 use Rattle.model.specs.Module.{Module}
 use Rattle.model.specs.Carry.{carryCell, carryCells, Lays, lays-none, lays-next, Each, each-none, each-next, WellFunction, WellEntry}
-use Rattle.model.specs.References.{target, firstWord, undefinedAt, through, shift, alike, merged}
-use Rattle.model.specs.Imports.{St}
-use Rattle.model.specs.Bodies.{Making, bring, went, carried, push, join}
-use Rattle.theory_image.specs.Lists.{and-split}
+use Rattle.model.specs.References.{target, firstWord, undefinedAt, through, shift, alike, interned}
+use Rattle.model.specs.Imports.{Derived}
+use Rattle.model.specs.Bodies.{Builder, bring, mappedTo, carried, appendExpr, internExpr}
 use Rattle.theory_image.specs.Plain.{plain?, plain-more}
 use Rattle.theory_image.specs.Quiet.{each-append, each-map}
 use Rattle.theory_image.specs.FunctionViews.{among, split-or, field?, Expression, expression, expression-shape}
@@ -69,29 +69,29 @@ unfolding shift
 shift-bytes each-none o u = each-none
 shift-bytes (each-next {a = c} {l = cs} h hs) o u = each-next h (shift-bytes hs o (undefinedAt (target (class c)) (word c) (firstWord cs) u))
 
-pub carried-bytes : (o : ℕ) (M : Module) (m : Making) {r : Cells} → Each Byte r → Each Byte (carried o M m r)
+pub carried-bytes : (o : ℕ) (M : Module) (m : Builder) {r : Cells} → Each Byte r → Each Byte (carried o M m r)
 unfolding carried
-carried-bytes o M m a = shift-bytes (carry-bytes (through (went M m)) a) o false
+carried-bytes o M m a = shift-bytes (carry-bytes (through (mappedTo M m)) a) o false
 
-merged-bytes : (ds : List Cells) (r : Cells) → Each (Each Byte) ds → Each Byte r → Each (Each Byte) (merged ds r)
-unfolding merged
+merged-bytes : (ds : List Cells) (r : Cells) → Each (Each Byte) ds → Each Byte r → Each (Each Byte) (interned ds r)
+unfolding interned
 merged-bytes [] r e h = each-next h each-none
 merged-bytes (d ∷ ds) r e h = go (alike d r) (merged-bytes ds r (each-rest e) h)
   where
-    go : (b : Bool) → Each (Each Byte) (merged ds r) → Each (Each Byte) (elim b [ true ↦ d ∷ ds | false ↦ d ∷ merged ds r ])
+    go : (b : Bool) → Each (Each Byte) (interned ds r) → Each (Each Byte) (elim b [ true ↦ d ∷ ds | false ↦ d ∷ interned ds r ])
     go true i = e
     go false i = each-next (each-first e) i
 
 -- ---- the passes
-module _ (o : ℕ) (M : Module) (follow : ℕ → St → St) (xs : List Cells) (bytes : Each (Each Byte) xs) where
-  pub record Stays (m m′ : Making) : Type 0 where
+module _ (o : ℕ) (M : Module) (follow : ℕ → Derived → Derived) (xs : List Cells) (bytes : Each (Each Byte) xs) where
+  pub record Stays (m m′ : Builder) : Type 0 where
     pub stays : Each (Each Byte) (m .made) → Each (Each Byte) (m′ .made)
 
-  row : (e : ℕ) (m : Making) → Each Byte (carried o M m (getD xs e []))
+  row : (e : ℕ) (m : Builder) → Each Byte (carried o M m (getD xs e []))
   row e m = carried-bytes o M m (at-row bytes each-none e)
 
   staying : Growing o M follow xs Stays
-  unfolding bring push join
+  unfolding bring appendExpr internExpr
   staying = record {
     same = λ m. record { stays = λ a. a };
     next = λ a b c p q. record { stays = λ h. q .stays (p .stays h) };
@@ -106,7 +106,7 @@ unfolding counted expressionRow
 source-bytes F w = each-map (λ r l. expression-bytes l) (w .exprs-ok .each)
 
 -- LAW: the expressions made
-pub made-bytes : (o : ℕ) (M : Module) (follow : ℕ → St → St) (F : Function) → WellFunction F → (s : St) → Each (λ c. class c < 256) (flatAll (walkedS o M follow F s .made))
+pub made-bytes : (o : ℕ) (M : Module) (follow : ℕ → Derived → Derived) (F : Function) → WellFunction F → (s : Derived) → Each (λ c. class c < 256) (flatAll (walkedS o M follow F s .made))
 unfolding walkedS declaredS begin
 made-bytes o M follow F w s =
     let b = source-bytes F w in
@@ -114,6 +114,6 @@ made-bytes o M follow F w s =
     all-to (still-grow-body o M follow (F .exprs) (Stays o M follow (F .exprs) b) (staying o M follow (F .exprs) b) (flatBlock (F .body)) (declaredS o M follow F s) .stays d)
 
 -- LAW: the head of an entry point
-pub head-bytes : (o : ℕ) (M : Module) (m : Making) (E : Entry) → WellEntry E → Each (λ c. class c < 256) (carried o M m (E .head))
+pub head-bytes : (o : ℕ) (M : Module) (m : Builder) (E : Entry) → WellEntry E → Each (λ c. class c < 256) (carried o M m (E .head))
 unfolding entryHead plain?
 head-bytes o M m E w = carried-bytes o M m (plain-bytes (w .head-ok) refl)

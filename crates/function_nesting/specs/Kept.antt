@@ -1,5 +1,5 @@
 -- What every import of a record and of a callee keeps, the passes over a function's cells keep, from any cell on. So at each Call's word of the body the state is one in which callees may be followed, and what is asked of them there holds (`ReadyFrom`). The words that call are the function's callees.
-use Prim.Native.Nat.{ℕ, zero, suc, _<_}
+use Prim.Native.Nat.{ℕ, _<_}
 use mathlib.Core.Path.{_≡_, refl, subst}
 use mathlib.Core.Bool.{Bool, true, false}
 use mathlib.Core.List.{List, [], _∷_, _++_, map}
@@ -12,12 +12,13 @@ use Rattle.model.specs.Tree.{Stmt, Form, call, Block, Case, Cases, Range, Funct
 use Rattle.model.specs.Module.{Module}
 use Rattle.model.specs.Carry.{each-none, each-next, Lays, OkS, OkF, OkB, OkBs, OkK, OkC, ok-stmt, ok-emit, ok-block, ok-branch, ok-switch, ok-loop, ok-break, ok-continue, ok-return, ok-kill, ok-call, ok-effect, ok-deeper, ok-end, ok-then, ok-case, ok-nomore, ok-also}
 use Rattle.model.specs.Tables.{Tab, tables, count}
-use Rattle.model.specs.References.{table, function, Target, copied, start, upto, ref, opt, targets, target, Node, refOf, refs, each, firstWord}
+use Rattle.model.specs.References.{table, function, Target, targets, target, Node, refOf, refs, foldRefs, firstWord}
 use Rattle.model.specs.Operands.{standing}
 use Rattle.model.specs.Scope.{inRange}
 use Rattle.model.specs.Callees.{calleesS, calleesF, calleesB, calleesK, calleesC}
-use Rattle.model.specs.Imports.{St, importT}
-use Rattle.model.specs.Bodies.{Making, step, comparesOf, eachE, push}
+use Rattle.model.specs.Imports.{Derived, importT}
+use Rattle.model.specs.Bodies.{Builder, step, comparesOf, eachE, appendExpr}
+use Rattle.theory_records.specs.Passing.{first-of}
 use Rattle.theory_records.specs.RecordLaws.{All as AllN, rest-of}
 use Rattle.theory_records.specs.Tested.{cons-all}
 use Rattle.theory_finish.specs.Classes.{calm?, calms?, functionless, calleeless, effect-functionless, effect-calleeless}
@@ -32,14 +33,6 @@ use Rattle.theory_passes.specs.Light.{still}
 use Rattle.function_nesting.specs.Nested.{ReadyFrom}
 
 -- ---- references of one cell, and of those behind it
-pub first-of : (P : Node → Type 0) (t : Target) (w : ℕ) (js : List Node) → AllN P (refOf t w js) → AllN P (refOf t w [])
-unfolding refOf
-first-of P copied w js a = tt
-first-of P start w js a = tt
-first-of P upto w js a = tt
-first-of P (ref p) w js a = (a .0, tt)
-first-of P (opt p) zero js a = tt
-first-of P (opt p) (suc n) js a = (a .0, tt)
 
 -- ---- the functions that the cells of a body name are its callees
 module _ (Q : ℕ → Type 0) where
@@ -111,83 +104,83 @@ abbrev pub Any : ℕ → Type 0
 Any n = Unit {0}
 
 -- ---- G holds between imports
-module _ (o : ℕ) (M : Module) (G : St → Type 0) (imports : (t : Tab) (n : ℕ) (s : St) → n < count (tables M) t → G s → G (importT o (tables M) t n s)) where
-  abbrev pub Good : (ℕ → Making → Making) → Type 0
-  Good h = (e : ℕ) (x : Making) → G (x .out) → G (h e x .out)
+module _ (o : ℕ) (M : Module) (G : Derived → Type 0) (imports : (t : Tab) (n : ℕ) (s : Derived) → n < count (tables M) t → G s → G (importT o (tables M) t n s)) where
+  abbrev pub Good : (ℕ → Builder → Builder) → Type 0
+  Good h = (e : ℕ) (x : Builder) → G (x .out) → G (h e x .out)
 
   abbrev pub Refs : (ℕ → Type 0) → Cells → Type 0
   Refs Q cs = AllN (InN M Q) (refs cs)
 
-  import-on : (Q : ℕ → Type 0) (t : Tab) (n : ℕ) (s : St) → Inside M Q (table t) n → G s → G (importT o (tables M) t n s)
+  import-on : (Q : ℕ → Type 0) (t : Tab) (n : ℕ) (s : Derived) → Inside M Q (table t) n → G s → G (importT o (tables M) t n s)
   unfolding Inside
   import-on Q t n s a k = imports t n s a k
 
-  all-on : (h : ℕ → Making → Making) → Good h → (es : List ℕ) (x : Making) → G (x .out) → G (eachE es h x .out)
+  all-on : (h : ℕ → Builder → Builder) → Good h → (es : List ℕ) (x : Builder) → G (x .out) → G (eachE es h x .out)
   unfolding eachE
   all-on h g [] x k = k
   all-on h g (e ∷ es) x k = all-on h g es (h e x) (g e x k)
 
   -- ---- one expression, whose calls are not followed
   module _ (xs : List Cells) (rows : (e : ℕ) → Refs Any (getD xs e [])) where
-    each-still : (h : ℕ → Making → Making) → Good h → (e : ℕ) (x : Making) → G (x .out) → G (each (refs (getD xs e [])) (step o M still h) x .out)
+    each-still : (h : ℕ → Builder → Builder) → Good h → (e : ℕ) (x : Builder) → G (x .out) → G (foldRefs (refs (getD xs e [])) (step o M still h) x .out)
     each-still h g e x k = Walked.each-kept M o (Inside M Any) G (import-on Any) still (λ f s a k. k) h g (refs (getD xs e [])) (rows e) x k
 
     pub need-on : Good (need o M still xs)
-    unfolding need push
-    need-on e x k = once-is (λ (y : Making). G (y .out)) (getD (x .memo) e 0) _ x (λ z. each-still (λ e m. m) (λ e m k. k) e x k) (λ z. k)
+    unfolding need appendExpr
+    need-on e x k = once-is (λ (y : Builder). G (y .out)) (getD (x .memo) e 0) _ x (λ z. each-still (λ e m. m) (λ e m k. k) e x k) (λ z. k)
 
     peek-on : Good (peek o M still xs)
     unfolding peek
     peek-on e x k = go (standing xs e)
       where
-        go : (b : Bool) → G (let y : Making = elim b [ true ↦ need o M still xs e x | false ↦ x ] in y .out)
+        go : (b : Bool) → G (let y : Builder = elim b [ true ↦ need o M still xs e x | false ↦ x ] in y .out)
         go true = need-on e x k
         go false = k
 
     pub glance-on : Good (glance o M still xs)
     unfolding glance
-    glance-on e x k = once-is (λ (y : Making). G (y .out)) (getD (x .memo) e 0) _ x (λ z. each-still (peek o M still xs) peek-on e x k) (λ z. k)
+    glance-on e x k = once-is (λ (y : Builder). G (y .out)) (getD (x .memo) e 0) _ x (λ z. each-still (peek o M still xs) peek-on e x k) (λ z. k)
 
   -- ---- cells
-  module _ (follow : ℕ → St → St) (Q : ℕ → Type 0) (good : (n : ℕ) (s : St) → Q n → G s → G (follow n s)) where
-    follow-on : (n : ℕ) (s : St) → Inside M Q function n → G s → G (follow n s)
+  module _ (follow : ℕ → Derived → Derived) (Q : ℕ → Type 0) (good : (n : ℕ) (s : Derived) → Q n → G s → G (follow n s)) where
+    follow-on : (n : ℕ) (s : Derived) → Inside M Q function n → G s → G (follow n s)
     unfolding Inside
     follow-on n s a k = good n s a k
 
-    module _ (p q : ℕ → Making → Making) (gp : Good p) (gq : Good q) where
-      arrive-on : (t : Target) (w : ℕ) (x : Making) → AllN (InN M Q) (refOf t w []) → G (x .out) → G (arrive o M follow p q t w x .out)
-      unfolding each
-      arrive-on t w x a k = subst (λ (y : Making). G (y .out)) (arrive-each o M follow p q t w [] x) (Walked.each-kept M o (Inside M Q) G (import-on Q) follow follow-on p gp (refOf t w []) a x k)
+    module _ (p q : ℕ → Builder → Builder) (gp : Good p) (gq : Good q) where
+      arrive-on : (t : Target) (w : ℕ) (x : Builder) → AllN (InN M Q) (refOf t w []) → G (x .out) → G (arrive o M follow p q t w x .out)
+      unfolding foldRefs
+      arrive-on t w x a k = subst (λ (y : Builder). G (y .out)) (arrive-each o M follow p q t w [] x) (Walked.each-kept M o (Inside M Q) G (import-on Q) follow follow-on p gp (refOf t w []) a x k)
 
-      pub passed-on : (c : Cell) (cs : Cells) (x : Making) → AllN (InN M Q) (refOf (target (class c)) (word c) []) → G (x .out) → G (passed o M follow p q c cs x .out)
+      pub passed-on : (c : Cell) (cs : Cells) (x : Builder) → AllN (InN M Q) (refOf (target (class c)) (word c) []) → G (x .out) → G (passed o M follow p q c cs x .out)
       unfolding passed
       passed-on c cs x a k = go (eqb (class c) FROM) (eqb (class c) STMT-KIND)
         where
-          kinds : (b : Bool) → G (let y : Making = elim b [ true ↦ eachE (comparesOf cs) p x | false ↦ x ] in y .out)
+          kinds : (b : Bool) → G (let y : Builder = elim b [ true ↦ eachE (comparesOf cs) p x | false ↦ x ] in y .out)
           kinds true = all-on p gp (comparesOf cs) x k
           kinds false = k
 
-          go : (b d : Bool) → G (let y : Making = elim b [ true ↦ both o M follow p q (word c) (firstWord cs) x | false ↦ elim d [ true ↦ early o M follow p q (word c) cs x | false ↦ arrive o M follow p q (target (class c)) (word c) x ] ] in y .out)
+          go : (b d : Bool) → G (let y : Builder = elim b [ true ↦ both o M follow p q (word c) (firstWord cs) x | false ↦ elim d [ true ↦ early o M follow p q (word c) cs x | false ↦ arrive o M follow p q (target (class c)) (word c) x ] ] in y .out)
           go true d = unfold both first in all-on p gp (inRange (record { from = word c; to = firstWord cs })) _ (all-on q gq (inRange (record { from = word c; to = firstWord cs })) x k)
           go false true = unfold early in kinds (atomicKind (word c))
           go false false = arrive-on (target (class c)) (word c) x a k
 
       -- from any cell on
-      pub after-on : (cs : Cells) (x : Making) → Refs Q cs → G (x .out) → G (after o M follow p q cs x .out)
+      pub after-on : (cs : Cells) (x : Builder) → Refs Q cs → G (x .out) → G (after o M follow p q cs x .out)
       unfolding after refs
       after-on [] x a k = k
       after-on (c ∷ cs) x a k =
           after-on cs (passed o M follow p q c cs x) (rest-of (InN M Q) (target (class c)) (word c) (refs cs) a) (passed-on c cs x (first-of (InN M Q) (target (class c)) (word c) (refs cs) a) k)
 
-    -- ---- what is asked of callees holds at each Call's word
+    -- ---- what is required of callees holds at each Call's word
     callee : (s w : ℕ) → s ≡ CALLEE → AllN (InN M Q) (refOf (target s) w []) → Q w
     callee s w e a = go (rw e at a)
       where
         go : AllN (InN M Q) (refOf (target CALLEE) w []) → Q w
         go b = unfold target targets refOf Inside in b .0
 
-    module _ (ready : ℕ → St → Type 0) (is : (n : ℕ) (s : St) → Q n → G s → ready n s) (F : Function) (rows : (e : ℕ) → Refs Any (getD (F .exprs) e [])) where
-      pub ready-from : (cs : Cells) (x : Making) → Refs Q cs → G (x .out) → ReadyFrom o M ready follow F cs x
+    module _ (ready : ℕ → Derived → Type 0) (is : (n : ℕ) (s : Derived) → Q n → G s → ready n s) (F : Function) (rows : (e : ℕ) → Refs Any (getD (F .exprs) e [])) where
+      pub ready-from : (cs : Cells) (x : Builder) → Refs Q cs → G (x .out) → ReadyFrom o M ready follow F cs x
       unfolding ReadyFrom refs
       ready-from [] x a k = tt
       ready-from (c ∷ cs) x a k =

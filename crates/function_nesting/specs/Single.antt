@@ -7,6 +7,7 @@ use mathlib.Core.List.{List, [], _∷_, _++_, map, append-nil}
 use lib.Dec.{eqb}
 use lib.ListN.{length, getD}
 use borrow.Author.Tests.{eq-eqb}
+use Rattle.theory_lists.specs.Booleans.{and-split}
 use Rattle.model.specs.Outcome.{Cell, Cells, class, word}
 use Rattle.model.specs.Table.{NAME, FUNCTION, CALLEE, FROM, STMT-KIND, TO, ARGUMENTS, LOCALS, EXPRESSIONS, NAMED, functionHead, counted}
 use Rattle.model.specs.Tree.{Function, Entry, flatAll, flatList, flatBlock, flat, flatEntry, functionAt, entryAt}
@@ -17,14 +18,15 @@ use Rattle.model.specs.Tables.{names, at, tables, count}
 use Rattle.model.specs.Lower.{lower}
 use Rattle.model.specs.Callees.{callees}
 use Rattle.model.specs.References.{Place, table, own, function, Target, copied, start, upto, ref, opt, targets, target, Node, refOf, refs, through, firstWord, undefinedAt, moved}
-use Rattle.model.specs.Imports.{St}
-use Rattle.model.specs.Bodies.{known, Making, step, went, keepNames, keptNames, declared, walked, final, localized}
+use Rattle.model.specs.Imports.{Derived}
+use Rattle.model.specs.Bodies.{known, Builder, step, mappedTo, keepNames, keptNames, declared, walked, final, localized}
 use Rattle.model.specs.Finish.{gathered}
-use Rattle.theory_image.specs.Lists.{and-split}
+use Rattle.theory_records.specs.Passing.{first-of}
 use Rattle.theory_image.specs.Writing.{write-function, write-entry}
 use Rattle.theory_image.specs.Quiet.{each-append, each-map}
+use Rattle.theory_image.specs.Within.{within-append}
 use Rattle.theory_records.specs.RecordLaws.{All as AllN, all-map as alln-map, all-both as alln-both, rest-of}
-use Rattle.theory_records.specs.Functions.{TabIn, in-table, in-own, in-function, cells-in, within-append}
+use Rattle.theory_records.specs.Functions.{TabIn, in-table, in-own, in-function, cells-in}
 use Rattle.theory_records.specs.Imported.{gathered-tables}
 use Rattle.theory_finish.specs.Finished.{within-low}
 use Rattle.theory_finish.specs.Classes.{Not, calm?, calms?, all-not, functionless, calleeless}
@@ -44,7 +46,7 @@ use Rattle.theory_sessions.specs.Alike.{final-same, localized-same}
 use Rattle.derive_state.specs.Flats.{functionIn, functionOf, entryIn, entryOf}
 use Rattle.derive_state.specs.Held.{Named}
 use Rattle.function_nesting.specs.Nested.{declaredS, walkedS, keptS, finalS, frontS, namesS, bodyS, cellsS, Reads, ReadyF}
-use Rattle.function_nesting.specs.Kept.{Any, first-of, body-funs, after-on, ready-from}
+use Rattle.function_nesting.specs.Kept.{Any, body-funs, after-on, ready-from}
 
 -- ---- read back
 pub function-back : (F : Function) → WellFunction F → functionOf (flat F) ≡ F
@@ -62,14 +64,14 @@ Bare cs = FunsOk (λ f. ⊥) (refs cs)
 abbrev BareN : Node → Type 0
 BareN j = FunOk (λ f. ⊥) (j .place) (j .num)
 
-module _ (o : ℕ) (M : Module) (follow : ℕ → St → St) (p q : ℕ → Making → Making) where
-  step-bare : (s : Place) (n : ℕ) (m : Making) → FunOk (λ f. ⊥) s n → step o M still p s n m ≡ step o M follow p s n m
+module _ (o : ℕ) (M : Module) (follow : ℕ → Derived → Derived) (p q : ℕ → Builder → Builder) where
+  step-bare : (s : Place) (n : ℕ) (m : Builder) → FunOk (λ f. ⊥) s n → step o M still p s n m ≡ step o M follow p s n m
   unfolding step
   step-bare (table t) n m fun-table = refl
   step-bare own n m fun-own = refl
   step-bare function n m (fun-call h) = absurd h
 
-  arrive-bare : (t : Target) (w : ℕ) (m : Making) → AllN BareN (refOf t w []) → arrive o M still p q t w m ≡ arrive o M follow p q t w m
+  arrive-bare : (t : Target) (w : ℕ) (m : Builder) → AllN BareN (refOf t w []) → arrive o M still p q t w m ≡ arrive o M follow p q t w m
   unfolding arrive refOf
   arrive-bare copied w m a = refl
   arrive-bare start w m a = refl
@@ -78,24 +80,24 @@ module _ (o : ℕ) (M : Module) (follow : ℕ → St → St) (p q : ℕ → Maki
   arrive-bare (opt s) zero m a = refl
   arrive-bare (opt s) (suc n) m a = step-bare s n m (a .0)
 
-  passed-bare : (c : Cell) (cs : Cells) (m : Making) → AllN BareN (refOf (target (class c)) (word c) []) → passed o M still p q c cs m ≡ passed o M follow p q c cs m
+  passed-bare : (c : Cell) (cs : Cells) (m : Builder) → AllN BareN (refOf (target (class c)) (word c) []) → passed o M still p q c cs m ≡ passed o M follow p q c cs m
   unfolding passed both first early
   passed-bare c cs m a =
-      ap (λ (x : Making). let y : Making = elim (eqb (class c) FROM) [ true ↦ both o M follow p q (word c) (firstWord cs) m | false ↦ elim (eqb (class c) STMT-KIND) [ true ↦ early o M follow p q (word c) cs m | false ↦ x ] ] in y) (arrive-bare (target (class c)) (word c) m a)
+      ap (λ (x : Builder). let y : Builder = elim (eqb (class c) FROM) [ true ↦ both o M follow p q (word c) (firstWord cs) m | false ↦ elim (eqb (class c) STMT-KIND) [ true ↦ early o M follow p q (word c) cs m | false ↦ x ] ] in y) (arrive-bare (target (class c)) (word c) m a)
 
-  after-bare : (cs : Cells) (m : Making) → Bare cs → after o M still p q cs m ≡ after o M follow p q cs m
+  after-bare : (cs : Cells) (m : Builder) → Bare cs → after o M still p q cs m ≡ after o M follow p q cs m
   unfolding after refs
   after-bare [] m a = refl
   after-bare (c ∷ cs) m a =
       let e = passed-bare c cs m (first-of BareN (target (class c)) (word c) (refs cs) a) in
       ap (after o M still p q cs) e ∙ after-bare cs (passed o M follow p q c cs m) (rest-of BareN (target (class c)) (word c) (refs cs) a)
 
-  word-bare : (c : Cell) (cs : Cells) (u : Bool) (m : Making) → AllN BareN (refOf (target (class c)) (word c) []) → wordOf o M still p q c cs u m ≡ wordOf o M follow p q c cs u m
+  word-bare : (c : Cell) (cs : Cells) (u : Bool) (m : Builder) → AllN BareN (refOf (target (class c)) (word c) []) → wordOf o M still p q c cs u m ≡ wordOf o M follow p q c cs u m
   unfolding wordOf first
   word-bare c cs u m a =
-      ap (λ (x : Making). let n : ℕ = elim (eqb (class c) FROM) [ true ↦ length (first o M follow p q (word c) (firstWord cs) m .made) | false ↦ elim (eqb (class c) TO) [ true ↦ length (m .made) | false ↦ moved (target (class c)) (through (went M x) (class c) (word c)) o u ] ] in n) (passed-bare c cs m a)
+      ap (λ (x : Builder). let n : ℕ = elim (eqb (class c) FROM) [ true ↦ length (first o M follow p q (word c) (firstWord cs) m .made) | false ↦ elim (eqb (class c) TO) [ true ↦ length (m .made) | false ↦ moved (target (class c)) (through (mappedTo M x) (class c) (word c)) o u ] ] in n) (passed-bare c cs m a)
 
-  written-bare : (cs : Cells) (u : Bool) (m : Making) → Bare cs → written o M still p q cs u m ≡ written o M follow p q cs u m
+  written-bare : (cs : Cells) (u : Bool) (m : Builder) → Bare cs → written o M still p q cs u m ≡ written o M follow p q cs u m
   unfolding written refs
   written-bare [] u m a = refl
   written-bare (c ∷ cs) u m a =
@@ -104,18 +106,18 @@ module _ (o : ℕ) (M : Module) (follow : ℕ → St → St) (p q : ℕ → Maki
       rw (word-bare c cs v m b, passed-bare c cs m b, written-bare cs v (passed o M follow p q c cs m) (rest-of BareN (target (class c)) (word c) (refs cs) a)) refl
 
 -- names are records of a table, whichever way expressions are imported and calls followed
-module _ (o : ℕ) (M : Module) (follow follow′ : ℕ → St → St) (p q p′ q′ : ℕ → Making → Making) where
-  name-same : (w : ℕ) (m : Making) → arrive o M follow p q (target NAME) w m ≡ arrive o M follow′ p′ q′ (target NAME) w m
+module _ (o : ℕ) (M : Module) (follow follow′ : ℕ → Derived → Derived) (p q p′ q′ : ℕ → Builder → Builder) where
+  name-same : (w : ℕ) (m : Builder) → arrive o M follow p q (target NAME) w m ≡ arrive o M follow′ p′ q′ (target NAME) w m
   unfolding arrive target targets step
   name-same zero m = refl
   name-same (suc n) m = refl
 
-  named-same : (ks : List (ℕ × ℕ)) (m : Making) → named o M follow p q ks m ≡ named o M follow′ p′ q′ ks m
+  named-same : (ks : List (ℕ × ℕ)) (m : Builder) → named o M follow p q ks m ≡ named o M follow′ p′ q′ ks m
   unfolding named
   named-same [] m = refl
   named-same (k ∷ ks) m = ap (named o M follow p q ks) (name-same (k .1) m) ∙ named-same ks (arrive o M follow′ p′ q′ (target NAME) (k .1) m)
 
-  rows-same : (ks : List (ℕ × ℕ)) (m : Making) → rows o M follow p q ks m ≡ rows o M follow′ p′ q′ ks m
+  rows-same : (ks : List (ℕ × ℕ)) (m : Builder) → rows o M follow p q ks m ≡ rows o M follow′ p′ q′ ks m
   unfolding rows
   rows-same [] m = refl
   rows-same (k ∷ ks) m = rw (name-same (k .1) m, rows-same ks (arrive o M follow′ p′ q′ (target NAME) (k .1) m)) refl
@@ -171,15 +173,15 @@ module _ (M : Module) (F : Function) (pass : Passes M F) where
   body-refs Q calls = alln-both (refs (flatBlock (F .body))) (λ j a b. inside-of M Q a b) (cells-in M F (flatBlock (F .body)) (ranges M F pass .body-in)) (body-funs Q (pass .well .body-ok) calls)
 
 -- ---- names in range: what passes test 3 in the module that is derived has names among those derived
-pub low-named : (r : St) (f : Function) (cs : Cells) → sound (outside (gathered r [])) f cs ≡ true → Named (count (r .recs) names) cs
+pub low-named : (r : Derived) (f : Function) (cs : Cells) → sound (outside (gathered r [])) f cs ≡ true → Named (count (r .recs) names) cs
 unfolding sound inside outside gathered count at
 low-named r f cs h =
     let b = inside (outside (gathered r [])) f in
     each-map (λ c l e. le-of-suc-le-suc (l (eq-eqb (class c) NAME e))) (within-low b cs (and-split (within b cs) _ h .0))
 
--- ---- ways to follow calls that do the same where it is asked
-module _ (M : Module) (well : WellFormed M) (three : numbered M ≡ true) (four : lower M ≡ true) (o : ℕ) (fol fol′ : ℕ → St → St) (Q : ℕ → Type 0) (G : St → Type 0) (follows : Follows o M fol Q G)
-    (same : (n : ℕ) (s : St) → Q n → G s → fol′ n s ≡ fol n s) (idle : (n : ℕ) (s : St) → 0 < known M s n → fol′ n s ≡ s) where
+-- ---- ways to follow calls that do the same where it is required
+module _ (M : Module) (well : WellFormed M) (three : numbered M ≡ true) (four : lower M ≡ true) (o : ℕ) (fol fol′ : ℕ → Derived → Derived) (Q : ℕ → Type 0) (G : Derived → Type 0) (follows : Follows o M fol Q G)
+    (same : (n : ℕ) (s : Derived) → Q n → G s → fol′ n s ≡ fol n s) (idle : (n : ℕ) (s : Derived) → 0 < known M s n → fol′ n s ≡ s) where
   follows′ : Follows o M fol′ Q G
   follows′ = record {
     is-good = follows .is-good;
@@ -192,15 +194,15 @@ module _ (M : Module) (well : WellFormed M) (three : numbered M ≡ true) (four 
     grown = λ n s q g. rw (same n s q g) (follows .grown n s q g);
   }
 
-  module _ (F : Function) (pass : Passes M F) (calls : All Q (callees F)) (s : St) (good : G s) where
+  module _ (F : Function) (pass : Passes M F) (calls : All Q (callees F)) (s : Derived) (good : G s) where
     abbrev law : Law o M fol Q G
     law = lawful M well three four o fol Q G follows
 
-    -- behind the declarations, and behind the body
-    abbrev dec : Making
+    -- after the declarations, and after the body
+    abbrev dec : Builder
     dec = declared o M fol′ F s
 
-    abbrev mid : Making
+    abbrev mid : Builder
     mid = walked o M fol′ F dec
 
     abbrev F′ : Function
@@ -216,7 +218,7 @@ module _ (M : Module) (well : WellFormed M) (three : numbered M ≡ true) (four 
 
     kept-is : keptS o M fol′ F s ≡ keptNames o M fol′ F mid
     unfolding keptS keptNames
-    kept-is = ap (λ (m : Making). keepNames (F .named) (m .memo) []) walked-is
+    kept-is = ap (λ (m : Builder). keepNames (F .named) (m .memo) []) walked-is
 
     final-is : finalS o M fol′ F s ≡ final o M fol′ F s
     unfolding finalS namesAfter
@@ -268,6 +270,6 @@ module _ (M : Module) (well : WellFormed M) (three : numbered M ≡ true) (four 
         after-on o M G (follows .imports) still Any (λ n r a g. g) _ _ u u (front F) (begin F s) (front-any M F pass) (unfold begin in good)
 
     -- RECORDS THAT CAN BE READ, where those of the callees can
-    pub ready-same : (ready : ℕ → St → Type 0) → ((n : ℕ) (r : St) → Q n → G r → ready n r) → ReadyF o M ready fol′ F s
+    pub ready-same : (ready : ℕ → Derived → Type 0) → ((n : ℕ) (r : Derived) → Q n → G r → ready n r) → ReadyF o M ready fol′ F s
     unfolding ReadyF
     ready-same ready is = (reads, ready-from o M G (follows .imports) fol′ Q (follows′ .good) ready is F (rows-any M F pass) (flatBlock (F .body)) (declaredS o M fol′ F s) (body-refs M F pass Q calls) declared-good)

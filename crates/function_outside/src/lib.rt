@@ -1,4 +1,4 @@
-// What a function refers to outside itself: records of tables, by the words of one of its expressions or of another stretch.
+// What a function refers to outside itself: records of tables, by the words of one of its expressions or of another part.
 use base_classes::EXPR;
 use base_handles::ConstantHandle;
 use base_handles::ExpressionHandle;
@@ -11,12 +11,20 @@ use base_views::GLOBALS;
 use base_views::NAMES;
 use base_views::OVERRIDES;
 use base_views::TYPES;
+use base_words::Tags;
+use base_words::Words;
 use base_words::wide;
 use derive_constants::import_const;
 use derive_constants::import_global;
 use derive_constants::import_global_expression;
 use derive_constants::import_pipeline_override;
-use derive_state::Ends;
+use derive_state::Buckets;
+use derive_state::Log;
+use derive_state::LogTags;
+use derive_state::Maps;
+use derive_state::Sizes;
+use derive_state::Starts;
+use derive_state::Targets;
 use derive_types::import_name;
 use derive_types::import_type;
 use derive_types::refers_to;
@@ -28,42 +36,42 @@ ghost use Rattle.model.specs.Between.{between};
 ghost use Rattle.theory_passes.specs.Operands.{outward};
 ghost use Rattle.theory_passes.specs.Light.{still};
 ghost use Rattle.derive_state.specs.Source.{modOf, srcOf};
-ghost use Rattle.derive_state.specs.Held.{cell, Kept, Lands};
+ghost use Rattle.derive_state.specs.Held.{cell, ValidArrays, Lands};
 ghost use Rattle.function_references.specs.Fits.{Ground, Legible, recordOf};
 
-// Record h of table t, by the import that the table has; nothing where t is no table.
+// Imports record h of table t, by the import that the table has; nothing where t is no table.
 pub fn import_by_table(
-    words: &[u32; 16384],
-    tags: &[u8; 16384],
-    kinds: &[u8; 256],
+    words: &Words,
+    tags: &Tags,
+    targets: &Targets,
     n: usize,
-    log: &mut [u32; 16384],
-    classes: &mut [u8; 16384],
-    starts: &mut [[u32; 512]; 8],
-    maps: &mut [[u32; 512]; 6],
-    marks: &mut [u16; 16384],
-    ends: Ends,
+    log: &mut Log,
+    logtags: &mut LogTags,
+    starts: &mut Starts,
+    maps: &mut Maps,
+    buckets: &mut Buckets,
+    ends: Sizes,
     offset: u32,
     t: usize,
     h: u32,
-) -> Ends
-    requires { ⌜ Ground (now words) (now tags) (now kinds) n ⌝ }
+) -> Sizes
+    requires { ⌜ Ground (now words) (now tags) (now targets) n ⌝ }
     requires { ⌜ (t < 6 → h < countAt t (now words)) ⌝ }
     requires { ⌜ ends .full ≡ false ⌝ }
-    requires { ⌜ Kept (now log) (now classes) (now starts) (now maps) (now marks) ends ⌝ }
-    ensures { λ r. ⌜ Lands (now (words .entry)) (recordOf offset (srcOf (now (words .entry)) n) t h) (now (log .entry)) (now (classes .entry)) (now (starts .entry)) (now (maps .entry)) (now (marks .entry)) ends r (now (log .exit)) (now (classes .exit)) (now (starts .exit)) (now (maps .exit)) (now (marks .exit)) ⌝ }
+    requires { ⌜ ValidArrays (now log) (now logtags) (now starts) (now maps) (now buckets) ends ⌝ }
+    ensures { λ r. ⌜ Lands (now (words .entry)) (recordOf offset (srcOf (now (words .entry)) n) t h) (now (log .entry)) (now (logtags .entry)) (now (starts .entry)) (now (maps .entry)) (now (buckets .entry)) ends r (now (log .exit)) (now (logtags .exit)) (now (starts .exit)) (now (maps .exit)) (now (buckets .exit)) ⌝ }
 {
     if t == NAMES {
         return import_name(
             words,
             tags,
-            kinds,
+            targets,
             n,
             log,
-            classes,
+            logtags,
             starts,
             maps,
-            marks,
+            buckets,
             ends,
             offset,
             h,
@@ -73,13 +81,13 @@ pub fn import_by_table(
         return import_type(
             words,
             tags,
-            kinds,
+            targets,
             n,
             log,
-            classes,
+            logtags,
             starts,
             maps,
-            marks,
+            buckets,
             ends,
             offset,
             TypeHandle(h),
@@ -89,13 +97,13 @@ pub fn import_by_table(
         return import_const(
             words,
             tags,
-            kinds,
+            targets,
             n,
             log,
-            classes,
+            logtags,
             starts,
             maps,
-            marks,
+            buckets,
             ends,
             offset,
             ConstantHandle(h),
@@ -105,13 +113,13 @@ pub fn import_by_table(
         return import_pipeline_override(
             words,
             tags,
-            kinds,
+            targets,
             n,
             log,
-            classes,
+            logtags,
             starts,
             maps,
-            marks,
+            buckets,
             ends,
             offset,
             OverrideHandle(h),
@@ -121,13 +129,13 @@ pub fn import_by_table(
         return import_global(
             words,
             tags,
-            kinds,
+            targets,
             n,
             log,
-            classes,
+            logtags,
             starts,
             maps,
-            marks,
+            buckets,
             ends,
             offset,
             GlobalHandle(h),
@@ -137,13 +145,13 @@ pub fn import_by_table(
         return import_global_expression(
             words,
             tags,
-            kinds,
+            targets,
             n,
             log,
-            classes,
+            logtags,
             starts,
             maps,
-            marks,
+            buckets,
             ends,
             offset,
             ExpressionHandle(h),
@@ -152,8 +160,8 @@ pub fn import_by_table(
     ends
 }
 
-// Whether record h of table t is not mapped; no where t is no table. This is asked of every word, and most records are mapped.
-pub fn missing(maps: &[[u32; 512]; 6], t: usize, h: u32) -> bool
+// Whether record h of table t is not mapped; no where t is no table. This is tested for every word, and most records are mapped.
+pub fn missing(maps: &Maps, t: usize, h: u32) -> bool
     requires { ⌜ (t < 6 → h < 512) ⌝ }
     ensures { λ r. ⌜ (r ≡ true → (t < 6) × (cell (now (maps .entry)) t h ≡ 0)) ⌝ }
     ensures { λ r. ⌜ (r ≡ false → t < 6 → 0 < cell (now (maps .entry)) t h) ⌝ }
@@ -164,27 +172,27 @@ pub fn missing(maps: &[[u32; 512]; 6], t: usize, h: u32) -> bool
     maps[t][wide(h)] == 0
 }
 
-// The same as import_by_table, seen first to be mapped or not.
+// The same as import_by_table, but tests first whether the record is mapped.
 pub fn import_record(
-    words: &[u32; 16384],
-    tags: &[u8; 16384],
-    kinds: &[u8; 256],
+    words: &Words,
+    tags: &Tags,
+    targets: &Targets,
     n: usize,
-    log: &mut [u32; 16384],
-    classes: &mut [u8; 16384],
-    starts: &mut [[u32; 512]; 8],
-    maps: &mut [[u32; 512]; 6],
-    marks: &mut [u16; 16384],
-    ends: Ends,
+    log: &mut Log,
+    logtags: &mut LogTags,
+    starts: &mut Starts,
+    maps: &mut Maps,
+    buckets: &mut Buckets,
+    ends: Sizes,
     offset: u32,
     t: usize,
     h: u32,
-) -> Ends
-    requires { ⌜ Ground (now words) (now tags) (now kinds) n ⌝ }
+) -> Sizes
+    requires { ⌜ Ground (now words) (now tags) (now targets) n ⌝ }
     requires { ⌜ (t < 6 → h < countAt t (now words)) ⌝ }
     requires { ⌜ ends .full ≡ false ⌝ }
-    requires { ⌜ Kept (now log) (now classes) (now starts) (now maps) (now marks) ends ⌝ }
-    ensures { λ r. ⌜ Lands (now (words .entry)) (recordOf offset (srcOf (now (words .entry)) n) t h) (now (log .entry)) (now (classes .entry)) (now (starts .entry)) (now (maps .entry)) (now (marks .entry)) ends r (now (log .exit)) (now (classes .exit)) (now (starts .exit)) (now (maps .exit)) (now (marks .exit)) ⌝ }
+    requires { ⌜ ValidArrays (now log) (now logtags) (now starts) (now maps) (now buckets) ends ⌝ }
+    ensures { λ r. ⌜ Lands (now (words .entry)) (recordOf offset (srcOf (now (words .entry)) n) t h) (now (log .entry)) (now (logtags .entry)) (now (starts .entry)) (now (maps .entry)) (now (buckets .entry)) ends r (now (log .exit)) (now (logtags .exit)) (now (starts .exit)) (now (maps .exit)) (now (buckets .exit)) ⌝ }
 {
     if !missing(maps, t, h) {
         return ends;
@@ -192,13 +200,13 @@ pub fn import_record(
     import_by_table(
         words,
         tags,
-        kinds,
+        targets,
         n,
         log,
-        classes,
+        logtags,
         starts,
         maps,
-        marks,
+        buckets,
         ends,
         offset,
         t,
@@ -206,27 +214,27 @@ pub fn import_record(
     )
 }
 
-// What the words from `at` to `end` refer to outside the function.
+// Imports what the words from `at` to `end` refer to outside the function.
 pub fn import_outside(
-    words: &[u32; 16384],
-    tags: &[u8; 16384],
-    kinds: &[u8; 256],
+    words: &Words,
+    tags: &Tags,
+    targets: &Targets,
     n: usize,
-    log: &mut [u32; 16384],
-    classes: &mut [u8; 16384],
-    starts: &mut [[u32; 512]; 8],
-    maps: &mut [[u32; 512]; 6],
-    marks: &mut [u16; 16384],
-    ends: Ends,
+    log: &mut Log,
+    logtags: &mut LogTags,
+    starts: &mut Starts,
+    maps: &mut Maps,
+    buckets: &mut Buckets,
+    ends: Sizes,
     offset: u32,
     at: usize,
     end: usize,
-) -> Ends
-    requires { ⌜ Ground (now words) (now tags) (now kinds) n ⌝ }
+) -> Sizes
+    requires { ⌜ Ground (now words) (now tags) (now targets) n ⌝ }
     requires { ⌜ Legible (now words) (now tags) 1024 at end ⌝ }
     requires { ⌜ ends .full ≡ false ⌝ }
-    requires { ⌜ Kept (now log) (now classes) (now starts) (now maps) (now marks) ends ⌝ }
-    ensures { λ r. ⌜ Lands (now (words .entry)) (outward offset (modOf (now (words .entry)) n) still (between (now (tags .entry)) (now (words .entry)) at end)) (now (log .entry)) (now (classes .entry)) (now (starts .entry)) (now (maps .entry)) (now (marks .entry)) ends r (now (log .exit)) (now (classes .exit)) (now (starts .exit)) (now (maps .exit)) (now (marks .exit)) ⌝ }
+    requires { ⌜ ValidArrays (now log) (now logtags) (now starts) (now maps) (now buckets) ends ⌝ }
+    ensures { λ r. ⌜ Lands (now (words .entry)) (outward offset (modOf (now (words .entry)) n) still (between (now (tags .entry)) (now (words .entry)) at end)) (now (log .entry)) (now (logtags .entry)) (now (starts .entry)) (now (maps .entry)) (now (buckets .entry)) ends r (now (log .exit)) (now (logtags .exit)) (now (starts .exit)) (now (maps .exit)) (now (buckets .exit)) ⌝ }
 {
     let mut e = ends;
     let mut i = at;
@@ -235,18 +243,18 @@ pub fn import_outside(
         i += 1;
         let s = tags[j];
         if s < EXPR {
-            let r = refers_to(kinds, s, words[j]);
+            let r = refers_to(targets, s, words[j]);
             if missing(maps, r.table, r.number) {
                 e = import_by_table(
                     words,
                     tags,
-                    kinds,
+                    targets,
                     n,
                     log,
-                    classes,
+                    logtags,
                     starts,
                     maps,
-                    marks,
+                    buckets,
                     e,
                     offset,
                     r.table,

@@ -1,5 +1,5 @@
--- The words of a body, by places: behind an Emit's start stands its end, a range of the function's expressions; the callees are what `callees` lists, functions of the table; and no other word names a function.
--- What holds of the cells of each form of statement, and of runs one behind the other, holds of the body's (`Closed`).
+-- The words of a body, by places: an Emit's start is followed by its end, a range of the function's expressions; the callees are what `callees` lists, functions of the table; and no other word names a function.
+-- What holds of the cells of each form of statement, and of runs one after the other, holds of the body's (`Closed`).
 use mathlib.Core.Path.{_≡_, refl, sym, ap, _∙_, subst}
 use mathlib.Core.Logic.{_⊎_, inl, inr, ⊎-elim}
 use mathlib.Core.Bool.{Bool, true, false, cond, _&&_, _||_, not}
@@ -10,6 +10,7 @@ use native.Mathlib.Omega.{arith}
 use lib.Dec.{eqb, ltb}
 use lib.ListN.{length, getD, getElem?}
 use borrow.Author.Tests.{eq-eqb, eqb-true, eqb-false, ltb-true, ltb-false, not-true}
+use Rattle.theory_lists.specs.Booleans.{and-split}
 use Rattle.model.specs.Outcome.{Cell, Cells, class, word}
 use Rattle.model.specs.Table.{Row, SPAN, UPTO, FUNCTION, CALLEE, EXPR, OPT-EXPR, FROM, TO, OPT-RESULT, OPERANDS, VALUE, BLOCK, CASES, LENGTH, STMT-KIND, sEffect, statements}
 use Rattle.model.specs.Tree.{Stmt, Form, Block, Case, Cases, Range, Function, flat, flatX, flatS, flatF, flatB, flatK, flatC, flatBlock}
@@ -20,16 +21,14 @@ use Rattle.model.specs.Tables.{codeT}
 use Rattle.model.specs.References.{Target, copied, targets, target}
 use Rattle.model.specs.Callees.{callees}
 use Rattle.model.specs.Initial.{Mem, here, there}
-use Rattle.theory_image.specs.Lists.{and-split}
 use Rattle.theory_image.specs.Quiet.{each-append}
 use Rattle.theory_image.specs.FunctionViews.{among, split-or, part-end, taped-functions}
-use Rattle.order_callees.specs.Gathering.{picks}
-use Rattle.order_callees.proofs.Cells.{calleesIn, cells-function}
-use Rattle.order_callees.proofs.Numbered.{sound-below}
+use Rattle.theory_order.specs.Cells.{picks, calleesIn, cells-function}
+use Rattle.theory_order.specs.Numbered.{sound-below}
 use Rattle.theory_finish.specs.Classes.{Not, calm?, calms?, fromless, functionless, effect-functionless}
 use Rattle.theory_bodies.specs.Lists.{All, mem-all}
 use Rattle.theory_bodies.specs.Classes.{among-elim, Effects, e-none, e-last, e-more, effects-of, effect-cells, result-cells}
-use Rattle.derive_state.specs.Refers.{codeP, kindOf}
+use Rattle.derive_state.specs.Refers.{codeP, targetOf}
 use Rattle.derive_state.specs.Source.{modOf}
 use Rattle.function_parts.specs.Part.{Part, Indexed, k-many, body-run, order}
 use Rattle.function_parts.specs.Places.{place-in, place-class, place-word, each-place, place-below, ordered-at}
@@ -90,7 +89,7 @@ module _ (L : Cells → Type 0) (c : Closed L) where
   unfolding flatBlock
   body-holds w = c .one _ refl (block-holds (w .body-ok))
 
--- ---- behind a start stands an end
+-- ---- a start is followed by an end
 data Paired : Cells → Type 0 where
   p-none : Paired []
   p-cell : {c : Cell} {cs : Cells} → Not FROM c → Paired cs → Paired (c ∷ cs)
@@ -148,24 +147,24 @@ functions-closed = record {
 -- ---- the classes that refer to a function: FUNCTION and CALLEE
 only : List Target → ℕ → Bool
 only [] i = true
-only (t ∷ ts) i = (not (eqb (kindOf t) 7) || (eqb i (FUNCTION - SPAN) || eqb i (CALLEE - SPAN))) && only ts (suc i)
+only (t ∷ ts) i = (not (eqb (targetOf t) 7) || (eqb i (FUNCTION - SPAN) || eqb i (CALLEE - SPAN))) && only ts (suc i)
 
-only-at : (ts : List Target) (i : ℕ) → only ts i ≡ true → (j : ℕ) → kindOf (getD ts j copied) ≡ 7 → (i + j ≡ FUNCTION - SPAN) ⊎ (i + j ≡ CALLEE - SPAN)
-unfolding only kindOf
+only-at : (ts : List Target) (i : ℕ) → only ts i ≡ true → (j : ℕ) → targetOf (getD ts j copied) ≡ 7 → (i + j ≡ FUNCTION - SPAN) ⊎ (i + j ≡ CALLEE - SPAN)
+unfolding only targetOf
 only-at [] i h j e = absurd (omega arith)
 only-at (t ∷ ts) i h zero e =
-    let a = and-split (not (eqb (kindOf t) 7) || (eqb i (FUNCTION - SPAN) || eqb i (CALLEE - SPAN))) (only ts (suc i)) h in
-    split-or (not (eqb (kindOf t) 7)) (eqb i (FUNCTION - SPAN) || eqb i (CALLEE - SPAN)) (a .0) (λ n. absurd (eqb-false (kindOf t) 7 (not-true (eqb (kindOf t) 7) n) e)) λ b.
+    let a = and-split (not (eqb (targetOf t) 7) || (eqb i (FUNCTION - SPAN) || eqb i (CALLEE - SPAN))) (only ts (suc i)) h in
+    split-or (not (eqb (targetOf t) 7)) (eqb i (FUNCTION - SPAN) || eqb i (CALLEE - SPAN)) (a .0) (λ n. absurd (eqb-false (targetOf t) 7 (not-true (eqb (targetOf t) 7) n) e)) λ b.
     split-or (eqb i (FUNCTION - SPAN)) (eqb i (CALLEE - SPAN)) b (λ q. inl (omega (arith, eqb-true i (FUNCTION - SPAN) q))) λ q. inr (omega (arith, eqb-true i (CALLEE - SPAN) q))
 only-at (t ∷ ts) i h (suc j) e =
     ⊎-elim (λ q. inl (omega arith)) (λ q. inr (omega arith))
-    (only-at ts (suc i) (and-split (not (eqb (kindOf t) 7) || (eqb i (FUNCTION - SPAN) || eqb i (CALLEE - SPAN))) (only ts (suc i)) h .1) j e)
+    (only-at ts (suc i) (and-split (not (eqb (targetOf t) 7) || (eqb i (FUNCTION - SPAN) || eqb i (CALLEE - SPAN))) (only ts (suc i)) h .1) j e)
 
-pub function-class : (s : ℕ) → kindOf (target s) ≡ 7 → (s ≡ FUNCTION) ⊎ (s ≡ CALLEE)
-unfolding target only targets kindOf codeP codeT
+pub function-class : (s : ℕ) → targetOf (target s) ≡ 7 → (s ≡ FUNCTION) ⊎ (s ≡ CALLEE)
+unfolding target only targets targetOf codeP codeT
 function-class s h = go (ltb s SPAN) refl h
   where
-    go : (b : Bool) → ltb s SPAN ≡ b → kindOf (elim b [ true ↦ copied | false ↦ getD targets (s - SPAN) copied ]) ≡ 7 → (s ≡ FUNCTION) ⊎ (s ≡ CALLEE)
+    go : (b : Bool) → ltb s SPAN ≡ b → targetOf (elim b [ true ↦ copied | false ↦ getD targets (s - SPAN) copied ]) ≡ 7 → (s ≡ FUNCTION) ⊎ (s ≡ CALLEE)
     go true l e = absurd (omega arith)
     go false l e =
         let m : SPAN ≤ s = ltb-false s SPAN l in
@@ -204,10 +203,10 @@ module _ {words tags : List ℕ} {n s end : ℕ} {F : Function} (p : Part words 
   no-function e = eqb-false (getD tags i 0) FUNCTION (each-place (p .stands .held) (body-run p x) i low high (body-holds (Each (Not FUNCTION)) functions-closed (p .pass .well))) e
 
   -- so a word that refers to a function is a Call's
-  pub callee-class : kindOf (target (getD tags i 0)) ≡ 7 → getD tags i 0 ≡ CALLEE
+  pub callee-class : targetOf (target (getD tags i 0)) ≡ 7 → getD tags i 0 ≡ CALLEE
   callee-class h = ⊎-elim (λ q. absurd (no-function q)) (λ q. q) (function-class (getD tags i 0) h)
 
-  -- where it stands in the whole function
+  -- where it is in the whole function
   start-low : s ≤ i
   start-low = omega (arith, order p x)
 

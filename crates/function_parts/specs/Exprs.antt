@@ -1,4 +1,4 @@
--- The expressions of a function of the source: by the places that the code found they are cut out of the words, one behind the other (`Expressions`).
+-- The expressions of a function of the source: by the places that the code found they are cut out of the words, one after the other (`Expressions`).
 use mathlib.Core.Path.{_≡_, refl, sym, ap, _∙_}
 use mathlib.Core.Bool.{Bool, true, false}
 use mathlib.Core.List.{List, [], _∷_, _++_, map, append-assoc}
@@ -7,13 +7,13 @@ use native.Mathlib.Omega.{arith}
 use lib.Dec.{eqb}
 use lib.ListN.{length, getD, take, replicate, length-replicate}
 use lib.Seq.{slice, getD-take, length-take-le, length-sets}
+use Rattle.theory_lists.specs.Lists.{map-append}
 use Rattle.model.specs.Outcome.{Cells, class}
 use Rattle.model.specs.Table.{NAMED, EXPR-KIND}
 use Rattle.model.specs.Tree.{Function, flatAll, flatList, flatBlock}
 use Rattle.model.specs.Module.{flatModule}
 use Rattle.model.specs.Carry.{Each, each-none, each-next}
 use Rattle.model.specs.References.{refs}
-use Rattle.theory_image.specs.Lists.{map-append}
 use Rattle.theory_image.specs.Sections.{startOf, start-zero}
 use Rattle.theory_image.specs.Betweens.{held-between}
 use Rattle.theory_image.specs.FunctionViews.{Held, Part as Run, part-end, part-left, part-right, part-tags, Field, field-not, Expression, expression, expression-first, exprs-all, exprs-shapes, expr-class}
@@ -67,7 +67,7 @@ module _ {words tags : List ℕ} {cells : Cells} (o : Held words tags cells) whe
       let n = next rs ss (p + length r) q w g in
       (first r rs a ss p h, omega (arith, n, expression-first e), rw n (cut-rising es ss (p + length r) q w g))
 
--- ---- how many places are found: one for each expression, and that of the count behind them
+-- ---- how many places are found: one for each expression, and that of the count after them
 free : (a b : ℕ) (ss : List ℕ) → length (finds a ss) ≡ length (finds b ss)
 unfolding finds
 free a b [] = refl

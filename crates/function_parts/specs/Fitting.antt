@@ -10,6 +10,8 @@ use native.Mathlib.Omega.{arith}
 use lib.Dec.{ltb}
 use lib.ListN.{length, getD, getElem?}
 use borrow.Author.Tests.{ltb-true, ltb-false, le-ltb}
+use Rattle.theory_lists.specs.Lists.{behind, getD-behind, looked-length, looked-getD}
+use Rattle.theory_lists.specs.Booleans.{and-split}
 use Rattle.model.specs.Outcome.{Cells, class, word}
 use Rattle.model.specs.Table.{WORD, SPAN, NAME, EXPRESSIONS, NAMED, binding, entryHead, expressionRow, counted}
 use Rattle.model.specs.Tree.{Function, Entry, flat, flatAll, flatList, flatBlock, flatEntry}
@@ -23,15 +25,14 @@ use Rattle.model.specs.Lower.{below, operandsLower}
 use Rattle.model.specs.Operands.{opsOf}
 use Rattle.model.specs.Tables.{names, types, constants, overrides, globals, exprs, codeT}
 use Rattle.model.specs.References.{Place, table, own, function, Target, copied, start, upto, ref, opt, targets, target, Node, refOf, refs}
-use Rattle.theory_image.specs.Lists.{and-split}
 use Rattle.theory_image.specs.Plain.{plain?}
 use Rattle.theory_image.specs.Quiet.{Plainly, plain-none, plain-next, plainly}
 use Rattle.theory_image.specs.Betweens.{held-between, table-count}
-use Rattle.theory_image.specs.Views.{looked-length, looked-getD}
-use Rattle.theory_image.specs.FunctionViews.{each-at, looked-each, taped-length, taped-functions, taped-held, taped-entry-head}
+use Rattle.theory_image.specs.FunctionViews.{taped-length, taped-functions, taped-held, taped-entry-head}
+use Rattle.theory_image.specs.Members.{each-at, looked-each}
+use Rattle.theory_image.specs.Within.{within-append}
 use Rattle.theory_records.specs.RecordLaws.{All, all-map, all-both}
 use Rattle.theory_records.specs.Tested.{every-at, cons-all}
-use Rattle.theory_records.specs.Functions.{within-append}
 use Rattle.theory_bodies.specs.Lists.{All as AllE, all-map as alle-map}
 use Rattle.theory_bodies.specs.Context.{OwnP, owns-all}
 use Rattle.theory_bodies.specs.Classes.{expr-owned}
@@ -83,13 +84,6 @@ module _ {words tags : List ℕ} {n : ℕ} (src : Source words tags n) where
   in-own k j h = h
 
 -- ---- a word below its class's bound
-abbrev behind : {A : Type 0} → List A → List A
-behind [] = []
-behind (x ∷ xs) = xs
-
-getD-behind : {A : Type 0} (l : List A) (k : ℕ) (d : A) → getD l (suc k) d ≡ getD (behind l) k d
-getD-behind [] k d = refl
-getD-behind (x ∷ l) k d = refl
 
 module _ {words tags : List ℕ} {n : ℕ} (src : Source words tags n) (F : Function) where
   abbrev B : Bounds

@@ -1,4 +1,4 @@
--- Which classes stand in a function's declarations: names, spans, types, bindings, initialisers, and the counts of the lists. So a pass over them meets no Emit, no statement's kind and no function.
+-- Which classes are in a function's declarations: names, spans, types, bindings, initialisers, and the counts of the lists. So a pass over them meets no Emit, no statement's kind and no function.
 use mathlib.Core.Path.{_≡_, refl}
 use mathlib.Core.Logic.{_⊎_, inl, inr}
 use mathlib.Core.Bool.{Bool, true, false, _&&_}
@@ -8,6 +8,7 @@ use Prim.Native.Nat.{ℕ, _+_, _≤_, _<_}
 use native.Mathlib.Omega.{arith}
 use lib.Dec.{eqb}
 use lib.ListN.{getD, getElem?}
+use Rattle.theory_lists.specs.Booleans.{and-split}
 use Rattle.model.specs.Outcome.{Cell, Cells, class}
 use Rattle.model.specs.Table.{Row, WORD, SPAN, UPTO, NAME, TYPE, LOCAL-INIT, FROM, TO, ARGUMENTS, LOCALS, RETURNS, STMT-KIND, functionHead, entryHead, counted}
 use Rattle.model.specs.Tree.{Function, Entry, flatAll, flatList}
@@ -16,15 +17,15 @@ use Rattle.model.specs.FunctionView.{ENTRY-HEAD}
 use Rattle.model.specs.Carry.{Lays, Each, each-none, each-next, WellFunction}
 use Rattle.model.specs.Tables.{codeT}
 use Rattle.model.specs.References.{target, targets}
-use Rattle.theory_image.specs.Lists.{and-split}
 use Rattle.theory_image.specs.Plain.{plain?, plain-classes}
 use Rattle.theory_image.specs.Quiet.{each-append}
-use Rattle.theory_image.specs.FunctionViews.{among, Result, no-result, some-result, result-shape, looked-each, taped-held, taped-entry-head}
+use Rattle.theory_image.specs.FunctionViews.{among, Result, no-result, some-result, result-shape, taped-held, taped-entry-head}
+use Rattle.theory_image.specs.Members.{looked-each}
 use Rattle.theory_bodies.specs.Lists.{All}
 use Rattle.theory_bodies.specs.Classes.{among-elim}
 use Rattle.theory_passes.specs.Pass.{front}
 use Rattle.theory_passes.specs.Passage.{still?, calm?, calm-of}
-use Rattle.derive_state.specs.Refers.{codeP, kindOf}
+use Rattle.derive_state.specs.Refers.{codeP, targetOf}
 use Rattle.derive_state.specs.Source.{modOf, Source}
 use Rattle.function_parts.specs.Part.{Part, Indexed, front-run}
 use Rattle.function_parts.specs.Places.{each-place}
@@ -75,17 +76,17 @@ pub record Declaring (s : ℕ) : Type 0 where
   pub no-from : eqb s FROM ≡ false
   pub no-to : eqb s TO ≡ false
   pub no-kind : eqb s STMT-KIND ≡ false
-  pub no-function : kindOf (target s) ≡ 7 → ⊥
+  pub no-function : targetOf (target s) ≡ 7 → ⊥
   pub calm : (calm? s ≡ true) ⊎ ((s ≡ SPAN) ⊎ (s ≡ UPTO))
 
-calmly : (s : ℕ) → calm? s ≡ true → (kindOf (target s) ≡ 7 → ⊥) → Declaring s
+calmly : (s : ℕ) → calm? s ≡ true → (targetOf (target s) ≡ 7 → ⊥) → Declaring s
 unfolding calm?
 calmly s h f =
     let a = calm-of s h in
     record { no-from = a .no-from; no-to = a .no-to; no-kind = a .no-kind; no-function = f; calm = inl h }
 
 declarings : All Declaring DECLARED
-unfolding calm? still? target targets kindOf codeP codeT
+unfolding calm? still? target targets targetOf codeP codeT
 declarings = (
   calmly WORD refl (λ e. omega arith),
   (

@@ -6,13 +6,13 @@ use native.Mathlib.Omega.{arith}
 use lib.Dec.{ltb}
 use lib.ListN.{length, getD}
 use borrow.Author.Tests.{ltb-true}
+use Rattle.theory_lists.specs.Booleans.{and-split}
 use Rattle.model.specs.Outcome.{class}
 use Rattle.model.specs.Table.{NAME, NAMED, NAMED-EXPR}
 use Rattle.model.specs.Tree.{Function}
 use Rattle.model.specs.Module.{countAt, flatModule}
 use Rattle.model.specs.View.{tables}
 use Rattle.model.specs.Numbers.{caps, bound, below, within, outside, inside}
-use Rattle.theory_image.specs.Lists.{and-split}
 use Rattle.theory_image.specs.Betweens.{held-between, between-next, between-none, table-count}
 use Rattle.theory_image.specs.FunctionViews.{Part as Run, named-class, named-row, named-classes}
 use Rattle.theory_bodies.specs.Passing.{row-in}
@@ -53,14 +53,14 @@ module _ {words tags : List ℕ} {n s end : ℕ} {F : Function} (p : Part words 
         ∙ between-next tags words at (suc (suc at)) (omega arith) (t .in-tags) (t .in-words)
         ∙ ap ((getD tags at 0, getD words at 0) ∷_) (between-next tags words (suc at) (suc (suc at)) (omega arith) (t .in-tags) (t .in-words) ∙ ap ((getD tags (suc at) 0, getD words (suc at) 0) ∷_) (between-none tags words (suc (suc at)) (suc (suc at)) (omega arith)))
 
-    classes : getD tags at 0 ∷ getD tags (suc at) 0 ∷ [] ≡ NAMED-EXPR ∷ NAME ∷ []
-    classes = ap (map class) (sym two) ∙ named-classes (p .stands) i inside-list
+    logtags : getD tags at 0 ∷ getD tags (suc at) 0 ∷ [] ≡ NAMED-EXPR ∷ NAME ∷ []
+    logtags = ap (map class) (sym two) ∙ named-classes (p .stands) i inside-list
 
     first : getD tags at 0 ≡ NAMED-EXPR
-    first = cc classes
+    first = cc logtags
 
     second : getD tags (suc at) 0 ≡ NAME
-    second = cc classes
+    second = cc logtags
 
     both : (getD words at 0 < k) × (getD words (suc at) 0 ≤ countAt 0 words)
     unfolding within bound caps below inside outside tables

@@ -1,4 +1,4 @@
--- A function of a source that passed intake, where its words stand: a function of the table, or the function of an entry point. Its declarations and its body are the cells
+-- A function of a source that passed intake, where its words are: a function of the table, or the function of an entry point. Its declarations and its body are the cells
 -- of the words; the words are read as the code reads them, by the counts and by the places of the expressions (`Indexed`).
 use mathlib.Core.Path.{_≡_, refl, sym, ap, _∙_}
 use mathlib.Core.Bool.{true}
@@ -8,6 +8,7 @@ use Prim.Native.Nat.{ℕ, _+_, _*_, _≤_, _<_}
 use native.Mathlib.Omega.{arith}
 use lib.ListN.{length, getD, getElem?, replicate, length-append, length-replicate}
 use lib.Seq.{slice, sets}
+use Rattle.theory_lists.specs.Lists.{looked-at}
 use Rattle.model.specs.Outcome.{Cells}
 use Rattle.model.specs.Table.{ARGUMENTS, LOCALS, EXPRESSIONS, NAMED}
 use Rattle.model.specs.Tree.{Function, Entry, flat, flatAll, flatList, flatBlock}
@@ -19,7 +20,7 @@ use Rattle.model.specs.Redirect.{nothing, function as functionAt}
 use Rattle.model.specs.Scope.{inScope}
 use Rattle.theory_image.specs.Sections.{startOf, start-end}
 use Rattle.theory_image.specs.Betweens.{held-between}
-use Rattle.theory_image.specs.FunctionViews.{Part as Run, part-end, part-left, part-right, Stands, namedAt, bodyAt, parts, named-count, stands-end, looked-at, taped-length, taped-functions, taped-entries, taped-function, taped-entry}
+use Rattle.theory_image.specs.FunctionViews.{Part as Run, part-end, part-left, part-right, Stands, namedAt, bodyAt, parts, named-count, stands-end, taped-length, taped-functions, taped-entries, taped-function, taped-entry}
 use Rattle.intake_initialisers.specs.Lists.{Lists}
 use Rattle.intake_initialisers.specs.Marks.{finds, Starting}
 use Rattle.intake_initialisers.proofs.Reaching.{starting, many-is, many-few}
@@ -29,7 +30,7 @@ use Rattle.theory_passes.specs.Pass.{front}
 use Rattle.derive_state.specs.Flats.{noEntry}
 use Rattle.derive_state.specs.Source.{modOf, Source}
 
--- F stands from s to end in a source that passed intake
+-- F reaches from s to end in a source that passed intake
 pub record Part (words tags : List ℕ) (n s end : ℕ) (F : Function) : Type 0 where
   pub source : Source words tags n
   pub stands : Stands words tags (flatModule (modOf words n)) s end F
@@ -65,7 +66,7 @@ module _ {words tags : List ℕ} {n : ℕ} (src : Source words tags n) (six : in
   pub entry-part : (j : ℕ) → j < countAt 7 words → Part words tags n (recordAt 7 j words + ENTRY-HEAD) (recordEnd 7 j words) (entry (modOf words n) j .function)
   entry-part j h = part-of-entry j _ (entry-there src j h)
 
--- ---- as the code reads the words: the count of expressions stands at ea, the places where they start are found in the tape, and behind the last stands the count of named expressions
+-- ---- as the code reads the words: the count of expressions is at ea, the places where they start are found in the tags, and the last is followed by the count of named expressions
 abbrev pub placesOf : List ℕ → ℕ → ℕ → List ℕ
 placesOf tags ea end = sets (replicate 1025 0) 0 (finds (ea + 1) (slice (ea + 1) end tags))
 
@@ -84,7 +85,7 @@ pub indexed : (words tags : List ℕ) (s end : ℕ)
     → Indexed words tags s end (expressionsAt s words) (placesOf tags (expressionsAt s words) end) (getD words (expressionsAt s words) 0) (namedOf words tags s end) (namedOf words tags s end + 1 + 2 * getD words (namedOf words tags s end) 0)
 indexed words tags s end = record { ea-is = refl; places-are = refl; k-is = refl; named-is = refl; body-is = refl }
 
--- where its parts stand
+-- where its parts are
 pub record InOrder (s ea named body end : ℕ) : Type 0 where
   pub to-exprs : s ≤ ea
   pub to-named : ea < named
@@ -133,7 +134,7 @@ module _ {words tags : List ℕ} {n s end : ℕ} {F : Function} (p : Part words 
       let c = flatList NAMED (F .named) in
       rw front-end at (part-left a b (part-left (a ++ b) c (part-left (a ++ b ++ c) (flatBlock (F .body)) (rw split at (p .stands .part)))))
 
-  -- behind the count of expressions
+  -- after the count of expressions
   pub tail : Run (flatModule (modOf words n)) (expressionsAt s words + 1) end (flatAll (F .exprs) ++ (flatList NAMED (F .named) ++ flatBlock (F .body)))
   unfolding flatList
   tail =

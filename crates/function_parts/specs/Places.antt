@@ -6,12 +6,13 @@ use Prim.Native.Nat.{ℕ, zero, suc, _+_, _-_, _≤_, _<_}
 use native.Mathlib.Omega.{arith}
 use lib.ListN.{length, getD}
 use borrow.Author.Tests.{eq-eqb, leb-true}
+use Rattle.theory_lists.specs.Booleans.{and-split}
 use Rattle.model.specs.Outcome.{Cell, Cells, class, word}
 use Rattle.model.specs.Table.{FROM}
 use Rattle.model.specs.Carry.{Each}
 use Rattle.model.specs.Numbers.{Bounds, bound, below, within, rising, ordered}
-use Rattle.theory_image.specs.Lists.{and-split}
-use Rattle.theory_image.specs.FunctionViews.{Held, Part as Run, part-end, part-word, part-tag, each-at}
+use Rattle.theory_image.specs.FunctionViews.{Held, Part as Run, part-end, part-word, part-tag}
+use Rattle.theory_image.specs.Members.{each-at}
 
 -- ---- test 3, of a cell
 pub within-at : (b : Bounds) (cs : Cells) → within b cs ≡ true → (j : ℕ) → j < length cs → below (bound b (class (getD cs j (0, 0)))) (word (getD cs j (0, 0))) ≡ true

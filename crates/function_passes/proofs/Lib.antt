@@ -5,6 +5,5 @@ pub mod Ranges
 pub mod Appending
 pub mod Declaring
 pub mod Body
-pub mod Quiets
 pub mod Calm
 pub mod Declared

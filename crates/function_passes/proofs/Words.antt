@@ -1,4 +1,4 @@
--- One word of a function: whether the span at it is undefined, what an atomic statement compares, what the word brings, and what becomes of it. Assumes nothing.
+-- One word of a function: whether the span at it is undefined, what an atomic statement compares, what the word imports, and what becomes of it.
 use mathlib.Core.Path.{_≡_, refl, sym, ap, _∙_}
 use mathlib.Core.Bool.{Bool, true, false}
 use mathlib.Core.List.{List, [], _∷_}
@@ -15,15 +15,15 @@ use Rattle.model.specs.Between.{between, Stretch}
 use Rattle.model.specs.Carry.{carryCell}
 use Rattle.model.specs.Operands.{optional}
 use Rattle.model.specs.References.{Target, targets, target, refOf, refs, carryW, through, firstWord, moved}
-use Rattle.model.specs.Bodies.{Making, went, compareOf, comparesOf, eachE}
+use Rattle.model.specs.Bodies.{Builder, mappedTo, compareOf, comparesOf, eachE}
 use Rattle.theory_records.specs.RecordLaws.{All, all-map, rest-of}
 use Rattle.theory_passes.specs.Pass.{atomicKind, arrive, first, both, early, passed, wordOf}
 use Rattle.theory_passes.specs.Cases.{early-atomic}
 use Rattle.theory_passes.specs.Light.{still}
 use Rattle.theory_image.specs.Betweens.{between-none, between-next}
 use Rattle.derive_state.specs.Source.{modOf, srcOf, refersTo, numberOf}
-use Rattle.derive_state.specs.Held.{Kept, Lands}
-use Rattle.derive_state.specs.declared.Ends.{Ends}
+use Rattle.derive_state.specs.Held.{ValidArrays, Lands}
+use Rattle.derive_state.specs.declared.Sizes.{Sizes}
 use Rattle.function_references.specs.Fits.{Fits, FitN, recordOf}
 use Rattle.function_outside.proofs.Cells.{arrive-still, arrive-own, arrive-none, fit-own, fit-table}
 use Rattle.function_builder.specs.Stacks.{wentOf, makingOf, Under}
@@ -32,27 +32,6 @@ use Rattle.function_builder.proofs.Stack.{fit-more}
 use Rattle.function_builder.proofs.Went.{carried-is}
 use Rattle.function_builder.proofs.Then.{makes-lift}
 use Rattle.function_passes.proofs.Running.{makes-as, makes-idle}
-
--- ---- the word behind
-pub first-some : (tags words : List ℕ) (i end : ℕ) → i + 1 < end → end ≤ length tags → end ≤ length words → getD words (i + 1) 0 ≡ firstWord (between tags words (suc i) end)
-unfolding firstWord
-first-some tags words i end h t w = rw (add-one i, between-next tags words (suc i) end (omega arith) t w)
-
-pub first-none : (tags words : List ℕ) (i end : ℕ) → end ≤ i + 1 → 0 ≡ firstWord (between tags words (suc i) end)
-unfolding firstWord
-first-none tags words i end h = rw (between-none tags words (suc i) end (omega arith))
-
-pub zero-first : (w next : ℕ) → 0 ≡ next → eqb w 0 ≡ eqb (w + next) 0
-zero-first w next z = let y : w + next ≡ w = omega arith in rw y
-
--- ---- atomic statements
-pub atomic-13 : (k : ℕ) → k ≡ 13 → true ≡ atomicKind k
-unfolding atomicKind
-atomic-13 k e = rw e
-
-pub atomic-16 : (k : ℕ) → (k ≡ 13 → ⊥) → eqb k 16 ≡ atomicKind k
-unfolding atomicKind
-atomic-16 k ne = rw (ne-eqb k 13 ne)
 
 -- what they compare: the words from k on say it as all of them do
 pub record Comparing (words tags : List ℕ) (i end k : ℕ) : Type 0 where
@@ -96,7 +75,7 @@ module _ {words tags : List ℕ} {i end k : ℕ} (inv : Comparing words tags i e
         unfolding compareOf optional
         compare-other ne = rw (ne-eqb (getD tags (k + 1) 0) OPT-EXPR ne, compareOf) at second
 
--- the words behind one
+-- the words after one
 pub compared-as : (tags words : List ℕ) (i end x : ℕ) → optional x [] ≡ comparesOf (between tags words (i + 1) end) → optional x [] ≡ comparesOf (between tags words (suc i) end)
 compared-as tags words i end x e = rw (add-one i) at e
 
@@ -134,57 +113,57 @@ module _ (words : List ℕ) (k : ℕ) where
   compare-low cs a zero r e ne q = absurd (ne refl)
   compare-low cs a (suc y) r e ne q = let h = (rw (← e) at (compares-lows cs a)) .0 in omega arith
 
--- ---- what a word brings: p imports an expression, q is an Emit's first pass
-module _ (o : ℕ) (M : Module) (p q : ℕ → Making → Making) where
-  pub early-none : (w : ℕ) (cs : Cells) (m : Making) → optional 0 [] ≡ comparesOf cs → early o M still p q w cs m ≡ m
+-- ---- what a word imports: p imports an expression, q is an Emit's first pass
+module _ (o : ℕ) (M : Module) (p q : ℕ → Builder → Builder) where
+  pub early-none : (w : ℕ) (cs : Cells) (m : Builder) → optional 0 [] ≡ comparesOf cs → early o M still p q w cs m ≡ m
   unfolding early optional eachE
   early-none w cs m e = go (atomicKind w)
     where
-      go : (b : Bool) → _≡_ {A = Making} (elim b [ true ↦ eachE (comparesOf cs) p m | false ↦ m ]) m
+      go : (b : Bool) → _≡_ {A = Builder} (elim b [ true ↦ eachE (comparesOf cs) p m | false ↦ m ]) m
       go true = rw (← e)
       go false = refl
 
-  pub early-one : (w : ℕ) (cs : Cells) (m : Making) → atomicKind w ≡ true → (x r : ℕ) → optional x [] ≡ comparesOf cs → (x ≡ 0 → ⊥) → r ≡ x - 1 → early o M still p q w cs m ≡ p r m
+  pub early-one : (w : ℕ) (cs : Cells) (m : Builder) → atomicKind w ≡ true → (x r : ℕ) → optional x [] ≡ comparesOf cs → (x ≡ 0 → ⊥) → r ≡ x - 1 → early o M still p q w cs m ≡ p r m
   unfolding optional eachE
   early-one w cs m h zero r e ne z = absurd (ne refl)
   early-one w cs m h (suc y) r e ne z = early-atomic o M still p q w cs m h ∙ rw (← e) (let z′ : r ≡ y = omega arith in rw z′)
 
   -- ---- one cell, by its class
-  pub passed-from : (s w : ℕ) (cs : Cells) (m : Making) → s ≡ FROM → passed o M still p q (s, w) cs m ≡ both o M still p q w (firstWord cs) m
+  pub passed-from : (s w : ℕ) (cs : Cells) (m : Builder) → s ≡ FROM → passed o M still p q (s, w) cs m ≡ both o M still p q w (firstWord cs) m
   unfolding passed
   passed-from s w cs m e = rw e
 
-  pub word-from : (s w : ℕ) (cs : Cells) (u : Bool) (m : Making) → s ≡ FROM → wordOf o M still p q (s, w) cs u m ≡ length (first o M still p q w (firstWord cs) m .made)
+  pub word-from : (s w : ℕ) (cs : Cells) (u : Bool) (m : Builder) → s ≡ FROM → wordOf o M still p q (s, w) cs u m ≡ length (first o M still p q w (firstWord cs) m .made)
   unfolding wordOf
   word-from s w cs u m e = rw e
 
-  pub passed-to : (s w : ℕ) (cs : Cells) (m : Making) → s ≡ TO → passed o M still p q (s, w) cs m ≡ m
+  pub passed-to : (s w : ℕ) (cs : Cells) (m : Builder) → s ≡ TO → passed o M still p q (s, w) cs m ≡ m
   unfolding passed arrive target targets
   passed-to s w cs m e = rw e
 
-  pub word-to : (s w : ℕ) (cs : Cells) (u : Bool) (m : Making) → s ≡ TO → wordOf o M still p q (s, w) cs u m ≡ length (m .made)
+  pub word-to : (s w : ℕ) (cs : Cells) (u : Bool) (m : Builder) → s ≡ TO → wordOf o M still p q (s, w) cs u m ≡ length (m .made)
   unfolding wordOf
   word-to s w cs u m e = rw e
 
-  pub passed-kind : (s w : ℕ) (cs : Cells) (m : Making) → s ≡ STMT-KIND → passed o M still p q (s, w) cs m ≡ early o M still p q w cs m
+  pub passed-kind : (s w : ℕ) (cs : Cells) (m : Builder) → s ≡ STMT-KIND → passed o M still p q (s, w) cs m ≡ early o M still p q w cs m
   unfolding passed
   passed-kind s w cs m e = rw e
 
-  pub word-kind : (s w : ℕ) (cs : Cells) (u : Bool) (m : Making) → s ≡ STMT-KIND → wordOf o M still p q (s, w) cs u m ≡ w
+  pub word-kind : (s w : ℕ) (cs : Cells) (u : Bool) (m : Builder) → s ≡ STMT-KIND → wordOf o M still p q (s, w) cs u m ≡ w
   unfolding wordOf target targets moved through carryW
   word-kind s w cs u m e = rw e
 
-  pub passed-plain : (s w : ℕ) (cs : Cells) (m : Making) → (s ≡ FROM → ⊥) → (s ≡ STMT-KIND → ⊥) → passed o M still p q (s, w) cs m ≡ arrive o M still p q (target s) w m
+  pub passed-plain : (s w : ℕ) (cs : Cells) (m : Builder) → (s ≡ FROM → ⊥) → (s ≡ STMT-KIND → ⊥) → passed o M still p q (s, w) cs m ≡ arrive o M still p q (target s) w m
   unfolding passed
   passed-plain s w cs m nf nk = rw (ne-eqb s FROM nf, passed, ne-eqb s STMT-KIND nk)
 
-  pub word-plain : (s w : ℕ) (cs : Cells) (u : Bool) (m : Making) → (s ≡ FROM → ⊥) → (s ≡ TO → ⊥) → (s ≡ STMT-KIND → ⊥) → wordOf o M still p q (s, w) cs u m ≡ moved (target s) (through (went M (arrive o M still p q (target s) w m)) s w) o u
+  pub word-plain : (s w : ℕ) (cs : Cells) (u : Bool) (m : Builder) → (s ≡ FROM → ⊥) → (s ≡ TO → ⊥) → (s ≡ STMT-KIND → ⊥) → wordOf o M still p q (s, w) cs u m ≡ moved (target s) (through (mappedTo M (arrive o M still p q (target s) w m)) s w) o u
   unfolding wordOf
   word-plain s w cs u m nf nt nk = rw (ne-eqb s FROM nf, wordOf, ne-eqb s TO nt, passed-plain s w cs m nf nk)
 
 -- ---- a word of the class s: what it refers to, by the code t of the table and the number h
-module _ (words : List ℕ) (n k o : ℕ) (p q : ℕ → Making → Making) (s w : ℕ) (t h : ℕ) (ht : t ≡ refersTo (target s) w) (hh : h ≡ numberOf (target s) w) where
-  abbrev brings : Making → Making
+module _ (words : List ℕ) (n k o : ℕ) (p q : ℕ → Builder → Builder) (s w : ℕ) (t h : ℕ) (ht : t ≡ refersTo (target s) w) (hh : h ≡ numberOf (target s) w) where
+  abbrev brings : Builder → Builder
   brings = arrive o (modOf words n) still p q (target s) w
 
   pub record-low : All (FitN words k) (refOf (target s) w []) → s < EXPR → t < 6 → h < countAt t words
@@ -193,18 +172,18 @@ module _ (words : List ℕ) (n k o : ℕ) (p q : ℕ → Making → Making) (s w
   pub expression-low : All (FitN words k) (refOf (target s) w []) → EXPR ≤ s → t ≡ 5 → (e : ℕ) → e ≡ h → e < k
   expression-low fits l z e is = rw (is, hh) (fit-own words k s w l (sym ht ∙ z) fits)
 
-  module _ {log₀ tags₀ : List ℕ} {starts₀ maps₀ : List (List ℕ)} {marks₀ : List ℕ} {e₀ : Ends} (K₀ : Kept log₀ tags₀ starts₀ maps₀ marks₀ e₀) {em₀ : List ℕ} {stacks₀ : List (List ℕ)} {e₁ : ℕ} (U₀ : Under k em₀ stacks₀ e₁ e₀) where
-    pub brings-record : s < EXPR → {r : Ends} {log tags : List ℕ} {starts maps : List (List ℕ)} {marks : List ℕ} → Lands words (recordOf o (srcOf words n) t h) log₀ tags₀ starts₀ maps₀ marks₀ e₀ r log tags starts maps marks
-        → Makes words k brings log₀ tags₀ starts₀ maps₀ marks₀ em₀ stacks₀ e₁ e₀ r log tags starts maps marks em₀ stacks₀
+  module _ {log₀ logtags₀ : List ℕ} {starts₀ maps₀ : List (List ℕ)} {buckets₀ : List ℕ} {e₀ : Sizes} (K₀ : ValidArrays log₀ logtags₀ starts₀ maps₀ buckets₀ e₀) {exprmap₀ : List ℕ} {stacks₀ : List (List ℕ)} {e₁ : ℕ} (U₀ : Under k exprmap₀ stacks₀ e₁ e₀) where
+    pub brings-record : s < EXPR → {r : Sizes} {log logtags : List ℕ} {starts maps : List (List ℕ)} {buckets : List ℕ} → Lands words (recordOf o (srcOf words n) t h) log₀ logtags₀ starts₀ maps₀ buckets₀ e₀ r log logtags starts maps buckets
+        → Makes words k brings log₀ logtags₀ starts₀ maps₀ buckets₀ exprmap₀ stacks₀ e₁ e₀ r log logtags starts maps buckets exprmap₀ stacks₀
     unfolding srcOf
-    brings-record l {r} {log} {tags} {starts} {maps} {marks} L =
-        makes-as (makes-lift words k e₁ log₀ tags₀ starts₀ maps₀ marks₀ em₀ stacks₀ e₀ K₀ U₀ (recordOf o (srcOf words n) t h) r log tags starts maps marks L) (λ m. rw (ht, hh) (arrive-still o (modOf words n) p q s w m l))
+    brings-record l {r} {log} {logtags} {starts} {maps} {buckets} L =
+        makes-as (makes-lift words k e₁ log₀ logtags₀ starts₀ maps₀ buckets₀ exprmap₀ stacks₀ e₀ K₀ U₀ (recordOf o (srcOf words n) t h) r log logtags starts maps buckets L) (λ m. rw (ht, hh) (arrive-still o (modOf words n) p q s w m l))
 
-    pub brings-nothing : EXPR ≤ s → (t ≡ 5 → ⊥) → e₀ .full ≡ false → Makes words k brings log₀ tags₀ starts₀ maps₀ marks₀ em₀ stacks₀ e₁ e₀ e₀ log₀ tags₀ starts₀ maps₀ marks₀ em₀ stacks₀
+    pub brings-nothing : EXPR ≤ s → (t ≡ 5 → ⊥) → e₀ .full ≡ false → Makes words k brings log₀ logtags₀ starts₀ maps₀ buckets₀ exprmap₀ stacks₀ e₁ e₀ e₀ log₀ logtags₀ starts₀ maps₀ buckets₀ exprmap₀ stacks₀
     brings-nothing l ne nf = makes-idle K₀ U₀ nf (λ m. arrive-none o (modOf words n) still p q s w m l (λ z. ne (ht ∙ z)))
 
-  pub brings-expression : EXPR ≤ s → t ≡ 5 → {e : ℕ} → e ≡ h → {log₀ tags₀ : List ℕ} {starts₀ maps₀ : List (List ℕ)} {marks₀ em₀ : List ℕ} {stacks₀ : List (List ℕ)} {e₁ : ℕ} {e₀ r : Ends} {log tags : List ℕ} {starts maps : List (List ℕ)} {marks em : List ℕ} {stacks : List (List ℕ)}
-      → Makes words k (p e) log₀ tags₀ starts₀ maps₀ marks₀ em₀ stacks₀ e₁ e₀ r log tags starts maps marks em stacks → Makes words k brings log₀ tags₀ starts₀ maps₀ marks₀ em₀ stacks₀ e₁ e₀ r log tags starts maps marks em stacks
+  pub brings-expression : EXPR ≤ s → t ≡ 5 → {e : ℕ} → e ≡ h → {log₀ logtags₀ : List ℕ} {starts₀ maps₀ : List (List ℕ)} {buckets₀ exprmap₀ : List ℕ} {stacks₀ : List (List ℕ)} {e₁ : ℕ} {e₀ r : Sizes} {log logtags : List ℕ} {starts maps : List (List ℕ)} {buckets exprmap : List ℕ} {stacks : List (List ℕ)}
+      → Makes words k (p e) log₀ logtags₀ starts₀ maps₀ buckets₀ exprmap₀ stacks₀ e₁ e₀ r log logtags starts maps buckets exprmap stacks → Makes words k brings log₀ logtags₀ starts₀ maps₀ buckets₀ exprmap₀ stacks₀ e₁ e₀ r log logtags starts maps buckets exprmap stacks
   brings-expression l z {e} is A = makes-as A (λ m. arrive-own o (modOf words n) still p q s w m l (sym ht ∙ z) ∙ ap (λ x. p x m) (sym (is ∙ hh)))
 
 -- ---- what becomes of it
@@ -212,10 +191,10 @@ module _ (words : List ℕ) (n k o : ℕ) (p q : ℕ → Making → Making) (s w
 pub fits-all : (words : List ℕ) {k : ℕ} (g : Target) (w : ℕ) → k ≤ 1024 → All (FitN words k) (refOf g w []) → All (FitN words 1024) (refOf g w [])
 fits-all words {k} g w l a = all-map (refOf g w []) (fit-more words k 1024 l) a
 
-pub pushed-as : {w w′ : ℕ} {stacks₀ stacks : List (List ℕ)} {e r : Ends} → w ≡ w′ → Pushed w stacks₀ e r stacks → Pushed w′ stacks₀ e r stacks
+pub pushed-as : {w w′ : ℕ} {stacks₀ stacks : List (List ℕ)} {e r : Sizes} → w ≡ w′ → Pushed w stacks₀ e r stacks → Pushed w′ stacks₀ e r stacks
 pushed-as q P = rw q at P
 
-pub through-is : (words : List ℕ) (n k : ℕ) (log tags : List ℕ) (starts maps : List (List ℕ)) (special : List ℕ) (e : Ends) (em : List ℕ) (stacks : List (List ℕ)) (e₁ s w : ℕ) → All (FitN words k) (refOf (target s) w [])
-    → through (wentOf words n log tags starts maps e em) s w ≡ through (went (modOf words n) (makingOf words k log tags starts maps special e em stacks e₁)) s w
+pub through-is : (words : List ℕ) (n k : ℕ) (log logtags : List ℕ) (starts maps : List (List ℕ)) (special : List ℕ) (e : Sizes) (exprmap : List ℕ) (stacks : List (List ℕ)) (e₁ s w : ℕ) → All (FitN words k) (refOf (target s) w [])
+    → through (wentOf words n log logtags starts maps e exprmap) s w ≡ through (mappedTo (modOf words n) (makingOf words k log logtags starts maps special e exprmap stacks e₁)) s w
 unfolding carryCell refs firstWord
-through-is words n k log tags starts maps special e em stacks e₁ s w a = sym (ap firstWord (carried-is words n k log tags starts maps special e em stacks e₁ ((s, w) ∷ []) a))
+through-is words n k log logtags starts maps special e exprmap stacks e₁ s w a = sym (ap firstWord (carried-is words n k log logtags starts maps special e exprmap stacks e₁ ((s, w) ∷ []) a))

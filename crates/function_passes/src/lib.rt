@@ -1,105 +1,97 @@
-// Passes over the words of a function: each is written at once on the stack of words, by the maps as they are at its turn. What a word needs of those behind it
-// is read ahead: of a span's start whether the span is undefined, of an Emit's start its end, of an atomic statement what it compares. Words that bring nothing
-// are written in runs.
+// Passes over the words of a function: each word is written at once on the stack of words, by the maps as they are at its turn. What a word needs of those after
+// it is read ahead: of a span's start whether the span is undefined, of an Emit's start its end, of an atomic statement what it compares. Words that import
+// nothing are written in runs.
 use base_classes::ATOMIC;
 use base_classes::EXPR;
 use base_classes::FROM;
 use base_classes::OPT_EXPR;
-use base_classes::SPAN;
 use base_classes::STMT_KIND;
 use base_classes::TO;
 use base_views::EXPRESSIONS;
+use base_words::Tags;
+use base_words::Words;
 use base_words::wide;
-use derive_state::Ends;
-use derive_state::FUNCTION;
-use derive_state::NOTHING;
-use derive_state::kind_of;
+use derive_state::Buckets;
+use derive_state::ExprMap;
+use derive_state::Log;
+use derive_state::LogTags;
+use derive_state::Maps;
+use derive_state::Places;
+use derive_state::Sizes;
+use derive_state::StackRows;
+use derive_state::Starts;
+use derive_state::Targets;
 use derive_state::moved;
 use derive_types::refers_to;
-use function_builder::BODY;
 use function_builder::append;
-use function_builder::by_maps;
 use function_builder::carried;
 use function_builder::push;
-use function_expressions::glance;
-use function_expressions::need;
+use function_expressions::import_operand;
+use function_expressions::import_standing;
 use function_expressions::unique;
 use function_outside::import_by_table;
 use function_outside::import_record;
+use function_runs::atomic;
+use function_runs::copy_mapped_run;
+use function_runs::span_undefined;
 ghost use mathlib.Core.Path.{_≡_};
-ghost use mathlib.Core.Bool.{true, false};
+ghost use mathlib.Core.Bool.{false};
 ghost use mathlib.Core.List.{List, [], _∷_, map};
 ghost use Prim.Native.Nat.{ℕ, suc, _≤_, _<_, _+_};
 ghost use lib.ListN.{length, getD};
 ghost use Rattle.model.specs.Outcome.{word};
-ghost use Rattle.model.specs.Table.{EXPR as EXPR′};
 ghost use Rattle.model.specs.Between.{between, Stretch};
 ghost use Rattle.model.specs.Operands.{optional};
-ghost use Rattle.model.specs.References.{target, refOf, through, firstWord, undefinedAt, moved as movedOf};
+ghost use Rattle.model.specs.References.{target, refOf, through, moved as movedOf};
 ghost use Rattle.model.specs.Scope.{inRange};
-ghost use Rattle.model.specs.Bodies.{Making, comparesOf, eachE};
+ghost use Rattle.model.specs.Bodies.{Builder, comparesOf, eachE};
 ghost use Rattle.theory_records.specs.RecordLaws.{All};
-ghost use Rattle.theory_passes.specs.Pass.{atomicKind, arrive as arriveE, first, both, early, passed, wordOf, after, written};
+ghost use Rattle.theory_passes.specs.Pass.{arrive as arriveE, first, both, early, passed, wordOf, after, written};
 ghost use Rattle.theory_passes.specs.Light.{still};
-ghost use Rattle.derive_state.specs.Refers.{kindOf, kindBytes};
-ghost use Rattle.derive_state.specs.Source.{modOf, refersTo, numberOf};
-ghost use Rattle.derive_state.specs.Held.{Kept};
+ghost use Rattle.derive_state.specs.Source.{modOf};
+ghost use Rattle.derive_state.specs.Held.{ValidArrays};
 ghost use Rattle.derive_lookup.specs.Bearing.{Bearing};
 ghost use Rattle.function_references.specs.Fits.{FitN, Ground, Legible};
 ghost use Rattle.function_references.specs.Cuts.{Expressions};
-ghost use Rattle.function_builder.specs.Stacks.{wentBy, wentOf, Stacks, Under};
+ghost use Rattle.function_builder.specs.Stacks.{wentOf, Stacks, Under};
 ghost use Rattle.function_builder.specs.Makes.{Makes, Lays, Pushed};
-ghost use Rattle.function_passes.specs.Runs.{unites, needs, glances, Declares, Bodied, Drawn, Quiet, becomes, Ran, Runs};
+ghost use Rattle.function_passes.specs.Runs.{unites, needs, glances, Declares, Bodied, Drawn, Runs};
 
-// Whether the span last met is undefined, once word i is read.
-pub fn flag(words: &[u32; 16384], tags: &[u8; 16384], i: usize, end: usize, u: bool) -> bool
-    requires { ⌜ (Stretch (now words) (now tags) i end) × (i < end) ⌝ }
-    ensures { λ r. ⌜ r ≡ undefinedAt (target (getD (now (tags .entry)) i 0)) (getD (now (words .entry)) i 0) (firstWord (between (now (tags .entry)) (now (words .entry)) (suc i) end)) u ⌝ }
-{
-    if tags[i] != SPAN {
-        return u;
-    }
-    if i + 1 < end {
-        return wide(words[i]) + wide(words[i + 1]) == 0;
-    }
-    words[i] == 0
-}
-
-// Word i through the maps, with its span moved, on the stack.
+// Pushes word i on the stack, carried through the maps and with its span moved.
 pub fn put_word(
-    words: &[u32; 16384],
-    tags: &[u8; 16384],
-    kinds: &[u8; 256],
+    words: &Words,
+    tags: &Tags,
+    targets: &Targets,
     n: usize,
-    log: &[u32; 16384],
-    classes: &[u8; 16384],
-    starts: &[[u32; 512]; 8],
-    maps: &[[u32; 512]; 6],
-    em: &[u16; 1024],
-    stacks: &mut [[u32; 16384]; 4],
-    ends: Ends,
+    log: &Log,
+    logtags: &LogTags,
+    starts: &Starts,
+    maps: &Maps,
+    exprmap: &ExprMap,
+    stacks: &mut StackRows,
+    ends: Sizes,
     offset: u32,
     i: usize,
     u: bool,
-) -> Ends
-    requires { ⌜ Ground (now words) (now tags) (now kinds) n ⌝ }
-    requires { ⌜ Bearing (now log) (now classes) (now starts) ends ⌝ }
+) -> Sizes
+    requires { ⌜ Ground (now words) (now tags) (now targets) n ⌝ }
+    requires { ⌜ Bearing (now log) (now logtags) (now starts) ends ⌝ }
     requires { ⌜ length (now maps) ≡ 6 ⌝ }
     requires { ⌜ (i < 16384) × (All (FitN (now words) 1024) (refOf (target (getD (now tags) i 0)) (getD (now words) i 0) [])) ⌝ }
     requires { ⌜ Stacks (now stacks) ends ⌝ }
-    ensures { λ r. ⌜ Pushed (movedOf (target (getD (now (tags .entry)) i 0)) (through (wentOf (now (words .entry)) n (now (log .entry)) (now (classes .entry)) (now (starts .entry)) (now (maps .entry)) ends (now (em .entry))) (getD (now (tags .entry)) i 0) (getD (now (words .entry)) i 0)) offset u) (now (stacks .entry)) ends r (now (stacks .exit)) ⌝ }
+    ensures { λ r. ⌜ Pushed (movedOf (target (getD (now (tags .entry)) i 0)) (through (wentOf (now (words .entry)) n (now (log .entry)) (now (logtags .entry)) (now (starts .entry)) (now (maps .entry)) ends (now (exprmap .entry))) (getD (now (tags .entry)) i 0) (getD (now (words .entry)) i 0)) offset u) (now (stacks .entry)) ends r (now (stacks .exit)) ⌝ }
 {
     let s = tags[i];
     let w = carried(
         words,
         tags,
-        kinds,
+        targets,
         n,
         log,
-        classes,
+        logtags,
         starts,
         maps,
-        em,
+        exprmap,
         ends,
         s,
         words[i],
@@ -107,179 +99,64 @@ pub fn put_word(
     push(stacks, ends, moved(s, w, offset, u))
 }
 
-// Whether the word w of the class s brings nothing: it names no function, starts no Emit and no atomic statement, and what it refers to is mapped.
-fn ready(kinds: &[u8; 256], maps: &[[u32; 512]; 6], em: &[u16; 1024], s: u8, w: u32) -> bool
-    requires { ⌜ now kinds ≡ kindBytes ⌝ }
-    requires { ⌜ (s < EXPR′ → refersTo (target s) w < 6 → numberOf (target s) w < 512) × (EXPR′ ≤ s → refersTo (target s) w ≡ 5 → numberOf (target s) w < 1024) ⌝ }
-    ensures { λ r. ⌜ (r ≡ true → Quiet (now (maps .entry)) (now (em .entry)) s w) ⌝ }
-{
-    let u = kind_of(kinds, s);
-    if u == NOTHING {
-        if s == FROM {
-            return false;
-        }
-        if s == STMT_KIND {
-            return !atomic(w);
-        }
-        return true;
-    }
-    if u == FUNCTION {
-        return false;
-    }
-    let r = refers_to(kinds, s, w);
-    let t = r.table;
-    let h = wide(r.number);
-    if s < EXPR {
-        if EXPRESSIONS < t {
-            return true;
-        }
-        return maps[t][h] != 0;
-    }
-    if t == EXPRESSIONS {
-        return em[h] != 0;
-    }
-    true
-}
-
-// What such a word becomes, where so many expressions are made: that is the end of an Emit's range; any other goes through the maps, with its span moved.
-fn carry(
-    kinds: &[u8; 256],
-    maps: &[[u32; 512]; 6],
-    em: &[u16; 1024],
-    made: usize,
-    offset: u32,
-    s: u8,
-    w: u32,
-    u: bool,
-) -> u32
-    requires { ⌜ now kinds ≡ kindBytes ⌝ }
-    requires { ⌜ length (now maps) ≡ 6 ⌝ }
-    requires { ⌜ (kindOf (target s) ≡ 7 → ⊥) × (made ≤ 16384) ⌝ }
-    requires { ⌜ ((ws : List ℕ) × All (FitN ws 1024) (refOf (target s) w [])) ⌝ }
-    ensures { λ r. ⌜ r ≡ becomes (wentBy (now (maps .entry)) (now (em .entry))) made offset s w u ⌝ }
-{
-    if s == TO {
-        return made as u32;
-    }
-    moved(s, by_maps(kinds, maps, em, s, w), offset, u)
-}
-
-// How far words were written, and whether the span last met is then undefined.
-pub struct Reach {
-    pub at: usize,
-    pub undefined: bool,
-}
-
-// The words from `at` on, written from place `bt` of the stack on, one behind the other, as long as they bring nothing and there is room. Most words bring
-// nothing, and the ends of the tables need not go along with each of them.
-pub fn run(
-    words: &[u32; 16384],
-    tags: &[u8; 16384],
-    kinds: &[u8; 256],
-    maps: &[[u32; 512]; 6],
-    em: &[u16; 1024],
-    stacks: &mut [[u32; 16384]; 4],
-    made: usize,
-    bt: usize,
-    offset: u32,
-    at: usize,
-    end: usize,
-    undefined: bool,
-) -> Reach
-    requires { ⌜ now kinds ≡ kindBytes ⌝ }
-    requires { ⌜ length (now maps) ≡ 6 ⌝ }
-    requires { ⌜ (Legible (now words) (now tags) 1024 at end) × (bt ≤ 16384) × (made ≤ 16384) ⌝ }
-    ensures { λ r. ⌜ Ran (now (words .entry)) (now (tags .entry)) (now (maps .entry)) (now (em .entry)) (wentBy (now (maps .entry)) (now (em .entry))) made offset at end bt undefined (now (stacks .entry)) (r .at) (r .undefined) (now (stacks .exit)) ⌝ }
-{
-    let mut i = at;
-    let mut p = bt;
-    let mut u = undefined;
-    while i < end {
-        let s = tags[i];
-        let w = words[i];
-        if p == 16384 {
-            return Reach {
-                at: i,
-                undefined: u,
-            };
-        }
-        if !ready(kinds, maps, em, s, w) {
-            return Reach {
-                at: i,
-                undefined: u,
-            };
-        }
-        let j = i;
-        let q = p;
-        i += 1;
-        p += 1;
-        u = flag(words, tags, j, end, u);
-        stacks[BODY][q] = carry(kinds, maps, em, made, offset, s, w, u);
-    }
-    Reach {
-        at: i,
-        undefined: u,
-    }
-}
-
 // So many words more on the stack of words.
-pub fn longer(e: Ends, n: usize) -> Ends
-    requires { ⌜ e .bt + n ≤ 16384 ⌝ }
-    ensures { λ r. ⌜ r ≡ record { full = false; used = e .used; counts = e .counts; pairs = e .pairs; et = e .et; bt = e .bt + n; made = e .made } ⌝ }
+pub fn advance(e: Sizes, n: usize) -> Sizes
+    requires { ⌜ e .bodytop + n ≤ 16384 ⌝ }
+    ensures { λ r. ⌜ r ≡ record { full = false; loglen = e .loglen; counts = e .counts; pairs = e .pairs; exprtop = e .exprtop; bodytop = e .bodytop + n; made = e .made } ⌝ }
 {
     let c = e.counts;
-    Ends {
+    Sizes {
         full: false,
-        used: e.used,
+        loglen: e.loglen,
         counts: c,
         pairs: e.pairs,
-        et: e.et,
-        bt: (e.bt as usize + n) as u16,
+        exprtop: e.exprtop,
+        bodytop: (e.bodytop as usize + n) as u16,
         made: e.made,
     }
 }
 
-// What word i of declarations refers to: an expression of an initialiser, or a record of a table.
-fn unite(
-    words: &[u32; 16384],
-    tags: &[u8; 16384],
-    kinds: &[u8; 256],
+// Imports what word i of declarations refers to: an expression of an initialiser, or a record of a table.
+fn import_declaration_word(
+    words: &Words,
+    tags: &Tags,
+    targets: &Targets,
     n: usize,
-    places: &[u16; 1025],
-    log: &mut [u32; 16384],
-    classes: &mut [u8; 16384],
-    starts: &mut [[u32; 512]; 8],
-    maps: &mut [[u32; 512]; 6],
-    marks: &mut [u16; 16384],
-    em: &mut [u16; 1024],
-    stacks: &mut [[u32; 16384]; 4],
-    ends: Ends,
+    places: &Places,
+    log: &mut Log,
+    logtags: &mut LogTags,
+    starts: &mut Starts,
+    maps: &mut Maps,
+    buckets: &mut Buckets,
+    exprmap: &mut ExprMap,
+    stacks: &mut StackRows,
+    ends: Sizes,
     offset: u32,
     e1: usize,
     k: usize,
     i: usize,
-) -> Ends
-    requires { ⌜ Ground (now words) (now tags) (now kinds) n ⌝ }
+) -> Sizes
+    requires { ⌜ Ground (now words) (now tags) (now targets) n ⌝ }
     requires { ⌜ Expressions (now words) (now tags) (now places) k ⌝ }
     requires { ⌜ (i < 16384) × (All (FitN (now words) k) (refOf (target (getD (now tags) i 0)) (getD (now words) i 0) [])) ⌝ }
     requires { ⌜ ends .full ≡ false ⌝ }
-    requires { ⌜ Kept (now log) (now classes) (now starts) (now maps) (now marks) ends ⌝ }
-    requires { ⌜ Under k (now em) (now stacks) e1 ends ⌝ }
-    ensures { λ r. ⌜ Makes (now (words .entry)) k (arriveE offset (modOf (now (words .entry)) n) still (unites offset (now (words .entry)) (now (tags .entry)) n (now (places .entry)) k) (unites offset (now (words .entry)) (now (tags .entry)) n (now (places .entry)) k) (target (getD (now (tags .entry)) i 0)) (getD (now (words .entry)) i 0)) (now (log .entry)) (now (classes .entry)) (now (starts .entry)) (now (maps .entry)) (now (marks .entry)) (now (em .entry)) (now (stacks .entry)) e1 ends r (now (log .exit)) (now (classes .exit)) (now (starts .exit)) (now (maps .exit)) (now (marks .exit)) (now (em .exit)) (now (stacks .exit)) ⌝ }
+    requires { ⌜ ValidArrays (now log) (now logtags) (now starts) (now maps) (now buckets) ends ⌝ }
+    requires { ⌜ Under k (now exprmap) (now stacks) e1 ends ⌝ }
+    ensures { λ r. ⌜ Makes (now (words .entry)) k (arriveE offset (modOf (now (words .entry)) n) still (unites offset (now (words .entry)) (now (tags .entry)) n (now (places .entry)) k) (unites offset (now (words .entry)) (now (tags .entry)) n (now (places .entry)) k) (target (getD (now (tags .entry)) i 0)) (getD (now (words .entry)) i 0)) (now (log .entry)) (now (logtags .entry)) (now (starts .entry)) (now (maps .entry)) (now (buckets .entry)) (now (exprmap .entry)) (now (stacks .entry)) e1 ends r (now (log .exit)) (now (logtags .exit)) (now (starts .exit)) (now (maps .exit)) (now (buckets .exit)) (now (exprmap .exit)) (now (stacks .exit)) ⌝ }
 {
     let s = tags[i];
-    let r = refers_to(kinds, s, words[i]);
+    let r = refers_to(targets, s, words[i]);
     if s < EXPR {
         return import_by_table(
             words,
             tags,
-            kinds,
+            targets,
             n,
             log,
-            classes,
+            logtags,
             starts,
             maps,
-            marks,
+            buckets,
             ends,
             offset,
             r.table,
@@ -292,15 +169,15 @@ fn unite(
     unique(
         words,
         tags,
-        kinds,
+        targets,
         n,
         places,
         log,
-        classes,
+        logtags,
         starts,
         maps,
-        marks,
-        em,
+        buckets,
+        exprmap,
         stacks,
         ends,
         offset,
@@ -310,54 +187,54 @@ fn unite(
     )
 }
 
-// The declarations, from `at` to `end`.
+// Imports and writes the declarations, from `at` to `end`.
 pub fn declare(
-    words: &[u32; 16384],
-    tags: &[u8; 16384],
-    kinds: &[u8; 256],
+    words: &Words,
+    tags: &Tags,
+    targets: &Targets,
     n: usize,
-    places: &[u16; 1025],
-    log: &mut [u32; 16384],
-    classes: &mut [u8; 16384],
-    starts: &mut [[u32; 512]; 8],
-    maps: &mut [[u32; 512]; 6],
-    marks: &mut [u16; 16384],
-    em: &mut [u16; 1024],
-    stacks: &mut [[u32; 16384]; 4],
-    ends: Ends,
+    places: &Places,
+    log: &mut Log,
+    logtags: &mut LogTags,
+    starts: &mut Starts,
+    maps: &mut Maps,
+    buckets: &mut Buckets,
+    exprmap: &mut ExprMap,
+    stacks: &mut StackRows,
+    ends: Sizes,
     offset: u32,
     e1: usize,
     k: usize,
     at: usize,
     end: usize,
-) -> Ends
-    requires { ⌜ Ground (now words) (now tags) (now kinds) n ⌝ }
+) -> Sizes
+    requires { ⌜ Ground (now words) (now tags) (now targets) n ⌝ }
     requires { ⌜ Expressions (now words) (now tags) (now places) k ⌝ }
     requires { ⌜ Declares (now words) (now tags) k at end ⌝ }
     requires { ⌜ ends .full ≡ false ⌝ }
-    requires { ⌜ Kept (now log) (now classes) (now starts) (now maps) (now marks) ends ⌝ }
-    requires { ⌜ Under k (now em) (now stacks) e1 ends ⌝ }
-    ensures { λ r. ⌜ Runs (now (words .entry)) k (after offset (modOf (now (words .entry)) n) still (unites offset (now (words .entry)) (now (tags .entry)) n (now (places .entry)) k) (unites offset (now (words .entry)) (now (tags .entry)) n (now (places .entry)) k) (between (now (tags .entry)) (now (words .entry)) (at) end)) (λ (m : Making). map word (written offset (modOf (now (words .entry)) n) still (unites offset (now (words .entry)) (now (tags .entry)) n (now (places .entry)) k) (unites offset (now (words .entry)) (now (tags .entry)) n (now (places .entry)) k) (between (now (tags .entry)) (now (words .entry)) (at) end) false m)) (now (log .entry)) (now (classes .entry)) (now (starts .entry)) (now (maps .entry)) (now (marks .entry)) (now (em .entry)) (now (stacks .entry)) e1 ends r (now (log .exit)) (now (classes .exit)) (now (starts .exit)) (now (maps .exit)) (now (marks .exit)) (now (em .exit)) (now (stacks .exit)) ⌝ }
+    requires { ⌜ ValidArrays (now log) (now logtags) (now starts) (now maps) (now buckets) ends ⌝ }
+    requires { ⌜ Under k (now exprmap) (now stacks) e1 ends ⌝ }
+    ensures { λ r. ⌜ Runs (now (words .entry)) k (after offset (modOf (now (words .entry)) n) still (unites offset (now (words .entry)) (now (tags .entry)) n (now (places .entry)) k) (unites offset (now (words .entry)) (now (tags .entry)) n (now (places .entry)) k) (between (now (tags .entry)) (now (words .entry)) (at) end)) (λ (m : Builder). map word (written offset (modOf (now (words .entry)) n) still (unites offset (now (words .entry)) (now (tags .entry)) n (now (places .entry)) k) (unites offset (now (words .entry)) (now (tags .entry)) n (now (places .entry)) k) (between (now (tags .entry)) (now (words .entry)) (at) end) false m)) (now (log .entry)) (now (logtags .entry)) (now (starts .entry)) (now (maps .entry)) (now (buckets .entry)) (now (exprmap .entry)) (now (stacks .entry)) e1 ends r (now (log .exit)) (now (logtags .exit)) (now (starts .exit)) (now (maps .exit)) (now (buckets .exit)) (now (exprmap .exit)) (now (stacks .exit)) ⌝ }
 {
     let mut e = ends;
     let mut i = at;
     let mut u = false;
     while i < end {
-        let r = run(
+        let r = copy_mapped_run(
             words,
             tags,
-            kinds,
+            targets,
             maps,
-            em,
+            exprmap,
             stacks,
             e.made as usize,
-            e.bt as usize,
+            e.bodytop as usize,
             offset,
             i,
             end,
             u,
         );
-        e = longer(e, r.at - i);
+        e = advance(e, r.at - i);
         i = r.at;
         u = r.undefined;
         if i == end {
@@ -365,19 +242,19 @@ pub fn declare(
         }
         let j = i;
         i += 1;
-        u = flag(words, tags, j, end, u);
-        e = unite(
+        u = span_undefined(words, tags, j, end, u);
+        e = import_declaration_word(
             words,
             tags,
-            kinds,
+            targets,
             n,
             places,
             log,
-            classes,
+            logtags,
             starts,
             maps,
-            marks,
-            em,
+            buckets,
+            exprmap,
             stacks,
             e,
             offset,
@@ -391,13 +268,13 @@ pub fn declare(
         e = put_word(
             words,
             tags,
-            kinds,
+            targets,
             n,
             log,
-            classes,
+            logtags,
             starts,
             maps,
-            em,
+            exprmap,
             stacks,
             e,
             offset,
@@ -411,47 +288,47 @@ pub fn declare(
     e
 }
 
-// What word i of a body refers to: an expression of the function, or a record of a table.
-fn arrive(
-    words: &[u32; 16384],
-    tags: &[u8; 16384],
-    kinds: &[u8; 256],
+// Imports what word i of a body refers to: an expression of the function, or a record of a table.
+fn import_body_word(
+    words: &Words,
+    tags: &Tags,
+    targets: &Targets,
     n: usize,
-    places: &[u16; 1025],
-    log: &mut [u32; 16384],
-    classes: &mut [u8; 16384],
-    starts: &mut [[u32; 512]; 8],
-    maps: &mut [[u32; 512]; 6],
-    marks: &mut [u16; 16384],
-    em: &mut [u16; 1024],
-    stacks: &mut [[u32; 16384]; 4],
-    ends: Ends,
+    places: &Places,
+    log: &mut Log,
+    logtags: &mut LogTags,
+    starts: &mut Starts,
+    maps: &mut Maps,
+    buckets: &mut Buckets,
+    exprmap: &mut ExprMap,
+    stacks: &mut StackRows,
+    ends: Sizes,
     offset: u32,
     e1: usize,
     k: usize,
     i: usize,
-) -> Ends
-    requires { ⌜ Ground (now words) (now tags) (now kinds) n ⌝ }
+) -> Sizes
+    requires { ⌜ Ground (now words) (now tags) (now targets) n ⌝ }
     requires { ⌜ Expressions (now words) (now tags) (now places) k ⌝ }
     requires { ⌜ (i < 16384) × (All (FitN (now words) k) (refOf (target (getD (now tags) i 0)) (getD (now words) i 0) [])) ⌝ }
     requires { ⌜ ends .full ≡ false ⌝ }
-    requires { ⌜ Kept (now log) (now classes) (now starts) (now maps) (now marks) ends ⌝ }
-    requires { ⌜ Under k (now em) (now stacks) e1 ends ⌝ }
-    ensures { λ r. ⌜ Makes (now (words .entry)) k (arriveE offset (modOf (now (words .entry)) n) still (needs offset (now (words .entry)) (now (tags .entry)) n (now (places .entry)) k) (glances offset (now (words .entry)) (now (tags .entry)) n (now (places .entry)) k) (target (getD (now (tags .entry)) i 0)) (getD (now (words .entry)) i 0)) (now (log .entry)) (now (classes .entry)) (now (starts .entry)) (now (maps .entry)) (now (marks .entry)) (now (em .entry)) (now (stacks .entry)) e1 ends r (now (log .exit)) (now (classes .exit)) (now (starts .exit)) (now (maps .exit)) (now (marks .exit)) (now (em .exit)) (now (stacks .exit)) ⌝ }
+    requires { ⌜ ValidArrays (now log) (now logtags) (now starts) (now maps) (now buckets) ends ⌝ }
+    requires { ⌜ Under k (now exprmap) (now stacks) e1 ends ⌝ }
+    ensures { λ r. ⌜ Makes (now (words .entry)) k (arriveE offset (modOf (now (words .entry)) n) still (needs offset (now (words .entry)) (now (tags .entry)) n (now (places .entry)) k) (glances offset (now (words .entry)) (now (tags .entry)) n (now (places .entry)) k) (target (getD (now (tags .entry)) i 0)) (getD (now (words .entry)) i 0)) (now (log .entry)) (now (logtags .entry)) (now (starts .entry)) (now (maps .entry)) (now (buckets .entry)) (now (exprmap .entry)) (now (stacks .entry)) e1 ends r (now (log .exit)) (now (logtags .exit)) (now (starts .exit)) (now (maps .exit)) (now (buckets .exit)) (now (exprmap .exit)) (now (stacks .exit)) ⌝ }
 {
     let s = tags[i];
-    let r = refers_to(kinds, s, words[i]);
+    let r = refers_to(targets, s, words[i]);
     if s < EXPR {
         return import_record(
             words,
             tags,
-            kinds,
+            targets,
             n,
             log,
-            classes,
+            logtags,
             starts,
             maps,
-            marks,
+            buckets,
             ends,
             offset,
             r.table,
@@ -461,18 +338,18 @@ fn arrive(
     if r.table != EXPRESSIONS {
         return ends;
     }
-    need(
+    import_operand(
         words,
         tags,
-        kinds,
+        targets,
         n,
         places,
         log,
-        classes,
+        logtags,
         starts,
         maps,
-        marks,
-        em,
+        buckets,
+        exprmap,
         stacks,
         ends,
         offset,
@@ -484,50 +361,50 @@ fn arrive(
 
 // An Emit's first pass over the expressions from a to b.
 fn first_pass(
-    words: &[u32; 16384],
-    tags: &[u8; 16384],
-    kinds: &[u8; 256],
+    words: &Words,
+    tags: &Tags,
+    targets: &Targets,
     n: usize,
-    places: &[u16; 1025],
-    log: &mut [u32; 16384],
-    classes: &mut [u8; 16384],
-    starts: &mut [[u32; 512]; 8],
-    maps: &mut [[u32; 512]; 6],
-    marks: &mut [u16; 16384],
-    em: &mut [u16; 1024],
-    stacks: &mut [[u32; 16384]; 4],
-    ends: Ends,
+    places: &Places,
+    log: &mut Log,
+    logtags: &mut LogTags,
+    starts: &mut Starts,
+    maps: &mut Maps,
+    buckets: &mut Buckets,
+    exprmap: &mut ExprMap,
+    stacks: &mut StackRows,
+    ends: Sizes,
     offset: u32,
     e1: usize,
     k: usize,
     a: usize,
     b: usize,
-) -> Ends
-    requires { ⌜ Ground (now words) (now tags) (now kinds) n ⌝ }
+) -> Sizes
+    requires { ⌜ Ground (now words) (now tags) (now targets) n ⌝ }
     requires { ⌜ Expressions (now words) (now tags) (now places) k ⌝ }
     requires { ⌜ b ≤ k ⌝ }
     requires { ⌜ ends .full ≡ false ⌝ }
-    requires { ⌜ Kept (now log) (now classes) (now starts) (now maps) (now marks) ends ⌝ }
-    requires { ⌜ Under k (now em) (now stacks) e1 ends ⌝ }
-    ensures { λ r. ⌜ Makes (now (words .entry)) k (eachE (inRange (record { from = a; to = b })) (glances offset (now (words .entry)) (now (tags .entry)) n (now (places .entry)) k)) (now (log .entry)) (now (classes .entry)) (now (starts .entry)) (now (maps .entry)) (now (marks .entry)) (now (em .entry)) (now (stacks .entry)) e1 ends r (now (log .exit)) (now (classes .exit)) (now (starts .exit)) (now (maps .exit)) (now (marks .exit)) (now (em .exit)) (now (stacks .exit)) ⌝ }
+    requires { ⌜ ValidArrays (now log) (now logtags) (now starts) (now maps) (now buckets) ends ⌝ }
+    requires { ⌜ Under k (now exprmap) (now stacks) e1 ends ⌝ }
+    ensures { λ r. ⌜ Makes (now (words .entry)) k (eachE (inRange (record { from = a; to = b })) (glances offset (now (words .entry)) (now (tags .entry)) n (now (places .entry)) k)) (now (log .entry)) (now (logtags .entry)) (now (starts .entry)) (now (maps .entry)) (now (buckets .entry)) (now (exprmap .entry)) (now (stacks .entry)) e1 ends r (now (log .exit)) (now (logtags .exit)) (now (starts .exit)) (now (maps .exit)) (now (buckets .exit)) (now (exprmap .exit)) (now (stacks .exit)) ⌝ }
 {
     let mut e = ends;
     let mut x = a;
     while x < b {
         let y = x;
         x += 1;
-        e = glance(
+        e = import_standing(
             words,
             tags,
-            kinds,
+            targets,
             n,
             places,
             log,
-            classes,
+            logtags,
             starts,
             maps,
-            marks,
-            em,
+            buckets,
+            exprmap,
             stacks,
             e,
             offset,
@@ -542,52 +419,52 @@ fn first_pass(
     e
 }
 
-// Its second pass: what the expressions refer to outside is there since the first, so what is not mapped is appended.
+// Its second pass: what the expressions refer to outside was imported by the first, so what is not mapped is appended.
 fn second_pass(
-    words: &[u32; 16384],
-    tags: &[u8; 16384],
-    kinds: &[u8; 256],
+    words: &Words,
+    tags: &Tags,
+    targets: &Targets,
     n: usize,
-    places: &[u16; 1025],
-    log: &[u32; 16384],
-    classes: &[u8; 16384],
-    starts: &[[u32; 512]; 8],
-    maps: &[[u32; 512]; 6],
-    em: &mut [u16; 1024],
-    stacks: &mut [[u32; 16384]; 4],
-    ends: Ends,
+    places: &Places,
+    log: &Log,
+    logtags: &LogTags,
+    starts: &Starts,
+    maps: &Maps,
+    exprmap: &mut ExprMap,
+    stacks: &mut StackRows,
+    ends: Sizes,
     offset: u32,
     e1: usize,
     k: usize,
     a: usize,
     b: usize,
-) -> Ends
-    requires { ⌜ Ground (now words) (now tags) (now kinds) n ⌝ }
+) -> Sizes
+    requires { ⌜ Ground (now words) (now tags) (now targets) n ⌝ }
     requires { ⌜ Expressions (now words) (now tags) (now places) k ⌝ }
     requires { ⌜ b ≤ k ⌝ }
     requires { ⌜ ends .full ≡ false ⌝ }
-    requires { ⌜ ((marks : List ℕ) × Kept (now log) (now classes) (now starts) (now maps) marks ends) ⌝ }
-    requires { ⌜ Under k (now em) (now stacks) e1 ends ⌝ }
-    requires { ⌜ Drawn (now words) (now tags) (now places) k (now maps) (now em) a b ⌝ }
-    ensures { λ r. ⌜ Lays (now (words .entry)) k (eachE (inRange (record { from = a; to = b })) (needs offset (now (words .entry)) (now (tags .entry)) n (now (places .entry)) k)) (now (log .entry)) (now (classes .entry)) (now (starts .entry)) (now (maps .entry)) (now (em .entry)) (now (stacks .entry)) e1 ends r (now (em .exit)) (now (stacks .exit)) ⌝ }
+    requires { ⌜ ((buckets : List ℕ) × ValidArrays (now log) (now logtags) (now starts) (now maps) buckets ends) ⌝ }
+    requires { ⌜ Under k (now exprmap) (now stacks) e1 ends ⌝ }
+    requires { ⌜ Drawn (now words) (now tags) (now places) k (now maps) (now exprmap) a b ⌝ }
+    ensures { λ r. ⌜ Lays (now (words .entry)) k (eachE (inRange (record { from = a; to = b })) (needs offset (now (words .entry)) (now (tags .entry)) n (now (places .entry)) k)) (now (log .entry)) (now (logtags .entry)) (now (starts .entry)) (now (maps .entry)) (now (exprmap .entry)) (now (stacks .entry)) e1 ends r (now (exprmap .exit)) (now (stacks .exit)) ⌝ }
 {
     let mut e = ends;
     let mut x = a;
     while x < b {
         let y = x;
         x += 1;
-        if em[y] == 0 {
+        if exprmap[y] == 0 {
             e = append(
                 words,
                 tags,
-                kinds,
+                targets,
                 n,
                 places,
                 log,
-                classes,
+                logtags,
                 starts,
                 maps,
-                em,
+                exprmap,
                 stacks,
                 e,
                 offset,
@@ -603,47 +480,47 @@ fn second_pass(
     e
 }
 
-// Both passes of an Emit over the expressions from a to b; its new start is what is made before the second.
+// Both passes of an Emit over the expressions from a to b; its new start is how many expressions are made before the second.
 fn emit(
-    words: &[u32; 16384],
-    tags: &[u8; 16384],
-    kinds: &[u8; 256],
+    words: &Words,
+    tags: &Tags,
+    targets: &Targets,
     n: usize,
-    places: &[u16; 1025],
-    log: &mut [u32; 16384],
-    classes: &mut [u8; 16384],
-    starts: &mut [[u32; 512]; 8],
-    maps: &mut [[u32; 512]; 6],
-    marks: &mut [u16; 16384],
-    em: &mut [u16; 1024],
-    stacks: &mut [[u32; 16384]; 4],
-    ends: Ends,
+    places: &Places,
+    log: &mut Log,
+    logtags: &mut LogTags,
+    starts: &mut Starts,
+    maps: &mut Maps,
+    buckets: &mut Buckets,
+    exprmap: &mut ExprMap,
+    stacks: &mut StackRows,
+    ends: Sizes,
     offset: u32,
     e1: usize,
     k: usize,
     a: usize,
     b: usize,
-) -> Ends
-    requires { ⌜ Ground (now words) (now tags) (now kinds) n ⌝ }
+) -> Sizes
+    requires { ⌜ Ground (now words) (now tags) (now targets) n ⌝ }
     requires { ⌜ Expressions (now words) (now tags) (now places) k ⌝ }
     requires { ⌜ b ≤ k ⌝ }
     requires { ⌜ ends .full ≡ false ⌝ }
-    requires { ⌜ Kept (now log) (now classes) (now starts) (now maps) (now marks) ends ⌝ }
-    requires { ⌜ Under k (now em) (now stacks) e1 ends ⌝ }
-    ensures { λ r. ⌜ Runs (now (words .entry)) k (both offset (modOf (now (words .entry)) n) still (needs offset (now (words .entry)) (now (tags .entry)) n (now (places .entry)) k) (glances offset (now (words .entry)) (now (tags .entry)) n (now (places .entry)) k) a b) (λ (m : Making). length (first offset (modOf (now (words .entry)) n) still (needs offset (now (words .entry)) (now (tags .entry)) n (now (places .entry)) k) (glances offset (now (words .entry)) (now (tags .entry)) n (now (places .entry)) k) a b m .made) ∷ []) (now (log .entry)) (now (classes .entry)) (now (starts .entry)) (now (maps .entry)) (now (marks .entry)) (now (em .entry)) (now (stacks .entry)) e1 ends r (now (log .exit)) (now (classes .exit)) (now (starts .exit)) (now (maps .exit)) (now (marks .exit)) (now (em .exit)) (now (stacks .exit)) ⌝ }
+    requires { ⌜ ValidArrays (now log) (now logtags) (now starts) (now maps) (now buckets) ends ⌝ }
+    requires { ⌜ Under k (now exprmap) (now stacks) e1 ends ⌝ }
+    ensures { λ r. ⌜ Runs (now (words .entry)) k (both offset (modOf (now (words .entry)) n) still (needs offset (now (words .entry)) (now (tags .entry)) n (now (places .entry)) k) (glances offset (now (words .entry)) (now (tags .entry)) n (now (places .entry)) k) a b) (λ (m : Builder). length (first offset (modOf (now (words .entry)) n) still (needs offset (now (words .entry)) (now (tags .entry)) n (now (places .entry)) k) (glances offset (now (words .entry)) (now (tags .entry)) n (now (places .entry)) k) a b m .made) ∷ []) (now (log .entry)) (now (logtags .entry)) (now (starts .entry)) (now (maps .entry)) (now (buckets .entry)) (now (exprmap .entry)) (now (stacks .entry)) e1 ends r (now (log .exit)) (now (logtags .exit)) (now (starts .exit)) (now (maps .exit)) (now (buckets .exit)) (now (exprmap .exit)) (now (stacks .exit)) ⌝ }
 {
     let got = first_pass(
         words,
         tags,
-        kinds,
+        targets,
         n,
         places,
         log,
-        classes,
+        logtags,
         starts,
         maps,
-        marks,
-        em,
+        buckets,
+        exprmap,
         stacks,
         ends,
         offset,
@@ -663,14 +540,14 @@ fn emit(
     second_pass(
         words,
         tags,
-        kinds,
+        targets,
         n,
         places,
         log,
-        classes,
+        logtags,
         starts,
         maps,
-        em,
+        exprmap,
         stacks,
         put,
         offset,
@@ -682,7 +559,7 @@ fn emit(
 }
 
 // What the first code of an atomic function, from i on, compares: the number of an expression plus 1, or 0.
-fn compared(words: &[u32; 16384], tags: &[u8; 16384], i: usize, end: usize) -> u32
+fn compare_operand(words: &Words, tags: &Tags, i: usize, end: usize) -> u32
     requires { ⌜ Stretch (now words) (now tags) i end ⌝ }
     ensures { λ r. ⌜ optional r [] ≡ comparesOf (between (now (tags .entry)) (now (words .entry)) (i) end) ⌝ }
 {
@@ -703,64 +580,54 @@ fn compared(words: &[u32; 16384], tags: &[u8; 16384], i: usize, end: usize) -> u
     0
 }
 
-// Whether a statement of the kind k is atomic.
-fn atomic(k: u32) -> bool
-    ensures { λ r. ⌜ r ≡ atomicKind k ⌝ }
-{
-    if k == base_kinds::ATOMIC {
-        return true;
-    }
-    k == base_kinds::IMAGE_ATOMIC
-}
-
 // What an atomic statement compares, where its kind is word i.
-fn compare(
-    words: &[u32; 16384],
-    tags: &[u8; 16384],
-    kinds: &[u8; 256],
+fn import_compare(
+    words: &Words,
+    tags: &Tags,
+    targets: &Targets,
     n: usize,
-    places: &[u16; 1025],
-    log: &mut [u32; 16384],
-    classes: &mut [u8; 16384],
-    starts: &mut [[u32; 512]; 8],
-    maps: &mut [[u32; 512]; 6],
-    marks: &mut [u16; 16384],
-    em: &mut [u16; 1024],
-    stacks: &mut [[u32; 16384]; 4],
-    ends: Ends,
+    places: &Places,
+    log: &mut Log,
+    logtags: &mut LogTags,
+    starts: &mut Starts,
+    maps: &mut Maps,
+    buckets: &mut Buckets,
+    exprmap: &mut ExprMap,
+    stacks: &mut StackRows,
+    ends: Sizes,
     offset: u32,
     e1: usize,
     k: usize,
     i: usize,
     end: usize,
-) -> Ends
-    requires { ⌜ Ground (now words) (now tags) (now kinds) n ⌝ }
+) -> Sizes
+    requires { ⌜ Ground (now words) (now tags) (now targets) n ⌝ }
     requires { ⌜ Expressions (now words) (now tags) (now places) k ⌝ }
     requires { ⌜ (Legible (now words) (now tags) k i end) × (i < end) ⌝ }
     requires { ⌜ ends .full ≡ false ⌝ }
-    requires { ⌜ Kept (now log) (now classes) (now starts) (now maps) (now marks) ends ⌝ }
-    requires { ⌜ Under k (now em) (now stacks) e1 ends ⌝ }
-    ensures { λ r. ⌜ Makes (now (words .entry)) k (early offset (modOf (now (words .entry)) n) still (needs offset (now (words .entry)) (now (tags .entry)) n (now (places .entry)) k) (glances offset (now (words .entry)) (now (tags .entry)) n (now (places .entry)) k) (getD (now (words .entry)) i 0) (between (now (tags .entry)) (now (words .entry)) (suc i) end)) (now (log .entry)) (now (classes .entry)) (now (starts .entry)) (now (maps .entry)) (now (marks .entry)) (now (em .entry)) (now (stacks .entry)) e1 ends r (now (log .exit)) (now (classes .exit)) (now (starts .exit)) (now (maps .exit)) (now (marks .exit)) (now (em .exit)) (now (stacks .exit)) ⌝ }
+    requires { ⌜ ValidArrays (now log) (now logtags) (now starts) (now maps) (now buckets) ends ⌝ }
+    requires { ⌜ Under k (now exprmap) (now stacks) e1 ends ⌝ }
+    ensures { λ r. ⌜ Makes (now (words .entry)) k (early offset (modOf (now (words .entry)) n) still (needs offset (now (words .entry)) (now (tags .entry)) n (now (places .entry)) k) (glances offset (now (words .entry)) (now (tags .entry)) n (now (places .entry)) k) (getD (now (words .entry)) i 0) (between (now (tags .entry)) (now (words .entry)) (suc i) end)) (now (log .entry)) (now (logtags .entry)) (now (starts .entry)) (now (maps .entry)) (now (buckets .entry)) (now (exprmap .entry)) (now (stacks .entry)) e1 ends r (now (log .exit)) (now (logtags .exit)) (now (starts .exit)) (now (maps .exit)) (now (buckets .exit)) (now (exprmap .exit)) (now (stacks .exit)) ⌝ }
 {
     if !atomic(words[i]) {
         return ends;
     }
-    let x = compared(words, tags, i + 1, end);
+    let x = compare_operand(words, tags, i + 1, end);
     if x == 0 {
         return ends;
     }
-    need(
+    import_operand(
         words,
         tags,
-        kinds,
+        targets,
         n,
         places,
         log,
-        classes,
+        logtags,
         starts,
         maps,
-        marks,
-        em,
+        buckets,
+        exprmap,
         stacks,
         ends,
         offset,
@@ -770,35 +637,35 @@ fn compare(
     )
 }
 
-// Word i of a body, with the words up to `end` behind it; it names no function. u: whether the span last met is undefined.
-pub fn pass(
-    words: &[u32; 16384],
-    tags: &[u8; 16384],
-    kinds: &[u8; 256],
+// Imports and writes word i of a body, with the words up to `end` after it; it names no function. u: whether the span last met is undefined.
+pub fn import_word(
+    words: &Words,
+    tags: &Tags,
+    targets: &Targets,
     n: usize,
-    places: &[u16; 1025],
-    log: &mut [u32; 16384],
-    classes: &mut [u8; 16384],
-    starts: &mut [[u32; 512]; 8],
-    maps: &mut [[u32; 512]; 6],
-    marks: &mut [u16; 16384],
-    em: &mut [u16; 1024],
-    stacks: &mut [[u32; 16384]; 4],
-    ends: Ends,
+    places: &Places,
+    log: &mut Log,
+    logtags: &mut LogTags,
+    starts: &mut Starts,
+    maps: &mut Maps,
+    buckets: &mut Buckets,
+    exprmap: &mut ExprMap,
+    stacks: &mut StackRows,
+    ends: Sizes,
     offset: u32,
     e1: usize,
     k: usize,
     i: usize,
     end: usize,
     u: bool,
-) -> Ends
-    requires { ⌜ Ground (now words) (now tags) (now kinds) n ⌝ }
+) -> Sizes
+    requires { ⌜ Ground (now words) (now tags) (now targets) n ⌝ }
     requires { ⌜ Expressions (now words) (now tags) (now places) k ⌝ }
     requires { ⌜ (Bodied (now words) (now tags) k i end) × (i < end) ⌝ }
     requires { ⌜ ends .full ≡ false ⌝ }
-    requires { ⌜ Kept (now log) (now classes) (now starts) (now maps) (now marks) ends ⌝ }
-    requires { ⌜ Under k (now em) (now stacks) e1 ends ⌝ }
-    ensures { λ r. ⌜ Runs (now (words .entry)) k (passed offset (modOf (now (words .entry)) n) still (needs offset (now (words .entry)) (now (tags .entry)) n (now (places .entry)) k) (glances offset (now (words .entry)) (now (tags .entry)) n (now (places .entry)) k) (getD (now (tags .entry)) i 0, getD (now (words .entry)) i 0) (between (now (tags .entry)) (now (words .entry)) (suc i) end)) (λ (m : Making). wordOf offset (modOf (now (words .entry)) n) still (needs offset (now (words .entry)) (now (tags .entry)) n (now (places .entry)) k) (glances offset (now (words .entry)) (now (tags .entry)) n (now (places .entry)) k) (getD (now (tags .entry)) i 0, getD (now (words .entry)) i 0) (between (now (tags .entry)) (now (words .entry)) (suc i) end) u m ∷ []) (now (log .entry)) (now (classes .entry)) (now (starts .entry)) (now (maps .entry)) (now (marks .entry)) (now (em .entry)) (now (stacks .entry)) e1 ends r (now (log .exit)) (now (classes .exit)) (now (starts .exit)) (now (maps .exit)) (now (marks .exit)) (now (em .exit)) (now (stacks .exit)) ⌝ }
+    requires { ⌜ ValidArrays (now log) (now logtags) (now starts) (now maps) (now buckets) ends ⌝ }
+    requires { ⌜ Under k (now exprmap) (now stacks) e1 ends ⌝ }
+    ensures { λ r. ⌜ Runs (now (words .entry)) k (passed offset (modOf (now (words .entry)) n) still (needs offset (now (words .entry)) (now (tags .entry)) n (now (places .entry)) k) (glances offset (now (words .entry)) (now (tags .entry)) n (now (places .entry)) k) (getD (now (tags .entry)) i 0, getD (now (words .entry)) i 0) (between (now (tags .entry)) (now (words .entry)) (suc i) end)) (λ (m : Builder). wordOf offset (modOf (now (words .entry)) n) still (needs offset (now (words .entry)) (now (tags .entry)) n (now (places .entry)) k) (glances offset (now (words .entry)) (now (tags .entry)) n (now (places .entry)) k) (getD (now (tags .entry)) i 0, getD (now (words .entry)) i 0) (between (now (tags .entry)) (now (words .entry)) (suc i) end) u m ∷ []) (now (log .entry)) (now (logtags .entry)) (now (starts .entry)) (now (maps .entry)) (now (buckets .entry)) (now (exprmap .entry)) (now (stacks .entry)) e1 ends r (now (log .exit)) (now (logtags .exit)) (now (starts .exit)) (now (maps .exit)) (now (buckets .exit)) (now (exprmap .exit)) (now (stacks .exit)) ⌝ }
 {
     let s = tags[i];
     if s == FROM {
@@ -807,15 +674,15 @@ pub fn pass(
         return emit(
             words,
             tags,
-            kinds,
+            targets,
             n,
             places,
             log,
-            classes,
+            logtags,
             starts,
             maps,
-            marks,
-            em,
+            buckets,
+            exprmap,
             stacks,
             ends,
             offset,
@@ -830,18 +697,18 @@ pub fn pass(
         return push(stacks, ends, to);
     }
     if s == STMT_KIND {
-        let got = compare(
+        let got = import_compare(
             words,
             tags,
-            kinds,
+            targets,
             n,
             places,
             log,
-            classes,
+            logtags,
             starts,
             maps,
-            marks,
-            em,
+            buckets,
+            exprmap,
             stacks,
             ends,
             offset,
@@ -855,18 +722,18 @@ pub fn pass(
         }
         return push(stacks, got, words[i]);
     }
-    let got = arrive(
+    let got = import_body_word(
         words,
         tags,
-        kinds,
+        targets,
         n,
         places,
         log,
-        classes,
+        logtags,
         starts,
         maps,
-        marks,
-        em,
+        buckets,
+        exprmap,
         stacks,
         ends,
         offset,
@@ -880,13 +747,13 @@ pub fn pass(
     put_word(
         words,
         tags,
-        kinds,
+        targets,
         n,
         log,
-        classes,
+        logtags,
         starts,
         maps,
-        em,
+        exprmap,
         stacks,
         got,
         offset,

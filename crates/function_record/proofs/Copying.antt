@@ -1,4 +1,4 @@
--- A stretch of words copied, and the classes of named expressions written: what is left from here is the whole. Assumes nothing.
+-- A stretch of words copied, and the classes of named expressions written: what is left from here is the whole.
 use mathlib.Core.Path.{_≡_, refl, sym, ap, _∙_}
 use mathlib.Core.List.{List, [], _∷_}
 use Prim.Native.Nat.{ℕ, zero, suc, _+_, _*_, _-_, _≤_, _<_}

@@ -1,4 +1,4 @@
--- The named expressions that stay, as pairs on the stack: an expression's seat is 0, or where its pair stands plus 1. What the records that are left make of the pairs so far is what all of them make. Assumes nothing.
+-- The named expressions that stay, as pairs on the stack: an expression's seat is 0, or the place of its pair plus 1. What the records that are left make of the pairs so far is what all of them make.
 use mathlib.Core.Path.{_≡_, refl, sym, ap, ap₂, _∙_}
 use mathlib.Core.Bool.{Bool, true, false, cond, false≢true}
 use mathlib.Core.Logic.{⊎-elim}
@@ -11,19 +11,20 @@ use lib.Dec.{eqb}
 use lib.ListN.{length, getD, set, take, drop, replicate, length-set, length-append, length-replicate}
 use lib.Seq.{slice, take-suc-set, take-set-le, take-set-lt, drop-set-add, drop-append-le, length-take-le, getD-set-same, getD-set-other, getD-take}
 use borrow.Author.Tests.{eq-eqb, ne-eqb, eqb-true}
+use Rattle.theory_lists.specs.Lists.{zeros}
 use Rattle.model.specs.Outcome.{Cells, class, word}
 use Rattle.model.specs.Table.{NAME, NAMED-EXPR}
 use Rattle.model.specs.Names.{field}
 use Rattle.model.specs.Bodies.{putName, nameIf, keepNames}
 use Rattle.theory_image.specs.Betweens.{slice-none}
 use Rattle.derive_state.specs.Held.{row, put}
-use Rattle.derive_state.specs.declared.Ends.{Ends}
+use Rattle.derive_state.specs.declared.Sizes.{Sizes}
 use Rattle.derive_state.proofs.State.{same-or, row-other, put-row}
 use Rattle.function_builder.specs.Stacks.{Stacks}
 use Rattle.function_builder.specs.Makes.{Pushed}
 use Rattle.function_record.specs.Closed.{pairWords, namedRecords, Keeps}
 
--- ---- where an expression's pair stands
+-- ---- where an expression's pair is
 unfoldable pub up : ℕ → ℕ
 up zero = zero
 up (suc n) = suc (suc n)
@@ -125,64 +126,59 @@ words-pushed R b t x w h l =
 words-put : (R : List ℕ) (b t i w : ℕ) → b + i < t → slice b t (set R (b + i) w) ≡ set (slice b t R) i w
 words-put R b t i w h = ap (drop b) (take-set-lt t R (b + i) w h) ∙ drop-set-add b (take t R) i w
 
--- ---- the ends, with another top
-abbrev pub atop : Ends → ℕ → Ends
-atop e t = record { full = false; used = e .used; counts = e .counts; pairs = e .pairs; et = e .et; bt = t; made = e .made }
+-- ---- the sizes, with another top
+abbrev pub atop : Sizes → ℕ → Sizes
+atop e t = record { full = false; loglen = e .loglen; counts = e .counts; pairs = e .pairs; exprtop = e .exprtop; bodytop = t; made = e .made }
 
 -- a push that has room
-module _ {w : ℕ} {stacks : List (List ℕ)} {e r : Ends} {stacks′ : List (List ℕ)} (S : Stacks stacks e) (P : Pushed w stacks e r stacks′) (room : e .bt < 16384) where
+module _ {w : ℕ} {stacks : List (List ℕ)} {e r : Sizes} {stacks′ : List (List ℕ)} (S : Stacks stacks e) (P : Pushed w stacks e r stacks′) (room : e .bodytop < 16384) where
   pushed : r .full ≡ false
   pushed = either (r .full) (λ q. let z = P .over q in absurd (omega arith)) (λ q. q)
 
-  pushed-row : row stacks′ 3 ≡ set (row stacks 3) (e .bt) w
-  pushed-row = let f = S .four in rw (P .is pushed) (getD-set-same stacks 3 (set (row stacks 3) (e .bt) w) [] (omega arith))
+  pushed-row : row stacks′ 3 ≡ set (row stacks 3) (e .bodytop) w
+  pushed-row = let f = S .four in rw (P .is pushed) (getD-set-same stacks 3 (set (row stacks 3) (e .bodytop) w) [] (omega arith))
 
   pushed-other : (t : ℕ) → t < 3 → row stacks′ t ≡ row stacks t
-  pushed-other t h = rw (P .is pushed) (row-other stacks 3 t (e .bt) w (λ q. omega arith))
+  pushed-other t h = rw (P .is pushed) (row-other stacks 3 t (e .bodytop) w (λ q. omega arith))
 
-  pub pushed-ends : (e₀ : Ends) (t : ℕ) → e ≡ atop e₀ t → r ≡ atop e₀ (t + 1)
-  pushed-ends e₀ t h = P .ends pushed ∙ ap (λ (x : Ends). atop x (x .bt + 1)) h
+  pub pushed-ends : (e₀ : Sizes) (t : ℕ) → e ≡ atop e₀ t → r ≡ atop e₀ (t + 1)
+  pushed-ends e₀ t h = P .ends pushed ∙ ap (λ (x : Sizes). atop x (x .bodytop + 1)) h
 
   pub pushed-stacks : Stacks stacks′ r
   pushed-stacks =
       let f = S .four in
       record {
-        four = rw (P .is pushed) (length-set stacks 3 (set (row stacks 3) (e .bt) w) ∙ f);
-        rows = λ t ht. rw (P .is pushed) (put-row stacks 3 t (e .bt) w (omega arith) ∙ S .rows t ht);
+        four = rw (P .is pushed) (length-set stacks 3 (set (row stacks 3) (e .bodytop) w) ∙ f);
+        rows = λ t ht. rw (P .is pushed) (put-row stacks 3 t (e .bodytop) w (omega arith) ∙ S .rows t ht);
         high = rw (P .ends pushed) (S .high);
         high′ = rw (P .ends pushed) (omega arith);
       }
 
-zeros : (k n : ℕ) → _≡_ {A = ℕ} (getD (replicate k 0) n 0) 0
-zeros zero n = refl
-zeros (suc k) zero = refl
-zeros (suc k) (suc n) = zeros k n
-
 -- ---- the loop
-pub record Keeping (words em : List ℕ) (k at : ℕ) (stacks₀ : List (List ℕ)) (e₀ : Ends) (stacks : List (List ℕ)) (seats : List ℕ) (e : Ends) (i : ℕ) : Type 0 where
+pub record Keeping (words exprmap : List ℕ) (k at : ℕ) (stacks₀ : List (List ℕ)) (e₀ : Sizes) (stacks : List (List ℕ)) (seats : List ℕ) (e : Sizes) (i : ℕ) : Type 0 where
   pub ps : List (ℕ × ℕ)
   pub within : i ≤ getD words at 0
-  pub ends : e ≡ atop e₀ (e₀ .bt + 2 * length ps)
+  pub ends : e ≡ atop e₀ (e₀ .bodytop + 2 * length ps)
   pub stacks-are : Stacks stacks e
-  pub is : slice (e₀ .bt) (e .bt) (row stacks 3) ≡ pairWords ps
-  pub below : take (e₀ .bt) (row stacks 3) ≡ take (e₀ .bt) (row stacks₀ 3)
+  pub is : slice (e₀ .bodytop) (e .bodytop) (row stacks 3) ≡ pairWords ps
+  pub below : take (e₀ .bodytop) (row stacks 3) ≡ take (e₀ .bodytop) (row stacks₀ 3)
   pub expressions : (t : ℕ) → t < 3 → row stacks t ≡ row stacks₀ t
   pub seats-long : length seats ≡ 1025
   pub agree : (x : ℕ) → x < 1024 → getD seats x 0 ≡ seatOf ps x
-  pub same : keepNames (namedRecords words (at + 1 + 2 * i) (getD words at 0 - i)) (take k em) ps ≡ keepNames (namedRecords words (at + 1) (getD words at 0)) (take k em) []
+  pub same : keepNames (namedRecords words (at + 1 + 2 * i) (getD words at 0 - i)) (take k exprmap) ps ≡ keepNames (namedRecords words (at + 1) (getD words at 0)) (take k exprmap) []
 
-module _ (words em : List ℕ) (k at : ℕ) (stacks₀ : List (List ℕ)) (e₀ : Ends) where
+module _ (words exprmap : List ℕ) (k at : ℕ) (stacks₀ : List (List ℕ)) (e₀ : Sizes) where
   abbrev whole : List (ℕ × ℕ)
-  whole = keepNames (namedRecords words (at + 1) (getD words at 0)) (take k em) []
+  whole = keepNames (namedRecords words (at + 1) (getD words at 0)) (take k exprmap) []
 
-  pub keep-first : e₀ .full ≡ false → Stacks stacks₀ e₀ → Keeping words em k at stacks₀ e₀ stacks₀ (replicate 1025 0) e₀ 0
+  pub keep-first : e₀ .full ≡ false → Stacks stacks₀ e₀ → Keeping words exprmap k at stacks₀ e₀ stacks₀ (replicate 1025 0) e₀ 0
   unfolding pairWords seatOf
   keep-first nf S = record {
     ps = [];
     within = omega arith;
-    ends = let z : e₀ .bt ≡ e₀ .bt + 2 * 0 = omega arith in λ i. record { full = nf i; used = e₀ .used; counts = e₀ .counts; pairs = e₀ .pairs; et = e₀ .et; bt = z i; made = e₀ .made };
+    ends = let z : e₀ .bodytop ≡ e₀ .bodytop + 2 * 0 = omega arith in λ i. record { full = nf i; loglen = e₀ .loglen; counts = e₀ .counts; pairs = e₀ .pairs; exprtop = e₀ .exprtop; bodytop = z i; made = e₀ .made };
     stacks-are = S;
-    is = slice-none (e₀ .bt) (e₀ .bt) (row stacks₀ 3) (le-refl _);
+    is = slice-none (e₀ .bodytop) (e₀ .bodytop) (row stacks₀ 3) (le-refl _);
     below = refl;
     expressions = λ t h. refl;
     seats-long = length-replicate {A = ℕ} 1025 0;
@@ -190,38 +186,38 @@ module _ (words em : List ℕ) (k at : ℕ) (stacks₀ : List (List ℕ)) (e₀ 
     same = let z : at + 1 + 2 * 0 ≡ at + 1 = omega arith in let y : getD words at 0 - 0 ≡ getD words at 0 = omega arith in rw (z, y);
   }
 
-  module _ (stacks : List (List ℕ)) (seats : List ℕ) (e : Ends) (i : ℕ) (inv : Keeping words em k at stacks₀ e₀ stacks seats e i) where
+  module _ (stacks : List (List ℕ)) (seats : List ℕ) (e : Sizes) (i : ℕ) (inv : Keeping words exprmap k at stacks₀ e₀ stacks seats e i) where
     abbrev R : List ℕ
     R = row stacks 3
 
-    top : e .bt ≡ e₀ .bt + 2 * length (inv .ps)
-    top = ap (λ (x : Ends). x .bt) (inv .ends)
+    top : e .bodytop ≡ e₀ .bodytop + 2 * length (inv .ps)
+    top = ap (λ (x : Sizes). x .bodytop) (inv .ends)
 
-    pub keep-top : e₀ .bt ≤ e .bt
+    pub keep-top : e₀ .bodytop ≤ e .bodytop
     keep-top = let t = top in omega arith
 
-    pub keep-half : (e .bt - e₀ .bt) / 2 ≡ length (inv .ps)
+    pub keep-half : (e .bodytop - e₀ .bodytop) / 2 ≡ length (inv .ps)
     keep-half = let t = top in div-eq-of-eq-mul-right (omega arith) (omega arith)
 
-    pub keep-few : (e .bt - e₀ .bt) / 2 ≤ 8192
+    pub keep-few : (e .bodytop - e₀ .bodytop) / 2 ≤ 8192
     keep-few = let h = keep-half in let t = top in let s = inv .stacks-are .high′ in omega arith
 
     long : length R ≡ 16384
     long = inv .stacks-are .rows 3 (omega arith)
 
-    -- one record: its expression y went to v, or nowhere; w is its name's word
-    module _ (less : i < getD words at 0) (y v w : ℕ) (hy : y ≡ getD words (at + 1 + 2 * i) 0) (low : y < k) (hv : v ≡ getD em y 0) (hw : w ≡ getD words (at + 1 + 2 * i + 1) 0) where
-      cut : (ps : List (ℕ × ℕ)) → ps ≡ nameIf v w (inv .ps) → keepNames (namedRecords words (at + 1 + 2 * (i + 1)) (getD words at 0 - (i + 1))) (take k em) ps ≡ whole
+    -- one record: its expression y is mapped to v, or not mapped; w is its name's word
+    module _ (less : i < getD words at 0) (y v w : ℕ) (hy : y ≡ getD words (at + 1 + 2 * i) 0) (low : y < k) (hv : v ≡ getD exprmap y 0) (hw : w ≡ getD words (at + 1 + 2 * i + 1) 0) where
+      cut : (ps : List (ℕ × ℕ)) → ps ≡ nameIf v w (inv .ps) → keepNames (namedRecords words (at + 1 + 2 * (i + 1)) (getD words at 0 - (i + 1))) (take k exprmap) ps ≡ whole
       unfolding namedRecords keepNames field
       cut ps hps =
           let a : at + 1 + 2 * (i + 1) ≡ suc (suc (at + 1 + 2 * i)) = omega arith in
           let b : getD words at 0 - i ≡ suc (getD words at 0 - (i + 1)) = omega arith in
-          let m : getD (take k em) (getD words (at + 1 + 2 * i) 0) 0 ≡ v = rw (← hy) (getD-take k em y 0 low ∙ sym hv) in
+          let m : getD (take k exprmap) (getD words (at + 1 + 2 * i) 0) 0 ≡ v = rw (← hy) (getD-take k exprmap y 0 low ∙ sym hv) in
           let n : getD words (suc (at + 1 + 2 * i)) 0 ≡ w = sym (rw (add-one (at + 1 + 2 * i)) at hw) in
           rw (a, hps, ← m, ← n) (rw b at (inv .same))
 
-      -- it stays nowhere
-      pub keep-skip : v ≡ 0 → Keeping words em k at stacks₀ e₀ stacks seats e (i + 1)
+      -- it is not mapped
+      pub keep-skip : v ≡ 0 → Keeping words exprmap k at stacks₀ e₀ stacks seats e (i + 1)
       unfolding nameIf
       keep-skip z = record {
         ps = inv .ps;
@@ -237,7 +233,7 @@ module _ (words em : List ℕ) (k at : ℕ) (stacks₀ : List (List ℕ)) (e₀ 
       }
 
       module _ (some : v ≡ 0 → ⊥) (small : v ≤ 1024) (j : ℕ) (hj : j ≡ getD seats (v - 1) 0) where
-        named : (ps : List (ℕ × ℕ)) → ps ≡ putName (inv .ps) (v - 1) w → keepNames (namedRecords words (at + 1 + 2 * (i + 1)) (getD words at 0 - (i + 1))) (take k em) ps ≡ whole
+        named : (ps : List (ℕ × ℕ)) → ps ≡ putName (inv .ps) (v - 1) w → keepNames (namedRecords words (at + 1 + 2 * (i + 1)) (getD words at 0 - (i + 1))) (take k exprmap) ps ≡ whole
         unfolding nameIf
         named ps h = let z : v ≡ suc (v - 1) = omega arith in cut ps (h ∙ ap (λ (x : ℕ). nameIf x w (inv .ps)) (sym z))
 
@@ -249,18 +245,18 @@ module _ (words em : List ℕ) (k at : ℕ) (stacks₀ : List (List ℕ)) (e₀ 
           seat-is : seatOf (inv .ps) (v - 1) ≡ suc (j - 1)
           seat-is = let s = seat in omega arith
 
-          pub keep-under : e₀ .bt + 2 * j - 1 < e .bt
+          pub keep-under : e₀ .bodytop + 2 * j - 1 < e .bodytop
           keep-under = let s = seat-in (inv .ps) (v - 1) (j - 1) seat-is in let t = top in omega arith
 
-          pub keep-there : (stacks′ : List (List ℕ)) → stacks′ ≡ put stacks 3 (e₀ .bt + 2 * j - 1) w → Keeping words em k at stacks₀ e₀ stacks′ seats e (i + 1)
+          pub keep-there : (stacks′ : List (List ℕ)) → stacks′ ≡ put stacks 3 (e₀ .bodytop + 2 * j - 1) w → Keeping words exprmap k at stacks₀ e₀ stacks′ seats e (i + 1)
           keep-there stacks′ put-is = record {
             ps = putName (inv .ps) (v - 1) w;
             within = omega arith;
             ends = rw (put-length (inv .ps) (v - 1) w (j - 1) seat-is) (inv .ends);
-            stacks-are = rw put-is (record { four = length-set stacks 3 (set R (e₀ .bt + 2 * j - 1) w) ∙ f; rows = λ t ht. put-row stacks 3 t (e₀ .bt + 2 * j - 1) w (omega arith) ∙ inv .stacks-are .rows t ht; high = inv .stacks-are .high; high′ = inv .stacks-are .high′ });
-            is = rw (row-is, words-put R (e₀ .bt) (e .bt) (suc (2 * (j - 1))) w (let u = keep-under in omega arith), inv .is) (sym (put-words (inv .ps) (v - 1) w (j - 1) seat-is));
-            below = rw row-is (take-set-le (e₀ .bt) R (e₀ .bt + suc (2 * (j - 1))) w (omega arith) ∙ inv .below);
-            expressions = λ t ht. rw put-is (row-other stacks 3 t (e₀ .bt + 2 * j - 1) w (λ q. omega arith) ∙ inv .expressions t ht);
+            stacks-are = rw put-is (record { four = length-set stacks 3 (set R (e₀ .bodytop + 2 * j - 1) w) ∙ f; rows = λ t ht. put-row stacks 3 t (e₀ .bodytop + 2 * j - 1) w (omega arith) ∙ inv .stacks-are .rows t ht; high = inv .stacks-are .high; high′ = inv .stacks-are .high′ });
+            is = rw (row-is, words-put R (e₀ .bodytop) (e .bodytop) (suc (2 * (j - 1))) w (let u = keep-under in omega arith), inv .is) (sym (put-words (inv .ps) (v - 1) w (j - 1) seat-is));
+            below = rw row-is (take-set-le (e₀ .bodytop) R (e₀ .bodytop + suc (2 * (j - 1))) w (omega arith) ∙ inv .below);
+            expressions = λ t ht. rw put-is (row-other stacks 3 t (e₀ .bodytop + 2 * j - 1) w (λ q. omega arith) ∙ inv .expressions t ht);
             seats-long = inv .seats-long;
             agree = λ x h. inv .agree x h ∙ sym (put-seat (inv .ps) (v - 1) w x (λ z. let s = seat-is in omega arith));
             same = named (putName (inv .ps) (v - 1) w) refl;
@@ -269,19 +265,19 @@ module _ (words em : List ℕ) (k at : ℕ) (stacks₀ : List (List ℕ)) (e₀ 
               f : length stacks ≡ 4
               f = inv .stacks-are .four
 
-              row-is : row stacks′ 3 ≡ set R (e₀ .bt + suc (2 * (j - 1))) w
+              row-is : row stacks′ 3 ≡ set R (e₀ .bodytop + suc (2 * (j - 1))) w
               row-is =
-                  let z : e₀ .bt + 2 * j - 1 ≡ e₀ .bt + suc (2 * (j - 1)) = omega arith in
-                  rw (put-is, getD-set-same stacks 3 (set R (e₀ .bt + 2 * j - 1) w) [] (omega arith), z)
+                  let z : e₀ .bodytop + 2 * j - 1 ≡ e₀ .bodytop + suc (2 * (j - 1)) = omega arith in
+                  rw (put-is, getD-set-same stacks 3 (set R (e₀ .bodytop + 2 * j - 1) w) [] (omega arith), z)
 
         -- it has none
         module _ (new : j ≡ 0) where
           seat-none : seatOf (inv .ps) (v - 1) ≡ 0
           seat-none = seat ∙ new
 
-          pub keep-full : 16382 < e .bt → (r : Ends) → r .full ≡ true → Keeps whole stacks₀ e₀ r stacks
+          pub keep-full : 16382 < e .bodytop → (r : Sizes) → r .full ≡ true → Keeps whole stacks₀ e₀ r stacks
           keep-full over r q = record {
-            over = λ z. let t = top in let a = keep-more (namedRecords words (at + 1 + 2 * (i + 1)) (getD words at 0 - (i + 1))) (take k em) (inv .ps ++ ((v - 1, w) ∷ [])) in let b = length-append (inv .ps) ((v - 1, w) ∷ []) in let d = rw (named (inv .ps ++ ((v - 1, w) ∷ [])) (sym (put-new (inv .ps) (v - 1) w seat-none))) at a in omega arith;
+            over = λ z. let t = top in let a = keep-more (namedRecords words (at + 1 + 2 * (i + 1)) (getD words at 0 - (i + 1))) (take k exprmap) (inv .ps ++ ((v - 1, w) ∷ [])) in let b = length-append (inv .ps) ((v - 1, w) ∷ []) in let d = rw (named (inv .ps ++ ((v - 1, w) ∷ [])) (sym (put-new (inv .ps) (v - 1) w seat-none))) at a in omega arith;
             is = λ z. absurd (false≢true (sym z ∙ q));
             ends = λ z. absurd (false≢true (sym z ∙ q));
             below = λ z. absurd (false≢true (sym z ∙ q));
@@ -289,21 +285,21 @@ module _ (words em : List ℕ) (k at : ℕ) (stacks₀ : List (List ℕ)) (e₀ 
             stacks-are = λ z. absurd (false≢true (sym z ∙ q));
           }
 
-          module _ (room : e .bt ≤ 16382) (r₁ : Ends) (stacks₁ : List (List ℕ)) (P₁ : Pushed (v - 1) stacks e r₁ stacks₁) where
-            less₁ : e .bt < 16384
+          module _ (room : e .bodytop ≤ 16382) (r₁ : Sizes) (stacks₁ : List (List ℕ)) (P₁ : Pushed (v - 1) stacks e r₁ stacks₁) where
+            less₁ : e .bodytop < 16384
             less₁ = omega arith
 
             pub keep-stacks : Stacks stacks₁ r₁
             keep-stacks = pushed-stacks (inv .stacks-are) P₁ less₁
 
-            ends₁ : r₁ ≡ atop e₀ (e₀ .bt + 2 * length (inv .ps) + 1)
-            ends₁ = pushed-ends (inv .stacks-are) P₁ less₁ e₀ (e₀ .bt + 2 * length (inv .ps)) (inv .ends)
+            ends₁ : r₁ ≡ atop e₀ (e₀ .bodytop + 2 * length (inv .ps) + 1)
+            ends₁ = pushed-ends (inv .stacks-are) P₁ less₁ e₀ (e₀ .bodytop + 2 * length (inv .ps)) (inv .ends)
 
-            top₁ : r₁ .bt ≡ suc (e .bt)
-            top₁ = let a = ap (λ (x : Ends). x .bt) ends₁ in let t = top in omega arith
+            top₁ : r₁ .bodytop ≡ suc (e .bodytop)
+            top₁ = let a = ap (λ (x : Sizes). x .bodytop) ends₁ in let t = top in omega arith
 
-            module _ (r₂ : Ends) (stacks₂ : List (List ℕ)) (P₂ : Pushed w stacks₁ r₁ r₂ stacks₂) where
-              less₂ : r₁ .bt < 16384
+            module _ (r₂ : Sizes) (stacks₂ : List (List ℕ)) (P₂ : Pushed w stacks₁ r₁ r₂ stacks₂) where
+              less₂ : r₁ .bodytop < 16384
               less₂ = let t = top₁ in omega arith
 
               ps₂ : List (ℕ × ℕ)
@@ -313,24 +309,24 @@ module _ (words em : List ℕ) (k at : ℕ) (stacks₀ : List (List ℕ)) (e₀ 
               unfolding ps₂
               count₂ = length-append (inv .ps) ((v - 1, w) ∷ []) ∙ omega arith
 
-              ends₂ : r₂ ≡ atop e₀ (e₀ .bt + 2 * length ps₂)
-              ends₂ = let c = count₂ in let z : e₀ .bt + 2 * length ps₂ ≡ e₀ .bt + 2 * length (inv .ps) + 1 + 1 = omega arith in rw z (pushed-ends keep-stacks P₂ less₂ e₀ (e₀ .bt + 2 * length (inv .ps) + 1) ends₁)
+              ends₂ : r₂ ≡ atop e₀ (e₀ .bodytop + 2 * length ps₂)
+              ends₂ = let c = count₂ in let z : e₀ .bodytop + 2 * length ps₂ ≡ e₀ .bodytop + 2 * length (inv .ps) + 1 + 1 = omega arith in rw z (pushed-ends keep-stacks P₂ less₂ e₀ (e₀ .bodytop + 2 * length (inv .ps) + 1) ends₁)
 
-              top₂ : r₂ .bt ≡ suc (suc (e .bt))
-              top₂ = let a = ap (λ (x : Ends). x .bt) ends₂ in let t = top in let c = count₂ in omega arith
+              top₂ : r₂ .bodytop ≡ suc (suc (e .bodytop))
+              top₂ = let a = ap (λ (x : Sizes). x .bodytop) ends₂ in let t = top in let c = count₂ in omega arith
 
-              row₂ : row stacks₂ 3 ≡ set (set R (e .bt) (v - 1)) (suc (e .bt)) w
+              row₂ : row stacks₂ 3 ≡ set (set R (e .bodytop) (v - 1)) (suc (e .bodytop)) w
               row₂ = pushed-row keep-stacks P₂ less₂ ∙ rw (pushed-row (inv .stacks-are) P₁ less₁, top₁)
 
-              pub keep-new : (s : ℕ) → s ≡ (e .bt - e₀ .bt) / 2 + 1 → Keeping words em k at stacks₀ e₀ stacks₂ (set seats (v - 1) s) r₂ (i + 1)
+              pub keep-new : (s : ℕ) → s ≡ (e .bodytop - e₀ .bodytop) / 2 + 1 → Keeping words exprmap k at stacks₀ e₀ stacks₂ (set seats (v - 1) s) r₂ (i + 1)
               unfolding ps₂
               keep-new s hs = record {
                 ps = ps₂;
                 within = omega arith;
                 ends = ends₂;
                 stacks-are = pushed-stacks keep-stacks P₂ less₂;
-                is = let a = long in let b = keep-top in rw (row₂, top₂, words-pushed R (e₀ .bt) (e .bt) (v - 1) w b (omega arith), inv .is) (sym (words-new (inv .ps) (v - 1) w));
-                below = let b = keep-top in rw row₂ (take-set-le (e₀ .bt) (set R (e .bt) (v - 1)) (suc (e .bt)) w (omega arith) ∙ take-set-le (e₀ .bt) R (e .bt) (v - 1) b ∙ inv .below);
+                is = let a = long in let b = keep-top in rw (row₂, top₂, words-pushed R (e₀ .bodytop) (e .bodytop) (v - 1) w b (omega arith), inv .is) (sym (words-new (inv .ps) (v - 1) w));
+                below = let b = keep-top in rw row₂ (take-set-le (e₀ .bodytop) (set R (e .bodytop) (v - 1)) (suc (e .bodytop)) w (omega arith) ∙ take-set-le (e₀ .bodytop) R (e .bodytop) (v - 1) b ∙ inv .below);
                 expressions = λ t ht. pushed-other keep-stacks P₂ less₂ t ht ∙ pushed-other (inv .stacks-are) P₁ less₁ t ht ∙ inv .expressions t ht;
                 seats-long = length-set seats (v - 1) s ∙ inv .seats-long;
                 agree = agreed;
@@ -348,7 +344,7 @@ module _ (words em : List ℕ) (k at : ℕ) (stacks₀ : List (List ℕ)) (e₀ 
     pub keep-done : getD words at 0 ≤ i → Keeps whole stacks₀ e₀ e stacks
     unfolding namedRecords keepNames
     keep-done h = record {
-      over = λ q. absurd (false≢true (sym (ap (λ (x : Ends). x .full) (inv .ends)) ∙ q));
+      over = λ q. absurd (false≢true (sym (ap (λ (x : Sizes). x .full) (inv .ends)) ∙ q));
       is = λ q. rw (← all) (inv .is);
       ends = λ q. rw (← all) (inv .ends);
       below = λ q. inv .below;

@@ -1,4 +1,4 @@
--- The names of the pairs on the stack, imported from left to right: what the pairs that are left make of the state that the arrays hold is what all of them make of the first, and the words before them are done. Assumes nothing.
+-- The names of the pairs on the stack, imported from left to right: what the pairs that are left make of the state that the arrays hold is what all of them make of the first, and the words before them are done.
 use mathlib.Core.Path.{_≡_, refl, sym, ap, ap₂, _∙_}
 use mathlib.Core.Bool.{true, false, false≢true}
 use mathlib.Core.List.{List, [], _∷_, _++_, map, append-assoc, append-nil}
@@ -13,15 +13,15 @@ use Rattle.model.specs.Table.{NAME, NAMED-EXPR, SPAN}
 use Rattle.model.specs.Module.{Module, countAt}
 use Rattle.model.specs.Tables.{names, codeT, tables, mapAt}
 use Rattle.model.specs.References.{target, targets, carryW, through}
-use Rattle.model.specs.Imports.{St, importT}
-use Rattle.model.specs.Bodies.{Making, bring, went, step}
+use Rattle.model.specs.Imports.{Derived, importT}
+use Rattle.model.specs.Bodies.{Builder, bring, mappedTo, step}
 use Rattle.theory_passes.specs.Pass.{arrive, named, rows}
 use Rattle.theory_passes.specs.Light.{still}
 use Rattle.theory_image.specs.Betweens.{slice-none}
 use Rattle.derive_state.specs.Source.{modOf, srcOf, Source}
-use Rattle.derive_state.specs.Held.{row, cell, put, tableOf, stOf, sizeR, Kept, Same, Beside, Lands}
+use Rattle.derive_state.specs.Held.{row, cell, put, tableOf, stOf, sizeR, ValidArrays, Same, Beside, Lands}
 use Rattle.derive_state.specs.Marks.{Marks}
-use Rattle.derive_state.specs.declared.Ends.{Ends}
+use Rattle.derive_state.specs.declared.Sizes.{Sizes}
 use Rattle.derive_state.proofs.State.{same-refl, same-then, marks-refl, marks-then, table-stays, row-other, put-row}
 use Rattle.derive_types.proofs.Growth.{Grow, stay, then, over-grow, grow-T}
 use Rattle.derive_types.proofs.Turns.{beside-refl, beside-then, map-is}
@@ -30,33 +30,33 @@ use Rattle.function_record.specs.Closed.{pairsIn, pairsOf, bare, idle, n
 
 -- ---- one name: 0 for none
 module _ (o : ℕ) (M : Module) where
-  unfoldable nameIn : ℕ → St → St
+  unfoldable nameIn : ℕ → Derived → Derived
   nameIn zero s = s
   nameIn (suc v) s = importT o (tables M) names v s
 
-  arrive-is : (w : ℕ) (s : St) → arrive o M still idle idle (target NAME) w (bare s) ≡ bare (nameIn w s)
+  arrive-is : (w : ℕ) (s : Derived) → arrive o M still idle idle (target NAME) w (bare s) ≡ bare (nameIn w s)
   unfolding target targets arrive step bring nameIn
   arrive-is zero s = refl
   arrive-is (suc v) s = refl
 
-  grow-name : (w : ℕ) (s : St) → Grow s (nameIn w s)
+  grow-name : (w : ℕ) (s : Derived) → Grow s (nameIn w s)
   unfolding nameIn
   grow-name zero s = stay s
   grow-name (suc v) s = grow-T o (tables M) names v s
 
-  -- where it went
-  wentTo : St → ℕ → ℕ
-  wentTo s w = through (went M (bare s)) NAME w
+  -- what it is mapped to
+  wentTo : Derived → ℕ → ℕ
+  wentTo s w = through (mappedTo M (bare s)) NAME w
 
-  out-next : (p : ℕ × ℕ) (ps : List (ℕ × ℕ)) (s : St) → namesOut o M (p ∷ ps) s ≡ namesOut o M ps (nameIn (p .1) s)
+  out-next : (p : ℕ × ℕ) (ps : List (ℕ × ℕ)) (s : Derived) → namesOut o M (p ∷ ps) s ≡ namesOut o M ps (nameIn (p .1) s)
   unfolding namesOut named
-  out-next p ps s = ap (λ (m : Making). named o M still idle idle ps m .out) (arrive-is (p .1) s)
+  out-next p ps s = ap (λ (m : Builder). named o M still idle idle ps m .out) (arrive-is (p .1) s)
 
-  rows-next : (p : ℕ × ℕ) (ps : List (ℕ × ℕ)) (s : St) → map word (namesRows o M (p ∷ ps) s) ≡ p .0 ∷ wentTo (nameIn (p .1) s) (p .1) ∷ map word (namesRows o M ps (nameIn (p .1) s))
+  rows-next : (p : ℕ × ℕ) (ps : List (ℕ × ℕ)) (s : Derived) → map word (namesRows o M (p ∷ ps) s) ≡ p .0 ∷ wentTo (nameIn (p .1) s) (p .1) ∷ map word (namesRows o M ps (nameIn (p .1) s))
   unfolding namesRows rows wentTo
-  rows-next p ps s = ap (λ (m : Making). p .0 ∷ through (went M m) NAME (p .1) ∷ map word (rows o M still idle idle ps m)) (arrive-is (p .1) s)
+  rows-next p ps s = ap (λ (m : Builder). p .0 ∷ through (mappedTo M m) NAME (p .1) ∷ map word (rows o M still idle idle ps m)) (arrive-is (p .1) s)
 
-  grow-names : (ps : List (ℕ × ℕ)) (s : St) → Grow s (namesOut o M ps s)
+  grow-names : (ps : List (ℕ × ℕ)) (s : Derived) → Grow s (namesOut o M ps s)
   unfolding namesOut named
   grow-names [] s = stay s
   grow-names (p ∷ ps) s = then (grow-name (p .1) s) (rw (out-next p ps s) (grow-names ps (nameIn (p .1) s)))
@@ -77,7 +77,7 @@ module _ (o : ℕ) (M : Module) where
           ap (drop b) (take-suc-set R (suc i) x (omega arith) ∙ ap (λ (l : List ℕ). l ++ (x ∷ [])) (take-suc R i 0 (omega arith)) ∙ append-assoc (take i R) (getD R i 0 ∷ []) (x ∷ []))
           ∙ drop-append-le b (take i R) (getD R i 0 ∷ x ∷ []) (omega arith)
 
-      module _ (s s′ : St) (is : s′ ≡ nameIn (getD R (suc i) 0) s) where
+      module _ (s s′ : Derived) (is : s′ ≡ nameIn (getD R (suc i) 0) s) where
         out-turn : namesOut o M (pairsIn (slice (suc (suc i)) end (set R (suc i) x))) s′ ≡ namesOut o M (pairsIn (slice i end R)) s
         out-turn = rw (rest-same, pairs-next, is) (sym (out-next (getD R i 0, getD R (suc i) 0) (pairsIn (slice (suc (suc i)) end R)) s))
 
@@ -87,28 +87,28 @@ module _ (o : ℕ) (M : Module) where
             rw (rest-same, front-next, pairs-next, a, append-assoc, ← is, ← hx)
 
 -- ---- the loop
-pub record Naming (words : List ℕ) (n o b : ℕ) (log₀ classes₀ : List ℕ) (starts₀ maps₀ : List (List ℕ)) (marks₀ : List ℕ) (stacks₀ : List (List ℕ)) (e₀ : Ends) (log classes : List ℕ) (starts maps : List (List ℕ)) (marks : List ℕ) (stacks : List (List ℕ)) (e : Ends) (i : ℕ) : Type 0 where
+pub record Naming (words : List ℕ) (n o b : ℕ) (log₀ logtags₀ : List ℕ) (starts₀ maps₀ : List (List ℕ)) (buckets₀ : List ℕ) (stacks₀ : List (List ℕ)) (e₀ : Sizes) (log logtags : List ℕ) (starts maps : List (List ℕ)) (buckets : List ℕ) (stacks : List (List ℕ)) (e : Sizes) (i : ℕ) : Type 0 where
   pub from : b ≤ i
-  pub within : i ≤ e₀ .bt
-  pub whole : (k : ℕ) → i + 2 * k < e₀ .bt → (suc (i + 2 * k) < e₀ .bt) × (getD (row stacks 3) (suc (i + 2 * k)) 0 ≤ countAt 0 words)
+  pub within : i ≤ e₀ .bodytop
+  pub whole : (k : ℕ) → i + 2 * k < e₀ .bodytop → (suc (i + 2 * k) < e₀ .bodytop) × (getD (row stacks 3) (suc (i + 2 * k)) 0 ≤ countAt 0 words)
   pub going : e .full ≡ false
-  pub kept : Kept log classes starts maps marks e
+  pub kept : ValidArrays log logtags starts maps buckets e
   pub beside : Beside starts₀ starts e₀ e
-  pub more : e₀ .used ≤ e .used
-  pub below : Same (e₀ .used) log₀ classes₀ log classes
-  pub marks-stay : Marks marks₀ marks
+  pub more : e₀ .loglen ≤ e .loglen
+  pub below : Same (e₀ .loglen) log₀ logtags₀ log logtags
+  pub marks-stay : Marks buckets₀ buckets
   pub stacks-are : Stacks stacks e₀
   pub low : take b (row stacks 3) ≡ take b (row stacks₀ 3)
   pub expressions : (t : ℕ) → t < 3 → row stacks t ≡ row stacks₀ t
-  pub same : (special : List ℕ) → namesOut o (modOf words n) (pairsIn (slice i (e₀ .bt) (row stacks 3))) (stOf words log classes starts maps special e) ≡ namesOut o (modOf words n) (pairsOf stacks₀ b e₀) (stOf words log₀ classes₀ starts₀ maps₀ special e₀)
-  pub done : (special : List ℕ) → slice b i (row stacks 3) ++ map word (namesRows o (modOf words n) (pairsIn (slice i (e₀ .bt) (row stacks 3))) (stOf words log classes starts maps special e)) ≡ map word (namesRows o (modOf words n) (pairsOf stacks₀ b e₀) (stOf words log₀ classes₀ starts₀ maps₀ special e₀))
+  pub same : (special : List ℕ) → namesOut o (modOf words n) (pairsIn (slice i (e₀ .bodytop) (row stacks 3))) (stOf words log logtags starts maps special e) ≡ namesOut o (modOf words n) (pairsOf stacks₀ b e₀) (stOf words log₀ logtags₀ starts₀ maps₀ special e₀)
+  pub done : (special : List ℕ) → slice b i (row stacks 3) ++ map word (namesRows o (modOf words n) (pairsIn (slice i (e₀ .bodytop) (row stacks 3))) (stOf words log logtags starts maps special e)) ≡ map word (namesRows o (modOf words n) (pairsOf stacks₀ b e₀) (stOf words log₀ logtags₀ starts₀ maps₀ special e₀))
 
-module _ (words : List ℕ) (n o b : ℕ) (log₀ classes₀ : List ℕ) (starts₀ maps₀ : List (List ℕ)) (marks₀ : List ℕ) (stacks₀ : List (List ℕ)) (e₀ : Ends) (K₀ : Kept log₀ classes₀ starts₀ maps₀ marks₀ e₀) where
+module _ (words : List ℕ) (n o b : ℕ) (log₀ logtags₀ : List ℕ) (starts₀ maps₀ : List (List ℕ)) (buckets₀ : List ℕ) (stacks₀ : List (List ℕ)) (e₀ : Sizes) (K₀ : ValidArrays log₀ logtags₀ starts₀ maps₀ buckets₀ e₀) where
   abbrev M : Module
   M = modOf words n
 
-  pub name-first : b ≤ e₀ .bt → ((k : ℕ) → b + 2 * k < e₀ .bt → (suc (b + 2 * k) < e₀ .bt) × (getD (row stacks₀ 3) (suc (b + 2 * k)) 0 ≤ countAt 0 words)) → e₀ .full ≡ false → Stacks stacks₀ e₀
-      → Naming words n o b log₀ classes₀ starts₀ maps₀ marks₀ stacks₀ e₀ log₀ classes₀ starts₀ maps₀ marks₀ stacks₀ e₀ b
+  pub name-first : b ≤ e₀ .bodytop → ((k : ℕ) → b + 2 * k < e₀ .bodytop → (suc (b + 2 * k) < e₀ .bodytop) × (getD (row stacks₀ 3) (suc (b + 2 * k)) 0 ≤ countAt 0 words)) → e₀ .full ≡ false → Stacks stacks₀ e₀
+      → Naming words n o b log₀ logtags₀ starts₀ maps₀ buckets₀ stacks₀ e₀ log₀ logtags₀ starts₀ maps₀ buckets₀ stacks₀ e₀ b
   unfolding pairsOf
   name-first h w nf S = record {
     from = le-refl _;
@@ -118,8 +118,8 @@ module _ (words : List ℕ) (n o b : ℕ) (log₀ classes₀ : List ℕ) (starts
     kept = K₀;
     beside = beside-refl starts₀ e₀;
     more = le-refl _;
-    below = same-refl (e₀ .used) log₀ classes₀;
-    marks-stay = marks-refl marks₀ (K₀ .marks-long);
+    below = same-refl (e₀ .loglen) log₀ logtags₀;
+    marks-stay = marks-refl buckets₀ (K₀ .marks-long);
     stacks-are = S;
     low = refl;
     expressions = λ t ht. refl;
@@ -127,20 +127,20 @@ module _ (words : List ℕ) (n o b : ℕ) (log₀ classes₀ : List ℕ) (starts
     done = λ special. rw (slice-none b b (row stacks₀ 3) (le-refl _)) refl;
   }
 
-  module _ (log classes : List ℕ) (starts maps : List (List ℕ)) (marks : List ℕ) (stacks : List (List ℕ)) (e : Ends) (i : ℕ) (inv : Naming words n o b log₀ classes₀ starts₀ maps₀ marks₀ stacks₀ e₀ log classes starts maps marks stacks e i) where
+  module _ (log logtags : List ℕ) (starts maps : List (List ℕ)) (buckets : List ℕ) (stacks : List (List ℕ)) (e : Sizes) (i : ℕ) (inv : Naming words n o b log₀ logtags₀ starts₀ maps₀ buckets₀ stacks₀ e₀ log logtags starts maps buckets stacks e i) where
     abbrev R : List ℕ
     R = row stacks 3
 
-    abbrev S : List ℕ → St
-    S special = stOf words log classes starts maps special e
+    abbrev S : List ℕ → Derived
+    S special = stOf words log logtags starts maps special e
 
-    entries-stay : sizeR (tableOf log classes starts (e .counts) 7) ≡ sizeR (tableOf log₀ classes₀ starts₀ (e₀ .counts) 7)
+    entries-stay : sizeR (tableOf log logtags starts (e .counts) 7) ≡ sizeR (tableOf log₀ logtags₀ starts₀ (e₀ .counts) 7)
     entries-stay =
         rw (inv .beside .entries-same .0, inv .beside .entries-same .1)
-        (ap sizeR (table-stays log₀ classes₀ log classes starts₀ maps₀ marks₀ marks e₀ K₀ (inv .below) (inv .kept .log-long) (inv .kept .tags-long) (inv .marks-stay) 7 (omega arith)))
+        (ap sizeR (table-stays log₀ logtags₀ log logtags starts₀ maps₀ buckets₀ buckets e₀ K₀ (inv .below) (inv .kept .log-long) (inv .kept .tags-long) (inv .marks-stay) 7 (omega arith)))
 
-    module _ (less : i < e₀ .bt) where
-      long : e₀ .bt ≤ length R
+    module _ (less : i < e₀ .bodytop) where
+      long : e₀ .bodytop ≤ length R
       long = let a = inv .stacks-are .rows 3 (omega arith) in let b = inv .stacks-are .high′ in omega arith
 
       two-more : i + 2 ≡ suc (suc i)
@@ -149,7 +149,7 @@ module _ (words : List ℕ) (n o b : ℕ) (log₀ classes₀ : List ℕ) (starts
       zero-twice : i + 2 * 0 ≡ i
       zero-twice = omega arith
 
-      name-pair : suc i < e₀ .bt
+      name-pair : suc i < e₀ .bodytop
       name-pair = (rw zero-twice at (inv .whole 0 (omega arith))) .0
 
       pub name-in : i + 1 < 16384
@@ -163,7 +163,7 @@ module _ (words : List ℕ) (n o b : ℕ) (log₀ classes₀ : List ℕ) (starts
         row-is : row stacks′ 3 ≡ set R (suc i) x
         row-is = let a = inv .stacks-are .four in rw put-is (getD-set-same stacks 3 (set R (suc i) x) [] (omega arith))
 
-        whole-next : (k : ℕ) → suc (suc i) + 2 * k < e₀ .bt → (suc (suc (suc i) + 2 * k) < e₀ .bt) × (getD (row stacks′ 3) (suc (suc (suc i) + 2 * k)) 0 ≤ countAt 0 words)
+        whole-next : (k : ℕ) → suc (suc i) + 2 * k < e₀ .bodytop → (suc (suc (suc i) + 2 * k) < e₀ .bodytop) × (getD (row stacks′ 3) (suc (suc (suc i) + 2 * k)) 0 ≤ countAt 0 words)
         whole-next k h =
             let z : i + 2 * suc k ≡ suc (suc i) + 2 * k = omega arith in
             let w = rw z at (inv .whole (suc k) (omega arith)) in
@@ -178,15 +178,15 @@ module _ (words : List ℕ) (n o b : ℕ) (log₀ classes₀ : List ℕ) (starts
         expressions-next : (t : ℕ) → t < 3 → row stacks′ t ≡ row stacks₀ t
         expressions-next t ht = rw put-is (row-other stacks 3 t (suc i) x (λ q. omega arith) ∙ inv .expressions t ht)
 
-        module _ (special : List ℕ) (s′ : St) (is : s′ ≡ nameIn o M (getD R (suc i) 0) (S special)) where
-          same-next : namesOut o M (pairsIn (slice (suc (suc i)) (e₀ .bt) (row stacks′ 3))) s′ ≡ namesOut o M (pairsOf stacks₀ b e₀) (stOf words log₀ classes₀ starts₀ maps₀ special e₀)
-          same-next = rw row-is (out-turn o M R b i (e₀ .bt) (inv .from) name-pair long x (S special) s′ is ∙ inv .same special)
+        module _ (special : List ℕ) (s′ : Derived) (is : s′ ≡ nameIn o M (getD R (suc i) 0) (S special)) where
+          same-next : namesOut o M (pairsIn (slice (suc (suc i)) (e₀ .bodytop) (row stacks′ 3))) s′ ≡ namesOut o M (pairsOf stacks₀ b e₀) (stOf words log₀ logtags₀ starts₀ maps₀ special e₀)
+          same-next = rw row-is (out-turn o M R b i (e₀ .bodytop) (inv .from) name-pair long x (S special) s′ is ∙ inv .same special)
 
-          done-next : x ≡ wentTo o M s′ (getD R (suc i) 0) → slice b (suc (suc i)) (row stacks′ 3) ++ map word (namesRows o M (pairsIn (slice (suc (suc i)) (e₀ .bt) (row stacks′ 3))) s′) ≡ map word (namesRows o M (pairsOf stacks₀ b e₀) (stOf words log₀ classes₀ starts₀ maps₀ special e₀))
-          done-next hx = rw row-is (rows-turn o M R b i (e₀ .bt) (inv .from) name-pair long x (S special) s′ is hx ∙ inv .done special)
+          done-next : x ≡ wentTo o M s′ (getD R (suc i) 0) → slice b (suc (suc i)) (row stacks′ 3) ++ map word (namesRows o M (pairsIn (slice (suc (suc i)) (e₀ .bodytop) (row stacks′ 3))) s′) ≡ map word (namesRows o M (pairsOf stacks₀ b e₀) (stOf words log₀ logtags₀ starts₀ maps₀ special e₀))
+          done-next hx = rw row-is (rows-turn o M R b i (e₀ .bodytop) (inv .from) name-pair long x (S special) s′ is hx ∙ inv .done special)
 
       -- no name
-      pub name-skip : (w : ℕ) → w ≡ getD R (i + 1) 0 → w ≡ 0 → Naming words n o b log₀ classes₀ starts₀ maps₀ marks₀ stacks₀ e₀ log classes starts maps marks stacks e (i + 2)
+      pub name-skip : (w : ℕ) → w ≡ getD R (i + 1) 0 → w ≡ 0 → Naming words n o b log₀ logtags₀ starts₀ maps₀ buckets₀ stacks₀ e₀ log logtags starts maps buckets stacks e (i + 2)
       unfolding nameIn wentTo through carryW target targets
       name-skip w hw z = rw two-more (record {
         from = let f = inv .from in omega arith;
@@ -223,19 +223,19 @@ module _ (words : List ℕ) (n o b : ℕ) (log₀ classes₀ : List ℕ) (starts
         unfolding srcOf nameIn
         brought special = rw is-suc refl
 
-        module _ (r : Ends) (log′ classes′ : List ℕ) (starts′ maps′ : List (List ℕ)) (marks′ : List ℕ) (L : Lands words (importT o (srcOf words n) names v) log classes starts maps marks e r log′ classes′ starts′ maps′ marks′) where
-          pub name-full : r .full ≡ true → Renames words n o b log₀ classes₀ starts₀ maps₀ marks₀ stacks₀ e₀ r log′ classes′ starts′ maps′ marks′ stacks
+        module _ (r : Sizes) (log′ logtags′ : List ℕ) (starts′ maps′ : List (List ℕ)) (buckets′ : List ℕ) (L : Lands words (importT o (srcOf words n) names v) log logtags starts maps buckets e r log′ logtags′ starts′ maps′ buckets′) where
+          pub name-full : r .full ≡ true → Renames words n o b log₀ logtags₀ starts₀ maps₀ buckets₀ stacks₀ e₀ r log′ logtags′ starts′ maps′ buckets′ stacks
           name-full q = record {
             lands = record {
-              over = λ z special. rw (← entries-stay, ← same-next (put stacks 3 (suc i) 0) 0 refl special (importT o (srcOf words n) names v (S special)) (brought special)) (over-grow _ (grow-names o M (pairsIn (slice (suc (suc i)) (e₀ .bt) (row (put stacks 3 (suc i) 0) 3))) (importT o (srcOf words n) names v (S special))) (L .over q special));
+              over = λ z special. rw (← entries-stay, ← same-next (put stacks 3 (suc i) 0) 0 refl special (importT o (srcOf words n) names v (S special)) (brought special)) (over-grow _ (grow-names o M (pairsIn (slice (suc (suc i)) (e₀ .bodytop) (row (put stacks 3 (suc i) 0) 3))) (importT o (srcOf words n) names v (S special))) (L .over q special));
               is = λ z. absurd (false≢true (sym z ∙ q));
               kept = λ z. absurd (false≢true (sym z ∙ q));
               beside = λ z. absurd (false≢true (sym z ∙ q));
               more = λ z. absurd (false≢true (sym z ∙ q));
-              below = same-then (e₀ .used) (e .used) log₀ classes₀ log classes log′ classes′ (inv .more) (inv .below) (L .below);
+              below = same-then (e₀ .loglen) (e .loglen) log₀ logtags₀ log logtags log′ logtags′ (inv .more) (inv .below) (L .below);
               log-long = L .log-long;
               tags-long = L .tags-long;
-              marks-stay = marks-then marks₀ marks marks′ (inv .marks-stay) (L .marks-stay);
+              marks-stay = marks-then buckets₀ buckets buckets′ (inv .marks-stay) (L .marks-stay);
             };
             rows-are = λ z. absurd (false≢true (sym z ∙ q));
             below = λ z. absurd (false≢true (sym z ∙ q));
@@ -243,8 +243,8 @@ module _ (words : List ℕ) (n o b : ℕ) (log₀ classes₀ : List ℕ) (starts
             stacks-are = λ z. absurd (false≢true (sym z ∙ q));
           }
 
-          pub name-next : r .full ≡ false → (x : ℕ) → x ≡ v → (stacks′ : List (List ℕ)) → stacks′ ≡ put stacks 3 (i + 1) (cell maps′ 0 x) → Naming words n o b log₀ classes₀ starts₀ maps₀ marks₀ stacks₀ e₀ log′ classes′ starts′ maps′ marks′ stacks′ r (i + 2)
-          unfolding wentTo through carryW target targets went codeT
+          pub name-next : r .full ≡ false → (x : ℕ) → x ≡ v → (stacks′ : List (List ℕ)) → stacks′ ≡ put stacks 3 (i + 1) (cell maps′ 0 x) → Naming words n o b log₀ logtags₀ starts₀ maps₀ buckets₀ stacks₀ e₀ log′ logtags′ starts′ maps′ buckets′ stacks′ r (i + 2)
+          unfolding wentTo through carryW target targets mappedTo codeT
           name-next q x hx stacks′ is = let put-is : stacks′ ≡ put stacks 3 (suc i) (cell maps′ 0 v) = rw (add-one i, hx) at is in rw two-more (record {
             from = let f = inv .from in omega arith;
             within = name-pair;
@@ -253,16 +253,16 @@ module _ (words : List ℕ) (n o b : ℕ) (log₀ classes₀ : List ℕ) (starts
             kept = L .kept q;
             beside = beside-then starts₀ starts starts′ e₀ e r (inv .beside) (L .beside q);
             more = le-trans (inv .more) (L .more q);
-            below = same-then (e₀ .used) (e .used) log₀ classes₀ log classes log′ classes′ (inv .more) (inv .below) (L .below);
-            marks-stay = marks-then marks₀ marks marks′ (inv .marks-stay) (L .marks-stay);
+            below = same-then (e₀ .loglen) (e .loglen) log₀ logtags₀ log logtags log′ logtags′ (inv .more) (inv .below) (L .below);
+            marks-stay = marks-then buckets₀ buckets buckets′ (inv .marks-stay) (L .marks-stay);
             stacks-are = stacks-next stacks′ (cell maps′ 0 v) put-is;
             low = low-next stacks′ (cell maps′ 0 v) put-is;
             expressions = expressions-next stacks′ (cell maps′ 0 v) put-is;
-            same = λ special. same-next stacks′ (cell maps′ 0 v) put-is special (stOf words log′ classes′ starts′ maps′ special r) (sym (L .is q special) ∙ brought special);
-            done = λ special. done-next stacks′ (cell maps′ 0 v) put-is special (stOf words log′ classes′ starts′ maps′ special r) (sym (L .is q special) ∙ brought special) (rw is-suc (sym (map-is words log′ classes′ starts′ maps′ special r names v name-number)));
+            same = λ special. same-next stacks′ (cell maps′ 0 v) put-is special (stOf words log′ logtags′ starts′ maps′ special r) (sym (L .is q special) ∙ brought special);
+            done = λ special. done-next stacks′ (cell maps′ 0 v) put-is special (stOf words log′ logtags′ starts′ maps′ special r) (sym (L .is q special) ∙ brought special) (rw is-suc (sym (map-is words log′ logtags′ starts′ maps′ special r names v name-number)));
           })
 
-    pub name-done : e₀ .bt ≤ i → Renames words n o b log₀ classes₀ starts₀ maps₀ marks₀ stacks₀ e₀ e log classes starts maps marks stacks
+    pub name-done : e₀ .bodytop ≤ i → Renames words n o b log₀ logtags₀ starts₀ maps₀ buckets₀ stacks₀ e₀ e log logtags starts maps buckets stacks
     unfolding namesOut named namesRows rows pairsIn
     name-done h = record {
       lands = record {
@@ -276,11 +276,11 @@ module _ (words : List ℕ) (n o b : ℕ) (log₀ classes₀ : List ℕ) (starts
         tags-long = inv .kept .tags-long;
         marks-stay = inv .marks-stay;
       };
-      rows-are = λ q special. let w = inv .within in let z : e₀ .bt ≡ i = omega arith in ap (λ (x : ℕ). slice b x R) z ∙ sym (append-nil (slice b i R)) ∙ rw none at (inv .done special);
+      rows-are = λ q special. let w = inv .within in let z : e₀ .bodytop ≡ i = omega arith in ap (λ (x : ℕ). slice b x R) z ∙ sym (append-nil (slice b i R)) ∙ rw none at (inv .done special);
       below = λ q. inv .low;
       expressions = inv .expressions;
       stacks-are = λ q. let t = inv .beside .tops-same in let s = inv .stacks-are in record { four = s .four; rows = s .rows; high = rw (t .0) (s .high); high′ = rw (t .1) (s .high′) };
     }
       where
-        none : slice i (e₀ .bt) R ≡ []
-        none = slice-none i (e₀ .bt) R h
+        none : slice i (e₀ .bodytop) R ≡ []
+        none = slice-none i (e₀ .bodytop) R h

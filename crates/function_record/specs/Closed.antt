@@ -1,4 +1,4 @@
--- A function whole on the stacks becomes a record of the log: the named expressions that stay, and the parts in their order. Assumes nothing: these are definitions.
+-- A function whole on the stacks becomes a record of the log: the named expressions that stay, and the parts in their order.
 use mathlib.Core.Path.{_≡_}
 use mathlib.Core.Bool.{true, false}
 use mathlib.Core.Logic.{_⊎_}
@@ -10,13 +10,13 @@ use Rattle.model.specs.Outcome.{Cells, word}
 use Rattle.model.specs.Table.{NAME, NAMED-EXPR, EXPRESSIONS, NAMED}
 use Rattle.model.specs.Module.{Module}
 use Rattle.model.specs.Between.{beside, between}
-use Rattle.model.specs.Imports.{St}
-use Rattle.model.specs.Bodies.{Making}
+use Rattle.model.specs.Imports.{Derived}
+use Rattle.model.specs.Bodies.{Builder}
 use Rattle.theory_passes.specs.Pass.{named, rows}
 use Rattle.theory_passes.specs.Light.{still}
 use Rattle.derive_state.specs.Source.{modOf}
 use Rattle.derive_state.specs.Held.{row, put, recAt, stOf, Lands, Same}
-use Rattle.derive_state.specs.declared.Ends.{Ends}
+use Rattle.derive_state.specs.declared.Sizes.{Sizes}
 use Rattle.function_builder.specs.Stacks.{Stacks}
 
 -- ---- named expressions, as pairs on the stack of words
@@ -34,41 +34,41 @@ unfoldable pub namedRecords : List ℕ → ℕ → ℕ → List Cells
 namedRecords words at zero = []
 namedRecords words at (suc n) = ((NAMED-EXPR, getD words at 0) ∷ (NAME, getD words (suc at) 0) ∷ []) ∷ namedRecords words (suc (suc at)) n
 
--- pairs pushed behind what is there
-pub record Keeps (ps : List (ℕ × ℕ)) (stacks₀ : List (List ℕ)) (e r : Ends) (stacks : List (List ℕ)) : Type 0 where
-  pub over : r .full ≡ true → 16384 < e .bt + 2 * length ps
-  pub is : r .full ≡ false → slice (e .bt) (r .bt) (row stacks 3) ≡ pairWords ps
-  pub ends : r .full ≡ false → r ≡ record { full = false; used = e .used; counts = e .counts; pairs = e .pairs; et = e .et; bt = e .bt + 2 * length ps; made = e .made }
-  pub below : r .full ≡ false → take (e .bt) (row stacks 3) ≡ take (e .bt) (row stacks₀ 3)
+-- pairs pushed after what is there
+pub record Keeps (ps : List (ℕ × ℕ)) (stacks₀ : List (List ℕ)) (e r : Sizes) (stacks : List (List ℕ)) : Type 0 where
+  pub over : r .full ≡ true → 16384 < e .bodytop + 2 * length ps
+  pub is : r .full ≡ false → slice (e .bodytop) (r .bodytop) (row stacks 3) ≡ pairWords ps
+  pub ends : r .full ≡ false → r ≡ record { full = false; loglen = e .loglen; counts = e .counts; pairs = e .pairs; exprtop = e .exprtop; bodytop = e .bodytop + 2 * length ps; made = e .made }
+  pub below : r .full ≡ false → take (e .bodytop) (row stacks 3) ≡ take (e .bodytop) (row stacks₀ 3)
   pub expressions : (t : ℕ) → t < 3 → row stacks t ≡ row stacks₀ t
   pub stacks-are : r .full ≡ false → Stacks stacks r
 
 -- ---- their names imported: no expression has a say in it
-abbrev pub bare : St → Making
+abbrev pub bare : Derived → Builder
 bare s = record { out = s; memo = []; made = [] }
 
-abbrev pub idle : ℕ → Making → Making
+abbrev pub idle : ℕ → Builder → Builder
 idle x m = m
 
-unfoldable pub namesOut : ℕ → Module → List (ℕ × ℕ) → St → St
+unfoldable pub namesOut : ℕ → Module → List (ℕ × ℕ) → Derived → Derived
 namesOut o M ps s = named o M still idle idle ps (bare s) .out
 
-unfoldable pub namesRows : ℕ → Module → List (ℕ × ℕ) → St → Cells
+unfoldable pub namesRows : ℕ → Module → List (ℕ × ℕ) → Derived → Cells
 namesRows o M ps s = rows o M still idle idle ps (bare s)
 
--- the pairs that stand on the stack from b on
-unfoldable pub pairsOf : List (List ℕ) → ℕ → Ends → List (ℕ × ℕ)
-pairsOf stacks b e = pairsIn (slice b (e .bt) (row stacks 3))
+-- the pairs that are on the stack from b on
+unfoldable pub pairsOf : List (List ℕ) → ℕ → Sizes → List (ℕ × ℕ)
+pairsOf stacks b e = pairsIn (slice b (e .bodytop) (row stacks 3))
 
-pub record Renames (words : List ℕ) (n o b : ℕ) (log₀ tags₀ : List ℕ) (starts₀ maps₀ : List (List ℕ)) (marks₀ : List ℕ) (stacks₀ : List (List ℕ)) (e : Ends)
-    (r : Ends) (log tags : List ℕ) (starts maps : List (List ℕ)) (marks : List ℕ) (stacks : List (List ℕ)) : Type 0 where
-  pub lands : Lands words (namesOut o (modOf words n) (pairsOf stacks₀ b e)) log₀ tags₀ starts₀ maps₀ marks₀ e r log tags starts maps marks
-  pub rows-are : r .full ≡ false → (special : List ℕ) → slice b (e .bt) (row stacks 3) ≡ map word (namesRows o (modOf words n) (pairsOf stacks₀ b e) (stOf words log₀ tags₀ starts₀ maps₀ special e))
+pub record Renames (words : List ℕ) (n o b : ℕ) (log₀ logtags₀ : List ℕ) (starts₀ maps₀ : List (List ℕ)) (buckets₀ : List ℕ) (stacks₀ : List (List ℕ)) (e : Sizes)
+    (r : Sizes) (log logtags : List ℕ) (starts maps : List (List ℕ)) (buckets : List ℕ) (stacks : List (List ℕ)) : Type 0 where
+  pub lands : Lands words (namesOut o (modOf words n) (pairsOf stacks₀ b e)) log₀ logtags₀ starts₀ maps₀ buckets₀ e r log logtags starts maps buckets
+  pub rows-are : r .full ≡ false → (special : List ℕ) → slice b (e .bodytop) (row stacks 3) ≡ map word (namesRows o (modOf words n) (pairsOf stacks₀ b e) (stOf words log₀ logtags₀ starts₀ maps₀ special e))
   pub below : r .full ≡ false → take b (row stacks 3) ≡ take b (row stacks₀ 3)
   pub expressions : (t : ℕ) → t < 3 → row stacks t ≡ row stacks₀ t
   pub stacks-are : r .full ≡ false → Stacks stacks r
 
--- ---- the record of what is on the stacks: front words whose classes stand in the source from s on, expressions, named expressions, and a body whose classes stand there from `body` on
+-- ---- the record of what is on the stacks: front words whose classes are in the source from s on, expressions, named expressions, and a body whose classes are there from `body` on
 unfoldable pub nameCells : List ℕ → Cells
 nameCells [] = []
 nameCells (k ∷ []) = []
@@ -78,23 +78,23 @@ unfoldable pub namedClasses : ℕ → List ℕ
 namedClasses zero = []
 namedClasses (suc n) = NAMED-EXPR ∷ NAME ∷ namedClasses n
 
-unfoldable pub closing : List ℕ → List (List ℕ) → Ends → Ends → ℕ → ℕ → ℕ → ℕ → Cells
-closing tags stacks before e s exprs body end =
-    let b = before .bt in
+unfoldable pub closing : List ℕ → List (List ℕ) → Sizes → Sizes → ℕ → ℕ → ℕ → ℕ → Cells
+closing logtags stacks before e s exprs body end =
+    let b = before .bodytop in
     let f = b + (exprs - s) in
     let t = f + (end - body) in
-    beside (slice s exprs tags) (slice b f (row stacks 3))
-    ++ ((EXPRESSIONS, e .made) ∷ between (row stacks 1) (row stacks 0) (before .et) (e .et))
-    ++ ((NAMED, length (pairsIn (slice t (e .bt) (row stacks 3)))) ∷ nameCells (slice t (e .bt) (row stacks 3)))
-    ++ beside (slice body end tags) (slice f t (row stacks 3))
+    beside (slice s exprs logtags) (slice b f (row stacks 3))
+    ++ ((EXPRESSIONS, e .made) ∷ between (row stacks 1) (row stacks 0) (before .exprtop) (e .exprtop))
+    ++ ((NAMED, length (pairsIn (slice t (e .bodytop) (row stacks 3)))) ∷ nameCells (slice t (e .bodytop) (row stacks 3)))
+    ++ beside (slice body end logtags) (slice f t (row stacks 3))
 
-pub record Closes (c : Cells) (limit t : ℕ) (before e : Ends) (log₀ tags₀ : List ℕ) (starts₀ : List (List ℕ)) (r : Ends) (log tags : List ℕ) (starts : List (List ℕ)) : Type 0 where
-  pub over : r .full ≡ true → (getD (e .counts) t 0 ≡ limit) ⊎ (16384 < 23 + 2 * e .pairs + (e .used + suc (length c)))
-  pub is : r .full ≡ false → recAt log tags (e .used) ≡ c
-  pub size : r .full ≡ false → getD log (e .used) 0 ≡ length c
-  pub below : Same (e .used) log₀ tags₀ log tags
+pub record Closes (c : Cells) (limit t : ℕ) (before e : Sizes) (log₀ logtags₀ : List ℕ) (starts₀ : List (List ℕ)) (r : Sizes) (log logtags : List ℕ) (starts : List (List ℕ)) : Type 0 where
+  pub over : r .full ≡ true → (getD (e .counts) t 0 ≡ limit) ⊎ (16384 < 23 + 2 * e .pairs + (e .loglen + suc (length c)))
+  pub is : r .full ≡ false → recAt log logtags (e .loglen) ≡ c
+  pub size : r .full ≡ false → getD log (e .loglen) 0 ≡ length c
+  pub below : Same (e .loglen) log₀ logtags₀ log logtags
   pub log-long : length log ≡ 16384
-  pub tags-long : length tags ≡ 16384
-  pub room : r .full ≡ false → (getD (e .counts) t 0 < limit) × (23 + 2 * e .pairs + (e .used + suc (length c)) ≤ 16384)
-  pub starts-are : r .full ≡ false → starts ≡ put starts₀ t (getD (e .counts) t 0) (e .used)
-  pub ends : r .full ≡ false → r ≡ record { full = false; used = e .used + suc (length c); counts = set (e .counts) t (getD (e .counts) t 0 + 1); pairs = e .pairs; et = before .et; bt = before .bt; made = before .made }
+  pub tags-long : length logtags ≡ 16384
+  pub room : r .full ≡ false → (getD (e .counts) t 0 < limit) × (23 + 2 * e .pairs + (e .loglen + suc (length c)) ≤ 16384)
+  pub starts-are : r .full ≡ false → starts ≡ put starts₀ t (getD (e .counts) t 0) (e .loglen)
+  pub ends : r .full ≡ false → r ≡ record { full = false; loglen = e .loglen + suc (length c); counts = set (e .counts) t (getD (e .counts) t 0 + 1); pairs = e .pairs; exprtop = before .exprtop; bodytop = before .bodytop; made = before .made }

@@ -1,4 +1,4 @@
--- Records that stand one behind the other in words and tape, by the places where they start; and so a function's expressions. Assumes nothing: these are definitions.
+-- Records one after the other in words and tags, by the places where they start; and so a function's expressions.
 use mathlib.Core.Path.{_≡_}
 use mathlib.Core.List.{List, [], _∷_}
 use Prim.Native.Nat.{ℕ, _≤_, _<_}
@@ -10,7 +10,7 @@ use Rattle.model.specs.References.{refs}
 use Rattle.theory_records.specs.RecordLaws.{All}
 use Rattle.function_references.specs.Fits.{FitN}
 
--- ---- records one behind the other: each ends where the next one starts, the last at `end`
+-- ---- records one after the other: each ends where the next one starts, the last at `end`
 unfoldable pub nextOf : List ℕ → ℕ → ℕ
 nextOf [] end = end
 nextOf (b ∷ bs) end = b

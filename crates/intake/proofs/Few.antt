@@ -1,4 +1,4 @@
--- Test 3 gives what test 5 needs: a named number is the number of an expression of its function, so it is below their limit. Assumes nothing.
+-- Test 3 gives what test 5 needs: a named number is the number of an expression of its function, so it is below their limit.
 use mathlib.Core.Path.{_≡_, refl, sym, ap, _∙_, subst}
 use mathlib.Core.Bool.{Bool, true, false, _&&_}
 use mathlib.Core.List.{List, [], _∷_, _++_}
@@ -7,6 +7,7 @@ use native.Mathlib.Omega.{arith}
 use lib.Dec.{eqb}
 use lib.ListN.{length}
 use borrow.Author.Tests.{eqb-true, ltb-true}
+use Rattle.theory_lists.specs.Booleans.{and-split}
 use Rattle.model.specs.Outcome.{Cells, class, word}
 use Rattle.model.specs.Table.{ARGUMENTS, LOCALS, EXPRESSIONS, NAMED, NAMED-EXPR, limit}
 use Rattle.model.specs.Tree.{Function, Entry, flat, flatEntry, flatAll, flatList, flatBlock}
@@ -15,20 +16,8 @@ use Rattle.model.specs.Carry.{Each, each-none, each-next, WellFunction, WellEnt
 use Rattle.model.specs.Initial.{initialised}
 use Rattle.model.specs.Numbers.{Bounds, caps, bound, below, within, ordered, every, outside, inside, sound, soundFunction, soundEntry, constantOnly, numbered}
 use Rattle.model.specs.Names.{field, Few, NumbersFew}
-use Rattle.theory_image.specs.Lists.{and-split}
 use Rattle.theory_image.specs.Writing.{flat-right}
-
-within-split : (b : Bounds) (xs ys : Cells) → within b (xs ++ ys) ≡ true → (within b xs ≡ true) × (within b ys ≡ true)
-unfolding within
-within-split b [] ys h = (refl, h)
-within-split b (c ∷ xs) ys h =
-    let a = and-split (below (bound b (class c)) (word c)) (within b (xs ++ ys)) h in
-    let r = within-split b xs ys (a .1) in
-    (both (below (bound b (class c)) (word c)) (within b xs) (a .0) (r .0), r .1)
-  where
-    both : (p q : Bool) → p ≡ true → q ≡ true → (p && q) ≡ true
-    both true q e f = f
-    both false q e f = e
+use Rattle.theory_image.specs.Within.{within-append}
 
 named-below : (b : Bounds) (w : ℕ) → below (bound b NAMED-EXPR) w ≡ true → w < b .exprs
 unfolding below bound caps
@@ -48,10 +37,10 @@ field-below b (c ∷ cs) few h =
 rows-below : (b : Bounds) (rs : List Cells) → b .exprs ≤ 1024 → within b (flatAll rs) ≡ true → Each (λ r. field NAMED-EXPR r < limit EXPRESSIONS) rs
 unfolding flatAll limit
 rows-below b [] few h = each-none
-rows-below b (r ∷ rs) few h = let a = within-split b r (flatAll rs) h in each-next (field-below b r few (a .0)) (rows-below b rs few (a .1))
+rows-below b (r ∷ rs) few h = let a = within-append b r (flatAll rs) h in each-next (field-below b r few (a .0)) (rows-below b rs few (a .1))
 
 tail-of : (b : Bounds) (xs ys : Cells) → within b (xs ++ ys) ≡ true → within b ys ≡ true
-tail-of b xs ys h = within-split b xs ys h .1
+tail-of b xs ys h = within-append b xs ys h .1
 
 few-in : (b : Bounds) (f : Function) → WellFunction f → within (inside b f) (flat f) ≡ true → Few f
 unfolding flatList inside within limit
@@ -63,7 +52,7 @@ few-in b f w h =
     let t₂ : Cells = f .result ++ t₃ in
     let t₁ : Cells = flatList ARGUMENTS (f .arguments) ++ t₂ in
     let g = tail-of i (flatList EXPRESSIONS (f .exprs)) t₅ (tail-of i (flatList LOCALS (f .locals)) t₄ (tail-of i (f .result) t₃ (tail-of i (flatList ARGUMENTS (f .arguments)) t₂ (tail-of i (f .head) t₁ (sym (ap (within i) (flat-right f)) ∙ h))))) in
-    let k = within-split i (flatList NAMED (f .named)) (flatBlock (f .body)) g .0 in
+    let k = within-append i (flatList NAMED (f .named)) (flatBlock (f .body)) g .0 in
     let l = and-split (below (bound i NAMED) (length (f .named))) (within i (flatAll (f .named))) k .1 in
     rows-below i (f .named) (w .exprs-ok .few) l
 

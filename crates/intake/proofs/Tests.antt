@@ -1,10 +1,11 @@
--- The tests in sequence: the first that fails gives the number. Assumes nothing.
+-- The tests in sequence: the first that fails gives the number.
 use mathlib.Core.Path.{_≡_, refl, sym, ap, _∙_}
 use mathlib.Core.Bool.{Bool, true, false, not}
 use mathlib.Core.List.{List}
 use Prim.Native.Nat.{ℕ}
 use native.Mathlib.Omega.{arith}
 use lib.ListN.{length}
+use borrow.Author.Tests.{not-true, not-false}
 use Rattle.base_words.specs.Words.{wordsOf}
 use Rattle.model.specs.Outcome.{Laid, laid, bad, strange}
 use Rattle.model.specs.Module.{Module, read, sized}
@@ -20,20 +21,13 @@ use Rattle.intake_layout.specs.Layout.{Lays, size, misfit, unknown, shows, held
 use Rattle.intake_layout.specs.declared.Layout.{Layout}
 use Rattle.intake_layout.specs.declared.Layout.the-variants.{Fits, Size as LaidSize, Misfit as LaidMisfit, Strange}
 use Rattle.intake_layout.proofs.Held.{HoldsImage, holds}
-use Rattle.intake.specs.Taken.{numberOf, Tested, Takes, Answers}
+use Rattle.model.specs.Image.{wuldgisp-intake, IntakeEnsures}
+use Rattle.intake.specs.Taken.{numberOf, Tested, Takes}
 use Rattle.intake.specs.declared.Taken.{Taken}
-use Rattle.intake.specs.declared.Taken.the-variants.{Accepted, Size, Misfit, Number, Order, Name, Scope}
+use Rattle.intake.specs.declared.Taken.the-variants.{Accepted, Size, Layout as TakenLayout, Range, Reference, Names, Scope}
 use Rattle.intake.proofs.Few.{numbers-few}
 
-no-true : (b : Bool) → not b ≡ true → b ≡ false
-no-true true e = sym e
-no-true false e = refl
-
-no-false : (b : Bool) → not b ≡ false → b ≡ true
-no-false true e = refl
-no-false false e = sym e
-
--- a test of the module that words and tape hold
+-- a test of the module that words and tags hold
 abbrev pub Of : List ℕ → List ℕ → ℕ → Bool → (Module → Bool) → Type 0
 Of words tags n b f = (m : Module) → Taped words tags n m → b ≡ f m
 
@@ -42,13 +36,13 @@ module _ (words tags : List ℕ) (n : ℕ) where
   refused r f g = record { same = g; many = f }
 
   module _ (b₃ : Bool) (t₃ : Says b₃ words tags n numbered) where
-    pub number-fails : not b₃ ≡ true → Tested Number words tags n
+    pub number-fails : not b₃ ≡ true → Tested Range words tags n
     unfolding tested
-    number-fails e = record { same = λ m t. rw (tested, sym (t₃ .same m t) ∙ no-true b₃ e); many = λ k q. let z : _≡_ {A = ℕ} 0 1 = cc in absurd (omega arith) }
+    number-fails e = record { same = λ m t. rw (tested, sym (t₃ .same m t) ∙ not-true b₃ e); many = λ k q. let z : _≡_ {A = ℕ} 0 1 = cc in absurd (omega arith) }
 
     module _ (y₃ : not b₃ ≡ false) where
       first : (m : Module) → Taped words tags n m → numbered m ≡ true
-      first m t = sym (t₃ .same m t) ∙ no-false b₃ y₃
+      first m t = sym (t₃ .same m t) ∙ not-false b₃ y₃
 
       pub names-ready : Tape words tags n → Numbered words tags n
       names-ready h = record { holds = h .holds; taped = h .taped; few = numbers-few (h .holds) (h .taped .well) (first (h .holds) (h .taped)) }
@@ -60,34 +54,34 @@ module _ (words tags : List ℕ) (n : ℕ) where
       scope-ready = record { holds = first }
 
       module _ (b₄ : Bool) (t₄ : Of words tags n b₄ lower) where
-        pub order-fails : not b₄ ≡ true → Tested Order words tags n
+        pub order-fails : not b₄ ≡ true → Tested Reference words tags n
         unfolding tested
-        order-fails e = record { same = λ m t. rw (tested, first m t, sym (t₄ m t) ∙ no-true b₄ e); many = λ k q. let z : _≡_ {A = ℕ} 0 1 = cc in absurd (omega arith) }
+        order-fails e = record { same = λ m t. rw (tested, first m t, sym (t₄ m t) ∙ not-true b₄ e); many = λ k q. let z : _≡_ {A = ℕ} 0 1 = cc in absurd (omega arith) }
 
         module _ (y₄ : not b₄ ≡ false) where
           second : (m : Module) → Taped words tags n m → lower m ≡ true
-          second m t = sym (t₄ m t) ∙ no-false b₄ y₄
+          second m t = sym (t₄ m t) ∙ not-false b₄ y₄
 
           pub lowers-right : (m : Module) → Taped words tags n m → lower m ≡ true
           lowers-right = second
 
           module _ (b₅ : Bool) (t₅ : Of words tags n b₅ named) where
-            pub name-fails : not b₅ ≡ true → Tested Name words tags n
+            pub name-fails : not b₅ ≡ true → Tested Names words tags n
             unfolding tested
-            name-fails e = record { same = λ m t. rw (tested, first m t, second m t, sym (t₅ m t) ∙ no-true b₅ e); many = λ k q. let z : _≡_ {A = ℕ} 0 1 = cc in absurd (omega arith) }
+            name-fails e = record { same = λ m t. rw (tested, first m t, second m t, sym (t₅ m t) ∙ not-true b₅ e); many = λ k q. let z : _≡_ {A = ℕ} 0 1 = cc in absurd (omega arith) }
 
             module _ (y₅ : not b₅ ≡ false) where
               third : (m : Module) → Taped words tags n m → named m ≡ true
-              third m t = sym (t₅ m t) ∙ no-false b₅ y₅
+              third m t = sym (t₅ m t) ∙ not-false b₅ y₅
 
               module _ (b₆ : Bool) (t₆ : Says b₆ words tags n inScope) where
                 pub scope-fails : not b₆ ≡ true → Tested Scope words tags n
                 unfolding tested
-                scope-fails e = record { same = λ m t. rw (tested, first m t, second m t, third m t, sym (t₆ .same m t) ∙ no-true b₆ e); many = λ k q. let z : _≡_ {A = ℕ} 0 1 = cc in absurd (omega arith) }
+                scope-fails e = record { same = λ m t. rw (tested, first m t, second m t, third m t, sym (t₆ .same m t) ∙ not-true b₆ e); many = λ k q. let z : _≡_ {A = ℕ} 0 1 = cc in absurd (omega arith) }
 
                 pub all-pass : not b₆ ≡ false → Tested (Accepted n) words tags n
                 unfolding tested
-                all-pass e = record { same = λ m t. sym (rw (tested, first m t, second m t, third m t, sym (t₆ .same m t) ∙ no-false b₆ e)); many = λ k q. cc }
+                all-pass e = record { same = λ m t. sym (rw (tested, first m t, second m t, third m t, sym (t₆ .same m t) ∙ not-false b₆ e)); many = λ k q. cc }
 
 -- ---- what passes
 pub passes : (m : Module) → tested m ≡ 0 → Passes m
@@ -130,9 +124,9 @@ module _ (bytes words tags words₁ tags₁ : List ℕ) (words-long : length wor
       go strange q = let z : _≡_ {A = ℕ} 0 1 = cc in absurd (omega arith)
   of-misfit false s g e = let k : misfit ≡ size = rw e at g in let z : _≡_ {A = ℕ} 0 1 = cc in absurd (omega arith)
 
-  pub misfit-fails : r ≡ LaidMisfit → Takes Misfit words₁ tags₁ bytes
+  pub misfit-fails : r ≡ LaidMisfit → Takes TakenLayout words₁ tags₁ bytes
   unfolding layoutOf
-  misfit-fails e = none Misfit (λ k q. let z : _≡_ {A = ℕ} 0 1 = cc in omega arith) (of-misfit (sized (length bytes) (wordsOf bytes)) refl (got .same) e)
+  misfit-fails e = none TakenLayout (λ k q. let z : _≡_ {A = ℕ} 0 1 = cc in omega arith) (of-misfit (sized (length bytes) (wordsOf bytes)) refl (got .same) e)
 
   of-strange : (b : Bool) → sized (length bytes) (wordsOf bytes) ≡ b → shows r words₁ tags₁ ≡ elim b [ true ↦ held (wordsOf bytes) words tags (read (wordsOf bytes)) | false ↦ size ] → r ≡ Strange → 3 ≡ intakeOf (length bytes) (wordsOf bytes)
   unfolding shows intakeOf held verdict
@@ -144,9 +138,9 @@ module _ (bytes words tags words₁ tags₁ : List ℕ) (words-long : length wor
       go strange q = refl
   of-strange false s g e = let k : unknown ≡ size = rw e at g in let z : _≡_ {A = ℕ} 0 1 = cc in absurd (omega arith)
 
-  pub strange-fails : r ≡ Strange → Takes Number words₁ tags₁ bytes
+  pub strange-fails : r ≡ Strange → Takes Range words₁ tags₁ bytes
   unfolding layoutOf
-  strange-fails e = none Number (λ k q. let z : _≡_ {A = ℕ} 0 1 = cc in omega arith) (of-strange (sized (length bytes) (wordsOf bytes)) refl (got .same) e)
+  strange-fails e = none Range (λ k q. let z : _≡_ {A = ℕ} 0 1 = cc in omega arith) (of-strange (sized (length bytes) (wordsOf bytes)) refl (got .same) e)
 
   module _ (n : ℕ) (e : r ≡ Fits n) where
     held-so : HoldsImage bytes words₁ tags₁ n
@@ -172,5 +166,6 @@ module _ (bytes words tags words₁ tags₁ : List ℕ) (words-long : length wor
           };
         }
 
-pub answer-so : (bytes words tags : List ℕ) (q : Taken) (r : ℕ) → Takes q words tags bytes → r ≡ numberOf q → Answers r bytes
-answer-so bytes words tags q r t e = record { same = e ∙ t .same }
+pub answer-so : (bytes words tags : List ℕ) (q : Taken) (r : ℕ) → Takes q words tags bytes → r ≡ numberOf q → IntakeEnsures r bytes
+unfolding wuldgisp-intake
+answer-so bytes words tags q r t e = record { answer = e ∙ t .same }

@@ -1,4 +1,4 @@
--- The way through a block, and answers. What is left to do from where a loop stands is the whole. Assumes nothing.
+-- The way through a block, and answers. At every turn of a loop, what is left to do gives the answer of the whole.
 use mathlib.Core.Path.{_≡_, refl}
 use mathlib.Core.Bool.{Bool, true, false, _||_}
 use mathlib.Core.List.{List}

@@ -1,4 +1,4 @@
--- A block, statement by statement: what is left from here is the whole. Assumes nothing.
+-- A block, statement by statement: what is left from here is the whole.
 use mathlib.Core.Path.{_≡_, refl, sym, ap, _∙_, subst}
 use mathlib.Core.Logic.{_⊎_, inl, inr}
 use mathlib.Core.Bool.{Bool, true, false, _||_}
@@ -37,7 +37,7 @@ told-none ok h e = rw e
 pub finds-none : {count q k : ℕ} {u₀ u : List ℕ} {ok h : Bool} {ρ δ : List ℕ} → ok ≡ false → Finds count q k u₀ u 0 ok h ρ δ
 finds-none {ok = ok} {h = h} e = record { says = told-none ok h e; scope = λ g. absurd-bool g e; kept = λ g. absurd-bool g e }
 
--- ---- a statement with a Continue brings nothing into the scope of its block
+-- ---- a statement with a Continue adds nothing to the scope of its block
 holds-adds : (s : Stmt Range) (dr : ℕ → Bool) (ρ : List ℕ) → holdsS (expandS s dr) ≡ true → addS (expandS s dr) ρ ≡ ρ
 unfolding holdsS expandS addS addF
 holds-adds (stmt a b f) dr ρ h = go f h
@@ -55,7 +55,7 @@ holds-adds (stmt a b f) dr ρ h = go f h
     go (call f xs r) h = absurd-bool h refl
     go (effect k cs) h = absurd-bool h refl
 
--- the scope that a Loop's continuing block sees, once the first Continue has come by (h) with the scope κ
+-- the scope that a Loop's continuing block sees, once the first Continue was met (h) with the scope κ
 unfoldable pub cutB : Bool → XBlock → List ℕ → List ℕ → List ℕ
 cutB true b ρ κ = κ
 cutB false b ρ κ = contB b ρ
@@ -163,7 +163,7 @@ unfolding cutB contB expand
 cut-end dr true ρ κ q = refl
 cut-end dr false ρ κ q = q refl
 
--- the scope that is put aside: once a Continue has come by it stays
+-- the scope that is put aside: once a Continue was met it stays
 aside : Bool → List ℕ → List ℕ → List ℕ
 aside true κ ρ = κ
 aside false κ ρ = ρ

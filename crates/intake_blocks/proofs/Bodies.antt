@@ -1,4 +1,4 @@
--- A whole body: nothing is evaluated and nothing is in scope where it begins, since the words of its expressions are cleared. Assumes nothing.
+-- A whole body: nothing is evaluated and nothing is in scope where it begins, since the words of its expressions are cleared.
 use mathlib.Core.Path.{_≡_, refl, sym, _∙_}
 use mathlib.Core.Logic.{_⊎_, inl, inr}
 use mathlib.Core.Bool.{Bool, true, false, not}

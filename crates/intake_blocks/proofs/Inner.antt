@@ -1,4 +1,4 @@
--- A statement with blocks that is no Loop, seen as words and blocks one behind the other: what is left from here is the whole. Assumes nothing.
+-- A statement with blocks that is no Loop, seen as words and blocks one after the other: what is left from here is the whole.
 use mathlib.Core.Path.{_≡_, refl, sym, ap, _∙_, subst}
 use mathlib.Core.Logic.{_⊎_, inl, inr, ⊎-elim}
 use mathlib.Core.Bool.{Bool, true, false, _&&_, _||_, not}
@@ -9,6 +9,7 @@ use native.Mathlib.Numerals.{add-one}
 use native.Mathlib.Omega.{arith}
 use lib.ListN.{length, getD, length-append, getElem?}
 use borrow.Author.Tests.{not-true, not-false}
+use Rattle.theory_lists.specs.Booleans.{and-right}
 use Rattle.model.specs.Outcome.{Cell, Cells, class, word}
 use Rattle.model.specs.Table.{Row, EXPR, OPT-EXPR, WORD, VALUE, BLOCK, CASES, values, variants, variant, brings, more, statements, sCall, sEffect}
 use Rattle.model.specs.Tree.{Stmt, stmt, Form, emit, block, branch, switch, loop, break, continue, return, kill, call, effect, Block, _then_, case, Cases, nomore, _also_, Range, kindOf, sizeB, sizeC, flatS, flatF, flatB, flatC, flatBlock, DEPTH}
@@ -204,10 +205,6 @@ pub record Parted (xs : List Cells) (dr : ℕ → Bool) (f : Form Range) (p : Pl
   pub holds : holdsF (expandF f dr) ≡ holdsP dr (partsF f)
   pub adds : (ρ : List ℕ) → addF (expandF f dr) ρ ≡ ρ
 
-and-true : (a : Bool) → (a && true) ≡ a
-and-true true = refl
-and-true false = refl
-
 or-false : (a : Bool) → (a || false) ≡ a
 or-false true = refl
 or-false false = refl
@@ -215,7 +212,7 @@ or-false false = refl
 module _ (xs : List Cells) (dr : ℕ → Bool) where
   see-one : (c : ℕ) (ρ : List ℕ) → allVis (standing xs) ρ (operand EXPR c []) ≡ vis (standing xs) ρ c
   unfolding allVis
-  see-one c ρ = ap (allVis (standing xs) ρ) (operand-expr EXPR c [] refl) ∙ and-true (vis (standing xs) ρ c)
+  see-one c ρ = ap (allVis (standing xs) ρ) (operand-expr EXPR c [] refl) ∙ and-right (vis (standing xs) ρ c)
 
   see-none : (s w : ℕ) (ρ : List ℕ) → (s ≡ EXPR → ⊥) → (s ≡ OPT-EXPR → ⊥) → allVis (standing xs) ρ (operand s w []) ≡ true
   unfolding allVis
@@ -227,7 +224,7 @@ module _ (xs : List Cells) (dr : ℕ → Bool) where
   parted (block x) p (ok-block o) a b s = record {
     flat = append-nil (flatBlock x);
     ok = okp-inner o okp-nothing;
-    fine = λ ρ δ. sym (and-true (fineB xs dr x p ρ δ));
+    fine = λ ρ δ. sym (and-right (fineB xs dr x p ρ δ));
     done = λ δ. refl;
     holds = sym (or-false (holdsB (expand x dr)));
     adds = λ ρ. refl;
@@ -235,7 +232,7 @@ module _ (xs : List Cells) (dr : ℕ → Bool) where
   parted (branch c x y) p (ok-branch o q) a b s = record {
     flat = ap (λ l. (EXPR, c) ∷ (flatBlock x ++ l)) (append-nil (flatBlock y));
     ok = okp-cell expr-no-block (okp-inner o (okp-inner q okp-nothing));
-    fine = λ ρ δ. sym (rw (see-one c ρ, and-true (fineB xs dr y p ρ (doneB x δ))) refl);
+    fine = λ ρ δ. sym (rw (see-one c ρ, and-right (fineB xs dr y p ρ (doneB x δ))) refl);
     done = λ δ. addE-append (evalsB (expand x keepAll)) (evalsB (expand y keepAll)) δ;
     holds = ap (holdsB (expand x dr) ||_) (sym (or-false (holdsB (expand y dr))));
     adds = λ ρ. refl;

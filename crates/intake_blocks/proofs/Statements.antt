@@ -1,4 +1,4 @@
--- A Loop, and the statements by kind. Assumes nothing.
+-- A Loop, and the statements by kind.
 use mathlib.Core.Path.{_≡_, refl, sym, ap, _∙_, subst}
 use mathlib.Core.Bool.{Bool, true, false, _&&_, _||_}
 use mathlib.Core.List.{List, [], _∷_, _++_, map}
@@ -7,13 +7,14 @@ use Prim.Native.Nat.{ℕ, suc, _+_, _-_, _≤_, _<_}
 use native.Mathlib.Omega.{arith}
 use lib.ListN.{length, getD, length-append}
 use borrow.Author.Tests.{ne-eqb}
+use Rattle.theory_lists.specs.Booleans.{and-split, and-right}
 use Rattle.model.specs.Outcome.{Cells, word}
 use Rattle.model.specs.Table.{EXPR, OPT-EXPR, OPT-RESULT, CALLEE, FROM, TO}
 use Rattle.model.specs.Tree.{Stmt, stmt, Form, emit, block, branch, switch, loop, break, continue, return, kill, call, effect, Block, end, _then_, Case, case, Cases, nomore, _also_, Range, optOf, wordOf, kindOf, flatF, flatX, flatBlock, DEPTH}
 use Rattle.model.specs.Carry.{OkF, ok-loop}
 use Rattle.model.specs.Operands.{optional, operand, opsOf, resultOf, standing}
 use Rattle.model.specs.Scope.{Place, XBlock, inSwitch, inLoop, inContinuing, inRange, expandS, expandF, expand, expandK, expandC, effectResult, evalsOpt, evalsS, evalsF, evalsB, addE, addOpt, addS, addF, topB, holdsS, holdsF, holdsB, holdsK, holdsC, contB, vis, allVis, optVis}
-use Rattle.theory_image.specs.Lists.{and-split}
+use Rattle.theory_image.specs.Words.{opt-of}
 use Rattle.intake_statements.specs.Fine.{keepAll, doneB, doneS, doneK, fresh, fineS, fineF, fineB, fineK, fineC}
 use Rattle.intake_statements.specs.Tape.{cellsIn, stmtOf, HoldsB, HoldsS, exprsOf, Steps, stepped, marks}
 use Rattle.intake_statements.specs.Lasts.{Scope, Kept, visibleAt, allSeen, fitsResult, rangeOf, FoundR, FoundL}
@@ -25,7 +26,7 @@ use Rattle.intake_blocks.proofs.Trees.{Runs, runs-word, runs-split, bet
 use Rattle.intake_blocks.proofs.Blocks.{told-yes, told-no, finds-none, leave}
 use Rattle.intake_blocks.proofs.Inner.{effect-kind, Header, header}
 
--- ---- where no Continue may stand there is none
+-- ---- where no Continue is allowed there is none
 module _ (xs : List Cells) (dr : ℕ → Bool) where
   mutual
     unfolding fineS fineF fineB fineK fineC holdsS holdsF holdsB holdsK holdsC expandS expandF expand expandK expandC
@@ -128,11 +129,7 @@ looped ws ts at stop s h k = let g = header ws ts at stop s h in loop-of ws ts a
 opt-see : (f : ℕ → Bool) (ρ : List ℕ) (o : Option ℕ) → allVis f ρ (optional (wordOf o) []) ≡ optVis f ρ o
 unfolding allVis optVis optional wordOf
 opt-see f ρ none = refl
-opt-see f ρ (some e) = and-true (vis f ρ e)
-  where
-    and-true : (a : Bool) → (a && true) ≡ a
-    and-true true = refl
-    and-true false = refl
+opt-see f ρ (some e) = and-right (vis f ρ e)
 
 module _ (xs : List Cells) (dr : ℕ → Bool) (a b : Block Range) (o : Option ℕ) (c e : ℕ) (p : Place) (ρ δ : List ℕ) where
   loop-stop : fineB xs dr a (inLoop p) ρ δ ≡ false → fineS xs dr (stmt c e (loop a b o)) p ρ δ ≡ false
@@ -370,7 +367,7 @@ is-continue kill o k = absurd (omega arith)
 is-continue (call x y z) o k = absurd (omega arith)
 is-continue (effect x y) o k = absurd (omega (arith, effect-kind o .0))
 
--- a Switch asks nothing of a Break around it
+-- a Switch requires nothing of a Break around it
 switch-place : (xs : List Cells) (dr : ℕ → Bool) (f : Form Range) (b c r : Bool) (ρ δ : List ℕ) → OkF DEPTH f → kindOf f ≡ 3 → fineF xs dr f (placeOf true c r) ρ δ ≡ fineF xs dr f (placeOf b c r) ρ δ
 unfolding kindOf fineF
 switch-place xs dr (emit x) b c r ρ δ o k = absurd (omega arith)
@@ -449,20 +446,11 @@ unfolding resultOf
 call-result [] w = refl
 call-result (y ∷ ys) w = call-result ys w
 
-opt-word : (o : Option ℕ) → optOf (wordOf o) ≡ o
-unfolding optOf wordOf
-opt-word none = refl
-opt-word (some e) = refl
-
 pub record Simple (xs : List Cells) (dr : ℕ → Bool) (f : Form Range) (w : ℕ) : Type 0 where
   pub fine : (p : Place) (ρ δ : List ℕ) → (kindOf f ≡ 7 → p .returns ≡ true) → fineF xs dr f p ρ δ ≡ (allVis (standing xs) ρ (opsOf (flatF f)) && (fitsResult xs (kindOf f) w (resultOf (flatF f)) && fresh (evalsOpt (resultOf (flatF f))) δ))
   pub holds : holdsF (expandF f dr) ≡ false
   pub adds : (ρ : List ℕ) → addF (expandF f dr) ρ ≡ addOpt (resultOf (flatF f)) ρ
   pub evals : evalsF (expandF f keepAll) ≡ evalsOpt (resultOf (flatF f))
-
-and-true : (a : Bool) → (a && true) ≡ a
-and-true true = refl
-and-true false = refl
 
 fits-effect : (xs : List Cells) (j w : ℕ) (o : Option ℕ) → (j ≡ 15 → ⊥) → fitsResult xs j w o ≡ effectResult xs j o
 unfolding fitsResult
@@ -478,7 +466,7 @@ simple-of xs dr ws ts i (loop x y z) r o k = absurd (omega arith)
 simple-of xs dr ws ts i break r o k = absurd (omega arith)
 simple-of xs dr ws ts i continue r o k = absurd (omega arith)
 simple-of xs dr ws ts i (return x) r o k = record {
-  fine = λ p ρ δ q. rw (q refl) (sym (opt-see (standing xs) ρ x) ∙ sym (and-true (allVis (standing xs) ρ (optional (wordOf x) []))));
+  fine = λ p ρ δ q. rw (q refl) (sym (opt-see (standing xs) ρ x) ∙ sym (and-right (allVis (standing xs) ρ (optional (wordOf x) []))));
   holds = refl;
   adds = λ ρ. refl;
   evals = refl;
@@ -487,7 +475,7 @@ simple-of xs dr ws ts i kill r o k = record { fine = λ p ρ δ q. refl; holds =
 simple-of xs dr ws ts i (call f ys z) r o k =
     let w = runs-word ws ts i (CALLEE, f) _ r .1 .0 in
     let a = call-ops ys (wordOf z) in
-    let b : resultOf (map (λ x. (EXPR, x)) ys ++ (OPT-RESULT, wordOf z) ∷ []) ≡ z = call-result ys (wordOf z) ∙ opt-word z in
+    let b : resultOf (map (λ x. (EXPR, x)) ys ++ (OPT-RESULT, wordOf z) ∷ []) ≡ z = call-result ys (wordOf z) ∙ opt-of z in
     record {
       fine = λ p ρ δ q. rw (w, a, b) refl;
       holds = refl;

@@ -1,4 +1,4 @@
--- Trees in words and tape: a run of cells splits where the cells do, the tree is what the words are read as, and the lengths of statements lead through a block. Assumes nothing.
+-- Trees in words and tags: a run of cells splits where the cells do, the tree is what the words are read as, and the lengths of statements lead through a block.
 use mathlib.Core.Path.{_≡_, refl, sym, ap, _∙_}
 use mathlib.Core.List.{List, [], _∷_, _++_, map, append-nil}
 use Prim.Native.Nat.{ℕ, suc, _+_, _-_, _≤_, _<_}

@@ -1,4 +1,4 @@
--- What the functions of a body ask, and what they find: the answer of Fine.antt, whether a Continue of the Loop around was met, and how long each expression then stays in scope.
+-- What the functions on a body require, and what they find: the answer of Fine.antt, whether a Continue of the Loop around was met, and how long each expression then stays in scope.
 use mathlib.Core.Path.{_≡_}
 use mathlib.Core.Bool.{Bool, true, false}
 use mathlib.Core.List.{List}
@@ -35,7 +35,7 @@ placeOf b c r = record { breaks = b; continues = c; returns = r }
 unfoldable pub keptOf : Bool → ℕ → ℕ → ℕ
 keptOf h keep fin = elim h [ true ↦ fin | false ↦ keep ]
 
--- ---- what the functions of a body ask, and what they find
+-- ---- what the functions on a body require, and what they find
 pub record StmtHere (ws ts st : List ℕ) (count at stop keep : ℕ) : Type 0 where
   pub exprs : Exprs ws ts st count
   pub holds : HoldsS ws ts at stop (stmtOf ws ts at stop)

@@ -7,6 +7,8 @@ use base_kinds::EMIT;
 use base_kinds::LOOP;
 use base_kinds::RETURN;
 use base_kinds::SWITCH;
+use base_words::Tags;
+use base_words::Words;
 use base_words::wide;
 use intake_statements::emit;
 use intake_statements::read;
@@ -22,7 +24,7 @@ ghost use Rattle.intake_statements.specs.Tape.{blockOf, Steps, stepped, exprsOf
 ghost use Rattle.intake_blocks.specs.Found.{Cleared, placeOf, keptOf, told, StmtHere, BlockHere, FoundS, FoundB};
 
 // Where the block at the word `at` ends.
-fn skip(words: &[u32; 16384], at: usize) -> usize
+fn skip(words: &Words, at: usize) -> usize
     requires { ⌜ at < 16384 ⌝ }
     requires { ⌜ Steps (now words) (getD (now words) at 0) (at + 1) ⌝ }
     ensures { λ r. ⌜ r ≡ stepped (getD (now (words .entry)) at 0) (now (words .entry)) (at + 1) ⌝ }
@@ -67,8 +69,8 @@ fn kept(cut: u8, keep: usize, fin: usize) -> usize
 
 // A statement with blocks that is no Loop: its reads, and its blocks.
 fn parts(
-    words: &[u32; 16384],
-    tags: &[u8; 16384],
+    words: &Words,
+    tags: &Tags,
     starts: &[u32; 1025],
     initial: &[u8; 1024],
     until: &mut [usize; 1024],
@@ -122,8 +124,8 @@ fn parts(
 
 // A Loop.
 fn looped(
-    words: &[u32; 16384],
-    tags: &[u8; 16384],
+    words: &Words,
+    tags: &Tags,
     starts: &[u32; 1025],
     initial: &[u8; 1024],
     until: &mut [usize; 1024],
@@ -180,8 +182,8 @@ fn looped(
 
 // The statement from the word `at` to the word `stop`.
 fn stmt(
-    words: &[u32; 16384],
-    tags: &[u8; 16384],
+    words: &Words,
+    tags: &Tags,
     starts: &[u32; 1025],
     initial: &[u8; 1024],
     until: &mut [usize; 1024],
@@ -266,8 +268,8 @@ fn stmt(
 
 // The block from the word `at` to the word `fin`, whose evaluations stay up to the word `keep`, or up to its end from its first Continue on.
 fn block(
-    words: &[u32; 16384],
-    tags: &[u8; 16384],
+    words: &Words,
+    tags: &Tags,
     starts: &[u32; 1025],
     initial: &[u8; 1024],
     until: &mut [usize; 1024],
@@ -310,7 +312,7 @@ fn block(
     cut
 }
 
-// Nothing is evaluated: 0 beside each of the first `count` expressions. What stands behind them is left from another function, and is not read.
+// Nothing is evaluated: 0 for each of the first `count` expressions. What follows them is left from another function, and is not read.
 fn clear(until: &mut [usize; 1024], count: usize)
     requires { ⌜ count ≤ 1024 ⌝ }
     requires { ⌜ length (now until) ≡ 1024 ⌝ }
@@ -326,8 +328,8 @@ fn clear(until: &mut [usize; 1024], count: usize)
 
 // Is the body from the word `at` to the word `end` in scope?
 pub fn body(
-    words: &[u32; 16384],
-    tags: &[u8; 16384],
+    words: &Words,
+    tags: &Tags,
     starts: &[u32; 1025],
     initial: &[u8; 1024],
     until: &mut [usize; 1024],

@@ -12,9 +12,9 @@ use lib.Seq.{slice, slice-cons, getD-set-same, getD-set-other}
 use borrow.Author.Tests.{eqb-true, eqb-false, eq-eqb, ne-eqb, not-true, not-false}
 use Rattle.model.specs.Carry.{Each, each-none, each-next}
 use Rattle.model.specs.Names.{absent, distinct, same, unlike, differ}
-use Rattle.theory_image.specs.Lists.{and-split}
 use Rattle.theory_image.specs.Betweens.{slice-none}
 use Rattle.theory_image.specs.Quiet.{each-map}
+use Rattle.theory_image.specs.Same.{same-true}
 use Rattle.intake_distinct.specs.Listed.{listing}
 use Rattle.intake_distinct.specs.Places.{mix, mixed, hash, print, SEVERAL, shows, stands, Leaves, Seen, New}
 
@@ -65,19 +65,11 @@ pub numbers : Pairwise distinct absent
 unfolding distinct
 numbers = record { none = refl; next = λ x xs. refl; apart = absent-apart }
 
--- names
-same-equal : (xs ys : List ℕ) → same xs ys ≡ true → xs ≡ ys
-unfolding same
-same-equal [] [] e = refl
-same-equal [] (y ∷ ys) e = never e refl
-same-equal (x ∷ xs) [] e = never e refl
-same-equal (x ∷ xs) (y ∷ ys) e = let s = and-split (eqb x y) (same xs ys) e in ap₂ _∷_ (eqb-true x y (s .0)) (same-equal xs ys (s .1))
-
 same-other : (xs ys : List ℕ) → (xs ≡ ys → ⊥) → same xs ys ≡ false
 same-other xs ys d = go (same xs ys) refl
   where
     go : (b : Bool) → same xs ys ≡ b → b ≡ false
-    go true t = absurd (d (same-equal xs ys t))
+    go true t = absurd (d (same-true xs ys t))
     go false t = refl
 
 unlike-apart : (xs : List (List ℕ)) (x : List ℕ) → Each (λ y. x ≡ y → ⊥) xs → unlike xs x ≡ true

@@ -1,6 +1,6 @@
 -- Marks of the names and numbers that were seen. Each has a hash, and equal ones have equal hashes. The place of a hash among the marks is its
--- remainder by their number, and the mark there is its print, or SEVERAL where hashes of other prints have the same place. So one whose mark does not
--- stand at its place is none of those that were seen.
+-- remainder by their number, and the mark there is its print, or SEVERAL where hashes of other prints have the same place. So one whose mark is not at
+-- its place is none of those that were seen.
 use mathlib.Core.Path.{_≡_}
 use mathlib.Core.Bool.{Bool, true, _||_, not}
 use mathlib.Core.List.{List, [], _∷_}
@@ -38,7 +38,7 @@ shows mark h = eqb mark (print h) || eqb mark SEVERAL
 abbrev pub stands : List ℕ → ℕ → ℕ → Bool
 stands marks p h = shows (getD marks p 0) h
 
--- the hash h leaves its mark at place p, and r says whether it stood there not; all that stood still stand
+-- the hash h leaves its mark at place p, and r says whether it was not there yet; all marks that were there still are
 pub record Leaves (before : List ℕ) (p h : ℕ) (after : List ℕ) (r : Bool) : Type 0 where
   pub answer : r ≡ not (stands before p h)
   pub long : length after ≡ length before

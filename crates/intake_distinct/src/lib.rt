@@ -1,5 +1,5 @@
-// Whether names differ, and whether names of functions and keys do.
-// Cost: linear, but for marks that meet. Names, names of functions and keys are one pass each, from the last to the first: each leaves a mark by its
+// Whether names differ, and whether names of functions and special keys do.
+// Cost: linear, except where marks collide. Names, names of functions and keys are one pass each, from the last to the first: each leaves a mark by its
 // hash, and only one whose mark may be there already is compared with all later ones, which is one or two of 512 names whose hashes fall as if by
 // chance. Names or keys that are made to leave their marks at one place are still compared by pairs. The worst case is 512 names of equal length and
 // one place that differ in their last words: 130,816 pairs of 30 words, about 2 ms.
@@ -9,6 +9,7 @@ use base_views::count;
 use base_views::end_of;
 use base_views::pair_at;
 use base_views::start_of;
+use base_words::Words;
 use base_words::wide;
 ghost use mathlib.Core.Path.{_≡_};
 ghost use Prim.Native.Nat.{_+_, _-_, _^_, _≤_, _<_};
@@ -20,7 +21,7 @@ ghost use Rattle.intake_distinct.specs.Listed.{listing, placeOf, numberA
 ghost use Rattle.intake_distinct.specs.Places.{mix as mixOf, hash as hashOf, itself, print as printOf, Leaves, Seen, New};
 
 // Where record j of section k starts, or pair j of the special types.
-fn place(words: &[u32; 16384], k: usize, j: usize) -> usize
+fn place(words: &Words, k: usize, j: usize) -> usize
     requires { ⌜ Placed (now words) k ⌝ }
     requires { ⌜ j < countAt k (now words) ⌝ }
     requires { ⌜ j < 2 ^ 32 ⌝ }
@@ -33,7 +34,7 @@ fn place(words: &[u32; 16384], k: usize, j: usize) -> usize
 }
 
 // The name of a function or an entry point, or the key of a pair.
-pub fn number(words: &[u32; 16384], k: usize, j: usize) -> u32
+pub fn number(words: &Words, k: usize, j: usize) -> u32
     requires { ⌜ Placed (now words) k ⌝ }
     requires { ⌜ j < countAt k (now words) ⌝ }
     requires { ⌜ j < 2 ^ 32 ⌝ }
@@ -44,7 +45,7 @@ pub fn number(words: &[u32; 16384], k: usize, j: usize) -> u32
 }
 
 // Whether none of section k from a number on is x.
-fn absent(words: &[u32; 16384], k: usize, from: usize, x: u32) -> bool
+fn absent(words: &Words, k: usize, from: usize, x: u32) -> bool
     requires { ⌜ Placed (now words) k ⌝ }
     requires { ⌜ from ≤ countAt k (now words) ⌝ }
     ensures { λ r. ⌜ r ≡ absentOf (listing (numberAt (now (words .entry)) k) (countAt k (now (words .entry)) - from) from) x ⌝ }
@@ -90,7 +91,7 @@ fn mark(seen: &mut [u8], at: usize, h: usize) -> bool
 }
 
 // Whether number j of section k is none of the later ones, which have left their marks; it leaves its own.
-fn new_number(words: &[u32; 16384], seen: &mut [u8], k: usize, j: usize) -> bool
+fn new_number(words: &Words, seen: &mut [u8], k: usize, j: usize) -> bool
     requires { ⌜ Placed (now words) k ⌝ }
     requires { ⌜ j < countAt k (now words) ⌝ }
     requires { ⌜ j < 2 ^ 32 ⌝ }
@@ -106,7 +107,7 @@ fn new_number(words: &[u32; 16384], seen: &mut [u8], k: usize, j: usize) -> bool
 }
 
 // Whether those of section k differ.
-pub fn distinct(words: &[u32; 16384], k: usize) -> bool
+pub fn distinct(words: &Words, k: usize) -> bool
     requires { ⌜ Placed (now words) k ⌝ }
     ensures { λ r. ⌜ r ≡ distinctOf (listing (numberAt (now (words .entry)) k) (countAt k (now (words .entry))) 0) ⌝ }
 {
@@ -122,7 +123,7 @@ pub fn distinct(words: &[u32; 16384], k: usize) -> bool
 }
 
 // Whether the n words from a and the n words from b are equal.
-fn same(words: &[u32; 16384], a: usize, b: usize, n: usize) -> bool
+fn same(words: &Words, a: usize, b: usize, n: usize) -> bool
     requires { ⌜ length (now words) ≡ 16384 ⌝ }
     requires { ⌜ (a + n ≤ 16384) × (b + n ≤ 16384) ⌝ }
     ensures { λ r. ⌜ r ≡ sameOf (slice a (a + n) (now (words .entry))) (slice b (b + n) (now (words .entry))) ⌝ }
@@ -139,7 +140,7 @@ fn same(words: &[u32; 16384], a: usize, b: usize, n: usize) -> bool
 }
 
 // Whether the n words from a are name j.
-fn is_name(words: &[u32; 16384], a: usize, n: usize, j: usize) -> bool
+fn is_name(words: &Words, a: usize, n: usize, j: usize) -> bool
     requires { ⌜ Spelled (now words) ⌝ }
     requires { ⌜ a + n ≤ 16384 ⌝ }
     requires { ⌜ j < countAt 0 (now words) ⌝ }
@@ -155,7 +156,7 @@ fn is_name(words: &[u32; 16384], a: usize, n: usize, j: usize) -> bool
 }
 
 // Whether none of the names from a number on is the n words from a.
-fn unlike(words: &[u32; 16384], from: usize, a: usize, n: usize) -> bool
+fn unlike(words: &Words, from: usize, a: usize, n: usize) -> bool
     requires { ⌜ Spelled (now words) ⌝ }
     requires { ⌜ a + n ≤ 16384 ⌝ }
     requires { ⌜ from ≤ countAt 0 (now words) ⌝ }
@@ -182,7 +183,7 @@ pub fn mix(h: usize, w: u32) -> usize
 }
 
 // The hash of the n words from a.
-fn hash(words: &[u32; 16384], a: usize, n: usize) -> usize
+fn hash(words: &Words, a: usize, n: usize) -> usize
     requires { ⌜ length (now words) ≡ 16384 ⌝ }
     requires { ⌜ a + n ≤ 16384 ⌝ }
     ensures { λ r. ⌜ r ≡ hashOf (slice a (a + n) (now (words .entry))) ⌝ }
@@ -198,7 +199,7 @@ fn hash(words: &[u32; 16384], a: usize, n: usize) -> usize
 }
 
 // Whether name j is none of the later ones, which have left their marks; it leaves its own.
-fn new_name(words: &[u32; 16384], seen: &mut [u8], j: usize) -> bool
+fn new_name(words: &Words, seen: &mut [u8], j: usize) -> bool
     requires { ⌜ Spelled (now words) ⌝ }
     requires { ⌜ j < countAt 0 (now words) ⌝ }
     requires { ⌜ j < 2 ^ 32 ⌝ }
@@ -216,7 +217,7 @@ fn new_name(words: &[u32; 16384], seen: &mut [u8], j: usize) -> bool
 }
 
 // Whether the names differ.
-pub fn differ(words: &[u32; 16384]) -> bool
+pub fn differ(words: &Words) -> bool
     requires { ⌜ Spelled (now words) ⌝ }
     ensures { λ r. ⌜ r ≡ differOf (listing (nameAt (now (words .entry))) (countAt 0 (now (words .entry))) 0) ⌝ }
 {

@@ -1,4 +1,4 @@
--- The model's reader of trees, seen flat: rows of pieces. Assumes nothing.
+-- The model's reader of trees, seen flat: rows of pieces.
 use mathlib.Core.Path.{_≡_, refl, sym, ap, _∙_}
 use mathlib.Core.Bool.{Bool, true, false}
 use mathlib.Core.Option.{Option, none, some}
@@ -11,7 +11,8 @@ use lib.ListN.{length, getElem?}
 use borrow.Author.Tests.{ltb-true, lt-ltb, le-ltb, ne-eqb, eqb-true}
 use Rattle.model.specs.Outcome.{Cells, Outcome, fits, misfit, unknown, _⟫_, eat, mapO}
 use Rattle.model.specs.Table.{Row, SPAN, UPTO, EXPR, OPT-EXPR, FROM, TO, CALLEE, OPT-RESULT, OPERANDS, VALUE, TEXT, PAD, MEMBERS, ARGUMENTS, RETURNS, LOCALS, EXPRESSIONS, NAMED, TYPE-KIND, BLOCK, CASES, LENGTH, STMT-KIND, Shape, sEmit, sBlock, sIf, sSwitch, sLoop, sBreak, sContinue, sReturn, sKill, sCall, sEffect, statements, functionHead, entryHead, counted, limit, variants, types, expressions, levels, queries, values, atomics, results, repeat, variant, More, brings, over, nothing, more, follow, run}
-use Rattle.model.specs.Tree.{Stmt, Form, Block, Cases, Case, stmt, emit, block, branch, switch, loop, break, continue, return, kill, call, effect, _then_, _also_, case, Range, optOf, wordOf, kindOf, sizeB, sizeC, flatAll, flatList, flatX, flatS, flatF, flatB, flatC, flatK, flatBlock, flat, flatEntry, rows, listed, operands, stmts, cases, caseAt, form, checked, shaped, statement, blockAt, functionAt, entryAt, DEPTH}
+use Rattle.model.specs.Tree.{Stmt, Form, Block, Cases, Case, stmt, emit, block, branch, switch, loop, break, continue, return, kill, call, effect, _then_, _also_, case, Range, optOf, kindOf, sizeB, sizeC, flatAll, flatList, flatX, flatS, flatF, flatB, flatC, flatK, flatBlock, flat, flatEntry, rows, listed, operands, stmts, cases, caseAt, form, checked, shaped, statement, blockAt, functionAt, entryAt, DEPTH}
+use Rattle.theory_image.specs.Words.{word-of}
 use Rattle.intake_fields.specs.Parts.{Reader, join, times, listOf, caseOf, caseRow, part, parts, rowOf, rowAs, statementRows, chosen, kinded, check, statementOf, blockOf, readB, piece, pieces, rows as brings-rows, over as brings-over, bringsOf, brought, once, opening, functionRow, entryRow}
 
 -- ---- fusion
@@ -110,7 +111,7 @@ unfolding repeat times
 run-repeat zero r ws = run-none ws
 run-repeat (suc n) r ws = run-append ws r (repeat n r) ∙ join-same (run ws r) _ _ (run-repeat n r)
 
--- ---- a reader of trees is a chain of parts; pre is what stands before
+-- ---- a reader of trees is a chain of parts; pre is what comes before
 pub record Chain {C : Type 0} (flat : C → Cells) (pre : Cells) (o : Outcome C) (t : Outcome Cells) : Type 0 where
   pub same : mapO flat o ≡ mapO (pre ++_) t
 
@@ -143,7 +144,7 @@ pub last : {C : Type 0} {flat : C → Cells} {pre : Cells} (c : C) (ws : List �
 unfolding mapO
 last c ws e = record { same = ap (λ x. fits x ws) e }
 
--- nothing stands before
+-- nothing comes before
 pub bare : {C : Type 0} {flat : C → Cells} {o : Outcome C} {t : Outcome Cells} → Chain flat [] o t → mapO flat o ≡ t
 bare {t} c = c .same ∙ map-none t
 
@@ -280,11 +281,6 @@ fine? sReturn k = eqb 7 k
 fine? sKill k = eqb 8 k
 fine? sCall k = eqb 15 k
 fine? (sEffect ss) k = below? BLOCK ss
-
-pub word-of : (w : ℕ) → wordOf (optOf w) ≡ w
-unfolding wordOf optOf
-word-of zero = refl
-word-of (suc w) = refl
 
 part-field : (B : Reader) (s : ℕ) (ws : List ℕ) → ltb s BLOCK ≡ true → part B s ws ≡ run ws (s ∷ [])
 unfolding part
@@ -445,7 +441,7 @@ unfolding parts join
 parts-append B [] b ws = sym (map-none (parts B b ws))
 parts-append B (s ∷ a) b ws = join-same (part B s ws) _ _ (λ ws. parts-append B a b ws) ∙ sym (join-join (part B s ws) (parts B a) (parts B b))
 
--- the fields behind a function's head
+-- the fields after a function's head
 abbrev pub behindHead : Row
 behindHead = ARGUMENTS ∷ RETURNS ∷ LOCALS ∷ EXPRESSIONS ∷ NAMED ∷ BLOCK ∷ []
 
@@ -572,7 +568,7 @@ counted-below s h k =
     let e : s ≡ MEMBERS + (s - MEMBERS) = omega arith in
     rw e (five (λ i. below? BLOCK (counted (MEMBERS + i))) (s - MEMBERS) refl refl refl refl refl (omega arith))
 
--- ---- a piece is a word, and what it brings
+-- ---- a piece is a word, and what follows because of it
 variant-more-is : (s w : ℕ) → TYPE-KIND ≤ s → more s w ≡ variant (getElem? (variants s) w)
 unfolding more
 variant-more-is s w h = rw (more, le-ltb s PAD (omega arith), le-ltb s TEXT (omega arith), ne-eqb s TEXT (omega arith), ne-eqb s OPERANDS (omega arith), le-ltb s TYPE-KIND h)

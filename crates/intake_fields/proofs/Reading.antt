@@ -1,4 +1,4 @@
--- What is read are the words: the flat list's words and the rest are the words that stood there. Assumes nothing.
+-- What is read are the words: the flat list's words and the rest are the words that were there.
 use mathlib.Core.Path.{_≡_, refl, sym, ap, _∙_}
 use mathlib.Core.Bool.{Bool, true, false}
 use mathlib.Core.Option.{Option, none, some}

@@ -1,7 +1,7 @@
--- The code's table is the model's: its rows, where they start, and what a word brings. A table's rule is a test that is computed once over the whole table. Assumes nothing.
+-- The code's table is the model's: its rows, where they start, and what follows a word. A table's rule is a test that is computed once over the whole table.
 use mathlib.Core.Path.{_≡_, refl, sym, ap, _∙_, subst}
 use mathlib.Core.Bool.{Bool, true, false}
-use mathlib.Core.Option.{none, some}
+use mathlib.Core.Option.{some}
 use mathlib.Core.List.{List, [], _∷_, _++_, map}
 use Prim.Native.Nat.{ℕ, zero, suc, _+_, _*_, _-_, _≤_, _<_}
 use native.Mathlib.Nat.{le-of-suc-le-suc, not-suc-le-zero, add-zero, zero-add, add-suc, suc-add}
@@ -11,6 +11,7 @@ use lib.Dec.{T, ltb, leb, ltb→lt, leb→le}
 use lib.ListN.{length, getD, drop, take, getElem?, length-map, length-append, List·getD-append}
 use lib.Seq.{drop-cons, getD-drop, getD-take}
 use borrow.Author.Tests.{lt-ltb, le-ltb, ne-eqb, le-leb, lt-leb}
+use Rattle.theory_lists.specs.Lists.{missed}
 use Rattle.model.specs.Table.{Row, TYPE-KIND, BLOCK, CASES, LENGTH, limit, counted, variants}
 use Rattle.intake_fields.specs.Parts.{caseRow, statementRows, rows, over, nothing, once, bringsOf}
 use Rattle.intake_fields.specs.Rows.{laid, starts, symbols, coded, listed, records, allRows, ROWS, SYMBOLS, pairs, numbers, SIZE, row, rowAt}
@@ -41,11 +42,6 @@ from f (x ∷ xs) i t (suc k) h =
 
 pub at : (f : ℕ → ℕ → Bool) (xs : List ℕ) → T (every f 0 xs) → (k : ℕ) → k < length xs → T (f k (getD xs k 0))
 at f xs t k h = subst (λ (m : ℕ). T (f m (getD xs k 0))) (zero-add k) (from f xs 0 t k h)
-
-pub out : {A : Type 0} (l : List A) (k : ℕ) → length l ≤ k → getElem? l k ≡ none
-out [] k h = refl
-out (x ∷ l) zero h = absurd (not-suc-le-zero h)
-out (x ∷ l) (suc k) h = out l k (le-of-suc-le-suc h)
 
 getElem?-map : {A : Type 0} (f : ℕ → A) (l : List ℕ) (k : ℕ) → k < length l → getElem? (map f l) k ≡ some (f (getD l k 0))
 getElem?-map f [] k h = absurd (not-suc-le-zero h)
@@ -295,7 +291,7 @@ module _ (t : List ℕ) (table : t ≡ numbers) (s w place k from most n : ℕ) 
 
     pub brings-none : most ≤ n → bringsOf s w ≡ nothing
     unfolding once
-    brings-none g = grouped ∙ ap once (out (group s) w (omega (arith, group-long, is-n)))
+    brings-none g = grouped ∙ ap once (missed (group s) w (omega (arith, group-long, is-n)))
 
     pub in-group : n < most → from + n < SIZE
     in-group g = omega (arith, entry .fits, from-is, most-is)

@@ -1,4 +1,4 @@
--- The steps of the record walk: one lemma for each return, each turn of a loop and each call. Assumes nothing.
+-- The steps of the record walk: one lemma for each return, each turn of a loop and each call.
 use mathlib.Core.Path.{_≡_, refl, sym, ap, _∙_}
 use mathlib.Core.Bool.{Bool, true, false}
 use mathlib.Core.List.{List, [], _∷_, map}
@@ -40,7 +40,7 @@ isnt a b e q = let z : true ≡ false = sym (eq-eqb a b q) ∙ e in let y : _≡
 one-word-is : (words : List ℕ) (i end s : ℕ) → i < end → end ≤ length words → s < PAD → run (slice i end words) (s ∷ []) ≡ fits ((s, getD words i 0) ∷ []) (slice (i + 1) end words)
 one-word-is words i end s h enough l = ap (λ ws. run ws (s ∷ [])) (slice-cons i end words 0 h enough) ∙ rw (add-one i) (run-word s (getD words i 0) (slice (suc i) end words) l)
 
--- ---- a word, and what it brings
+-- ---- a word, and what follows because of it
 final-brought : (tags : List ℕ) (i end s w : ℕ) (m : Brings) (f : ℕ → Row → Outcome Cells) → final tags i end (brought m λ n r. mapO ((s, w) ∷_) (f n r)) ≡ final (set tags i s) (i + 1) end (brought m f)
 unfolding brought final
 final-brought tags i end s w (rows n r) f = final-word tags i end s w (f n r)
@@ -264,7 +264,7 @@ module _ (words tags₀ t : List ℕ) (table : t ≡ numbers) (at end pc left : 
           same = sym (o .same) ∙ opened;
         }
 
--- ---- so many times a row
+-- ---- a row, n times
 pub record Timing (words tags₀ : List ℕ) (at count end pc left : ℕ) (tags : List ℕ) (i n : ℕ) : Type 0 where
   pub from : at ≤ i
   pub within : i ≤ end

@@ -1,19 +1,20 @@
--- What is left to do from where a walk stands is the whole. Assumes nothing.
+-- At every point of a walk, what is left to do gives the result of the whole.
 use mathlib.Core.Path.{_≡_, refl, sym, ap, _∙_}
 use mathlib.Core.Bool.{Bool, true, false}
 use mathlib.Core.List.{List, [], _∷_, _++_, map, append-nil}
 use Prim.Native.Nat.{ℕ, zero, suc, _+_, _-_, _/_, _%_, _^_, _≤_, _<_}
-use native.Mathlib.Nat.{le-refl, add-zero, add-suc, suc-add}
+use native.Mathlib.Nat.{le-refl}
 use native.Mathlib.Numerals.{add-one}
 use native.Mathlib.Omega.{arith}
 use lib.Dec.{eqb, ltb, leb}
 use lib.ListN.{length, getD, set, drop, take, replicate, length-append, length-map}
 use lib.Seq.{slice, sets, slice-cons, drop-drop, length-slice, drop-append-seam}
 use borrow.Author.Tests.{le-leb, lt-leb, leb-true, leb-false, lt-ltb, le-ltb, eq-eqb, ne-eqb}
+use Rattle.theory_lists.specs.Stores.{sets-append}
+use Rattle.theory_lists.specs.Lists.{map-append}
 use Rattle.model.specs.Outcome.{Cells, class, word, Outcome, fits, misfit, unknown, eat, mapO}
 use Rattle.model.specs.Table.{Row, WORD, EXPR, PAD, TEXT, OPERANDS, brings, over, repeat, text, more, follow, run}
 use Rattle.theory_image.specs.Betweens.{slice-none}
-use Rattle.theory_image.specs.Lists.{map-append}
 use Rattle.intake_fields.specs.Parts.{Reader, join}
 use Rattle.intake_fields.specs.Walks.{Final, next, refused, strange, seen, final, Walks, filled, Fills}
 use Rattle.intake_fields.specs.declared.Walked.{Walked}
@@ -57,9 +58,6 @@ module _ (tags₀ : List ℕ) (at end c n : ℕ) (m : ℕ) (is : m ≡ n) where
           }
 
 -- ---- lists
-pub sets-append : (xs l : List ℕ) (i : ℕ) (ys : List ℕ) → sets l i (xs ++ ys) ≡ sets (sets l i xs) (i + length xs) ys
-sets-append [] l i ys = ap (λ k. sets l k ys) (sym (add-zero i))
-sets-append (x ∷ xs) l i ys = sets-append xs (set l i x) (suc i) ys ∙ ap (λ k. sets (sets (set l i x) (suc i) xs) k ys) (suc-add i (length xs) ∙ sym (add-suc i (length xs)))
 
 -- ---- outcomes, seen from where they start
 pub final-word : (tags : List ℕ) (i end s w : ℕ) (o : Outcome Cells) → final tags i end (mapO ((s, w) ∷_) o) ≡ final (set tags i s) (i + 1) end o
@@ -188,7 +186,7 @@ run-fill (suc n) words end c enough plain tags i h = go (leb end i) refl (λ tag
 fill-walks : (words tags : List ℕ) (i end c n : ℕ) → end ≤ length words → c < PAD → i ≤ end → (r : Walked) (tags₁ : List ℕ) → Fills r tags₁ tags i end c n → Walks r tags₁ tags i end (run (slice i end words) (replicate n c))
 fill-walks words tags i end c n enough plain h r tags₁ got = record { same = got .same ∙ sym (run-fill n words end c enough plain tags i h) }
 
--- ---- one word, and what it brings
+-- ---- one word, and the fields that follow because of it
 module _ (words tags : List ℕ) (i end s : ℕ) where
   pub run-misfit : end ≤ i → Walks Misfit tags tags i end (run (slice i end words) (s ∷ []))
   unfolding seen final

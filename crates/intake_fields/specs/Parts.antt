@@ -1,4 +1,4 @@
--- The reader of records seen flat, as rows of pieces, each of which is one word and what it brings: what the code does. proofs/Flat.antt proves it equal to the model's reader of trees.
+-- The reader of records seen flat, as rows of pieces, each of which is one word and the fields that follow because of it: what the code does. proofs/Flat.antt proves it equal to the model's reader of trees.
 use mathlib.Core.Bool.{true, false}
 use mathlib.Core.Option.{Option, none, some}
 use mathlib.Core.List.{List, [], _∷_, _++_, map}
@@ -90,7 +90,7 @@ unfoldable pub pieces : ℕ → Row → Reader
 pieces d [] ws = fits [] ws
 pieces d (s ∷ ss) ws = join (piece d s ws) (pieces d ss)
 
--- what the word of a list, a variant or a block brings: so many times a row
+-- what follows the word of a list, a variant or a block: a row, a number of times
 pub data Brings : Type 0 where
   rows : ℕ → Row → Brings
   over nothing : Brings
@@ -117,7 +117,7 @@ brought (rows n r) f = f n r
 brought over f = misfit
 brought nothing f = unknown
 
--- a word of the class s, and what it brings
+-- a word of the class s, and what follows because of it
 unfoldable pub opening : ℕ → ℕ → Reader
 opening d s ws = eat ws λ w ws. brought (bringsOf s w) λ n r. mapO ((s, w) ∷_) (times n (pieces d r) ws)
 

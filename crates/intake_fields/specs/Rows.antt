@@ -10,7 +10,7 @@ use Rattle.intake_fields.specs.declared.More.{More}
 use Rattle.intake_fields.specs.declared.More.the-variants.{Rows, Over, Unknown}
 
 -- ---- rows
--- one behind the other, each ended by 0
+-- one after the other, each ended by 0
 unfoldable pub laid : List Row → List ℕ
 laid [] = []
 laid (r ∷ rs) = r ++ (0 ∷ laid rs)
@@ -64,7 +64,7 @@ records = tableRows ++ raysRow ∷ pairRow ∷ []
 unfoldable pub allRows : List Row
 allRows = coded symbols ++ (listed symbols ++ records)
 
--- ---- places: where rows end, where the symbols' pairs stand, and where the records' starts stand
+-- ---- places: where rows end, where the symbols' pairs are, and where the records' starts are
 unfoldable pub ROWS : ℕ
 ROWS = length (laid allRows)
 
@@ -89,7 +89,7 @@ unfoldable pub SIZE : ℕ
 unfolding numbers laid starts pairs coded listed symbols records allRows ROWS SYMBOLS RECORDS limit counted types expressions levels queries values atomics results statements rowOf rowAs statementRows nameRow typeRow constantRow overrideRow globalRow expressionRow functionHead entryHead functionRow entryRow tableRows
 SIZE = length numbers
 
--- the row of a statement's kind, which its length brings, and those of the special types
+-- the row of a statement's kind, which follows its length, and those of the special types
 unfoldable pub KIND-ROW : ℕ
 KIND-ROW = getD numbers (SYMBOLS + 2 * (LENGTH - MEMBERS)) 0
 

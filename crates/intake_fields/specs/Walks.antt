@@ -1,4 +1,4 @@
--- What a walk over words leaves: its answer and, where they fit, the tape. Of a refused walk the tape is free.
+-- What a walk over words leaves: its answer and, where they fit, the tags. Nothing is promised about the tags of a refused walk.
 use mathlib.Core.Path.{_≡_}
 use mathlib.Core.Bool.{true, false}
 use mathlib.Core.List.{List, map}
@@ -14,13 +14,13 @@ pub data Final : Type 0 where
   next : ℕ → List ℕ → Final
   refused strange : Final
 
--- what the code shows
+-- what the code reports
 unfoldable pub seen : Walked → List ℕ → Final
 seen (Next n) tags = next n tags
 seen Misfit tags = refused
 seen Strange tags = strange
 
--- what the reader says, of words that end at `end` and start at i
+-- what the reader answers, of words that end at `end` and start at i
 unfoldable pub final : List ℕ → ℕ → ℕ → Outcome Cells → Final
 final tags i end (fits cs rest) = next (end - length rest) (sets tags i (map class cs))
 final tags i end misfit = refused

@@ -1,7 +1,9 @@
-// Laying out a record: one class for each word, by one table and recursion. A walk starts at a word and ends behind the record, or finds a misfit
-// (refusal 2) or a code that is none of the listed (refusal 3). The tape has the class of each word that was passed.
+// Laying out a record: one class for each word, by one table and recursion. A walk starts at a word and ends after the record, or finds a misfit (refusal 2) or
+// a code that is none of the listed (refusal 3). The tags have the class of each word that was passed.
 pub mod table;
 
+use base_words::Tags;
+use base_words::Words;
 use base_words::wide;
 use table::KIND_ROW;
 use table::SYMBOLS;
@@ -38,7 +40,7 @@ pub enum Walked {
     Strange,
 }
 
-// What a word brings: so many times the row at a place of the table.
+// What follows a word: the row at a place of the table, a number of times.
 pub enum More {
     Rows(usize, u32),
     Over,
@@ -59,7 +61,7 @@ fn narrow(x: u16) -> u8
 }
 
 // n words of the class c.
-pub fn fill(tags: &mut [u8; 16384], at: usize, end: usize, c: u8, n: u32) -> Walked
+pub fn fill(tags: &mut Tags, at: usize, end: usize, c: u8, n: u32) -> Walked
     requires { ⌜ at ≤ end ⌝ }
     requires { ⌜ end ≤ 16384 ⌝ }
     ensures { λ r. ⌜ Fills r (now (tags .exit)) (now (tags .entry)) at end c n ⌝ }
@@ -107,7 +109,7 @@ fn pad(k: u32) -> u8
 }
 
 // The last word of a name, of which k bytes are used: the others are zero.
-fn padded(words: &[u32; 16384], tags: &mut [u8; 16384], at: usize, end: usize, k: u32) -> Walked
+fn padded(words: &Words, tags: &mut Tags, at: usize, end: usize, k: u32) -> Walked
     requires { ⌜ at ≤ end ⌝ }
     requires { ⌜ end ≤ length (now words) ⌝ }
     requires { ⌜ end ≤ 16384 ⌝ }
@@ -126,8 +128,8 @@ fn padded(words: &[u32; 16384], tags: &mut [u8; 16384], at: usize, end: usize, k
     Walked::Next(at + 1)
 }
 
-// The bytes of a name behind their number.
-fn text(words: &[u32; 16384], tags: &mut [u8; 16384], at: usize, end: usize) -> Walked
+// The bytes of a name, after their number.
+fn text(words: &Words, tags: &mut Tags, at: usize, end: usize) -> Walked
     requires { ⌜ at ≤ end ⌝ }
     requires { ⌜ end ≤ length (now words) ⌝ }
     requires { ⌜ end ≤ 16384 ⌝ }
@@ -152,8 +154,8 @@ fn text(words: &[u32; 16384], tags: &mut [u8; 16384], at: usize, end: usize) -> 
     }
 }
 
-// Operands behind their number.
-fn operands(words: &[u32; 16384], tags: &mut [u8; 16384], at: usize, end: usize) -> Walked
+// Operands, after their number.
+fn operands(words: &Words, tags: &mut Tags, at: usize, end: usize) -> Walked
     requires { ⌜ at ≤ end ⌝ }
     requires { ⌜ end ≤ length (now words) ⌝ }
     requires { ⌜ end ≤ 16384 ⌝ }
@@ -167,7 +169,7 @@ fn operands(words: &[u32; 16384], tags: &mut [u8; 16384], at: usize, end: usize)
     fill(tags, at + 1, end, base_classes::EXPR, n)
 }
 
-// What the word w of a list, a variant, a block, cases or a statement's kind brings.
+// What follows the word w of a list, a variant, a block, cases or a statement's kind.
 fn brings(table: &[u16; 510], s: u16, w: u32) -> More
     requires { ⌜ now table ≡ numbers ⌝ }
     requires { ⌜ (110 ≤ s) × (s < 126) ⌝ }
@@ -197,10 +199,10 @@ fn brings(table: &[u16; 510], s: u16, w: u32) -> More
     More::Rows(pc, 1)
 }
 
-// A word of the class s, and what it brings, with so many levels of blocks left.
+// A word of the class s, and what follows because of it, with `left` levels of blocks left.
 fn opened(
-    words: &[u32; 16384],
-    tags: &mut [u8; 16384],
+    words: &Words,
+    tags: &mut Tags,
     table: &[u16; 510],
     at: usize,
     end: usize,
@@ -230,8 +232,8 @@ fn opened(
 
 // A statement: its length, and then its kind and row, which have that length.
 fn stmt(
-    words: &[u32; 16384],
-    tags: &mut [u8; 16384],
+    words: &Words,
+    tags: &mut Tags,
     table: &[u16; 510],
     at: usize,
     end: usize,
@@ -263,8 +265,8 @@ fn stmt(
 
 // The piece of a symbol that is more than one word.
 fn part(
-    words: &[u32; 16384],
-    tags: &mut [u8; 16384],
+    words: &Words,
+    tags: &mut Tags,
     table: &[u16; 510],
     at: usize,
     end: usize,
@@ -298,8 +300,8 @@ fn part(
 
 // The row at pc.
 pub fn row(
-    words: &[u32; 16384],
-    tags: &mut [u8; 16384],
+    words: &Words,
+    tags: &mut Tags,
     table: &[u16; 510],
     at: usize,
     end: usize,
@@ -345,10 +347,10 @@ pub fn row(
     }
 }
 
-// So many times the row at pc.
+// The row at pc, `count` times.
 pub fn times(
-    words: &[u32; 16384],
-    tags: &mut [u8; 16384],
+    words: &Words,
+    tags: &mut Tags,
     table: &[u16; 510],
     at: usize,
     end: usize,

@@ -4,7 +4,7 @@
 ghost use mathlib.Core.Path.{_≡_};
 ghost use Rattle.intake_fields.specs.Rows.{numbers as numbersOf};
 
-// Where the symbols' pairs stand, and where the records' rows stand.
+// Where the symbols' pairs are, and where the records' rows are.
 pub const SYMBOLS: usize = 468;
 
 pub const RECORDS: usize = 500;

@@ -1,4 +1,4 @@
--- What initialisers reach: the places of expressions, what locals begin with, and the loop that takes one expression after the other from the list. Assumes nothing.
+-- What initialisers reach: the places of expressions, what locals begin with, and the loop that takes one expression after the other from the list.
 -- When the list is empty, what is marked is closed under reading, so that it is all that is reached; when a kind is barred, it is one that is reached.
 use mathlib.Core.Path.{_≡_, refl, sym, ap, _∙_, subst}
 use mathlib.Core.Logic.{_⊎_, inl, inr, ⊎-elim}
@@ -131,7 +131,7 @@ module _ (words tags starts m₀ l₀ : List ℕ) (t₀ e : ℕ) where
         reach-few = this .room .few
 
         module _ (at : ℕ) (at-is : (at ≡ getD starts x 0) × (at < 2 ^ 32)) where
-          -- where the expression stands
+          -- where the expression is
           here-at : (f : Function) (locals exprs end : ℕ) → Lists words tags locals exprs end f → Starting f e (exprs + 1) starts → at ≡ startOf (exprs + 1) (f .exprs) x
           here-at f locals exprs end ls st = at-is .0 ∙ st .each x (omega (arith, reach-below))
 
@@ -149,7 +149,7 @@ module _ (words tags starts m₀ l₀ : List ℕ) (t₀ e : ℕ) where
             long-part = expression-first (each-shape x number)
               where
                 each-shape : (x : ℕ) → x < length (f .exprs) → Expression (getD (f .exprs) x [])
-                each-shape x n = Rattle.theory_image.specs.FunctionViews.each-at (exprs-shapes (ls .own)) x [] n
+                each-shape x n = Rattle.theory_image.specs.Members.each-at (exprs-shapes (ls .own)) x [] n
 
           pub reach-at : at < 16384
           reach-at =

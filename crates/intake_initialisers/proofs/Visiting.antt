@@ -1,4 +1,4 @@
--- Marks and the list of what is to be visited: one visit, visits one after the other, and the loops that visit what cells read and what locals begin with. Assumes nothing.
+-- Marks and the list of what is to be visited: one visit, visits one after the other, and the loops that visit what cells read and what locals begin with.
 use mathlib.Core.Path.{_≡_, refl, sym, ap, _∙_, subst}
 use mathlib.Core.Logic.{inl, inr, ⊎-elim}
 use mathlib.Core.Bool.{Bool, true, false}

@@ -1,4 +1,4 @@
--- Where the lists of a function stand that initialisers are about, and what is answered of them.
+-- Where a function has the lists that initialisers are about, and what is answered of them.
 use mathlib.Core.Path.{_≡_}
 use mathlib.Core.Bool.{Bool}
 use mathlib.Core.List.{List}

@@ -1,10 +1,12 @@
-// What the initialisers of a function's locals reach, along operands as they stand, lower or not: marks and a list of what is still to be visited, so
+// What the initialisers of a function's locals reach, along operands as they are, lower or not: marks and a list of what is still to be visited, so
 // that each expression is visited once.
 use base_classes::EXPR;
 use base_classes::EXPR_KIND;
 use base_classes::NAMED;
 use base_classes::OPT_EXPR;
 use base_kinds::constant;
+use base_words::Tags;
+use base_words::Words;
 use base_words::wide;
 ghost use mathlib.Core.Path.{_≡_};
 ghost use mathlib.Core.List.{[]};
@@ -23,9 +25,9 @@ fn short(x: usize) -> u32
     x as u32
 }
 
-// Where each expression record starts, from `at` on, and where the last one ends: a record starts with its kind, and behind the last stands the
-// number of named expressions.
-pub fn places(tags: &[u8; 16384], at: usize, end: usize, starts: &mut [u32; 1025])
+// Where each expression record starts, from `at` on, and where the last one ends: a record starts with its kind, and the last is followed by the number of named
+// expressions.
+pub fn places(tags: &Tags, at: usize, end: usize, starts: &mut [u32; 1025])
     requires { ⌜ length (now tags) ≡ 16384 ⌝ }
     requires { ⌜ at ≤ end ⌝ }
     requires { ⌜ end ≤ 16384 ⌝ }
@@ -83,8 +85,8 @@ fn visit(marks: &mut [u8; 1024], list: &mut [u32; 1024], top: usize, e: usize, x
 
 // Visits what the words from `at` to `end` read.
 fn spread(
-    words: &[u32; 16384],
-    tags: &[u8; 16384],
+    words: &Words,
+    tags: &Tags,
     at: usize,
     end: usize,
     marks: &mut [u8; 1024],
@@ -111,7 +113,7 @@ fn spread(
 
 // Visits the initialisers of `count` locals from `at` on, each of five words with its initialiser last.
 pub fn roots(
-    words: &[u32; 16384],
+    words: &Words,
     at: usize,
     count: usize,
     marks: &mut [u8; 1024],
@@ -134,10 +136,10 @@ pub fn roots(
     n
 }
 
-// Visits what is on the list, until nothing is: whether all of it is of kinds that stand outside functions too.
+// Visits what is on the list, until nothing is: whether all of it is of kinds that are allowed outside functions too.
 pub fn reach(
-    words: &[u32; 16384],
-    tags: &[u8; 16384],
+    words: &Words,
+    tags: &Tags,
     starts: &[u32; 1025],
     marks: &mut [u8; 1024],
     list: &mut [u32; 1024],
@@ -162,13 +164,7 @@ pub fn reach(
 }
 
 // Whether what the initialisers reach is of those kinds; `locals` and `exprs` are where the two lists have their numbers.
-pub fn initialised(
-    words: &[u32; 16384],
-    tags: &[u8; 16384],
-    locals: usize,
-    exprs: usize,
-    end: usize,
-) -> bool
+pub fn initialised(words: &Words, tags: &Tags, locals: usize, exprs: usize, end: usize) -> bool
     requires { ⌜ Listed (now words) (now tags) locals exprs end ⌝ }
     ensures { λ r. ⌜ Initialised r (now (words .entry)) (now (tags .entry)) locals exprs end ⌝ }
 {

@@ -1,4 +1,4 @@
--- The steps of laying out extents: one record, the records of a section, a section, the special types. What is left from here on is the whole. Assumes nothing.
+-- The steps of laying out extents: one record, the records of a section, a section, the special types. What is left from here on is the whole.
 use mathlib.Core.Path.{_≡_, refl, sym, ap, _∙_}
 use mathlib.Core.Bool.{Bool, true, false, _&&_}
 use mathlib.Core.List.{List, [], _∷_, _++_}
@@ -9,11 +9,13 @@ use lib.Dec.{eqb, leb}
 use lib.ListN.{length, getD, take, drop, replicate, length-map, length-append, length-replicate}
 use lib.Seq.{slice, sets, slice-cons, slice-empty, length-slice, drop-drop, take-take}
 use borrow.Author.Tests.{eq-eqb, ne-eqb, le-leb, lt-leb, eqb-true, leb-true, leb-false}
+use Rattle.theory_lists.specs.Stores.{sets-append}
+use Rattle.theory_lists.specs.Lists.{map-append}
+use Rattle.theory_lists.specs.Booleans.{bool-same}
 use Rattle.model.specs.Outcome.{Cells, class, Outcome, fits, misfit, unknown, Laid, laid, bad, strange, exact, both, mapL}
 use Rattle.model.specs.Table.{PLACE}
 use Rattle.model.specs.Tree.{flatAll, DEPTH}
 use Rattle.model.specs.Module.{next, records, table, raysRow, pairRow}
-use Rattle.theory_image.specs.Lists.{bool-same, map-append}
 use Rattle.intake_fields.specs.Parts.{Reader, join, times, pieces}
 use Rattle.intake_fields.specs.Rows.{SIZE, RAYS-ROW, PAIR-ROW, row, rowAt}
 use Rattle.intake_fields.specs.Walks.{Final, next as next-final, refused as refused-final, strange as strange-final, seen, final, Walks, filled, Fills}
@@ -23,7 +25,7 @@ use Rattle.intake_fields.specs.declared.Walked.the-variants.{Next, Misfit, Stra
 use Rattle.intake_layout.specs.declared.section.Held.{Held}
 use Rattle.intake_layout.specs.declared.section.Held.the-variants.{Fits, Bad, Strange}
 use Rattle.intake_fields.proofs.Reading.{Reads, reads, Reading, reads-pieces, reads-times, reads-join}
-use Rattle.intake_fields.proofs.Walk.{Onto, Taken, taken, sets-append, chain-misfit, chain-strange, chain-next}
+use Rattle.intake_fields.proofs.Walk.{Onto, Taken, taken, chain-misfit, chain-strange, chain-next}
 
 -- ---- outcomes that a walk shows
 pub is-misfit : (tags : List ℕ) (i end : ℕ) (r : Walked) (tags₁ : List ℕ) (o : Outcome Cells) → Walks r tags₁ tags i end o → r ≡ Misfit → o ≡ misfit

@@ -1,4 +1,4 @@
--- The header: where sections start and end, and how many records they have. Assumes nothing.
+-- The header: where sections start and end, and how many records they have.
 use mathlib.Core.Path.{_≡_, refl, sym, ap, _∙_}
 use mathlib.Core.Bool.{true, false, _&&_}
 use mathlib.Core.List.{List}

@@ -1,4 +1,4 @@
--- What laying out leaves where an image fits: words and tape that hold a module, with which every later pass begins. Assumes nothing.
+-- What laying out leaves where an image fits: words and tags that hold a module, with which every later pass begins.
 use mathlib.Core.Path.{_≡_, refl, sym, ap, _∙_}
 use mathlib.Core.Bool.{Bool, true, false, _&&_}
 use mathlib.Core.List.{List, map}
@@ -8,6 +8,7 @@ use lib.Dec.{eqb, leb}
 use lib.ListN.{length, getD, take, drop, length-map}
 use lib.Seq.{sets, length-sets, take-at}
 use borrow.Author.Tests.{eqb-true, leb-true}
+use Rattle.theory_lists.specs.Booleans.{and-first, and-second}
 use Rattle.base_words.specs.Words.{wordsOf}
 use Rattle.base_words.proofs.Laws.{length-wordsOf, sets-front}
 use Rattle.model.specs.Outcome.{class, Laid, laid, bad, strange}
@@ -15,7 +16,6 @@ use Rattle.model.specs.Module.{Module, read, write, flatModule, sized}
 use Rattle.model.specs.Taped.{Taped}
 use Rattle.theory_image.specs.Modules.{read-write, read-well}
 use Rattle.theory_image.specs.Views.{length-write}
-use Rattle.theory_image.specs.Lists.{and-first, and-second}
 use Rattle.intake_layout.specs.Layout.{Answer, fits, size, shows, held, layoutOf, Lays}
 use Rattle.intake_layout.specs.declared.Layout.the-variants.{Fits}
 
@@ -84,7 +84,7 @@ module _ (bytes words tags words₁ tags₁ : List ℕ) (n : ℕ) (words-long : 
   unfolding held
   inside-strange g = let z : _≡_ {A = ℕ} 0 1 = cc in absurd (omega arith)
 
-  -- an image that fits is held by words and tape
+  -- an image that fits is held by words and tags
   pub holds : Lays (Fits n) words₁ tags₁ bytes words tags → HoldsImage bytes words₁ tags₁ n
   unfolding shows layoutOf
   holds l = go (sized (length bytes) (wordsOf bytes)) refl (l .same)

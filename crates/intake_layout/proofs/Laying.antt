@@ -1,4 +1,4 @@
--- From bytes to words and tape: the public operation, case by case. Assumes nothing.
+-- From bytes to words and tags: the public operation, case by case.
 use mathlib.Core.Path.{_≡_, refl, sym, ap, _∙_}
 use mathlib.Core.Bool.{Bool, true, false, not}
 use mathlib.Core.List.{List, map}
@@ -6,7 +6,8 @@ use Prim.Native.Nat.{ℕ, _+_, _-_, _*_, _/_, _≤_, _<_}
 use native.Mathlib.Omega.{arith}
 use lib.ListN.{length, getD, take, drop, replicate}
 use lib.Seq.{sets, length-sets, take-at, length-take-le}
-use borrow.Author.Tests.{eq-eqb, ne-eqb, le-leb, lt-leb}
+use borrow.Author.Tests.{eq-eqb, ne-eqb, le-leb, lt-leb, not-true, not-false}
+use Rattle.theory_lists.specs.Stores.{sets-append}
 use Rattle.base_words.specs.Words.{wordsOf, wordAt}
 use Rattle.base_words.proofs.Laws.{length-wordsOf, word-is, sets-front}
 use Rattle.model.specs.Outcome.{class, Laid, laid, bad, strange, mapL}
@@ -22,7 +23,6 @@ use Rattle.intake_layout.specs.declared.section.Held.{Held}
 use Rattle.intake_layout.specs.declared.section.Held.the-variants.{Fits as HeldFits, Bad, Strange as HeldStrange}
 use Rattle.intake_layout.specs.declared.Layout.{Layout}
 use Rattle.intake_layout.specs.declared.Layout.the-variants.{Fits, Size, Misfit, Strange}
-use Rattle.intake_fields.proofs.Walk.{sets-append}
 use Rattle.intake_layout.proofs.Whole.{bodyClasses, read-sections, read-misplaced, module-classes}
 
 -- ---- the header's classes
@@ -34,14 +34,6 @@ header-filled tags tags₁ total r h got = go r (got .same ∙ rw (filled, le-le
     go (Next k) g = cc
     go WalkedMisfit g = let z : _≡_ {A = ℕ} 0 1 = cc in absurd (omega arith)
     go WalkedStrange g = let z : _≡_ {A = ℕ} 0 1 = cc in absurd (omega arith)
-
-not-true : (b : Bool) → not b ≡ true → b ≡ false
-not-true true e = sym e
-not-true false e = refl
-
-not-false : (b : Bool) → not b ≡ false → b ≡ true
-not-false true e = refl
-not-false false e = sym e
 
 -- ---- words that are there
 module _ (words tags tags₁ : List ℕ) (total : ℕ) (large : 20 ≤ total) (enough : total ≤ length words) (f : Walked) (filled-at : Fills f tags₁ tags 0 total 104 20) where

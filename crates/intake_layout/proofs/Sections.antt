@@ -1,4 +1,4 @@
--- The loop over the sections: each is in its place, what is laid fills it, and what is left from here on is the whole. Assumes nothing.
+-- The loop over the sections: each is in its place, what is laid fills it, and what is left from here on is the whole.
 use mathlib.Core.Path.{_≡_, refl, sym, ap, _∙_, subst}
 use mathlib.Core.Bool.{Bool, true, false, _&&_}
 use mathlib.Core.List.{List, [], _∷_, _++_, map}
@@ -10,11 +10,11 @@ use lib.Dec.{eqb, leb}
 use lib.ListN.{length, getD, take, drop, replicate, length-map, length-append, length-replicate}
 use lib.Seq.{slice, length-slice, length-take-le, take-take, drop-cons}
 use borrow.Author.Tests.{ne-eqb, eqb-true, leb-true}
+use Rattle.theory_lists.specs.Booleans.{and-first, and-second}
 use Rattle.model.specs.Outcome.{Cells, class, word, Outcome, fits, misfit, unknown, Laid, laid, bad, strange, exact, both, mapL}
 use Rattle.model.specs.Table.{Row, PLACE}
 use Rattle.model.specs.Tree.{flatAll, DEPTH}
 use Rattle.model.specs.Module.{table, raysRow, pairRow, places, flatTable, limits, countAt, offsetAt, endAt, placed, section}
-use Rattle.theory_image.specs.Lists.{and-first, and-second}
 use Rattle.intake_fields.specs.Parts.{pieces, tableRows}
 use Rattle.intake_fields.specs.Rows.{ROWS, RECORDS, numbers, SIZE, row, rowAt}
 use Rattle.intake_layout.specs.Extents.{Classes, done, refused, odd, shown, ending, Covers, after, classes, tableClasses, tabled, specialOf, special, sectionsFrom}

@@ -1,4 +1,4 @@
--- The sections as the code lays them out are the model's `read`: the same status, and where all is laid the classes of the module's cells. Assumes nothing.
+-- The sections as the code lays them out are the model's `read`: the same status, and where all is laid the classes of the module's cells.
 use mathlib.Core.Path.{_≡_, refl, sym, ap, _∙_}
 use mathlib.Core.Bool.{Bool, true, false, _&&_}
 use mathlib.Core.List.{List, [], _∷_, _++_, map, append-nil}
@@ -6,6 +6,7 @@ use Prim.Native.Nat.{ℕ, suc, _+_, _-_}
 use native.Mathlib.Omega.{arith}
 use lib.Dec.{eqb, leb}
 use lib.ListN.{length, take, drop, replicate, length-map}
+use Rattle.theory_lists.specs.Lists.{map-append}
 use Rattle.model.specs.Outcome.{Cells, class, Outcome, fits, misfit, unknown, mapO, Laid, laid, bad, strange, exact, both, mapL}
 use Rattle.model.specs.Table.{Row, BLOCK, PLACE, nameRow, typeRow, constantRow, overrideRow, globalRow, expressionRow, functionHead, entryHead, run}
 use Rattle.model.specs.Tree.{Function, Entry, flat, flatEntry, flatAll, rows, functionAt, entryAt, DEPTH}
@@ -13,7 +14,6 @@ use Rattle.model.specs.Module.{Special, Module, next, records, table, raysRow, 
 use Rattle.theory_image.specs.Readers.{Takes, run-took, function-took, entry-took}
 use Rattle.theory_image.specs.Tables.{laid-of, table-took}
 use Rattle.theory_image.specs.Modules.{ReadsAs, read-parts}
-use Rattle.theory_image.specs.Lists.{map-append}
 use Rattle.intake_fields.specs.Parts.{Reader, join, times, pieces, functionRow, entryRow, tableRows}
 use Rattle.intake_layout.specs.Extents.{Classes, classes, tableClasses, tabled, specialOf, special, sectionsFrom}
 use Rattle.intake_fields.proofs.Flat.{map-map, bare, step-cells, bind-fits, times-same, join-same, rows-counted, countedR, with, below?, run-pieces, parts-pieces, function-flat, entry-flat}

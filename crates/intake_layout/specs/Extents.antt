@@ -1,4 +1,4 @@
--- The header and the sections as the code lays them out: extents that records fill, and the classes that stand on the tape. proofs/Whole.antt proves that this is the model's `read`.
+-- The header and the sections as the code lays them out: extents that records fill, and the tags of their words. proofs/Whole.antt proves that this is the model's `read`.
 use mathlib.Core.Path.{_≡_}
 use mathlib.Core.Bool.{Bool, true, false, _&&_}
 use mathlib.Core.List.{List, [], _∷_, _++_, map}
@@ -14,11 +14,11 @@ use Rattle.intake_fields.specs.Parts.{Reader, join, times, pieces}
 use Rattle.intake_layout.specs.declared.section.Held.{Held}
 use Rattle.intake_layout.specs.declared.section.Held.the-variants.{Fits, Bad, Strange}
 
--- the classes on a part of the tape
+-- the tags of a part of the words
 abbrev pub Classes : Type 0
 Classes = List ℕ
 
--- ---- what the code shows, and what it is to show: of a refused extent the tape is free
+-- ---- what the code reports, and what it has to report: nothing is promised about the tags of a refused extent
 pub data End : Type 0 where
   done : List ℕ → End
   refused odd : End
@@ -52,7 +52,7 @@ unfoldable pub extent : Reader → ℕ → ℕ → ℕ → ℕ → List ℕ → 
 extent p start at end stop ws = elim (eqb start at && (leb at end && leb end stop)) [ true ↦ mapL classes (exact (p (take (end - at) ws))) | false ↦ bad ]
 
 -- ---- the records of a section
--- what is left of them from record j on, which is to start at `at`, in the section from base to stop whose n offsets stand first
+-- what is left of them from record j on, which is to start at `at`, in the section from base to stop whose n offsets come first
 unfoldable pub recordsLeft : Reader → List ℕ → ℕ → ℕ → ℕ → ℕ → ℕ → Laid Classes
 recordsLeft p words base stop n j at = mapL (λ rs. classes (flatAll rs)) (records p (stop - base) (at - base) (slice (base + j) (base + n) words) (slice at stop words))
 

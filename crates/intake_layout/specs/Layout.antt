@@ -1,4 +1,4 @@
--- What laying out an image answers and leaves: the definition for every slice of bytes. Of a refused image words and tape are free.
+-- What laying out an image answers and leaves: the definition for every slice of bytes. If the image is refused, nothing is promised about words and tags.
 use mathlib.Core.Path.{_≡_}
 use mathlib.Core.Bool.{true, false}
 use mathlib.Core.List.{List, map}
@@ -11,12 +11,12 @@ use Rattle.model.specs.Module.{Module, read, flatModule, sized}
 use Rattle.intake_layout.specs.declared.Layout.{Layout}
 use Rattle.intake_layout.specs.declared.Layout.the-variants.{Fits, Size, Misfit, Strange}
 
--- so many words, the words and the tape; refused 1; refused 2; a kind or a code that is none of the listed
+-- the count of words, the words and the tags; refused 1; refused 2; a kind or a code that is none of the listed
 pub data Answer : Type 0 where
   fits : ℕ → List ℕ → List ℕ → Answer
   size misfit unknown : Answer
 
--- what the code shows
+-- what the code reports
 unfoldable pub shows : Layout → List ℕ → List ℕ → Answer
 shows (Fits n) words tags = fits n words tags
 shows Size words tags = size

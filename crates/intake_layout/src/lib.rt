@@ -1,6 +1,8 @@
-// Reading an image: its bytes into words, and beside each word its class, the tape. Refusals 1 and 2 of document 01 are found here.
+// Reading an image: its bytes into words, and for each word its class, the tags. Refusals 1 and 2 of document 01 are found here.
 pub mod section;
 
+use base_words::Tags;
+use base_words::Words;
 use intake_fields::table::numbers;
 use section::Held;
 ghost use Prim.Native.Nat.{_≤_};
@@ -9,8 +11,8 @@ ghost use Rattle.intake_layout.specs.Layout.{Lays, Laying};
 
 const HEADER: u32 = base_views::HEADER as u32;
 
-// What the bytes of an image are: laid out whole, with so many words; refused 1; refused 2; or with a kind or a code that is none of the listed,
-// which is refused 3 later.
+// What the bytes of an image are: laid out whole, with this many words; refused 1; refused 2; or with a kind or a code that is none of the listed, which is
+// refused 3 later.
 pub enum Layout {
     Fits(usize),
     Size,
@@ -19,7 +21,7 @@ pub enum Layout {
 }
 
 // Lays out the first `total` words.
-fn lay(words: &[u32; 16384], tags: &mut [u8; 16384], total: usize) -> Layout
+fn lay_out_words(words: &Words, tags: &mut Tags, total: usize) -> Layout
     requires { ⌜ 20 ≤ total ⌝ }
     requires { ⌜ total ≤ length (now words) ⌝ }
     requires { ⌜ total ≤ 16384 ⌝ }
@@ -27,7 +29,7 @@ fn lay(words: &[u32; 16384], tags: &mut [u8; 16384], total: usize) -> Layout
 {
     let table = numbers();
     intake_fields::fill(tags, 0, total, base_classes::PLACE, HEADER);
-    if !section::placed(words, total) {
+    if !section::sections_fit(words, total) {
         return Layout::Misfit;
     }
     let r = section::sections(words, tags, &table, total);
@@ -38,8 +40,8 @@ fn lay(words: &[u32; 16384], tags: &mut [u8; 16384], total: usize) -> Layout
     }
 }
 
-// Lays out an image. Words and tape hold it where it fits; what a refused image leaves in them is free.
-pub fn lay_out(image: &[u8], words: &mut [u32; 16384], tags: &mut [u8; 16384]) -> Layout
+// Lays out an image. Words and tags hold it where it fits; if it is refused, nothing is promised about them.
+pub fn lay_out(image: &[u8], words: &mut Words, tags: &mut Tags) -> Layout
     ensures { λ r. ⌜ Lays r (now (words .exit)) (now (tags .exit)) (now (image .entry)) (now (words .entry)) (now (tags .entry)) ⌝ }
 {
     let n = image.len();
@@ -56,5 +58,5 @@ pub fn lay_out(image: &[u8], words: &mut [u32; 16384], tags: &mut [u8; 16384]) -
         return Layout::Size;
     }
     base_words::load(image, words);
-    lay(words, tags, n / 4)
+    lay_out_words(words, tags, n / 4)
 }

@@ -3,6 +3,8 @@ use base_views::COUNTS;
 use base_views::HEADER;
 use base_views::OFFSETS;
 use base_views::SPECIAL;
+use base_words::Tags;
+use base_words::Words;
 use base_words::wide;
 use intake_fields::Walked;
 use intake_fields::fill;
@@ -22,7 +24,7 @@ ghost use Rattle.intake_fields.specs.Parts.{pieces, tableRows};
 ghost use Rattle.intake_fields.specs.Rows.{ROWS, numbers, rowAt};
 ghost use Rattle.intake_layout.specs.Extents.{Covers, extent, tabled, special as specialOf, sectionsFrom, recordsLeft};
 
-// Where the header has the offset of the section behind section k, from which 2 k words lead on; and what it says of the special types.
+// Where the header has the offset of section 1, and that of section k + 1 is 2 k words further; and where it has those of the special types.
 const NEXT: usize = OFFSETS + 2;
 
 const SPECIAL_COUNT: usize = COUNTS + 2 * SPECIAL;
@@ -37,7 +39,7 @@ pub enum Held {
 }
 
 // Where record j of n ends: where the next one starts, or where the section ends.
-fn end_of(words: &[u32; 16384], base: usize, stop: usize, n: usize, j: usize) -> usize
+fn end_of(words: &Words, base: usize, stop: usize, n: usize, j: usize) -> usize
     requires { ⌜ j < n ⌝ }
     requires { ⌜ base + n ≤ stop ⌝ }
     requires { ⌜ stop ≤ length (now words) ⌝ }
@@ -52,8 +54,8 @@ fn end_of(words: &[u32; 16384], base: usize, stop: usize, n: usize, j: usize) ->
 
 // The record that is to start at `at`, starts at `start` and ends at `end`.
 fn record(
-    words: &[u32; 16384],
-    tags: &mut [u8; 16384],
+    words: &Words,
+    tags: &mut Tags,
     table: &[u16; 510],
     start: usize,
     at: usize,
@@ -90,10 +92,10 @@ fn record(
     }
 }
 
-// The records of a section behind their n offsets.
+// The records of a section, after their n offsets.
 fn records(
-    words: &[u32; 16384],
-    tags: &mut [u8; 16384],
+    words: &Words,
+    tags: &mut Tags,
     table: &[u16; 510],
     base: usize,
     stop: usize,
@@ -138,8 +140,8 @@ fn records(
 
 // A section of records: an offset for each, and then the records.
 fn section(
-    words: &[u32; 16384],
-    tags: &mut [u8; 16384],
+    words: &Words,
+    tags: &mut Tags,
     table: &[u16; 510],
     base: usize,
     stop: usize,
@@ -163,8 +165,8 @@ fn section(
 
 // The special types: three optional types, and then pairs.
 fn special(
-    words: &[u32; 16384],
-    tags: &mut [u8; 16384],
+    words: &Words,
+    tags: &mut Tags,
     table: &[u16; 510],
     base: usize,
     stop: usize,
@@ -211,7 +213,7 @@ fn limit(k: usize) -> u32
 }
 
 // Where section k ends.
-fn end_at(words: &[u32; 16384], total: usize, k: usize) -> usize
+fn end_at(words: &Words, total: usize, k: usize) -> usize
     requires { ⌜ k < 9 ⌝ }
     requires { ⌜ 20 ≤ total ⌝ }
     requires { ⌜ total ≤ length (now words) ⌝ }
@@ -225,7 +227,7 @@ fn end_at(words: &[u32; 16384], total: usize, k: usize) -> usize
 }
 
 // Do the sections follow one another from word 20 to the end, each with no more records than it may have?
-pub fn placed(words: &[u32; 16384], total: usize) -> bool
+pub fn sections_fit(words: &Words, total: usize) -> bool
     requires { ⌜ 20 ≤ total ⌝ }
     requires { ⌜ total ≤ length (now words) ⌝ }
     requires { ⌜ total ≤ 16384 ⌝ }
@@ -256,12 +258,7 @@ pub fn placed(words: &[u32; 16384], total: usize) -> bool
 }
 
 // The eight tables, where the sections are in place, and then the special types.
-pub fn sections(
-    words: &[u32; 16384],
-    tags: &mut [u8; 16384],
-    table: &[u16; 510],
-    total: usize,
-) -> Held
+pub fn sections(words: &Words, tags: &mut Tags, table: &[u16; 510], total: usize) -> Held
     requires { ⌜ 20 ≤ total ⌝ }
     requires { ⌜ total ≤ length (now words) ⌝ }
     requires { ⌜ total ≤ 16384 ⌝ }

@@ -1,4 +1,4 @@
--- What the passes of an image say together: the test of refusal 4, for the module that words and tape hold.
+-- What the passes of an image say together: the test of refusal 4, for the module that words and tags hold.
 use mathlib.Core.Path.{_≡_, refl, sym, ap, _∙_}
 use mathlib.Core.Bool.{Bool, true, false, not}
 use mathlib.Core.List.{List, [], _∷_}
@@ -7,6 +7,7 @@ use native.Mathlib.Omega.{arith}
 use lib.Dec.{ltb, leb, leb·zero, leb·suc-suc}
 use lib.ListN.{length, getD, List·getD-eq-default}
 use borrow.Author.Tests.{leb-true, leb-false, not-true, not-false}
+use Rattle.theory_lists.specs.Booleans.{and-right}
 use Rattle.model.specs.Outcome.{Cells, word}
 use Rattle.model.specs.Table.{SPAN, UPTO, NAME, TYPE, INIT, OPT-INIT, WORD, constantRow, overrideRow}
 use Rattle.model.specs.Module.{Module, countAt, offsetAt}
@@ -15,11 +16,11 @@ use Rattle.model.specs.Taped.{Tape, Taped}
 use Rattle.model.specs.Between.{between}
 use Rattle.model.specs.Operands.{optional}
 use Rattle.model.specs.Lower.{below, typesLower, operandsLower, functionsLower, entriesLower, initOf, initsLower, lower}
-use Rattle.theory_image.specs.Lists.{and-right}
 use Rattle.theory_image.specs.Plain.{plain?}
 use Rattle.theory_image.specs.Quiet.{Plainly, plain-none, plain-next, plainly}
-use Rattle.theory_image.specs.FunctionViews.{each-at, part-end, part-word, taped-held, taped-length}
+use Rattle.theory_image.specs.FunctionViews.{part-end, part-word, taped-held, taped-length}
 use Rattle.theory_image.specs.Betweens.{table-between, table-count, record-offset, record-part}
+use Rattle.theory_image.specs.Members.{each-at}
 use Rattle.intake_lower.specs.Passes.{pass, typeNext, typeOk, exprNext, exprOk, wordAt, initOk, Reaches}
 use Rattle.intake_lower.proofs.Sections.{types-are, exprs-are, functions-are, entries-are, inits-are}
 
@@ -120,7 +121,7 @@ module _ {words tags : List ℕ} {n : ℕ} {m : Module} (t : Taped words tags n 
   unfolding tables
   entries-answer a e p q = rw (p, q) (ap (λ cs. pass cs exprNext exprOk 0) (table-between t 7 (omega arith)) ∙ entries-are (t .well .entries-ok .each))
 
--- ---- what the code asks of the tape
+-- ---- what the code requires of the tags
 pub reach : {words tags : List ℕ} {n : ℕ} → Tape words tags n → Reaches words 2 4 × Reaches words 3 5
 reach t = both-reach (t .taped)
 

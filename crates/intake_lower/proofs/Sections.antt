@@ -5,6 +5,7 @@ use mathlib.Core.List.{List, [], _∷_, _++_, map}
 use Prim.Native.Nat.{ℕ, zero, suc, _+_}
 use lib.Dec.{eqb, ltb, leb, leb·zero, leb·suc-suc, eqb·suc-zero}
 use lib.ListN.{length, getD}
+use Rattle.theory_lists.specs.Booleans.{and-assoc, and-right}
 use Rattle.model.specs.Outcome.{Cell, Cells, class, word}
 use Rattle.model.specs.Table.{NAME, TYPE, CONSTANT, OVERRIDE, EXPR, OPT-EXPR, NAMED-EXPR, PLACE, EXPRESSIONS, NAMED, EXPR-KIND, typeRow, expressionRow, counted}
 use Rattle.model.specs.Tree.{Function, Entry, flat, flatEntry, flatAll, flatList, flatBlock}
@@ -12,14 +13,13 @@ use Rattle.model.specs.Module.{countAt, places, flatTable}
 use Rattle.model.specs.Carry.{Lays, Each, each-none, each-next, WellFunction, WellEntry}
 use Rattle.model.specs.Operands.{optional, operand, opsOf}
 use Rattle.model.specs.Lower.{below, basesOf, typesLower, operandsLower, functionsLower, entriesLower, initOf, initsOf, initsLower}
-use Rattle.theory_image.specs.Lists.{and-assoc, and-right}
 use Rattle.theory_image.specs.FunctionViews.{Field, field?, field-not, Expression, expression, expression-shape}
 use Rattle.theory_image.specs.Quiet.{each-append, each-map, Quiet, quiet-type-kind, quiet-expr-kind, Typed, typed, type-shape, before, before-quiet, body-quiet, entry-quiet, Plainly, plain-none, plain-next, named-shape}
 use Rattle.intake_lower.specs.Passes.{pass, typeNext, typeOk, exprNext, exprOk, wordAt, initOk}
 
--- ---- runs of cells one behind the other
+-- ---- runs of cells one after the other
 module _ (next : ℕ → ℕ → ℕ) where
-  -- the count behind the cells
+  -- the count after the cells
   unfoldable pub count : Cells → ℕ → ℕ
   count [] n = n
   count (c ∷ cs) n = count cs (next (class c) n)
@@ -174,7 +174,7 @@ named-kindless (each-next l ls) = each-append (one (named-shape l)) (named-kindl
     one : {r : Cells} → Plainly (NAMED-EXPR ∷ NAME ∷ []) r → Each Kindless r
     one (plain-next (plain-next plain-none)) = each-next (record { kindless = refl }) (each-next (record { kindless = refl }) each-none)
 
--- the expressions behind their count, and the named ones behind theirs
+-- the expressions after their count, and the named ones after theirs
 list-pass : {xs : List Cells} → Each (Lays (counted EXPRESSIONS)) xs → pass (flatList EXPRESSIONS xs) exprNext exprOk 0 ≡ operandsLower xs 0
 unfolding pass flatList exprNext counted
 list-pass {xs} l = ap (_&& pass (flatAll xs) exprNext exprOk 0) (zero-ok EXPRESSIONS (length xs)) ∙ exprs-pass l 0

@@ -1,5 +1,5 @@
-// Refusal 4 of document 01: a base, a member, an operand or an init that is not lower than what names it. Flat passes over the words and the
-// tape, linear in the words. `count` is how many records have begun, so the record that is being read has the number count - 1.
+// Refusal 4 of document 01: a base, a member, an operand or an init that is not lower than what names it. Flat passes over the words and the tags, linear in the
+// words. `count` is how many records have begun, so the record that is being read has the number count - 1.
 use base_classes::CONSTANT;
 use base_classes::EXPR;
 use base_classes::EXPR_KIND;
@@ -17,6 +17,8 @@ use base_views::SPECIAL;
 use base_views::TYPES;
 use base_views::offset;
 use base_views::start_of;
+use base_words::Tags;
+use base_words::Words;
 use base_words::wide;
 ghost use mathlib.Core.Path.{_≡_};
 ghost use Prim.Native.Nat.{_+_, _^_, _<_};
@@ -47,7 +49,7 @@ fn type_ok(s: u8, w: u32, count: usize) -> bool
     true
 }
 
-// An expression begins with its kind; behind a function's expressions stand those that are named.
+// An expression begins with its kind; the expressions of a function are followed by the named ones.
 fn expr_next(s: u8, count: usize) -> usize
     requires { ⌜ count < 16384 ⌝ }
     ensures { λ r. ⌜ r ≡ exprNext s count ⌝ }
@@ -78,7 +80,7 @@ fn expr_ok(s: u8, w: u32, count: usize) -> bool
 }
 
 // Word d of record j of section k.
-fn word_at(words: &[u32; 16384], k: usize, j: usize, d: usize) -> usize
+fn word_at(words: &Words, k: usize, j: usize, d: usize) -> usize
     requires { ⌜ (k < 9) × (j < countAt k (now words)) × (d < 8) ⌝ }
     requires { ⌜ Reaches (now words) k d ⌝ }
     ensures { λ r. ⌜ (r ≡ wordAt (now (words .entry)) k j d) × (r < 2 ^ 32) ⌝ }
@@ -88,7 +90,7 @@ fn word_at(words: &[u32; 16384], k: usize, j: usize, d: usize) -> usize
 }
 
 // The init of a constant or an override that is named is lower.
-fn init_ok(words: &[u32; 16384], s: u8, w: u32, count: usize) -> bool
+fn init_ok(words: &Words, s: u8, w: u32, count: usize) -> bool
     requires { ⌜ Reaches (now words) 2 4 × Reaches (now words) 3 5 ⌝ }
     ensures { λ r. ⌜ r ≡ initOk (now (words .entry)) s w count ⌝ }
 {
@@ -108,7 +110,7 @@ fn init_ok(words: &[u32; 16384], s: u8, w: u32, count: usize) -> bool
     true
 }
 
-fn types(words: &[u32; 16384], tags: &[u8; 16384], at: usize, end: usize) -> bool
+fn types(words: &Words, tags: &Tags, at: usize, end: usize) -> bool
     requires { ⌜ Stretch (now words) (now tags) at end ⌝ }
     ensures { λ r. ⌜ r ≡ pass (between (now (tags .entry)) (now (words .entry)) at end) typeNext typeOk 0 ⌝ }
 {
@@ -126,7 +128,7 @@ fn types(words: &[u32; 16384], tags: &[u8; 16384], at: usize, end: usize) -> boo
     true
 }
 
-fn operands(words: &[u32; 16384], tags: &[u8; 16384], at: usize, end: usize) -> bool
+fn operands(words: &Words, tags: &Tags, at: usize, end: usize) -> bool
     requires { ⌜ Stretch (now words) (now tags) at end ⌝ }
     ensures { λ r. ⌜ r ≡ pass (between (now (tags .entry)) (now (words .entry)) at end) exprNext exprOk 0 ⌝ }
 {
@@ -144,7 +146,7 @@ fn operands(words: &[u32; 16384], tags: &[u8; 16384], at: usize, end: usize) -> 
     true
 }
 
-fn inits(words: &[u32; 16384], tags: &[u8; 16384], at: usize, end: usize) -> bool
+fn inits(words: &Words, tags: &Tags, at: usize, end: usize) -> bool
     requires { ⌜ Stretch (now words) (now tags) at end ⌝ }
     requires { ⌜ Reaches (now words) 2 4 × Reaches (now words) 3 5 ⌝ }
     ensures { λ r. ⌜ r ≡ pass (between (now (tags .entry)) (now (words .entry)) at end) exprNext (initOk (now (words .entry))) 0 ⌝ }
@@ -163,8 +165,8 @@ fn inits(words: &[u32; 16384], tags: &[u8; 16384], at: usize, end: usize) -> boo
     true
 }
 
-// Whether every reference of the image that words and tape hold is lower.
-pub fn lower(words: &[u32; 16384], tags: &[u8; 16384], n: usize) -> bool
+// Whether every reference of the image that words and tags hold is lower.
+pub fn lower(words: &Words, tags: &Tags, n: usize) -> bool
     requires { ⌜ Tape (now words) (now tags) n ⌝ }
     ensures { λ r. ⌜ ((m : Module) → Taped (now (words .entry)) (now (tags .entry)) n m → r ≡ lowerOf m) ⌝ }
 {

@@ -1,13 +1,14 @@
--- What the passes of an image say together: the test of refusal 5, for the module that words and tape hold.
+-- What the passes of an image say together: the test of refusal 5, for the module that words and tags hold.
 use mathlib.Core.Path.{_≡_, refl, sym, ap, ap₂, _∙_, subst}
 use mathlib.Core.Bool.{Bool, true, false, not}
 use mathlib.Core.List.{List, [], _∷_, map}
 use mathlib.Core.Option.{some}
-use Prim.Native.Nat.{ℕ, zero, suc, _+_, _*_, _<_}
+use Prim.Native.Nat.{ℕ, suc, _+_, _*_, _<_}
 use native.Mathlib.Omega.{arith}
 use lib.ListN.{length, getD, getElem?, take, length-take, length-drop}
 use lib.Seq.{slice}
 use borrow.Author.Tests.{ne-eqb, not-true, not-false}
+use Rattle.theory_lists.specs.Lists.{found}
 use Rattle.model.specs.Outcome.{Cells, word}
 use Rattle.model.specs.Table.{SPAN, UPTO, NAME, TYPE, WORD, KEY, nameRow, functionHead, entryHead}
 use Rattle.model.specs.Tree.{Function, Entry}
@@ -21,8 +22,9 @@ use Rattle.theory_image.specs.Plain.{plain?}
 use Rattle.theory_image.specs.Quiet.{Plainly, plain-none, plain-next, plainly}
 use Rattle.theory_image.specs.Views.{sees-name, sees-pair, sees-special}
 use Rattle.theory_image.specs.Tapes.{taped-same}
-use Rattle.theory_image.specs.FunctionViews.{Part, part-end, part-word, part-words, parts, taped-held, taped-length, taped-count, taped-offset, taped-functions, taped-entries, taped-part, taped-function, taped-entry-head, looked-each}
+use Rattle.theory_image.specs.FunctionViews.{Part, part-end, part-word, part-words, parts, taped-held, taped-length, taped-count, taped-offset, taped-functions, taped-entries, taped-part, taped-function, taped-entry-head}
 use Rattle.theory_image.specs.Betweens.{table-between, table-count, record-offset, record-part}
+use Rattle.theory_image.specs.Members.{looked-each}
 use Rattle.intake_distinct.specs.Listed.{listing, placeOf, numberAt, Placed, nameAt, Spelled}
 use Rattle.intake_names.specs.Passes.{NONE, marking, Small}
 use Rattle.intake_names.proofs.Marks.{functions-are, entries-are, functions-small, entries-small}
@@ -70,11 +72,6 @@ key-first (plain-next (plain-next plain-none)) = (record { some-words = omega ar
 name-words : {r : Cells} → Lays nameRow r → 0 < length r
 unfolding nameRow
 name-words (lays-next e l) = omega arith
-
-some-at : {A : Type 0} (l : List A) (j : ℕ) → j < length l → (x : A) × (getElem? l j ≡ some x)
-some-at [] j h = absurd (omega arith)
-some-at (x ∷ l) zero h = (x, refl)
-some-at (x ∷ l) (suc j) h = some-at l j (omega arith)
 
 module _ {words tags : List ℕ} {n : ℕ} {m : Module} (t : Taped words tags n m) where
   -- the word where a part starts
@@ -164,16 +161,16 @@ module _ {words tags : List ℕ} {n : ℕ} {m : Module} (t : Taped words tags n 
       place-is j = place-record words k j h
 
   placed-functions : Placed words 6
-  placed-functions = placed-at 6 (omega arith) λ j i. let x = some-at (m .functions) j (omega (arith, taped-functions t)) in starts-in (function-head j (x .0) (x .1)) (function-first j (x .0) (x .1) .some-words)
+  placed-functions = placed-at 6 (omega arith) λ j i. let x = found (m .functions) j (omega (arith, taped-functions t)) in starts-in (function-head j (x .0) (x .1)) (function-first j (x .0) (x .1) .some-words)
 
   placed-entries : Placed words 7
-  placed-entries = placed-at 7 (omega arith) λ j i. let x = some-at (m .entries) j (omega (arith, taped-entries t)) in starts-in (taped-entry-head t j (x .0) (x .1)) (entry-head-first j (x .0) (x .1) .some-words)
+  placed-entries = placed-at 7 (omega arith) λ j i. let x = found (m .entries) j (omega (arith, taped-entries t)) in starts-in (taped-entry-head t j (x .0) (x .1)) (entry-head-first j (x .0) (x .1) .some-words)
 
   placed-names : Placed words 0
   unfolding tables
   placed-names =
       placed-at 0 (omega arith) λ j i.
-      let x = some-at (m .names) j (omega (arith, table-count t 0 (omega arith))) in
+      let x = found (m .names) j (omega (arith, table-count t 0 (omega arith))) in
       starts-in (taped-part t (omega arith) (sees-name m refl j (x .0) (x .1))) (name-words (looked-each (t .well .names-ok .each) j (x .1)))
 
   placed-pairs : Placed words 8
@@ -183,7 +180,7 @@ module _ {words tags : List ℕ} {n : ℕ} {m : Module} (t : Taped words tags n 
         known = omega arith;
         offset = λ j i d. absurd (d refl);
         place = λ j i.
-            let x = some-at (m .special .pairs) j (omega (arith, keys-count)) in
+            let x = found (m .special .pairs) j (omega (arith, keys-count)) in
             starts-in (pair-part j (x .0) (x .1)) (pair-first j (x .0) (x .1) .0 .some-words);
       }
 
@@ -214,7 +211,7 @@ module _ {words tags : List ℕ} {n : ℕ} {m : Module} (t : Taped words tags n 
     unfolding tables
     entries-few a e p q = rw (p, q) (rw (table-between t 7 (omega arith)) (entries-small (t .well .entries-ok .each) (few .in-entries)))
 
--- ---- what the code asks
+-- ---- what the code requires
 module _ {words tags : List ℕ} {n : ℕ} (v : Numbered words tags n) where
   pub functions-placed : Placed words 6
   functions-placed = placed-functions (v .taped)

@@ -1,4 +1,4 @@
--- The pass over the named expressions of a section is the definition: marks tell whether a number was named before, and they are cleared where the list of a function begins.
+-- The pass over the named expressions of a section is the definition: marks show whether a number was named before, and they are cleared where the list of a function begins.
 use mathlib.Core.Path.{_≡_, refl, sym, ap, ap₂, _∙_}
 use mathlib.Core.Bool.{Bool, true, false, _&&_, not}
 use mathlib.Core.List.{List, [], _∷_, _++_, map, append-assoc}
@@ -8,13 +8,13 @@ use lib.Dec.{eqb, ltb}
 use lib.ListN.{length, getD, set, length-set, length-replicate, getD-replicate, List·getD-eq-default}
 use lib.Seq.{getD-set-same, getD-set-other}
 use borrow.Author.Tests.{eqb-true, eqb-false, eq-eqb, ltb-true, ltb-false}
+use Rattle.theory_lists.specs.Booleans.{and-assoc, and-right}
 use Rattle.model.specs.Outcome.{Cell, Cells, class}
 use Rattle.model.specs.Table.{NAME, NAMED-EXPR, EXPRESSIONS, NAMED, EXPR-KIND, counted, limit}
 use Rattle.model.specs.Tree.{Function, Entry, flat, flatEntry, flatAll, flatList, flatBlock}
 use Rattle.model.specs.Module.{flatTable}
 use Rattle.model.specs.Carry.{Lays, Each, each-none, each-next, WellFunction, WellEntry}
 use Rattle.model.specs.Names.{field, present, absent, distinct, expressionsNamed, functionsNamed, entriesNamed, Few}
-use Rattle.theory_image.specs.Lists.{and-assoc, and-right}
 use Rattle.theory_image.specs.FunctionViews.{Field, field-not, Expression, expression, expression-shape}
 use Rattle.theory_image.specs.Quiet.{each-append, each-map, Quiet, quiet-named-expr, quiet-named, Plainly, plain-none, plain-next, named-shape, before-quiet, body-quiet, entry-quiet, places-quiet}
 use Rattle.intake_names.specs.Passes.{unnamed, NONE, marking, Small}
@@ -91,7 +91,7 @@ function-rows f h =
     ∙ ap (λ b. present (map (field NAME) (f .named)) && (distinct (map (field NAMED-EXPR) (f .named)) && b)) (none-clear (map (field NAMED-EXPR) (f .named)))
     ∙ ap (present (map (field NAME) (f .named)) &&_) (and-right (distinct (map (field NAMED-EXPR) (f .named))))
 
--- ---- runs of cells: what they say, and what comes behind them with some marks and another class before it
+-- ---- runs of cells: what they say, and what comes after them with some marks and another class before it
 pub record Onward (cs : Cells) (says : Bool) (b : ℕ) (ms : List ℕ) (rest : Cells) : Type 0 where
   pub last : ℕ
   pub marks : List ℕ
@@ -213,7 +213,7 @@ entries-pass (each-next {a = p} {l = ps} w ws) (each-next h hs) b ms e =
     let o = entry-on w h b ms (flatAll (map flatEntry ps)) e in
     o .is ∙ ap (expressionsNamed (p .function) &&_) (entries-pass ws hs (o .last) (o .marks) (o .calm))
 
--- the sections, behind their offsets
+-- the sections, after their offsets
 pub functions-are : {fs : List Function} → Each WellFunction fs → Each Few fs → marking (flatTable (map flat fs)) 0 NONE ≡ functionsNamed fs
 unfolding flatTable
 functions-are {fs} w h =

@@ -84,7 +84,7 @@ module _ (words tags : List ℕ) (at end : ℕ) (st : Stretch words tags at end)
         passed : elim (eqb (getD tags i 0) NAMED) [ true ↦ marking (between tags words (suc i) end) (getD tags i 0) NONE | false ↦ elim (eqb (getD tags i 0) NAMED-EXPR) [ true ↦ eqb (getD marks (getD words i 0) 0) 0 && marking (between tags words (suc i) end) (getD tags i 0) (set marks (getD words i 0) 1) | false ↦ marking (between tags words (suc i) end) (getD tags i 0) marks ] ] ≡ whole
         passed = rw (sym is ∙ ok) at opened-cell
 
-        -- the cells behind this one, with other marks
+        -- the cells after this one, with other marks
         on : (ms : List ℕ) → length ms ≡ 1024 → marking (between tags words (suc i) end) (getD tags i 0) ms ≡ whole → Marked words tags end whole ms (getD tags i 0) (i + 1)
         on ms n e = rw (add-one i) (record { within = h; long = n; few = each-rest first; same = e })
 

@@ -8,6 +8,8 @@ use base_views::FUNCTIONS;
 use base_views::SPECIAL;
 use base_views::count;
 use base_views::offset;
+use base_words::Tags;
+use base_words::Words;
 use base_words::wide;
 use intake_distinct::differ;
 use intake_distinct::distinct;
@@ -22,7 +24,7 @@ ghost use Rattle.intake_distinct.specs.Listed.{listing, numberAt, Placed};
 ghost use Rattle.intake_names.specs.Passes.{unnamed as unnamedOf, NONE, marking, Small};
 
 // Whether all of section k have a name.
-fn present(words: &[u32; 16384], k: usize) -> bool
+fn present(words: &Words, k: usize) -> bool
     requires { ⌜ Placed (now words) k ⌝ }
     ensures { λ r. ⌜ r ≡ presentOf (listing (numberAt (now (words .entry)) k) (countAt k (now (words .entry))) 0) ⌝ }
 {
@@ -38,7 +40,7 @@ fn present(words: &[u32; 16384], k: usize) -> bool
     true
 }
 
-// Whether a word w of the class s, behind a word of the class before, is the name of an expression, and none.
+// Whether a word w of the class s, after a word of the class `before`, is the name of an expression, and is none.
 fn unnamed(before: u8, s: u8, w: u32) -> bool
     ensures { λ r. ⌜ r ≡ unnamedOf before s w ⌝ }
 {
@@ -52,7 +54,7 @@ fn unnamed(before: u8, s: u8, w: u32) -> bool
 }
 
 // Whether each named expression has a name, and none is named twice in a function.
-fn expressions(words: &[u32; 16384], tags: &[u8; 16384], at: usize, end: usize) -> bool
+fn expressions(words: &Words, tags: &Tags, at: usize, end: usize) -> bool
     requires { ⌜ Stretch (now words) (now tags) at end ⌝ }
     requires { ⌜ Each Small (between (now tags) (now words) at end) ⌝ }
     ensures { λ r. ⌜ r ≡ marking (between (now (tags .entry)) (now (words .entry)) at end) 0 NONE ⌝ }
@@ -83,8 +85,8 @@ fn expressions(words: &[u32; 16384], tags: &[u8; 16384], at: usize, end: usize) 
     true
 }
 
-// Whether all that has to be named is, and what has to differ does, in the image that words and tape hold.
-pub fn named(words: &[u32; 16384], tags: &[u8; 16384], n: usize) -> bool
+// Whether all that has to be named is, and what has to differ does, in the image that words and tags hold.
+pub fn named(words: &Words, tags: &Tags, n: usize) -> bool
     requires { ⌜ Numbered (now words) (now tags) n ⌝ }
     ensures { λ r. ⌜ ((m : Module) → Taped (now (words .entry)) (now (tags .entry)) n m → r ≡ namedOf m) ⌝ }
 {

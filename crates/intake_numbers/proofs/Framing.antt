@@ -1,4 +1,4 @@
--- A function in words and tape, and the loops over table functions and entry points. Assumes nothing.
+-- A function in words and tags, and the loops over table functions and entry points.
 use mathlib.Core.Path.{_≡_, refl, sym, ap, _∙_}
 use mathlib.Core.Bool.{Bool, true, false, _&&_, not}
 use mathlib.Core.Option.{some}
@@ -9,6 +9,7 @@ use native.Mathlib.Omega.{arith}
 use lib.ListN.{length, getD, getElem?, drop}
 use lib.Seq.{drop-cons, drop-length}
 use borrow.Author.Tests.{not-true, not-false}
+use Rattle.theory_lists.specs.Lists.{looked-at}
 use Rattle.model.specs.Outcome.{Cells}
 use Rattle.model.specs.Tree.{Function, Entry, end, flat, flatEntry}
 use Rattle.model.specs.Module.{Module, countAt, flatModule}
@@ -18,7 +19,7 @@ use Rattle.model.specs.Taped.{Taped, Tape}
 use Rattle.model.specs.Initial.{initialised}
 use Rattle.model.specs.Numbers.{Bounds, within, ordered, every, outside, inside, sound, soundFunction, soundEntry, constantOnly, numbered}
 use Rattle.theory_image.specs.Views.{sees-entry}
-use Rattle.theory_image.specs.FunctionViews.{arguments-count, locals-count, exprs-count, stands-end, looked-at, taped-part, taped-function, taped-entry, taped-functions, taped-entries}
+use Rattle.theory_image.specs.FunctionViews.{arguments-count, locals-count, exprs-count, stands-end, taped-part, taped-function, taped-entry, taped-functions, taped-entries}
 use Rattle.theory_image.specs.Betweens.{held-between}
 use Rattle.model.specs.Between.{Long}
 use Rattle.intake_ranges.specs.Ranges.{table, headed, owned, Checked, Owned}
@@ -26,7 +27,7 @@ use Rattle.intake_numbers.specs.Passes.{Says, Tabled, Frame, Framed, Sou
 use Rattle.intake_initialisers.specs.Lists.{Lists, Listed, Initialised}
 use Rattle.intake_numbers.proofs.Tabling.{and-next, taped-long, cells-few, headed-is}
 
--- ---- where its counts stand
+-- ---- where its counts are
 module _ {words tags : List ℕ} {at from end : ℕ} {f : Function} {cs : Cells} (fr : Frame words tags at from end f cs) where
   exprs-below : expressionsAt from words + 1 < end
   exprs-below = omega (arith, stands-end (fr .own))
@@ -96,7 +97,7 @@ module _ {A : Type 0} (k : ℕ) (items : Module → List A) (fn : A → Function
     pub same : (m : Module) → Taped words tags n m → Loose t₀ m → every (λ x. sound (outside m) (fn x) (cells x)) (drop j (items m)) ≡ every (λ x. sound (outside m) (fn x) (cells x)) (items m)
     pub kept : (m : Module) → Taped words tags n m → Loose t₀ m → Loose t m
 
-  -- where they stand
+  -- where they are
   pub record Framing (words tags : List ℕ) (n : ℕ) : Type 0 where
     pub count : (m : Module) → Taped words tags n m → countAt k words ≡ length (items m)
     pub frames : (m : Module) → Taped words tags n m → (j : ℕ) (x : A) → getElem? (items m) j ≡ some x → Frame words tags (recordAt k j words) (from (recordAt k j words)) (recordEnd k j words) (fn x) (cells x)

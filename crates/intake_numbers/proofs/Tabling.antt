@@ -1,4 +1,4 @@
--- The sections of a module in words and tape: where they stand, what a pass over one of them tests, and the kinds of global expressions. Assumes nothing.
+-- The sections of a module in words and tags: where they are, what a pass over one of them tests, and the kinds of global expressions.
 use mathlib.Core.Path.{_≡_, refl, sym, ap, _∙_}
 use mathlib.Core.Bool.{Bool, true, false, _&&_, not}
 use mathlib.Core.List.{List, [], _∷_, _++_}
@@ -8,6 +8,7 @@ use native.Mathlib.Omega.{arith}
 use lib.ListN.{length, getD, drop}
 use lib.Seq.{drop-cons, drop-length}
 use borrow.Author.Tests.{not-true, not-false}
+use Rattle.theory_lists.specs.Lists.{looked-at}
 use Rattle.model.specs.Outcome.{Cells, class, word}
 use Rattle.model.specs.Table.{expressionRow}
 use Rattle.model.specs.Tree.{flatAll}
@@ -17,9 +18,10 @@ use Rattle.model.specs.Taped.{Taped, Tape}
 use Rattle.model.specs.Operands.{kind, constantKind}
 use Rattle.model.specs.Numbers.{Bounds, caps, bound, below, within, every, outside, constantOnly}
 use Rattle.theory_image.specs.Views.{length-write, view-rising, view-next, view-within, view-last, view-section, view-table, sees-names, sees-types, sees-constants, sees-overrides, sees-globals, sees-exprs, sees-functions, sees-special, sees-expr}
-use Rattle.theory_image.specs.FunctionViews.{Part, part-word, part-end, each-at, Expression, expression-first, expression-kind, each-expression, looked-at, taped-write, taped-held, taped-count, taped-offset, taped-part}
+use Rattle.theory_image.specs.FunctionViews.{Part, part-word, part-end, Expression, expression-first, expression-kind, each-expression, taped-write, taped-held, taped-count, taped-offset, taped-part}
 use Rattle.model.specs.Between.{between, Long}
 use Rattle.theory_image.specs.Betweens.{held-between}
+use Rattle.theory_image.specs.Members.{each-at}
 use Rattle.intake_ranges.specs.Ranges.{table, headed, Ranged}
 use Rattle.intake_numbers.specs.Passes.{Says, Tabled, tablesFine, kindsFine}
 

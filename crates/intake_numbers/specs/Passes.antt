@@ -1,4 +1,4 @@
--- What the passes over the sections and functions of a module answer, and where a function stands.
+-- What the passes over the sections and functions of a module answer, and where a function is.
 use mathlib.Core.Path.{_≡_}
 use mathlib.Core.Bool.{Bool, _&&_}
 use mathlib.Core.List.{List}
@@ -13,7 +13,7 @@ use Rattle.model.specs.Numbers.{Bounds, within, every, outside, inside, sound, 
 use Rattle.theory_image.specs.FunctionViews.{Part, Stands}
 use Rattle.intake_ranges.specs.Ranges.{table}
 
--- ---- of the module that words and tape hold
+-- ---- of the module that words and tags hold
 pub record Says (r : Bool) (words tags : List ℕ) (n : ℕ) (f : Module → Bool) : Type 0 where
   pub same : (m : Module) → Taped words tags n m → r ≡ f m
 
@@ -38,7 +38,7 @@ pub record Sound (r : Bool) (t₁ t words tags : List ℕ) (at from end : ℕ) :
   pub same : (f : Function) (cs : Cells) → Frame words tags at from end f cs → (b : Bounds) → t ≡ table b → r ≡ sound b f cs
   pub kept : (f : Function) (cs : Cells) → Frame words tags at from end f cs → (b : Bounds) → t ≡ table b → t₁ ≡ table (inside b f)
 
--- the table is that of the module, but for the bounds that each function sets anew
+-- the table is that of the module, but for the bounds that each function sets again
 pub record Loose (t : List ℕ) (m : Module) : Type 0 where
   pub bounds : Bounds
   pub is : t ≡ table bounds

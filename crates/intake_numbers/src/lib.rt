@@ -1,4 +1,4 @@
-// Refusal 3: a number or code out of range, or a kind barred from its place. Flat passes over words and tape: one comparison for each word with the
+// Refusal 3: a number or code out of range, or a kind barred from its place. Flat passes over words and tags: one comparison for each word with the
 // bound of its class; a second look at Emit's start; and the kinds that the initialisers of locals reach, each expression visited once.
 // The cost is linear in the words, about 1 ns each. The worst are functions of 1,024 expressions whose operands run forward from one initialiser: two of
 // them, 12,353 words, take about 40 microseconds.
@@ -19,12 +19,14 @@ use base_views::locals_at;
 use base_views::offset;
 use base_views::record_at;
 use base_views::record_end;
+use base_words::Tags;
+use base_words::Words;
 use intake_initialisers::initialised;
 use intake_ranges::CODES;
-use intake_ranges::checked;
-use intake_ranges::inside;
-use intake_ranges::outside;
-use intake_ranges::ranged;
+use intake_ranges::function_bounds;
+use intake_ranges::function_in_range;
+use intake_ranges::in_range;
+use intake_ranges::module_bounds;
 ghost use Prim.Native.Nat.{suc, _<_};
 ghost use Rattle.model.specs.Module.{offsetAt};
 ghost use Rattle.model.specs.Taped.{Tape};
@@ -33,18 +35,18 @@ ghost use Rattle.intake_ranges.specs.Ranges.{Ranged};
 ghost use Rattle.intake_numbers.specs.Passes.{Says, Tabled, Framed, Sound, Loosely, tablesFine, kindsFine, functionsFine, entriesFine};
 
 // A table section: count offsets, and records whose numbers are in range.
-fn table(words: &[u32; 16384], tags: &[u8; 16384], n: usize, t: &[u64; 256], k: usize) -> bool
+fn table(words: &Words, tags: &Tags, n: usize, t: &[u64; 256], k: usize) -> bool
     requires { ⌜ Tape (now words) (now tags) n ⌝ }
     requires { ⌜ k < 8 ⌝ }
     ensures { λ r. ⌜ Ranged r (now (words .entry)) (now (tags .entry)) (now (t .entry)) (offsetAt k (now (words .entry))) (offsetAt (suc k) (now (words .entry))) ⌝ }
 {
     let at = offset(words, k);
     let end = offset(words, k + 1);
-    ranged(words, tags, t, at, end)
+    in_range(words, tags, t, at, end)
 }
 
 // Sections 1 to 5 and 8.
-fn tables(words: &[u32; 16384], tags: &[u8; 16384], n: usize, t: &[u64; 256]) -> bool
+fn tables(words: &Words, tags: &Tags, n: usize, t: &[u64; 256]) -> bool
     requires { ⌜ Tape (now words) (now tags) n ⌝ }
     ensures { λ r. ⌜ Tabled r (now (words .entry)) (now (tags .entry)) n (now (t .entry)) tablesFine ⌝ }
 {
@@ -64,11 +66,11 @@ fn tables(words: &[u32; 16384], tags: &[u8; 16384], n: usize, t: &[u64; 256]) ->
         return false;
     }
     let at = offset(words, SPECIAL);
-    ranged(words, tags, t, at, n)
+    in_range(words, tags, t, at, n)
 }
 
 // The kinds of global expressions.
-fn kinds(words: &[u32; 16384], tags: &[u8; 16384], n: usize) -> bool
+fn kinds(words: &Words, tags: &Tags, n: usize) -> bool
     requires { ⌜ Tape (now words) (now tags) n ⌝ }
     ensures { λ r. ⌜ Says r (now (words .entry)) (now (tags .entry)) n kindsFine ⌝ }
 {
@@ -87,8 +89,8 @@ fn kinds(words: &[u32; 16384], tags: &[u8; 16384], n: usize) -> bool
 
 // A record from `at` to `end` whose function starts at `from`: every word in range, Emit's ranges, and what initialisers reach.
 fn function(
-    words: &[u32; 16384],
-    tags: &[u8; 16384],
+    words: &Words,
+    tags: &Tags,
     t: &mut [u64; 256],
     at: usize,
     from: usize,
@@ -99,15 +101,15 @@ fn function(
 {
     let locals = locals_at(words, from);
     let exprs = expressions_at(words, from);
-    inside(t, words[exprs], words[arguments_at(from)], words[locals]);
-    if !checked(words, tags, t, at, end) {
+    function_bounds(t, words[exprs], words[arguments_at(from)], words[locals]);
+    if !function_in_range(words, tags, t, at, end) {
         return false;
     }
     initialised(words, tags, locals, exprs, end)
 }
 
-// Table functions, each of which starts its record, and entry points, where other words stand before it.
-fn functions(words: &[u32; 16384], tags: &[u8; 16384], n: usize, t: &mut [u64; 256]) -> bool
+// Table functions, each of which starts its record, and entry points, where other words come before the function.
+fn functions(words: &Words, tags: &Tags, n: usize, t: &mut [u64; 256]) -> bool
     requires { ⌜ Tape (now words) (now tags) n ⌝ }
     ensures { λ r. ⌜ Loosely r (now (t .exit)) (now (words .entry)) (now (tags .entry)) n (now (t .entry)) functionsFine ⌝ }
 {
@@ -125,7 +127,7 @@ fn functions(words: &[u32; 16384], tags: &[u8; 16384], n: usize, t: &mut [u64; 2
     true
 }
 
-fn entries(words: &[u32; 16384], tags: &[u8; 16384], n: usize, t: &mut [u64; 256]) -> bool
+fn entries(words: &Words, tags: &Tags, n: usize, t: &mut [u64; 256]) -> bool
     requires { ⌜ Tape (now words) (now tags) n ⌝ }
     ensures { λ r. ⌜ Loosely r (now (t .exit)) (now (words .entry)) (now (tags .entry)) n (now (t .entry)) entriesFine ⌝ }
 {
@@ -144,12 +146,12 @@ fn entries(words: &[u32; 16384], tags: &[u8; 16384], n: usize, t: &mut [u64; 256
 }
 
 // Whether every number and code is in range and every kind in its place.
-pub fn numbered(words: &[u32; 16384], tags: &[u8; 16384], n: usize) -> bool
+pub fn numbered(words: &Words, tags: &Tags, n: usize) -> bool
     requires { ⌜ Tape (now words) (now tags) n ⌝ }
     ensures { λ r. ⌜ Says r (now (words .entry)) (now (tags .entry)) n numberedOf ⌝ }
 {
     let mut t = CODES;
-    outside(&mut t, words);
+    module_bounds(&mut t, words);
     if !tables(words, tags, n, &t) {
         return false;
     }

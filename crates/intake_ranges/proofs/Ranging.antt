@@ -1,4 +1,4 @@
--- The passes that compare each word with the bound of its class, and each Emit's start with its end: what is left to test from word i on is the whole. Assumes nothing.
+-- The passes that compare each word with the bound of its class, and each Emit's start with its end: what is left to test from word i on is the whole.
 use mathlib.Core.Path.{_≡_, refl, sym, ap, _∙_}
 use mathlib.Core.Bool.{Bool, true, false, _&&_, not}
 use mathlib.Core.Option.{Option, none, some}

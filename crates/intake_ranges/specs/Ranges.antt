@@ -1,4 +1,4 @@
--- The table of bounds as the code has it, and what the passes over words and tape answer, in terms of the model's cells.
+-- The table of bounds as the code has it, and what the passes over words and tags answer, in terms of the model's cells.
 use mathlib.Core.Path.{_≡_}
 use mathlib.Core.Bool.{Bool, _&&_}
 use mathlib.Core.Option.{Option, none, some}
@@ -19,7 +19,7 @@ unfoldable pub upTo : ℕ → ℕ → List ℕ
 upTo k zero = []
 upTo k (suc n) = k ∷ upTo (suc k) n
 
--- for each class, of which a byte tells 256
+-- for each class: a byte has 256 values
 unfoldable pub table : Bounds → List ℕ
 table b = map (λ s. cap (bound b s)) (upTo 0 256)
 

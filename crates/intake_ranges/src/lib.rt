@@ -7,6 +7,8 @@ use base_views::NAMES;
 use base_views::OVERRIDES;
 use base_views::TYPES;
 use base_views::count;
+use base_words::Tags;
+use base_words::Words;
 ghost use mathlib.Core.Path.{_≡_};
 ghost use Prim.Native.Nat.{_+_, _^_, _≤_, _<_};
 ghost use lib.ListN.{getD};
@@ -67,7 +69,7 @@ fn slot(x: u8) -> usize
     x as usize
 }
 
-// What a word of each class stays below: a code below its class, and any other word below 4,294,967,296 until `outside` and `inside` say more.
+// What a word of each class stays below: a code below its class, and any other word below 4,294,967,296 until `module_bounds` and `function_bounds` say more.
 pub const CODES: [u64; 256] = [
     0,
     1,
@@ -328,7 +330,7 @@ pub const CODES: [u64; 256] = [
 ];
 
 // The bounds outside functions, from the header: an optional number may be its count, which is one more than the last number.
-pub fn outside(t: &mut [u64; 256], words: &[u32; 16384])
+pub fn module_bounds(t: &mut [u64; 256], words: &Words)
     requires { ⌜ now t ≡ codes ⌝ }
     ensures { λ _. ⌜ now (t .exit) ≡ table (headed (now (words .entry))) ⌝ }
 {
@@ -357,8 +359,8 @@ pub fn outside(t: &mut [u64; 256], words: &[u32; 16384])
     t[LOCAL_INIT] = inits + 1;
 }
 
-// The bounds in a function of so many expressions, arguments and locals.
-pub fn inside(t: &mut [u64; 256], exprs: u32, arguments: u32, locals: u32)
+// The bounds in a function with these numbers of expressions, arguments and locals.
+pub fn function_bounds(t: &mut [u64; 256], exprs: u32, arguments: u32, locals: u32)
     ensures { λ _. ⌜ Owned (now (t .exit)) (now (t .entry)) exprs arguments locals ⌝ }
 {
     let e = far(exprs);
@@ -374,13 +376,7 @@ pub fn inside(t: &mut [u64; 256], exprs: u32, arguments: u32, locals: u32)
 }
 
 // Whether each word from `at` to `end` is below the bound of its class.
-pub fn ranged(
-    words: &[u32; 16384],
-    tags: &[u8; 16384],
-    t: &[u64; 256],
-    at: usize,
-    end: usize,
-) -> bool
+pub fn in_range(words: &Words, tags: &Tags, t: &[u64; 256], at: usize, end: usize) -> bool
     requires { ⌜ Long (now words) (now tags) ⌝ }
     requires { ⌜ at ≤ end ⌝ }
     requires { ⌜ end ≤ 16384 ⌝ }
@@ -398,8 +394,8 @@ pub fn ranged(
     true
 }
 
-// Whether the word at i, if it is Emit's start, is at most the word behind it.
-fn rising(words: &[u32; 16384], tags: &[u8; 16384], i: usize, end: usize) -> bool
+// Whether the word at i, if it is Emit's start, is at most the word after it.
+fn emit_in_order(words: &Words, tags: &Tags, i: usize, end: usize) -> bool
     requires { ⌜ Long (now words) (now tags) ⌝ }
     requires { ⌜ i < end ⌝ }
     requires { ⌜ end ≤ 16384 ⌝ }
@@ -415,13 +411,7 @@ fn rising(words: &[u32; 16384], tags: &[u8; 16384], i: usize, end: usize) -> boo
 }
 
 // The same of a function's record, with each Emit's start at its end or before.
-pub fn checked(
-    words: &[u32; 16384],
-    tags: &[u8; 16384],
-    t: &[u64; 256],
-    at: usize,
-    end: usize,
-) -> bool
+pub fn function_in_range(words: &Words, tags: &Tags, t: &[u64; 256], at: usize, end: usize) -> bool
     requires { ⌜ Long (now words) (now tags) ⌝ }
     requires { ⌜ at ≤ end ⌝ }
     requires { ⌜ end ≤ 16384 ⌝ }
@@ -436,7 +426,7 @@ pub fn checked(
             return false;
         }
         if k == FROM {
-            if !rising(words, tags, j, end) {
+            if !emit_in_order(words, tags, j, end) {
                 return false;
             }
         }

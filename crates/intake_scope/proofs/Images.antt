@@ -1,4 +1,4 @@
--- Every function and every entry point, one after the other: what is left from here is the whole. Assumes nothing.
+-- Every function and every entry point, one after the other: what is left from here is the whole.
 use mathlib.Core.Path.{_≡_, refl, sym, ap, _∙_, subst}
 use mathlib.Core.Bool.{Bool, true, false, _&&_, not}
 use mathlib.Core.List.{List, [], _∷_}
@@ -9,6 +9,8 @@ use lib.Dec.{ltb}
 use lib.ListN.{length, getD, drop}
 use lib.Seq.{drop-cons, drop-length}
 use borrow.Author.Tests.{ltb-true, ltb-false, not-true, not-false}
+use Rattle.theory_lists.specs.Lists.{looked-at}
+use Rattle.theory_lists.specs.Booleans.{and-split}
 use Rattle.model.specs.Outcome.{Cells, class, word}
 use Rattle.model.specs.Table.{TO}
 use Rattle.model.specs.Tree.{Function, Entry, flat, flatEntry}
@@ -18,10 +20,9 @@ use Rattle.model.specs.Taped.{Tape, Taped}
 use Rattle.model.specs.Initial.{initialised}
 use Rattle.model.specs.Numbers.{Bounds, caps, bound, below, within, ordered, every, outside, inside, sound}
 use Rattle.model.specs.Scope.{scoped, allScoped, entriesScoped, inScope}
-use Rattle.theory_image.specs.FunctionViews.{part-end, looked-at}
+use Rattle.theory_image.specs.FunctionViews.{part-end}
 use Rattle.intake_numbers.specs.Passes.{Says, Frame, tablesFine, kindsFine, functionsFine, entriesFine}
 use Rattle.intake_numbers.proofs.Framing.{Word, noFunction, noEntry, Framing, framing-functions, framing-entries, functions-in, entries-in, numbered-is}
-use Rattle.theory_image.specs.Lists.{and-split}
 use Rattle.intake_scope.specs.Functions.{Stated, Scoped, InRange, functionsScoped, entryPointsScoped}
 use Rattle.intake_blocks.proofs.Trees.{Runs, runs-word}
 use Rattle.intake_scope.proofs.Whole.{part-runs}

@@ -1,4 +1,4 @@
--- A function record: where its expressions start, what its initialisers reach and where its body stands are what the pass over the body asks for, and what it answers is the model's test. Assumes nothing.
+-- A function record: where its expressions start, what its initialisers reach and where its body starts are what the pass over the body requires, and what it answers is the model's test.
 use mathlib.Core.Path.{_≡_, refl, sym, ap, _∙_, fun-ext}
 use mathlib.Core.Bool.{Bool, true, _&&_, not}
 use mathlib.Core.List.{List, [], _∷_}
@@ -9,6 +9,7 @@ use lib.Dec.{eqb, ltb}
 use lib.ListN.{length, getD, drop, replicate}
 use lib.Seq.{slice, sets, length-sets, ext-getD}
 use borrow.Author.Tests.{ne-eqb, lt-ltb, not-true}
+use Rattle.theory_lists.specs.Booleans.{and-split, bool-same}
 use Rattle.model.specs.Outcome.{Cells, class, word}
 use Rattle.model.specs.Table.{counted, expressionRow}
 use Rattle.model.specs.Tree.{Function, flatAll, flatBlock}
@@ -18,13 +19,13 @@ use Rattle.model.specs.Initial.{Marks, marked, moving, initials, initial, reach
 use Rattle.theory_image.specs.Reached.{initial-is, initial-all}
 use Rattle.model.specs.Scope.{inBody, allOf, seen, scoped}
 use Rattle.theory_image.specs.Sections.{startOf, start-end}
-use Rattle.theory_image.specs.FunctionViews.{Held, Part, part-end, part-right, part-word, part-tag, namedAt, bodyAt, each-at, expression-first, expr-part, expr-shape, named-count, parts, stands-end}
+use Rattle.theory_image.specs.FunctionViews.{Held, Part, part-end, part-right, part-word, part-tag, namedAt, bodyAt, expression-first, expr-part, expr-shape, named-count, parts, stands-end}
+use Rattle.theory_image.specs.Members.{each-at}
 use Rattle.intake_initialisers.specs.Lists.{Lists, Listed}
 use Rattle.intake_numbers.specs.Passes.{Framed}
 use Rattle.intake_initialisers.specs.Marks.{finds, on, inits, Visits, Work, Starting, Reaching, Reaches}
 use Rattle.intake_initialisers.proofs.Reaching.{all, starting, begun, many-is, many-few, end-in}
 use Rattle.intake_numbers.proofs.Framing.{lists-are}
-use Rattle.theory_image.specs.Lists.{and-split, bool-same}
 use Rattle.intake_statements.specs.Fine.{fineB}
 use Rattle.intake_statements.specs.Tape.{cellsFrom, cellsIn, blockOf, HoldsB, Ends, recordOf, tableFrom, exprsOf, Placed, Exprs, marks}
 use Rattle.intake_blocks.specs.Found.{BlockHere}

@@ -1,4 +1,4 @@
--- What is asked of a function record, and what is found: the record stands in words and tape, its numbers are in range as far as scope needs it, and the answer is the model's.
+-- What is required of a function record, and what is found: the record is in words and tags, its numbers are in range as far as scope needs it, and the answer is the model's.
 use mathlib.Core.Path.{_≡_}
 use mathlib.Core.Bool.{Bool, true}
 use mathlib.Core.List.{List}
@@ -42,7 +42,7 @@ pub record Stated (words tags : List ℕ) (at from end : ℕ) : Type 0 where
 pub record Scoped (r : Bool) (words tags : List ℕ) (at from end : ℕ) : Type 0 where
   pub same : (f : Function) (cs : Cells) → Frame words tags at from end f cs → initialised f ≡ true → r ≡ scoped f
 
--- every module in words and tape has its numbers in range
+-- every module in words and tags has its numbers in range
 pub record InRange (words tags : List ℕ) (n : ℕ) : Type 0 where
   pub holds : (m : Module) → Taped words tags n m → numbered m ≡ true
 

@@ -1,6 +1,6 @@
-// Refusal 6: the Scope paragraph of document 01, in one pass over each body. The large arrays that a pass works in are made once for an image and
-// lent to one function after the other. `starts` and `list` are written before they are read, and of `until` each body clears as much as its function
-// has expressions. What is lent comes back as long as it was where the answer is yes; after a no there is no next function.
+// Refusal 6: the Scope paragraph of document 01, in one pass over each body. The large arrays that a pass works in are made once for an image and used by one
+// function after the other. `starts` and `list` are written before they are read, and each body clears as much of `until` as its function has expressions. The
+// arrays keep their lengths where the answer is yes; after a no there is no next function.
 use base_views::ENTRIES;
 use base_views::ENTRY_HEAD;
 use base_views::FUNCTIONS;
@@ -9,6 +9,8 @@ use base_views::expressions_at;
 use base_views::locals_at;
 use base_views::record_at;
 use base_views::record_end;
+use base_words::Tags;
+use base_words::Words;
 use base_words::wide;
 use intake_blocks::body;
 use intake_initialisers::places;
@@ -23,8 +25,8 @@ ghost use Rattle.intake_scope.specs.Functions.{Lent, Known, Tested, Stat
 
 // Is the body of a function in scope? Its lists of locals and expressions have their numbers at the words `locals` and `exprs`.
 fn scoped(
-    words: &[u32; 16384],
-    tags: &[u8; 16384],
+    words: &Words,
+    tags: &Tags,
     starts: &mut [u32; 1025],
     list: &mut [u32; 1024],
     until: &mut [usize; 1024],
@@ -50,8 +52,8 @@ fn scoped(
 
 // The same of the record from `at` to `end` whose function starts at `from`.
 fn function(
-    words: &[u32; 16384],
-    tags: &[u8; 16384],
+    words: &Words,
+    tags: &Tags,
     starts: &mut [u32; 1025],
     list: &mut [u32; 1024],
     until: &mut [usize; 1024],
@@ -71,8 +73,8 @@ fn function(
 
 // Table functions.
 fn functions(
-    words: &[u32; 16384],
-    tags: &[u8; 16384],
+    words: &Words,
+    tags: &Tags,
     starts: &mut [u32; 1025],
     list: &mut [u32; 1024],
     until: &mut [usize; 1024],
@@ -98,10 +100,10 @@ fn functions(
     true
 }
 
-// Entry points: other words stand before a function.
+// Entry points: other words come before the function.
 fn entries(
-    words: &[u32; 16384],
-    tags: &[u8; 16384],
+    words: &Words,
+    tags: &Tags,
     starts: &mut [u32; 1025],
     list: &mut [u32; 1024],
     until: &mut [usize; 1024],
@@ -128,7 +130,7 @@ fn entries(
 }
 
 // Is an image whose numbers are in range in scope?
-pub fn in_scope(words: &[u32; 16384], tags: &[u8; 16384], n: usize) -> bool
+pub fn in_scope(words: &Words, tags: &Tags, n: usize) -> bool
     requires { ⌜ Tape (now words) (now tags) n ⌝ }
     requires { ⌜ InRange (now words) (now tags) n ⌝ }
     ensures { λ r. ⌜ Says r (now (words .entry)) (now (tags .entry)) n inScope ⌝ }

@@ -1,4 +1,4 @@
--- Kinds, reads and results. What is left to do from where a loop stands is the whole. Assumes nothing.
+-- Kinds, reads and results. At every turn of a loop, what is left to do gives the answer of the whole.
 use mathlib.Core.Path.{_≡_, refl, sym, ap, _∙_}
 use mathlib.Core.Bool.{Bool, true, false, _&&_, not}
 use mathlib.Core.List.{List, [], _∷_, _++_}
@@ -9,11 +9,13 @@ use native.Mathlib.Omega.{arith}
 use lib.Dec.{eqb}
 use lib.ListN.{length, getD}
 use borrow.Author.Tests.{eq-eqb, ne-eqb, lt-ltb, le-ltb, not-true, not-false}
+use Rattle.theory_lists.specs.Booleans.{and-right}
 use Rattle.model.specs.Outcome.{Cells}
 use Rattle.model.specs.Tree.{optOf, wordOf}
 use Rattle.model.specs.Operands.{optional, operand, opsOf, resultOf, standingKind}
 use Rattle.model.specs.Between.{between}
 use Rattle.theory_image.specs.Betweens.{between-none, between-next}
+use Rattle.theory_image.specs.Words.{word-of}
 use Rattle.intake_statements.specs.Tape.{cellsFrom, cellsIn, Placed}
 use Rattle.intake_statements.specs.Lasts.{visibleAt, allSeen}
 
@@ -75,14 +77,10 @@ pub operand-other : (s w : ℕ) (xs : List ℕ) → (s ≡ 93 → ⊥) → (s �
 unfolding operand
 operand-other s w xs n m = rw (operand, ne-eqb s 93 n, ne-eqb s 94 m)
 
-and-true : (a : Bool) → (a && true) ≡ a
-and-true true = refl
-and-true false = refl
-
 module _ (s w v : ℕ) (is : (v ≡ w) × (v < 2 ^ 32)) (f : ℕ → Bool) where
   pub read-expr : s ≡ 93 → (r : Bool) → r ≡ f v → r ≡ allSeen (operand s w []) f
   unfolding allSeen
-  read-expr e r h = h ∙ ap f (is .0) ∙ sym (ap (λ l. allSeen l f) (operand-expr s w [] e) ∙ and-true (f w))
+  read-expr e r h = h ∙ ap f (is .0) ∙ sym (ap (λ l. allSeen l f) (operand-expr s w [] e) ∙ and-right (f w))
 
   pub read-none : (s ≡ 93 → ⊥) → s ≡ 94 → v ≡ 0 → true ≡ allSeen (operand s w []) f
   unfolding allSeen optional
@@ -90,7 +88,7 @@ module _ (s w v : ℕ) (is : (v ≡ w) × (v < 2 ^ 32)) (f : ℕ → Bool) where
 
   pub read-some : (s ≡ 93 → ⊥) → s ≡ 94 → (v ≡ 0 → ⊥) → (r : Bool) → r ≡ f (v - 1) → r ≡ allSeen (operand s w []) f
   unfolding allSeen optional
-  read-some n e z r h = let k : w ≡ suc (v - 1) = omega (arith, is .0) in h ∙ sym (ap (λ l. allSeen l f) (operand-optional s w [] e) ∙ ap (λ x. allSeen (optional x []) f) k ∙ and-true (f (v - 1)))
+  read-some n e z r h = let k : w ≡ suc (v - 1) = omega (arith, is .0) in h ∙ sym (ap (λ l. allSeen l f) (operand-optional s w [] e) ∙ ap (λ x. allSeen (optional x []) f) k ∙ and-right (f (v - 1)))
 
 pub read-other : (s w : ℕ) (f : ℕ → Bool) → (s ≡ 93 → ⊥) → (s ≡ 94 → ⊥) → true ≡ allSeen (operand s w []) f
 unfolding allSeen
@@ -107,7 +105,7 @@ pub cells-none : (ws ts : List ℕ) (i to : ℕ) → to ≤ i → cellsFrom (to 
 unfolding cellsFrom
 cells-none ws ts i to h = let e : to - i ≡ 0 = omega arith in rw e
 
--- inside words and tape they are the model's cells between two places
+-- inside words and tags they are the model's cells between two places
 pub cells-between : (ws ts : List ℕ) (from to : ℕ) → from ≤ to → to ≤ length ws → to ≤ length ts → cellsIn ws ts from to ≡ between ts ws from to
 unfolding cellsIn cellsFrom
 cells-between ws ts from to h w t = go (to - from) from (omega arith)
@@ -149,11 +147,6 @@ module _ (ws ts : List ℕ) (from to : ℕ) (f : ℕ → Bool) where
 pub record Looking (ws ts : List ℕ) (from to i : ℕ) : Type 0 where
   pub same : resultOf (cellsFrom (to - i) ws ts i) ≡ resultOf (cellsIn ws ts from to)
 
-word-opt : (w : ℕ) → wordOf (optOf w) ≡ w
-unfolding wordOf optOf
-word-opt zero = refl
-word-opt (suc w) = refl
-
 result-here : (s w : ℕ) (cs : Cells) → s ≡ 99 → resultOf ((s, w) ∷ cs) ≡ some w
 unfolding resultOf
 result-here s w cs e = rw (resultOf, eq-eqb s 99 e)
@@ -192,7 +185,7 @@ module _ (ws ts : List ℕ) (from to : ℕ) where
       look-result e = rw (add-one w) (ap suc (is .0) ∙ sym (ap wordOf (here h ∙ result-here (getD ts i 0) (getD ws i 0) _ e) ∙ word-some (getD ws i 0)))
 
       pub look-optional : (getD ts i 0 ≡ 99 → ⊥) → getD ts i 0 ≡ 100 → w ≡ wordOf (resultOf (cellsIn ws ts from to))
-      look-optional n e = is .0 ∙ sym (ap wordOf (here h ∙ result-optional (getD ts i 0) (getD ws i 0) _ e) ∙ word-opt (getD ws i 0))
+      look-optional n e = is .0 ∙ sym (ap wordOf (here h ∙ result-optional (getD ts i 0) (getD ws i 0) _ e) ∙ word-of (getD ws i 0))
 
     pub look-next : i < to → (getD ts i 0 ≡ 99 → ⊥) → (getD ts i 0 ≡ 100 → ⊥) → Looking ws ts from to (i + 1)
     look-next h n m = record { same = sym (here h ∙ result-later (getD ts i 0) (getD ws i 0) _ n m) }

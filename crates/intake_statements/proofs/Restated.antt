@@ -1,15 +1,15 @@
--- The test in the order of the text is the model's: `fineB` of a body is `scopedAs`. The model's four tests (shape, kinds, once, reads) are each true exactly if all their parts are, so either side is taken apart and put together again. Assumes nothing.
+-- The test in the order of the text is the model's: `fineB` of a body is `scopedAs`. The model's four tests (shape, kinds, once, reads) are each true exactly if all their parts are, so either side is taken apart and put together again.
 use mathlib.Core.Path.{_≡_, refl, sym, ap, _∙_}
 use mathlib.Core.Bool.{Bool, true, false, _&&_, _||_, not}
 use mathlib.Core.List.{List, [], _∷_, _++_}
 use Prim.Native.Nat.{ℕ}
 use lib.Dec.{eqb}
 use borrow.Author.Tests.{eqb-true, eq-eqb}
+use Rattle.theory_lists.specs.Booleans.{bool-same, and-right}
 use Rattle.model.specs.Outcome.{Cells}
 use Rattle.model.specs.Tree.{Stmt, stmt, Form, emit, block, branch, switch, loop, break, continue, return, kill, call, effect, Block, end, _then_, Case, case, Cases, nomore, _also_, Range}
 use Rattle.model.specs.Operands.{opsOf, resultOf, emittedKind, ops, kindAt, standing}
 use Rattle.model.specs.Scope.{Place, inBody, inSwitch, inLoop, inContinuing, inRange, live, expandS, expandF, expand, expandK, expandC, shapeS, shapeF, shapeB, shapeK, shapeC, emitted, callResult, effectResult, kindsS, kindsF, kindsB, kindsK, kindsC, evalsS, evalsF, evalsB, evalsK, evalsC, evalsOpt, has, distinct, addE, addS, topB, contB, vis, allVis, optVis, okE, okS, okF, okB, okK, okC, scopedAs}
-use Rattle.theory_image.specs.Lists.{bool-same}
 use Rattle.intake_statements.specs.Fine.{keepAll, doneB, doneS, doneK, doneC, fresh, nextE, oneE, fineE, fineS, fineF, fineB, fineK, fineC}
 
 -- ---- tests
@@ -34,7 +34,7 @@ front true false f v o = sym (and-false v)
 front true true false v o = sym (and-false v)
 front true true true v o = refl
 
--- a read behind
+-- a read at the end
 behind : (s k f o v : Bool) → (s && (k && (f && (o && v)))) ≡ ((s && (k && (f && o))) && v)
 behind false k f o v = refl
 behind true false f o v = refl
@@ -134,12 +134,8 @@ fresh-is (e ∷ es) δ =
     shift false false true d = refl
     shift false false false d = refl
 
-and-true : (a : Bool) → (a && true) ≡ a
-and-true true = refl
-and-true false = refl
-
 pub fresh-distinct : (es : List ℕ) → distinct es ≡ fresh es []
-fresh-distinct es = sym (fresh-is es [] ∙ ap (distinct es &&_) (apart-none es) ∙ and-true (distinct es))
+fresh-distinct es = sym (fresh-is es [] ∙ ap (distinct es &&_) (apart-none es) ∙ and-right (distinct es))
 
 -- ---- the four tests at once
 module _ (xs : List Cells) (drop : ℕ → Bool) where
@@ -173,7 +169,7 @@ module _ (xs : List Cells) (drop : ℕ → Bool) where
       go true d ih = rw (live-drop e es d, next-drop e ρ d, d) (first (emittedKind (kindAt xs e)) (emitted xs es) (not (has δ e)) (fresh es (e ∷ δ)) true (okE xs (live es drop) ρ) ∙ ap ((emittedKind (kindAt xs e) && (not (has δ e) && true)) &&_) (ih ρ))
       go false d ih = rw (live-keep e es d, next-keep e ρ d, d) (first (emittedKind (kindAt xs e)) (emitted xs es) (not (has δ e)) (fresh es (e ∷ δ)) (allVis (standing xs) ρ (ops xs e)) (okE xs (live es drop) (e ∷ ρ)) ∙ ap ((emittedKind (kindAt xs e) && (not (has δ e) && allVis (standing xs) ρ (ops xs e))) &&_) (ih (e ∷ ρ)))
 
-  -- two parts one behind the other
+  -- two parts one after the other
   two : (s₁ s₂ k₁ k₂ : Bool) (es fs δ : List ℕ) (o₁ o₂ a b : Bool) → (s₁ && (k₁ && (fresh es δ && o₁))) ≡ a → (s₂ && (k₂ && (fresh fs (addE es δ) && o₂))) ≡ b
       → ((s₁ && s₂) && ((k₁ && k₂) && (fresh (es ++ fs) δ && (o₁ && o₂)))) ≡ (a && b)
   two s₁ s₂ k₁ k₂ es fs δ o₁ o₂ a b h k = rw fresh-append (halves s₁ s₂ k₁ k₂ (fresh es δ) (fresh fs (addE es δ)) o₁ o₂ ∙ rw (h, k))
@@ -200,8 +196,8 @@ module _ (xs : List Cells) (drop : ℕ → Bool) where
         (four-b a (inLoop p) ρ δ)
         (behind (shapeB (expand b drop) inContinuing) (kindsB (expand b keepAll) xs) (fresh (evalsB (expand b keepAll)) (doneB a δ)) (okB (expand b drop) xs (contB (expand a drop) ρ)) (optVis (standing xs) (topB (expand b drop) (contB (expand a drop) ρ)) x)
         ∙ ap (_&& optVis (standing xs) (topB (expand b drop) (contB (expand a drop) ρ)) x) (four-b b inContinuing (contB (expand a drop) ρ) (doneB a δ)))
-    four-f break p ρ δ = and-true (p .breaks)
-    four-f continue p ρ δ = and-true (p .continues)
+    four-f break p ρ δ = and-right (p .breaks)
+    four-f continue p ρ δ = and-right (p .continues)
     four-f (return x) p ρ δ = refl
     four-f kill p ρ δ = refl
     four-f (call f ys r) p ρ δ = turned (callResult xs f r) (fresh (evalsOpt r) δ) (allVis (standing xs) ρ ys)

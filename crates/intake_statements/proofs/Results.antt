@@ -1,4 +1,4 @@
--- The result of a statement, and statements without blocks. Assumes nothing.
+-- The result of a statement, and statements without blocks.
 use mathlib.Core.Path.{_≡_, refl, sym, ap, _∙_}
 use mathlib.Core.Bool.{Bool, true, false, not}
 use mathlib.Core.List.{List, [], _∷_, _++_}
@@ -34,7 +34,7 @@ pub plain : (s w : ℕ) → s < 105 → more s w ≡ brings []
 unfolding more
 plain s w h = rw (more, lt-ltb s 105 h)
 
--- what a word brings is one row
+-- what a word is followed by is one row
 pub brings-one : {xs ys : Row} {m : More} → m ≡ brings xs → m ≡ brings ys → xs ≡ ys
 brings-one p q = cc
 

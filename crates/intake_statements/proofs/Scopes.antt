@@ -1,4 +1,4 @@
--- The words up to which expressions last, and the scope that they mean: how they answer a read, and how an evaluation changes them. Assumes nothing.
+-- The words up to which expressions last, and the scope that they mean: how they answer a read, and how an evaluation changes them.
 use mathlib.Core.Path.{_≡_, refl, sym, ap, _∙_, subst}
 use mathlib.Core.Logic.{_⊎_, inl, inr}
 use mathlib.Core.Bool.{Bool, true, false, _&&_, _||_, not, false≢true}

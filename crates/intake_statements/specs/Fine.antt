@@ -30,7 +30,7 @@ fresh [] δ = true
 fresh (e ∷ es) δ = not (has δ e) && fresh es (e ∷ δ)
 
 module _ (xs : List Cells) (drop : ℕ → Bool) where
-  -- the scope behind expression e of an Emit: an initialiser expression does not come into scope
+  -- the scope after expression e of an Emit: an initialiser expression does not come into scope
   unfoldable pub nextE : ℕ → List ℕ → List ℕ
   nextE e ρ = elim (drop e) [ true ↦ ρ | false ↦ e ∷ ρ ]
 

@@ -1,4 +1,4 @@
--- How long each expression stays in scope. Beside expression e, of count, stands the word up to which it is in scope: 0 while it is not evaluated; what stands behind them is left from another function. At the word q, in a block whose scope stays at least up to the word k, those in scope (ρ) last up to k at least, and the others up to q at most.
+-- How long each expression stays in scope. For expression e, of count, there is the word up to which it is in scope: 0 while it is not evaluated; what follows them is left from another function. At the word q, in a block whose scope stays at least up to the word k, those in scope (ρ) last up to k at least, and the others up to q at most.
 use mathlib.Core.Path.{_≡_}
 use mathlib.Core.Bool.{Bool, true, false, _&&_}
 use mathlib.Core.List.{List, [], _∷_}

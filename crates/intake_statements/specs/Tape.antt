@@ -1,4 +1,4 @@
--- Words and tape seen as cells, and the trees that stand in them: a block or a statement from one word to another, the table of a function's expressions.
+-- Words and tags seen as cells, and the trees in them: a block or a statement from one word to another, the table of a function's expressions.
 use mathlib.Core.Path.{_≡_}
 use mathlib.Core.Bool.{Bool, _&&_, not}
 use mathlib.Core.List.{List, [], _∷_, map}
@@ -81,6 +81,6 @@ pub record Exprs (ws ts st : List ℕ) (count : ℕ) : Type 0 where
   pub placed : Placed st count
   pub lays : (e : ℕ) → e < count → Lays expressionRow (recordOf ws ts st e)
 
--- the initialiser expressions: those that are marked and do not stand
+-- the initialiser expressions: those that are marked and not standing
 unfoldable pub marks : List ℕ → List ℕ → List ℕ → ℕ → List ℕ → ℕ → Bool
 marks ws ts st count ini e = not (eqb (getD ini e 0) 0) && not (standing (exprsOf ws ts st count) e)

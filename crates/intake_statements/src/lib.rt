@@ -1,5 +1,5 @@
-// What a statement without blocks reads and evaluates. Beside each expression stands the word up to which it is in scope: 0 while it is not evaluated,
-// and 1, which no statement lies before, for an initialiser expression.
+// What a statement without blocks reads and evaluates. For each expression there is the word up to which it is in scope: 0 while it is not evaluated, and 1,
+// which no statement lies before, for an initialiser expression.
 use base_classes::EXPR;
 use base_classes::OPT_EXPR;
 use base_classes::OPT_RESULT;
@@ -11,6 +11,8 @@ use base_kinds::WORK_GROUP_UNIFORM_LOAD;
 use base_kinds::WORK_GROUP_UNIFORM_LOAD_RESULT;
 use base_kinds::emits;
 use base_kinds::stands;
+use base_words::Tags;
+use base_words::Words;
 use base_words::wide;
 ghost use mathlib.Core.Path.{_≡_};
 ghost use mathlib.Core.List.{[]};
@@ -23,7 +25,7 @@ ghost use Rattle.intake_statements.specs.Tape.{cellsIn, Placed, Exprs, e
 ghost use Rattle.intake_statements.specs.Lasts.{visibleAt, allSeen, fitsResult, FoundE, FoundR, FoundO, FoundL};
 
 // The kind of expression e.
-fn kind(words: &[u32; 16384], starts: &[u32; 1025], e: usize) -> u32
+fn kind(words: &Words, starts: &[u32; 1025], e: usize) -> u32
     requires { ⌜ e < 1025 ⌝ }
     requires { ⌜ getD (now starts) e 0 < 16384 ⌝ }
     ensures { λ r. ⌜ r ≡ getD (now (words .entry)) (getD (now (starts .entry)) e 0) 0 ⌝ }
@@ -34,7 +36,7 @@ fn kind(words: &[u32; 16384], starts: &[u32; 1025], e: usize) -> u32
 
 // Is expression e in scope at the word `at`?
 fn visible(
-    words: &[u32; 16384],
+    words: &Words,
     starts: &[u32; 1025],
     until: &[usize; 1024],
     count: usize,
@@ -55,8 +57,8 @@ fn visible(
 
 // Does the word j read only what is in scope at the word `at`?
 pub fn read(
-    words: &[u32; 16384],
-    tags: &[u8; 16384],
+    words: &Words,
+    tags: &Tags,
     starts: &[u32; 1025],
     until: &[usize; 1024],
     count: usize,
@@ -83,8 +85,8 @@ pub fn read(
 
 // The same of the words from `from` to `to`.
 fn reads(
-    words: &[u32; 16384],
-    tags: &[u8; 16384],
+    words: &Words,
+    tags: &Tags,
     starts: &[u32; 1025],
     until: &[usize; 1024],
     count: usize,
@@ -109,8 +111,8 @@ fn reads(
 
 // Expression e of an Emit at the word `at`, in scope up to the word `keep`.
 fn evaluated(
-    words: &[u32; 16384],
-    tags: &[u8; 16384],
+    words: &Words,
+    tags: &Tags,
     starts: &[u32; 1025],
     initial: &[u8; 1024],
     until: &mut [usize; 1024],
@@ -145,8 +147,8 @@ fn evaluated(
 
 // The Emit at the word `at`.
 pub fn emit(
-    words: &[u32; 16384],
-    tags: &[u8; 16384],
+    words: &Words,
+    tags: &Tags,
     starts: &[u32; 1025],
     initial: &[u8; 1024],
     until: &mut [usize; 1024],
@@ -173,7 +175,7 @@ pub fn emit(
 }
 
 // What the words from `from` to `to` evaluate: the number plus 1, or 0 for nothing.
-fn result_of(words: &[u32; 16384], tags: &[u8; 16384], from: usize, to: usize) -> usize
+fn result_of(words: &Words, tags: &Tags, from: usize, to: usize) -> usize
     requires { ⌜ to ≤ 16384 ⌝ }
     ensures { λ r. ⌜ r ≡ wordOf (resultOf (cellsIn (now (words .entry)) (now (tags .entry)) from to)) ⌝ }
 {
@@ -195,8 +197,8 @@ fn result_of(words: &[u32; 16384], tags: &[u8; 16384], from: usize, to: usize) -
 
 // Is expression e a result that the statement at the word `at` may have?
 fn result_fits(
-    words: &[u32; 16384],
-    tags: &[u8; 16384],
+    words: &Words,
+    tags: &Tags,
     starts: &[u32; 1025],
     count: usize,
     at: usize,
@@ -224,8 +226,8 @@ fn result_fits(
 
 // The result of the statement from the word `at` to the word `stop`.
 fn result(
-    words: &[u32; 16384],
-    tags: &[u8; 16384],
+    words: &Words,
+    tags: &Tags,
     starts: &[u32; 1025],
     until: &mut [usize; 1024],
     count: usize,
@@ -259,8 +261,8 @@ fn result(
 
 // A statement without blocks that is no Emit: its reads, and its result.
 pub fn simple(
-    words: &[u32; 16384],
-    tags: &[u8; 16384],
+    words: &Words,
+    tags: &Tags,
     starts: &[u32; 1025],
     until: &mut [usize; 1024],
     count: usize,

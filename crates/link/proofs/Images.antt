@@ -1,4 +1,4 @@
--- From intake's answer, the order of a module and linking by it to the promise on all bytes. Assumes nothing.
+-- From intake's answer, the order of a module and linking by it to the promise on all bytes.
 use mathlib.Core.Path.{_≡_, refl, sym, ap, _∙_, subst}
 use mathlib.Core.List.{List}
 use Prim.Native.Nat.{ℕ, suc, _+_, _*_, _<_, _≤_}
@@ -8,11 +8,12 @@ use borrow.Author.Tests.{le-ltb}
 use Rattle.base_words.specs.Words.{wordsOf}
 use Rattle.model.specs.Outcome.{laid}
 use Rattle.model.specs.Module.{read, write, countAt}
-use Rattle.model.specs.Intake.{intakeOf}
+use Rattle.model.specs.Intake.{intakeOf, ofLaid, afterIntake, onWords}
 use Rattle.model.specs.Taped.{Taped, Tape}
 use Rattle.model.specs.Calls.{Order, ordered}
 use Rattle.model.specs.Callees.{orderOf}
-use Rattle.model.specs.Link.{Linked, linked, refused, ringed, inOrder, linkOf, link, linkBy, outputAfter, linkImage, packed}
+use Rattle.model.specs.Refusals.{done, refused, ringed, answerBy, packed}
+use Rattle.model.specs.Link.{Linked, inOrder, linkModule, link, linkBy, outputAfter, linkImage, linkAnswer}
 use Rattle.theory_image.specs.FunctionViews.{taped-functions}
 use Rattle.theory_image.specs.Modules.{sized-read-write}
 use Rattle.order_ranks.specs.Placing.{shown}
@@ -28,18 +29,18 @@ use Rattle.order_bytes.proofs.Images.{list-long, list-asks}
 use Rattle.theory_link.specs.Demand.{Linking}
 use Rattle.theory_link.specs.OnBytes.{whole-words, not-taken, too-short}
 use Rattle.derive_state.specs.Source.{modOf}
-use Rattle.link.specs.Linked.{Links}
+use Rattle.model.specs.Image.{wuldgisp-link, LinkEnsures}
 use Rattle.link.specs.Appends.{Linkable, LinksBy}
 
 -- what linking is, where its answer and its output are known
-links-as : (image output₀ : List ℕ) (x : Linked) → linkImage image output₀ .0 ≡ x → (r : ℕ) (output : List ℕ) → r ≡ packed x → output ≡ outputAfter x output₀ → Links r output₀ output image
-unfolding linkImage
-links-as image output₀ x e r output a b = record { answer = a ∙ sym (ap packed e); left = b ∙ sym (ap (λ (y : Linked). outputAfter y output₀) e) }
+links-as : (image output₀ : List ℕ) (x : Linked) → linkImage image output₀ .0 ≡ x → (r : ℕ) (output : List ℕ) → r ≡ linkAnswer x → output ≡ outputAfter x output₀ → LinkEnsures r output₀ output image
+unfolding wuldgisp-link linkImage
+links-as image output₀ x e r output a b = record { answer = a ∙ sym (ap linkAnswer e); left = b ∙ sym (ap (λ (y : Linked). outputAfter y output₀) e) }
 
 module _ (image words tags : List ℕ) (t : Taken) (got : Takes t words tags image) where
   -- ---- refused by intake
-  pub intake-refuses : NotFirst t → (k : ℕ) → k ≡ numberOf t → (output : List ℕ) → Links k output output image
-  unfolding packed outputAfter
+  pub intake-refuses : NotFirst t → (k : ℕ) → k ≡ numberOf t → (output : List ℕ) → LinkEnsures k output output image
+  unfolding answerBy outputAfter
   intake-refuses h k e output =
       let x = refused-by t h in
       let i = not-taken image output (x .0) (sym (got .same) ∙ x .1) in
@@ -53,8 +54,8 @@ module _ (image words tags : List ℕ) (t : Taken) (got : Takes t words tags ima
     accepted = sym (got .same) ∙ ap numberOf e
 
     -- ---- 7
-    pub short-refuses : (output : List ℕ) → length output < length image → Links 7 output output image
-    unfolding packed outputAfter
+    pub short-refuses : (output : List ℕ) → length output < length image → LinkEnsures 7 output output image
+    unfolding answerBy outputAfter
     short-refuses output h = links-as image output (refused 7) (ap (λ p. p .0) (too-short image output accepted (held .holds) (held .reads) h)) 7 output refl refl
 
     pub order-asks : Tape words tags n × Known words tags n
@@ -73,8 +74,8 @@ module _ (image words tags : List ℕ) (t : Taken) (got : Takes t words tags ima
     reads = held .reads ∙ ap laid (sym is)
 
     linked-as : (output : List ℕ) → length image ≤ length output → linkImage image output .0 ≡ inOrder (orderOf (modOf words n)) (modOf words n)
-    unfolding linkImage link linkOf
-    linked-as output h = rw (linkImage, link, accepted, reads, linkOf, le-ltb (length output) (length image) h)
+    unfolding linkImage link onWords afterIntake ofLaid linkModule
+    linked-as output h = rw (linkImage, link, onWords, accepted, afterIntake, reads, ofLaid, linkModule, le-ltb (length output) (length image) h)
 
     -- ---- what order_of gives
     module _ (order₀ order : List ℕ) (a : Ordered) (o : Listed words tags n order₀ a order) where
@@ -92,11 +93,11 @@ module _ (image words tags : List ℕ) (t : Taken) (got : Takes t words tags ima
               sequence = record { is = ordered-so; counts = refl; long = list-long words tags n (order-asks .0) order₀ order a o q long };
             }
 
-        pub by-tells : (output₀ : List ℕ) → length image ≤ length output₀ → (r : ℕ) (output : List ℕ) → LinksBy words n order output₀ r output → Links r output₀ output image
+        pub by-tells : (output₀ : List ℕ) → length image ≤ length output₀ → (r : ℕ) (output : List ℕ) → LinksBy words n order output₀ r output → LinkEnsures r output₀ output image
         unfolding inOrder outputAfter
-        by-tells output₀ h r output l = links-as image output₀ (linked (write (linkBy (take (countAt 6 words) order) (modOf words n)))) (linked-as output₀ h ∙ ap (λ (x : Order). inOrder x (modOf words n)) ordered-so) r output (l .answer) (l .left)
+        by-tells output₀ h r output l = links-as image output₀ (done (write (linkBy (take (countAt 6 words) order) (modOf words n)))) (linked-as output₀ h ∙ ap (λ (x : Order). inOrder x (modOf words n)) ordered-so) r output (l .answer) (l .left)
 
       -- a ring
-      pub ring-tells : (k : ℕ) → a ≡ Ring k → (output : List ℕ) → length image ≤ length output → Links (12 + k * 4294967296) output output image
-      unfolding shown inOrder packed outputAfter
-      ring-tells k q output h = links-as image output (ringed k) (linked-as output h ∙ ap (λ (x : Order). inOrder x (modOf words n)) (sym (rw q at (o .is (modOf words n) taped)))) (12 + k * 4294967296) output refl refl
+      pub ring-tells : (k : ℕ) → a ≡ Ring k → (output : List ℕ) → length image ≤ length output → (r : ℕ) → r ≡ packed 12 k → LinkEnsures r output output image
+      unfolding shown inOrder answerBy outputAfter
+      ring-tells k q output h r is = links-as image output (ringed k) (linked-as output h ∙ ap (λ (x : Order). inOrder x (modOf words n)) (sym (rw q at (o .is (modOf words n) taped)))) r output is refl

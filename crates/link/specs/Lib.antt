@@ -1,4 +1,2 @@
-pub mod Linked
 pub mod Appends
 pub mod Theorems
-pub mod Refuted

@@ -1,52 +1,62 @@
-// Linking: one module in, one out, callees first. What a fresh session writes that sets the image, imports its functions in output order and finishes with its
-// entry points; nothing is copied on the way, since none of it is refused. `link_in` works in arrays that its caller lends, `link` in its own.
+// Linking: one module in, one out, callees first. The output is what a fresh session writes that sets the image, imports its functions in output order and
+// finishes with its entry points. No step is undone, since none is refused. `link_in` works in arrays that the caller provides, `link` in its own.
 use base_refusals::RING;
 use base_refusals::SHORT_OUTPUT;
+use base_refusals::pack;
 use base_views::FUNCTIONS;
 use base_views::count;
+use base_words::Tags;
+use base_words::Words;
 use base_words::wide;
 use derive_source::source_types;
-use derive_state::Ends;
-use derive_state::kinds;
-use derive_state::nothing;
+use derive_state::Buckets;
+use derive_state::Log;
+use derive_state::LogTags;
+use derive_state::Maps;
+use derive_state::Sizes;
+use derive_state::Special;
+use derive_state::StackRows;
+use derive_state::Starts;
+use derive_state::Targets;
+use derive_state::empty;
+use derive_state::targets;
+use function_entry::enter_all;
 use function_localize::append;
 use intake::Taken;
 use order_callees::order_of;
 use order_ranks::Ordered;
-use session_functions::enter_all;
 ghost use mathlib.Core.Bool.{true};
 ghost use mathlib.Core.Path.{_≡_};
 ghost use lib.ListN.{length, take};
 ghost use Rattle.derive_state.specs.Source.{modOf};
 ghost use Rattle.derive_state.specs.Held.{stOf};
 ghost use Rattle.function_builder.specs.Stacks.{Stacks};
-ghost use Rattle.session_operations.specs.Live.{Live};
-ghost use Rattle.session_operations.specs.Lent.{Spaces};
-ghost use Rattle.link.specs.Linked.{Links};
+ghost use Rattle.derive_session.specs.Valid.{ValidSession};
+ghost use Rattle.model.specs.Image.{ScratchLengths, LinkEnsures};
 ghost use Rattle.link.specs.Appends.{Roomy, Sequence, AppendsAll, Linkable, LinksBy};
 
-// The first `all` functions of the order, appended.
+// Appends the first `all` functions of the order.
 fn append_all(
-    words: &[u32; 16384],
-    tags: &[u8; 16384],
-    kinds: &[u8; 256],
+    words: &Words,
+    tags: &Tags,
+    targets: &Targets,
     n: usize,
-    log: &mut [u32; 16384],
-    classes: &mut [u8; 16384],
-    starts: &mut [[u32; 512]; 8],
-    maps: &mut [[u32; 512]; 6],
-    marks: &mut [u16; 16384],
-    special: &[u32; 1027],
-    stacks: &mut [[u32; 16384]; 4],
-    ends: Ends,
+    log: &mut Log,
+    logtags: &mut LogTags,
+    starts: &mut Starts,
+    maps: &mut Maps,
+    buckets: &mut Buckets,
+    special: &Special,
+    stacks: &mut StackRows,
+    ends: Sizes,
     order: &[u32; 256],
     all: usize,
-) -> Ends
-    requires { ⌜ Live true n 0 (now words) (now tags) (now kinds) (now log) (now classes) (now starts) (now maps) (now marks) (now special) ends ⌝ }
+) -> Sizes
+    requires { ⌜ ValidSession true n 0 (now words) (now tags) (now targets) (now log) (now logtags) (now starts) (now maps) (now buckets) (now special) ends ⌝ }
     requires { ⌜ Stacks (now stacks) ends ⌝ }
     requires { ⌜ Sequence (now words) n (now order) all ⌝ }
-    requires { ⌜ Roomy (modOf (now words) n) (take all (now order)) (stOf (now words) (now log) (now classes) (now starts) (now maps) (now special) ends) ⌝ }
-    ensures { λ r. ⌜ AppendsAll (now (words .entry)) (now (tags .entry)) (now (kinds .entry)) n (take all (now (order .entry))) (now (log .entry)) (now (classes .entry)) (now (starts .entry)) (now (maps .entry)) ends r (now (log .exit)) (now (classes .exit)) (now (starts .exit)) (now (maps .exit)) (now (marks .exit)) (now (special .entry)) (now (stacks .exit)) ⌝ }
+    requires { ⌜ Roomy (modOf (now words) n) (take all (now order)) (stOf (now words) (now log) (now logtags) (now starts) (now maps) (now special) ends) ⌝ }
+    ensures { λ r. ⌜ AppendsAll (now (words .entry)) (now (tags .entry)) (now (targets .entry)) n (take all (now (order .entry))) (now (log .entry)) (now (logtags .entry)) (now (starts .entry)) (now (maps .entry)) ends r (now (log .exit)) (now (logtags .exit)) (now (starts .exit)) (now (maps .exit)) (now (buckets .exit)) (now (special .entry)) (now (stacks .exit)) ⌝ }
 {
     let mut e = ends;
     let mut places = [0u16; 1025];
@@ -57,13 +67,13 @@ fn append_all(
         e = append(
             words,
             tags,
-            kinds,
+            targets,
             n,
             log,
-            classes,
+            logtags,
             starts,
             maps,
-            marks,
+            buckets,
             stacks,
             &mut places,
             e,
@@ -75,52 +85,52 @@ fn append_all(
     e
 }
 
-// Linked in that order, in the arrays that are lent: the answer. The image's words are not needed any more where it is finished, so they are lent to that.
-fn link_by(
-    words: &mut [u32; 16384],
-    tags: &[u8; 16384],
+// Links in that order, in the caller's arrays. Finishing no longer needs the image's words, so it uses their array as scratch memory.
+fn link_in_order(
+    words: &mut Words,
+    tags: &Tags,
     n: usize,
     order: &[u32; 256],
     output: &mut [u8],
-    log: &mut [u32; 16384],
-    classes: &mut [u8; 16384],
-    starts: &mut [[u32; 512]; 8],
-    maps: &mut [[u32; 512]; 6],
-    marks: &mut [u16; 16384],
-    stacks: &mut [[u32; 16384]; 4],
+    log: &mut Log,
+    logtags: &mut LogTags,
+    starts: &mut Starts,
+    maps: &mut Maps,
+    buckets: &mut Buckets,
+    stacks: &mut StackRows,
 ) -> u64
     requires { ⌜ Linkable (now words) (now tags) n (now order) (now output) ⌝ }
-    requires { ⌜ Spaces (now log) (now classes) (now starts) (now stacks) ⌝ }
+    requires { ⌜ ScratchLengths (now log) (now logtags) (now starts) (now stacks) ⌝ }
     ensures { λ r. ⌜ LinksBy (now (words .entry)) n (now (order .entry)) (now (output .entry)) r (now (output .exit)) ⌝ }
 {
-    let kinds = kinds();
+    let targets = targets();
     let mut special = [0u32; 1027];
-    // marks that another image left would cost time; the answer does not rest on them
-    *marks = [0; 16384];
+    // buckets left by another image would only cost time; the answer does not depend on them
+    *buckets = [0; 16384];
     let set = source_types(
         words,
         tags,
-        &kinds,
+        &targets,
         n,
         log,
-        classes,
+        logtags,
         starts,
         maps,
-        marks,
+        buckets,
         &mut special,
-        nothing(),
+        empty(),
         0,
     );
     let appended = append_all(
         words,
         tags,
-        &kinds,
+        &targets,
         n,
         log,
-        classes,
+        logtags,
         starts,
         maps,
-        marks,
+        buckets,
         &special,
         stacks,
         set,
@@ -130,39 +140,39 @@ fn link_by(
     let ends = enter_all(
         words,
         tags,
-        &kinds,
+        &targets,
         n,
         log,
-        classes,
+        logtags,
         starts,
         maps,
-        marks,
+        buckets,
         &special,
         stacks,
         appended,
         0,
     );
-    let got = derive_finish::finish(log, classes, starts, &special, ends, words, output);
-    got.refusal as u64 + (got.bytes as u64) * 4294967296
+    let got = derive_finish::finish(log, logtags, starts, &special, ends, words, output);
+    pack(got.refusal, got.bytes as u32)
 }
 
-// The image linked into the output, in arrays that the caller lends: low half the refusal, 0 accepted; high half the bytes written, or with 12 the functions
-// left. They may hold anything before, and hold anything after. Nothing is asked of maps and marks, not even lengths: they are written whole before use.
+// The image linked into the output, in arrays that the caller provides: low half the refusal, 0 accepted; high half the bytes written, or with 12 the functions
+// left. They may hold anything before, and hold anything after. Nothing is required of `maps` and `buckets`: they are overwritten before use.
 pub fn link_in(
     image: &[u8],
     output: &mut [u8],
-    words: &mut [u32; 16384],
-    tags: &mut [u8; 16384],
-    log: &mut [u32; 16384],
-    classes: &mut [u8; 16384],
-    starts: &mut [[u32; 512]; 8],
-    maps: &mut [[u32; 512]; 6],
-    marks: &mut [u16; 16384],
-    stacks: &mut [[u32; 16384]; 4],
+    words: &mut Words,
+    tags: &mut Tags,
+    log: &mut Log,
+    logtags: &mut LogTags,
+    starts: &mut Starts,
+    maps: &mut Maps,
+    buckets: &mut Buckets,
+    stacks: &mut StackRows,
 ) -> u64
     requires { ⌜ (length (now words) ≡ 16384) × (length (now tags) ≡ 16384) ⌝ }
-    requires { ⌜ Spaces (now log) (now classes) (now starts) (now stacks) ⌝ }
-    ensures { λ r. ⌜ Links r (now (output .entry)) (now (output .exit)) (now (image .entry)) ⌝ }
+    requires { ⌜ ScratchLengths (now log) (now logtags) (now starts) (now stacks) ⌝ }
+    ensures { λ r. ⌜ LinkEnsures r (now (output .entry)) (now (output .exit)) (now (image .entry)) ⌝ }
 {
     let taken = intake::take_in(image, words, tags);
     if let Taken::Accepted(n) = taken {
@@ -173,22 +183,22 @@ pub fn link_in(
         let found = order_of(words, tags, n, &mut order);
         match found {
             Ordered::All => {
-                return link_by(
+                return link_in_order(
                     words,
                     tags,
                     n,
                     &order,
                     output,
                     log,
-                    classes,
+                    logtags,
                     starts,
                     maps,
-                    marks,
+                    buckets,
                     stacks,
                 );
             }
             Ordered::Ring(k) => {
-                return RING as u64 + (k as u64) * 4294967296;
+                return pack(RING, k);
             }
         }
     }
@@ -197,15 +207,15 @@ pub fn link_in(
 
 // The same, in arrays of its own.
 pub fn link(image: &[u8], output: &mut [u8]) -> u64
-    ensures { λ r. ⌜ Links r (now (output .entry)) (now (output .exit)) (now (image .entry)) ⌝ }
+    ensures { λ r. ⌜ LinkEnsures r (now (output .entry)) (now (output .exit)) (now (image .entry)) ⌝ }
 {
     let mut words = [0u32; 16384];
     let mut tags = [0u8; 16384];
     let mut log = [0u32; 16384];
-    let mut classes = [0u8; 16384];
+    let mut logtags = [0u8; 16384];
     let mut starts = [[0u32; 512]; 8];
     let mut maps = [[0u32; 512]; 6];
-    let mut marks = [0u16; 16384];
+    let mut buckets = [0u16; 16384];
     let mut stacks = [[0u32; 16384]; 4];
     link_in(
         image,
@@ -213,10 +223,10 @@ pub fn link(image: &[u8], output: &mut [u8]) -> u64
         &mut words,
         &mut tags,
         &mut log,
-        &mut classes,
+        &mut logtags,
         &mut starts,
         &mut maps,
-        &mut marks,
+        &mut buckets,
         &mut stacks,
     )
 }

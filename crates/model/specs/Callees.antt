@@ -1,6 +1,5 @@
 -- The callees of a function, and the order of a module's functions. Document 01, "Functions and entry points": "A chain follows Call statements, reached or not".
 -- Only a Call statement calls: the function that a CallResult names is none by itself. Entry points call, and are not called, so the order is that of the table functions alone.
--- Assumes nothing: these are definitions.
 use mathlib.Core.Bool.{Bool}
 use mathlib.Core.List.{List, [], _∷_, _++_}
 use mathlib.Core.Option.{Option, none, some}
@@ -12,7 +11,7 @@ use Rattle.model.specs.Module.{Module}
 use Rattle.model.specs.Carry.{Each}
 use Rattle.model.specs.Calls.{any, Order, order}
 
--- the functions that Call statements name, in the order of the text: in every block, case, body and continuing block, behind a Return as before it
+-- the functions that Call statements name, in the order of the text: in every block, case, body and continuing block, after a Return as before it
 unfoldable mutual
   pub calleesS : Stmt Range → List ℕ
   calleesS (stmt a b f) = calleesF f

@@ -1,4 +1,4 @@
--- Callees and orders by example, computed: document 01's P5, P6, P9 and P12 as modules, and Calls in every place of a body. Assumes nothing.
+-- Callees and orders by example, computed: document 01's P5, P6, P9 and P12 as modules, and Calls in every place of a body.
 use mathlib.Core.Path.{_≡_, refl}
 use mathlib.Core.Bool.{false}
 use mathlib.Core.List.{List, [], _∷_}
@@ -30,9 +30,9 @@ pub record Called : Type 0 where
   pub result-only : callees (function [] (called 3 ∷ []) (evals 0 0 then end)) ≡ []
   -- a Call with its result is one
   pub with-result : callees (function [] (literal 1 ∷ called 3 ∷ []) (does (call 3 (0 ∷ []) (some 1)) then end)) ≡ 3 ∷ []
-  -- behind a Return, and twice
+  -- after a Return, and twice
   pub not-reached : callees (function [] [] (does (return none) then calling 4 then calling 4 then end)) ≡ 4 ∷ 4 ∷ []
-  -- in a switch case in a loop, in the loop's continuing block, and behind the loop's Break
+  -- in a switch case in a loop, in the loop's continuing block, and after the loop's Break
   pub nested : callees (function [] (literal 1 ∷ [])
       (does (loop
       (does (switch 0 (case ((VALUE, 2) ∷ []) (calling 1 then does break then end) 0 also case ((VALUE, 2) ∷ []) (calling 2 then end) 1 also nomore)) then does break then calling 3 then end)
@@ -50,7 +50,7 @@ pub record Called : Type 0 where
   pub p9 : orderOf (holding (caller 0 ∷ [])) ≡ ring 1
   -- P12: no functions
   pub p12 : orderOf (holding []) ≡ ordered []
-  -- a ring that no walk goes round: behind a Return
+  -- a ring that no walk goes round: after a Return
   pub behind : orderOf (holding (function [] [] (does (return none) then calling 0 then end) ∷ [])) ≡ ring 1
 
 pub computed : Called

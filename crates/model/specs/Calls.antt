@@ -1,7 +1,6 @@
 -- Calls between functions: chains, rings, rank, and the order of output. Document 01, "Functions and entry points", and refusal 12.
 -- A module is taken as its count of functions n and a test `calls i j`: the body of function i has a Call statement of function j. Only numbers
 -- below n are functions. Chain, Ring, Reaches and Rank say what is meant; `rounds` places the functions as Redirector::into_module does.
--- Assumes nothing: these are definitions.
 use mathlib.Core.Path.{_≡_}
 use mathlib.Core.Logic.{_↔_}
 use mathlib.Core.Bool.{Bool, true, false, cond, not}
@@ -37,17 +36,17 @@ module _ (n : ℕ) (calls : ℕ → ℕ → Bool) where
     above : {i j r : ℕ} (rank : ℕ → ℕ) → ((k : ℕ) → Call i k → Rank k (rank k)) → ((k : ℕ) → Call i k → rank k ≤ r)
         → Call i j → rank j ≡ r → Rank i (suc r)
 
-  -- "by rank, then source number": x stands before y
+  -- "by rank, then source number": x comes before y
   pub data Before (x y : ℕ) : Type 0 where
     lower : {r s : ℕ} → Rank x r → Rank y s → r < s → Before x y
     level : {r : ℕ} → Rank x r → Rank y r → x < y → Before x y
 
--- x stands in a list
+-- x is in a list
 pub data In (x : ℕ) : List ℕ → Type 0 where
   here : {xs : List ℕ} → In x (x ∷ xs)
   later : {y : ℕ} {xs : List ℕ} → In x xs → In x (y ∷ xs)
 
--- "output order is by rank, then source number": each stands before all that follow it
+-- "output order is by rank, then source number": each comes before all that follow it
 pub data Sorted (n : ℕ) (calls : ℕ → ℕ → Bool) : List ℕ → Type 0 where
   none : Sorted n calls []
   first : {x : ℕ} {xs : List ℕ} → ((y : ℕ) → In y xs → Before n calls x y) → Sorted n calls xs → Sorted n calls (x ∷ xs)
@@ -67,7 +66,7 @@ unfoldable pub keep : List ℕ → (ℕ → Bool) → List ℕ
 keep [] p = []
 keep (i ∷ is) p = cond (p i) (i ∷ keep is p) (keep is p)
 
--- how often x stands in a list
+-- how often x is in a list
 abbrev pub times : List ℕ → ℕ → ℕ
 times is x = length (keep is (eqb x))
 
@@ -91,7 +90,7 @@ pub record Rounds : Type 0 where
   pub placed : List ℕ
   pub left : List ℕ
 
--- a round that places none is the last, and all that waited is left; else its functions stand before those of later rounds
+-- a round that places none is the last, and all that waited is left; else its functions come before those of later rounds
 unfoldable pub round : List ℕ → List ℕ → Rounds → Rounds
 round [] waiting rest = record { placed = []; left = waiting }
 round (i ∷ is) waiting rest = record { placed = i ∷ is ++ rest .placed; left = rest .left }

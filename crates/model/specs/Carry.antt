@@ -1,5 +1,5 @@
 -- Carrying a module by class, and modules that are well formed.
--- A map `m` takes a class and a word to a word. To carry a tree is to rewrite every number of it by `m` at the number's class; counts, lengths, kinds and offsets are computed anew by `flat`.
+-- A map `m` takes a class and a word to a word. To carry a tree is to rewrite every number of it by `m` at the number's class; counts, lengths, kinds and offsets are computed again by `flat`.
 -- A tree is well formed where its cells are laid out by their rows, its lists are within their limits, and its blocks are at most 32 deep: no more than what reading tests.
 use mathlib.Core.Path.{_≡_}
 use mathlib.Core.List.{List, [], _∷_, _++_, map}

@@ -1,13 +1,13 @@
--- Where the parts of a function record stand in the words, for a record that starts at s: the counts of its lists and their records, found by reading the counts before them. An entry point's function starts seven words behind its record.
+-- Where the parts of a function record are in the words, for a record that starts at s: the counts of its lists and their records, found by reading the counts before them. An entry point's function starts seven words after the start of its record.
 use mathlib.Core.List.{List}
 use Prim.Native.Nat.{ℕ, _+_, _*_}
 use lib.ListN.{getD}
 
--- the words in front of an entry point's function
+-- the words before an entry point's function
 abbrev pub ENTRY-HEAD : ℕ
 ENTRY-HEAD = 7
 
--- the count of arguments, behind name and span
+-- the count of arguments, after name and span
 abbrev pub argumentsAt : ℕ → ℕ
 argumentsAt s = s + 3
 
@@ -27,6 +27,6 @@ localsAt s ws = returnsAt s ws + 1 + 7 * getD ws (returnsAt s ws) 0
 abbrev pub localAt : ℕ → ℕ → List ℕ → ℕ
 localAt s i ws = localsAt s ws + 1 + 5 * i
 
--- the count of expressions, and behind it their records
+-- the count of expressions, and after it their records
 unfoldable pub expressionsAt : ℕ → List ℕ → ℕ
 expressionsAt s ws = localsAt s ws + 1 + 5 * getD ws (localsAt s ws) 0

@@ -1,5 +1,5 @@
--- The initialiser expressions of a function: what the initialisers of its locals reach and does not stand. Reaching is a judgement; the marks are computed by rounds, each of which marks what the marked ones read, until a round marks nothing new.
--- `Reached` proves that the marks are the judgement, for operands that run forward as well: intake asks for the kinds reached (3) before it asks for lower operands (4).
+-- The initialiser expressions of a function: the expressions that the initialisers of its locals reach and that are not standing. Reaching is a judgement; the marks are computed by rounds, each of which marks what the marked ones read, until a round marks nothing new.
+-- `Reached` proves that the marks are the judgement, for operands that run forward as well: intake tests the kinds reached (3) before it tests that operands are lower (4).
 -- Document 01, "Expressions": "Initialisers of locals reach only those kinds; the non-standing ones reached are initialiser expressions."
 use mathlib.Core.Bool.{Bool, true, false, _&&_, not}
 use mathlib.Core.List.{List, [], _∷_, _++_}
@@ -25,7 +25,7 @@ pub data Mem (x : ℕ) : List ℕ → Type 0 where
   here : {xs : List ℕ} → Mem x (x ∷ xs)
   there : {y : ℕ} {xs : List ℕ} → Mem x xs → Mem x (y ∷ xs)
 
--- along operands as they stand, lower or not
+-- along operands as they are, lower or not
 pub data Reach (from : List ℕ) (opsAt : ℕ → List ℕ) : ℕ → Type 0 where
   root : {e : ℕ} → Mem e from → Reach from opsAt e
   step : {e x : ℕ} → Reach from opsAt e → Mem x (opsAt e) → Reach from opsAt x
@@ -69,7 +69,7 @@ reachedMarks F = close (length (F .exprs)) (F .exprs) (mark (roots (F .locals)) 
 unfoldable pub reached : Function → ℕ → Bool
 reached F e = marked (reachedMarks F) e
 
--- the rows that are marked and do not stand
+-- the rows that are marked and not standing
 unfoldable pub moving : Marks → List Cells → Marks
 moving [] xs = []
 moving (b ∷ m) [] = []

@@ -88,7 +88,7 @@ pub record NumbersFew (m : Module) : Type 0 where
   pub in-functions : Each Few (m .functions)
   pub in-entries : Each (λ p. Few (p .function)) (m .entries)
 
--- words and tape that hold such a module
+-- words and tags that hold such a module
 pub record Numbered (words tags : List ℕ) (n : ℕ) : Type 0 where
   pub holds : Module
   pub taped : Taped words tags n holds

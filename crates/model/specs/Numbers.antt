@@ -69,7 +69,7 @@ unfoldable pub within : Bounds → Cells → Bool
 within b [] = true
 within b (c ∷ cs) = below (bound b (class c)) (word c) && within b cs
 
--- ---- Emit: "start at most end", which is the word behind it
+-- ---- Emit: "start at most end", which is the next word
 unfoldable pub rising : Cell → Cells → Bool
 rising c [] = true
 rising c (d ∷ cs) = elim (eqb (class c) FROM) [ true ↦ leb (word c) (word d) | false ↦ true ]

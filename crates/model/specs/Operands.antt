@@ -16,7 +16,7 @@ unfoldable pub optional : ℕ → List ℕ → List ℕ
 optional zero xs = xs
 optional (suc e) xs = e ∷ xs
 
--- what a cell of the class s and the word w reads, in front of what the cells behind it read
+-- what a cell of the class s and the word w reads, before what the following cells read
 unfoldable pub operand : ℕ → ℕ → List ℕ → List ℕ
 operand s w xs = elim (eqb s EXPR) [ true ↦ w ∷ xs | false ↦ elim (eqb s OPT-EXPR) [ true ↦ optional w xs | false ↦ xs ] ]
 

@@ -1,5 +1,5 @@
 -- Reading a list of words: what a reader answers, and how readers follow one another.
--- A reader that fits gives a value and the words behind it. `misfit` is refusal 2; `unknown`, a kind or a variant code that is none of the listed, is refusal 3.
+-- A reader that fits gives a value and the words after it. `misfit` is refusal 2; `unknown`, a kind or a variant code that is none of the listed, is refusal 3.
 use mathlib.Core.List.{List, [], _∷_}
 use Prim.Native.Nat.{ℕ}
 

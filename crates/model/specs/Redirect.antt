@@ -6,7 +6,7 @@ use mathlib.Core.Option.{Option, none, some}
 use Prim.Native.Nat.{ℕ, zero, suc}
 use lib.Dec.{eqb, ltb}
 use lib.ListN.{length, getD}
-use Rattle.model.specs.Refusals.{NO-RECORD, NO-ORIGINAL, NO-REPLACEMENT, OTHER-ARGUMENTS, OTHER-RESULT}
+use Rattle.model.specs.Refusals.{NUMBER-GIVEN, ORIGINAL-NOT-FOUND, REPLACEMENT-NOT-FOUND, ARGUMENT-TYPES, RESULT-TYPES}
 use Rattle.model.specs.Outcome.{word}
 use Rattle.model.specs.Table.{FUNCTION, CALLEE}
 use Rattle.model.specs.Tree.{Function, Entry, end}
@@ -99,11 +99,11 @@ pub data Answer : Type 0 where
 -- document 01's number for each, 0 for none
 unfoldable pub refusal : Answer → ℕ
 refusal (redirected o r m) = 0
-refusal outside = NO-RECORD
-refusal noOriginal = NO-ORIGINAL
-refusal noReplacement = NO-REPLACEMENT
-refusal argumentsDiffer = OTHER-ARGUMENTS
-refusal resultsDiffer = OTHER-RESULT
+refusal outside = NUMBER-GIVEN
+refusal noOriginal = ORIGINAL-NOT-FOUND
+refusal noReplacement = REPLACEMENT-NOT-FOUND
+refusal argumentsDiffer = ARGUMENT-TYPES
+refusal resultsDiffer = RESULT-TYPES
 
 -- what the image holds afterwards: "a refusal returns its number alone; image .. stay"
 unfoldable pub after : Module → Answer → Module

@@ -36,7 +36,7 @@ to f = does (call f [] none) then end
 abbrev pub plain : ℕ → Block Range → Function
 plain name b = made name [] no-result [] b
 
--- an entry point, whose function may bear a name
+-- an entry point, whose function may have a name
 abbrev entry : Function → Entry
 entry f = record { head = (NAME, 1) ∷ (WORD, 0) ∷ (WORD, 0) ∷ (WORD, 0) ∷ (WORD, 0) ∷ (WORD, 0) ∷ (WORD, 0) ∷ []; function = f }
 
@@ -71,7 +71,7 @@ pub record Redirects : Type 0 where
   -- every call changes, and a CallResult with its Call
   pub twice : redirectFunction (holding (plain 0 (does (call 2 [] none) then to 2) ∷ plain 1 end ∷ plain 2 end ∷ []) []) 2 1 [] ≡ redirected 2 1 (holding (plain 0 (does (call 1 [] none) then to 1) ∷ plain 1 end ∷ plain 2 end ∷ []) [])
   pub results : redirectFunction (holding (valued 0 2 ∷ valued 1 0 ∷ valued 2 1 ∷ []) []) 2 1 [] ≡ redirected 2 1 (holding (valued 0 1 ∷ valued 1 0 ∷ valued 2 1 ∷ []) [])
-  -- an entry point changes, whatever name its function bears
+  -- an entry point changes, whatever name its function has
   pub entries : redirectFunction (holding shades (entry (plain 0 (to 2)) ∷ [])) 2 1 (0 ∷ []) ≡ redirected 2 1 (holding shades (entry (plain 0 (to 1)) ∷ []))
   -- refusals, each with a second fault that comes later in the sequence
   pub no-name : refusal (redirectFunction P6 4 3 []) ≡ 13

@@ -49,7 +49,7 @@ sample = record {
   special = record { rays = (OPT-TYPE, 0) ∷ (OPT-TYPE, 1) ∷ (OPT-TYPE, 0) ∷ []; pairs = ((KEY, 7) ∷ (TYPE, 0) ∷ []) ∷ [] };
 }
 
--- every number is told by its class, and what is kept is kept
+-- a map that adds its class to every number, and leaves the classes from PLACE on as they are
 unfoldable pub moved : ℕ → ℕ → ℕ
 moved s w = elim (ltb s PLACE) [ true ↦ s + w | false ↦ w ]
 

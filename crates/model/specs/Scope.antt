@@ -72,7 +72,7 @@ unfoldable mutual
   expandC (k also ks) drop = expandK k drop also expandC ks drop
 
 -- ---- "The innermost Loop block or Switch around a Break, and the innermost Loop block around a Continue, exists and is no continuing block; no Return in continuing."
--- what may stand at a place
+-- what is allowed at a place
 pub record Place : Type 0 where
   pub breaks : Bool
   pub continues : Bool
@@ -274,7 +274,7 @@ contB end ρ = ρ
 contB (s then b) ρ = elim (holdsS s) [ true ↦ ρ | false ↦ contB b (addS s ρ) ]
 
 -- ---- "Statements and evaluations read only what is in scope"; "standing expressions from the start"
--- stands e, or e is one of ρ
+-- e is standing, or is one of ρ
 unfoldable pub vis : (ℕ → Bool) → List ℕ → ℕ → Bool
 vis stands [] e = stands e
 vis stands (x ∷ ρ) e = eqb e x || vis stands ρ e

@@ -7,7 +7,7 @@ use Prim.Native.Nat.{ℕ, zero, suc, _+_, _*_}
 use lib.ListN.{length, getD, take, drop}
 use lib.Seq.{sets}
 use Rattle.base_words.specs.Words.{wordsOf, bytesOf}
-use Rattle.model.specs.Refusals.{NO-RECORD}
+use Rattle.model.specs.Refusals.{NUMBER-GIVEN, packed}
 use Rattle.model.specs.Session.{Session, Answer, answered, refused, new, set, clear, mapSpan, importType, importConst, importPipelineOverride, importGlobal, importGlobalExpression, renameType, importFunction, mapFunctionHandle, importFunctionIfNew, hasRequiredSpecialTypes, finish, finishWithEntryPoints}
 
 -- ---- the operations, in the order of their numbers
@@ -22,7 +22,7 @@ operations =
     ∷ required ∷ finishes ∷ finishes-entries
     ∷ []
 
--- ---- what a step says: its answer, what it writes to the output as words, and from which byte on; and the session after it
+-- ---- what a step gives: its answer, what it writes to the output as words, and from which byte on; and the session after it
 pub record Said : Type 0 where
   pub refusal : ℕ
   pub first : ℕ
@@ -69,9 +69,9 @@ perform required a b c sources output s = says s one (answered (bit (hasRequired
 perform finishes a b c sources output s = writes s a (finish (length (part a b output)) s)
 perform finishes-entries a b c sources output s = writes s a (finishWithEntryPoints (length (part a b output)) s)
 -- "13: a number given by the caller lies outside its table"
-perform unknown a b c sources output s = says s one (refused NO-RECORD)
+perform unknown a b c sources output s = says s one (refused NUMBER-GIVEN)
 
--- ---- the steps in sequence; words behind the last whole step are not read
+-- ---- the steps in sequence; words after the last whole step are not read
 unfoldable pub run : List ℕ → List ℕ → List ℕ → Session → List Said
 run [] sources output s = []
 run (o ∷ []) sources output s = []
@@ -79,7 +79,7 @@ run (o ∷ a ∷ []) sources output s = []
 run (o ∷ a ∷ b ∷ []) sources output s = []
 run (o ∷ a ∷ b ∷ c ∷ steps) sources output s = let x = perform (getD operations o unknown) a b c sources output s in x ∷ run steps sources output (x .session)
 
--- ---- what is left in the lent memory
+-- ---- what the caller's memory holds afterwards
 -- three words for each step
 unfoldable pub answersOf : List Said → List ℕ
 answersOf [] = []
@@ -92,7 +92,7 @@ outputOf (x ∷ xs) output = outputOf xs (sets output (x .at) (bytesOf (x .writt
 -- 0 if every step was accepted; else the refusal of the first refused step in the low half, and that step's number in the high half
 unfoldable pub firstRefused : List Said → ℕ → ℕ
 firstRefused [] i = 0
-firstRefused (x ∷ xs) i = elim (x .refusal) [ zero ↦ firstRefused xs (suc i) | suc n ↦ suc n + i * 4294967296 ]
+firstRefused (x ∷ xs) i = elim (x .refusal) [ zero ↦ firstRefused xs (suc i) | suc n ↦ packed (suc n) i ]
 
 pub record Ran : Type 0 where
   pub result : ℕ

@@ -1,4 +1,4 @@
--- The classes of words and the one field table. A symbol stands for one word and for what that word brings; its class is the symbol itself.
+-- The classes of words and the one field table. A symbol stands for one word and for the fields that follow because of it; its class is the symbol itself.
 -- Document 01, "Types, constants, overrides, globals", "Expressions", "Statements", "Functions and entry points".
 use mathlib.Core.Bool.{true, false}
 use mathlib.Core.List.{List, [], _∷_, _++_}
@@ -297,7 +297,7 @@ limit s = getD (64 ∷ 32 ∷ 128 ∷ 1024 ∷ 1024 ∷ []) (s - MEMBERS) 0
 unfoldable pub variants : ℕ → List Row
 variants s = getD (types ∷ expressions ∷ levels ∷ queries ∷ values ∷ atomics ∷ results ∷ []) (s - TYPE-KIND) []
 
--- ---- what a symbol's word brings
+-- ---- what follows a symbol's word
 pub data More : Type 0 where
   brings : Row → More
   over nothing : More
@@ -314,7 +314,7 @@ unfoldable pub variant : Option Row → More
 variant none = nothing
 variant (some r) = brings r
 
--- a plain word brings nothing; the padding of a name is zero; a list brings its rows, up to its limit; a code brings its fields
+-- after a plain word nothing follows; the padding of a name is zero; a count is followed by its rows, up to its limit; a code by its fields
 unfoldable pub more : ℕ → ℕ → More
 more s w =
     elim (ltb s PAD) [

@@ -1,4 +1,4 @@
--- Words and tape that hold an image: what laying out leaves where an image fits, and what every later pass begins with.
+-- Words and tags that hold an image: what laying out leaves where an image fits, and what every later pass begins with.
 use mathlib.Core.Path.{_≡_}
 use mathlib.Core.List.{List, map}
 use Prim.Native.Nat.{ℕ, _≤_}

@@ -134,7 +134,7 @@ unfoldable mutual
   flatC nomore = []
   flatC (k also ks) = flatK k ++ flatC ks
 
--- a block behind its count
+-- a block after its count
 unfoldable pub flatBlock : Block Range → Cells
 flatBlock b = (BLOCK, sizeB b) ∷ flatB b
 

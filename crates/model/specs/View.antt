@@ -1,4 +1,4 @@
--- Where the parts of a module stand in its words: the tables as lists of records, and the start and the end of a record, by the header and the offsets.
+-- Where the parts of a module are in its words: the tables as lists of records, and the start and the end of a record, by the header and the offsets.
 use mathlib.Core.Bool.{true, false}
 use mathlib.Core.List.{List, [], _∷_, map}
 use Prim.Native.Nat.{ℕ, suc, _+_}

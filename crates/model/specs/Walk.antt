@@ -1,4 +1,4 @@
--- Walks: a body followed by a finite list of numbers, to the events on the way and the end. The trace of a statement is made in front of the trace of what follows it, so the meaning of a statement takes what follows as an argument (`K`), and nothing is ever put together again.
+-- Walks: a body followed by a finite list of numbers, to the events on the way and the end. The trace of a statement is put before the trace of what follows it, so the meaning of a statement takes what follows as an argument (`K`), and nothing is ever put together again.
 -- A Loop has fuel, a unit for each round: a round takes a number, so one unit more than there are numbers is enough (`loop-unrolls` of the crate theory_walks removes it).
 -- Document 01, "A walk follows a body by a finite list of numbers" to "are left out".
 use mathlib.Core.List.{List, [], _∷_}
@@ -30,7 +30,7 @@ Rest = List ℕ → Trace
 unfoldable pub ends : End → Rest
 ends h cs = halt h
 
--- what follows: behind the statement, behind the Loop or Switch around it (Break), at the Loop's continuing block (Continue)
+-- what follows: after the statement, after the Loop or Switch around it (Break), at the Loop's continuing block (Continue)
 pub record K : Type 0 where
   pub go : Rest
   pub brk : Rest
@@ -40,7 +40,7 @@ pub record K : Type 0 where
 unfoldable pub only : Rest → K
 only k = record { go = k; brk = ends finished; con = ends finished }
 
--- ---- events in front of a trace
+-- ---- events before a trace
 -- "reads in field order"
 unfoldable pub ▸read : List ℕ → Trace → Trace
 ▸read [] t = t

@@ -1,3 +1,4 @@
 pub mod Links
+pub mod LinkedBytes
 pub mod Sessions
 pub mod Small

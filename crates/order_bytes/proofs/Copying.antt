@@ -1,4 +1,4 @@
--- The loop of `copy`: what is left to write from where it stands makes the whole, and past the end of `out` nothing is written. Assumes nothing.
+-- The loop of `copy`: at every turn, what is left to write completes the whole, and past the end of `out` nothing is written.
 use mathlib.Core.Path.{_≡_, refl, sym, ap, _∙_}
 use mathlib.Core.List.{List, [], _∷_}
 use Prim.Native.Nat.{ℕ, zero, suc, _+_, _≤_, _<_}

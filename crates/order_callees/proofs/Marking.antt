@@ -1,4 +1,4 @@
--- Marking the callees between two places: what is left from a place on, marked too, is what is there from the start on. Assumes nothing.
+-- Marking the callees between two places: what is left from a place on, marked too, is what is there from the start on.
 use mathlib.Core.Path.{_≡_, refl, sym, ap, _∙_}
 use mathlib.Core.Bool.{Bool, true, false, cond, _&&_}
 use mathlib.Core.List.{List, [], _∷_}
@@ -13,7 +13,8 @@ use Rattle.model.specs.Table.{CALLEE}
 use Rattle.model.specs.Carry.{Each, each-next}
 use Rattle.model.specs.Calls.{any}
 use Rattle.order_ranks.specs.Marks.{marked, SetCall}
-use Rattle.order_callees.specs.Gathering.{picks, picked, Markable, Marks}
+use Rattle.theory_order.specs.Cells.{picks}
+use Rattle.order_callees.specs.Gathering.{picked, Markable, Marks}
 
 -- whether l is among them
 abbrev pub among : List ℕ → ℕ → Bool

@@ -1,13 +1,14 @@
--- From one function to all of them, and from words and tape to the module that they hold. Assumes nothing.
+-- From one function to all of them, and from words and tags to the module that they hold.
 use mathlib.Core.Path.{_≡_, refl, sym, ap, ap₂, _∙_}
 use mathlib.Core.Bool.{Bool, true, false, cond, _&&_}
-use mathlib.Core.Option.{none, some}
-use mathlib.Core.List.{List, [], _∷_, map}
-use Prim.Native.Nat.{ℕ, zero, suc, _+_, _≤_, _<_}
+use mathlib.Core.Option.{some}
+use mathlib.Core.List.{List, map}
+use Prim.Native.Nat.{ℕ, _+_, _≤_, _<_}
 use native.Mathlib.Omega.{arith}
 use lib.Dec.{eqb, ltb}
 use lib.ListN.{length, getElem?, length-map}
 use borrow.Author.Tests.{eqb-true, eqb-false, ltb-true, ltb-false, lt-ltb, le-ltb}
+use Rattle.theory_lists.specs.Lists.{found, missed}
 use Rattle.model.specs.Tree.{Function, flat}
 use Rattle.model.specs.Module.{Module, countAt, offsetAt, sections}
 use Rattle.model.specs.View.{recordAt, recordEnd}
@@ -20,10 +21,11 @@ use Rattle.order_ranks.specs.Placing.{Orders}
 use Rattle.order_ranks.specs.declared.Ordered.{Ordered}
 use Rattle.theory_image.specs.Views.{view-length, view-within}
 use Rattle.theory_image.specs.FunctionViews.{part-words, part-tags, taped-write, taped-length, taped-offset, taped-functions, taped-function, table-least}
-use Rattle.order_callees.specs.Gathering.{picks, picked, calledBy, Markable, Spans, Framed, Known, Marks, Gathered, Listed}
-use Rattle.order_callees.proofs.Cells.{cells-function}
+use Rattle.theory_image.specs.Members.{looked-each}
+use Rattle.order_callees.specs.Gathering.{picked, calledBy, Markable, Spans, Framed, Known, Marks, Gathered, Listed}
+use Rattle.theory_order.specs.Cells.{picks, cells-function}
 use Rattle.order_callees.proofs.Marking.{among}
-use Rattle.order_callees.proofs.Same.{order-ext}
+use Rattle.theory_order.specs.Same.{order-ext}
 
 -- ---- one function
 pub asks : {words tags callees : List ℕ} {i from to : ℕ} → Framed words tags → i < countAt 6 words → length callees ≡ 1024 → from ≡ recordAt 6 i words → to ≡ recordEnd 6 i words → Markable words tags from to i callees
@@ -52,7 +54,7 @@ pub record Going (words tags : List ℕ) (i : ℕ) (callees : List ℕ) : Type 0
 pub begin : (words tags : List ℕ) {callees : List ℕ} → NoCalls callees → Going words tags 0 callees
 begin words tags c = record { high = omega arith; long = c .long; is = λ k l h. c .is k l ∙ rw (le-ltb k 0 (omega arith)) }
 
--- function k, once i is marked: those before i, i, and those behind it
+-- function k, once i is marked: those before i, i, and those after it
 one-more : (k i : ℕ) (x y : Bool) → (k ≡ i → x ≡ y) → cond (eqb k i && x) true (cond (ltb k i) y false) ≡ cond (ltb k (i + 1)) y false
 one-more k i x y s = go (ltb k i) refl (eqb k i) refl
   where
@@ -81,20 +83,6 @@ again {words} {tags} {callees} {after} {i} g h m =
     }
 
 -- ---- the module
-pub found : {A : Type 0} (l : List A) (i : ℕ) → i < length l → (x : A) × (getElem? l i ≡ some x)
-found [] i h = absurd (omega arith)
-found (x ∷ l) zero h = (x, refl)
-found (x ∷ l) (suc i) h = found l i (omega arith)
-
-missed : {A : Type 0} (l : List A) (i : ℕ) → length l ≤ i → getElem? l i ≡ none
-missed [] i h = refl
-missed (x ∷ l) zero h = absurd (omega arith)
-missed (x ∷ l) (suc i) h = missed l i (omega arith)
-
-pub each-found : {A : Type 0} {P : A → Type 0} {l : List A} → Each P l → (i : ℕ) {x : A} → getElem? l i ≡ some x → P x
-each-found each-none i e = let z : _≡_ {A = ℕ} 0 1 = cc in absurd (omega arith)
-each-found {P} (each-next {a} p ps) zero {x} e = let q : a ≡ x = cc in rw q at p
-each-found (each-next p ps) (suc i) e = each-found ps i e
 
 wider : {a b : ℕ} → a ≤ b → {l : List ℕ} → Each (λ j. j < a) l → Each (λ j. j < b) l
 wider h each-none = each-none
@@ -135,7 +123,7 @@ module _ {words tags : List ℕ} {n : ℕ} {m : Module} (t : Taped words tags n 
       record {
         rising = p .rising;
         within = omega (arith, p .within, taped-length t, t .small);
-        known = rw (called-is i (x .0) (x .1)) (wider (t .well .functions-ok .few) (each-found (k m t) i (x .1)));
+        known = rw (called-is i (x .0) (x .1)) (wider (t .well .functions-ok .few) (looked-each (k m t) i (x .1)));
       }
 
   frame : Known words tags n → Framed words tags

@@ -1,10 +1,12 @@
-// The callees of every table function, from words and tape: one pass over the words of each
+// The callees of every table function, from words and tags: one pass over the words of each
 // function record, which marks each word of the class CALLEE. Then the order of output.
 use base_classes::CALLEE;
 use base_views::FUNCTIONS;
 use base_views::count;
 use base_views::end_of;
 use base_views::start_of;
+use base_words::Tags;
+use base_words::Words;
 use base_words::wide;
 use order_ranks::Ordered;
 ghost use mathlib.Core.Path.{_≡_};
@@ -16,9 +18,9 @@ ghost use Rattle.order_ranks.specs.Marks.{NoCalls};
 ghost use Rattle.order_callees.specs.Gathering.{picked, calledBy, Markable, Framed, Known, Marks, Gathered, Listed};
 
 // Function i calls what the words from `at` to `end` call.
-fn scan(
-    words: &[u32; 16384],
-    tags: &[u8; 16384],
+fn mark_callees(
+    words: &Words,
+    tags: &Tags,
     at: usize,
     end: usize,
     i: usize,
@@ -38,18 +40,18 @@ fn scan(
 }
 
 // Function i calls what its record calls.
-fn function(words: &[u32; 16384], tags: &[u8; 16384], i: usize, callees: &mut [u64; 1024])
+fn function(words: &Words, tags: &Tags, i: usize, callees: &mut [u64; 1024])
     requires { ⌜ Framed (now words) (now tags) ⌝ }
     requires { ⌜ (i < countAt 6 (now words)) × (length (now callees) ≡ 1024) ⌝ }
     ensures { λ _. ⌜ Marks (now (callees .entry)) i (calledBy (now (words .entry)) (now (tags .entry)) i) (now (callees .exit)) ⌝ }
 {
     let from = start_of(words, FUNCTIONS, i);
     let to = end_of(words, FUNCTIONS, i);
-    scan(words, tags, from, to, i, callees);
+    mark_callees(words, tags, from, to, i, callees);
 }
 
 // What every table function calls.
-pub fn gather(words: &[u32; 16384], tags: &[u8; 16384], n: usize, callees: &mut [u64; 1024])
+pub fn gather_requirements(words: &Words, tags: &Tags, n: usize, callees: &mut [u64; 1024])
     requires { ⌜ Tape (now words) (now tags) n ⌝ }
     requires { ⌜ Known (now words) (now tags) n ⌝ }
     requires { ⌜ NoCalls (now callees) ⌝ }
@@ -65,13 +67,13 @@ pub fn gather(words: &[u32; 16384], tags: &[u8; 16384], n: usize, callees: &mut 
 }
 
 // The order of the module's functions, as their source numbers, goes to the start of `out`.
-pub fn order_of(words: &[u32; 16384], tags: &[u8; 16384], n: usize, out: &mut [u32; 256]) -> Ordered
+pub fn order_of(words: &Words, tags: &Tags, n: usize, out: &mut [u32; 256]) -> Ordered
     requires { ⌜ Tape (now words) (now tags) n ⌝ }
     requires { ⌜ Known (now words) (now tags) n ⌝ }
     requires { ⌜ length (now out) ≡ 256 ⌝ }
     ensures { λ r. ⌜ Listed (now (words .entry)) (now (tags .entry)) n (now (out .entry)) r (now (out .exit)) ⌝ }
 {
     let mut callees = order_ranks::clear();
-    gather(words, tags, n, &mut callees);
+    gather_requirements(words, tags, n, &mut callees);
     order_ranks::order(&callees, count(words, FUNCTIONS), out)
 }

@@ -1,4 +1,4 @@
--- Single bytes of words, digits of numbers, and runs of bytes put one behind the other. Assumes nothing.
+-- Single bytes of words, digits of numbers, and runs of bytes put one after the other.
 use mathlib.Core.Path.{_≡_, refl, sym, ap, _∙_}
 use mathlib.Core.List.{List, [], _∷_, _++_}
 use Prim.Native.Nat.{ℕ, zero, suc, _+_, _*_, _-_, _/_, _%_, _≤_, _<_}

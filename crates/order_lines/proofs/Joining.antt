@@ -1,4 +1,4 @@
--- The pieces that are put one behind the other are a line, lines, and the text. Assumes nothing.
+-- The pieces that are put one after the other are a line, lines, and the text.
 use mathlib.Core.Path.{_≡_, refl, sym, ap, ap₂, _∙_, subst}
 use mathlib.Core.Bool.{Bool, true, false, cond}
 use mathlib.Core.List.{List, [], _∷_, _++_, append-assoc}

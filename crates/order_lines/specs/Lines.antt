@@ -1,5 +1,4 @@
 -- The lines of an order, as bytes. Document 01: "prints the function count, then by line new number, source number, name".
--- Assumes nothing: these are definitions.
 use mathlib.Core.Path.{_≡_}
 use mathlib.Core.Bool.{cond}
 use mathlib.Core.Option.{Option, none, some}
@@ -36,7 +35,7 @@ unfoldable pub nameOf : Module → ℕ → List ℕ
 nameOf m s = nameIn (m .names) (getElem? (m .functions) s)
 
 -- ---- the text
--- "by line new number, source number, name": two numbers, each with a space behind it, and the rest of the line
+-- "by line new number, source number, name": two numbers, each with a space after it, and the rest of the line
 unfoldable pub numbersText : ℕ → ℕ → List ℕ
 numbersText new source = decimal new ++ (32 ∷ (decimal source ++ (32 ∷ [])))
 
@@ -61,12 +60,12 @@ unfoldable pub orderedText : List ℕ → (ℕ → List ℕ) → List ℕ
 orderedText os name = headed FUNCTIONS (length os) ++ linesText os 0 name
 
 -- ---- what lines are made of
--- these bytes are put at a place, and the next place is behind them
+-- these bytes are put at a place, and the next place is after them
 pub record Puts (out : List ℕ) (at : ℕ) (xs out′ : List ℕ) (next : ℕ) : Type 0 where
   pub is : out′ ≡ sets out at xs
   pub ends : next ≡ at + length xs
 
--- the text of the name that stands at p
+-- the text of the name at p
 unfoldable pub textAt : List ℕ → ℕ → List ℕ
 textAt words p = take (getD words p 0) (bytesOf (drop (p + 1) words))
 
@@ -78,7 +77,7 @@ pub record Room (words : List ℕ) (p : ℕ) (out : List ℕ) (at : ℕ) : Type 
   pub within : getD words p 0 ≤ 4 * (16383 - p)
   pub fits : at + getD words p 0 ≤ 65536
 
--- where the name of table function s stands, and its bytes
+-- where the name of table function s is, and its bytes
 abbrev pub nameAt : List ℕ → ℕ → ℕ
 nameAt words s = recordAt 0 (getD words (recordAt 6 s words) 0 - 1) words
 
@@ -103,7 +102,7 @@ pub record Line (words : List ℕ) (new s : ℕ) (out : List ℕ) (at : ℕ) : T
   pub long : length out ≡ 65536
   pub fits : at + length (lineText new s (nameIs words s)) ≤ 65536
 
--- there are the lines of so many numbers
+-- the first `count` numbers have lines
 pub record Printable (words order : List ℕ) (count : ℕ) : Type 0 where
   pub order-long : length order ≡ 256
   pub count-few : count ≤ 256

@@ -1,4 +1,6 @@
-// The text of an order, put into a lent buffer: the count of functions, and for each a line with its new number, its source number and its name.
+// The text of an order, put into a buffer that the caller provides: the count of functions, and for each a line with its new number, its source number and its
+// name.
+use base_words::Words;
 ghost use mathlib.Core.Path.{_≡_};
 ghost use mathlib.Core.List.{[], _∷_};
 ghost use Prim.Native.Nat.{_+_, _/_, _≤_, _<_};
@@ -7,7 +9,7 @@ ghost use Rattle.base_words.specs.Words.{bytesOf};
 ghost use Rattle.order_lines.specs.Lines.{decimal, numbersText, lineText, linesText, headed, orderedText, nameAt, nameIs, textAt, Puts, Room, Readable, Line, Lines, Text};
 
 // Byte k of the words from `at` on.
-fn byte(words: &[u32; 16384], at: usize, k: usize) -> u8
+fn byte(words: &Words, at: usize, k: usize) -> u8
     requires { ⌜ (length (now words) ≡ 16384) × (at + k / 4 < 16384) ⌝ }
     ensures { λ r. ⌜ r ≡ getD (bytesOf (drop at (now (words .entry)))) k 0 ⌝ }
 {
@@ -60,8 +62,8 @@ fn put_number(out: &mut [u8; 65536], at: usize, x: usize) -> usize
     at + 3
 }
 
-// The bytes of the name that stands at p.
-fn put_name(words: &[u32; 16384], p: usize, out: &mut [u8; 65536], at: usize) -> usize
+// The bytes of the name at p.
+fn put_name(words: &Words, p: usize, out: &mut [u8; 65536], at: usize) -> usize
     requires { ⌜ Room (now words) p (now out) at ⌝ }
     ensures { λ r. ⌜ Puts (now (out .entry)) at (textAt (now (words .entry)) p) (now (out .exit)) r ⌝ }
 {
@@ -90,7 +92,7 @@ fn put_text(text: &[u8], out: &mut [u8; 65536], at: usize) -> usize
     at + text.len()
 }
 
-// Two numbers, each with a space behind it.
+// Two numbers, each with a space after it.
 fn put_numbers(out: &mut [u8; 65536], at: usize, new: usize, s: usize) -> usize
     requires { ⌜ (length (now out) ≡ 65536) × (at + length (numbersText new s) < 65536) ⌝ }
     requires { ⌜ (new < 1000) × (s < 1000) ⌝ }
@@ -102,8 +104,8 @@ fn put_numbers(out: &mut [u8; 65536], at: usize, new: usize, s: usize) -> usize
     put(out, c, 32)
 }
 
-// Where the name of table function s stands.
-fn name_of(words: &[u32; 16384], s: usize) -> usize
+// Where the name of table function s is.
+fn name_of(words: &Words, s: usize) -> usize
     requires { ⌜ Readable (now words) s ⌝ }
     ensures { λ r. ⌜ r ≡ nameAt (now (words .entry)) s ⌝ }
 {
@@ -113,7 +115,7 @@ fn name_of(words: &[u32; 16384], s: usize) -> usize
 }
 
 // The line of table function s.
-fn line(words: &[u32; 16384], new: usize, s: usize, out: &mut [u8; 65536], at: usize) -> usize
+fn line(words: &Words, new: usize, s: usize, out: &mut [u8; 65536], at: usize) -> usize
     requires { ⌜ Line (now words) new s (now out) at ⌝ }
     ensures { λ r. ⌜ Puts (now (out .entry)) at (lineText new s (nameIs (now (words .entry)) s)) (now (out .exit)) r ⌝ }
 {
@@ -124,13 +126,7 @@ fn line(words: &[u32; 16384], new: usize, s: usize, out: &mut [u8; 65536], at: u
 }
 
 // The lines of the first `count` numbers of an order.
-fn lines(
-    words: &[u32; 16384],
-    order: &[u32; 256],
-    count: usize,
-    out: &mut [u8; 65536],
-    at: usize,
-) -> usize
+fn lines(words: &Words, order: &[u32; 256], count: usize, out: &mut [u8; 65536], at: usize) -> usize
     requires { ⌜ Lines (now words) (now order) count (now out) at ⌝ }
     ensures { λ r. ⌜ Puts (now (out .entry)) at (linesText (take count (now (order .entry))) 0 (nameIs (now (words .entry)))) (now (out .exit)) r ⌝ }
 {
@@ -156,7 +152,7 @@ pub fn head(label: &[u8], x: usize, out: &mut [u8; 65536]) -> usize
 }
 
 // The text of an order of `count` functions.
-pub fn text(words: &[u32; 16384], order: &[u32; 256], count: usize, out: &mut [u8; 65536]) -> usize
+pub fn text(words: &Words, order: &[u32; 256], count: usize, out: &mut [u8; 65536]) -> usize
     requires { ⌜ Text (now words) (now order) count (now out) ⌝ }
     ensures { λ r. ⌜ Puts (now (out .entry)) 0 (orderedText (take count (now (order .entry))) (nameIs (now (words .entry)))) (now (out .exit)) r ⌝ }
 {

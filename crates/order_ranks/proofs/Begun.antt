@@ -1,4 +1,4 @@
--- The first n marks, one after the other: the set has those below i. Assumes nothing.
+-- The first n marks, one after the other: the set has those below i.
 use mathlib.Core.Path.{_≡_, refl, sym, ap, _∙_}
 use mathlib.Core.Bool.{Bool, true, false, cond}
 use mathlib.Core.Logic.{⊎-elim}
@@ -9,8 +9,8 @@ use native.Mathlib.Omega.{arith}
 use lib.Dec.{eqb, ltb}
 use lib.ListN.{replicate}
 use borrow.Author.Tests.{eqb-true, eqb-false, ltb-true, ltb-false, lt-ltb, le-ltb}
+use Rattle.theory_lists.specs.Booleans.{either}
 use Rattle.order_ranks.specs.Marks.{PutMark, Firsts}
-use Rattle.order_ranks.proofs.Lists.{either}
 use Rattle.order_ranks.proofs.Marks.{zeros-hold-none}
 
 pub record Begun (n : ℕ) (l : List ℕ) (i : ℕ) : Type 0 where

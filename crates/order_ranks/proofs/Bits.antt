@@ -1,4 +1,4 @@
--- Bits of a word: of `|`, `&` and `^`, of a power of two, of a word whose bits are all 0, and their count. Assumes nothing.
+-- Bits of a word: of `|`, `&` and `^`, of a power of two, of a word whose bits are all 0, and their count.
 use mathlib.Core.Path.{_≡_, refl, sym, ap, _∙_, subst}
 use mathlib.Core.Bool.{Bool, true, false, cond, not, _&&_}
 use mathlib.Core.Logic.{_⊎_, inl, inr}
@@ -13,10 +13,11 @@ use lib.Pow.{shr-shr, shl-exact}
 use lib.Bits.{bitAnd, bitOr, bitXor, and-le-l, and-shr, or-shr, xor-shr, and-mod, or-mod, xor-mod, shifted-half, shifted-even}
 use lib.Count.{ones, ones-step}
 use lib.ListN.{length}
+use Rattle.theory_lists.specs.Booleans.{never, either}
 use Rattle.model.specs.Calls.{numbers, keep}
 use Rattle.order_ranks.specs.Marks.{bit, onesOf, meets, PutBit}
 use borrow.Author.Tests.{eqb-true, eqb-false, eq-eqb, ne-eqb}
-use Rattle.order_ranks.proofs.Lists.{either, never, in-numbers, length-numbers, length-parts, length-shift, keep-ext, any-in, any-off}
+use Rattle.theory_order.specs.Lists.{in-numbers, length-numbers, length-parts, length-shift, keep-ext, any-in, any-off}
 
 pub bit-zero : (x : ℕ) → bit x zero ≡ eqb (x % 2) 1
 unfolding bit

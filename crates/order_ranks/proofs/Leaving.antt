@@ -1,15 +1,16 @@
--- What all rounds leave: the rounds of those that still wait leave what those of all leave. Assumes nothing.
+-- What all rounds leave: the rounds of those that still wait leave what those of all leave.
 use mathlib.Core.Path.{_≡_, refl, sym, ap, _∙_}
 use mathlib.Core.Bool.{not}
 use mathlib.Core.List.{List, []}
 use Prim.Native.Nat.{ℕ, _+_, _≤_, _<_}
 use native.Mathlib.Omega.{arith}
 use lib.ListN.{length}
+use Rattle.theory_lists.specs.Lists.{length-none}
 use Rattle.model.specs.Calls.{numbers, keep, free, held, Rounds, rounds}
 use Rattle.order_ranks.specs.Marks.{holds, members, marked, Below}
 use Rattle.order_ranks.specs.Placing.{Placeable, Placed, Leaves}
-use Rattle.order_ranks.proofs.Lists.{length-numbers, length-parts}
-use Rattle.order_ranks.proofs.Rounds.{none, length-round, enough, all, all-last, all-some}
+use Rattle.theory_order.specs.Lists.{length-numbers, length-parts}
+use Rattle.theory_order.specs.Rounds.{length-round, enough, all, all-last, all-some}
 
 pub members-few : (l : List ℕ) → length (members l) ≤ 256
 unfolding members
@@ -43,7 +44,7 @@ module _ (cs : List ℕ) (n : ℕ) (began : List ℕ) where
         pub finish : next ≡ 0 → Leaves (marked cs) n (members began) waiting
         unfolding all
         finish e =
-            let f : free (marked cs) (members waiting) ≡ [] = none _ (omega (arith, p .ends)) in
+            let f : free (marked cs) (members waiting) ≡ [] = length-none _ (omega (arith, p .ends)) in
             let a = all-last (marked cs) (members waiting) f in
             record {
               long = u .long;

@@ -1,14 +1,8 @@
--- What the proofs of several functions use, and the theorems.
-pub mod Lists
+-- What the proofs of several functions use, and what a caller has of the answers.
 pub mod Bits
 pub mod Marks
 pub mod Begun
 pub mod Turn
-pub mod Rounds
 pub mod Whole
 pub mod Leaving
-pub mod Ranks
-pub mod Ring
-pub mod Stages
-pub mod Times
-pub mod Theorems
+pub mod Answers

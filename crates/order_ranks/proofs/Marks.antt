@@ -1,5 +1,5 @@
--- Sets of marks: what a word with one more bit does to its set, what a meeting of two words says of two sets, and the count of a set. Assumes nothing.
-use mathlib.Core.Path.{_≡_, refl, sym, ap, ap₂, _∙_}
+-- Sets of marks: what a word with one more bit does to its set, what a meeting of two words says of two sets, and the count of a set.
+use mathlib.Core.Path.{_≡_, sym, ap, ap₂, _∙_}
 use mathlib.Core.Bool.{Bool, true, false, cond, _&&_}
 use mathlib.Core.Logic.{_⊎_, inl, inr, ⊎-elim}
 use mathlib.Core.List.{List, _++_, append-nil}
@@ -11,29 +11,12 @@ use lib.Arith.{digits-div, digits-mod}
 use lib.ListN.{length, getD, set, replicate, length-append, length-set, length-replicate}
 use lib.Seq.{getD-set-same, getD-set-other}
 use borrow.Author.Tests.{eqb-true, eqb-false, eq-eqb, lt-ltb, le-ltb}
+use Rattle.theory_lists.specs.Lists.{zeros}
+use Rattle.theory_lists.specs.Booleans.{and-true, and-first, and-second, bool-same, never, either}
 use Rattle.model.specs.Calls.{In, numbers, any, keep}
 use Rattle.order_ranks.specs.Marks.{bit, onesOf, meets, holds, members, marked, PutBit, PutMark, SetCall, NoCalls, Firsts, Below}
-use Rattle.order_ranks.proofs.Lists.{either, never, numbers-in, in-numbers, numbers-append, keep-in, in-keep, keep-append, keep-none, keep-all, keep-ext, any-in, in-any, any-off, not-any, length-shift}
+use Rattle.theory_order.specs.Lists.{numbers-in, in-numbers, numbers-append, keep-in, in-keep, keep-append, keep-none, keep-all, keep-ext, any-in, in-any, any-off, not-any, length-shift}
 use Rattle.order_ranks.proofs.Bits.{bit-none}
-
--- ---- tests
-
--- two tests that hold together are one
-pub one-test : (a b : Bool) → (a ≡ true → b ≡ true) → (b ≡ true → a ≡ true) → a ≡ b
-one-test true b f g = sym (f refl)
-one-test false true f g = g refl
-one-test false false f g = refl
-
-pub both : (a b : Bool) → a ≡ true → b ≡ true → (a && b) ≡ true
-both a b f g = rw (f, g)
-
-pub both-left : (a b : Bool) → (a && b) ≡ true → a ≡ true
-both-left true b h = refl
-both-left false b h = h
-
-pub both-right : (a b : Bool) → (a && b) ≡ true → b ≡ true
-both-right true b h = h
-both-right false b h = absurd (never false h refl)
 
 -- ---- the word and the bit of a mark
 
@@ -66,14 +49,14 @@ mark-test : (j k : ℕ) → (eqb (j / 64) (k / 64) && eqb (j % 64) (k % 64)) ≡
 mark-test j k =
     let dj = div-add-mod' j 64 in
     let dk = div-add-mod' k 64 in
-    one-test _ _
+    bool-same _ _
     (λ t.
-    let p : j / 64 ≡ k / 64 = eqb-true _ _ (both-left _ (eqb (j % 64) (k % 64)) t) in
-    let q : j % 64 ≡ k % 64 = eqb-true _ _ (both-right (eqb (j / 64) (k / 64)) _ t) in
+    let p : j / 64 ≡ k / 64 = eqb-true _ _ (and-first _ (eqb (j % 64) (k % 64)) t) in
+    let q : j % 64 ≡ k % 64 = eqb-true _ _ (and-second (eqb (j / 64) (k / 64)) _ t) in
     eq-eqb j k (omega arith))
     (λ t.
     let p : j ≡ k = eqb-true j k t in
-    both _ _ (eq-eqb _ _ (ap (λ (x : ℕ). x / 64) p)) (eq-eqb _ _ (ap (λ (x : ℕ). x % 64) p)))
+    and-true (eq-eqb _ _ (ap (λ (x : ℕ). x / 64) p)) (eq-eqb _ _ (ap (λ (x : ℕ). x % 64) p)))
 
 mark-put : (x : Bool) (l : List ℕ) (k y : ℕ) → length l ≡ 4 → k < 256 → PutBit x (getD l (k / 64) 0) (k % 64) y
     → (j : ℕ) → j < 256 → holds (set l (k / 64) y) j ≡ cond (eqb j k) x (holds l j)
@@ -95,15 +78,15 @@ call-joins l i j y long hi hj s k m hm =
     let dm = div-add-mod' m 64 in
     let hw : 4 * i + j / 64 < length l = omega arith in
     let test : (eqb (4 * k + m / 64) (4 * i + j / 64) && eqb (m % 64) (j % 64)) ≡ (eqb k i && eqb m j) =
-    one-test _ _
+    bool-same _ _
     (λ t.
-    let p : 4 * k + m / 64 ≡ 4 * i + j / 64 = eqb-true _ _ (both-left _ (eqb (m % 64) (j % 64)) t) in
-    let q : m % 64 ≡ j % 64 = eqb-true _ _ (both-right (eqb (4 * k + m / 64) (4 * i + j / 64)) _ t) in
-    both _ _ (eq-eqb k i (omega arith)) (eq-eqb m j (omega arith)))
+    let p : 4 * k + m / 64 ≡ 4 * i + j / 64 = eqb-true _ _ (and-first _ (eqb (m % 64) (j % 64)) t) in
+    let q : m % 64 ≡ j % 64 = eqb-true _ _ (and-second (eqb (4 * k + m / 64) (4 * i + j / 64)) _ t) in
+    and-true (eq-eqb k i (omega arith)) (eq-eqb m j (omega arith)))
     (λ t.
-    let p : k ≡ i = eqb-true k i (both-left _ (eqb m j) t) in
-    let q : m ≡ j = eqb-true m j (both-right (eqb k i) _ t) in
-    both _ _ (eq-eqb _ _ (ap₂ (λ (x y : ℕ). 4 * x + y / 64) p q)) (eq-eqb _ _ (ap (λ (x : ℕ). x % 64) q)))
+    let p : k ≡ i = eqb-true k i (and-first _ (eqb m j) t) in
+    let q : m ≡ j = eqb-true m j (and-second (eqb k i) _ t) in
+    and-true (eq-eqb _ _ (ap₂ (λ (x y : ℕ). 4 * x + y / 64) p q)) (eq-eqb _ _ (ap (λ (x : ℕ). x % 64) q)))
     in
     one-put true l (4 * i + j / 64) (j % 64) y (4 * k + m / 64) (m % 64) hw s (low-bit m)
     ∙ ap (λ (b : Bool). cond b true (bit (getD l (4 * k + m / 64) 0) (m % 64))) test
@@ -114,22 +97,16 @@ calls-too l i j y long hi hj s = record { long = length-set l (4 * i + j / 64) y
 
 -- ---- no marks
 
-getD-zeros : (k i : ℕ) → getD {A = ℕ} (replicate k 0) i 0 ≡ 0
-getD-zeros zero zero = refl
-getD-zeros zero (suc i) = refl
-getD-zeros (suc k) zero = refl
-getD-zeros (suc k) (suc i) = getD-zeros k i
-
 zeros-unmarked : (k i j : ℕ) → marked (replicate k 0) i j ≡ false
 unfolding marked
-zeros-unmarked k i j = rw (getD-zeros k (4 * i + j / 64)) (bit-none (j % 64))
+zeros-unmarked k i j = rw (zeros k (4 * i + j / 64)) (bit-none (j % 64))
 
 pub zeros-call-none : NoCalls (replicate 1024 0)
 zeros-call-none = record { long = length-replicate {A = ℕ} 1024 0; is = zeros-unmarked 1024 }
 
 pub zeros-hold-none : (k j : ℕ) → holds (replicate k 0) j ≡ false
 unfolding holds
-zeros-hold-none k j = rw (getD-zeros k (j / 64)) (bit-none (j % 64))
+zeros-hold-none k j = rw (zeros k (j / 64)) (bit-none (j % 64))
 
 -- ---- the members
 
@@ -182,8 +159,8 @@ module _ (cs ws : List ℕ) (i : ℕ) where
       let r = numbers-in 64 0 (s .1) in
       let l : k < 64 = omega arith in
       in-any (marked cs i) {i = w * 64 + k}
-      (in-members ws (w * 64 + k) (omega arith) (rw (word-of w k l, bit-of w k l) (both-right (bit a k) (bit b k) (s .2))))
-      (rw (word-of w k l, bit-of w k l) (both-left (bit a k) (bit b k) (s .2)))
+      (in-members ws (w * 64 + k) (omega arith) (rw (word-of w k l, bit-of w k l) (and-second (bit a k) (bit b k) (s .2))))
+      (rw (word-of w k l, bit-of w k l) (and-first (bit a k) (bit b k) (s .2)))
 
   -- no word does
   pub apart-calls : ((w : ℕ) → w < 4 → meets (getD cs (4 * i + w) 0) (getD ws w 0) ≡ false) → any (members ws) (marked cs i) ≡ false
@@ -197,7 +174,7 @@ module _ (cs ws : List ℕ) (i : ℕ) where
       (k % 64) (in-numbers 64 0 (k % 64) (omega arith) (low-bit k))
       in
       ⊎-elim
-      (λ (t : marked cs i k ≡ true). absurd (never _ (both (bit (getD cs (4 * i + w) 0) (k % 64)) (bit (getD ws w 0) (k % 64)) t (r .1)) e))
+      (λ (t : marked cs i k ≡ true). absurd (never _ (and-true t (r .1)) e))
       (λ f. f)
       (either (marked cs i k)))
 

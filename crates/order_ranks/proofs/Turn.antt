@@ -1,5 +1,5 @@
 -- A round, mark by mark. What is still to be written from mark i on completes what the whole round writes; of the marks below i, those go on waiting
--- that call a waiting function. Assumes nothing.
+-- that call a waiting function.
 use mathlib.Core.Path.{_≡_, refl, sym, ap, _∙_}
 use mathlib.Core.Bool.{Bool, true, false, cond, not, _&&_}
 use mathlib.Core.Logic.{_⊎_, inl, inr}
@@ -12,10 +12,11 @@ use lib.Dec.{eqb, ltb}
 use lib.ListN.{length, set}
 use lib.Seq.{sets}
 use borrow.Author.Tests.{eqb-true, ltb-false, le-ltb}
+use Rattle.theory_lists.specs.Booleans.{either}
 use Rattle.model.specs.Calls.{numbers, any, keep, free, held}
 use Rattle.order_ranks.specs.Marks.{holds, members, marked, PutMark, Below}
 use Rattle.order_ranks.specs.Placing.{Placed}
-use Rattle.order_ranks.proofs.Lists.{either, keep-yes, keep-no, keep-ext, keep-keep, numbers-in, length-parts}
+use Rattle.theory_order.specs.Lists.{keep-yes, keep-no, keep-ext, keep-keep, numbers-in, length-parts}
 use Rattle.order_ranks.proofs.Marks.{members-below}
 use Rattle.order_ranks.proofs.Begun.{one-further}
 

@@ -1,27 +1,24 @@
 -- The whole order: what the rounds of those that still wait will place, written from `at` on, completes the whole; what they will leave is what is left of
--- the whole. Assumes nothing.
+-- the whole.
 use mathlib.Core.Path.{_≡_, refl, sym, ap, _∙_}
-use mathlib.Core.List.{List, [], _∷_, _++_}
+use mathlib.Core.List.{List, [], _∷_}
 use Prim.Native.Nat.{ℕ, suc, _+_, _≤_, _<_}
-use native.Mathlib.Nat.{add-zero, suc-add, add-suc}
 use native.Mathlib.Omega.{arith}
 use lib.ListN.{length, drop, set}
 use lib.Seq.{sets, sets-eq, take-at, drop-set-lt}
+use Rattle.theory_lists.specs.Stores.{sets-append}
+use Rattle.theory_lists.specs.Lists.{length-none}
 use Rattle.model.specs.Calls.{numbers, free, held, Rounds, ordered, ring, answer, order}
 use Rattle.order_ranks.specs.Marks.{members, marked, Firsts, Below}
 use Rattle.order_ranks.specs.Placing.{Placeable, Placed, Orders, shown}
 use Rattle.order_ranks.specs.declared.Ordered.the-variants.{All, Ring}
-use Rattle.order_ranks.proofs.Lists.{length-numbers}
+use Rattle.theory_order.specs.Lists.{length-numbers}
 use Rattle.order_ranks.proofs.Marks.{firsts-below, firsts-members}
-use Rattle.order_ranks.proofs.Rounds.{none, length-round, all, all-last, all-some, length-rounds}
+use Rattle.theory_order.specs.Rounds.{length-round, all, all-last, all-some, length-rounds}
 
 -- ---- a run of stores
 
-sets-append : (l : List ℕ) (i : ℕ) (vs us : List ℕ) → sets l i (vs ++ us) ≡ sets (sets l i vs) (i + length vs) us
-sets-append l i [] us = rw (add-zero i)
-sets-append l i (v ∷ vs) us = sets-append (set l i v) (suc i) vs us ∙ ap (λ (k : ℕ). sets (sets (set l i v) (suc i) vs) k us) (suc-add i (length vs) ∙ sym (add-suc i (length vs)))
-
--- stores below n leave what stands from n on
+-- stores below n leave what is from n on
 drop-long : (vs l : List ℕ) (i n : ℕ) → i + length vs ≤ n → drop n (sets l i vs) ≡ drop n l
 drop-long [] l i n h = refl
 drop-long (v ∷ vs) l i n h = drop-long vs (set l i v) (suc i) n (omega arith) ∙ drop-set-lt n l i v (omega arith)
@@ -77,7 +74,7 @@ module _ (cs : List ℕ) (n : ℕ) (out₀ : List ℕ) where
               low = p .low;
               placed =
                   rw (p .kept, p .written, p .ends)
-                  (sym (sets-append out at (free (marked cs) (members waiting)) (all (marked cs) (held (marked cs) (members waiting)) .placed))
+                  (sym (sets-append (free (marked cs) (members waiting)) out at (all (marked cs) (held (marked cs) (members waiting)) .placed))
                   ∙ ap (λ (r : Rounds). sets out at (r .placed)) (sym s) ∙ u .placed);
               left = rw (p .kept) (ap (λ (r : Rounds). r .left) (sym s) ∙ u .left);
             }
@@ -89,7 +86,7 @@ module _ (cs : List ℕ) (n : ℕ) (out₀ : List ℕ) where
         pub stuck : next ≡ at → (k : ℕ) → k ≡ length (members waiting) → Orders (marked cs) n out₀ (Ring k) out′
         unfolding shown
         stuck e k is =
-            let f : free (marked cs) (members waiting) ≡ [] = none _ (omega (arith, p .ends)) in
+            let f : free (marked cs) (members waiting) ≡ [] = length-none _ (omega (arith, p .ends)) in
             let a = all-last (marked cs) (members waiting) f in
             let l : whole .left ≡ members waiting = sym (u .left) ∙ ap (λ (r : Rounds). r .left) a in
             let o : out′ ≡ sets out₀ 0 (whole .placed) = p .written ∙ rw f (sym (ap (λ (r : Rounds). sets out at (r .placed)) a) ∙ u .placed) in
@@ -104,8 +101,8 @@ module _ (cs : List ℕ) (n : ℕ) (out₀ : List ℕ) where
       pub finish : n ≤ at → Orders (marked cs) n out₀ All out
       unfolding shown answer
       finish h =
-          let m : members waiting ≡ [] = none _ (omega (arith, u .many)) in
-          let f : free (marked cs) (members waiting) ≡ [] = none _ (omega (arith, length-round (marked cs) (members waiting), u .many)) in
+          let m : members waiting ≡ [] = length-none _ (omega (arith, u .many)) in
+          let f : free (marked cs) (members waiting) ≡ [] = length-none _ (omega (arith, length-round (marked cs) (members waiting), u .many)) in
           let a = all-last (marked cs) (members waiting) f in
           let l : whole .left ≡ [] = sym (u .left) ∙ ap (λ (r : Rounds). r .left) a ∙ m in
           let o : out ≡ sets out₀ 0 (whole .placed) = sym (ap (λ (r : Rounds). sets out at (r .placed)) a) ∙ u .placed in

@@ -1,4 +1,2 @@
 pub mod Marks
 pub mod Placing
-pub mod Claims
-pub mod Examples

@@ -1,4 +1,4 @@
--- What a round and the whole order do to the lists that they are lent, in the words of the model. Assumes nothing: these are definitions.
+-- What a round and the whole order do to the lists that the caller provides, in the words of the model.
 use mathlib.Core.Path.{_≡_}
 use mathlib.Core.Bool.{Bool}
 use mathlib.Core.List.{List}

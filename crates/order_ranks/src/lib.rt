@@ -11,7 +11,7 @@ ghost use Rattle.model.specs.Calls.{any};
 ghost use Rattle.order_ranks.specs.Marks.{bit, onesOf, meets, holds, marked, members, PutBit, PutMark, SetCall, NoCalls, Firsts, Below};
 ghost use Rattle.order_ranks.specs.Placing.{Placeable, Placed, Leaves, Orders};
 
-// All functions have their place; or so many are left waiting for a ring.
+// All functions have their place; or this many are left waiting for a ring.
 pub enum Ordered {
     All,
     Ring(u32),
@@ -39,7 +39,7 @@ fn clear_bit(x: u64, k: usize) -> u64
     x ^ (1u64 << k)
 }
 
-// Whether mark k stands in a set.
+// Whether mark k is in a set.
 pub fn has(set: &[u64; 4], k: usize) -> bool
     requires { ⌜ k < 256 ⌝ }
     ensures { λ r. ⌜ r ≡ holds (now (set .entry)) k ⌝ }

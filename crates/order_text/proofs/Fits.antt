@@ -1,5 +1,5 @@
 -- There is room for the text of every order. A line is at most 9 bytes longer than its name; the functions of an order have different names, so their
--- names together are no longer than the table of names; and each name takes 8 bytes more of the image than its own, each function 4. Assumes nothing.
+-- names together are no longer than the table of names; and each name takes 8 bytes more of the image than its own, each function 4.
 use mathlib.Core.Path.{_≡_, refl, sym, ap, ap₂, _∙_}
 use mathlib.Core.Bool.{Bool, true, false, cond, not, _&&_}
 use mathlib.Core.Option.{some}
@@ -10,6 +10,8 @@ use lib.Dec.{eqb}
 use lib.ListN.{length, getD, getElem?, set, length-append, length-take, length-map}
 use lib.Seq.{getD-set-other}
 use borrow.Author.Tests.{eq-eqb, eqb-false, not-true}
+use Rattle.theory_lists.specs.Lists.{found, looked-getD}
+use Rattle.theory_lists.specs.Booleans.{and-split, and-true, never}
 use Rattle.model.specs.Outcome.{Cells, word}
 use Rattle.model.specs.Table.{nameRow}
 use Rattle.model.specs.Tree.{Function, flat, flatAll}
@@ -19,20 +21,17 @@ use Rattle.model.specs.Carry.{Lays, Each, each-none, each-next, WellFunction}
 use Rattle.model.specs.Names.{absent, distinct, functionNames}
 use Rattle.model.specs.Calls.{keep, times}
 use Rattle.model.specs.Redirect.{nameWord}
-use Rattle.theory_image.specs.Lists.{and-split, and-true}
 use Rattle.theory_image.specs.Sections.{length-places}
-use Rattle.theory_image.specs.Views.{looked-getD, view-first, view-next, view-length, view-rising, view-within}
+use Rattle.theory_image.specs.Views.{view-first, view-next, view-length, view-rising, view-within}
 use Rattle.theory_image.specs.FunctionViews.{taped-write, table-least}
 use Rattle.base_words.specs.Words.{bytesOf}
-use Rattle.order_ranks.proofs.Lists.{never}
-use Rattle.order_callees.proofs.Whole.{found}
 use Rattle.order_lines.specs.Lines.{nameText, nameIn, nameOf, lineText, linesText, headed, FUNCTIONS, orderedText}
 use Rattle.order_text.specs.Telling.{NamesKnown}
 use Rattle.order_text.proofs.Names.{Text, texts, text-shape}
 use Rattle.order_lines.proofs.Joining.{decimal-long, numbers-long, line-long, headed-long}
 use Rattle.order_text.proofs.Known.{head-field}
 
--- ---- sums over places of which none stands twice
+-- ---- sums over places, none of them twice
 unfoldable sum : List ℕ → ℕ
 sum [] = 0
 sum (w ∷ ws) = w + sum ws
@@ -61,7 +60,7 @@ unfolding sumAt distinct
 sum-once [] ws h = omega arith
 sum-once (i ∷ is) ws h = let a = and-split (absent is i) (distinct is) h in omega (arith, sum-once is (set ws i 0) (a .1), sumAt-set is ws i (a .0), sum-set ws i)
 
--- a list in which nothing stands twice
+-- a list in which nothing is twice
 absent-none : (is : List ℕ) (x : ℕ) → times is x ≡ 0 → absent is x ≡ true
 unfolding absent keep
 absent-none [] x h = refl

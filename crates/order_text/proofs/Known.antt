@@ -1,4 +1,4 @@
--- Tests 3 and 5 give what lines need: every table function has a name, and it is in the table of names. Assumes nothing.
+-- Tests 3 and 5 give what lines need: every table function has a name, and it is in the table of names.
 use mathlib.Core.Path.{_≡_, refl, subst}
 use mathlib.Core.Bool.{true, not, _&&_}
 use mathlib.Core.List.{List, _++_, map}
@@ -7,6 +7,7 @@ use native.Mathlib.Omega.{arith}
 use lib.Dec.{eqb}
 use lib.ListN.{getD}
 use borrow.Author.Tests.{ltb-true, eqb-false, not-true}
+use Rattle.theory_lists.specs.Booleans.{and-split}
 use Rattle.model.specs.Outcome.{Cells, word}
 use Rattle.model.specs.Table.{NAME, ARGUMENTS, LOCALS, EXPRESSIONS, NAMED, functionHead}
 use Rattle.model.specs.Tree.{Function, flatList, flatBlock, flat}
@@ -16,10 +17,10 @@ use Rattle.model.specs.Carry.{Lays, lays-next, Each, each-none, each-next, Well
 use Rattle.model.specs.Initial.{initialised}
 use Rattle.model.specs.Numbers.{Bounds, caps, bound, below, within, ordered, every, outside, inside, sound, soundFunction, numbered}
 use Rattle.model.specs.Names.{field, present, distinct, differ, functionNames, entryNames, functionsNamed, entriesNamed, named}
-use Rattle.theory_image.specs.Lists.{and-split}
 use Rattle.theory_image.specs.Tapes.{taped-same}
 use Rattle.order_callees.specs.Gathering.{Known}
-use Rattle.order_callees.proofs.Numbered.{functions-sound, passed-known}
+use Rattle.theory_order.specs.Numbered.{functions-sound}
+use Rattle.order_callees.proofs.Numbered.{passed-known}
 use Rattle.model.specs.Redirect.{nameWord}
 use Rattle.theory_image.specs.Writing.{flat-right}
 use Rattle.order_text.specs.Telling.{NamesKnown, Naming, Passed}
@@ -75,6 +76,6 @@ passed-naming p m t = names-known m (t .well) (p .numbers m t) (p .names m t)
 pub passed-callees : {words tags : List ℕ} {n : ℕ} → Passed words tags n → Known words tags n
 passed-callees p = passed-known (p .numbers)
 
--- words and tape hold one module, so what is shown of one that they hold is shown of it
+-- words and tags hold one module, so what is shown of one that they hold is shown of it
 pub passed-one : {words tags : List ℕ} {n : ℕ} {m : Module} → Taped words tags n m → numbered m ≡ true → named m ≡ true → Passed words tags n
 passed-one t h k = record { numbers = λ o u. subst (λ x. numbered x ≡ true) (taped-same t u) h; names = λ o u. subst (λ x. named x ≡ true) (taped-same t u) k }

@@ -1,4 +1,4 @@
--- The name of a table function in the words: where it stands, how long it is, and which bytes it has. Assumes nothing.
+-- The name of a table function in the words: where it is, how long it is, and which bytes it has.
 use mathlib.Core.Path.{_≡_, refl, sym, ap, ap₂, _∙_}
 use mathlib.Core.Bool.{Bool, true, false, _&&_}
 use mathlib.Core.Option.{some}
@@ -10,6 +10,8 @@ use lib.Dec.{eqb, ltb}
 use lib.ListN.{length, getD, getElem?, take, drop, replicate, length-append, length-map, length-replicate, take-append-drop}
 use lib.Seq.{slice, length-take-le, take-append-le, drop-append-le}
 use borrow.Author.Tests.{eqb-true, lt-ltb}
+use Rattle.theory_lists.specs.Lists.{found, looked-getD}
+use Rattle.theory_lists.specs.Booleans.{and-split}
 use Rattle.model.specs.Outcome.{Cells, class, word}
 use Rattle.model.specs.Table.{Row, WORD, PAD, TEXT, nameRow, text, More, brings, over, more}
 use Rattle.model.specs.Tree.{Function}
@@ -18,12 +20,12 @@ use Rattle.model.specs.View.{recordAt}
 use Rattle.model.specs.FunctionView.{argumentsAt}
 use Rattle.model.specs.Taped.{Taped, Tape}
 use Rattle.model.specs.Carry.{Lays, lays-none, lays-next}
-use Rattle.theory_image.specs.Lists.{and-split}
-use Rattle.theory_image.specs.Views.{looked-getD, view-length, view-within, sees-name}
+use Rattle.theory_image.specs.Views.{view-length, view-within, sees-name}
 use Rattle.theory_image.specs.FunctionViews.{Part, part-end, part-right, part-word, part-words, parts, head-classes, taped-held, taped-write, taped-length, taped-offset, taped-functions, taped-function, taped-part, table-least}
+use Rattle.theory_image.specs.Members.{looked-each as each-found}
 use Rattle.base_words.specs.Words.{bytesOf}
 use Rattle.base_words.proofs.Laws.{length-bytesOf}
-use Rattle.order_callees.proofs.Whole.{found, each-found, offsets}
+use Rattle.order_callees.proofs.Whole.{offsets}
 use Rattle.model.specs.Redirect.{nameWord}
 use Rattle.order_lines.specs.Lines.{nameText, nameIn, nameOf, textAt, Readable}
 use Rattle.order_text.specs.Telling.{NamesKnown, Naming}

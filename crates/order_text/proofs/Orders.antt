@@ -1,4 +1,4 @@
--- From intake's answer and the order of a module to the text: the numbers of an order are those of table functions, each once. Assumes nothing.
+-- From intake's answer and the order of a module to the text: the numbers of an order are those of table functions, each once.
 use mathlib.Core.Path.{_≡_, refl, sym, ap, ap₂, _∙_, subst}
 use mathlib.Core.Logic.{_⊎_, inl, inr, ⊎-elim}
 use mathlib.Core.Bool.{Bool}
@@ -9,6 +9,7 @@ use lib.Dec.{eqb, ltb}
 use lib.ListN.{length, getD, take, replicate, length-replicate}
 use lib.Seq.{getD-take, length-take-le}
 use borrow.Author.Tests.{eq-eqb, ltb-true, ltb-false}
+use Rattle.theory_lists.specs.Booleans.{either}
 use Rattle.model.specs.Refusals.{RING}
 use Rattle.model.specs.Module.{Module, countAt}
 use Rattle.model.specs.Taped.{Taped, Tape}
@@ -17,19 +18,22 @@ use Rattle.model.specs.Callees.{calls, orderOf}
 use Rattle.order_ranks.specs.Placing.{shown}
 use Rattle.order_ranks.specs.declared.Ordered.{Ordered}
 use Rattle.order_ranks.specs.declared.Ordered.the-variants.{All, Ring}
-use Rattle.order_ranks.proofs.Lists.{either, in-keep, length-numbers}
-use Rattle.order_ranks.proofs.Rounds.{length-rounds}
-use Rattle.order_ranks.proofs.Theorems.{claims}
+use Rattle.theory_order.specs.Lists.{in-keep, length-numbers}
+use Rattle.theory_order.specs.Rounds.{length-rounds}
+use Rattle.theory_order.specs.Theorems.{claims}
+use Rattle.base_words.specs.Words.{wordsOf}
+use Rattle.model.specs.Image.{onImage}
+use Rattle.theory_image.specs.OnWords.{on-refused, on-module}
 use Rattle.theory_image.specs.FunctionViews.{taped-functions}
 use Rattle.order_callees.specs.Gathering.{Listed}
 use Rattle.order_callees.proofs.Whole.{few}
 use Rattle.intake.specs.Taken.{numberOf, Accepts, Takes}
 use Rattle.intake.specs.declared.Taken.{Taken}
-use Rattle.intake.specs.declared.Taken.the-variants.{Accepted, Size, Misfit, Number, Order, Name, Scope}
+use Rattle.intake.specs.declared.Taken.the-variants.{Accepted, Size, Layout, Range, Reference, Names, Scope}
 use Rattle.intake.proofs.Refusals.{NotFirst, refused-by}
 use Rattle.order_bytes.proofs.Images.{count-few, list-long}
 use Rattle.order_lines.specs.Lines.{nameOf, lineText, linesText, headed, FUNCTIONS, orderedText, nameIs, Puts, Text}
-use Rattle.order_text.specs.Telling.{REFUSED, RINGS, refusing, telling, ofModule, afterIntake, tellingOf, Passed, Says, Tells}
+use Rattle.order_text.specs.Telling.{REFUSED, RINGS, refusing, telling, tellingOf, Passed, Says, Tells}
 use Rattle.order_lines.proofs.Bytes.{puts-long}
 use Rattle.order_text.proofs.Names.{text-of, readable}
 use Rattle.order_lines.proofs.Joining.{decimal-long, headed-long}
@@ -66,7 +70,7 @@ ring-few n c k e = go (rounds c n (numbers n 0) .placed) (rounds c n (numbers n 
     go p [] q h = let z : _≡_ {A = ℕ} 0 1 = cc in absurd (omega arith)
     go p (i ∷ is) q h = let j : length (i ∷ is) ≡ k = cc in omega arith
 
--- no function stands in an order twice
+-- no function is in an order twice
 order-once : (n : ℕ) (c : ℕ → ℕ → Bool) (os : List ℕ) → order n c ≡ ordered os → (x : ℕ) → times os x ≤ 1
 order-once n c os e x = ⊎-elim (λ (a : x < n). omega (arith, claims n c .each-once os e x a)) (λ (b : n ≤ x). omega (arith, claims n c .none-else os e x b)) (less-or-not x n)
 
@@ -170,10 +174,10 @@ refused-few t e = omega (arith, small t)
     small : (t : Taken) → numberOf t < 1000
     small (Accepted n) = omega arith
     small Size = omega arith
-    small Misfit = omega arith
-    small Number = omega arith
-    small Order = omega arith
-    small Name = omega arith
+    small Layout = omega arith
+    small Range = omega arith
+    small Reference = omega arith
+    small Names = omega arith
     small Scope = omega arith
 
 module _ {image words tags : List ℕ} {t : Taken} (got : Takes t words tags image) where
@@ -188,16 +192,16 @@ module _ {image words tags : List ℕ} {t : Taken} (got : Takes t words tags ima
     held-passed = passed-one (held .taped) (held .passes .numbers) (held .passes .names)
 
     pub accepted-says : {out out′ : List ℕ} {r k left : ℕ} → Tells words tags n out out′ r k left → Says (tellingOf image) out out′ r k left
-    unfolding tellingOf afterIntake ofModule
+    unfolding tellingOf onImage
     accepted-says {out} {out′} {r} {k} {left} l =
-        let i : tellingOf image ≡ telling (held .holds) (orderOf (held .holds)) = ap (afterIntake image) (sym (got .same) ∙ ap numberOf e) ∙ ap ofModule (held .reads) in
+        let i : tellingOf image ≡ telling (held .holds) (orderOf (held .holds)) = on-module (λ m. telling m (orderOf m)) refusing (length image) (wordsOf image) (held .holds) (sym (got .same) ∙ ap numberOf e) (held .reads) in
         subst (λ x. Says x out out′ r k left) (sym i) (l .same (held .holds) (held .taped))
 
   pub refused-says : NotFirst t → {k : ℕ} → k ≡ numberOf t → {out out′ : List ℕ} {x r : ℕ} → x ≡ k → length out ≡ 65536 → Puts out 0 (headed REFUSED x) out′ r → Says (tellingOf image) out out′ r k 0
-  unfolding tellingOf afterIntake refusing
+  unfolding tellingOf onImage refusing
   refused-says h {k} e {out} {out′} {x} {r} f g u =
       let y = refused-by t h in
       let j : k ≡ suc (y .0) = e ∙ y .1 in
-      let i : tellingOf image ≡ refusing (suc (y .0)) = ap (afterIntake image) (sym (got .same) ∙ y .1) in
+      let i : tellingOf image ≡ refusing (suc (y .0)) = on-refused (λ m. telling m (orderOf m)) refusing (length image) (wordsOf image) (y .0) (sym (got .same) ∙ y .1) in
       let v : Puts out 0 (headed REFUSED (suc (y .0))) out′ r = rw (f ∙ j) at u in
       subst (λ z. Says z out out′ r k 0) (sym i) (record { puts = v; within = omega (arith, v .ends, headed-long REFUSED (suc (y .0)), decimal-long (suc (y .0)) .1, puts-long v); refusal-is = j; left-is = refl })

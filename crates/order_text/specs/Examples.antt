@@ -1,4 +1,4 @@
--- The text by example, computed. Assumes nothing.
+-- The text by example, computed.
 use mathlib.Core.Path.{_≡_, refl}
 use mathlib.Core.List.{[], _∷_}
 use Prim.Native.Nat.{ℕ}

@@ -1,5 +1,7 @@
-// What the program `order` prints, put into a lent buffer: the count of functions and their lines, or the refusal. The whole text is one definition on
-// bytes (`tellingOf` in specs/Telling.antt), and there is always room for it.
+// What the program `order` prints, put into a buffer that the caller provides: the count of functions and their lines, or the refusal. The whole text is one
+// definition on bytes (`tellingOf` in specs/Telling.antt), and there is always room for it.
+use base_words::Tags;
+use base_words::Words;
 use intake::Taken;
 use order_lines::head;
 use order_lines::text;
@@ -16,8 +18,8 @@ pub struct Said {
     pub left: u32,
 }
 
-// What is told of a module that intake has passed: its order, or refusal 12.
-pub fn tell(words: &[u32; 16384], tags: &[u8; 16384], n: usize, out: &mut [u8; 65536]) -> Said
+// What is printed and answered for a module that intake has passed: its order, or refusal 12.
+pub fn tell(words: &Words, tags: &Tags, n: usize, out: &mut [u8; 65536]) -> Said
     requires { ⌜ Tape (now words) (now tags) n ⌝ }
     requires { ⌜ Passed (now words) (now tags) n ⌝ }
     requires { ⌜ length (now out) ≡ 65536 ⌝ }
@@ -42,7 +44,7 @@ pub fn tell(words: &[u32; 16384], tags: &[u8; 16384], n: usize, out: &mut [u8; 6
     }
 }
 
-// What is told of any bytes.
+// What is printed and answered for any bytes.
 pub fn tell_of(image: &[u8], out: &mut [u8; 65536]) -> Said
     requires { ⌜ length (now out) ≡ 65536 ⌝ }
     ensures { λ r. ⌜ Says (tellingOf (now (image .entry))) (now (out .entry)) (now (out .exit)) (r .count) (r .refusal) (r .left) ⌝ }

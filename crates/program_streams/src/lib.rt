@@ -1,5 +1,5 @@
-// Standard input, output and error as the programs use them. A failed read or write is an error of its own, told in one line on standard error in
-// the system's words; a refusal is said there with its sentence. A program has no exit status: these lines are what it tells of failure.
+// Standard input, output and error as the programs use them. A failed read or write is an error of its own, reported in one line on standard error in the
+// system's words; a refusal is reported there with its sentence. A program has no exit status: these lines are how it reports failure.
 use libc::STDERR_FILENO;
 use libc::STDIN_FILENO;
 use libc::STDOUT_FILENO;
@@ -7,7 +7,7 @@ ghost use mathlib.Core.Path.{_≡_};
 ghost use Prim.Native.Nat.{_≤_};
 ghost use lib.ListN.{length};
 
-// What reading came to: so many bytes at the start of the buffer, and whether a read failed behind them.
+// What was read: this many bytes at the start of the buffer, and whether a read failed after them.
 pub struct Input {
     pub count: usize,
     pub failed: bool,
@@ -55,13 +55,13 @@ pub fn read(buf: &mut [u8]) -> Input
     }
 }
 
-// Tells that standard input could not be read. Only just behind the read that failed: the system's words are those of its last call.
+// Reports that standard input could not be read. Only right after the read that failed: the system's words are those of its last call.
 pub fn unread(program: &[u8]) {
     io::write_all(STDERR_FILENO, program);
     os::fail(b": standard input");
 }
 
-// Writes to standard output; a write that fails is told.
+// Writes to standard output; a write that fails is reported.
 pub fn write(program: &[u8], bytes: &[u8]) -> bool {
     if io::write_all(STDOUT_FILENO, bytes) {
         return true;
@@ -70,7 +70,7 @@ pub fn write(program: &[u8], bytes: &[u8]) -> bool {
     false
 }
 
-// Tells that standard output could not be written, just behind the write that failed.
+// Reports that standard output could not be written, right after the write that failed.
 pub fn unwritten(program: &[u8]) {
     io::write_all(STDERR_FILENO, program);
     os::fail(b": standard output");
@@ -86,27 +86,27 @@ fn sentence(k: u32) {
         say(b": the size, the edition or the total of words is wrong\n");
     } else if k == base_refusals::BAD_LAYOUT {
         say(b": the layout or the padding is wrong, or a limit is passed\n");
-    } else if k == base_refusals::BAD_NUMBER {
+    } else if k == base_refusals::BAD_RANGE {
         say(b": a number or a code is out of range, or a kind stands where it is barred\n");
-    } else if k == base_refusals::NOT_LOWER {
+    } else if k == base_refusals::BAD_REFERENCE {
         say(b": a reference is not to a lower number\n");
-    } else if k == base_refusals::BAD_NAME {
+    } else if k == base_refusals::BAD_NAMES {
         say(b": a name is missing, or names, named numbers or special keys are equal\n");
-    } else if k == base_refusals::OUT_OF_SCOPE {
+    } else if k == base_refusals::BAD_SCOPE {
         say(b": a rule of scope is broken\n");
     } else if k == base_refusals::SHORT_OUTPUT {
         say(b": the output is too short\n");
-    } else if k == base_refusals::NO_ORIGINAL {
+    } else if k == base_refusals::ORIGINAL_NOT_FOUND {
         say(b": no function bears the original's name\n");
-    } else if k == base_refusals::NO_REPLACEMENT {
+    } else if k == base_refusals::REPLACEMENT_NOT_FOUND {
         say(b": no function bears the replacement's name\n");
-    } else if k == base_refusals::OTHER_ARGUMENTS {
+    } else if k == base_refusals::ARGUMENT_TYPES {
         say(b": the original and the replacement have other argument types\n");
-    } else if k == base_refusals::OTHER_RESULT {
+    } else if k == base_refusals::RESULT_TYPES {
         say(b": the original and the replacement have other result types\n");
     } else if k == base_refusals::RING {
         say(b": functions call one another in a ring\n");
-    } else if k == base_refusals::NO_RECORD {
+    } else if k == base_refusals::NUMBER_GIVEN {
         say(b": a number given by the caller lies outside its table\n");
     } else if k == base_refusals::NO_SOURCE {
         say(b": no source is set\n");

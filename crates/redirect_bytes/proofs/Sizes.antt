@@ -1,4 +1,4 @@
--- What test 1 says of an image: its bytes are four to a word, and its second word counts the words. Assumes nothing.
+-- What test 1 says of an image: its bytes are four to a word, and its second word counts the words.
 use mathlib.Core.Path.{_≡_}
 use mathlib.Core.Bool.{true}
 use mathlib.Core.List.{List}
@@ -7,11 +7,11 @@ use native.Mathlib.Omega.{arith}
 use lib.Dec.{eqb, leb}
 use lib.ListN.{length, getD}
 use borrow.Author.Tests.{eqb-true}
+use Rattle.theory_lists.specs.Booleans.{and-split}
 use Rattle.base_words.specs.Words.{wordsOf}
 use Rattle.base_words.proofs.Laws.{length-wordsOf}
 use Rattle.model.specs.Outcome.{laid}
 use Rattle.model.specs.Module.{Module, read, write, sized}
-use Rattle.theory_image.specs.Lists.{and-split}
 use Rattle.theory_image.specs.Modules.{read-write}
 
 module _ (image : List ℕ) (s : sized (length image) (wordsOf image) ≡ true) where

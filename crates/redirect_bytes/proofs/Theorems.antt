@@ -11,31 +11,38 @@ use Rattle.base_words.proofs.Laws.{length-bytesOf, bytes-of-words, words-of-byt
 use Rattle.model.specs.Outcome.{Cells, word, Laid, laid, bad, strange}
 use Rattle.model.specs.Module.{Module, read, write, sized}
 use Rattle.model.specs.Carry.{WellFormed}
-use Rattle.model.specs.Intake.{verdict, intakeOf, Passes}
+use Rattle.model.specs.Intake.{verdict, intakeOf, ofLaid, afterIntake, onWords, Passes}
 use Rattle.model.specs.Redirect.{redirect, redirected, redirectFunction}
 use Rattle.theory_image.specs.Modules.{read-well}
 use Rattle.intake.proofs.Tests.{passes}
 use Rattle.redirect_words.specs.Claims.{Differs, differs-none, differs-same, differs-call, differs-result}
-use Rattle.redirect_words.specs.Passes.{both, refused, imageAfter}
+use Rattle.model.specs.Refusals.{Ended, done, refused}
+use Rattle.model.specs.Image.{onImage, redirectEnded, redirectAfter, redirectImage}
 use Rattle.redirect_words.proofs.Ending.{answered}
 use Rattle.redirect_words.proofs.Finding.{find-in}
 use Rattle.redirect_words.proofs.Theorems.{nothing-else, accepted, as-long, redirected-intake, redirected-itself}
 use Rattle.redirect_words.proofs.Storing.{image-stays}
-use Rattle.redirect_bytes.specs.Images.{ofModule, afterIntake, redirectImage}
 use Rattle.redirect_bytes.proofs.Sizes.{image-long, image-written}
 
 -- ---- A REFUSAL KEEPS EVERY BYTE
-module-keeps : (image : List ℕ) (o p : ℕ) (omit : List ℕ) (k : ℕ) (x : Laid Module) → ofModule image o p omit x .0 ≡ refused k → ofModule image o p omit x .1 ≡ image
-unfolding ofModule
+-- what comes of a module, and of a refusal
+abbrev ofModule : List ℕ → ℕ → ℕ → List ℕ → Module → Ended (ℕ × ℕ) × List ℕ
+ofModule image o p omit m = (redirectEnded (redirectFunction m o p omit), redirectAfter image (redirectFunction m o p omit))
+
+abbrev refusing : List ℕ → ℕ → Ended (ℕ × ℕ) × List ℕ
+refusing image k = (refused k, image)
+
+module-keeps : (image : List ℕ) (o p : ℕ) (omit : List ℕ) (k : ℕ) (x : Laid Module) → ofLaid (ofModule image o p omit) (refusing image) x .0 ≡ refused k → ofLaid (ofModule image o p omit) (refusing image) x .1 ≡ image
+unfolding ofLaid
 module-keeps image o p omit k (laid m) e = image-stays image (redirectFunction m o p omit) k e
 module-keeps image o p omit k bad e = refl
 module-keeps image o p omit k strange e = refl
 
 pub refused-keeps : (image : List ℕ) (o p : ℕ) (omit : List ℕ) (k : ℕ) → redirectImage image o p omit .0 ≡ refused k → redirectImage image o p omit .1 ≡ image
-unfolding redirectImage afterIntake
+unfolding redirectImage onImage onWords afterIntake
 refused-keeps image o p omit k e = go (intakeOf (length image) (wordsOf image)) e
   where
-    go : (i : ℕ) → afterIntake image o p omit i .0 ≡ refused k → afterIntake image o p omit i .1 ≡ image
+    go : (i : ℕ) → afterIntake (ofModule image o p omit) (refusing image) (wordsOf image) i .0 ≡ refused k → afterIntake (ofModule image o p omit) (refusing image) (wordsOf image) i .1 ≡ image
     go zero q = module-keeps image o p omit k (read (wordsOf image)) q
     go (suc i) q = refl
 
@@ -54,22 +61,22 @@ module _ (image : List ℕ) (o p : ℕ) (omit : List ℕ) (a b : ℕ) where
   sized-so true e h = (e, sym (rw (intakeOf, e)) ∙ h)
   sized-so false e h = let q : _≡_ {A = ℕ} 1 0 = sym (rw (intakeOf, e)) ∙ h in absurd (omega arith)
 
-  module-accepts : (x : Laid Module) → read (wordsOf image) ≡ x → verdict x ≡ 0 → sized (length image) (wordsOf image) ≡ true → ofModule image o p omit x .0 ≡ both a b → redirectImage image o p omit .1 ≡ ofModule image o p omit x .1 → AcceptedImage image o p omit a b
-  unfolding ofModule verdict imageAfter
+  module-accepts : (x : Laid Module) → read (wordsOf image) ≡ x → verdict x ≡ 0 → sized (length image) (wordsOf image) ≡ true → ofLaid (ofModule image o p omit) (refusing image) x .0 ≡ done (a, b) → redirectImage image o p omit .1 ≡ ofLaid (ofModule image o p omit) (refusing image) x .1 → AcceptedImage image o p omit a b
+  unfolding ofLaid verdict redirectAfter
   module-accepts (laid m) r v s e q =
-      let d : redirectFunction m o p omit ≡ redirected a b (redirect m a b omit) = answered m o p omit .done a b e in
-      record { holds = m; sized-right = s; reads = r; passed = passes m v; answer = d; image-is = q ∙ ap (imageAfter image) d }
+      let d : redirectFunction m o p omit ≡ redirected a b (redirect m a b omit) = answered m o p omit .done-is a b e in
+      record { holds = m; sized-right = s; reads = r; passed = passes m v; answer = d; image-is = q ∙ ap (redirectAfter image) d }
   module-accepts bad r v s e q = absurd (omega arith)
   module-accepts strange r v s e q = absurd (omega arith)
 
-  pub accepts : redirectImage image o p omit .0 ≡ both a b → AcceptedImage image o p omit a b
-  unfolding redirectImage afterIntake
+  pub accepts : redirectImage image o p omit .0 ≡ done (a, b) → AcceptedImage image o p omit a b
+  unfolding redirectImage onImage onWords afterIntake
   accepts e = go (intakeOf (length image) (wordsOf image)) refl e
     where
-      go : (i : ℕ) → intakeOf (length image) (wordsOf image) ≡ i → afterIntake image o p omit i .0 ≡ both a b → AcceptedImage image o p omit a b
+      go : (i : ℕ) → intakeOf (length image) (wordsOf image) ≡ i → afterIntake (ofModule image o p omit) (refusing image) (wordsOf image) i .0 ≡ done (a, b) → AcceptedImage image o p omit a b
       go zero h q =
           let s = sized-so (sized (length image) (wordsOf image)) refl h in
-          module-accepts (read (wordsOf image)) refl (s .1) (s .0) q (ap (λ i. afterIntake image o p omit i .1) h)
+          module-accepts (read (wordsOf image)) refl (s .1) (s .0) q (ap (λ i. afterIntake (ofModule image o p omit) (refusing image) (wordsOf image) i .1) h)
       go (suc i) h q = let z : _≡_ {A = ℕ} 0 1 = cc in absurd (omega arith)
 
 -- ---- words that differ in the numbers of functions alone are words
@@ -120,13 +127,13 @@ module _ (image : List ℕ) (bytes : AllBelow 256 image) where
         redirected-intake (h .holds) o p omit a b (redirect (h .holds) a b omit) (h .answer) well (h .passed) (length image) (subst (λ ws. sized (length image) ws ≡ true) w (h .sized-right))
 
   -- THE REDIRECTED IMAGE PASSES INTAKE
-  pub passes-intake : (o p : ℕ) (omit : List ℕ) (a b : ℕ) → redirectImage image o p omit .0 ≡ both a b → intakeOf (length (redirectImage image o p omit .1)) (wordsOf (redirectImage image o p omit .1)) ≡ 0
+  pub passes-intake : (o p : ℕ) (omit : List ℕ) (a b : ℕ) → redirectImage image o p omit .0 ≡ done (a, b) → intakeOf (length (redirectImage image o p omit .1)) (wordsOf (redirectImage image o p omit .1)) ≡ 0
   passes-intake o p omit a b e =
       let h = accepts image o p omit a b e in
       ap₂ intakeOf (length-again o p omit a b h) (words-again o p omit a b h) ∙ intake-again o p omit a b h
 
   -- A FUNCTION REDIRECTED TO ITSELF: no byte changes
-  pub itself : (o : ℕ) (omit : List ℕ) (a b : ℕ) → redirectImage image o o omit .0 ≡ both a b → redirectImage image o o omit .1 ≡ image
+  pub itself : (o : ℕ) (omit : List ℕ) (a b : ℕ) → redirectImage image o o omit .0 ≡ done (a, b) → redirectImage image o o omit .1 ≡ image
   itself o omit a b e =
       let h = accepts image o o omit a b e in
       h .image-is ∙ ap (λ m. bytesOf (write m)) (redirected-itself (h .holds) o omit a b (redirect (h .holds) a b omit) (well o o omit a b h) (h .answer)) ∙ whole-bytes h

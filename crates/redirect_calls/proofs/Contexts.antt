@@ -1,4 +1,4 @@
--- What stands around a function, and around the section of entry points, in the cells of a module: cells before and cells behind, which are the same for every function of the same length in its place. So to replace a function is to replace its cells where they stand. Assumes nothing.
+-- What surrounds a function, and the section of entry points, in the cells of a module: cells before and cells after, which are the same for every function of the same length in its place. So to replace a function is to replace its cells where they are.
 use mathlib.Core.Path.{_≡_, refl, sym, ap, ap₂, _∙_}
 use mathlib.Core.List.{List, [], _∷_, _++_, map, append-assoc}
 use Prim.Native.Nat.{ℕ, zero, suc, _+_, _<_}
@@ -27,7 +27,7 @@ bodies-set [] k s h = absurd (omega arith)
 bodies-set (x ∷ ss) zero s h = refl
 bodies-set (x ∷ ss) (suc k) s h = ap (x .1 ++_) (bodies-set ss k s (omega arith)) ∙ sym (append-assoc (x .1) (bodies (take k ss)) (s .1 ++ bodies (drop (suc k) ss)))
 
--- offsets and the header's pairs tell lengths only
+-- offsets and the header's pairs depend on lengths only
 places-set : (rs : List Cells) (k at : ℕ) (r : Cells) → length r ≡ length (getD rs k []) → places at (set rs k r) ≡ places at rs
 unfolding places
 places-set [] k at r e = refl
@@ -74,7 +74,7 @@ unfolding headOf
 head-set ss k s h d e = ap₂ (λ n l. (PLACE, 1) ∷ (PLACE, HEADER + n) ∷ l) (length-bodies ss k s e) (pairs-set ss k HEADER s d e)
 
 module _ (m : Module) (k : ℕ) where
-  -- the cells before section k, and those behind it
+  -- the cells before section k, and those after it
   before : Cells
   before = headOf (sections m) ++ bodies (take k (sections m))
 

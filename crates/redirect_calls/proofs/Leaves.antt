@@ -1,4 +1,4 @@
--- Names, lists of names, and one word. Assumes nothing.
+-- Names, lists of names, and one word.
 use mathlib.Core.Path.{_≡_, refl, sym, _∙_}
 use mathlib.Core.Bool.{Bool, true, false, _||_}
 use mathlib.Core.List.{List, [], _∷_}

@@ -1,4 +1,4 @@
--- The flat pass: what is left to rewrite from word i on is the whole. Assumes nothing.
+-- The flat pass: what is left to rewrite from word i on is the whole.
 use mathlib.Core.Path.{_≡_, refl, ap, _∙_}
 use mathlib.Core.List.{List, zipWith}
 use Prim.Native.Nat.{ℕ, suc, _+_, _≤_, _<_}

@@ -1,20 +1,21 @@
--- Where functions stand, and what their words say: starts and ends, names, argument types and result types. Assumes nothing.
+-- Where functions are, and what their words say: starts and ends, names, argument types and result types.
 use mathlib.Core.Path.{_≡_, sym, ap, _∙_}
 use mathlib.Core.Option.{none, some}
 use mathlib.Core.List.{List, []}
 use Prim.Native.Nat.{ℕ, _+_, _-_, _≤_, _<_}
 use native.Mathlib.Omega.{arith}
 use lib.ListN.{length, getD, length-map}
+use Rattle.theory_lists.specs.Lists.{looked-at}
 use Rattle.model.specs.Outcome.{class, word}
 use Rattle.model.specs.Module.{Module, countAt, flatModule}
 use Rattle.model.specs.View.{recordAt, recordEnd}
 use Rattle.model.specs.FunctionView.{argumentsAt, argumentAt, returnsAt, localsAt}
 use Rattle.model.specs.Taped.{Taped}
 use Rattle.model.specs.Redirect.{nameWord, argumentTypes, typeBehind, resultType, nothing, function}
-use Rattle.theory_image.specs.FunctionViews.{part-word, Stands, parts, head-classes, arguments-count, argument-part, argument-type, returns-bound, returns-zero, returns-one, looked-at, taped-length, taped-functions, taped-function}
+use Rattle.theory_image.specs.FunctionViews.{part-word, Stands, parts, head-classes, arguments-count, argument-part, argument-type, returns-bound, returns-zero, returns-one, taped-length, taped-functions, taped-function}
 use Rattle.redirect_calls.proofs.Contexts.{map-at}
 
--- ---- a function of a module that words and tape hold
+-- ---- a function of a module that words and tags hold
 module _ {words tags : List ℕ} {n : ℕ} {m : Module} (t : Taped words tags n m) where
   pub many : countAt 6 words ≡ length (m .functions)
   many = taped-functions t

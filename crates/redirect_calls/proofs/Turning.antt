@@ -1,4 +1,4 @@
--- Changing the words: a part of them rewritten by class is the module with that part carried. Assumes nothing.
+-- Changing the words: a part of them rewritten by class is the module with that part carried.
 use mathlib.Core.Path.{_≡_, refl, sym, ap, ap₂, _∙_}
 use mathlib.Core.Bool.{Bool, true, false}
 use mathlib.Core.List.{List, [], _∷_, _++_, map, zipWith, append-assoc}
@@ -8,6 +8,7 @@ use native.Mathlib.Omega.{arith}
 use lib.ListN.{length, getD, take, drop, set, length-map, length-set, take-append-drop}
 use lib.Seq.{slice, sets, length-sets, set-getD, take-at, drop-at}
 use borrow.Author.Tests.{ne-eqb}
+use Rattle.theory_lists.specs.Lists.{map-append, map-map, map-same}
 use Rattle.model.specs.Outcome.{Cells, class, word}
 use Rattle.model.specs.Table.{CALLEE, FUNCTION}
 use Rattle.model.specs.Tree.{Function, Entry, flat, flatEntry}
@@ -16,7 +17,6 @@ use Rattle.model.specs.View.{recordAt, recordEnd}
 use Rattle.model.specs.Carry.{Keeps, carryCell, carryCells, carryEntry, Each, each-none, each-next, WellFunction, WellEntry, WellFormed}
 use Rattle.model.specs.Taped.{Taped, Tape}
 use Rattle.model.specs.Redirect.{nameWord, redirecting, redirectFn, redirectEntry, stays, redirectFns, withFunctions, withEntries, redirect, nothing, function}
-use Rattle.theory_image.specs.Lists.{map-append, map-map, map-same}
 use Rattle.theory_image.specs.Carries.{carried-classes, carried-words, flat-carry-function, flat-carry-entry, flat-carry-table, carry-well-function, carry-well-entry}
 use Rattle.theory_image.specs.Sections.{slice-middle}
 use Rattle.theory_image.specs.Views.{length-write, view-length, view-next, view-within}

@@ -1,4 +1,4 @@
--- What the pass does to words, in terms of the module that words and tape hold.
+-- What the pass does to words, in terms of the module that words and tags hold.
 use mathlib.Core.Path.{_≡_}
 use mathlib.Core.Bool.{true, false}
 use mathlib.Core.List.{List}
@@ -9,7 +9,7 @@ use Rattle.model.specs.Module.{Module}
 use Rattle.model.specs.Taped.{Taped}
 use Rattle.model.specs.Redirect.{nameWord, redirectFn, stays, redirectFns, withFunctions, redirect, function}
 
--- words that held m hold f m, by the same tape, and the words behind them stay
+-- words that held m hold f m, with the same tags, and the words after them stay
 pub record Turns (words₁ words tags : List ℕ) (n : ℕ) (f : Module → Module) : Type 0 where
   pub holds : (m : Module) → Taped words tags n m → Taped words₁ tags n (f m)
   pub rest : drop n words₁ ≡ drop n words

@@ -1,5 +1,5 @@
-// The numbers of Calls and CallResults that name the original name the replacement: one pass over the words and the tape of the functions and the entry
-// points, which leaves the replacement and the omitted functions as they are.
+// Replaces the original by the replacement in Calls and CallResults: one pass over the words and the tags of the functions and the entry points, which leaves
+// the replacement and the omitted functions as they are.
 use base_classes::CALLEE;
 use base_classes::FUNCTION;
 use base_views::ENTRIES;
@@ -9,6 +9,8 @@ use base_views::count;
 use base_views::offset;
 use base_views::record_at;
 use base_views::record_end;
+use base_words::Tags;
+use base_words::Words;
 use base_words::wide;
 ghost use mathlib.Core.Path.{_≡_};
 ghost use mathlib.Core.List.{zipWith};
@@ -66,8 +68,8 @@ fn redirect_word(s: u8, w: u32, original: u32, replacement: u32) -> u32
 
 // All words from `at` to `end`.
 fn redirect_fn(
-    words: &mut [u32; 16384],
-    tags: &[u8; 16384],
+    words: &mut Words,
+    tags: &Tags,
     at: usize,
     end: usize,
     original: u32,
@@ -96,8 +98,8 @@ fn stays(replacement: u32, omit: &[u32], j: usize, w: u32) -> bool
 
 // Table function j.
 fn redirect_one(
-    words: &mut [u32; 16384],
-    tags: &[u8; 16384],
+    words: &mut Words,
+    tags: &Tags,
     n: usize,
     j: usize,
     original: u32,
@@ -117,8 +119,8 @@ fn redirect_one(
 
 // Table functions.
 fn redirect_functions(
-    words: &mut [u32; 16384],
-    tags: &[u8; 16384],
+    words: &mut Words,
+    tags: &Tags,
     n: usize,
     original: u32,
     replacement: u32,
@@ -138,8 +140,8 @@ fn redirect_functions(
 
 // Table functions, and then the section of entry points as a whole: no other of its words has the class of a Call's or a CallResult's function.
 pub fn redirect_all(
-    words: &mut [u32; 16384],
-    tags: &[u8; 16384],
+    words: &mut Words,
+    tags: &Tags,
     n: usize,
     original: u32,
     replacement: u32,

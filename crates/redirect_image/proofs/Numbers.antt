@@ -1,4 +1,4 @@
--- Digits, one by one: what is left to read from where the loop stands gives the whole. Assumes nothing.
+-- Digits, one by one: at every turn, what is left to read gives the whole number.
 use mathlib.Core.Path.{_≡_, refl}
 use mathlib.Core.List.{List, [], _∷_}
 use Prim.Native.Nat.{ℕ, suc, _+_, _*_, _-_, _≤_, _<_}

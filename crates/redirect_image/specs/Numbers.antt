@@ -21,14 +21,15 @@ unfoldable pub read : List ℕ → ℕ
 read [] = WRONG
 read (d ∷ ds) = steps (d ∷ ds) 0
 
--- "0", "4294967295", "4294967296", "1x", ""
+-- "0", "4294967295", "4294967296", "1x", "1:" (the colon comes after 9), ""
 pub record Reads : Type 0 where
   pub zero-is : read (48 ∷ []) ≡ 0
   pub most : read (52 ∷ 50 ∷ 57 ∷ 52 ∷ 57 ∷ 54 ∷ 55 ∷ 50 ∷ 57 ∷ 53 ∷ []) ≡ 4294967295
   pub more : read (52 ∷ 50 ∷ 57 ∷ 52 ∷ 57 ∷ 54 ∷ 55 ∷ 50 ∷ 57 ∷ 54 ∷ []) ≡ WRONG
   pub letter : read (49 ∷ 120 ∷ []) ≡ WRONG
+  pub colon : read (49 ∷ 58 ∷ []) ≡ WRONG
   pub nothing : read [] ≡ WRONG
 
 pub examples : Reads
 unfolding stepped steps read
-examples = record { zero-is = refl; most = refl; more = refl; letter = refl; nothing = refl }
+examples = record { zero-is = refl; most = refl; more = refl; letter = refl; colon = refl; nothing = refl }

@@ -21,7 +21,7 @@ fn names() -> [u32; 512]
     [0; 512]
 }
 
-// A number and one more digit; 4,294,967,296 stands for what is no number of 32 bits.
+// A number and one more digit; 4,294,967,296 means that it is no number of 32 bits.
 fn step(x: u64, digit: u8) -> u64
     requires { ⌜ x ≤ WRONG ⌝ }
     ensures { λ r. ⌜ (r ≡ stepped x digit) × (r ≤ WRONG) ⌝ }

@@ -1,4 +1,4 @@
--- What redirecting leaves: well-formed modules, cells that differ in Calls and CallResults alone, and nothing at all where the original replaces itself. Assumes nothing.
+-- What redirecting leaves: well-formed modules, cells that differ in Calls and CallResults alone, and nothing at all where the original replaces itself.
 use mathlib.Core.Path.{_≡_, refl, sym, ap, ap₂, _∙_}
 use mathlib.Core.Bool.{Bool, true, false, _||_}
 use mathlib.Core.List.{List, [], _∷_, _++_, map}

@@ -1,4 +1,4 @@
--- Finding a function by its name, and comparing two functions. Assumes nothing.
+-- Finding a function by its name, and comparing two functions.
 use mathlib.Core.Path.{_≡_, refl, sym, ap, ap₂, _∙_}
 use mathlib.Core.Bool.{Bool, true, false, _&&_}
 use mathlib.Core.Option.{none, some}
@@ -19,7 +19,8 @@ use Rattle.model.specs.FunctionView.{argumentsAt, argumentAt, returnsAt, expres
 use Rattle.model.specs.Taped.{Taped, Tape}
 use Rattle.model.specs.Redirect.{nameWord, find, argumentTypes, agree, resultType, same, nothing, function, compared}
 use Rattle.base_views.proofs.Places.{standing-function, standing-inside}
-use Rattle.redirect_words.specs.Passes.{foundAt, shown, told, Finds, Agrees, Returns, Compares}
+use Rattle.model.specs.Image.{redirectEnded}
+use Rattle.redirect_words.specs.Passes.{foundAt, shown, Finds, Agrees, Returns, Compares}
 use Rattle.redirect_words.specs.declared.Found.the-variants.{At, Nothing}
 use Rattle.redirect_words.specs.declared.Redirected.the-variants.{Done, ArgumentsDiffer, ResultsDiffer}
 use Rattle.redirect_calls.proofs.Places.{many, few, start-in, name-is, types-many, type-in, type-is, result-type-in, result-few, result-none, result-some}
@@ -213,7 +214,7 @@ module _ (words tags : List ℕ) (n a b i k : ℕ) (i-is : i ≡ a) (k-is : k �
   args m t = g .same m t ∙ ap₂ (λ x y. agree (argumentTypes (function m x)) (argumentTypes (function m y))) i-is k-is
 
   pub differ-arguments : r ≡ false → Compares ArgumentsDiffer words tags n a b
-  unfolding compared shown told
+  unfolding compared shown redirectEnded
   differ-arguments e = record { same = λ m t omit. rw (compared, sym (args m t) ∙ e) }
 
   module _ (e : r ≡ true) (s : Bool) (d : Returns s words tags n i k) where
@@ -221,9 +222,9 @@ module _ (words tags : List ℕ) (n a b i k : ℕ) (i-is : i ≡ a) (k-is : k �
     results m t = d .same m t ∙ ap₂ (λ x y. same (resultType (function m x)) (resultType (function m y))) i-is k-is
 
     pub differ-results : s ≡ false → Compares ResultsDiffer words tags n a b
-    unfolding compared shown told
+    unfolding compared shown redirectEnded
     differ-results z = record { same = λ m t omit. rw (compared, sym (args m t) ∙ e, sym (results m t) ∙ z) }
 
     pub differ-none : s ≡ true → (f h : FunctionHandle) → f .0 ≡ a → h .0 ≡ b → Compares (Done f h) words tags n a b
-    unfolding compared shown told
+    unfolding compared shown redirectEnded
     differ-none z f h u v = record { same = λ m t omit. rw (compared, sym (args m t) ∙ e, sym (results m t) ∙ z, u, v) }

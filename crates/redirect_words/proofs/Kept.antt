@@ -1,4 +1,4 @@
--- Tests 4 and 5 and what initialisers reach: what looks at neither Calls nor CallResults stays the same. Assumes nothing.
+-- Tests 4 and 5 and what initialisers reach: what looks at neither Calls nor CallResults stays the same.
 use mathlib.Core.Path.{_≡_, refl, ap, ap₂, _∙_}
 use mathlib.Core.Bool.{Bool, true, false, _&&_, not}
 use mathlib.Core.Option.{some}

@@ -1,4 +1,4 @@
--- Lists of names. Assumes nothing.
+-- Lists of names.
 use mathlib.Core.Path.{_≡_, refl}
 use mathlib.Core.Bool.{Bool, true, false, _&&_}
 use mathlib.Core.List.{List, _∷_}

@@ -1,4 +1,4 @@
--- Test 3: the replacement is a table function, so every number stays in range; and no Emit's start stands in front of a Call's or a CallResult's function. Assumes nothing.
+-- Test 3: the replacement is a table function, so every number stays in range; and no Emit's start is directly followed by a Call's or a CallResult's function.
 use mathlib.Core.Path.{_≡_, refl, sym, ap, ap₂, _∙_}
 use mathlib.Core.Bool.{Bool, true, false, _&&_, _||_, not}
 use mathlib.Core.Option.{some}
@@ -8,6 +8,7 @@ use native.Mathlib.Omega.{arith}
 use lib.Dec.{eqb, ltb, leb}
 use lib.ListN.{length, getElem?, length-map}
 use borrow.Author.Tests.{eqb-true, lt-ltb}
+use Rattle.theory_lists.specs.Booleans.{and-true, and-split}
 use Rattle.model.specs.Outcome.{Cell, Cells, class}
 use Rattle.model.specs.Table.{Row, EXPR, FROM, TO, PAD, VALUE, ATOMIC, RETURNS, Shape, sEmit, sBlock, sIf, sSwitch, sLoop, sBreak, sContinue, sReturn, sKill, sCall, sEffect, values, atomics, results, statements, functionHead, entryHead, counted, variants, brings, more}
 use Rattle.model.specs.Tree.{Stmt, Form, Block, Cases, Case, _then_, _also_, Range, Function, Entry, flatS, flatF, flatB, flatK, flatC, flatX, flatAll, flatList, flatBlock, flat, flatEntry}
@@ -16,7 +17,6 @@ use Rattle.model.specs.Carry.{carryCell, carryCells, carryFunction, carryEntry,
 use Rattle.model.specs.Initial.{initialised}
 use Rattle.model.specs.Numbers.{Bounds, bound, caps, below, within, rising, ordered, every, outside, inside, sound, soundFunction, soundEntry, constantOnly, numbered}
 use Rattle.model.specs.Redirect.{nameWord, redirecting, redirectFn, redirectEntry, stays, redirectFns, withFunctions, withEntries, redirect}
-use Rattle.theory_image.specs.Lists.{and-true, and-split}
 use Rattle.theory_image.specs.Plain.{plain-more}
 use Rattle.theory_image.specs.Carries.{flat-carry-function, flat-carry-entry}
 use Rattle.theory_image.specs.FunctionViews.{Field, field-not, Expression, expression, each-expression, variant-brings}
@@ -38,7 +38,7 @@ module _ (a b : ℕ) (n : Bounds) (low : b < n .functions) where
   within-kept [] h = refl
   within-kept ((s, w) ∷ cs) h = let p = and-split (below (bound n s) w) (within n cs) h in and-true (word-within s w (p .0)) (within-kept cs (p .1))
 
--- ---- cells in which every Emit's start stands in front of its end
+-- ---- cells in which every Emit's start is directly followed by its end
 data Tidy : Cells → Type 0 where
   tidy-none : Tidy []
   tidy-emit : {x y : ℕ} {cs : Cells} → Tidy cs → Tidy ((FROM, x) ∷ (TO, y) ∷ cs)

@@ -1,4 +1,4 @@
--- Test 6: a redirected body, as scope and walks see it, is the body with the functions of its Calls changed, and every rule of the Scope paragraph holds of it again: a Call's result is a CallResult of the same function, since both change together. Assumes nothing.
+-- Test 6: a redirected body, as scope and walks see it, is the body with the functions of its Calls changed, and every rule of the Scope paragraph holds of it again: a Call's result is a CallResult of the same function, since both change together.
 use mathlib.Core.Path.{_≡_, refl, ap, ap₂, _∙_}
 use mathlib.Core.Bool.{Bool, true, false, _&&_, _||_}
 use mathlib.Core.Option.{Option, none, some}
@@ -7,6 +7,7 @@ use Prim.Native.Nat.{ℕ, suc, _-_}
 use lib.Dec.{eqb}
 use lib.ListN.{getD}
 use borrow.Author.Tests.{eqb-true, eq-eqb}
+use Rattle.theory_lists.specs.Booleans.{and-true, and-split}
 use Rattle.model.specs.Outcome.{Cells}
 use Rattle.model.specs.Table.{CALLEE, FUNCTION, EXPR, OPT-EXPR, OPT-RESULT}
 use Rattle.model.specs.Tree.{Stmt, stmt, Form, emit, block, branch, switch, loop, break, continue, return, kill, call, effect, Block, end, _then_, Case, case, Cases, nomore, _also_, Range, Function, Entry, optOf}
@@ -16,7 +17,7 @@ use Rattle.model.specs.Operands.{opsOf, resultOf, functionOf, emittedKind, ops,
 use Rattle.model.specs.Initial.{marked, initials}
 use Rattle.model.specs.Scope.{XStmt, XForm, XBlock, XCase, XCases, expandS, expandF, expand, expandK, expandC, Place, inBody, inSwitch, inLoop, inContinuing, shapeS, shapeF, shapeB, shapeK, shapeC, emitted, isOf, callResult, effectResult, kindsS, kindsF, kindsB, kindsK, kindsC, evalsOpt, evalsS, evalsF, evalsB, evalsK, evalsC, distinct, addOpt, addF, addS, topB, holdsS, holdsF, holdsB, holdsK, holdsC, contB, vis, allVis, optVis, okE, okS, okF, okB, okK, okC, allOf, seen, scopedAs, scoped, allScoped, entriesScoped, inScope}
 use Rattle.model.specs.Redirect.{nameWord, redirecting, redirectFn, redirectEntry, stays, redirectFns, withFunctions, withEntries, redirect}
-use Rattle.theory_image.specs.Lists.{opt-of, and-true, and-split}
+use Rattle.theory_image.specs.Words.{opt-of}
 use Rattle.redirect_words.proofs.Kept.{turn, pick, ops-kept, result-kept, kindAt-kept, opsAt-kept, functionAt-is, standing-kept, initials-kept}
 
 module _ (a b : ℕ) where

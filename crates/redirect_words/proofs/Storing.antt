@@ -1,4 +1,4 @@
--- The bytes of the image behind its words. Assumes nothing.
+-- The bytes of the image after its words.
 use mathlib.Core.Path.{_≡_, refl, sym, ap, _∙_}
 use mathlib.Core.List.{List, [], append-nil}
 use Prim.Native.Nat.{ℕ, _*_, _≤_}
@@ -11,7 +11,9 @@ use Rattle.model.specs.Redirect.{redirect, Answer, redirected, outside, noOrigi
 use Rattle.theory_image.specs.FunctionViews.{taped-write}
 use Rattle.base_words.specs.Words.{bytesOf}
 use Rattle.base_words.proofs.Laws.{length-bytesOf}
-use Rattle.redirect_words.specs.Passes.{both, refused, told, Redirects, imageAfter, Stores}
+use Rattle.model.specs.Refusals.{done, refused}
+use Rattle.model.specs.Image.{redirectEnded, redirectAfter}
+use Rattle.redirect_words.specs.Passes.{Redirects, Stores}
 use Rattle.redirect_words.specs.declared.Redirected.{Redirected}
 use Rattle.redirect_calls.proofs.Turning.{sets-middle}
 use Rattle.redirect_words.proofs.Ending.{Redirecting, answered, Refused, refuses-by, Accepted, accepts}
@@ -19,9 +21,9 @@ use Rattle.redirect_words.proofs.Theorems.{as-long}
 
 -- what the answer leaves is as long as what was there
 after-as-long : (m : Module) (omit : List ℕ) (x : Answer) → Redirecting m 0 0 omit x → length (write (after m x)) ≡ length (write m)
-unfolding after told
+unfolding after redirectEnded
 after-as-long m omit (redirected i k m′) r =
-    let e : redirected i k m′ ≡ redirected i k (redirect m i k omit) = r .done i k refl in
+    let e : redirected i k m′ ≡ redirected i k (redirect m i k omit) = r .done-is i k refl in
     let q : m′ ≡ redirect m i k omit = cc in
     ap (λ y. length (write y)) q ∙ as-long m i k omit
 after-as-long m omit outside r = refl
@@ -34,8 +36,8 @@ sets-all : (vs l : List ℕ) → length vs ≡ length l → sets l 0 vs ≡ vs
 sets-all vs l e = ap (λ x. sets x 0 vs) (sym (append-nil l)) ∙ sets-middle [] vs l [] e ∙ append-nil vs
 
 -- ---- the image that an answer leaves
-pub image-stays : (image : List ℕ) (x : Answer) (k : ℕ) → told x ≡ refused k → imageAfter image x ≡ image
-unfolding imageAfter told
+pub image-stays : (image : List ℕ) (x : Answer) (k : ℕ) → redirectEnded x ≡ refused k → redirectAfter image x ≡ image
+unfolding redirectAfter redirectEnded
 image-stays image (redirected a b m) k e = let z : _≡_ {A = ℕ} 0 1 = cc in absurd (omega arith)
 image-stays image outside k e = refl
 image-stays image noOriginal k e = refl
@@ -43,8 +45,8 @@ image-stays image noReplacement k e = refl
 image-stays image argumentsDiffer k e = refl
 image-stays image resultsDiffer k e = refl
 
-image-turns : (image : List ℕ) (m : Module) (x : Answer) (a b : ℕ) → told x ≡ both a b → imageAfter image x ≡ bytesOf (write (after m x))
-unfolding imageAfter after told
+image-turns : (image : List ℕ) (m : Module) (x : Answer) (a b : ℕ) → redirectEnded x ≡ done (a, b) → redirectAfter image x ≡ bytesOf (write (after m x))
+unfolding redirectAfter after redirectEnded
 image-turns image m (redirected i k m′) a b e = refl
 image-turns image m outside a b e = let z : _≡_ {A = ℕ} 0 1 = cc in absurd (omega arith)
 image-turns image m noOriginal a b e = let z : _≡_ {A = ℕ} 0 1 = cc in absurd (omega arith)

@@ -1,4 +1,4 @@
--- The tests in sequence. Assumes nothing.
+-- The tests in sequence.
 use mathlib.Core.Path.{_≡_, refl, sym, ap, _∙_}
 use mathlib.Core.Bool.{Bool, true, false}
 use mathlib.Core.List.{List, _∷_}
@@ -10,7 +10,8 @@ use Rattle.model.specs.Taped.{Taped, Tape}
 use Rattle.model.specs.Redirect.{allBelow, withReplacement, withOriginal, redirectFunction}
 use Rattle.theory_image.specs.Views.{sees-names}
 use Rattle.theory_image.specs.FunctionViews.{taped-count}
-use Rattle.redirect_words.specs.Passes.{foundAt, shown, told, Finds, Compares, Tests}
+use Rattle.model.specs.Image.{redirectEnded}
+use Rattle.redirect_words.specs.Passes.{foundAt, shown, Finds, Compares, Tests}
 use Rattle.redirect_words.specs.declared.Found.{Found}
 use Rattle.redirect_words.specs.declared.Found.the-variants.{At, Nothing}
 use Rattle.redirect_words.specs.declared.Redirected.{Redirected}
@@ -36,17 +37,17 @@ module _ (words tags : List ℕ) (n o p : ℕ) (omit : List ℕ) (r : Bool) (is 
   below m t = sym (is ∙ ap (allBelow (o ∷ p ∷ omit)) (names-many t))
 
   pub test-outside : r ≡ false → Tests Outside words tags n o p omit
-  unfolding redirectFunction shown told
+  unfolding redirectFunction shown redirectEnded
   test-outside e = record { same = λ m t. rw (redirectFunction, below m t ∙ e) }
 
   module _ (e : r ≡ true) (f : Found) (s : Finds f words tags n o) where
     pub test-original : f ≡ Nothing → Tests NoOriginal words tags n o p omit
-    unfolding redirectFunction withOriginal shown told foundAt
+    unfolding redirectFunction withOriginal shown redirectEnded foundAt
     test-original z = record { same = λ m t. rw (redirectFunction, below m t ∙ e, sym (s .same m t) ∙ ap foundAt z) }
 
     module _ (a : FunctionHandle) (z : f ≡ At a) (g : Found) (u : Finds g words tags n p) where
       pub test-replacement : g ≡ Nothing → Tests NoReplacement words tags n o p omit
-      unfolding redirectFunction withOriginal withReplacement shown told foundAt
+      unfolding redirectFunction withOriginal withReplacement shown redirectEnded foundAt
       test-replacement y = record { same = λ m t. rw (redirectFunction, below m t ∙ e, sym (s .same m t) ∙ ap foundAt z, withReplacement, sym (u .same m t) ∙ ap foundAt y) }
 
       pub test-compared : (b : FunctionHandle) → g ≡ At b → (x : Redirected) → Compares x words tags n (a .0) (b .0) → Tests x words tags n o p omit

@@ -1,4 +1,4 @@
--- The theorems on redirecting, each with its statement in full. They are about the definition alone; that the code is the definition is the contract of `redirect_words`. Assumes nothing.
+-- The theorems on redirecting, each with its statement in full. They are about the definition alone; that the code is the definition is the contract of `redirect_words`.
 use mathlib.Core.Path.{_≡_, refl, sym, ap, ap₂, _∙_}
 use mathlib.Core.Bool.{Bool, true, false, _&&_}
 use mathlib.Core.Option.{Option, none, some}
@@ -18,7 +18,7 @@ use Rattle.theory_image.specs.Carries.{flat-carry-function}
 use Rattle.theory_image.specs.Modules.{write-read}
 use Rattle.theory_image.specs.Views.{length-write, view-edition, view-total}
 use Rattle.redirect_words.specs.Claims.{Differs}
-use Rattle.redirect_words.specs.Passes.{told}
+use Rattle.model.specs.Image.{redirectEnded}
 use Rattle.redirect_calls.specs.Turns.{turned}
 use Rattle.redirect_calls.proofs.Turning.{redirecting-keeps}
 use Rattle.redirect_words.proofs.Finding.{find-in}
@@ -112,10 +112,10 @@ accept-found m o p omit (some i) (some k) a b m′ u v e =
     (ap some (r .0), ap some (r .1))
 
 pub accepted : (m : Module) (o p : ℕ) (omit : List ℕ) (a b : ℕ) (m′ : Module) → redirectFunction m o p omit ≡ redirected a b m′ → Accepted m o p omit a b m′
-unfolding redirectFunction told
+unfolding redirectFunction redirectEnded
 accepted m o p omit a b m′ e =
     let r = parts (allBelow (o ∷ p ∷ omit) (length (m .names))) e in
-    let q : redirectFunction m o p omit ≡ redirected a b (redirect m a b omit) = answered m o p omit .done a b (ap told e) in
+    let q : redirectFunction m o p omit ≡ redirected a b (redirect m a b omit) = answered m o p omit .done-is a b (ap redirectEnded e) in
     let s : redirected a b m′ ≡ redirected a b (redirect m a b omit) = sym e ∙ q in
     record { original = r .0; replacement = r .1; module-is = cc }
   where

@@ -1,6 +1,6 @@
-// Redirecting over the words and the tape of an image that passed intake: redirect_function of redirect.rs. Functions are found by name number,
-// their argument and result types are compared, and the numbers of Calls and CallResults that name the original name the replacement.
-// The tests read and change nothing; the pass after them goes once over the functions and the entry points.
+// Redirecting over the words and the tags of an image that passed intake: redirect_function of redirect.rs. Functions are found by name number, their argument
+// and result types are compared, and the original is replaced by the replacement in Calls and CallResults. The tests read and change nothing; the pass after
+// them goes once over the functions and the entry points.
 use base_handles::FunctionHandle;
 use base_views::FUNCTIONS;
 use base_views::NAMES;
@@ -8,6 +8,8 @@ use base_views::argument_at;
 use base_views::arguments;
 use base_views::count;
 use base_views::record_at;
+use base_words::Tags;
+use base_words::Words;
 use base_words::store;
 use base_words::wide;
 use redirect_calls::is_named;
@@ -40,7 +42,7 @@ pub enum Redirected {
 }
 
 // The table function with a name.
-pub fn find(words: &[u32; 16384], tags: &[u8; 16384], n: usize, name: u32) -> Found
+pub fn find(words: &Words, tags: &Tags, n: usize, name: u32) -> Found
     requires { ⌜ Tape (now words) (now tags) n ⌝ }
     ensures { λ r. ⌜ Finds r (now (words .entry)) (now (tags .entry)) n name ⌝ }
 {
@@ -86,7 +88,7 @@ fn inside(original: u32, replacement: u32, omit: &[u32], names: u32) -> bool
 }
 
 // The type of argument i of the function that starts at s.
-fn type_at(words: &[u32; 16384], s: usize, i: usize) -> u32
+fn type_at(words: &Words, s: usize, i: usize) -> u32
     requires { ⌜ argumentAt s i + 1 < 16384 ⌝ }
     ensures { λ r. ⌜ r ≡ getD (now (words .entry)) (argumentAt s i + 1) 0 ⌝ }
 {
@@ -94,7 +96,7 @@ fn type_at(words: &[u32; 16384], s: usize, i: usize) -> u32
 }
 
 // Whether the argument types of table functions i and k are equal, up to the shorter list.
-fn arguments_agree(words: &[u32; 16384], tags: &[u8; 16384], n: usize, i: usize, k: usize) -> bool
+fn arguments_agree(words: &Words, tags: &Tags, n: usize, i: usize, k: usize) -> bool
     requires { ⌜ Tape (now words) (now tags) n ⌝ }
     requires { ⌜ (i < countAt 6 (now words)) × (k < countAt 6 (now words)) ⌝ }
     ensures { λ r. ⌜ Agrees r (now (words .entry)) (now (tags .entry)) n i k ⌝ }
@@ -116,8 +118,8 @@ fn arguments_agree(words: &[u32; 16384], tags: &[u8; 16384], n: usize, i: usize,
     true
 }
 
-// Where the result of table function i stands.
-fn returns_at(words: &[u32; 16384], tags: &[u8; 16384], n: usize, i: usize) -> usize
+// Where the result of table function i is.
+fn returns_at(words: &Words, tags: &Tags, n: usize, i: usize) -> usize
     requires { ⌜ Tape (now words) (now tags) n ⌝ }
     requires { ⌜ i < countAt 6 (now words) ⌝ }
     ensures { λ r. ⌜ (r ≡ returnsAt (recordAt 6 i (now (words .entry))) (now (words .entry))) × (r < 16384) ⌝ }
@@ -127,7 +129,7 @@ fn returns_at(words: &[u32; 16384], tags: &[u8; 16384], n: usize, i: usize) -> u
 }
 
 // Whether two functions have no result, or results of one type.
-fn results_agree(words: &[u32; 16384], tags: &[u8; 16384], n: usize, i: usize, k: usize) -> bool
+fn results_agree(words: &Words, tags: &Tags, n: usize, i: usize, k: usize) -> bool
     requires { ⌜ Tape (now words) (now tags) n ⌝ }
     requires { ⌜ (i < countAt 6 (now words)) × (k < countAt 6 (now words)) ⌝ }
     ensures { λ r. ⌜ Returns r (now (words .entry)) (now (tags .entry)) n i k ⌝ }
@@ -146,8 +148,8 @@ fn results_agree(words: &[u32; 16384], tags: &[u8; 16384], n: usize, i: usize, k
 
 // Compares argument types, and then result types.
 pub fn compare(
-    words: &[u32; 16384],
-    tags: &[u8; 16384],
+    words: &Words,
+    tags: &Tags,
     n: usize,
     original: FunctionHandle,
     replacement: FunctionHandle,
@@ -169,8 +171,8 @@ pub fn compare(
 
 // The tests in sequence: 13, 8, 9, 10, 11.
 fn test(
-    words: &[u32; 16384],
-    tags: &[u8; 16384],
+    words: &Words,
+    tags: &Tags,
     n: usize,
     original: u32,
     replacement: u32,
@@ -194,8 +196,8 @@ fn test(
 // Calls of the function named `original` become calls of the function named `replacement`, but for those in the replacement and in the functions
 // whose names are omitted; entry points always change.
 pub fn redirect_words(
-    words: &mut [u32; 16384],
-    tags: &[u8; 16384],
+    words: &mut Words,
+    tags: &Tags,
     n: usize,
     original: u32,
     replacement: u32,
@@ -215,8 +217,8 @@ pub fn redirect_words(
 // The same of an image whose words are loaded and laid out: where it is accepted, the words go back to its bytes.
 pub fn redirect_loaded(
     image: &mut [u8],
-    words: &mut [u32; 16384],
-    tags: &[u8; 16384],
+    words: &mut Words,
+    tags: &Tags,
     n: usize,
     original: u32,
     replacement: u32,

@@ -5,7 +5,7 @@ use libc::STDOUT_FILENO;
 ghost use mathlib.Core.Path.{_≡_};
 ghost use lib.ListN.{length};
 
-// What stands before an image: the answer that is wanted, and the image's length.
+// What precedes an image: the expected answer, and the image's length.
 enum Found {
     Vector(u32, usize),
     End,

@@ -1,4 +1,4 @@
--- A part of the sources or of the output, cut at the end as the code cuts it; and a finish into such a part of the output. Assumes nothing.
+-- A part of the sources or of the output, cut at the end as the code cuts it; and a finish into such a part of the output.
 use mathlib.Core.Path.{_≡_, refl, sym, ap, _∙_}
 use mathlib.Core.Bool.{Bool, true, false}
 use mathlib.Core.List.{List, [], _∷_, _++_}
@@ -15,10 +15,10 @@ use Rattle.base_words.specs.Words.{bytesOf}
 use Rattle.base_words.proofs.Laws.{length-bytesOf}
 use Rattle.model.specs.Module.{Module, write}
 use Rattle.model.specs.Finish.{finished, tooLarge}
-use Rattle.model.specs.Session.{Source, Session, Answer, answered, refused, new, needing, ringing, calleesOf, withEntries, ending, finish, finishWithEntryPoints}
+use Rattle.model.specs.Session.{Source, Session, Answer, answered, refused, new, withSource, meetsRing, calleesOf, withEntries, writeIfFits, finish, finishWithEntryPoints}
 use Rattle.model.specs.Steps.{Said, operations, writes, perform, part}
 use Rattle.derive_finish.specs.Told.{told}
-use Rattle.session_operations.specs.Live.{Finishes}
+use Rattle.session_operations.specs.Operations.{Finishes}
 use Rattle.session.specs.Sessions.{saying, Stepped, Wrote}
 
 -- ---- what is cut
@@ -63,8 +63,8 @@ unfolding EndsSo
 by-room room ws true e = omega arith
 by-room room ws false e = (ltb-false room (4 * length ws) e, refl)
 
-ending-so : (m : Module) (room : ℕ) → EndsSo room (ending m room)
-unfolding EndsSo ending
+ending-so : (m : Module) (room : ℕ) → EndsSo room (writeIfFits m room)
+unfolding EndsSo writeIfFits
 ending-so m room = go (tooLarge m)
   where
     go : (t : Bool) → EndsSo room (elim t [ true ↦ refused 21 | false ↦ elim (ltb room (4 * length (write m))) [ true ↦ refused 7 | false ↦ answered (write m) new ] ])
@@ -76,16 +76,16 @@ unfolding finish
 finish-so room s = ending-so (finished (s .state) []) room
 
 entries-so : (room : ℕ) (s : Session) → EndsSo room (finishWithEntryPoints room s)
-unfolding EndsSo finishWithEntryPoints needing
+unfolding EndsSo finishWithEntryPoints withSource
 entries-so room s = go (s .source)
   where
-    by-ring : (x : Source) (t : Bool) → EndsSo room (elim t [ true ↦ refused 22 | false ↦ ending (withEntries x (s .state)) room ])
+    by-ring : (x : Source) (t : Bool) → EndsSo room (elim t [ true ↦ refused 22 | false ↦ writeIfFits (withEntries x (s .state)) room ])
     by-ring x true = omega arith
     by-ring x false = ending-so (withEntries x (s .state)) room
 
-    go : (y : Option Source) → EndsSo room (needing y λ x. elim (ringing (calleesOf (x .image .entries)) (x .image) (s .state)) [ true ↦ refused 22 | false ↦ ending (withEntries x (s .state)) room ])
+    go : (y : Option Source) → EndsSo room (withSource y λ x. elim (meetsRing (calleesOf (x .image .entries)) (x .image) (s .state)) [ true ↦ refused 22 | false ↦ writeIfFits (withEntries x (s .state)) room ])
     go none = omega arith
-    go (some x) = by-ring x (ringing (calleesOf (x .image .entries)) (x .image) (s .state))
+    go (some x) = by-ring x (meetsRing (calleesOf (x .image .entries)) (x .image) (s .state))
 
 -- ---- the part of l of b bytes from a on is the k from f on
 module _ (a b : ℕ) (l : List ℕ) (f d k : ℕ) (hf : f ≡ min a (length l)) (hd : d ≡ min b (length l - f)) (hk : k ≡ d) where

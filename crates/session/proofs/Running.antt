@@ -1,4 +1,4 @@
--- The steps in sequence: what is left from here is the whole. Assumes nothing.
+-- The steps in sequence: what is left from here is the whole.
 use mathlib.Core.Path.{_≡_, refl, sym, ap, _∙_, subst}
 use mathlib.Core.List.{List, [], _∷_}
 use Prim.Native.Nat.{ℕ, zero, suc, _+_, _-_, _*_, _%_, _≤_, _<_, min}
@@ -8,7 +8,9 @@ use lib.Seq.{sets, drop-cons, length-sets}
 use Rattle.base_words.specs.Words.{bytesOf}
 use Rattle.model.specs.Session.{Session, new}
 use Rattle.model.specs.Steps.{Said, Operation, operations, sets-source, clears-source, maps-span, types, renames, constants, overrides, globals, expressions, functions, new-functions, handles, required, finishes, finishes-entries, unknown, perform, part, run, answersOf, outputOf, firstRefused, session}
-use Rattle.session.specs.Sessions.{saying, Stepped, orElse, numbered, Sessions}
+use Rattle.model.specs.Image.{wuldgisp-session, SessionEnsures}
+use Rattle.model.specs.Refusals.{packed}
+use Rattle.session.specs.Sessions.{saying, Stepped, orElse, numbered}
 
 -- ---- the first refusal
 pub first-stays : (x y : ℕ) → (x ≡ 0 → ⊥) → x ≡ orElse x y
@@ -20,10 +22,10 @@ pub first-accepted : (x k i : ℕ) → x ≡ 0 → k ≡ 0 → 0 ≡ orElse x (n
 unfolding orElse numbered
 first-accepted x k i e h = rw (e, h)
 
-pub first-refused : (x k i : ℕ) → x ≡ 0 → (k ≡ 0 → ⊥) → k + i % 4294967296 * 4294967296 ≡ orElse x (numbered k i)
+pub first-refused : (x k i : ℕ) → x ≡ 0 → (k ≡ 0 → ⊥) → (r : ℕ) → r ≡ packed k (i % 4294967296) → r ≡ orElse x (numbered k i)
 unfolding orElse numbered
-first-refused x zero i e h = absurd (h refl)
-first-refused x (suc k) i e h = rw (e)
+first-refused x zero i e h r is = absurd (h refl)
+first-refused x (suc k) i e h r is = rw (e) is
 
 first-there : (x y : ℕ) → 0 < x → orElse x y ≡ x
 unfolding orElse
@@ -114,8 +116,8 @@ module _ (sources steps answers₀ output₀ : List ℕ) where
   unfolding orElse session
   left-start s e = rw (e) (record { long = refl; answers-long = refl; result-so = refl; answers-so = refl; output-so = refl })
 
-  pub left-end : (i first : ℕ) (answers output : List ℕ) (s : Session) → length steps < 4 * i + 4 → Left sources steps answers₀ output₀ i first answers output s → Sessions sources steps answers₀ output₀ first answers output
-  unfolding answersOf outputOf firstRefused orElse
+  pub left-end : (i first : ℕ) (answers output : List ℕ) (s : Session) → length steps < 4 * i + 4 → Left sources steps answers₀ output₀ i first answers output s → SessionEnsures sources steps answers₀ output₀ first answers output
+  unfolding wuldgisp-session answersOf outputOf firstRefused orElse
   left-end i first answers output s h L =
       let none = run-short (drop (4 * i) steps) sources output₀ s (let p = length-drop (4 * i) steps in omega arith) in
       record {

@@ -1,4 +1,4 @@
--- What each operation says and leaves is what its step says: an operation's answer as three words, and the part of the output that a finish writes. Assumes nothing.
+-- What each operation answers and leaves is what its step answers and leaves: an operation's answer as three words, and the part of the output that a finish writes.
 use mathlib.Core.Path.{_≡_, refl, sym, ap, _∙_, subst}
 use mathlib.Core.Bool.{Bool, true, false, false≢true}
 use mathlib.Core.List.{List, [], _∷_, _++_}
@@ -10,14 +10,15 @@ use Rattle.base_words.specs.Words.{wordsOf, bytesOf}
 use Rattle.model.specs.Imports.{emptied}
 use Rattle.model.specs.Tables.{Tab}
 use Rattle.model.specs.References.{spanBy}
-use Rattle.model.specs.Session.{Session, Answer, answered, refused, needing, set, clear, mapSpan, importing, renameType, importFunction, mapFunctionHandle, hasRequiredSpecialTypes}
+use Rattle.model.specs.Session.{Session, Answer, answered, refused, withSource, set, clear, mapSpan, importing, renameType, importFunction, mapFunctionHandle, hasRequiredSpecialTypes}
 use Rattle.model.specs.Steps.{Said, operations, unknown, says, perform, part}
 use Rattle.derive_limits.specs.Reached.{Reached, does-reached, Public}
 use Rattle.theory_sessions.specs.Operating.{does, clears}
 use Rattle.derive_state.specs.Refers.{tabOf}
-use Rattle.derive_state.specs.declared.Ends.{Ends}
+use Rattle.derive_state.specs.declared.Sizes.{Sizes}
 use Rattle.function_builder.specs.Stacks.{Stacks}
-use Rattle.session_operations.specs.Live.{sessionOf, Live, answerOf, Does, Spans, Requires}
+use Rattle.derive_session.specs.Valid.{sessionOf, ValidSession}
+use Rattle.session_operations.specs.Operations.{answerOf, OperationEnsures, Spans, Requires}
 use Rattle.session.specs.Sessions.{saying, Stepped, Quiet, Recorded, valueOf}
 
 -- ---- answers as words
@@ -26,7 +27,7 @@ unfolding valueOf
 value-none zero = refl
 value-none (suc k) = refl
 
-says-stepped : {A : Type 0} (op : Session → Answer A) (values : A → ℕ × ℕ) (s : Session) (k : ℕ) (v : A) (s′ : Session) (output : List ℕ) → Does op s k v s′ → Stepped (says s values (op s)) k (valueOf k (values v .0)) (valueOf k (values v .1)) output output s′
+says-stepped : {A : Type 0} (op : Session → Answer A) (values : A → ℕ × ℕ) (s : Session) (k : ℕ) (v : A) (s′ : Session) (output : List ℕ) → OperationEnsures op s k v s′ → Stepped (says s values (op s)) k (valueOf k (values v .0)) (valueOf k (values v .1)) output output s′
 unfolding says answerOf valueOf bytesOf
 says-stepped op values s zero v s′ output d = rw (d .is) (record { refusal-is = refl; first-is = refl; second-is = refl; output-is = refl; session-is = refl })
 says-stepped op values s (suc k) v s′ output d = rw (d .is) (record { refusal-is = refl; first-is = refl; second-is = refl; output-is = refl; session-is = d .stays (omega arith) })
@@ -42,7 +43,7 @@ value-refused (suc k) v h = refl
 
 -- ---- steps that import
 module _ (o a b c : ℕ) (s s′ : Session) (k v : ℕ) where
-  recorded : (op : Session → Answer ℕ) → ((sources output : List ℕ) → saying o a b c sources output s ≡ says s (λ (n : ℕ). (n, 0)) (op s)) → Does op s k v s′ → Recorded o a b c s k (valueOf k v) s′
+  recorded : (op : Session → Answer ℕ) → ((sources output : List ℕ) → saying o a b c sources output s ≡ says s (λ (n : ℕ). (n, 0)) (op s)) → OperationEnsures op s k v s′ → Recorded o a b c s k (valueOf k v) s′
   recorded op e d = record {
     is = λ sources output.
         let h = says-stepped op (λ (n : ℕ). (n, 0)) s k v s′ output d in
@@ -50,19 +51,19 @@ module _ (o a b c : ℕ) (s s′ : Session) (k v : ℕ) where
         (record { refusal-is = h .refusal-is; first-is = h .first-is; second-is = sym (value-none k) ∙ h .second-is; output-is = h .output-is; session-is = h .session-is });
   }
 
-  pub type-recorded : o ≡ 3 → Does (importing (tabOf 1) a) s k v s′ → Recorded o a b c s k (valueOf k v) s′
+  pub type-recorded : o ≡ 3 → OperationEnsures (importing (tabOf 1) a) s k v s′ → Recorded o a b c s k (valueOf k v) s′
   unfolding operations perform tabOf
   type-recorded e = recorded (importing (tabOf 1) a) (λ sources output. rw (e))
 
-  pub rename-recorded : o ≡ 4 → Does (renameType a b) s k v s′ → Recorded o a b c s k (valueOf k v) s′
+  pub rename-recorded : o ≡ 4 → OperationEnsures (renameType a b) s k v s′ → Recorded o a b c s k (valueOf k v) s′
   unfolding operations perform
   rename-recorded e = recorded (renameType a b) (λ sources output. rw (e))
 
-  pub function-recorded : o ≡ 9 → Does (importFunction a) s k v s′ → Recorded o a b c s k (valueOf k v) s′
+  pub function-recorded : o ≡ 9 → OperationEnsures (importFunction a) s k v s′ → Recorded o a b c s k (valueOf k v) s′
   unfolding operations perform
   function-recorded e = recorded (importFunction a) (λ sources output. rw (e))
 
--- the tables behind that of types
+-- the tables after that of types
 between : (o a b c : ℕ) (s : Session) → 5 ≤ o → o < 9 → (sources output : List ℕ) → saying o a b c sources output s ≡ says s (λ (n : ℕ). (n, 0)) (importing (tabOf (o - 3)) a s)
 unfolding operations perform tabOf
 between zero a b c s h l sources output = absurd (omega arith)
@@ -76,17 +77,17 @@ between (suc (suc (suc (suc (suc (suc (suc zero))))))) a b c s h l sources outpu
 between (suc (suc (suc (suc (suc (suc (suc (suc zero)))))))) a b c s h l sources output = refl
 between (suc (suc (suc (suc (suc (suc (suc (suc (suc o))))))))) a b c s h l sources output = absurd (omega arith)
 
-pub tables-recorded : (o a b c : ℕ) (s s′ : Session) (k v t : ℕ) → 5 ≤ o → o < 9 → t ≡ o - 3 → Does (importing (tabOf t) a) s k v s′ → Recorded o a b c s k (valueOf k v) s′
+pub tables-recorded : (o a b c : ℕ) (s s′ : Session) (k v t : ℕ) → 5 ≤ o → o < 9 → t ≡ o - 3 → OperationEnsures (importing (tabOf t) a) s k v s′ → Recorded o a b c s k (valueOf k v) s′
 tables-recorded o a b c s s′ k v t h l e d = recorded o a b c s s′ k v (importing (tabOf t) a) (λ sources output. between o a b c s h l sources output ∙ ap (λ (t : ℕ). says s (λ (n : ℕ). (n, 0)) (importing (tabOf t) a s)) (sym e)) d
 
--- both operations that ask for a function's handle
+-- both operations that answer a function's handle
 handles : (i a b c : ℕ) (s : Session) → i < 2 → (sources output : List ℕ) → saying (10 + i) a b c sources output s ≡ says s (λ (n : ℕ). (n, 0)) (mapFunctionHandle a s)
 unfolding operations perform
 handles zero a b c s l sources output = refl
 handles (suc zero) a b c s l sources output = refl
 handles (suc (suc i)) a b c s l sources output = absurd (omega arith)
 
-pub handle-recorded : (o a b c : ℕ) (s s′ : Session) (k v : ℕ) → 10 ≤ o → o < 12 → Does (mapFunctionHandle a) s k v s′ → Recorded o a b c s k (valueOf k v) s′
+pub handle-recorded : (o a b c : ℕ) (s s′ : Session) (k v : ℕ) → 10 ≤ o → o < 12 → OperationEnsures (mapFunctionHandle a) s k v s′ → Recorded o a b c s k (valueOf k v) s′
 handle-recorded o a b c s s′ k v h l =
     let e : 10 + (o - 10) ≡ o = omega arith in
     recorded o a b c s s′ k v (mapFunctionHandle a) (λ sources output.
@@ -100,12 +101,12 @@ none-recorded o a b c s h = record { is = λ sources output. subst (λ (x : Said
     beyond : (sources output : List ℕ) → saying o a b c sources output s ≡ perform unknown a b c sources output s
     beyond sources output = rw (List·getD-eq-default operations unknown h)
 
--- ---- the stacks play no part between operations
-pub stacks-low : {stacks : List (List ℕ)} {e e′ : Ends} → Stacks stacks e → (e′ .et ≡ 0) × (e′ .bt ≡ 0) → Stacks stacks e′
+-- ---- the stacks do not matter between operations
+pub stacks-low : {stacks : List (List ℕ)} {e e′ : Sizes} → Stacks stacks e → (e′ .exprtop ≡ 0) × (e′ .bodytop ≡ 0) → Stacks stacks e′
 stacks-low h l = record { four = h .four; rows = h .rows; high = let p = l .0 in omega arith; high′ = let p = l .1 in omega arith }
 
 -- ---- setting a source
-pub set-quiet : (a b c : ℕ) (sources image : List ℕ) (s s′ : Session) (k : ℕ) → part a b sources ≡ image → Does (set (length image) (wordsOf image) c) s k tt s′ → Quiet 0 a b c sources s k 0 0 s′
+pub set-quiet : (a b c : ℕ) (sources image : List ℕ) (s s′ : Session) (k : ℕ) → part a b sources ≡ image → OperationEnsures (set (length image) (wordsOf image) c) s k tt s′ → Quiet 0 a b c sources s k 0 0 s′
 unfolding operations perform
 set-quiet a b c sources image s s′ k e d = record {
   is = λ output.
@@ -115,29 +116,29 @@ set-quiet a b c sources image s s′ k e d = record {
 }
 
 -- ---- operations that import nothing
-module _ (set : Bool) (n o : ℕ) (words log tags : List ℕ) (starts maps : List (List ℕ)) (special : List ℕ) (e : Ends) (a b c : ℕ) (sources output : List ℕ) where
+module _ (set : Bool) (n o : ℕ) (words log logtags : List ℕ) (starts maps : List (List ℕ)) (special : List ℕ) (e : Sizes) (a b c : ℕ) (sources output : List ℕ) where
   abbrev held : Session
-  held = sessionOf set n o words log tags starts maps special e
+  held = sessionOf set n o words log logtags starts maps special e
 
-  cleared : sessionOf false n o words log tags starts maps special e ≡ clear held
+  cleared : sessionOf false n o words log logtags starts maps special e ≡ clear held
   unfolding sessionOf clear emptied
   cleared = go set
     where
-      go : (set : Bool) → sessionOf false n o words log tags starts maps special e ≡ clear (sessionOf set n o words log tags starts maps special e)
+      go : (set : Bool) → sessionOf false n o words log logtags starts maps special e ≡ clear (sessionOf set n o words log logtags starts maps special e)
       go true = refl
       go false = refl
 
-  pub clear-stepped : Stepped (saying 1 a b c sources output held) 0 0 0 output output (sessionOf false n o words log tags starts maps special e)
+  pub clear-stepped : Stepped (saying 1 a b c sources output held) 0 0 0 output output (sessionOf false n o words log logtags starts maps special e)
   unfolding operations perform says bytesOf
   clear-stepped = record { refusal-is = refl; first-is = refl; second-is = refl; output-is = refl; session-is = cleared }
 
-  pub clear-live : (tape kinds marks : List ℕ) → Live set n o words tape kinds log tags starts maps marks special e → Live false n o words tape kinds log tags starts maps marks special e
+  pub clear-live : (tags targets buckets : List ℕ) → ValidSession set n o words tags targets log logtags starts maps buckets special e → ValidSession false n o words tags targets log logtags starts maps buckets special e
   unfolding does Public
-  clear-live tape kinds marks L = record {
+  clear-live tags targets buckets L = record {
     reached = subst Reached (sym cleared) (does-reached clears tt held (L .reached));
     kept = L .kept;
     specials = L .specials;
-    kinds-are = L .kinds-are;
+    targets-are = L .targets-are;
     words-long = L .words-long;
     tape-long = L .tape-long;
     taped = λ q. absurd (false≢true q);
@@ -148,16 +149,16 @@ module _ (set : Bool) (n o : ℕ) (words log tags : List ℕ) (starts maps : Lis
   }
 
   pub span-stepped : (k x y : ℕ) → Spans set o a b k x y → Stepped (saying 2 a b c sources output held) k x y output output held
-  unfolding operations perform says bytesOf mapSpan needing sessionOf
+  unfolding operations perform says bytesOf mapSpan withSource sessionOf
   span-stepped k x y d = go set d
     where
-      go : (set : Bool) → Spans set o a b k x y → Stepped (saying 2 a b c sources output (sessionOf set n o words log tags starts maps special e)) k x y output output (sessionOf set n o words log tags starts maps special e)
+      go : (set : Bool) → Spans set o a b k x y → Stepped (saying 2 a b c sources output (sessionOf set n o words log logtags starts maps special e)) k x y output output (sessionOf set n o words log logtags starts maps special e)
       go true d = let h = d .is refl in record { refusal-is = h .0; first-is = ap (λ (p : ℕ × ℕ). p .0) (h .1); second-is = ap (λ (p : ℕ × ℕ). p .1) (h .1); output-is = refl; session-is = refl }
       go false d = let h = d .none-set refl in record { refusal-is = h .0; first-is = h .1; second-is = h .2; output-is = refl; session-is = refl }
 
   pub required-stepped : (r : ℕ) → Requires special e r → Stepped (saying 12 a b c sources output held) 0 r 0 output output held
   unfolding operations perform says bytesOf
-  required-stepped r d = record { refusal-is = refl; first-is = d .is set n o words log tags starts maps; second-is = refl; output-is = refl; session-is = refl }
+  required-stepped r d = record { refusal-is = refl; first-is = d .is set n o words log logtags starts maps; second-is = refl; output-is = refl; session-is = refl }
 
 -- ---- a step by the number of its operation
 pub by-number : (a b c : ℕ) (sources output₀ : List ℕ) (s : Session) {o p k u v : ℕ} {output : List ℕ} {s′ : Session} → o ≡ p → Stepped (saying p a b c sources output₀ s) k u v output₀ output s′ → Stepped (saying o a b c sources output₀ s) k u v output₀ output s′

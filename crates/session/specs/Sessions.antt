@@ -1,18 +1,19 @@
--- What a step of a session tells and leaves, and what a whole session does, as the model has it (`perform`, `session`). Assumes nothing: these are definitions.
+-- What a step of a session answers and leaves, as the model has it (`perform`). A whole session is the model's `wuldgisp-session`.
 use mathlib.Core.Path.{_≡_}
 use mathlib.Core.List.{List}
 use Prim.Native.Nat.{ℕ, zero, suc, _+_, _*_, _%_, _^_}
 use lib.ListN.{getD}
 use lib.Seq.{sets}
 use Rattle.base_words.specs.Words.{bytesOf}
+use Rattle.model.specs.Refusals.{packed}
 use Rattle.model.specs.Session.{Session}
-use Rattle.model.specs.Steps.{Said, operations, unknown, perform, session}
+use Rattle.model.specs.Steps.{Said, operations, unknown, perform}
 
--- what step o of the numbers a, b, c says
+-- what step o of the numbers a, b, c answers
 abbrev pub saying : ℕ → ℕ → ℕ → ℕ → List ℕ → List ℕ → Session → Said
 saying o = perform (getD operations o unknown)
 
--- its three words, the output behind it, and the session that the arrays hold then
+-- its three words, the output after it, and the session that the arrays then hold
 pub record Stepped (x : Said) (refusal first second : ℕ) (output₀ output : List ℕ) (behind : Session) : Type 0 where
   pub refusal-is : refusal ≡ x .refusal
   pub first-is : first ≡ x .first
@@ -45,10 +46,4 @@ orElse (suc x) y = suc x
 -- a refusal in the low half, and the step's number in the high half
 unfoldable pub numbered : ℕ → ℕ → ℕ
 numbered zero i = 0
-numbered (suc k) i = suc k + i % 4294967296 * 4294967296
-
--- A SESSION: what the model's leaves; the result is of 64 bits
-pub record Sessions (sources steps answers₀ output₀ : List ℕ) (r : ℕ) (answers output : List ℕ) : Type 0 where
-  pub result-is : r ≡ session sources steps answers₀ output₀ .result % 18446744073709551616
-  pub answers-is : answers ≡ session sources steps answers₀ output₀ .answers
-  pub output-is : output ≡ session sources steps answers₀ output₀ .output
+numbered (suc k) i = packed (suc k) (i % 4294967296)

@@ -1,30 +1,41 @@
-// A session as a list of steps: one call is given all sources, all steps and the output, and keeps nothing. A step is four words, an operation and its numbers; its
-// answer is three, the refusal and two values. A refused step changes nothing, and the next one follows. `session_in` works in arrays that its caller lends,
-// `session` in its own.
-use base_refusals::NO_RECORD;
+// A session as a list of steps: one call is given all sources, all steps and the output, and keeps nothing. A step is four words, an operation and its numbers;
+// its answer is three, the refusal and two values. A refused step changes nothing, and the next one follows. `session_in` works in arrays that the caller
+// provides, `session` in its own.
+use base_refusals::NUMBER_GIVEN;
+use base_refusals::pack;
 use base_views::CONSTANTS;
 use base_views::TYPES;
+use base_words::Tags;
+use base_words::Words;
 use base_words::wide;
-use derive_state::Ends;
-use derive_state::forget;
-use derive_state::kinds;
-use derive_state::nothing;
+use derive_state::Buckets;
+use derive_state::Log;
+use derive_state::LogTags;
+use derive_state::Maps;
+use derive_state::Sizes;
+use derive_state::Special;
+use derive_state::StackRows;
+use derive_state::Starts;
+use derive_state::Targets;
+use derive_state::clear_maps;
+use derive_state::empty;
+use derive_state::targets;
 use session_functions::finish_with_entries;
 use session_functions::import_function;
 use session_functions::map_function_handle;
 use session_operations::finish_plain;
+use session_operations::has_required_special_types;
 use session_operations::import;
 use session_operations::map_span;
 use session_operations::rename_type;
-use session_operations::required;
-use session_operations::set_source_of;
+use session_operations::set_shader_source;
 ghost use mathlib.Core.Path.{_≡_};
 ghost use Prim.Native.Nat.{ℕ, _≤_, min};
 ghost use lib.ListN.{length, set};
 ghost use Rattle.function_builder.specs.Stacks.{Stacks};
-ghost use Rattle.session_operations.specs.Live.{sessionOf, Live};
-ghost use Rattle.session_operations.specs.Lent.{Spaces};
-ghost use Rattle.session.specs.Sessions.{saying, Stepped, Quiet, Wrote, Recorded, valueOf, orElse, numbered, Sessions};
+ghost use Rattle.derive_session.specs.Valid.{sessionOf, ValidSession};
+ghost use Rattle.model.specs.Image.{ScratchLengths, SessionEnsures};
+ghost use Rattle.session.specs.Sessions.{saying, Stepped, Quiet, Wrote, Recorded, valueOf, orElse, numbered};
 
 // The operations by their numbers, as include/wuldgisp.h lists them.
 pub const SET: u32 = 0;
@@ -60,7 +71,7 @@ pub const FINISH_WITH_ENTRY_POINTS: u32 = 14;
 // The import of a constant, an override, a global or an expression has the number of its table, plus this.
 const TABLES: usize = IMPORT_CONST as usize - CONSTANTS;
 
-// What a step says, and the session behind it: whether a source is set, its words and its offset, and the ends of the state.
+// What a step answers, and the session after it: whether a source is set, its words and its offset, and the sizes of the derived module.
 pub struct Step {
     pub refusal: u32,
     pub first: u32,
@@ -68,7 +79,7 @@ pub struct Step {
     pub set: bool,
     pub n: usize,
     pub offset: u32,
-    pub ends: Ends,
+    pub ends: Sizes,
 }
 
 // The numbers of a step.
@@ -101,39 +112,39 @@ fn value_of(refusal: u32, v: u32) -> u32
 
 // A source from a part of the sources.
 fn set_step(
-    words: &mut [u32; 16384],
-    tags: &mut [u8; 16384],
-    kinds: &[u8; 256],
-    log: &mut [u32; 16384],
-    classes: &mut [u8; 16384],
-    starts: &mut [[u32; 512]; 8],
-    maps: &mut [[u32; 512]; 6],
-    marks: &mut [u16; 16384],
-    special: &mut [u32; 1027],
+    words: &mut Words,
+    tags: &mut Tags,
+    targets: &Targets,
+    log: &mut Log,
+    logtags: &mut LogTags,
+    starts: &mut Starts,
+    maps: &mut Maps,
+    buckets: &mut Buckets,
+    special: &mut Special,
     sources: &[u8],
     n: usize,
-    ends: Ends,
+    ends: Sizes,
     set: bool,
     offset: u32,
     o: Numbers,
 ) -> Step
-    requires { ⌜ Live set n offset (now words) (now tags) (now kinds) (now log) (now classes) (now starts) (now maps) (now marks) (now special) ends ⌝ }
-    ensures { λ r. ⌜ Quiet 0 (o .a) (o .b) (o .c) (now (sources .entry)) (sessionOf set n offset (now (words .entry)) (now (log .entry)) (now (classes .entry)) (now (starts .entry)) (now (maps .entry)) (now (special .entry)) ends) (r .refusal) (r .first) (r .second) (sessionOf (r .set) (r .n) (r .offset) (now (words .exit)) (now (log .exit)) (now (classes .exit)) (now (starts .exit)) (now (maps .exit)) (now (special .exit)) (r .ends)) ⌝ }
-    ensures { λ r. ⌜ Live (r .set) (r .n) (r .offset) (now (words .exit)) (now (tags .exit)) (now (kinds .entry)) (now (log .exit)) (now (classes .exit)) (now (starts .exit)) (now (maps .exit)) (now (marks .exit)) (now (special .exit)) (r .ends) ⌝ }
+    requires { ⌜ ValidSession set n offset (now words) (now tags) (now targets) (now log) (now logtags) (now starts) (now maps) (now buckets) (now special) ends ⌝ }
+    ensures { λ r. ⌜ Quiet 0 (o .a) (o .b) (o .c) (now (sources .entry)) (sessionOf set n offset (now (words .entry)) (now (log .entry)) (now (logtags .entry)) (now (starts .entry)) (now (maps .entry)) (now (special .entry)) ends) (r .refusal) (r .first) (r .second) (sessionOf (r .set) (r .n) (r .offset) (now (words .exit)) (now (log .exit)) (now (logtags .exit)) (now (starts .exit)) (now (maps .exit)) (now (special .exit)) (r .ends)) ⌝ }
+    ensures { λ r. ⌜ ValidSession (r .set) (r .n) (r .offset) (now (words .exit)) (now (tags .exit)) (now (targets .entry)) (now (log .exit)) (now (logtags .exit)) (now (starts .exit)) (now (maps .exit)) (now (buckets .exit)) (now (special .exit)) (r .ends) ⌝ }
 {
     let from = least(wide(o.a), sources.len());
     let to = from + least(wide(o.b), sources.len() - from);
-    let got = set_source_of(
+    let got = set_shader_source(
         &sources[from..to],
         words,
         tags,
-        kinds,
+        targets,
         n,
         log,
-        classes,
+        logtags,
         starts,
         maps,
-        marks,
+        buckets,
         special,
         ends,
         set,
@@ -154,38 +165,38 @@ fn set_step(
 
 // A finish without entry points into a part of the output.
 fn plain_step(
-    words: &[u32; 16384],
-    tags: &[u8; 16384],
-    kinds: &[u8; 256],
-    log: &[u32; 16384],
-    classes: &[u8; 16384],
-    starts: &[[u32; 512]; 8],
-    maps: &mut [[u32; 512]; 6],
-    marks: &[u16; 16384],
-    special: &mut [u32; 1027],
+    words: &Words,
+    tags: &Tags,
+    targets: &Targets,
+    log: &Log,
+    logtags: &LogTags,
+    starts: &Starts,
+    maps: &mut Maps,
+    buckets: &Buckets,
+    special: &mut Special,
     output: &mut [u8],
     n: usize,
-    ends: Ends,
+    ends: Sizes,
     set: bool,
     offset: u32,
     o: Numbers,
 ) -> Step
-    requires { ⌜ Live set n offset (now words) (now tags) (now kinds) (now log) (now classes) (now starts) (now maps) (now marks) (now special) ends ⌝ }
-    ensures { λ r. ⌜ Wrote 13 (o .a) (o .b) (o .c) (sessionOf set n offset (now (words .entry)) (now (log .entry)) (now (classes .entry)) (now (starts .entry)) (now (maps .entry)) (now (special .entry)) ends) (r .refusal) (r .first) (r .second) (now (output .entry)) (now (output .exit)) (sessionOf (r .set) (r .n) (r .offset) (now (words .entry)) (now (log .entry)) (now (classes .entry)) (now (starts .entry)) (now (maps .exit)) (now (special .exit)) (r .ends)) ⌝ }
-    ensures { λ r. ⌜ Live (r .set) (r .n) (r .offset) (now (words .entry)) (now (tags .entry)) (now (kinds .entry)) (now (log .entry)) (now (classes .entry)) (now (starts .entry)) (now (maps .exit)) (now (marks .entry)) (now (special .exit)) (r .ends) ⌝ }
+    requires { ⌜ ValidSession set n offset (now words) (now tags) (now targets) (now log) (now logtags) (now starts) (now maps) (now buckets) (now special) ends ⌝ }
+    ensures { λ r. ⌜ Wrote 13 (o .a) (o .b) (o .c) (sessionOf set n offset (now (words .entry)) (now (log .entry)) (now (logtags .entry)) (now (starts .entry)) (now (maps .entry)) (now (special .entry)) ends) (r .refusal) (r .first) (r .second) (now (output .entry)) (now (output .exit)) (sessionOf (r .set) (r .n) (r .offset) (now (words .entry)) (now (log .entry)) (now (logtags .entry)) (now (starts .entry)) (now (maps .exit)) (now (special .exit)) (r .ends)) ⌝ }
+    ensures { λ r. ⌜ ValidSession (r .set) (r .n) (r .offset) (now (words .entry)) (now (tags .entry)) (now (targets .entry)) (now (log .entry)) (now (logtags .entry)) (now (starts .entry)) (now (maps .exit)) (now (buckets .entry)) (now (special .exit)) (r .ends) ⌝ }
 {
     let from = least(wide(o.a), output.len());
     let to = from + least(wide(o.b), output.len() - from);
     let got = finish_plain(
         words,
         tags,
-        kinds,
+        targets,
         n,
         log,
-        classes,
+        logtags,
         starts,
         maps,
-        marks,
+        buckets,
         special,
         ends,
         set,
@@ -206,27 +217,27 @@ fn plain_step(
 
 // A finish with the source's entry points into a part of the output.
 fn entries_step(
-    words: &[u32; 16384],
-    tags: &[u8; 16384],
-    kinds: &[u8; 256],
-    log: &mut [u32; 16384],
-    classes: &mut [u8; 16384],
-    starts: &[[u32; 512]; 8],
-    maps: &mut [[u32; 512]; 6],
-    marks: &mut [u16; 16384],
-    special: &mut [u32; 1027],
-    stacks: &mut [[u32; 16384]; 4],
+    words: &Words,
+    tags: &Tags,
+    targets: &Targets,
+    log: &mut Log,
+    logtags: &mut LogTags,
+    starts: &Starts,
+    maps: &mut Maps,
+    buckets: &mut Buckets,
+    special: &mut Special,
+    stacks: &mut StackRows,
     output: &mut [u8],
     n: usize,
-    ends: Ends,
+    ends: Sizes,
     set: bool,
     offset: u32,
     o: Numbers,
 ) -> Step
-    requires { ⌜ Live set n offset (now words) (now tags) (now kinds) (now log) (now classes) (now starts) (now maps) (now marks) (now special) ends ⌝ }
+    requires { ⌜ ValidSession set n offset (now words) (now tags) (now targets) (now log) (now logtags) (now starts) (now maps) (now buckets) (now special) ends ⌝ }
     requires { ⌜ Stacks (now stacks) ends ⌝ }
-    ensures { λ r. ⌜ Wrote 14 (o .a) (o .b) (o .c) (sessionOf set n offset (now (words .entry)) (now (log .entry)) (now (classes .entry)) (now (starts .entry)) (now (maps .entry)) (now (special .entry)) ends) (r .refusal) (r .first) (r .second) (now (output .entry)) (now (output .exit)) (sessionOf (r .set) (r .n) (r .offset) (now (words .entry)) (now (log .exit)) (now (classes .exit)) (now (starts .entry)) (now (maps .exit)) (now (special .exit)) (r .ends)) ⌝ }
-    ensures { λ r. ⌜ Live (r .set) (r .n) (r .offset) (now (words .entry)) (now (tags .entry)) (now (kinds .entry)) (now (log .exit)) (now (classes .exit)) (now (starts .entry)) (now (maps .exit)) (now (marks .exit)) (now (special .exit)) (r .ends) ⌝ }
+    ensures { λ r. ⌜ Wrote 14 (o .a) (o .b) (o .c) (sessionOf set n offset (now (words .entry)) (now (log .entry)) (now (logtags .entry)) (now (starts .entry)) (now (maps .entry)) (now (special .entry)) ends) (r .refusal) (r .first) (r .second) (now (output .entry)) (now (output .exit)) (sessionOf (r .set) (r .n) (r .offset) (now (words .entry)) (now (log .exit)) (now (logtags .exit)) (now (starts .entry)) (now (maps .exit)) (now (special .exit)) (r .ends)) ⌝ }
+    ensures { λ r. ⌜ ValidSession (r .set) (r .n) (r .offset) (now (words .entry)) (now (tags .entry)) (now (targets .entry)) (now (log .exit)) (now (logtags .exit)) (now (starts .entry)) (now (maps .exit)) (now (buckets .exit)) (now (special .exit)) (r .ends) ⌝ }
     ensures { λ r. ⌜ Stacks (now (stacks .exit)) (r .ends) ⌝ }
 {
     let from = least(wide(o.a), output.len());
@@ -234,13 +245,13 @@ fn entries_step(
     let got = finish_with_entries(
         words,
         tags,
-        kinds,
+        targets,
         n,
         log,
-        classes,
+        logtags,
         starts,
         maps,
-        marks,
+        buckets,
         special,
         stacks,
         ends,
@@ -262,40 +273,40 @@ fn entries_step(
 
 // One step of a session.
 fn perform(
-    words: &mut [u32; 16384],
-    tags: &mut [u8; 16384],
-    kinds: &[u8; 256],
-    log: &mut [u32; 16384],
-    classes: &mut [u8; 16384],
-    starts: &mut [[u32; 512]; 8],
-    maps: &mut [[u32; 512]; 6],
-    marks: &mut [u16; 16384],
-    special: &mut [u32; 1027],
-    stacks: &mut [[u32; 16384]; 4],
+    words: &mut Words,
+    tags: &mut Tags,
+    targets: &Targets,
+    log: &mut Log,
+    logtags: &mut LogTags,
+    starts: &mut Starts,
+    maps: &mut Maps,
+    buckets: &mut Buckets,
+    special: &mut Special,
+    stacks: &mut StackRows,
     sources: &[u8],
     output: &mut [u8],
     n: usize,
-    ends: Ends,
+    ends: Sizes,
     set: bool,
     offset: u32,
     o: Numbers,
 ) -> Step
-    requires { ⌜ Live set n offset (now words) (now tags) (now kinds) (now log) (now classes) (now starts) (now maps) (now marks) (now special) ends ⌝ }
+    requires { ⌜ ValidSession set n offset (now words) (now tags) (now targets) (now log) (now logtags) (now starts) (now maps) (now buckets) (now special) ends ⌝ }
     requires { ⌜ Stacks (now stacks) ends ⌝ }
-    ensures { λ r. ⌜ Stepped (saying (o .operation) (o .a) (o .b) (o .c) (now (sources .entry)) (now (output .entry)) (sessionOf set n offset (now (words .entry)) (now (log .entry)) (now (classes .entry)) (now (starts .entry)) (now (maps .entry)) (now (special .entry)) ends)) (r .refusal) (r .first) (r .second) (now (output .entry)) (now (output .exit)) (sessionOf (r .set) (r .n) (r .offset) (now (words .exit)) (now (log .exit)) (now (classes .exit)) (now (starts .exit)) (now (maps .exit)) (now (special .exit)) (r .ends)) ⌝ }
-    ensures { λ r. ⌜ Live (r .set) (r .n) (r .offset) (now (words .exit)) (now (tags .exit)) (now (kinds .entry)) (now (log .exit)) (now (classes .exit)) (now (starts .exit)) (now (maps .exit)) (now (marks .exit)) (now (special .exit)) (r .ends) ⌝ }
+    ensures { λ r. ⌜ Stepped (saying (o .operation) (o .a) (o .b) (o .c) (now (sources .entry)) (now (output .entry)) (sessionOf set n offset (now (words .entry)) (now (log .entry)) (now (logtags .entry)) (now (starts .entry)) (now (maps .entry)) (now (special .entry)) ends)) (r .refusal) (r .first) (r .second) (now (output .entry)) (now (output .exit)) (sessionOf (r .set) (r .n) (r .offset) (now (words .exit)) (now (log .exit)) (now (logtags .exit)) (now (starts .exit)) (now (maps .exit)) (now (special .exit)) (r .ends)) ⌝ }
+    ensures { λ r. ⌜ ValidSession (r .set) (r .n) (r .offset) (now (words .exit)) (now (tags .exit)) (now (targets .entry)) (now (log .exit)) (now (logtags .exit)) (now (starts .exit)) (now (maps .exit)) (now (buckets .exit)) (now (special .exit)) (r .ends) ⌝ }
     ensures { λ r. ⌜ Stacks (now (stacks .exit)) (r .ends) ⌝ }
 {
     if o.operation == SET {
         return set_step(
             words,
             tags,
-            kinds,
+            targets,
             log,
-            classes,
+            logtags,
             starts,
             maps,
-            marks,
+            buckets,
             special,
             sources,
             n,
@@ -329,7 +340,7 @@ fn perform(
         };
     }
     if o.operation == HAS_REQUIRED_SPECIAL_TYPES {
-        let v = required(special, ends);
+        let v = has_required_special_types(special, ends);
         return Step {
             refusal: 0,
             first: v,
@@ -344,12 +355,12 @@ fn perform(
         return plain_step(
             words,
             tags,
-            kinds,
+            targets,
             log,
-            classes,
+            logtags,
             starts,
             maps,
-            marks,
+            buckets,
             special,
             output,
             n,
@@ -363,12 +374,12 @@ fn perform(
         return entries_step(
             words,
             tags,
-            kinds,
+            targets,
             log,
-            classes,
+            logtags,
             starts,
             maps,
-            marks,
+            buckets,
             special,
             stacks,
             output,
@@ -382,13 +393,13 @@ fn perform(
     let said = record_step(
         words,
         tags,
-        kinds,
+        targets,
         n,
         log,
-        classes,
+        logtags,
         starts,
         maps,
-        marks,
+        buckets,
         special,
         stacks,
         ends,
@@ -410,40 +421,40 @@ fn perform(
 
 // The steps that import a record of a table or a function; 13 for any other.
 fn record_step(
-    words: &[u32; 16384],
-    tags: &[u8; 16384],
-    kinds: &[u8; 256],
+    words: &Words,
+    tags: &Tags,
+    targets: &Targets,
     n: usize,
-    log: &mut [u32; 16384],
-    classes: &mut [u8; 16384],
-    starts: &mut [[u32; 512]; 8],
-    maps: &mut [[u32; 512]; 6],
-    marks: &mut [u16; 16384],
-    special: &[u32; 1027],
-    stacks: &mut [[u32; 16384]; 4],
-    ends: Ends,
+    log: &mut Log,
+    logtags: &mut LogTags,
+    starts: &mut Starts,
+    maps: &mut Maps,
+    buckets: &mut Buckets,
+    special: &Special,
+    stacks: &mut StackRows,
+    ends: Sizes,
     set: bool,
     offset: u32,
     o: Numbers,
 ) -> session_operations::Said
     requires { ⌜ (3 ≤ o .operation) × (o .operation ≡ 12 → ⊥) × (o .operation ≡ 13 → ⊥) × (o .operation ≡ 14 → ⊥) ⌝ }
-    requires { ⌜ Live set n offset (now words) (now tags) (now kinds) (now log) (now classes) (now starts) (now maps) (now marks) (now special) ends ⌝ }
+    requires { ⌜ ValidSession set n offset (now words) (now tags) (now targets) (now log) (now logtags) (now starts) (now maps) (now buckets) (now special) ends ⌝ }
     requires { ⌜ Stacks (now stacks) ends ⌝ }
-    ensures { λ r. ⌜ Recorded (o .operation) (o .a) (o .b) (o .c) (sessionOf set n offset (now (words .entry)) (now (log .entry)) (now (classes .entry)) (now (starts .entry)) (now (maps .entry)) (now (special .entry)) ends) (r .refusal) (valueOf (r .refusal) (r .value)) (sessionOf set n offset (now (words .entry)) (now (log .exit)) (now (classes .exit)) (now (starts .exit)) (now (maps .exit)) (now (special .entry)) (r .ends)) ⌝ }
-    ensures { λ r. ⌜ Live set n offset (now (words .entry)) (now (tags .entry)) (now (kinds .entry)) (now (log .exit)) (now (classes .exit)) (now (starts .exit)) (now (maps .exit)) (now (marks .exit)) (now (special .entry)) (r .ends) ⌝ }
+    ensures { λ r. ⌜ Recorded (o .operation) (o .a) (o .b) (o .c) (sessionOf set n offset (now (words .entry)) (now (log .entry)) (now (logtags .entry)) (now (starts .entry)) (now (maps .entry)) (now (special .entry)) ends) (r .refusal) (valueOf (r .refusal) (r .value)) (sessionOf set n offset (now (words .entry)) (now (log .exit)) (now (logtags .exit)) (now (starts .exit)) (now (maps .exit)) (now (special .entry)) (r .ends)) ⌝ }
+    ensures { λ r. ⌜ ValidSession set n offset (now (words .entry)) (now (tags .entry)) (now (targets .entry)) (now (log .exit)) (now (logtags .exit)) (now (starts .exit)) (now (maps .exit)) (now (buckets .exit)) (now (special .entry)) (r .ends) ⌝ }
     ensures { λ r. ⌜ Stacks (now (stacks .exit)) (r .ends) ⌝ }
 {
     if o.operation == IMPORT_TYPE {
         return import(
             words,
             tags,
-            kinds,
+            targets,
             n,
             log,
-            classes,
+            logtags,
             starts,
             maps,
-            marks,
+            buckets,
             special,
             ends,
             set,
@@ -456,13 +467,13 @@ fn record_step(
         return rename_type(
             words,
             tags,
-            kinds,
+            targets,
             n,
             log,
-            classes,
+            logtags,
             starts,
             maps,
-            marks,
+            buckets,
             special,
             ends,
             set,
@@ -475,13 +486,13 @@ fn record_step(
         return import(
             words,
             tags,
-            kinds,
+            targets,
             n,
             log,
-            classes,
+            logtags,
             starts,
             maps,
-            marks,
+            buckets,
             special,
             ends,
             set,
@@ -494,13 +505,13 @@ fn record_step(
         return import_function(
             words,
             tags,
-            kinds,
+            targets,
             n,
             log,
-            classes,
+            logtags,
             starts,
             maps,
-            marks,
+            buckets,
             special,
             stacks,
             ends,
@@ -513,13 +524,13 @@ fn record_step(
         return map_function_handle(
             words,
             tags,
-            kinds,
+            targets,
             n,
             log,
-            classes,
+            logtags,
             starts,
             maps,
-            marks,
+            buckets,
             special,
             stacks,
             ends,
@@ -529,7 +540,7 @@ fn record_step(
         );
     }
     session_operations::Said {
-        refusal: NO_RECORD,
+        refusal: NUMBER_GIVEN,
         value: 0,
         ends: ends,
     }
@@ -554,36 +565,36 @@ fn first_of(first: u64, refusal: u32, j: usize) -> u64
     if refusal == 0 {
         return 0;
     }
-    refusal as u64 + (j % 4294967296) as u64 * 4294967296
+    pack(refusal, (j % 4294967296) as u32)
 }
 
-// All steps, in arrays that the caller lends. 0 if every step was accepted; else the refusal of the first refused step in the low half, and that step's number in
-// the high half. The arrays may hold anything before, and hold anything after. Nothing is asked of maps and marks, not even lengths: they are written whole before
-// use.
+// All steps, in arrays that the caller provides. 0 if every step was accepted; else the refusal of the first refused step in the low half, and that step's
+// number in the high half. The arrays may hold anything before, and hold anything after. Nothing is required of `maps` and `buckets`: they are overwritten
+// before use.
 pub fn session_in(
     sources: &[u8],
     steps: &[u32],
     answers: &mut [u32],
     output: &mut [u8],
-    words: &mut [u32; 16384],
-    tags: &mut [u8; 16384],
-    log: &mut [u32; 16384],
-    classes: &mut [u8; 16384],
-    starts: &mut [[u32; 512]; 8],
-    maps: &mut [[u32; 512]; 6],
-    marks: &mut [u16; 16384],
-    stacks: &mut [[u32; 16384]; 4],
+    words: &mut Words,
+    tags: &mut Tags,
+    log: &mut Log,
+    logtags: &mut LogTags,
+    starts: &mut Starts,
+    maps: &mut Maps,
+    buckets: &mut Buckets,
+    stacks: &mut StackRows,
 ) -> u64
     requires { ⌜ (length (now words) ≡ 16384) × (length (now tags) ≡ 16384) ⌝ }
-    requires { ⌜ Spaces (now log) (now classes) (now starts) (now stacks) ⌝ }
-    ensures { λ r. ⌜ Sessions (now (sources .entry)) (now (steps .entry)) (now (answers .entry)) (now (output .entry)) r (now (answers .exit)) (now (output .exit)) ⌝ }
+    requires { ⌜ ScratchLengths (now log) (now logtags) (now starts) (now stacks) ⌝ }
+    ensures { λ r. ⌜ SessionEnsures (now (sources .entry)) (now (steps .entry)) (now (answers .entry)) (now (output .entry)) r (now (answers .exit)) (now (output .exit)) ⌝ }
 {
-    forget(maps);
-    // marks that another session left would cost time; the answer does not rest on them
-    *marks = [0; 16384];
-    let kinds = kinds();
+    clear_maps(maps);
+    // buckets left by another session would only cost time; the answer does not depend on them
+    *buckets = [0; 16384];
+    let targets = targets();
     let mut special = [0u32; 1027];
-    let mut ends = nothing();
+    let mut ends = empty();
     let mut set = false;
     let mut n = 0;
     let mut offset = 0;
@@ -602,12 +613,12 @@ pub fn session_in(
         let said = perform(
             words,
             tags,
-            &kinds,
+            &targets,
             log,
-            classes,
+            logtags,
             starts,
             maps,
-            marks,
+            buckets,
             &mut special,
             stacks,
             sources,
@@ -632,15 +643,15 @@ pub fn session_in(
 
 // The same, in arrays of its own.
 pub fn session(sources: &[u8], steps: &[u32], answers: &mut [u32], output: &mut [u8]) -> u64
-    ensures { λ r. ⌜ Sessions (now (sources .entry)) (now (steps .entry)) (now (answers .entry)) (now (output .entry)) r (now (answers .exit)) (now (output .exit)) ⌝ }
+    ensures { λ r. ⌜ SessionEnsures (now (sources .entry)) (now (steps .entry)) (now (answers .entry)) (now (output .entry)) r (now (answers .exit)) (now (output .exit)) ⌝ }
 {
     let mut words = [0u32; 16384];
     let mut tags = [0u8; 16384];
     let mut log = [0u32; 16384];
-    let mut classes = [0u8; 16384];
+    let mut logtags = [0u8; 16384];
     let mut starts = [[0u32; 512]; 8];
     let mut maps = [[0u32; 512]; 6];
-    let mut marks = [0u16; 16384];
+    let mut buckets = [0u16; 16384];
     let mut stacks = [[0u32; 16384]; 4];
     session_in(
         sources,
@@ -650,10 +661,10 @@ pub fn session(sources: &[u8], steps: &[u32], answers: &mut [u32], output: &mut 
         &mut words,
         &mut tags,
         &mut log,
-        &mut classes,
+        &mut logtags,
         &mut starts,
         &mut maps,
-        &mut marks,
+        &mut buckets,
         &mut stacks,
     )
 }

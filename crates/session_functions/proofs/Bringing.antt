@@ -1,5 +1,5 @@
--- import_function and map_function_handle answer what the model's operations answer, and the session behind them is one again: each refusal in its sequence, and what is
--- answered where the function is brought. Assumes nothing.
+-- import_function and map_function_handle answer what the model's operations answer, and the session after them is valid: each refusal in its sequence, and what is
+-- answered where the function is imported.
 use mathlib.Core.Path.{_≡_, refl, sym, ap, subst, _∙_}
 use mathlib.Core.Bool.{Bool, true, false}
 use mathlib.Core.List.{List, [], _∷_}
@@ -13,10 +13,10 @@ use Rattle.model.specs.Module.{Module, countAt}
 use Rattle.model.specs.Callees.{callees}
 use Rattle.model.specs.Redirect.{function}
 use Rattle.model.specs.Tables.{types, count}
-use Rattle.model.specs.Imports.{St}
+use Rattle.model.specs.Imports.{Derived}
 use Rattle.model.specs.Bodies.{known, append, follow}
-use Rattle.model.specs.Refusals.{NO-RECORD, NO-SOURCE, FULL, UNKNOWN-RING}
-use Rattle.model.specs.Session.{Source, Session, Answer, answered, refused, after, needing, kept, ringing, importFunction, mapFunctionHandle}
+use Rattle.model.specs.Refusals.{NUMBER-GIVEN, NO-SOURCE, FULL, UNKNOWN-RING}
+use Rattle.model.specs.Session.{Source, Session, Answer, answered, refused, after, withSource, unlessFull, meetsRing, importFunction, mapFunctionHandle}
 use Rattle.theory_sessions.specs.Operating.{does, functions, handles}
 use Rattle.derive_types.proofs.Growth.{Grow}
 use Rattle.derive_limits.specs.Growing.{function-grows, follow-grows}
@@ -26,21 +26,22 @@ use Rattle.derive_source.proofs.Deriving.{specials-more}
 use Rattle.derive_state.specs.Refers.{tabOf}
 use Rattle.derive_state.specs.Flats.{functionOf}
 use Rattle.derive_state.specs.Source.{modOf}
-use Rattle.derive_state.specs.Held.{tableOf, functionsOf, stOf, sizeR, Over, Kept}
-use Rattle.derive_state.specs.declared.Ends.{Ends}
+use Rattle.derive_state.specs.Held.{tableOf, functionsOf, stOf, sizeR, Over, ValidArrays}
+use Rattle.derive_state.specs.declared.Sizes.{Sizes}
 use Rattle.derive_state.proofs.State.{table-long, tab-long}
 use Rattle.derive_state.proofs.Laws.{none-held}
 use Rattle.function_nesting.specs.Nested.{appendS, followS}
 use Rattle.derive_lookup.specs.Bearing.{Knows}
-use Rattle.session_operations.specs.Live.{sessionOf, Live, answerOf, Does}
+use Rattle.derive_session.specs.Valid.{sessionOf, ValidSession}
+use Rattle.session_operations.specs.Operations.{answerOf, OperationEnsures}
 use Rattle.session_functions.specs.Brought.{Brings}
-use Rattle.session_functions.proofs.Sources as Sources
+use Rattle.function_entry.proofs.Sources as Sources
 
 -- ---- refusals in their sequence: no such function, then a ring
 abbrev tests : Bool → Bool → Answer ℕ → Answer ℕ
-tests b c a = elim b [ true ↦ elim c [ true ↦ refused UNKNOWN-RING | false ↦ a ] | false ↦ refused NO-RECORD ]
+tests b c a = elim b [ true ↦ elim c [ true ↦ refused UNKNOWN-RING | false ↦ a ] | false ↦ refused NUMBER-GIVEN ]
 
-tests-out : (b c : Bool) (a : Answer ℕ) → b ≡ false → tests b c a ≡ refused NO-RECORD
+tests-out : (b c : Bool) (a : Answer ℕ) → b ≡ false → tests b c a ≡ refused NUMBER-GIVEN
 tests-out b c a p = rw p
 
 tests-ring : (b c : Bool) (a : Answer ℕ) → b ≡ true → c ≡ true → tests b c a ≡ refused UNKNOWN-RING
@@ -50,67 +51,67 @@ tests-free : (b c : Bool) (a : Answer ℕ) → b ≡ true → c ≡ false → te
 tests-free b c a p q = rw (p, q)
 
 -- ---- no source
-module _ (n o : ℕ) (words log tags : List ℕ) (starts maps : List (List ℕ)) (special : List ℕ) (e : Ends) (f : ℕ) where
+module _ (n o : ℕ) (words log logtags : List ℕ) (starts maps : List (List ℕ)) (special : List ℕ) (e : Sizes) (f : ℕ) where
   abbrev none : Session
-  none = sessionOf false n o words log tags starts maps special e
+  none = sessionOf false n o words log logtags starts maps special e
 
-  pub import-none : Does {A = ℕ} (importFunction f) none NO-SOURCE 0 none
-  unfolding importFunction needing sessionOf answerOf
+  pub import-none : OperationEnsures {A = ℕ} (importFunction f) none NO-SOURCE 0 none
+  unfolding importFunction withSource sessionOf answerOf
   import-none = record { is = refl; stays = λ q. refl }
 
-  pub handle-none : Does {A = ℕ} (mapFunctionHandle f) none NO-SOURCE 0 none
-  unfolding mapFunctionHandle needing sessionOf answerOf
+  pub handle-none : OperationEnsures {A = ℕ} (mapFunctionHandle f) none NO-SOURCE 0 none
+  unfolding mapFunctionHandle withSource sessionOf answerOf
   handle-none = record { is = refl; stays = λ q. refl }
 
-module _ (n o : ℕ) (words tape kinds log tags : List ℕ) (starts maps : List (List ℕ)) (marks special : List ℕ) (e : Ends) (L : Live true n o words tape kinds log tags starts maps marks special e) where
+module _ (n o : ℕ) (words tags targets log logtags : List ℕ) (starts maps : List (List ℕ)) (buckets special : List ℕ) (e : Sizes) (L : ValidSession true n o words tags targets log logtags starts maps buckets special e) where
   abbrev m : Module
   m = modOf words n
 
   abbrev x : Source
   x = record { image = modOf words n; offset = o }
 
-  abbrev s : St
-  s = stOf words log tags starts maps special e
+  abbrev s : Derived
+  s = stOf words log logtags starts maps special e
 
   abbrev before : Session
-  before = sessionOf true n o words log tags starts maps special e
+  before = sessionOf true n o words log logtags starts maps special e
 
   functions-are : countAt 6 words ≡ length (modOf words n .functions)
-  functions-are = Sources.functions-are n o words tape kinds log tags starts maps marks special e L
+  functions-are = Sources.functions-are n o words tags targets log logtags starts maps buckets special e L
 
   at : At x s
-  at = Sources.at n o words tape kinds log tags starts maps marks special e L
+  at = Sources.at n o words tags targets log logtags starts maps buckets special e L
 
-  -- ---- what is made of its state
-  module _ (g : St → St) (R : St) (same : g s ≡ R) (there : At x R) (more : Grow s R)
-      (r : Ends) (log′ tags′ : List ℕ) (starts′ maps′ : List (List ℕ)) (marks′ : List ℕ) (stacks : List (List ℕ)) (B : Brings words special g log tags starts maps e r log′ tags′ starts′ maps′ marks′ stacks) where
+  -- ---- what becomes of its state
+  module _ (g : Derived → Derived) (R : Derived) (same : g s ≡ R) (there : At x R) (more : Grow s R)
+      (r : Sizes) (log′ logtags′ : List ℕ) (starts′ maps′ : List (List ℕ)) (buckets′ : List ℕ) (stacks : List (List ℕ)) (B : Brings words special g log logtags starts maps e r log′ logtags′ starts′ maps′ buckets′ stacks) where
     abbrev behind : Session
-    behind = sessionOf true n o words log′ tags′ starts′ maps′ special r
+    behind = sessionOf true n o words log′ logtags′ starts′ maps′ special r
 
     abbrev stayed : Session
-    stayed = sessionOf true n o words log′ tags′ starts′ maps′ special e
+    stayed = sessionOf true n o words log′ logtags′ starts′ maps′ special e
 
     -- it does not fit
     module _ (q : r .full ≡ true) where
       full-over : Over 0 R
       full-over =
-          let z = none-held log tags starts (e .counts) (L .no-entries) .1 in
-          let k : sizeR (tableOf log tags starts (e .counts) 7) + (e .et + e .bt) ≡ 0 = omega (arith, L .lowest .0, L .lowest .1) in
-          subst (λ i. Over i R) k (subst (λ (t : St). Over (sizeR (tableOf log tags starts (e .counts) 7) + (e .et + e .bt)) t) same (B .over q))
+          let z = none-held log logtags starts (e .counts) (L .no-entries) .1 in
+          let k : sizeR (tableOf log logtags starts (e .counts) 7) + (e .exprtop + e .bodytop) ≡ 0 = omega (arith, L .lowest .0, L .lowest .1) in
+          subst (λ i. Over i R) k (subst (λ (t : Derived). Over (sizeR (tableOf log logtags starts (e .counts) 7) + (e .exprtop + e .bodytop)) t) same (B .over q))
 
-      answer-full : {A : Type 0} (a : A) → kept x R a ≡ refused FULL
+      answer-full : {A : Type 0} (a : A) → unlessFull x R a ≡ refused FULL
       answer-full a = kept-full x a (exact-at there) full-over
 
       session-stays : stayed ≡ before
       unfolding sessionOf
-      session-stays = ap (λ (t : St). record { source = some x; state = t }) (B .stays q .0)
+      session-stays = ap (λ (t : Derived). record { source = some x; state = t }) (B .stays q .0)
 
-      pub live-stays : Live true n o words tape kinds log′ tags′ starts′ maps′ marks′ special e
+      pub live-stays : ValidSession true n o words tags targets log′ logtags′ starts′ maps′ buckets′ special e
       live-stays = record {
         reached = subst Reached (sym session-stays) (L .reached);
         kept = B .stays q .1;
         specials = L .specials;
-        kinds-are = L .kinds-are;
+        targets-are = L .targets-are;
         words-long = L .words-long;
         tape-long = L .tape-long;
         taped = L .taped;
@@ -122,38 +123,38 @@ module _ (n o : ℕ) (words tape kinds log tags : List ℕ) (starts maps : List 
 
     -- it fits
     module _ (q : r .full ≡ false) where
-      abbrev K : Kept log′ tags′ starts′ maps′ marks′ r
+      abbrev K : ValidArrays log′ logtags′ starts′ maps′ buckets′ r
       K = B .is q .1
 
-      state-is : R ≡ stOf words log′ tags′ starts′ maps′ special r
+      state-is : R ≡ stOf words log′ logtags′ starts′ maps′ special r
       state-is = sym same ∙ B .is q .0
 
       no-entries : getD (r .counts) 7 0 ≡ 0
       no-entries = B .beside q .0 ∙ L .no-entries
 
-      answer-done : {A : Type 0} (a : A) → kept x R a ≡ answered a behind
+      answer-done : {A : Type 0} (a : A) → unlessFull x R a ≡ answered a behind
       unfolding sessionOf
-      answer-done a = kept-room x a (exact-at there) (λ z. kept-not-over K no-entries words special (subst (Over 0) state-is z)) ∙ ap (λ (t : St). answered a (record { source = some x; state = t })) state-is
+      answer-done a = kept-room x a (exact-at there) (λ z. kept-not-over K no-entries words special (subst (Over 0) state-is z)) ∙ ap (λ (t : Derived). answered a (record { source = some x; state = t })) state-is
 
       functions-long : length (R .functions) ≡ getD (r .counts) 6 0
       unfolding stOf functionsOf
-      functions-long = ap (λ (t : St). length (t .functions)) state-is ∙ length-map (tableOf log′ tags′ starts′ (r .counts) 6) functionOf ∙ table-long log′ tags′ starts′ maps′ marks′ r K 6 (omega arith)
+      functions-long = ap (λ (t : Derived). length (t .functions)) state-is ∙ length-map (tableOf log′ logtags′ starts′ (r .counts) 6) functionOf ∙ table-long log′ logtags′ starts′ maps′ buckets′ r K 6 (omega arith)
 
       types-more : getD (e .counts) 1 0 ≤ getD (r .counts) 1 0
       unfolding stOf count tabOf
       types-more =
-          let a = tab-long log tags starts maps marks e (L .kept) 1 (omega arith) in
-          let b = tab-long log′ tags′ starts′ maps′ marks′ r K 1 (omega arith) in
+          let a = tab-long log logtags starts maps buckets e (L .kept) 1 (omega arith) in
+          let b = tab-long log′ logtags′ starts′ maps′ buckets′ r K 1 (omega arith) in
           let c = more .rows types in
-          let d = ap (λ (t : St). count (t .recs) types) state-is in
+          let d = ap (λ (t : Derived). count (t .recs) types) state-is in
           omega arith
 
-      pub live-done : Reached behind → Live true n o words tape kinds log′ tags′ starts′ maps′ marks′ special r
+      pub live-done : Reached behind → ValidSession true n o words tags targets log′ logtags′ starts′ maps′ buckets′ special r
       live-done h = record {
         reached = h;
         kept = K;
         specials = specials-more (B .beside q .1) types-more (L .specials);
-        kinds-are = L .kinds-are;
+        targets-are = L .targets-are;
         words-long = L .words-long;
         tape-long = L .tape-long;
         taped = L .taped;
@@ -166,31 +167,31 @@ module _ (n o : ℕ) (words tape kinds log tags : List ℕ) (starts maps : List 
   -- ---- function f
   module _ (f : ℕ) where
     module _ (h : countAt 6 words ≤ f) where
-      pub import-no-record : Does {A = ℕ} (importFunction f) before NO-RECORD 0 before
-      unfolding importFunction needing sessionOf answerOf
-      import-no-record = record { is = tests-out (ltb f (length (modOf words n .functions))) (ringing (f ∷ callees (function (modOf words n) f)) (modOf words n) s) (let r = append o (modOf words n) (follow o (modOf words n)) f s in kept x r (pred (length (r .functions)))) (le-ltb f (length (modOf words n .functions)) (omega (arith, functions-are))); stays = λ q. refl }
+      pub import-no-record : OperationEnsures {A = ℕ} (importFunction f) before NUMBER-GIVEN 0 before
+      unfolding importFunction withSource sessionOf answerOf
+      import-no-record = record { is = tests-out (ltb f (length (modOf words n .functions))) (meetsRing (f ∷ callees (function (modOf words n) f)) (modOf words n) s) (let r = append o (modOf words n) (follow o (modOf words n)) f s in unlessFull x r (pred (length (r .functions)))) (le-ltb f (length (modOf words n .functions)) (omega (arith, functions-are))); stays = λ q. refl }
 
-      pub handle-no-record : Does {A = ℕ} (mapFunctionHandle f) before NO-RECORD 0 before
-      unfolding mapFunctionHandle needing sessionOf answerOf
-      handle-no-record = record { is = tests-out (ltb f (length (modOf words n .functions))) (ringing (f ∷ []) (modOf words n) s) (let r = follow o (modOf words n) f s in kept x r (pred (known (modOf words n) r f))) (le-ltb f (length (modOf words n .functions)) (omega (arith, functions-are))); stays = λ q. refl }
+      pub handle-no-record : OperationEnsures {A = ℕ} (mapFunctionHandle f) before NUMBER-GIVEN 0 before
+      unfolding mapFunctionHandle withSource sessionOf answerOf
+      handle-no-record = record { is = tests-out (ltb f (length (modOf words n .functions))) (meetsRing (f ∷ []) (modOf words n) s) (let r = follow o (modOf words n) f s in unlessFull x r (pred (known (modOf words n) r f))) (le-ltb f (length (modOf words n .functions)) (omega (arith, functions-are))); stays = λ q. refl }
 
     module _ (l : f < countAt 6 words) where
       low : f < length (modOf words n .functions)
       low = omega (arith, functions-are)
 
       -- ---- import_function
-      pub import-ring : ringing (f ∷ callees (function (modOf words n) f)) (modOf words n) s ≡ true → Does {A = ℕ} (importFunction f) before UNKNOWN-RING 0 before
-      unfolding importFunction needing sessionOf answerOf
-      import-ring q = record { is = tests-ring (ltb f (length (modOf words n .functions))) (ringing (f ∷ callees (function (modOf words n) f)) (modOf words n) s) _ (lt-ltb f (length (modOf words n .functions)) low) q; stays = λ z. refl }
+      pub import-ring : meetsRing (f ∷ callees (function (modOf words n) f)) (modOf words n) s ≡ true → OperationEnsures {A = ℕ} (importFunction f) before UNKNOWN-RING 0 before
+      unfolding importFunction withSource sessionOf answerOf
+      import-ring q = record { is = tests-ring (ltb f (length (modOf words n .functions))) (meetsRing (f ∷ callees (function (modOf words n) f)) (modOf words n) s) _ (lt-ltb f (length (modOf words n .functions)) low) q; stays = λ z. refl }
 
-      module _ (c : ringing (f ∷ callees (function (modOf words n) f)) (modOf words n) s ≡ false) (room : ℕ) (k : room ≡ countAt 6 words)
-          (r : Ends) (log′ tags′ : List ℕ) (starts′ maps′ : List (List ℕ)) (marks′ : List ℕ) (stacks : List (List ℕ))
-          (B : Brings words special (appendS o (modOf words n) (followS o (modOf words n) room) f) log tags starts maps e r log′ tags′ starts′ maps′ marks′ stacks) where
-        abbrev R : St
+      module _ (c : meetsRing (f ∷ callees (function (modOf words n) f)) (modOf words n) s ≡ false) (room : ℕ) (k : room ≡ countAt 6 words)
+          (r : Sizes) (log′ logtags′ : List ℕ) (starts′ maps′ : List (List ℕ)) (buckets′ : List ℕ) (stacks : List (List ℕ))
+          (B : Brings words special (appendS o (modOf words n) (followS o (modOf words n) room) f) log logtags starts maps e r log′ logtags′ starts′ maps′ buckets′ stacks) where
+        abbrev R : Derived
         R = append o (modOf words n) (follow o (modOf words n)) f s
 
         same : appendS o (modOf words n) (followS o (modOf words n) room) f s ≡ R
-        same = Sources.append-same n o words tape kinds log tags starts maps marks special e L f room l k c
+        same = Sources.append-same n o words tags targets log logtags starts maps buckets special e L f room l k c
 
         there : At x R
         there = function-at at f low c
@@ -198,43 +199,43 @@ module _ (n o : ℕ) (words tape kinds log tags : List ℕ) (starts maps : List 
         more : Grow s R
         more = function-grows (modOf words n) (L .passes refl .numbers) o s f
 
-        import-is : importFunction f before ≡ kept x R (pred (length (R .functions)))
-        unfolding importFunction needing sessionOf
-        import-is = tests-free (ltb f (length (modOf words n .functions))) (ringing (f ∷ callees (function (modOf words n) f)) (modOf words n) s) _ (lt-ltb f (length (modOf words n .functions)) low) c
+        import-is : importFunction f before ≡ unlessFull x R (pred (length (R .functions)))
+        unfolding importFunction withSource sessionOf
+        import-is = tests-free (ltb f (length (modOf words n .functions))) (meetsRing (f ∷ callees (function (modOf words n) f)) (modOf words n) s) _ (lt-ltb f (length (modOf words n .functions)) low) c
 
-        pub import-full : r .full ≡ true → Does {A = ℕ} (importFunction f) before FULL 0 (sessionOf true n o words log′ tags′ starts′ maps′ special e)
+        pub import-full : r .full ≡ true → OperationEnsures {A = ℕ} (importFunction f) before FULL 0 (sessionOf true n o words log′ logtags′ starts′ maps′ special e)
         unfolding answerOf
-        import-full q = record { is = import-is ∙ answer-full _ R same there more r log′ tags′ starts′ maps′ marks′ stacks B q _; stays = λ z. session-stays _ R same there more r log′ tags′ starts′ maps′ marks′ stacks B q }
+        import-full q = record { is = import-is ∙ answer-full _ R same there more r log′ logtags′ starts′ maps′ buckets′ stacks B q _; stays = λ z. session-stays _ R same there more r log′ logtags′ starts′ maps′ buckets′ stacks B q }
 
-        pub import-full-live : r .full ≡ true → Live true n o words tape kinds log′ tags′ starts′ maps′ marks′ special e
-        import-full-live q = live-stays _ R same there more r log′ tags′ starts′ maps′ marks′ stacks B q
+        pub import-full-live : r .full ≡ true → ValidSession true n o words tags targets log′ logtags′ starts′ maps′ buckets′ special e
+        import-full-live q = live-stays _ R same there more r log′ logtags′ starts′ maps′ buckets′ stacks B q
 
         module _ (q : r .full ≡ false) where
-          import-answers : importFunction f before ≡ answered (pred (getD (r .counts) 6 0)) (sessionOf true n o words log′ tags′ starts′ maps′ special r)
-          import-answers = import-is ∙ answer-done _ R same there more r log′ tags′ starts′ maps′ marks′ stacks B q _
-              ∙ ap (λ v. answered (pred v) (sessionOf true n o words log′ tags′ starts′ maps′ special r)) (functions-long _ R same there more r log′ tags′ starts′ maps′ marks′ stacks B q)
+          import-answers : importFunction f before ≡ answered (pred (getD (r .counts) 6 0)) (sessionOf true n o words log′ logtags′ starts′ maps′ special r)
+          import-answers = import-is ∙ answer-done _ R same there more r log′ logtags′ starts′ maps′ buckets′ stacks B q _
+              ∙ ap (λ v. answered (pred v) (sessionOf true n o words log′ logtags′ starts′ maps′ special r)) (functions-long _ R same there more r log′ logtags′ starts′ maps′ buckets′ stacks B q)
 
-          pub import-done : (v : ℕ) → v ≡ pred (getD (r .counts) 6 0) → Does {A = ℕ} (importFunction f) before 0 v (sessionOf true n o words log′ tags′ starts′ maps′ special r)
+          pub import-done : (v : ℕ) → v ≡ pred (getD (r .counts) 6 0) → OperationEnsures {A = ℕ} (importFunction f) before 0 v (sessionOf true n o words log′ logtags′ starts′ maps′ special r)
           unfolding answerOf
           import-done v p = record { is = rw p import-answers; stays = λ z. absurd (omega arith) }
 
-          pub import-done-live : Live true n o words tape kinds log′ tags′ starts′ maps′ marks′ special r
+          pub import-done-live : ValidSession true n o words tags targets log′ logtags′ starts′ maps′ buckets′ special r
           unfolding does after Public
-          import-done-live = live-done _ R same there more r log′ tags′ starts′ maps′ marks′ stacks B q (subst (λ (a : Answer ℕ). Reached (after before a)) import-answers (does-reached (functions f) tt before (L .reached)))
+          import-done-live = live-done _ R same there more r log′ logtags′ starts′ maps′ buckets′ stacks B q (subst (λ (a : Answer ℕ). Reached (after before a)) import-answers (does-reached (functions f) tt before (L .reached)))
 
       -- ---- map_function_handle
-      pub handle-ring : ringing (f ∷ []) (modOf words n) s ≡ true → Does {A = ℕ} (mapFunctionHandle f) before UNKNOWN-RING 0 before
-      unfolding mapFunctionHandle needing sessionOf answerOf
-      handle-ring q = record { is = tests-ring (ltb f (length (modOf words n .functions))) (ringing (f ∷ []) (modOf words n) s) _ (lt-ltb f (length (modOf words n .functions)) low) q; stays = λ z. refl }
+      pub handle-ring : meetsRing (f ∷ []) (modOf words n) s ≡ true → OperationEnsures {A = ℕ} (mapFunctionHandle f) before UNKNOWN-RING 0 before
+      unfolding mapFunctionHandle withSource sessionOf answerOf
+      handle-ring q = record { is = tests-ring (ltb f (length (modOf words n .functions))) (meetsRing (f ∷ []) (modOf words n) s) _ (lt-ltb f (length (modOf words n .functions)) low) q; stays = λ z. refl }
 
-      module _ (c : ringing (f ∷ []) (modOf words n) s ≡ false) (room : ℕ) (k : room ≡ countAt 6 words)
-          (r : Ends) (log′ tags′ : List ℕ) (starts′ maps′ : List (List ℕ)) (marks′ : List ℕ) (stacks : List (List ℕ))
-          (B : Brings words special (followS o (modOf words n) room f) log tags starts maps e r log′ tags′ starts′ maps′ marks′ stacks) where
-        abbrev Q : St
+      module _ (c : meetsRing (f ∷ []) (modOf words n) s ≡ false) (room : ℕ) (k : room ≡ countAt 6 words)
+          (r : Sizes) (log′ logtags′ : List ℕ) (starts′ maps′ : List (List ℕ)) (buckets′ : List ℕ) (stacks : List (List ℕ))
+          (B : Brings words special (followS o (modOf words n) room f) log logtags starts maps e r log′ logtags′ starts′ maps′ buckets′ stacks) where
+        abbrev Q : Derived
         Q = follow o (modOf words n) f s
 
         same′ : followS o (modOf words n) room f s ≡ Q
-        same′ = Sources.follow-same n o words tape kinds log tags starts maps marks special e L f room l k c
+        same′ = Sources.follow-same n o words tags targets log logtags starts maps buckets special e L f room l k c
 
         there′ : At x Q
         there′ = handle-at at f low c
@@ -242,26 +243,26 @@ module _ (n o : ℕ) (words tape kinds log tags : List ℕ) (starts maps : List 
         more′ : Grow s Q
         more′ = follow-grows (modOf words n) (L .passes refl .numbers) o s f
 
-        handle-is : mapFunctionHandle f before ≡ kept x Q (pred (known (modOf words n) Q f))
-        unfolding mapFunctionHandle needing sessionOf
-        handle-is = tests-free (ltb f (length (modOf words n .functions))) (ringing (f ∷ []) (modOf words n) s) _ (lt-ltb f (length (modOf words n .functions)) low) c
+        handle-is : mapFunctionHandle f before ≡ unlessFull x Q (pred (known (modOf words n) Q f))
+        unfolding mapFunctionHandle withSource sessionOf
+        handle-is = tests-free (ltb f (length (modOf words n .functions))) (meetsRing (f ∷ []) (modOf words n) s) _ (lt-ltb f (length (modOf words n .functions)) low) c
 
-        pub handle-full : r .full ≡ true → Does {A = ℕ} (mapFunctionHandle f) before FULL 0 (sessionOf true n o words log′ tags′ starts′ maps′ special e)
+        pub handle-full : r .full ≡ true → OperationEnsures {A = ℕ} (mapFunctionHandle f) before FULL 0 (sessionOf true n o words log′ logtags′ starts′ maps′ special e)
         unfolding answerOf
-        handle-full q = record { is = handle-is ∙ answer-full _ Q same′ there′ more′ r log′ tags′ starts′ maps′ marks′ stacks B q _; stays = λ z. session-stays _ Q same′ there′ more′ r log′ tags′ starts′ maps′ marks′ stacks B q }
+        handle-full q = record { is = handle-is ∙ answer-full _ Q same′ there′ more′ r log′ logtags′ starts′ maps′ buckets′ stacks B q _; stays = λ z. session-stays _ Q same′ there′ more′ r log′ logtags′ starts′ maps′ buckets′ stacks B q }
 
-        pub handle-full-live : r .full ≡ true → Live true n o words tape kinds log′ tags′ starts′ maps′ marks′ special e
-        handle-full-live q = live-stays _ Q same′ there′ more′ r log′ tags′ starts′ maps′ marks′ stacks B q
+        pub handle-full-live : r .full ≡ true → ValidSession true n o words tags targets log′ logtags′ starts′ maps′ buckets′ special e
+        handle-full-live q = live-stays _ Q same′ there′ more′ r log′ logtags′ starts′ maps′ buckets′ stacks B q
 
         module _ (q : r .full ≡ false) where
-          handle-answers : mapFunctionHandle f before ≡ answered (pred (known (modOf words n) (stOf words log′ tags′ starts′ maps′ special r) f)) (sessionOf true n o words log′ tags′ starts′ maps′ special r)
-          handle-answers = handle-is ∙ answer-done _ Q same′ there′ more′ r log′ tags′ starts′ maps′ marks′ stacks B q _
-              ∙ ap (λ (t : St). answered (pred (known (modOf words n) t f)) (sessionOf true n o words log′ tags′ starts′ maps′ special r)) (state-is _ Q same′ there′ more′ r log′ tags′ starts′ maps′ marks′ stacks B q)
+          handle-answers : mapFunctionHandle f before ≡ answered (pred (known (modOf words n) (stOf words log′ logtags′ starts′ maps′ special r) f)) (sessionOf true n o words log′ logtags′ starts′ maps′ special r)
+          handle-answers = handle-is ∙ answer-done _ Q same′ there′ more′ r log′ logtags′ starts′ maps′ buckets′ stacks B q _
+              ∙ ap (λ (t : Derived). answered (pred (known (modOf words n) t f)) (sessionOf true n o words log′ logtags′ starts′ maps′ special r)) (state-is _ Q same′ there′ more′ r log′ logtags′ starts′ maps′ buckets′ stacks B q)
 
-          pub handle-done : (d : ℕ) → Knows words n log′ tags′ starts′ r f d → (v : ℕ) → v ≡ pred d → Does {A = ℕ} (mapFunctionHandle f) before 0 v (sessionOf true n o words log′ tags′ starts′ maps′ special r)
+          pub handle-done : (d : ℕ) → Knows words n log′ logtags′ starts′ r f d → (v : ℕ) → v ≡ pred d → OperationEnsures {A = ℕ} (mapFunctionHandle f) before 0 v (sessionOf true n o words log′ logtags′ starts′ maps′ special r)
           unfolding answerOf
           handle-done d h v p = record { is = rw (p, h .is maps′ special) handle-answers; stays = λ z. absurd (omega arith) }
 
-          pub handle-done-live : Live true n o words tape kinds log′ tags′ starts′ maps′ marks′ special r
+          pub handle-done-live : ValidSession true n o words tags targets log′ logtags′ starts′ maps′ buckets′ special r
           unfolding does after Public
-          handle-done-live = live-done _ Q same′ there′ more′ r log′ tags′ starts′ maps′ marks′ stacks B q (subst (λ (a : Answer ℕ). Reached (after before a)) handle-answers (does-reached (handles f) tt before (L .reached)))
+          handle-done-live = live-done _ Q same′ there′ more′ r log′ logtags′ starts′ maps′ buckets′ stacks B q (subst (λ (a : Answer ℕ). Reached (after before a)) handle-answers (does-reached (handles f) tt before (L .reached)))

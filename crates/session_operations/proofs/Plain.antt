@@ -1,4 +1,4 @@
--- What an operation answers, as numbers tell it, and the operations that leave the session as it is. Assumes nothing.
+-- What an operation answers, as numbers, and the operations that leave the session as it is.
 use mathlib.Core.Path.{_≡_, refl, sym, ap, ap₂, _∙_}
 use mathlib.Core.Logic.{_⊎_, ⊎-elim}
 use mathlib.Core.Bool.{Bool, true, false, not, _||_, false≢true}
@@ -14,18 +14,19 @@ use Rattle.model.specs.Session.{Session, Answer, answered, refused, anyRay, has
 use Rattle.model.specs.Steps.{bit}
 use Rattle.derive_state.specs.Flats.{specialOf}
 use Rattle.derive_state.specs.Held.{stOf}
-use Rattle.derive_state.specs.declared.Ends.{Ends}
+use Rattle.derive_state.specs.declared.Sizes.{Sizes}
 use Rattle.derive_state.proofs.State.{pairs-long}
-use Rattle.session_operations.specs.Live.{sessionOf, answerOf, Does, Spans, Requires}
+use Rattle.derive_session.specs.Valid.{sessionOf}
+use Rattle.session_operations.specs.Operations.{answerOf, OperationEnsures, Spans, Requires}
 
 -- ---- answers
 -- it is refused, and the arrays hold the session that was there
-pub refuses : {A : Type 0} (op : Session → Answer A) (s s′ : Session) (k : ℕ) (v : A) → 0 < k → op s ≡ refused k → s′ ≡ s → Does op s k v s′
+pub refuses : {A : Type 0} (op : Session → Answer A) (s s′ : Session) (k : ℕ) (v : A) → 0 < k → op s ≡ refused k → s′ ≡ s → OperationEnsures op s k v s′
 unfolding answerOf
 refuses op s s′ zero v h e q = absurd (omega arith)
 refuses op s s′ (suc k) v h e q = record { is = e; stays = λ _. q }
 
-pub answers : {A : Type 0} (op : Session → Answer A) (s s′ : Session) (v : A) → op s ≡ answered v s′ → Does op s 0 v s′
+pub answers : {A : Type 0} (op : Session → Answer A) (s s′ : Session) (v : A) → op s ≡ answered v s′ → OperationEnsures op s 0 v s′
 unfolding answerOf
 answers op s s′ v e = record { is = e; stays = λ h. absurd (omega arith) }
 
@@ -48,17 +49,17 @@ module _ (set : Bool) (o a b : ℕ) where
     span-moved p x y hx hy = record { none-set = λ z. absurd (false≢true (sym z ∙ not-false set h)); is = λ z. (refl, rw (defined p) (ap₂ (λ (u v : ℕ). (u, v)) hx hy)) }
 
 -- ---- has_required_special_types
-module _ (special : List ℕ) (e : Ends) where
+module _ (special : List ℕ) (e : Sizes) where
   abbrev asked : Bool
   asked = ltb 0 (e .pairs) || (ltb 0 (getD special 0 0) || (ltb 0 (getD special 1 0) || (ltb 0 (getD special 2 0) || false)))
 
-  asks : (set : Bool) (n o : ℕ) (words log tags : List ℕ) (starts maps : List (List ℕ)) → hasRequiredSpecialTypes (sessionOf set n o words log tags starts maps special e) ≡ asked
+  asks : (set : Bool) (n o : ℕ) (words log logtags : List ℕ) (starts maps : List (List ℕ)) → hasRequiredSpecialTypes (sessionOf set n o words log logtags starts maps special e) ≡ asked
   unfolding hasRequiredSpecialTypes sessionOf emptied stOf specialOf anyRay
-  asks true n o words log tags starts maps = rw (pairs-long special (e .pairs) 3)
-  asks false n o words log tags starts maps = rw (pairs-long special (e .pairs) 3)
+  asks true n o words log logtags starts maps = rw (pairs-long special (e .pairs) 3)
+  asks false n o words log logtags starts maps = rw (pairs-long special (e .pairs) 3)
 
   requires : (r : ℕ) → r ≡ bit asked → Requires special e r
-  requires r h = record { is = λ set n o words log tags starts maps. h ∙ sym (ap bit (asks set n o words log tags starts maps)) }
+  requires r h = record { is = λ set n o words log logtags starts maps. h ∙ sym (ap bit (asks set n o words log logtags starts maps)) }
 
   some : (n : ℕ) → (n ≡ 0 → ⊥) → ltb 0 n ≡ true
   some n h = lt-ltb 0 n (omega arith)

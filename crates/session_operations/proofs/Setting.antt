@@ -1,5 +1,5 @@
 -- What setting a source does to a session whose state the arrays hold: intake's refusals, 21 exactly where it is full, else the session with that source; and the
--- arrays hold the session that is left. Assumes nothing.
+-- arrays hold the session that is left.
 use mathlib.Core.Path.{_≡_, refl, sym, ap, _∙_, subst}
 use mathlib.Core.Bool.{Bool, true, false, false≢true}
 use mathlib.Core.List.{List, []}
@@ -13,8 +13,9 @@ use Rattle.model.specs.Module.{Module, read}
 use Rattle.model.specs.Taped.{Taped}
 use Rattle.model.specs.Intake.{Passes, intakeOf}
 use Rattle.model.specs.Tables.{six}
-use Rattle.model.specs.Imports.{St, emptied}
-use Rattle.model.specs.Session.{Session, Answer, answered, refused, after, setting, set as setOf}
+use Rattle.model.specs.Imports.{Derived, emptied}
+use Rattle.theory_image.specs.OnWords.{on-refused, on-module}
+use Rattle.model.specs.Session.{Session, Answer, answered, refused, after, setModule, set as setOf}
 use Rattle.theory_sessions.specs.Operating.{sets, does}
 use Rattle.derive_limits.specs.Reached.{Public, Reached, does-reached}
 use Rattle.intake.specs.Taken.{numberOf, Accepts, Takes}
@@ -23,29 +24,30 @@ use Rattle.intake.specs.declared.Taken.the-variants.{Accepted}
 use Rattle.intake.proofs.Refusals.{NotFirst, refused-by}
 use Rattle.derive_state.specs.Source.{modOf, Source}
 use Rattle.derive_state.specs.Held.{stOf}
-use Rattle.derive_state.specs.declared.Ends.{Ends}
+use Rattle.derive_state.specs.declared.Sizes.{Sizes}
 use Rattle.derive_types.proofs.Sources.{mod-is, source-of}
 use Rattle.derive_source.specs.Derives.{SourceSet}
 use Rattle.derive_source.specs.Theorems.{Holding, holding-set, holding-cleared, set-full, set-room}
-use Rattle.session_operations.specs.Live.{sessionOf, Live, Does}
+use Rattle.derive_session.specs.Valid.{sessionOf, ValidSession}
+use Rattle.session_operations.specs.Operations.{OperationEnsures}
 use Rattle.session_operations.proofs.Plain.{refuses, answers}
 
--- what the arrays hold, with a source or without, is the state but for the maps
-held-so : (set : Bool) (n o : ℕ) (words log tags : List ℕ) (starts maps : List (List ℕ)) (special : List ℕ) (e : Ends) → Holding (sessionOf set n o words log tags starts maps special e .state) log tags starts special e
+-- what the arrays hold, with a source or without, is the state, apart from the maps
+held-so : (set : Bool) (n o : ℕ) (words log logtags : List ℕ) (starts maps : List (List ℕ)) (special : List ℕ) (e : Sizes) → Holding (sessionOf set n o words log logtags starts maps special e .state) log logtags starts special e
 unfolding sessionOf
-held-so true n o words log tags starts maps special e = holding-set words log tags starts maps special e
-held-so false n o words log tags starts maps special e = holding-cleared words log tags starts maps special e
+held-so true n o words log logtags starts maps special e = holding-set words log logtags starts maps special e
+held-so false n o words log logtags starts maps special e = holding-cleared words log logtags starts maps special e
 
 -- arrays that hold the same state hold the same session
-session-same : (set : Bool) (n o : ℕ) (words log tags log′ tags′ : List ℕ) (starts maps starts′ maps′ : List (List ℕ)) (special special′ : List ℕ) (e : Ends)
-    → stOf words log′ tags′ starts′ maps′ special′ e ≡ stOf words log tags starts maps special e → sessionOf set n o words log′ tags′ starts′ maps′ special′ e ≡ sessionOf set n o words log tags starts maps special e
+session-same : (set : Bool) (n o : ℕ) (words log logtags log′ logtags′ : List ℕ) (starts maps starts′ maps′ : List (List ℕ)) (special special′ : List ℕ) (e : Sizes)
+    → stOf words log′ logtags′ starts′ maps′ special′ e ≡ stOf words log logtags starts maps special e → sessionOf set n o words log′ logtags′ starts′ maps′ special′ e ≡ sessionOf set n o words log logtags starts maps special e
 unfolding sessionOf
-session-same true n o words log tags log′ tags′ starts maps starts′ maps′ special special′ e h = ap (λ (s : St). record { source = some (record { image = modOf words n; offset = o }); state = s }) h
-session-same false n o words log tags log′ tags′ starts maps starts′ maps′ special special′ e h = ap (λ (s : St). record { source = none; state = emptied (six (λ t. [])) s }) h
+session-same true n o words log logtags log′ logtags′ starts maps starts′ maps′ special special′ e h = ap (λ (s : Derived). record { source = some (record { image = modOf words n; offset = o }); state = s }) h
+session-same false n o words log logtags log′ logtags′ starts maps starts′ maps′ special special′ e h = ap (λ (s : Derived). record { source = none; state = emptied (six (λ t. [])) s }) h
 
--- without a source, other words and another tape hold the same session
-pub elsewhere : {op : Session → Answer (Unit {0})} {s : Session} {k n o : ℕ} {words tape w t kinds log tags : List ℕ} {starts maps : List (List ℕ)} {marks special : List ℕ} {e : Ends} → length w ≡ 16384 → length t ≡ 16384
-    → Does op s k tt (sessionOf false n o words log tags starts maps special e) × Live false n o words tape kinds log tags starts maps marks special e → Does op s k tt (sessionOf false n o w log tags starts maps special e) × Live false n o w t kinds log tags starts maps marks special e
+-- without a source, other words and other tags hold the same session
+pub elsewhere : {op : Session → Answer (Unit {0})} {s : Session} {k n o : ℕ} {words tags w t targets log logtags : List ℕ} {starts maps : List (List ℕ)} {buckets special : List ℕ} {e : Sizes} → length w ≡ 16384 → length t ≡ 16384
+    → OperationEnsures op s k tt (sessionOf false n o words log logtags starts maps special e) × ValidSession false n o words tags targets log logtags starts maps buckets special e → OperationEnsures op s k tt (sessionOf false n o w log logtags starts maps special e) × ValidSession false n o w t targets log logtags starts maps buckets special e
 unfolding sessionOf emptied stOf
 elsewhere hw ht p = (
   p .0,
@@ -53,7 +55,7 @@ elsewhere hw ht p = (
     reached = p .1 .reached;
     kept = p .1 .kept;
     specials = p .1 .specials;
-    kinds-are = p .1 .kinds-are;
+    targets-are = p .1 .targets-are;
     words-long = hw;
     tape-long = ht;
     taped = λ q. absurd (false≢true q);
@@ -64,16 +66,16 @@ elsewhere hw ht p = (
   },
 )
 
--- ---- by what intake says
+-- ---- by what intake answers
 by-refusal : (bytes : ℕ) (ws : List ℕ) (o : ℕ) (s : Session) (k : ℕ) → intakeOf bytes ws ≡ suc k → setOf bytes ws o s ≡ refused (suc k)
 unfolding setOf
-by-refusal bytes ws o s k h = rw (setOf, h)
+by-refusal bytes ws o s k h = on-refused (setModule o s) refused bytes ws k h
 
-by-module : (bytes : ℕ) (ws : List ℕ) (o : ℕ) (s : Session) (m : Module) → intakeOf bytes ws ≡ 0 → read ws ≡ laid m → setOf bytes ws o s ≡ setting (laid m) o s
+by-module : (bytes : ℕ) (ws : List ℕ) (o : ℕ) (s : Session) (m : Module) → intakeOf bytes ws ≡ 0 → read ws ≡ laid m → setOf bytes ws o s ≡ setModule o s m
 unfolding setOf
-by-module bytes ws o s m h q = rw (setOf, h, q)
+by-module bytes ws o s m h q = on-module (setModule o s) refused bytes ws m h q
 
--- ---- the image that intake is given, and what it says
+-- ---- the image that intake is given, and what it answers
 module _ (image w t : List ℕ) (taken : Taken) (got : Takes taken w t image) where
   module _ (m : ℕ) (ok : taken ≡ Accepted m) where
     accepts : Accepts image w t m
@@ -91,37 +93,37 @@ module _ (image w t : List ℕ) (taken : Taken) (got : Takes taken w t image) wh
     taped : Taped w t m (modOf w m)
     taped = subst (Taped w t m) (sym is) (accepts .taped)
 
-    goes : (o : ℕ) (s : Session) → setOf (length image) (wordsOf image) o s ≡ setting (laid (modOf w m)) o s
+    goes : (o : ℕ) (s : Session) → setOf (length image) (wordsOf image) o s ≡ setModule o s (modOf w m)
     goes o s = by-module (length image) (wordsOf image) o s (modOf w m) (sym (got .same) ∙ ap numberOf ok) (accepts .reads ∙ ap (λ (y : Module). laid y) (sym is))
 
-  module _ (set : Bool) (n offset : ℕ) (words tape kinds log tags : List ℕ) (starts maps : List (List ℕ)) (marks special : List ℕ) (e : Ends) (L : Live set n offset words tape kinds log tags starts maps marks special e) (o : ℕ) where
+  module _ (set : Bool) (n offset : ℕ) (words tags targets log logtags : List ℕ) (starts maps : List (List ℕ)) (buckets special : List ℕ) (e : Sizes) (L : ValidSession set n offset words tags targets log logtags starts maps buckets special e) (o : ℕ) where
     abbrev before : Session
-    before = sessionOf set n offset words log tags starts maps special e
+    before = sessionOf set n offset words log logtags starts maps special e
 
     abbrev op : Session → Answer (Unit {0})
     op = setOf (length image) (wordsOf image) o
 
     -- 1 to 6
-    pub set-refused : NotFirst taken → (k : ℕ) → k ≡ numberOf taken → Does {A = Unit {0}} op before k tt before × Live set n offset words tape kinds log tags starts maps marks special e
+    pub set-refused : NotFirst taken → (k : ℕ) → k ≡ numberOf taken → OperationEnsures {A = Unit {0}} op before k tt before × ValidSession set n offset words tags targets log logtags starts maps buckets special e
     set-refused h k hk =
         let y = refused-by taken h in
         let z : k ≡ suc (y .0) = hk ∙ y .1 in
         (refuses op before before k tt (omega arith) (rw z (by-refusal (length image) (wordsOf image) o before (y .0) (sym (got .same) ∙ y .1))) refl, L)
 
-    module _ (m : ℕ) (ok : taken ≡ Accepted m) (r : Ends) (log′ tags′ : List ℕ) (starts′ maps′ : List (List ℕ)) (marks′ special′ : List ℕ) (d : SourceSet w m o log tags starts maps special e r log′ tags′ starts′ maps′ marks′ special′) where
-      holding : Holding (before .state) log tags starts special e
-      holding = held-so set n offset words log tags starts maps special e
+    module _ (m : ℕ) (ok : taken ≡ Accepted m) (r : Sizes) (log′ logtags′ : List ℕ) (starts′ maps′ : List (List ℕ)) (buckets′ special′ : List ℕ) (d : SourceSet w m o log logtags starts maps special e r log′ logtags′ starts′ maps′ buckets′ special′) where
+      holding : Holding (before .state) log logtags starts special e
+      holding = held-so set n offset words log logtags starts maps special e
 
       -- 21
-      pub set-not : r .full ≡ true → Does {A = Unit {0}} op before 21 tt (sessionOf set n offset words log′ tags′ starts′ maps′ special′ e) × Live set n offset words tape kinds log′ tags′ starts′ maps′ marks′ special′ e
+      pub set-not : r .full ≡ true → OperationEnsures {A = Unit {0}} op before 21 tt (sessionOf set n offset words log′ logtags′ starts′ maps′ special′ e) × ValidSession set n offset words tags targets log′ logtags′ starts′ maps′ buckets′ special′ e
       set-not q =
-          let same = session-same set n offset words log tags log′ tags′ starts maps starts′ maps′ special special′ e (d .stays q .0 words) in (
+          let same = session-same set n offset words log logtags log′ logtags′ starts maps starts′ maps′ special special′ e (d .stays q .0 words) in (
             refuses op before _ 21 tt (omega arith) (goes m ok o before ∙ set-full (L .reached) (taped m ok .well) (passes m ok) holding (L .no-entries) d q) same,
             record {
               reached = subst Reached (sym same) (L .reached);
               kept = d .stays q .1;
               specials = d .stays q .2;
-              kinds-are = L .kinds-are;
+              targets-are = L .targets-are;
               words-long = L .words-long;
               tape-long = L .tape-long;
               taped = L .taped;
@@ -134,22 +136,22 @@ module _ (image w t : List ℕ) (taken : Taken) (got : Takes taken w t image) wh
 
       -- it is set
       module _ (q : r .full ≡ false) where
-        said : op before ≡ answered tt (sessionOf true m o w log′ tags′ starts′ maps′ special′ r)
+        said : op before ≡ answered tt (sessionOf true m o w log′ logtags′ starts′ maps′ special′ r)
         unfolding sessionOf
         said = goes m ok o before ∙ set-room (L .reached) (taped m ok .well) (passes m ok) holding (L .no-entries) d q
 
-        reached′ : Reached (sessionOf true m o w log′ tags′ starts′ maps′ special′ r)
+        reached′ : Reached (sessionOf true m o w log′ logtags′ starts′ maps′ special′ r)
         unfolding does Public after
         reached′ = subst Reached (ap (after before) said) (does-reached (sets (length image) (wordsOf image) o) tt before (L .reached))
 
-        pub set-so : Does {A = Unit {0}} op before 0 tt (sessionOf true m o w log′ tags′ starts′ maps′ special′ r) × Live true m o w t kinds log′ tags′ starts′ maps′ marks′ special′ r
+        pub set-so : OperationEnsures {A = Unit {0}} op before 0 tt (sessionOf true m o w log′ logtags′ starts′ maps′ special′ r) × ValidSession true m o w t targets log′ logtags′ starts′ maps′ buckets′ special′ r
         set-so = (
           answers op before _ tt said,
           record {
             reached = reached′;
             kept = d .is q .1;
             specials = d .is q .2;
-            kinds-are = L .kinds-are;
+            targets-are = L .targets-are;
             words-long = taped m ok .words-long;
             tape-long = taped m ok .tags-long;
             taped = λ z. taped m ok;

@@ -1,3 +1,2 @@
-pub mod Live
-pub mod Lent
+pub mod Operations
 pub mod Theorems

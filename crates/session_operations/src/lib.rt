@@ -1,26 +1,35 @@
-// The operations of a session on the state that the arrays hold, but for those on functions: each with its refusals in their sequence, and where it is refused
-// the session is as it was.
+// The operations of a session on the state that the arrays hold, except those on functions: each makes its tests in document 01's sequence, and where it is
+// refused the session is as it was.
 use base_handles::ConstantHandle;
 use base_handles::ExpressionHandle;
 use base_handles::GlobalHandle;
 use base_handles::OverrideHandle;
 use base_handles::TypeHandle;
 use base_refusals::FULL;
-use base_refusals::NO_RECORD;
 use base_refusals::NO_SOURCE;
+use base_refusals::NUMBER_GIVEN;
 use base_views::CONSTANTS;
 use base_views::GLOBALS;
 use base_views::NAMES;
 use base_views::OVERRIDES;
 use base_views::TYPES;
 use base_views::count;
+use base_words::Tags;
+use base_words::Words;
 use base_words::wide;
 use derive_finish::finish;
-use derive_rollback::handle;
+use derive_rollback::mapped_to;
 use derive_source::set_source;
-use derive_state::Ends;
-use derive_state::forget;
-use derive_state::nothing;
+use derive_state::Buckets;
+use derive_state::Log;
+use derive_state::LogTags;
+use derive_state::Maps;
+use derive_state::Sizes;
+use derive_state::Special;
+use derive_state::Starts;
+use derive_state::Targets;
+use derive_state::clear_maps;
+use derive_state::empty;
 use intake::Taken;
 use std::num::wrapping_add_u32;
 ghost use mathlib.Core.Path.{_≡_};
@@ -31,51 +40,52 @@ ghost use Rattle.base_words.specs.Words.{wordsOf};
 ghost use Rattle.model.specs.Module.{countAt};
 ghost use Rattle.model.specs.Imports.{importT};
 ghost use Rattle.model.specs.Session.{importing, renameType, set as setOf, finish as finishOf};
-ghost use Rattle.derive_state.specs.Refers.{kindBytes, tabOf};
+ghost use Rattle.derive_state.specs.Refers.{targetBytes, tabOf};
 ghost use Rattle.derive_state.specs.Source.{srcOf, Source};
-ghost use Rattle.derive_state.specs.Held.{Kept, Specials, Whole};
-ghost use Rattle.session_operations.specs.Live.{sessionOf, Live, Does, Spans, Requires, Finishes};
+ghost use Rattle.derive_state.specs.Held.{ValidArrays, Specials, Whole};
+ghost use Rattle.derive_session.specs.Valid.{sessionOf, ValidSession};
+ghost use Rattle.session_operations.specs.Operations.{OperationEnsures, Spans, Requires, Finishes};
 
-// What an operation says: its refusal, 0 for none; a value; and the ends of the state behind it.
+// What an operation answers: its refusal, 0 for none; a value; and the sizes of the derived module after it.
 pub struct Said {
     pub refusal: u32,
     pub value: u32,
-    pub ends: Ends,
+    pub ends: Sizes,
 }
 
-// Record h of table t, one of the five behind that of names.
+// Imports record h of table t, one of the five tables after that of names.
 fn import_record(
-    words: &[u32; 16384],
-    tags: &[u8; 16384],
-    kinds: &[u8; 256],
+    words: &Words,
+    tags: &Tags,
+    targets: &Targets,
     n: usize,
-    log: &mut [u32; 16384],
-    classes: &mut [u8; 16384],
-    starts: &mut [[u32; 512]; 8],
-    maps: &mut [[u32; 512]; 6],
-    marks: &mut [u16; 16384],
-    ends: Ends,
+    log: &mut Log,
+    logtags: &mut LogTags,
+    starts: &mut Starts,
+    maps: &mut Maps,
+    buckets: &mut Buckets,
+    ends: Sizes,
     offset: u32,
     t: usize,
     h: u32,
-) -> Ends
+) -> Sizes
     requires { ⌜ Source (now words) (now tags) n ⌝ }
     requires { ⌜ (1 ≤ t) × (t < 6) × (h < countAt t (now words)) × (ends .full ≡ false) ⌝ }
-    requires { ⌜ now kinds ≡ kindBytes ⌝ }
-    requires { ⌜ Kept (now log) (now classes) (now starts) (now maps) (now marks) ends ⌝ }
-    ensures { λ r. ⌜ Whole (now (words .entry)) (importT offset (srcOf (now (words .entry)) n) (tabOf t) h) (now (log .entry)) (now (classes .entry)) (now (starts .entry)) (now (maps .entry)) ends r (now (log .exit)) (now (classes .exit)) (now (starts .exit)) (now (maps .exit)) (now (marks .exit)) ⌝ }
+    requires { ⌜ now targets ≡ targetBytes ⌝ }
+    requires { ⌜ ValidArrays (now log) (now logtags) (now starts) (now maps) (now buckets) ends ⌝ }
+    ensures { λ r. ⌜ Whole (now (words .entry)) (importT offset (srcOf (now (words .entry)) n) (tabOf t) h) (now (log .entry)) (now (logtags .entry)) (now (starts .entry)) (now (maps .entry)) ends r (now (log .exit)) (now (logtags .exit)) (now (starts .exit)) (now (maps .exit)) (now (buckets .exit)) ⌝ }
 {
     if t == TYPES {
         return derive_rollback::import_type(
             words,
             tags,
-            kinds,
+            targets,
             n,
             log,
-            classes,
+            logtags,
             starts,
             maps,
-            marks,
+            buckets,
             ends,
             offset,
             TypeHandle(h),
@@ -85,13 +95,13 @@ fn import_record(
         return derive_rollback::import_const(
             words,
             tags,
-            kinds,
+            targets,
             n,
             log,
-            classes,
+            logtags,
             starts,
             maps,
-            marks,
+            buckets,
             ends,
             offset,
             ConstantHandle(h),
@@ -101,13 +111,13 @@ fn import_record(
         return derive_rollback::import_pipeline_override(
             words,
             tags,
-            kinds,
+            targets,
             n,
             log,
-            classes,
+            logtags,
             starts,
             maps,
-            marks,
+            buckets,
             ends,
             offset,
             OverrideHandle(h),
@@ -117,13 +127,13 @@ fn import_record(
         return derive_rollback::import_global(
             words,
             tags,
-            kinds,
+            targets,
             n,
             log,
-            classes,
+            logtags,
             starts,
             maps,
-            marks,
+            buckets,
             ends,
             offset,
             GlobalHandle(h),
@@ -132,13 +142,13 @@ fn import_record(
     derive_rollback::import_global_expression(
         words,
         tags,
-        kinds,
+        targets,
         n,
         log,
-        classes,
+        logtags,
         starts,
         maps,
-        marks,
+        buckets,
         ends,
         offset,
         ExpressionHandle(h),
@@ -147,26 +157,26 @@ fn import_record(
 
 // import_type, import_const, import_pipeline_override, import_global, import_global_expression: record h of table t.
 pub fn import(
-    words: &[u32; 16384],
-    tags: &[u8; 16384],
-    kinds: &[u8; 256],
+    words: &Words,
+    tags: &Tags,
+    targets: &Targets,
     n: usize,
-    log: &mut [u32; 16384],
-    classes: &mut [u8; 16384],
-    starts: &mut [[u32; 512]; 8],
-    maps: &mut [[u32; 512]; 6],
-    marks: &mut [u16; 16384],
-    special: &[u32; 1027],
-    ends: Ends,
+    log: &mut Log,
+    logtags: &mut LogTags,
+    starts: &mut Starts,
+    maps: &mut Maps,
+    buckets: &mut Buckets,
+    special: &Special,
+    ends: Sizes,
     set: bool,
     offset: u32,
     t: usize,
     h: u32,
 ) -> Said
     requires { ⌜ (1 ≤ t) × (t < 6) ⌝ }
-    requires { ⌜ Live set n offset (now words) (now tags) (now kinds) (now log) (now classes) (now starts) (now maps) (now marks) (now special) ends ⌝ }
-    ensures { λ r. ⌜ Does {A = ℕ} (importing (tabOf t) h) (sessionOf set n offset (now (words .entry)) (now (log .entry)) (now (classes .entry)) (now (starts .entry)) (now (maps .entry)) (now (special .entry)) ends) (r .refusal) (r .value) (sessionOf set n offset (now (words .entry)) (now (log .exit)) (now (classes .exit)) (now (starts .exit)) (now (maps .exit)) (now (special .entry)) (r .ends)) ⌝ }
-    ensures { λ r. ⌜ Live set n offset (now (words .entry)) (now (tags .entry)) (now (kinds .entry)) (now (log .exit)) (now (classes .exit)) (now (starts .exit)) (now (maps .exit)) (now (marks .exit)) (now (special .entry)) (r .ends) ⌝ }
+    requires { ⌜ ValidSession set n offset (now words) (now tags) (now targets) (now log) (now logtags) (now starts) (now maps) (now buckets) (now special) ends ⌝ }
+    ensures { λ r. ⌜ OperationEnsures {A = ℕ} (importing (tabOf t) h) (sessionOf set n offset (now (words .entry)) (now (log .entry)) (now (logtags .entry)) (now (starts .entry)) (now (maps .entry)) (now (special .entry)) ends) (r .refusal) (r .value) (sessionOf set n offset (now (words .entry)) (now (log .exit)) (now (logtags .exit)) (now (starts .exit)) (now (maps .exit)) (now (special .entry)) (r .ends)) ⌝ }
+    ensures { λ r. ⌜ ValidSession set n offset (now (words .entry)) (now (tags .entry)) (now (targets .entry)) (now (log .exit)) (now (logtags .exit)) (now (starts .exit)) (now (maps .exit)) (now (buckets .exit)) (now (special .entry)) (r .ends) ⌝ }
 {
     if !set {
         return Said {
@@ -177,7 +187,7 @@ pub fn import(
     }
     if count(words, t) <= wide(h) {
         return Said {
-            refusal: NO_RECORD,
+            refusal: NUMBER_GIVEN,
             value: 0,
             ends: ends,
         };
@@ -185,13 +195,13 @@ pub fn import(
     let imported = import_record(
         words,
         tags,
-        kinds,
+        targets,
         n,
         log,
-        classes,
+        logtags,
         starts,
         maps,
-        marks,
+        buckets,
         ends,
         offset,
         t,
@@ -204,7 +214,7 @@ pub fn import(
             ends: ends,
         };
     }
-    let v = handle(maps, t, h);
+    let v = mapped_to(maps, t, h);
     Said {
         refusal: 0,
         value: v,
@@ -212,27 +222,27 @@ pub fn import(
     }
 }
 
-// rename_type: type h under the name of that number.
+// rename_type: imports type h under the name with the given number.
 pub fn rename_type(
-    words: &[u32; 16384],
-    tags: &[u8; 16384],
-    kinds: &[u8; 256],
+    words: &Words,
+    tags: &Tags,
+    targets: &Targets,
     n: usize,
-    log: &mut [u32; 16384],
-    classes: &mut [u8; 16384],
-    starts: &mut [[u32; 512]; 8],
-    maps: &mut [[u32; 512]; 6],
-    marks: &mut [u16; 16384],
-    special: &[u32; 1027],
-    ends: Ends,
+    log: &mut Log,
+    logtags: &mut LogTags,
+    starts: &mut Starts,
+    maps: &mut Maps,
+    buckets: &mut Buckets,
+    special: &Special,
+    ends: Sizes,
     set: bool,
     offset: u32,
     h: u32,
     name: u32,
 ) -> Said
-    requires { ⌜ Live set n offset (now words) (now tags) (now kinds) (now log) (now classes) (now starts) (now maps) (now marks) (now special) ends ⌝ }
-    ensures { λ r. ⌜ Does {A = ℕ} (renameType h name) (sessionOf set n offset (now (words .entry)) (now (log .entry)) (now (classes .entry)) (now (starts .entry)) (now (maps .entry)) (now (special .entry)) ends) (r .refusal) (r .value) (sessionOf set n offset (now (words .entry)) (now (log .exit)) (now (classes .exit)) (now (starts .exit)) (now (maps .exit)) (now (special .entry)) (r .ends)) ⌝ }
-    ensures { λ r. ⌜ Live set n offset (now (words .entry)) (now (tags .entry)) (now (kinds .entry)) (now (log .exit)) (now (classes .exit)) (now (starts .exit)) (now (maps .exit)) (now (marks .exit)) (now (special .entry)) (r .ends) ⌝ }
+    requires { ⌜ ValidSession set n offset (now words) (now tags) (now targets) (now log) (now logtags) (now starts) (now maps) (now buckets) (now special) ends ⌝ }
+    ensures { λ r. ⌜ OperationEnsures {A = ℕ} (renameType h name) (sessionOf set n offset (now (words .entry)) (now (log .entry)) (now (logtags .entry)) (now (starts .entry)) (now (maps .entry)) (now (special .entry)) ends) (r .refusal) (r .value) (sessionOf set n offset (now (words .entry)) (now (log .exit)) (now (logtags .exit)) (now (starts .exit)) (now (maps .exit)) (now (special .entry)) (r .ends)) ⌝ }
+    ensures { λ r. ⌜ ValidSession set n offset (now (words .entry)) (now (tags .entry)) (now (targets .entry)) (now (log .exit)) (now (logtags .exit)) (now (starts .exit)) (now (maps .exit)) (now (buckets .exit)) (now (special .entry)) (r .ends) ⌝ }
 {
     if !set {
         return Said {
@@ -243,14 +253,14 @@ pub fn rename_type(
     }
     if count(words, TYPES) <= wide(h) {
         return Said {
-            refusal: NO_RECORD,
+            refusal: NUMBER_GIVEN,
             value: 0,
             ends: ends,
         };
     }
     if count(words, NAMES) <= wide(name) {
         return Said {
-            refusal: NO_RECORD,
+            refusal: NUMBER_GIVEN,
             value: 0,
             ends: ends,
         };
@@ -258,13 +268,13 @@ pub fn rename_type(
     let renamed = derive_rollback::rename_type(
         words,
         tags,
-        kinds,
+        targets,
         n,
         log,
-        classes,
+        logtags,
         starts,
         maps,
-        marks,
+        buckets,
         ends,
         offset,
         TypeHandle(h),
@@ -277,7 +287,7 @@ pub fn rename_type(
             ends: ends,
         };
     }
-    let v = handle(maps, TYPES, h);
+    let v = mapped_to(maps, TYPES, h);
     Said {
         refusal: 0,
         value: v,
@@ -320,7 +330,7 @@ pub fn map_span(set: bool, offset: u32, a: u32, b: u32) -> Span
 }
 
 // has_required_special_types: 1 if there are any.
-pub fn required(special: &[u32; 1027], ends: Ends) -> u32
+pub fn has_required_special_types(special: &Special, ends: Sizes) -> u32
     requires { ⌜ Specials (now special) ends ⌝ }
     ensures { λ r. ⌜ Requires (now (special .entry)) ends r ⌝ }
 {
@@ -339,49 +349,49 @@ pub fn required(special: &[u32; 1027], ends: Ends) -> u32
     0
 }
 
-// What setting a source says: its refusal, 0 for none; the words of the source that is set then; and the ends.
+// What setting a source answers: its refusal, 0 for none; the number of words of the source that is then set; and the sizes.
 pub struct Set {
     pub refusal: u32,
     pub set: bool,
     pub n: usize,
     pub offset: u32,
-    pub ends: Ends,
+    pub ends: Sizes,
 }
 
-// set_shader_source where no source is set: there is none that a refusal has to leave, so the image goes at once where a source's words are. What a refused one
-// left there is cleared.
-fn set_first(
+// set_shader_source where no source is set: no source has to survive a refusal, so the image is read directly into the array of the source's words. What a
+// refused image left there is cleared.
+fn set_first_source(
     image: &[u8],
-    words: &mut [u32; 16384],
-    tags: &mut [u8; 16384],
-    kinds: &[u8; 256],
+    words: &mut Words,
+    tags: &mut Tags,
+    targets: &Targets,
     n: usize,
-    log: &mut [u32; 16384],
-    classes: &mut [u8; 16384],
-    starts: &mut [[u32; 512]; 8],
-    maps: &mut [[u32; 512]; 6],
-    marks: &mut [u16; 16384],
-    special: &mut [u32; 1027],
-    ends: Ends,
+    log: &mut Log,
+    logtags: &mut LogTags,
+    starts: &mut Starts,
+    maps: &mut Maps,
+    buckets: &mut Buckets,
+    special: &mut Special,
+    ends: Sizes,
     offset: u32,
     o: u32,
 ) -> Set
-    requires { ⌜ Live false n offset (now words) (now tags) (now kinds) (now log) (now classes) (now starts) (now maps) (now marks) (now special) ends ⌝ }
-    ensures { λ r. ⌜ Does {A = Unit {0}} (setOf (length (now (image .entry))) (wordsOf (now (image .entry))) o) (sessionOf false n offset (now (words .entry)) (now (log .entry)) (now (classes .entry)) (now (starts .entry)) (now (maps .entry)) (now (special .entry)) ends) (r .refusal) tt (sessionOf (r .set) (r .n) (r .offset) (now (words .exit)) (now (log .exit)) (now (classes .exit)) (now (starts .exit)) (now (maps .exit)) (now (special .exit)) (r .ends)) ⌝ }
-    ensures { λ r. ⌜ Live (r .set) (r .n) (r .offset) (now (words .exit)) (now (tags .exit)) (now (kinds .entry)) (now (log .exit)) (now (classes .exit)) (now (starts .exit)) (now (maps .exit)) (now (marks .exit)) (now (special .exit)) (r .ends) ⌝ }
+    requires { ⌜ ValidSession false n offset (now words) (now tags) (now targets) (now log) (now logtags) (now starts) (now maps) (now buckets) (now special) ends ⌝ }
+    ensures { λ r. ⌜ OperationEnsures {A = Unit {0}} (setOf (length (now (image .entry))) (wordsOf (now (image .entry))) o) (sessionOf false n offset (now (words .entry)) (now (log .entry)) (now (logtags .entry)) (now (starts .entry)) (now (maps .entry)) (now (special .entry)) ends) (r .refusal) tt (sessionOf (r .set) (r .n) (r .offset) (now (words .exit)) (now (log .exit)) (now (logtags .exit)) (now (starts .exit)) (now (maps .exit)) (now (special .exit)) (r .ends)) ⌝ }
+    ensures { λ r. ⌜ ValidSession (r .set) (r .n) (r .offset) (now (words .exit)) (now (tags .exit)) (now (targets .entry)) (now (log .exit)) (now (logtags .exit)) (now (starts .exit)) (now (maps .exit)) (now (buckets .exit)) (now (special .exit)) (r .ends) ⌝ }
 {
     let taken = intake::take_in(image, words, tags);
     if let Taken::Accepted(m) = taken {
         let got = set_source(
             words,
             tags,
-            kinds,
+            targets,
             m,
             log,
-            classes,
+            logtags,
             starts,
             maps,
-            marks,
+            buckets,
             special,
             ends,
             o,
@@ -415,39 +425,39 @@ fn set_first(
 }
 
 // set_shader_source: the image with the offset o. A source that is set stays until the image is accepted and fits.
-pub fn set_source_of(
+pub fn set_shader_source(
     image: &[u8],
-    words: &mut [u32; 16384],
-    tags: &mut [u8; 16384],
-    kinds: &[u8; 256],
+    words: &mut Words,
+    tags: &mut Tags,
+    targets: &Targets,
     n: usize,
-    log: &mut [u32; 16384],
-    classes: &mut [u8; 16384],
-    starts: &mut [[u32; 512]; 8],
-    maps: &mut [[u32; 512]; 6],
-    marks: &mut [u16; 16384],
-    special: &mut [u32; 1027],
-    ends: Ends,
+    log: &mut Log,
+    logtags: &mut LogTags,
+    starts: &mut Starts,
+    maps: &mut Maps,
+    buckets: &mut Buckets,
+    special: &mut Special,
+    ends: Sizes,
     set: bool,
     offset: u32,
     o: u32,
 ) -> Set
-    requires { ⌜ Live set n offset (now words) (now tags) (now kinds) (now log) (now classes) (now starts) (now maps) (now marks) (now special) ends ⌝ }
-    ensures { λ r. ⌜ Does {A = Unit {0}} (setOf (length (now (image .entry))) (wordsOf (now (image .entry))) o) (sessionOf set n offset (now (words .entry)) (now (log .entry)) (now (classes .entry)) (now (starts .entry)) (now (maps .entry)) (now (special .entry)) ends) (r .refusal) tt (sessionOf (r .set) (r .n) (r .offset) (now (words .exit)) (now (log .exit)) (now (classes .exit)) (now (starts .exit)) (now (maps .exit)) (now (special .exit)) (r .ends)) ⌝ }
-    ensures { λ r. ⌜ Live (r .set) (r .n) (r .offset) (now (words .exit)) (now (tags .exit)) (now (kinds .entry)) (now (log .exit)) (now (classes .exit)) (now (starts .exit)) (now (maps .exit)) (now (marks .exit)) (now (special .exit)) (r .ends) ⌝ }
+    requires { ⌜ ValidSession set n offset (now words) (now tags) (now targets) (now log) (now logtags) (now starts) (now maps) (now buckets) (now special) ends ⌝ }
+    ensures { λ r. ⌜ OperationEnsures {A = Unit {0}} (setOf (length (now (image .entry))) (wordsOf (now (image .entry))) o) (sessionOf set n offset (now (words .entry)) (now (log .entry)) (now (logtags .entry)) (now (starts .entry)) (now (maps .entry)) (now (special .entry)) ends) (r .refusal) tt (sessionOf (r .set) (r .n) (r .offset) (now (words .exit)) (now (log .exit)) (now (logtags .exit)) (now (starts .exit)) (now (maps .exit)) (now (special .exit)) (r .ends)) ⌝ }
+    ensures { λ r. ⌜ ValidSession (r .set) (r .n) (r .offset) (now (words .exit)) (now (tags .exit)) (now (targets .entry)) (now (log .exit)) (now (logtags .exit)) (now (starts .exit)) (now (maps .exit)) (now (buckets .exit)) (now (special .exit)) (r .ends) ⌝ }
 {
     if !set {
-        return set_first(
+        return set_first_source(
             image,
             words,
             tags,
-            kinds,
+            targets,
             n,
             log,
-            classes,
+            logtags,
             starts,
             maps,
-            marks,
+            buckets,
             special,
             ends,
             offset,
@@ -461,13 +471,13 @@ pub fn set_source_of(
         let got = set_source(
             &w,
             &t,
-            kinds,
+            targets,
             m,
             log,
-            classes,
+            logtags,
             starts,
             maps,
-            marks,
+            buckets,
             special,
             ends,
             o,
@@ -500,37 +510,37 @@ pub fn set_source_of(
     }
 }
 
-// What finishing says: its refusal, 0 for none; the bytes written; and the ends: those of a new session, or as they were.
+// What finishing answers: its refusal, 0 for none; the bytes written; and the sizes: those of a new session, or as they were.
 pub struct Finished {
     pub refusal: u32,
     pub bytes: usize,
     pub set: bool,
-    pub ends: Ends,
+    pub ends: Sizes,
 }
 
 // finish, without entry points.
 pub fn finish_plain(
-    words: &[u32; 16384],
-    tags: &[u8; 16384],
-    kinds: &[u8; 256],
+    words: &Words,
+    tags: &Tags,
+    targets: &Targets,
     n: usize,
-    log: &[u32; 16384],
-    classes: &[u8; 16384],
-    starts: &[[u32; 512]; 8],
-    maps: &mut [[u32; 512]; 6],
-    marks: &[u16; 16384],
-    special: &mut [u32; 1027],
-    ends: Ends,
+    log: &Log,
+    logtags: &LogTags,
+    starts: &Starts,
+    maps: &mut Maps,
+    buckets: &Buckets,
+    special: &mut Special,
+    ends: Sizes,
     set: bool,
     offset: u32,
     output: &mut [u8],
 ) -> Finished
-    requires { ⌜ Live set n offset (now words) (now tags) (now kinds) (now log) (now classes) (now starts) (now maps) (now marks) (now special) ends ⌝ }
-    ensures { λ r. ⌜ Finishes (finishOf (length (now (output .entry))) (sessionOf set n offset (now (words .entry)) (now (log .entry)) (now (classes .entry)) (now (starts .entry)) (now (maps .entry)) (now (special .entry)) ends)) (sessionOf set n offset (now (words .entry)) (now (log .entry)) (now (classes .entry)) (now (starts .entry)) (now (maps .entry)) (now (special .entry)) ends) (r .refusal) (r .bytes) (now (output .entry)) (now (output .exit)) (sessionOf (r .set) n offset (now (words .entry)) (now (log .entry)) (now (classes .entry)) (now (starts .entry)) (now (maps .exit)) (now (special .exit)) (r .ends)) ⌝ }
-    ensures { λ r. ⌜ Live (r .set) n offset (now (words .entry)) (now (tags .entry)) (now (kinds .entry)) (now (log .entry)) (now (classes .entry)) (now (starts .entry)) (now (maps .exit)) (now (marks .entry)) (now (special .exit)) (r .ends) ⌝ }
+    requires { ⌜ ValidSession set n offset (now words) (now tags) (now targets) (now log) (now logtags) (now starts) (now maps) (now buckets) (now special) ends ⌝ }
+    ensures { λ r. ⌜ Finishes (finishOf (length (now (output .entry))) (sessionOf set n offset (now (words .entry)) (now (log .entry)) (now (logtags .entry)) (now (starts .entry)) (now (maps .entry)) (now (special .entry)) ends)) (sessionOf set n offset (now (words .entry)) (now (log .entry)) (now (logtags .entry)) (now (starts .entry)) (now (maps .entry)) (now (special .entry)) ends) (r .refusal) (r .bytes) (now (output .entry)) (now (output .exit)) (sessionOf (r .set) n offset (now (words .entry)) (now (log .entry)) (now (logtags .entry)) (now (starts .entry)) (now (maps .exit)) (now (special .exit)) (r .ends)) ⌝ }
+    ensures { λ r. ⌜ ValidSession (r .set) n offset (now (words .entry)) (now (tags .entry)) (now (targets .entry)) (now (log .entry)) (now (logtags .entry)) (now (starts .entry)) (now (maps .exit)) (now (buckets .entry)) (now (special .exit)) (r .ends) ⌝ }
 {
     let mut out = [0u32; 16384];
-    let got = finish(log, classes, starts, special, ends, &mut out, output);
+    let got = finish(log, logtags, starts, special, ends, &mut out, output);
     if got.refusal != 0 {
         return Finished {
             refusal: got.refusal,
@@ -539,7 +549,7 @@ pub fn finish_plain(
             ends: ends,
         };
     }
-    forget(maps);
+    clear_maps(maps);
     special[0] = 0;
     special[1] = 0;
     special[2] = 0;
@@ -547,6 +557,6 @@ pub fn finish_plain(
         refusal: 0,
         bytes: got.bytes,
         set: false,
-        ends: nothing(),
+        ends: empty(),
     }
 }

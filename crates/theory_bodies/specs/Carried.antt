@@ -1,4 +1,4 @@
--- Cells through the linker's maps are cells carried, as agreement has it; a derived record that equals the carried source record, spans apart, is alike.
+-- Cells through the linker's maps are cells carried, as agreement has it; a derived record that equals the carried source record, ignoring spans, is alike.
 use Prim.Native.Nat.{ℕ, zero, suc, _+_, _-_, _<_, _≤_, pred}
 use mathlib.Core.Path.{_≡_, refl, ap, sym, _∙_, subst}
 use mathlib.Core.Logic.{_⊎_, inl, inr}

@@ -1,4 +1,4 @@
--- Which classes stand in the records of a function, from their layout: so the expressions among the references of an expression are its operands, those of an effect its operands and its result, those of the declarations the initialisers; and what stands, or is a result, has no operands.
+-- Which classes are in the records of a function, from their layout: so the expressions among the references of an expression are its operands, those of an effect its operands and its result, those of the declarations the initialisers; and a standing expression or a result has no operands.
 use mathlib.Core.Path.{_≡_, refl, sym, ap, _∙_, subst}
 use mathlib.Core.Bool.{Bool, true, false, _&&_, _||_, false≢true}
 use mathlib.Core.Logic.{_⊎_, inl, inr}
@@ -6,11 +6,12 @@ use mathlib.Core.List.{List, [], _∷_, _++_, append-nil}
 use mathlib.Core.Option.{Option, none, some}
 use Prim.Native.Nat.{ℕ, zero, suc, _+_, _≤_, _<_}
 use native.Mathlib.Omega.{arith}
-use lib.Dec.{eqb, ltb, leb}
+use lib.Dec.{eqb, leb}
 use lib.ListN.{length, getD, getElem?}
 use borrow.Author.Tests.{eqb-true}
+use Rattle.theory_lists.specs.Booleans.{and-true, and-split}
 use Rattle.model.specs.Outcome.{Cell, Cells, class, word}
-use Rattle.model.specs.Table.{Row, WORD, SPAN, UPTO, NAME, TYPE, CONSTANT, OVERRIDE, GLOBAL, FUNCTION, CALLEE, EXPR, OPT-EXPR, ARGUMENT, LOCAL, FROM, TO, RESULT, OPT-RESULT, LOCAL-INIT, PAD, OPERANDS, ARGUMENTS, LOCALS, EXPR-KIND, LEVEL, QUERY, ATOMIC, RETURNS, VALUE, KEY, values, Shape, sEmit, sBlock, sIf, sSwitch, sLoop, sBreak, sContinue, sReturn, sKill, sCall, sEffect, expressions, levels, queries, atomics, results, statements, expressionRow, functionHead, counted, variants, repeat, variant, brings, over, more}
+use Rattle.model.specs.Table.{Row, WORD, SPAN, UPTO, NAME, TYPE, CONSTANT, OVERRIDE, GLOBAL, FUNCTION, CALLEE, EXPR, OPT-EXPR, ARGUMENT, LOCAL, FROM, TO, RESULT, OPT-RESULT, LOCAL-INIT, OPERANDS, ARGUMENTS, LOCALS, EXPR-KIND, LEVEL, QUERY, ATOMIC, RETURNS, VALUE, KEY, values, Shape, sEmit, sBlock, sIf, sSwitch, sLoop, sBreak, sContinue, sReturn, sKill, sCall, sEffect, expressions, levels, queries, atomics, results, statements, expressionRow, functionHead, counted, variants, repeat, variant, brings, over, more}
 use Rattle.model.specs.Tree.{optOf, flatAll}
 use Rattle.model.specs.Carry.{Lays, lays-none, lays-next, Each, each-none, each-next}
 use Rattle.model.specs.References.{Place, table, own, function, Target, copied, start, upto, ref, opt, targets, target, Node, node, refOf, refs}
@@ -18,7 +19,7 @@ use Rattle.model.specs.Operands.{optional, operand, opsOf, resultOf, functionOf
 use Rattle.model.specs.Initial.{Mem, here, there, roots, initsOf}
 use Rattle.model.specs.Scope.{evalsOpt, isOf}
 use Rattle.model.specs.Bodies.{compareOf, comparesOf}
-use Rattle.theory_image.specs.Lists.{and-true, and-split}
+use Rattle.theory_records.specs.Kinds.{inL, in-append, in-repeat, rowsIn, row-at, Brings, plain-in}
 use Rattle.theory_image.specs.Plain.{plain?, plain-more}
 use Rattle.theory_image.specs.Quiet.{Plainly, plain-none, plain-next, plainly}
 use Rattle.theory_image.specs.FunctionViews.{among, split-or, variant-brings, Expression, expression, expression-shape}
@@ -36,34 +37,6 @@ InC ls (c ∷ cs) = (among (class c) ls ≡ true) × InC ls cs
 pub among-elim : (P : ℕ → Type 0) (ls : List ℕ) → All P ls → (s : ℕ) → among s ls ≡ true → P s
 among-elim P [] a s h = let z : _≡_ {A = ℕ} 0 1 = cc in absurd (omega arith)
 among-elim P (x ∷ xs) a s h = split-or (eqb s x) (among s xs) h (λ e. rw (eqb-true s x e) (a .0)) (among-elim P xs (a .1) s)
-
-abbrev inL : List ℕ → Row → Bool
-inL ls [] = true
-inL ls (s ∷ ss) = among s ls && inL ls ss
-
-in-append : (ls : List ℕ) (xs ss : Row) → inL ls xs ≡ true → inL ls ss ≡ true → inL ls (xs ++ ss) ≡ true
-in-append ls [] ss h k = k
-in-append ls (x ∷ xs) ss h k = let a = and-split (among x ls) (inL ls xs) h in and-true (a .0) (in-append ls xs ss (a .1) k)
-
-in-repeat : (ls : List ℕ) (n : ℕ) (r : Row) → inL ls r ≡ true → inL ls (repeat n r) ≡ true
-unfolding repeat
-in-repeat ls zero r h = refl
-in-repeat ls (suc n) r h = in-append ls r (repeat n r) h (in-repeat ls n r h)
-
-abbrev rowsIn : List ℕ → List Row → Bool
-rowsIn ls [] = true
-rowsIn ls (r ∷ rs) = inL ls r && rowsIn ls rs
-
-row-at : (ls : List ℕ) (l : List Row) (k : ℕ) {r : Row} → rowsIn ls l ≡ true → getElem? l k ≡ some r → inL ls r ≡ true
-row-at ls [] k h e = let z : _≡_ {A = ℕ} 0 1 = cc in absurd (omega arith)
-row-at ls (x ∷ l) zero {r} h e = let q : x ≡ r = cc in rw q at (and-split (inL ls x) (rowsIn ls l) h .0)
-row-at ls (x ∷ l) (suc k) h e = row-at ls l k (and-split (inL ls x) (rowsIn ls l) h .1) e
-
-abbrev Brings : List ℕ → ℕ → Type 0
-Brings ls s = (w : ℕ) (xs : Row) → more s w ≡ brings xs → inL ls xs ≡ true
-
-plain-in : (ls : List ℕ) (s : ℕ) → ltb s PAD ≡ true → Brings ls s
-plain-in ls s p w xs e = let n : xs ≡ [] = cc (plain-more s w p) in rw n refl
 
 lays-in : (ls : List ℕ) → All (Brings ls) ls → {ss : Row} {cs : Cells} → Lays ss cs → inL ls ss ≡ true → InC ls cs
 lays-in ls b lays-none h = tt
@@ -138,7 +111,7 @@ nameless-of ls n (c ∷ cs) a = (among-elim NoName ls n (class c) (a .0), namele
 pub expr-nameless : {r : Cells} → Lays expressionRow r → Nameless r
 expr-nameless {r} l = nameless-of exprClasses no-names r (expr-classes l)
 
--- ---- what stands, or is a result, has no operands
+-- ---- a standing expression or a result has no operands
 unfoldable pub bareKind : ℕ → Bool
 bareKind k = standingKind k || resultKind k
 
@@ -183,7 +156,7 @@ bare-ops (lays-next {w} {xs} {cs} e l) c =
     table-fine : bareRows expressions 0 ≡ true
     table-fine = unfold expressions bareKind standingKind resultKind bareClasses in refl
 
--- ---- effects: a result stands last
+-- ---- effects: a result comes last
 unfoldable pub effectClasses : List ℕ
 effectClasses = WORD ∷ EXPR ∷ OPT-EXPR ∷ ATOMIC ∷ []
 

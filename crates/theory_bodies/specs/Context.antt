@@ -1,4 +1,4 @@
--- What the import of a body is given, and what it asks of the imports outside the function: after one its number is mapped, what was mapped stays mapped, the derived tables only grow, and one of what is mapped does nothing.
+-- What the import of a body is given, and what it requires of the imports outside the function: after one its number is mapped, what was mapped stays mapped, the derived tables only grow, and one of what is mapped does nothing.
 use Prim.Native.Nat.{ℕ, zero, suc, _<_, _≤_, pred}
 use mathlib.Core.Path.{_≡_, refl, sym, _∙_}
 use mathlib.Core.List.{List, [], _∷_, _++_, map}
@@ -8,21 +8,21 @@ use lib.ListN.{length, getD}
 use Rattle.model.specs.Outcome.{Cells}
 use Rattle.model.specs.Module.{Module}
 use Rattle.model.specs.Tables.{Tab, tables, count, mapAt}
-use Rattle.model.specs.References.{Place, table, own, function, Node, node, refs, each}
-use Rattle.model.specs.Imports.{St, once, importT}
-use Rattle.model.specs.Bodies.{known, Making, bring, went, step}
+use Rattle.model.specs.References.{Place, table, own, function, Node, node, refs, foldRefs}
+use Rattle.model.specs.Imports.{Derived, unlessMapped, importT}
+use Rattle.model.specs.Bodies.{known, Builder, bring, mappedTo, step}
 use Rattle.theory_records.specs.RecordLaws.{All as AllN, all-map as alln-map}
 use Rattle.theory_records.specs.Theorems.{Grows, grows-trans}
 use Rattle.theory_bodies.specs.Lists.{All}
 
 -- ---- outside the function
--- where a number went; own expressions are no matter of the tables
-unfoldable pub look : Module → St → Place → ℕ → ℕ
+-- what a number is mapped to; own expressions are no matter of the tables
+unfoldable pub look : Module → Derived → Place → ℕ → ℕ
 look M s (table t) n = mapAt (s .maps) t n
 look M s own n = 1
 look M s function n = known M s n
 
-unfoldable pub sizeOf : St → Place → ℕ
+unfoldable pub sizeOf : Derived → Place → ℕ
 sizeOf s (table t) = count (s .recs) t
 sizeOf s own = 1
 sizeOf s function = length (s .functions)
@@ -36,47 +36,47 @@ Inside M Q function n = Q n
 abbrev pub InN : Module → (ℕ → Type 0) → Node → Type 0
 InN M Q j = Inside M Q (j .place) (j .num)
 
-pub record Grown (s s′ : St) : Type 0 where
+pub record Grown (s s′ : Derived) : Type 0 where
   pub tables : Grows (s .recs) (s′ .recs)
   pub functions : length (s .functions) ≤ length (s′ .functions)
 
-pub grown-refl : (s : St) → Grown s s
+pub grown-refl : (s : Derived) → Grown s s
 grown-refl s = record { tables = record { longer = λ u. le-refl _; prefix = λ u k h. refl }; functions = le-refl _ }
 
-pub grown-trans : {a b c : St} → Grown a b → Grown b c → Grown a c
+pub grown-trans : {a b c : Derived} → Grown a b → Grown b c → Grown a c
 grown-trans p q = record { tables = grows-trans (p .tables) (q .tables); functions = le-trans (p .functions) (q .functions) }
 
-pub grown-size : {s s′ : St} → Grown s s′ → (p : Place) → sizeOf s p ≤ sizeOf s′ p
+pub grown-size : {s s′ : Derived} → Grown s s′ → (p : Place) → sizeOf s p ≤ sizeOf s′ p
 unfolding sizeOf
 grown-size g (table t) = g .tables .longer t
 grown-size g own = le-refl _
 grown-size g function = g .functions
 
-module _ (o : ℕ) (M : Module) (follow : ℕ → St → St) where
-  -- what a reference brings
-  unfoldable pub outer : Place → ℕ → St → St
+module _ (o : ℕ) (M : Module) (follow : ℕ → Derived → Derived) where
+  -- what a reference imports
+  unfoldable pub outer : Place → ℕ → Derived → Derived
   outer (table t) n s = importT o (tables M) t n s
   outer own n s = s
   outer function n s = follow n s
 
   -- G holds between imports
-  pub record Law (Q : ℕ → Type 0) (G : St → Type 0) : Type 0 where
-    pub good : (p : Place) (n : ℕ) (s : St) → Inside M Q p n → G s → G (outer p n s)
-    pub maps : (p : Place) (n : ℕ) (s : St) → Inside M Q p n → G s → 0 < look M (outer p n s) p n
-    pub keeps : (p : Place) (n : ℕ) (s : St) → Inside M Q p n → G s → (q : Place) (k : ℕ) → 0 < look M s q k → look M (outer p n s) q k ≡ look M s q k
-    pub idle : (p : Place) (n : ℕ) (s : St) → Inside M Q p n → G s → 0 < look M s p n → outer p n s ≡ s
-    pub grown : (p : Place) (n : ℕ) (s : St) → Inside M Q p n → G s → Grown s (outer p n s)
-    pub within : (s : St) → G s → (p : Place) (n : ℕ) → look M s p n ≤ sizeOf s p
+  pub record Law (Q : ℕ → Type 0) (G : Derived → Type 0) : Type 0 where
+    pub good : (p : Place) (n : ℕ) (s : Derived) → Inside M Q p n → G s → G (outer p n s)
+    pub maps : (p : Place) (n : ℕ) (s : Derived) → Inside M Q p n → G s → 0 < look M (outer p n s) p n
+    pub keeps : (p : Place) (n : ℕ) (s : Derived) → Inside M Q p n → G s → (q : Place) (k : ℕ) → 0 < look M s q k → look M (outer p n s) q k ≡ look M s q k
+    pub idle : (p : Place) (n : ℕ) (s : Derived) → Inside M Q p n → G s → 0 < look M s p n → outer p n s ≡ s
+    pub grown : (p : Place) (n : ℕ) (s : Derived) → Inside M Q p n → G s → Grown s (outer p n s)
+    pub within : (s : Derived) → G s → (p : Place) (n : ℕ) → look M s p n ≤ sizeOf s p
 
 -- the offset of spans, the source, callees, the function's expressions
 pub record Ctx : Type 1 where
   pub o : ℕ
   pub M : Module
-  pub follow : ℕ → St → St
+  pub follow : ℕ → Derived → Derived
   -- the functions that may be followed, and the expressions that may be imported
   pub calls : ℕ → Type 0
   pub may : ℕ → Type 0
-  pub G : St → Type 0
+  pub G : Derived → Type 0
   pub law : Law o M follow calls G
   pub xs : List Cells
 
@@ -134,19 +134,19 @@ all-owns P (j ∷ js) a = go (j .place) (j .num) (a .0) (all-owns P js (a .1))
     go own n x b = unfold ownOf OwnP in (x, b)
     go function n x b = unfold ownOf OwnP in b
 
--- ---- one reference outside, on what is under way
-pub went-look : (M : Module) (m : Making) (p : Place) (n : ℕ) → (own ≡ p → ⊥) → went M m p n ≡ look M (m .out) p n
-unfolding went look
+-- ---- one reference outside, on the builder
+pub went-look : (M : Module) (m : Builder) (p : Place) (n : ℕ) → (own ≡ p → ⊥) → mappedTo M m p n ≡ look M (m .out) p n
+unfolding mappedTo look
 went-look M m (table t) n h = refl
 went-look M m own n h = absurd (h refl)
 went-look M m function n h = refl
 
-pub once-is : {S : Type 0} (P : S → Type 0) (v : ℕ) (k : ℕ → S) (s : S) → (v ≡ 0 → P (k 0)) → (0 < v → P s) → P (once v k s)
-unfolding once
+pub once-is : {S : Type 0} (P : S → Type 0) (v : ℕ) (k : ℕ → S) (s : S) → (v ≡ 0 → P (k 0)) → (0 < v → P s) → P (unlessMapped v k s)
+unfolding unlessMapped
 once-is P zero k s f g = f refl
 once-is P (suc v) k s f g = g (omega arith)
 
-pub once-cong : {S : Type 0} (v : ℕ) (k k′ : ℕ → S) (s : S) → (v ≡ 0 → k 0 ≡ k′ 0) → once v k s ≡ once v k′ s
-unfolding once
+pub once-cong : {S : Type 0} (v : ℕ) (k k′ : ℕ → S) (s : S) → (v ≡ 0 → k 0 ≡ k′ 0) → unlessMapped v k s ≡ unlessMapped v k′ s
+unfolding unlessMapped
 once-cong zero k k′ s h = h refl
 once-cong (suc n) k k′ s h = refl

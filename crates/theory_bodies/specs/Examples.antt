@@ -15,7 +15,7 @@ use Rattle.model.specs.Lower.{below, typesLower, operandsLower, functionsLower,
 use Rattle.model.specs.Module.{Module}
 use Rattle.model.specs.Carry.{Each, each-none, each-next, Lays, lays-none, lays-next, ok-stmt, ok-emit, ok-deeper, ok-end, ok-then, WellFunction, WellFormed}
 use Rattle.model.specs.SampleBodies.{literal, negate, evals}
-use Rattle.model.specs.Imports.{St, unmapped, emptied, fresh}
+use Rattle.model.specs.Imports.{Derived, unmapped, emptied, fresh}
 use Rattle.model.specs.Tables.{tables}
 use Rattle.model.specs.Bodies.{localized}
 use Rattle.theory_records.specs.Imported.{Kept, emptied-kept, fresh-kept}

@@ -11,6 +11,7 @@ use native.Mathlib.Decide.{ℕ-discrete, decLt}
 use lib.Dec.{eqb}
 use lib.ListN.{length, getD, replicate, length-replicate, List·getD-eq-default}
 use borrow.Author.Tests.{eqb-true, lt-ltb}
+use Rattle.theory_lists.specs.Booleans.{by}
 use Rattle.model.specs.Lower.{below, operandsLower}
 use Rattle.model.specs.Outcome.{Cells, class, word}
 use Rattle.model.specs.Module.{Module}
@@ -19,18 +20,18 @@ use Rattle.model.specs.Tree.{Function, flatAll, flatB}
 use Rattle.model.specs.Carry.{carryCell, carryCells}
 use Rattle.model.specs.Names.{field}
 use Rattle.model.specs.Tables.{Tab, names, types, constants, overrides, globals, exprs, tables}
-use Rattle.model.specs.References.{Place, table, own, function, Target, copied, start, upto, ref, opt, targets, target, Node, node, refOf, refs, each, carryW, through, firstWord, undefinedAt, moved, shift, seat}
+use Rattle.model.specs.References.{Place, table, own, function, Target, copied, start, upto, ref, opt, targets, target, Node, node, refOf, refs, foldRefs, carryW, through, firstWord, undefinedAt, moved, shift, indexOf}
 use Rattle.model.specs.Operands.{optional, opsOf, constantKind, ops, kindAt, standing}
 use Rattle.model.specs.Initial.{Mem, here, there, Reach, root, step as reach-step, Reached, roots, initsOf, marked, initials, initial, initialised}
 use Rattle.theory_image.specs.Reached.{initial-is, initial-all, initialised-is, initialised-all}
 use Rattle.model.specs.Scope.{expand, evalsB, okB, seen, allOf, scopedAs, scoped}
-use Rattle.model.specs.Imports.{St, once, importT}
-use Rattle.model.specs.Bodies.{Making, bring, went, carried, step, join, importE, plain, unique, quiet, goB, mkB, putName, nameIf, keepNames, nameCells, namedRows, declarations, declared, walked, rebuilt, keptNames, namedAfter, derived, final, localized}
+use Rattle.model.specs.Imports.{Derived, unlessMapped, importT}
+use Rattle.model.specs.Bodies.{Builder, bring, mappedTo, carried, step, internExpr, importE, importBody, importInitialiser, importStanding, importBlock, rebuildBlock, putName, nameIf, keepNames, nameCells, namedRows, declarations, declared, walked, rebuilt, keptNames, namedAfter, derived, final, localized}
 use Rattle.theory_walks.specs.Agreement.{Maps, carryB, mentioned, MayShare, AlikeR, Agrees, carryCells as carryCellsA}
 use Rattle.theory_walks.specs.AgreementProof.{alike-ops, alike-kind}
 use Rattle.theory_walks.specs.Theorems.{carries-scope}
 use Rattle.theory_records.specs.RecordLaws.{All as AllN, all-map as alln-map, all-both as alln-both, Has as HasN, image, bare, alike-self, rest-of, refs-alike, refs-carry}
-use Rattle.theory_bodies.specs.Lists.{All, Distinct, all-map, all-both, all-any, all-mem, mem-all, mem-map, all-of-map, split, by}
+use Rattle.theory_bodies.specs.Lists.{All, Distinct, all-map, all-both, all-any, all-mem, mem-all, mem-map, all-of-map, split}
 use Rattle.theory_bodies.specs.Context.{Inside, InN, Grown, grown-trans, outer, Law, Ctx, OwnP, Own, ownOf, owns, owns-all, all-owns}
 use Rattle.theory_bodies.specs.Inv.{Has, Un, place, Ext, ext-refl, ext-trans, ext-has, ext-went, ext-place, ext-all, Low, LowN, Entry, Inv, Put, join-put}
 use Rattle.theory_bodies.specs.Gen.{Wants, Ends, Res, Many, many, import-res}
@@ -51,8 +52,8 @@ mapsOf w = record {
   inEntry = λ i n. 0;
 }
 
-pub maps-match : (M : Module) (Q : ℕ → Type 0) (m : Making) → Match (mapsOf (went M m)) (place (m .memo)) Q (went M m)
-unfolding went place
+pub maps-match : (M : Module) (Q : ℕ → Type 0) (m : Builder) → Match (mapsOf (mappedTo M m)) (place (m .memo)) Q (mappedTo M m)
+unfolding mappedTo place
 maps-match M Q m = record { of-types = λ n h. refl; of-constants = λ n h. refl; of-overrides = λ n h. refl; of-globals = λ n h. refl; of-inits = λ n h. refl; of-functions = λ n q h. refl; of-own = λ n h. refl }
 
 -- a name's word is in range
@@ -144,9 +145,9 @@ refs-append P (c ∷ cs) b h =
     (cons-split P (target (class c)) (word c) (refs (cs ++ b)) (refs cs) h (r .0), r .1)
 
 -- ---- the initialisers of derived locals
-module _ (M : Module) (o : ℕ) (d : Making) (φ : ℕ → ℕ) (is : (e : ℕ) → Has (d .memo) e → φ e ≡ place (d .memo) e) where
-  opt-init : (v : ℕ) (rest : List Node) (xs : List ℕ) → AllN (HasN (went M d)) (refOf (opt own) v rest) → optional (carryW (went M d) (opt own) v) (map φ xs) ≡ map φ (optional v xs)
-  unfolding refOf carryW went optional place
+module _ (M : Module) (o : ℕ) (d : Builder) (φ : ℕ → ℕ) (is : (e : ℕ) → Has (d .memo) e → φ e ≡ place (d .memo) e) where
+  opt-init : (v : ℕ) (rest : List Node) (xs : List ℕ) → AllN (HasN (mappedTo M d)) (refOf (opt own) v rest) → optional (carryW (mappedTo M d) (opt own) v) (map φ xs) ≡ map φ (optional v xs)
+  unfolding refOf carryW mappedTo optional place
   opt-init zero rest xs a = refl
   opt-init (suc n) rest xs a = front (getD (d .memo) n 0) (a .0) (is n (a .0))
     where
@@ -154,25 +155,25 @@ module _ (M : Module) (o : ℕ) (d : Making) (φ : ℕ → ℕ) (is : (e : ℕ) 
       front zero h q = absurd (omega arith)
       front (suc v) h q = rw q
 
-  inits-carried : (l : Cells) (u : Bool) (xs : List ℕ) → AllN (HasN (went M d)) (refs l) → initsOf (shift (carryCells (through (went M d)) l) o u) (map φ xs) ≡ map φ (initsOf l xs)
+  inits-carried : (l : Cells) (u : Bool) (xs : List ℕ) → AllN (HasN (mappedTo M d)) (refs l) → initsOf (shift (carryCells (through (mappedTo M d)) l) o u) (map φ xs) ≡ map φ (initsOf l xs)
   unfolding initsOf shift carryCell refs
   inits-carried [] u xs a = refl
   inits-carried (c ∷ cs) u xs a = go (eqb (class c) LOCAL-INIT) refl (inits-carried cs v xs (rest-of _ (target (class c)) (word c) (refs cs) a))
     where
       v : Bool
-      v = undefinedAt (target (class c)) (through (went M d) (class c) (word c)) (firstWord (carryCells (through (went M d)) cs)) u
+      v = undefinedAt (target (class c)) (through (mappedTo M d) (class c) (word c)) (firstWord (carryCells (through (mappedTo M d)) cs)) u
 
-      init-word : class c ≡ LOCAL-INIT → (ys : List ℕ) → optional (moved (target (class c)) (through (went M d) (class c) (word c)) o v) (map φ ys) ≡ map φ (optional (word c) ys)
-      init-word e ys = subst (λ (s : ℕ). AllN (HasN (went M d)) (refOf (target s) (word c) (refs cs)) → optional (moved (target s) (through (went M d) s (word c)) o v) (map φ ys) ≡ map φ (optional (word c) ys)) (sym e)
+      init-word : class c ≡ LOCAL-INIT → (ys : List ℕ) → optional (moved (target (class c)) (through (mappedTo M d) (class c) (word c)) o v) (map φ ys) ≡ map φ (optional (word c) ys)
+      init-word e ys = subst (λ (s : ℕ). AllN (HasN (mappedTo M d)) (refOf (target s) (word c) (refs cs)) → optional (moved (target s) (through (mappedTo M d) s (word c)) o v) (map φ ys) ≡ map φ (optional (word c) ys)) (sym e)
           (λ b. unfold target targets moved through in opt-init (word c) (refs cs) ys (unfold target targets in b)) a
 
-      go : (b : Bool) → eqb (class c) LOCAL-INIT ≡ b → initsOf (shift (carryCells (through (went M d)) cs) o v) (map φ xs) ≡ map φ (initsOf cs xs)
-          → elim b [ true ↦ optional (moved (target (class c)) (through (went M d) (class c) (word c)) o v) (initsOf (shift (carryCells (through (went M d)) cs) o v) (map φ xs)) | false ↦ initsOf (shift (carryCells (through (went M d)) cs) o v) (map φ xs) ]
+      go : (b : Bool) → eqb (class c) LOCAL-INIT ≡ b → initsOf (shift (carryCells (through (mappedTo M d)) cs) o v) (map φ xs) ≡ map φ (initsOf cs xs)
+          → elim b [ true ↦ optional (moved (target (class c)) (through (mappedTo M d) (class c) (word c)) o v) (initsOf (shift (carryCells (through (mappedTo M d)) cs) o v) (map φ xs)) | false ↦ initsOf (shift (carryCells (through (mappedTo M d)) cs) o v) (map φ xs) ]
           ≡ map φ (elim b [ true ↦ optional (word c) (initsOf cs xs) | false ↦ initsOf cs xs ])
       go true e ih = rw ih (init-word (eqb-true (class c) LOCAL-INIT e) (initsOf cs xs))
       go false e ih = ih
 
-  roots-carried : (ls : List Cells) → AllN (HasN (went M d)) (refs (flatAll ls)) → roots (map (carried o M d) ls) ≡ map φ (roots ls)
+  roots-carried : (ls : List Cells) → AllN (HasN (mappedTo M d)) (refs (flatAll ls)) → roots (map (carried o M d) ls) ≡ map φ (roots ls)
   unfolding roots flatAll carried
   roots-carried [] a = refl
   roots-carried (l ∷ ls) a =
@@ -204,15 +205,15 @@ mem-or e (x ∷ l) = go (ℕ-discrete e x) (mem-or e l)
     go (yes q) r = inl (rw q here)
     go (no n) r = ⊎-elim (λ k. inl (there k)) (λ a. inr (n, a)) r
 
--- what may be imported: what stands, what the body evaluates, and what initialisers reach
+-- what may be imported: standing expressions, what the body evaluates, and what initialisers reach
 abbrev pub May : Function → ℕ → Type 0
 May F e = (standing (F .exprs) e ≡ true) ⊎ (Mem e (evalsB (seen F)) ⊎ Reached F e)
 
-module _ (o : ℕ) (M : Module) (follow : ℕ → St → St) (Q : ℕ → Type 0) (G : St → Type 0) (law : Law o M follow Q G) (F : Function) where
+module _ (o : ℕ) (M : Module) (follow : ℕ → Derived → Derived) (Q : ℕ → Type 0) (G : Derived → Type 0) (law : Law o M follow Q G) (F : Function) where
   abbrev pub ctx : Ctx
   ctx = record { o = o; M = M; follow = follow; calls = Q; may = May F; G = G; law = law; xs = F .exprs }
 
-  module _ (fine : Fine ctx F) (s : St) (good : G s) where
+  module _ (fine : Fine ctx F) (s : Derived) (good : G s) where
     abbrev xs : List Cells
     xs = F .exprs
 
@@ -228,23 +229,23 @@ module _ (o : ℕ) (M : Module) (follow : ℕ → St → St) (Q : ℕ → Type 0
     abbrev evals : List ℕ
     evals = evalsB (seen F)
 
-    abbrev joinF : ℕ → Making → Making
-    joinF = join o M follow xs
+    abbrev joinF : ℕ → Builder → Builder
+    joinF = internExpr o M follow xs
 
-    abbrev dec : Making
+    abbrev dec : Builder
     dec = declared o M follow F s
 
-    abbrev fin : Making
+    abbrev fin : Builder
     fin = final o M follow F s
 
     abbrev φ : ℕ → ℕ
     φ = place (fin .memo)
 
-    abbrev begin : Making
+    abbrev begin : Builder
     begin = record { out = s; memo = replicate (length xs) 0; made = [] }
 
     -- ---- the declarations
-    join-ends : (e : ℕ) (st : Making) → e < length xs → R e → Un (st .memo) e → Inv ctx st → Unit {0} → AllN (Wants ctx joinF (λ e. true) R (λ y. R y → ⊥) (λ s. Unit {0}) st) (refs (getD xs e []))
+    join-ends : (e : ℕ) (st : Builder) → e < length xs → R e → Un (st .memo) e → Inv ctx st → Unit {0} → AllN (Wants ctx joinF (λ e. true) R (λ y. R y → ⊥) (λ s. Unit {0}) st) (refs (getD xs e []))
         → Ends ctx joinF (λ e. true) R (λ y. R y → ⊥) (λ s. Unit {0}) e st (joinF e st)
     join-ends e st l r z i j a =
         let p = join-put ctx e st i l z (alln-both (refs (getD xs e [])) (λ j f g. f g) a (own-ops ctx ex (λ y. true ≡ true) e (all-any (ops xs e) (λ y. refl)))) in
@@ -256,8 +257,8 @@ module _ (o : ℕ) (M : Module) (follow : ℕ → St → St) (Q : ℕ → Type 0
     reach-ops : (e : ℕ) → R e → AllN (Own R) (refs (getD xs e []))
     reach-ops e h = own-ops ctx ex R e (all-mem R (ops xs e) (λ y m. reach-step h m))
 
-    one : (x : ℕ) (st : Making) → x < length xs → R x → Inv ctx st → Unit {0} → Res ctx joinF (λ e. true) R (λ y. R y → ⊥) (λ s. Unit {0}) x st (unique o M follow xs x st)
-    unfolding unique
+    one : (x : ℕ) (st : Builder) → x < length xs → R x → Inv ctx st → Unit {0} → Res ctx joinF (λ e. true) R (λ y. R y → ⊥) (λ s. Unit {0}) x st (importInitialiser o M follow xs x st)
+    unfolding importInitialiser
     one x st l r i j =
         import-res ctx joinF (λ e. true) R (λ y. R y → ⊥) (λ s. Unit {0}) (λ e m. own-ops ctx ex _ e (ex .lower e m)) (λ e r. ex .inside e (inr (inr r))) reach-ops
         (λ p n s j. tt) join-ends (length xs) x st l l r i j
@@ -269,11 +270,11 @@ module _ (o : ℕ) (M : Module) (follow : ℕ → St → St) (Q : ℕ → Type 0
     unfolding declared
     decls =
         many ctx joinF (λ e. true) R (λ y. R y → ⊥) (λ s. Unit {0}) (λ e m. own-ops ctx ex _ e (ex .lower e m)) (λ e r. ex .inside e (inr (inr r))) reach-ops
-        (λ p n s j. tt) join-ends (length xs) (unique o M follow xs) one drefs begin
+        (λ p n s j. tt) join-ends (length xs) (importInitialiser o M follow xs) one drefs begin
         (owns-all _ drefs (rw (fine .declared-owned) (fine .roots-in))) (owns-all R drefs (rw (fine .declared-owned) (all-mem R (roots (F .locals)) (λ x m. root m))))
         (fine .declared-in) begin-inv tt
 
-    pub decl-has : AllN (HasN (went M dec)) drefs
+    pub decl-has : AllN (HasN (mappedTo M dec)) drefs
     decl-has = alln-both drefs (λ j f g. f g) (decls .has) (owns-all (λ y. true ≡ true) drefs (all-any (owns drefs) (λ y. refl)))
 
     -- what is reached is mapped
@@ -281,7 +282,7 @@ module _ (o : ℕ) (M : Module) (follow : ℕ → St → St) (Q : ℕ → Type 0
     reach-has (root m) = mem-all _ m (rw (fine .declared-owned) at (has-owns ctx ex init init 0 fin dec drefs decl-has))
     reach-has (reach-step {e = e} r m) = mem-all _ m (rw (ex .owned e) at (has-owns ctx ex init init 0 fin dec (refs (getD xs e [])) (decls .inv .found e (reach-has r) .ready)))
 
-    -- and nothing but what stands or is an initialiser expression
+    -- and nothing but standing and initialiser expressions
     un-begin : (y : ℕ) → Un (begin .memo) y
     un-begin y = ⊎-elim (λ z. z) (λ h. absurd (no-has (length xs) y h)) (split (getD (replicate (length xs) 0) y 0))
 
@@ -321,33 +322,33 @@ module _ (o : ℕ) (M : Module) (follow : ℕ → St → St) (Q : ℕ → Type 0
     }
 
     -- ---- the names
-    abbrev mid : Making
+    abbrev mid : Builder
     mid = walked o M follow F dec
 
     named-res : Inv ctx mid → Brought ctx (refs (nameCells (keptNames o M follow F mid))) mid fin
-    unfolding final namedAfter plain keptNames
+    unfolding final namedAfter importBody keptNames
     named-res i =
         let js = refs (nameCells (keepNames (F .named) (mid .memo) [])) in
         rw (each-idle ctx (plainC ctx) (import-idle ctx _ (length xs)) js mid (names-own _ (keepNames (F .named) (mid .memo) [])))
         (brought ctx js mid i (names-in M Q (keepNames (F .named) (mid .memo) []) (keep-in M Q (F .named) (mid .memo) [] (fine .named-in) tt)))
 
     -- ---- the body; μ are maps that are the linker's where it has mapped
-    module _ (μ : Maps) (match : Match μ φ Q (went M fin)) where
+    module _ (μ : Maps) (match : Match μ φ Q (mappedTo M fin)) where
       body : (L : Cells → Type 0) → Room L ctx fin μ → (init′ : ℕ → Bool) → ((k : ℕ) → n₀ ≤ k → init′ k ≡ false)
           → Does ctx ex init init′ n₀ fin evals dec mid ((expand (rebuilt o M follow F dec) init′ ≡ carryB (seen F) μ φ) × All (Has (fin .memo)) (mentioned F) × L (flatB (rebuilt o M follow F dec)))
       unfolding walked rebuilt seen mentioned
       body L room init′ high = doesB ctx ex init init′ n₀ fin μ match high L room (F .body) [] dec (fine .fit) (before init′) (fine .scope)
 
-    whole : Does ctx ex init (λ k. false) n₀ fin evals dec mid ((expand (rebuilt o M follow F dec) (λ k. false) ≡ carryB (seen F) (mapsOf (went M fin)) φ) × All (Has (fin .memo)) (mentioned F) × Unit {0})
-    whole = body (mapsOf (went M fin)) (maps-match M Q fin) (λ cs. Unit {0}) (no-room ctx fin (mapsOf (went M fin))) (λ k. false) (λ k l. refl)
+    whole : Does ctx ex init (λ k. false) n₀ fin evals dec mid ((expand (rebuilt o M follow F dec) (λ k. false) ≡ carryB (seen F) (mapsOf (mappedTo M fin)) φ) × All (Has (fin .memo)) (mentioned F) × Unit {0})
+    whole = body (mapsOf (mappedTo M fin)) (maps-match M Q fin) (λ cs. Unit {0}) (no-room ctx fin (mapsOf (mappedTo M fin))) (λ k. false) (λ k l. refl)
 
     tail : Brought ctx (refs (nameCells (keptNames o M follow F mid))) mid fin
     tail = named-res (whole .inv)
 
     -- the names of the named expressions that stay are mapped
-    pub names-has : AllN (HasN (went M fin)) (refs (nameCells (keptNames o M follow F fin)))
+    pub names-has : AllN (HasN (mappedTo M fin)) (refs (nameCells (keptNames o M follow F fin)))
     unfolding keptNames
-    names-has = subst (λ (q : List ℕ). AllN (HasN (went M fin)) (refs (nameCells (keepNames (F .named) q [])))) (sym (tail .memo)) (alln-both (refs (nameCells (keepNames (F .named) (mid .memo) []))) (λ j f g. f g) (unfold keptNames in tail .has) (names-own _ (keepNames (F .named) (mid .memo) [])))
+    names-has = subst (λ (q : List ℕ). AllN (HasN (mappedTo M fin)) (refs (nameCells (keepNames (F .named) q [])))) (sym (tail .memo)) (alln-both (refs (nameCells (keepNames (F .named) (mid .memo) []))) (λ j f g. f g) (unfold keptNames in tail .has) (names-own _ (keepNames (F .named) (mid .memo) [])))
 
     -- (1) tables only grow, and what is mapped stays mapped
     pub begun : Ext M begin dec
@@ -366,7 +367,7 @@ module _ (o : ℕ) (M : Module) (follow : ℕ → St → St) (Q : ℕ → Type 0
     pub mentions-mapped : All (Has (fin .memo)) (mentioned F)
     mentions-mapped = whole .carry (tail .ext) .1
 
-    -- nothing but what stands, initialiser expressions and what the body evaluates is mapped
+    -- nothing but standing expressions, initialiser expressions and what the body evaluates is mapped
     pub only-mapped : (y : ℕ) → standing xs y ≡ false → init y ≡ false → All (λ x. y ≢ x) evals → Un (fin .memo) y
     only-mapped y m n a = rw (tail .memo) (whole .apart y m a (un-hard y m n))
 
@@ -378,7 +379,7 @@ module _ (o : ℕ) (M : Module) (follow : ℕ → St → St) (Q : ℕ → Type 0
         by _ (init e) (λ n. inr (inr (initial-is F e n .0))) (λ n.
         ⊎-elim (λ k. inr (inl k)) (λ a. absurd (let z = only-mapped e m n a in omega arith)) (mem-or e evals)))
 
-    -- only what stands or is an initialiser expression shares a record
+    -- only standing or initialiser expressions share a record
     pub shares : (e e′ : ℕ) → Has (fin .memo) e → Has (fin .memo) e′ → φ e ≡ φ e′ → (e ≡ e′) ⊎ (MayShare F e × MayShare F e′)
     unfolding initial
     shares = rw (tail .memo) (whole .shared)
@@ -386,14 +387,14 @@ module _ (o : ℕ) (M : Module) (follow : ℕ → St → St) (Q : ℕ → Type 0
     abbrev pub F′ : Function
     F′ = localized o M follow F s
 
-    module _ (μ : Maps) (match : Match μ φ Q (went M fin)) (M′ : Module) where
-      -- (3) the record of a mapped expression is the source's carried, spans apart
+    module _ (μ : Maps) (match : Match μ φ Q (mappedTo M fin)) (M′ : Module) where
+      -- (3) the record of a mapped expression is the source's carried, ignoring spans
       pub record-alike : (e : ℕ) → Has (fin .memo) e → AlikeR M M′ μ φ (getD xs e []) (getD (F′ .exprs) (φ e) [])
       unfolding localized derived
       record-alike e h =
           let n = holds .found e h in
           alike-of M M′ μ φ (getD xs e []) _ (fine .nameless e)
-          (alike-self _ _ (n .same ∙ ap bare (cells-carry μ φ M Q (went M fin) match (getD xs e []) (fine .nameless e) (both-ok μ φ M Q (went M fin) match (refs (getD xs e [])) (n .ready) (ex .inside e (mapped-may e h))))))
+          (alike-self _ _ (n .same ∙ ap bare (cells-carry μ φ M Q (mappedTo M fin) match (getD xs e []) (fine .nameless e) (both-ok μ φ M Q (mappedTo M fin) match (refs (getD xs e [])) (n .ready) (ex .inside e (mapped-may e h))))))
 
       pub ops-same : (e : ℕ) → Has (fin .memo) e → ops (F′ .exprs) (φ e) ≡ map φ (ops xs e)
       unfolding ops
@@ -402,7 +403,7 @@ module _ (o : ℕ) (M : Module) (follow : ℕ → St → St) (Q : ℕ → Type 0
       local-roots : roots (F′ .locals) ≡ map φ (roots (F .locals))
       unfolding localized derived declarations
       local-roots =
-          let d = refs-append (HasN (went M dec)) (F .head ++ flatAll (F .arguments) ++ F .result) (flatAll (F .locals)) decl-has .1 in
+          let d = refs-append (HasN (mappedTo M dec)) (F .head ++ flatAll (F .arguments) ++ F .result) (flatAll (F .locals)) decl-has .1 in
           roots-carried M o dec φ (ext-place M grows) (F .locals) d
 
       -- what the derived locals reach is what the source's reach, carried
@@ -469,20 +470,20 @@ module _ (o : ℕ) (M : Module) (follow : ℕ → St → St) (Q : ℕ → Type 0
     derived-lower : (k : ℕ) → k < length (fin .made) → All (λ x. x < k) (opsOf (getD (fin .made) k []))
     derived-lower k h = go (holds .from k h)
       where
-        low-own : (p : Place) (n : ℕ) → Low (fin .out) k p (pred (went M fin p n)) → OwnP (λ x. φ x < k) p n
+        low-own : (p : Place) (n : ℕ) → Low (fin .out) k p (pred (mappedTo M fin p n)) → OwnP (λ x. φ x < k) p n
         low-own (table t) n l = unfold OwnP in tt
-        low-own own n l = unfold OwnP place in (unfold Low went in l)
+        low-own own n l = unfold OwnP place in (unfold Low mappedTo in l)
         low-own function n l = unfold OwnP in tt
 
         go : (e : ℕ) × Has (fin .memo) e × (φ e ≡ k) → All (λ x. x < k) (opsOf (getD (fin .made) k []))
         go b =
             let n = holds .found (b .0) (b .1) in
-            let same = ops-same (mapsOf (went M fin)) (maps-match M Q fin) M (b .0) (b .1) in
+            let same = ops-same (mapsOf (mappedTo M fin)) (maps-match M Q fin) M (b .0) (b .1) in
             let e : ℕ = b .0 in
-            let q : refs (getD (fin .made) k []) ≡ map (image (went M fin)) (refs (getD xs e [])) =
-            ap (λ (t : ℕ). refs (getD (fin .made) t [])) (sym (b .2)) ∙ (refs-alike _ _ (n .same) ∙ refs-carry (went M fin) (getD xs e []) (n .ready)) in
-            let a : AllN (LowN (fin .out) k) (map (image (went M fin)) (refs (getD xs e []))) = rw q at (holds .low k h) in
-            let l = ops-own ctx ex (λ x. φ x < k) e (alln-map (refs (getD xs e [])) (λ j. low-own (j .place) (j .num)) (image-all (LowN (fin .out) k) (image (went M fin)) (refs (getD xs e [])) a)) in
+            let q : refs (getD (fin .made) k []) ≡ map (image (mappedTo M fin)) (refs (getD xs e [])) =
+            ap (λ (t : ℕ). refs (getD (fin .made) t [])) (sym (b .2)) ∙ (refs-alike _ _ (n .same) ∙ refs-carry (mappedTo M fin) (getD xs e []) (n .ready)) in
+            let a : AllN (LowN (fin .out) k) (map (image (mappedTo M fin)) (refs (getD xs e []))) = rw q at (holds .low k h) in
+            let l = ops-own ctx ex (λ x. φ x < k) e (alln-map (refs (getD xs e [])) (λ j. low-own (j .place) (j .num)) (image-all (LowN (fin .out) k) (image (mappedTo M fin)) (refs (getD xs e [])) a)) in
             let z : opsOf (getD (fin .made) k []) ≡ map φ (ops xs e) = ap (λ (t : ℕ). opsOf (getD (fin .made) t [])) (sym (b .2)) ∙ ops-made e same in
             rw z (all-of-map (λ x. x < k) φ (ops xs e) l)
 
@@ -496,12 +497,12 @@ module _ (o : ℕ) (M : Module) (follow : ℕ → St → St) (Q : ℕ → Type 0
     mentions-in = all-map (mentioned F) (λ e h. holds .found e h .below) mentions-mapped
 
     pub initialised-again : initialised F ≡ true → initialised F′ ≡ true
-    initialised-again i = initialised-all F′ (λ k l r. go k (reach-back (mapsOf (went M fin)) (maps-match M Q fin) M r))
+    initialised-again i = initialised-all F′ (λ k l r. go k (reach-back (mapsOf (mappedTo M fin)) (maps-match M Q fin) M r))
       where
         go : (k : ℕ) → (e : ℕ) × R e × (φ e ≡ k) → constantKind (kindAt (F′ .exprs) k) ≡ true
         go k b =
             let h = ext-has M grows (b .0) (reach-has (b .1)) in
-            let q : kindAt (F′ .exprs) (φ (b .0)) ≡ kindAt xs (b .0) = unfold kindAt in alike-kind (mapsOf (went M fin)) φ M M (record-alike (mapsOf (went M fin)) (maps-match M Q fin) M (b .0) h) in
+            let q : kindAt (F′ .exprs) (φ (b .0)) ≡ kindAt xs (b .0) = unfold kindAt in alike-kind (mapsOf (mappedTo M fin)) φ M M (record-alike (mapsOf (mappedTo M fin)) (maps-match M Q fin) M (b .0) h) in
             rw (← b .2, q) (initialised-is F i (b .0) (here (b .0) h) (b .1))
           where
             here : (e : ℕ) → Has (fin .memo) e → e < length xs

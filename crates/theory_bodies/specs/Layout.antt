@@ -7,22 +7,22 @@ use mathlib.Core.Option.{Option, none, some}
 use native.Mathlib.Omega.{arith}
 use native.Mathlib.Nat.{le-refl, le-trans}
 use native.Mathlib.Decide.{decLt}
-use lib.Dec.{eqb, ltb}
+use lib.Dec.{eqb}
 use lib.ListN.{length, getD, length-map, List·getD-eq-default}
-use borrow.Author.Tests.{eqb-true, ltb-false}
+use borrow.Author.Tests.{eqb-true}
 use Rattle.model.specs.Outcome.{Cell, Cells, class, word}
-use Rattle.model.specs.Table.{Row, SPAN, UPTO, NAME, NAMED-EXPR, KEY, PAD, RETURNS, ARGUMENTS, LOCALS, EXPRESSIONS, NAMED, expressionRow, functionHead, counted, limit, brings, more}
+use Rattle.model.specs.Table.{Row, SPAN, UPTO, NAME, NAMED-EXPR, KEY, RETURNS, ARGUMENTS, LOCALS, EXPRESSIONS, NAMED, expressionRow, functionHead, counted, limit, brings, more}
 use Rattle.model.specs.Tree.{Stmt, stmt, Form, emit, block, branch, switch, loop, break, continue, return, kill, call, effect, Block, end, _then_, Case, case, Cases, nomore, _also_, Range, Function, flatAll, DEPTH}
 use Rattle.model.specs.Module.{Module}
-use Rattle.model.specs.Carry.{Keeps, carryCell, carryCells, carryF, Each, each-none, each-next, Lays, lays-none, lays-next, Listed, OkS, OkF, OkB, OkBs, OkK, OkC, ok-stmt, ok-emit, ok-block, ok-branch, ok-switch, ok-loop, ok-break, ok-continue, ok-return, ok-kill, ok-call, ok-effect, ok-deeper, ok-end, ok-then, ok-case, ok-nomore, ok-also, WellFunction}
-use Rattle.model.specs.References.{Place, Target, target, firstWord, undefinedAt, moved, shift, carryW, through, alikeC, alike}
+use Rattle.model.specs.Carry.{carryCell, carryCells, carryF, Each, each-none, each-next, Lays, lays-none, lays-next, Listed, OkS, OkF, OkB, OkBs, OkK, OkC, ok-stmt, ok-emit, ok-block, ok-branch, ok-switch, ok-loop, ok-break, ok-continue, ok-return, ok-kill, ok-call, ok-effect, ok-deeper, ok-end, ok-then, ok-case, ok-nomore, ok-also, WellFunction}
+use Rattle.model.specs.References.{Target, moved, through, alikeC, alike}
 use Rattle.model.specs.Callees.{callees}
-use Rattle.model.specs.Imports.{St}
-use Rattle.model.specs.Bodies.{Making, went, carried, goS, goF, goB, goK, goC, settled, mkS, mkF, mkB, mkK, mkC, namedRows, declared, rebuilt, keptNames, derived, final, localized}
+use Rattle.model.specs.Imports.{Derived}
+use Rattle.model.specs.Bodies.{Builder, mappedTo, carried, importStmt, importForm, importBlock, importCase, importCases, carriedForm, rebuildStmt, rebuildForm, rebuildBlock, rebuildCase, rebuildCases, namedRows, declared, rebuilt, keptNames, derived, final, localized}
+use Rattle.theory_records.specs.Passing.{through-keeps, lays-shift}
 use Rattle.theory_image.specs.Plain.{plain-more}
 use Rattle.theory_image.specs.Carries.{lays-carry}
 use Rattle.theory_records.specs.RecordLaws.{bare, alike-self}
-use Rattle.theory_records.specs.Kinds.{far-copied}
 use Rattle.theory_bodies.specs.Lists.{All}
 use Rattle.theory_bodies.specs.Context.{Law, Ctx}
 use Rattle.theory_bodies.specs.Inv.{Has, place, Entry, Inv}
@@ -31,30 +31,16 @@ use Rattle.theory_bodies.specs.Size.{exprs-fewer, named-fewer}
 use Rattle.theory_bodies.specs.Passing.{Passes, fine, row-lays}
 
 -- ---- a record carried, its span moved
-through-keeps : (f : Place → ℕ → ℕ) → Keeps (through f)
-through-keeps f = record { kept = λ s w h. unfold through carryW in rw (far-copied s (omega arith)) refl }
 
-more-moved : (s w o : ℕ) (u : Bool) → more s (moved (target s) w o u) ≡ more s w
-more-moved s w o u = go (ltb s PAD) refl
-  where
-    go : (b : Bool) → ltb s PAD ≡ b → more s (moved (target s) w o u) ≡ more s w
-    go true e = plain-more s (moved (target s) w o u) e ∙ sym (plain-more s w e)
-    go false e = unfold moved in rw (far-copied s (omega (arith, ltb-false s PAD e))) refl
-
-lays-shift : {ss : Row} {cs : Cells} → Lays ss cs → (o : ℕ) (u : Bool) → Lays ss (shift cs o u)
-unfolding shift
-lays-shift lays-none o u = lays-none
-lays-shift (lays-next {s} {w} {xs} {ss} {cs} e l) o u = let v = undefinedAt (target s) w (firstWord cs) u in lays-next (more-moved s w o v ∙ e) (lays-shift l o v)
-
-pub lays-carried : (o : ℕ) (M : Module) (st : Making) {ss : Row} {r : Cells} → Lays ss r → Lays ss (carried o M st r)
+pub lays-carried : (o : ℕ) (M : Module) (st : Builder) {ss : Row} {r : Cells} → Lays ss r → Lays ss (carried o M st r)
 unfolding carried
-lays-carried o M st l = lays-shift (lays-carry (through (went M st)) (through-keeps (went M st)) l) o false
+lays-carried o M st l = lays-shift (lays-carry (through (mappedTo M st)) (through-keeps (mappedTo M st)) l) o false
 
-pub each-carried : (o : ℕ) (M : Module) (st : Making) {ss : Row} {rs : List Cells} → Each (Lays ss) rs → Each (Lays ss) (map (carried o M st) rs)
+pub each-carried : (o : ℕ) (M : Module) (st : Builder) {ss : Row} {rs : List Cells} → Each (Lays ss) rs → Each (Lays ss) (map (carried o M st) rs)
 each-carried o M st each-none = each-none
 each-carried o M st (each-next l e) = each-next (lays-carried o M st l) (each-carried o M st e)
 
--- ---- records that are equal, spans apart
+-- ---- records that are equal, ignoring spans
 lays-alike : {ss : Row} {b : Cells} → Lays ss b → (a : Cells) → alike a b ≡ true → Lays ss a
 unfolding alike alikeC
 lays-alike lays-none [] h = lays-none
@@ -85,19 +71,19 @@ each-of [] f = each-none
 each-of (r ∷ rs) f = each-next (f 0 (omega arith)) (each-of rs (λ k h. f (suc k) (omega arith)))
 
 -- ---- statements
-module _ (o : ℕ) (M : Module) (follow : ℕ → St → St) (p q : ℕ → Making → Making) where
+module _ (o : ℕ) (M : Module) (follow : ℕ → Derived → Derived) (p q : ℕ → Builder → Builder) where
   mutual
-    unfolding mkF settled carryF
+    unfolding rebuildForm carriedForm carryF
 
-    okS : {s : Stmt Range} {d : ℕ} → OkS d s → (st : Making) → OkS d (mkS o M follow p q s st)
+    okS : {s : Stmt Range} {d : ℕ} → OkS d s → (st : Builder) → OkS d (rebuildStmt o M follow p q s st)
     okS (ok-stmt w) st = ok-stmt (okF w st)
 
-    okF : {g : Form Range} {d : ℕ} → OkF d g → (st : Making) → OkF d (mkF o M follow p q g st)
+    okF : {g : Form Range} {d : ℕ} → OkF d g → (st : Builder) → OkF d (rebuildForm o M follow p q g st)
     okF ok-emit st = ok-emit
     okF (ok-block w) st = ok-block (okB w st)
-    okF (ok-branch {c = e} {a = a} w v) st = ok-branch (okB w (p e st)) (okB v (goB o M follow p q a (p e st)))
+    okF (ok-branch {c = e} {a = a} w v) st = ok-branch (okB w (p e st)) (okB v (importBlock o M follow p q a (p e st)))
     okF (ok-switch {c = e} w) st = ok-switch (okC w (p e st))
-    okF (ok-loop {a = a} w v) st = ok-loop (okB w st) (okB v (goB o M follow p q a st))
+    okF (ok-loop {a = a} w v) st = ok-loop (okB w st) (okB v (importBlock o M follow p q a st))
     okF ok-break st = ok-break
     okF ok-continue st = ok-continue
     okF ok-return st = ok-return
@@ -105,19 +91,19 @@ module _ (o : ℕ) (M : Module) (follow : ℕ → St → St) (p q : ℕ → Maki
     okF ok-call st = ok-call
     okF (ok-effect e l) st = ok-effect e (lays-carry _ (through-keeps _) l)
 
-    pub okB : {b : Block Range} {d : ℕ} → OkB d b → (st : Making) → OkB d (mkB o M follow p q b st)
+    pub okB : {b : Block Range} {d : ℕ} → OkB d b → (st : Builder) → OkB d (rebuildBlock o M follow p q b st)
     okB (ok-deeper w) st = ok-deeper (okBs w st)
 
-    okBs : {b : Block Range} {d : ℕ} → OkBs d b → (st : Making) → OkBs d (mkB o M follow p q b st)
+    okBs : {b : Block Range} {d : ℕ} → OkBs d b → (st : Builder) → OkBs d (rebuildBlock o M follow p q b st)
     okBs ok-end st = ok-end
-    okBs (ok-then {s = s} w v) st = ok-then (okS w st) (okBs v (goS o M follow p q s st))
+    okBs (ok-then {s = s} w v) st = ok-then (okS w st) (okBs v (importStmt o M follow p q s st))
 
-    okK : {k : Case Range} {d : ℕ} → OkK d k → (st : Making) → OkK d (mkK o M follow p q k st)
+    okK : {k : Case Range} {d : ℕ} → OkK d k → (st : Builder) → OkK d (rebuildCase o M follow p q k st)
     okK (ok-case l w) st = ok-case l (okB w st)
 
-    okC : {ks : Cases Range} {d : ℕ} → OkC d ks → (st : Making) → OkC d (mkC o M follow p q ks st)
+    okC : {ks : Cases Range} {d : ℕ} → OkC d ks → (st : Builder) → OkC d (rebuildCases o M follow p q ks st)
     okC ok-nomore st = ok-nomore
-    okC (ok-also {k = k} w v) st = ok-also (okK w st) (okC v (goK o M follow p q k st))
+    okC (ok-also {k = k} w v) st = ok-also (okK w st) (okC v (importCase o M follow p q k st))
 
 -- ---- the function
 named-lays : (ps : List (ℕ × ℕ)) (f : ℕ → ℕ) → Each (Lays (counted NAMED)) (namedRows ps f)
@@ -125,11 +111,11 @@ unfolding namedRows counted
 named-lays [] f = each-none
 named-lays (p ∷ ps) f = each-next (lays-next (plain-more NAMED-EXPR (p .0) refl) (lays-next (plain-more NAME (f (p .1)) refl) lays-none)) (named-lays ps f)
 
-module _ (o : ℕ) (M : Module) (follow : ℕ → St → St) (Q : ℕ → Type 0) (G : St → Type 0) (law : Law o M follow Q G) (F : Function) (pass : Passes M F) (calls : All Q (callees F)) (s : St) (good : G s) where
+module _ (o : ℕ) (M : Module) (follow : ℕ → Derived → Derived) (Q : ℕ → Type 0) (G : Derived → Type 0) (law : Law o M follow Q G) (F : Function) (pass : Passes M F) (calls : All Q (callees F)) (s : Derived) (good : G s) where
   abbrev fit : Fine (ctx o M follow Q G law F) F
   fit = fine o M follow Q G law F pass calls
 
-  abbrev fin : Making
+  abbrev fin : Builder
   fin = final o M follow F s
 
   abbrev inv : Inv (ctx o M follow Q G law F) fin
@@ -142,7 +128,7 @@ module _ (o : ℕ) (M : Module) (follow : ℕ → St → St) (Q : ℕ → Type 0
       here e h = elim (decLt e (length (F .exprs))) [ yes l ↦ l | no l ↦ absurd (omega (arith, List·getD-eq-default (fin .memo) 0 {n = e} (omega (arith, inv .size)))) ]
 
       go : (e : ℕ) × Has (fin .memo) e × (place (fin .memo) e ≡ k) → Lays expressionRow (getD (fin .made) k [])
-      go b = rw (← b .2) (lays-alike (lays-carry (through (went M fin)) (through-keeps (went M fin)) (row-lays o M follow Q G law F pass calls (b .0) (here (b .0) (b .1)))) _ (alike-self _ _ (inv .found (b .0) (b .1) .same)))
+      go b = rw (← b .2) (lays-alike (lays-carry (through (mappedTo M fin)) (through-keeps (mappedTo M fin)) (row-lays o M follow Q G law F pass calls (b .0) (here (b .0) (b .1)))) _ (alike-self _ _ (inv .found (b .0) (b .1) .same)))
 
   made-each : Each (Lays (counted EXPRESSIONS)) (fin .made)
   unfolding counted expressionRow
@@ -152,7 +138,7 @@ module _ (o : ℕ) (M : Module) (follow : ℕ → St → St) (Q : ℕ → Type 0
   pub well-again : WellFunction (localized o M follow F s)
   unfolding localized derived rebuilt keptNames
   well-again =
-      let d : Making = declared o M follow F s in
+      let d : Builder = declared o M follow F s in
       let w = pass .well in
       record {
         head-ok = lays-carried o M d (w .head-ok);

@@ -1,4 +1,4 @@
--- THE CELLS OF A BODY, opened as agreement in full has them (`bodyOf`), are, spans apart, a matter of the body as walks see it (`open-b`). So a derived body, which as walks see it is its source carried, is its source carried cell by cell (`body-copied`); and what its cells refer to is what the source mentions and calls (`body-refs`).
+-- THE CELLS OF A BODY, opened as agreement in full has them (`bodyOf`), are, ignoring spans, a matter of the body as walks see it (`open-b`). So a derived body, which as walks see it is its source carried, is its source carried cell by cell (`body-copied`); and what its cells refer to is what the source mentions and calls (`body-refs`).
 use Prim.Native.Nat.{ℕ, zero, suc, _+_, _<_, pred}
 use mathlib.Core.Path.{_≡_, refl, ap, sym, _∙_, subst}
 use mathlib.Core.Bool.{Bool, true}
@@ -571,7 +571,7 @@ module _ (P : Node → Type 0) where
   value-refs v-u32 y h = h
   value-refs v-default y h = h
 
-  -- what the cells of a part refer to, if the cells behind it refer to such things
+  -- what the cells of a part refer to, if the cells after it refer to such things
   abbrev RefsB : XBlock → Type 0
   RefsB b = (y : Cells) → AllN P (refs y) → AllN P (refs (cellsB b y))
 

@@ -1,4 +1,4 @@
--- What the import of a body asks of a function, from intake's tests: its layout, numbers in range (3), lower operands (4), and scope (6).
+-- What the import of a body requires of a function, from intake's tests: its layout, numbers in range (3), lower operands (4), and scope (6).
 use Prim.Native.Nat.{ℕ, zero, suc, _+_, _-_, _<_, _≤_, pred, suc-le-suc}
 use mathlib.Core.Path.{_≡_, refl, ap, sym, _∙_}
 use mathlib.Core.Logic.{_≢_, _⊎_, inl, inr, ⊎-elim}
@@ -11,6 +11,8 @@ use native.Mathlib.Decide.{decLt}
 use lib.Dec.{eqb, ltb, leb}
 use lib.ListN.{length, getD, getElem?, List·getD-eq-default}
 use borrow.Author.Tests.{eqb-true, ltb-true, ltb-false, leb-true, le-ltb, lt-ltb, eq-eqb}
+use Rattle.theory_lists.specs.Lists.{behind, getD-behind}
+use Rattle.theory_lists.specs.Booleans.{and-split, or-cases, by}
 use Rattle.model.specs.Outcome.{Cell, Cells, class, word}
 use Rattle.model.specs.Table.{WORD, SPAN, UPTO, NAME, CALLEE, EXPR, OPT-EXPR, FROM, TO, OPT-RESULT, NAMED-EXPR, FUNCTION, functionHead, ARGUMENTS, LOCALS, EXPRESSIONS, NAMED, OPERANDS, BLOCK, CASES, LENGTH, STMT-KIND, VALUE, expressionRow, counted, statements}
 use Rattle.model.specs.Tree.{Stmt, stmt, Form, emit, block, branch, switch, loop, break, continue, return, kill, call, effect, Block, end, _then_, Case, case, Cases, nomore, _also_, Range, Function, flatAll, flatList, flatX, flatS, flatF, flatB, flatK, flatC, flatBlock, flat, wordOf, DEPTH}
@@ -24,24 +26,22 @@ use Rattle.model.specs.References.{Place, table, own, function, Target, copied,
 use Rattle.model.specs.Operands.{optional, opsOf, resultOf, kind, functionOf, standingKind, resultKind, emittedKind, constantKind, ops, kindAt, standing}
 use Rattle.model.specs.Callees.{calleesS, calleesF, calleesB, calleesK, calleesC, callees}
 use Rattle.theory_image.specs.Reached.{initialised-is}
-use Rattle.theory_image.specs.Members.{no-mem, mem-left, mem-right, mem-cases}
+use Rattle.theory_image.specs.Members.{no-mem, mem-left, mem-right, mem-cases, each-at}
 use Rattle.model.specs.Initial.{Mem, here, there, Reached, step as reach-step, roots, marked, initials, initial, initialised}
 use Rattle.model.specs.Scope.{XStmt, XForm, XBlock, XCase, XCases, emitted, isOf, upFrom, inRange, live, expandS, expandF, expand, expandK, expandC, callResult, effectResult, kindsS, kindsF, kindsB, kindsK, kindsC, evalsOpt, evalsS, evalsF, evalsB, evalsK, evalsC, has, distinct, shapeB, inBody, okB, allOf, seen, scopedAs, scoped}
-use Rattle.model.specs.Imports.{St}
+use Rattle.model.specs.Imports.{Derived}
 use Rattle.model.specs.Bodies.{declarations}
 use Rattle.theory_walks.specs.ExpandProof.{Evaluated, emits, results, part-distinct, partB, kindsB-drop, evaluatedB}
 use Rattle.theory_walks.specs.MentionProof.{mentionB, isB}
 use Rattle.theory_walks.specs.Agreement.{mentionsE, mentionsS, mentionsF, mentionsB, mentionsK, mentionsC, mentioned}
 use Rattle.theory_walks.specs.Theorems.{unread}
-use Rattle.theory_image.specs.Lists.{and-split}
-use Rattle.theory_image.specs.FunctionViews.{each-at}
 use Rattle.theory_finish.specs.Classes.{calm?, calms?, all-not, functionless, calleeless, effect-functionless, effect-calleeless}
 use Rattle.theory_finish.specs.Called.{FunOk, fun-call, FunsOk, no-funs}
 use Rattle.theory_image.specs.Quiet.{each-append, Plainly, plain-none, plain-next, named-shape}
+use Rattle.theory_image.specs.Within.{within-append}
 use Rattle.theory_records.specs.RecordLaws.{All as AllN, all-map as alln-map, all-both as alln-both}
 use Rattle.theory_records.specs.Tested.{cons-all}
-use Rattle.theory_records.specs.Functions.{within-append}
-use Rattle.theory_bodies.specs.Lists.{All, Distinct, all-map, all-both, all-any, all-append, all-l, all-r, all-mem, mem-all, and-true, or-true, by}
+use Rattle.theory_bodies.specs.Lists.{All, Distinct, all-map, all-both, all-any, all-append, all-l, all-r, all-mem, mem-all}
 use Rattle.theory_bodies.specs.Context.{Inside, InN, Law, Ctx, OwnP, Own, owns, owns-all, all-owns}
 use Rattle.theory_bodies.specs.Carried.{Nameless}
 use Rattle.theory_bodies.specs.Steps.{Exprs}
@@ -78,14 +78,6 @@ unfolding InF OwnP
 in-own M k (table t) n h = tt
 in-own M k own n h = h
 in-own M k function n h = tt
-
-abbrev behind : {A : Type 0} → List A → List A
-behind [] = []
-behind (x ∷ xs) = xs
-
-getD-behind : {A : Type 0} (l : List A) (k : ℕ) (d : A) → getD l (suc k) d ≡ getD (behind l) k d
-getD-behind [] k d = refl
-getD-behind (x ∷ l) k d = refl
 
 module _ (M : Module) (F : Function) where
   abbrev k : ℕ
@@ -243,7 +235,7 @@ live-all P (e ∷ es) drop a = go (drop e) (live-all P es drop (a .1))
     go false h = (a .0, h)
 
 -- ---- the function
-module _ (o : ℕ) (M : Module) (follow : ℕ → St → St) (Q : ℕ → Type 0) (G : St → Type 0) (law : Law o M follow Q G) (F : Function) (pass : Passes M F) (calls : All Q (callees F)) where
+module _ (o : ℕ) (M : Module) (follow : ℕ → Derived → Derived) (Q : ℕ → Type 0) (G : Derived → Type 0) (law : Law o M follow Q G) (F : Function) (pass : Passes M F) (calls : All Q (callees F)) where
   abbrev c : Ctx
   c = ctx o M follow Q G law F
 
@@ -422,7 +414,7 @@ module _ (o : ℕ) (M : Module) (follow : ℕ → St → St) (Q : ℕ → Type 0
       fitsF (block a) (ok-block w) k h q = fitsB a (inner w .1) k (next M F BLOCK _ _ h) q
       fitsF (branch e x y) (ok-branch w v) k h q =
           let t = within-append b (flatBlock x) (flatBlock y) (next M F EXPR _ _ h) in
-          let z = and-true (kindsB (expand x drop) xs) _ q in
+          let z = and-split (kindsB (expand x drop) xs) _ q in
           let m = fitsB x (inner w .1) (all-l Q (calleesB x) (calleesB y) k) (next M F BLOCK _ _ (t .0)) (z .0) in
           let n = fitsB y (inner v .1) (all-r Q (calleesB x) (calleesB y) k) (next M F BLOCK _ _ (t .1)) (z .1) in
           ((m .0, n .0), all-append _ (evalsB (expand x drop)) _ (m .1) (n .1))
@@ -430,7 +422,7 @@ module _ (o : ℕ) (M : Module) (follow : ℕ → St → St) (Q : ℕ → Type 0
       fitsF (loop x y e) (ok-loop w v) k h q =
           let u = within-append b (flatBlock x ++ flatBlock y) ((OPT-EXPR, wordOf e) ∷ []) h in
           let t = within-append b (flatBlock x) (flatBlock y) (u .0) in
-          let z = and-true (kindsB (expand x drop) xs) _ q in
+          let z = and-split (kindsB (expand x drop) xs) _ q in
           let m = fitsB x (inner w .1) (all-l Q (calleesB x) (calleesB y) k) (next M F BLOCK _ _ (t .0)) (z .0) in
           let n = fitsB y (inner v .1) (all-r Q (calleesB x) (calleesB y) k) (next M F BLOCK _ _ (t .1)) (z .1) in
           ((m .0, n .0), all-append _ (evalsB (expand x drop)) _ (m .1) (n .1))
@@ -445,7 +437,7 @@ module _ (o : ℕ) (M : Module) (follow : ℕ → St → St) (Q : ℕ → Type 0
       fitsB end w k h q = (tt, tt)
       fitsB (s then a) (ok-then w v) k h q =
           let t = within-append b (flatS s) (flatB a) h in
-          let z = and-true (kindsS (expandS s drop) xs) _ q in
+          let z = and-split (kindsS (expandS s drop) xs) _ q in
           let m = fitsS s w (all-l Q (calleesS s) (calleesB a) k) (t .0) (z .0) in
           let n = fitsB a v (all-r Q (calleesS s) (calleesB a) k) (t .1) (z .1) in
           ((m .0, n .0), all-append _ (evalsS (expandS s drop)) _ (m .1) (n .1))
@@ -457,7 +449,7 @@ module _ (o : ℕ) (M : Module) (follow : ℕ → St → St) (Q : ℕ → Type 0
       fitsC nomore w k h q = (tt, tt)
       fitsC (g also ks) (ok-also w v) k h q =
           let t = within-append b (flatK g) (flatC ks) h in
-          let z = and-true (kindsK (expandK g drop) xs) _ q in
+          let z = and-split (kindsK (expandK g drop) xs) _ q in
           let m = fitsK g w (all-l Q (calleesK g) (calleesC ks) k) (t .0) (z .0) in
           let n = fitsC ks v (all-r Q (calleesK g) (calleesC ks) k) (t .1) (z .1) in
           ((m .0, n .0), all-append _ (evalsK (expandK g drop)) _ (m .1) (n .1))
@@ -471,9 +463,9 @@ module _ (o : ℕ) (M : Module) (follow : ℕ → St → St) (Q : ℕ → Type 0
   rules : Rules
   unfolding scoped scopedAs
   rules =
-      let h₁ = and-true (shapeB (seen F) inBody) _ (pass .six) .1 in
-      let h₂ = and-true (kindsB (allOf F) xs) _ h₁ in
-      let h₃ = and-true (distinct (evalsB (allOf F))) _ (h₂ .1) in
+      let h₁ = and-split (shapeB (seen F) inBody) _ (pass .six) .1 in
+      let h₂ = and-split (kindsB (allOf F) xs) _ h₁ in
+      let h₃ = and-split (distinct (evalsB (allOf F))) _ (h₂ .1) in
       record { kinds = h₂ .0; once = h₃ .0; reads = h₃ .1 }
 
   seen-kinds : kindsB (seen F) xs ≡ true
@@ -499,9 +491,9 @@ module _ (o : ℕ) (M : Module) (follow : ℕ → St → St) (Q : ℕ → Type 0
   result-moves : (n : ℕ) → resultKind n ≡ true → standingKind n ≡ false
   unfolding resultKind standingKind
   result-moves n h =
-      let a = leb-true 23 n (and-true (leb 23 n) _ h .0) in
+      let a = leb-true 23 n (and-split (leb 23 n) _ h .0) in
       by _ (leb n 3 || (leb 9 n && leb n 11))
-      (λ s. ⊎-elim (λ q. absurd (omega (arith, leb-true n 3 q))) (λ q. absurd (omega (arith, leb-true n 11 (and-true (leb 9 n) _ q .1)))) (or-true (leb n 3) _ s))
+      (λ s. ⊎-elim (λ q. absurd (omega (arith, leb-true n 3 q))) (λ q. absurd (omega (arith, leb-true n 11 (and-split (leb 9 n) _ q .1)))) (or-cases (leb n 3) _ s))
       (λ s. s)
 
   moves : All (λ x. standing xs x ≡ false) (evalsB (seen F))
@@ -561,9 +553,9 @@ module _ (o : ℕ) (M : Module) (follow : ℕ → St → St) (Q : ℕ → Type 0
     upF : (f : XForm) → kindsF f xs ≡ true → {e x : ℕ} → Mem e (evalsF f) → Mem x (ops xs e) → Mem x (mentionsF f xs)
     upF (emit es) h m k = emit-up es m k
     upF (block b) h m k = upB b h m k
-    upF (branch c a b) h m k = let z = and-true (kindsB a xs) _ h in there (⊎-elim (λ p. mem-left (mentionsB b xs) (upB a (z .0) p k)) (λ p. mem-right (mentionsB a xs) (upB b (z .1) p k)) (mem-cases (evalsB a) (evalsB b) m))
+    upF (branch c a b) h m k = let z = and-split (kindsB a xs) _ h in there (⊎-elim (λ p. mem-left (mentionsB b xs) (upB a (z .0) p k)) (λ p. mem-right (mentionsB a xs) (upB b (z .1) p k)) (mem-cases (evalsB a) (evalsB b) m))
     upF (switch c ks) h m k = there (upC ks h m k)
-    upF (loop a b x) h m k = let z = and-true (kindsB a xs) _ h in mem-right (evalsOpt x) (⊎-elim (λ p. mem-left (mentionsB b xs) (upB a (z .0) p k)) (λ p. mem-right (mentionsB a xs) (upB b (z .1) p k)) (mem-cases (evalsB a) (evalsB b) m))
+    upF (loop a b x) h m k = let z = and-split (kindsB a xs) _ h in mem-right (evalsOpt x) (⊎-elim (λ p. mem-left (mentionsB b xs) (upB a (z .0) p k)) (λ p. mem-right (mentionsB a xs) (upB b (z .1) p k)) (mem-cases (evalsB a) (evalsB b) m))
     upF break h m k = absurd (no-mem m)
     upF continue h m k = absurd (no-mem m)
     upF (return x) h m k = absurd (no-mem m)
@@ -573,14 +565,14 @@ module _ (o : ℕ) (M : Module) (follow : ℕ → St → St) (Q : ℕ → Type 0
 
     upB : (b : XBlock) → kindsB b xs ≡ true → {e x : ℕ} → Mem e (evalsB b) → Mem x (ops xs e) → Mem x (mentionsB b xs)
     upB end h m k = absurd (no-mem m)
-    upB (s then b) h m k = let z = and-true (kindsS s xs) _ h in ⊎-elim (λ p. mem-left (mentionsB b xs) (upS s (z .0) p k)) (λ p. mem-right (mentionsS s xs) (upB b (z .1) p k)) (mem-cases (evalsS s) (evalsB b) m)
+    upB (s then b) h m k = let z = and-split (kindsS s xs) _ h in ⊎-elim (λ p. mem-left (mentionsB b xs) (upS s (z .0) p k)) (λ p. mem-right (mentionsS s xs) (upB b (z .1) p k)) (mem-cases (evalsS s) (evalsB b) m)
 
     upK : (c : XCase) → kindsK c xs ≡ true → {e x : ℕ} → Mem e (evalsK c) → Mem x (ops xs e) → Mem x (mentionsK c xs)
     upK (case v b t) h m k = upB b h m k
 
     upC : (ks : XCases) → kindsC ks xs ≡ true → {e x : ℕ} → Mem e (evalsC ks) → Mem x (ops xs e) → Mem x (mentionsC ks xs)
     upC nomore h m k = absurd (no-mem m)
-    upC (c also ks) h m k = let z = and-true (kindsK c xs) _ h in ⊎-elim (λ p. mem-left (mentionsC ks xs) (upK c (z .0) p k)) (λ p. mem-right (mentionsK c xs) (upC ks (z .1) p k)) (mem-cases (evalsK c) (evalsC ks) m)
+    upC (c also ks) h m k = let z = and-split (kindsK c xs) _ h in ⊎-elim (λ p. mem-left (mentionsC ks xs) (upK c (z .0) p k)) (λ p. mem-right (mentionsK c xs) (upC ks (z .1) p k)) (mem-cases (evalsK c) (evalsC ks) m)
 
   pub mentions-may : (x : ℕ) → Mem x (mentionsB (seen F) xs) → May F x
   mentions-may = isB xs (May F) (λ e s. inl s) (seen F) [] (λ e m. absurd (no-mem m)) (λ e m. inr (inl m)) (rules .reads)

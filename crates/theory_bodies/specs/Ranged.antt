@@ -11,6 +11,8 @@ use native.Mathlib.Decide.{decLt}
 use lib.Dec.{eqb, ltb, leb}
 use lib.ListN.{length, getD, length-map, List·getD-eq-default}
 use borrow.Author.Tests.{eqb-true, ltb-true, ltb-false, lt-ltb, le-ltb, le-leb, ne-eqb}
+use Rattle.theory_lists.specs.Lists.{behind, getD-behind}
+use Rattle.theory_lists.specs.Booleans.{and-split}
 use Rattle.model.specs.Outcome.{Cell, Cells, class, word}
 use Rattle.model.specs.Table.{WORD, SPAN, UPTO, NAME, CALLEE, EXPR, OPT-EXPR, FROM, TO, RESULT, OPT-RESULT, NAMED-EXPR, KEY, ATOMIC, RETURNS, ARGUMENTS, LOCALS, EXPRESSIONS, NAMED, BLOCK, counted}
 use Rattle.model.specs.Tree.{Function, flatAll, flatList, flatB, flatBlock, flat, sizeB, wordOf}
@@ -23,14 +25,13 @@ use Rattle.model.specs.References.{Place, table, own, function, Target, copied,
 use Rattle.model.specs.Initial.{initialised}
 use Rattle.model.specs.Scope.{evalsOpt}
 use Rattle.model.specs.Callees.{callees}
-use Rattle.model.specs.Imports.{St}
-use Rattle.model.specs.Bodies.{Making, went, carried, putName, nameIf, keepNames, namedRows, declarations, declared, keptNames, derived, final, localized}
+use Rattle.model.specs.Imports.{Derived}
+use Rattle.model.specs.Bodies.{Builder, mappedTo, carried, putName, nameIf, keepNames, namedRows, declarations, declared, keptNames, derived, final, localized}
 use Rattle.theory_walks.specs.Agreement.{Maps, carryOpt as carryOptA, carryCells as carryCellsA}
-use Rattle.theory_image.specs.Lists.{and-split}
 use Rattle.theory_image.specs.FunctionViews.{among}
 use Rattle.theory_image.specs.Quiet.{each-map}
+use Rattle.theory_image.specs.Within.{within-append}
 use Rattle.theory_records.specs.RecordLaws.{All as AllN, all-map as alln-map, Has as HasN, bare, alike-self, rest-of}
-use Rattle.theory_records.specs.Functions.{within-append}
 use Rattle.theory_bodies.specs.Lists.{All, all-map, split}
 use Rattle.theory_bodies.specs.Context.{look, sizeOf, Inside, Law, Ctx}
 use Rattle.theory_bodies.specs.Inv.{Has, place, Ext, ext-all, carry-ext, bare-carried, Entry, Inv}
@@ -85,24 +86,24 @@ module _ (B : Bounds) where
   free-laid [] a = l-none
   free-laid (c ∷ cs) a = let z = free-cell (class c) (word c) (⊎-elim inl (λ h. inr (inr (inr h))) (a .0)) in l-cell (z .0) (z .1) (free-laid cs (a .1))
 
-module _ (o : ℕ) (M : Module) (follow : ℕ → St → St) (Q : ℕ → Type 0) (G : St → Type 0) (law : Law o M follow Q G) (F : Function) (pass : Passes M F) (calls : All Q (callees F)) (s : St) (good : G s) where
+module _ (o : ℕ) (M : Module) (follow : ℕ → Derived → Derived) (Q : ℕ → Type 0) (G : Derived → Type 0) (law : Law o M follow Q G) (F : Function) (pass : Passes M F) (calls : All Q (callees F)) (s : Derived) (good : G s) where
   abbrev c : Ctx
   c = ctx o M follow Q G law F
 
   abbrev fit : Fine c F
   fit = fine o M follow Q G law F pass calls
 
-  abbrev dec : Making
+  abbrev dec : Builder
   dec = declared o M follow F s
 
-  abbrev fin : Making
+  abbrev fin : Builder
   fin = final o M follow F s
 
   abbrev F′ : Function
   F′ = localized o M follow F s
 
   abbrev W : Place → ℕ → ℕ
-  W = went M fin
+  W = mappedTo M fin
 
   abbrev inv : Inv c fin
   inv = holds o M follow Q G law F fit s good
@@ -127,7 +128,7 @@ module _ (o : ℕ) (M : Module) (follow : ℕ → St → St) (Q : ℕ → Type 0
     own-bounded e = ⊎-elim (λ z. omega arith) (λ h. let b : pred (getD (fin .memo) e 0) < length (fin .made) = inv .found e h .below in omega arith) (split (getD (fin .memo) e 0))
 
     bounded : (p : Place) (n : ℕ) → W p n ≤ cap p
-    unfolding cap went look sizeOf
+    unfolding cap mappedTo look sizeOf
     bounded (table t) n = le-trans (law .within (fin .out) (inv .good) (table t) n) (tables-room t)
     bounded own n = own-bounded n
     bounded function n = le-trans (law .within (fin .out) (inv .good) function n) functions-room
@@ -174,18 +175,10 @@ module _ (o : ℕ) (M : Module) (follow : ℕ → St → St) (Q : ℕ → Type 0
     unfolding localized derived
     locals-size = length-map (F .locals) (carried o M dec)
 
-    abbrev behind : {A : Type 0} → List A → List A
-    behind [] = []
-    behind (x ∷ xs) = xs
-
     rels : Rels SPAN targets (behind (caps B)) (behind (caps B′))
     unfolding targets caps inside outside count tables at cap
     rels =
         (λ t w rest h m. unfold under in refl, (λ t w rest h m. unfold under in refl, (opt-rel 83 (table names) _ _ refl, (ref-rel 84 (table types) _ _ refl, (opt-rel 85 (table types) _ _ refl, (ref-rel 86 (table constants) _ _ refl, (ref-rel 87 (table overrides) _ _ refl, (ref-rel 88 (table globals) _ _ refl, (ref-rel 89 (table exprs) _ _ refl, (opt-rel 90 (table exprs) _ _ refl, (ref-rel 91 function _ _ refl, (ref-rel 92 function _ _ refl, (ref-rel 93 own _ _ (sym made-size), (opt-rel 94 own _ _ (sym made-size), (same-rel 95 _ _ (ap some (sym arguments-size)), (same-rel 96 _ _ (ap some (sym locals-size)), (same-rel 97 none none refl, (λ t w rest h m. absurd (false≢true (sym t)), (ref-rel 99 own _ _ (sym made-size), (opt-rel 100 own _ _ (sym made-size), (ref-rel 101 own _ _ (sym made-size), (opt-rel 102 own _ _ (sym made-size), tt))))))))))))))))))))))
-
-    getD-behind : {A : Type 0} (l : List A) (k : ℕ) (d : A) → getD l (suc k) d ≡ getD (behind l) k d
-    getD-behind [] k d = refl
-    getD-behind (x ∷ l) k d = refl
 
     cell-carried : (s w : ℕ) (rest : List Node) → eqb s TO ≡ false → under (bound B s) w ≡ true → AllN (HasN W) (refOf (target s) w rest) → under (bound B′ s) (through W s w) ≡ true
     unfolding target bound through
@@ -257,17 +250,17 @@ module _ (o : ℕ) (M : Module) (follow : ℕ → St → St) (Q : ℕ → Type 0
             plain e = elim (decLt e (length (F .exprs))) [ yes l ↦ expr-plain (row-lays o M follow Q G law F pass calls e l) | no l ↦ rw (List·getD-eq-default (F .exprs) [] {n = e} (omega arith)) tt ]
 
     -- ---- declarations
-    row-laid : (r : Cells) → Plain r → within B r ≡ true → AllN (HasN (went M dec)) (refs r) → Laid B′ (carried o M dec r)
+    row-laid : (r : Cells) → Plain r → within B r ≡ true → AllN (HasN (mappedTo M dec)) (refs r) → Laid B′ (carried o M dec r)
     row-laid r p h m =
         let x = grows o M follow Q G law F fit s good in
         record-laid r (carried o M dec r) p h (ext-all M x (refs r) m) (alike-self _ _ (bare-carried o M dec r ∙ ap bare (sym (carry-ext M x r m))))
 
-    rows-laid : {rs : List Cells} → Each Plain rs → within B (flatAll rs) ≡ true → AllN (HasN (went M dec)) (refs (flatAll rs)) → Laid B′ (flatAll (map (carried o M dec) rs))
+    rows-laid : {rs : List Cells} → Each Plain rs → within B (flatAll rs) ≡ true → AllN (HasN (mappedTo M dec)) (refs (flatAll rs)) → Laid B′ (flatAll (map (carried o M dec) rs))
     unfolding flatAll
     rows-laid each-none h m = l-none
     rows-laid (each-next {a = r} {l = rs} p ps) h m =
         let a = within-append B r (flatAll rs) h in
-        let b = refs-append (HasN (went M dec)) r (flatAll rs) m in
+        let b = refs-append (HasN (mappedTo M dec)) r (flatAll rs) m in
         laid-append B′ (flatAll (map (carried o M dec) rs)) (row-laid r p (a .0) (b .0)) (rows-laid ps (a .1) (b .1))
 
     record Declared : Type 0 where
@@ -284,9 +277,9 @@ module _ (o : ℕ) (M : Module) (follow : ℕ → St → St) (Q : ℕ → Type 0
         let w₁ = within-append B (F .head ++ flatAll (F .arguments) ++ F .result) (flatAll (F .locals)) w in
         let w₂ = within-append B (F .head ++ flatAll (F .arguments)) (F .result) (w₁ .0) in
         let w₃ = within-append B (F .head) (flatAll (F .arguments)) (w₂ .0) in
-        let m₁ = refs-append (HasN (went M dec)) (F .head ++ flatAll (F .arguments) ++ F .result) (flatAll (F .locals)) m in
-        let m₂ = refs-append (HasN (went M dec)) (F .head ++ flatAll (F .arguments)) (F .result) (m₁ .0) in
-        let m₃ = refs-append (HasN (went M dec)) (F .head) (flatAll (F .arguments)) (m₂ .0) in
+        let m₁ = refs-append (HasN (mappedTo M dec)) (F .head ++ flatAll (F .arguments) ++ F .result) (flatAll (F .locals)) m in
+        let m₂ = refs-append (HasN (mappedTo M dec)) (F .head ++ flatAll (F .arguments)) (F .result) (m₁ .0) in
+        let m₃ = refs-append (HasN (mappedTo M dec)) (F .head) (flatAll (F .arguments)) (m₂ .0) in
         record {
           head = row-laid (F .head) (head-plain (pass .well .head-ok)) (w₃ .0) (m₃ .0);
           arguments = rows-laid (each-map (λ r l. argument-plain l) (pass .well .arguments-ok .each)) (w₃ .1) (m₃ .1);
@@ -370,7 +363,7 @@ module _ (o : ℕ) (M : Module) (follow : ℕ → St → St) (Q : ℕ → Type 0
     Goes s = (w : ℕ) (rest : List Node) → AllN (HasN W) (refOf (target s) w rest) → (eqb s FROM ≡ false) × (under (bound B′ s) (through W s w) ≡ true)
 
     ref-goes : (s : ℕ) → eqb s FROM ≡ false → target s ≡ ref own → getD (caps B′) (s - WORD) none ≡ some (length (fin .made)) → WORD ≤ s → Goes s
-    unfolding through place carryW went refOf
+    unfolding through place carryW mappedTo refOf
     ref-goes s f t q l w rest = rw t (λ m. (f, place-under s (pred (W own w)) q l (has-below w (m .0))))
 
     opt-goes : (s : ℕ) → eqb s FROM ≡ false → target s ≡ opt own → getD (caps B′) (s - WORD) none ≡ some (suc (length (fin .made))) → WORD ≤ s → Goes s
@@ -379,7 +372,7 @@ module _ (o : ℕ) (M : Module) (follow : ℕ → St → St) (Q : ℕ → Type 0
       where
         top : (w : ℕ) → carryW W (opt own) w ≤ length (fin .made)
         top zero = unfold carryW in omega arith
-        top (suc n) = unfold carryW went in own-bounded n
+        top (suc n) = unfold carryW mappedTo in own-bounded n
 
     free-goes : (s : ℕ) → target s ≡ copied → (s ≡ WORD) ⊎ (KEY ≤ s) → Goes s
     unfolding through carryW

@@ -11,6 +11,7 @@ use native.Mathlib.Decide.{decLt}
 use lib.Dec.{eqb}
 use lib.ListN.{length, getD, set, length-append, length-set, List·getD-eq-default}
 use lib.Seq.{getD-set-other}
+use Rattle.theory_lists.specs.Sums.{sum, sum-set, sumAt}
 use Rattle.model.specs.Outcome.{Cell, Cells}
 use Rattle.model.specs.Module.{Module}
 use Rattle.model.specs.Table.{NAME, EXPR, NAMED-EXPR}
@@ -18,8 +19,9 @@ use Rattle.model.specs.Tree.{Stmt, stmt, Form, emit, block, branch, switch, loo
 use Rattle.model.specs.Carry.{carryCells, carryF}
 use Rattle.model.specs.References.{Place, refs, through, shift}
 use Rattle.model.specs.Names.{field}
-use Rattle.model.specs.Imports.{St}
-use Rattle.model.specs.Bodies.{Making, went, carried, goS, goF, goB, goK, goC, settled, mkS, mkF, mkB, mkK, mkC, putName, nameIf, keepNames, namedRows, declared, rebuilt, keptNames, derived, final, localized}
+use Rattle.model.specs.Imports.{Derived}
+use Rattle.model.specs.Bodies.{Builder, mappedTo, carried, importStmt, importForm, importBlock, importCase, importCases, carriedForm, rebuildStmt, rebuildForm, rebuildBlock, rebuildCase, rebuildCases, putName, nameIf, keepNames, namedRows, declared, rebuilt, keptNames, derived, final, localized}
+use Rattle.theory_finish.specs.Tabled.{total-one, total-length}
 use Rattle.theory_records.specs.RecordLaws.{bare, length-shift, length-carry}
 use Rattle.theory_records.specs.Theorems.{total}
 use Rattle.theory_bodies.specs.Lists.{All, Distinct, all-map}
@@ -28,19 +30,6 @@ use Rattle.theory_bodies.specs.Inv.{Has, place, Inv}
 use Rattle.theory_bodies.specs.Function.{Fine, ctx, holds, F′}
 
 -- ---- distinct places hold no more than all
-unfoldable sum : List ℕ → ℕ
-sum [] = 0
-sum (v ∷ vs) = v + sum vs
-
-unfoldable sumAt : List ℕ → List ℕ → ℕ
-sumAt vs [] = 0
-sumAt vs (x ∷ xs) = getD vs x 0 + sumAt vs xs
-
-sum-set : (vs : List ℕ) (x : ℕ) → sum vs ≡ getD vs x 0 + sum (set vs x 0)
-unfolding sum
-sum-set [] x = refl
-sum-set (v ∷ vs) zero = omega arith
-sum-set (v ∷ vs) (suc x) = omega (arith, sum-set vs x)
 
 sumAt-set : (vs xs : List ℕ) (x : ℕ) → All (λ y. x ≢ y) xs → sumAt (set vs x 0) xs ≡ sumAt vs xs
 unfolding sumAt
@@ -93,7 +82,7 @@ module _ (w : Cells → ℕ) (xs : List Cells) (m : List ℕ) where
 
 -- ---- for a weight that does not see words
 module _ (w : Cells → ℕ) (w-bare : (a b : Cells) → bare a ≡ bare b → w a ≡ w b) (w-carry : (f : ℕ → ℕ → ℕ) (r : Cells) → w (carryCells f r) ≡ w r) where
-  pub made-no-heavier : (c : Ctx) (st : Making) → Inv c st → total w (st .made) ≤ total w (c .xs)
+  pub made-no-heavier : (c : Ctx) (st : Builder) → Inv c st → total w (st .made) ≤ total w (c .xs)
   made-no-heavier c st i = no-heavier w (c .xs) (st .memo) (st .made) (λ k h. from k (i .from k h))
     where
       here : (e : ℕ) → Has (st .memo) e → e < length (st .memo)
@@ -109,26 +98,15 @@ unfolding bare
 bare-length [] = refl
 bare-length (c ∷ cs) = ap suc (bare-length cs)
 
-pub length-carried : (o : ℕ) (M : Module) (st : Making) (r : Cells) → length (carried o M st r) ≡ length r
+pub length-carried : (o : ℕ) (M : Module) (st : Builder) (r : Cells) → length (carried o M st r) ≡ length r
 unfolding carried
-length-carried o M st r = length-shift (carryCells (through (went M st)) r) o false ∙ length-carry (through (went M st)) r
+length-carried o M st r = length-shift (carryCells (through (mappedTo M st)) r) o false ∙ length-carry (through (mappedTo M st)) r
 
--- words and records
-total-words : (ds : List Cells) → total length ds ≡ length (flatAll ds)
-unfolding total flatAll
-total-words [] = refl
-total-words (d ∷ ds) = rw (length-append, total-words ds)
+pub made-words : (c : Ctx) (st : Builder) → Inv c st → length (flatAll (st .made)) ≤ length (flatAll (c .xs))
+made-words c st i = rw (← total-length (st .made), ← total-length (c .xs)) (made-no-heavier length (λ a b e. sym (bare-length a) ∙ (ap length e ∙ bare-length b)) length-carry c st i)
 
-total-records : (ds : List Cells) → total (λ d. 1) ds ≡ length ds
-unfolding total
-total-records [] = refl
-total-records (d ∷ ds) = omega (arith, total-records ds)
-
-pub made-words : (c : Ctx) (st : Making) → Inv c st → length (flatAll (st .made)) ≤ length (flatAll (c .xs))
-made-words c st i = rw (← total-words (st .made), ← total-words (c .xs)) (made-no-heavier length (λ a b e. sym (bare-length a) ∙ (ap length e ∙ bare-length b)) length-carry c st i)
-
-pub made-records : (c : Ctx) (st : Making) → Inv c st → length (st .made) ≤ length (c .xs)
-made-records c st i = rw (← total-records (st .made), ← total-records (c .xs)) (made-no-heavier (λ d. 1) (λ a b e. refl) (λ f r. refl) c st i)
+pub made-records : (c : Ctx) (st : Builder) → Inv c st → length (st .made) ≤ length (c .xs)
+made-records c st i = rw (← total-one (st .made), ← total-one (c .xs)) (made-no-heavier (λ d. 1) (λ a b e. refl) (λ f r. refl) c st i)
 
 -- ---- the body keeps its length, whatever is imported
 flatX-length : (f : ℕ → ℕ) (ys : List ℕ) → length (flatX (map f ys)) ≡ length (flatX ys)
@@ -139,19 +117,19 @@ flatX-length f ys = ap suc (go ys)
     go [] = refl
     go (y ∷ ys) = ap suc (go ys)
 
-module _ (o : ℕ) (M : Module) (follow : ℕ → St → St) (p q : ℕ → Making → Making) where
+module _ (o : ℕ) (M : Module) (follow : ℕ → Derived → Derived) (p q : ℕ → Builder → Builder) where
   mutual
-    unfolding mkF flatF settled carryF
+    unfolding rebuildForm flatF carriedForm carryF
 
-    longS : (s : Stmt Range) (st : Making) → length (flatS (mkS o M follow p q s st)) ≡ length (flatS s)
+    longS : (s : Stmt Range) (st : Builder) → length (flatS (rebuildStmt o M follow p q s st)) ≡ length (flatS s)
     longS (stmt a b g) st = ap (λ (n : ℕ). suc (suc (suc (suc n)))) (longF g st)
 
-    longF : (g : Form Range) (st : Making) → length (flatF (mkF o M follow p q g st)) ≡ length (flatF g)
+    longF : (g : Form Range) (st : Builder) → length (flatF (rebuildForm o M follow p q g st)) ≡ length (flatF g)
     longF (emit r) st = refl
     longF (block b) st = ap suc (longB b st)
-    longF (branch e a b) st = simp (length-append, longB a (p e st), longB b (goB o M follow p q a (p e st)))
+    longF (branch e a b) st = simp (length-append, longB a (p e st), longB b (importBlock o M follow p q a (p e st)))
     longF (switch e ks) st = ap (λ (n : ℕ). suc (suc n)) (longC ks (p e st))
-    longF (loop a b x) st = simp (length-append, longB a st, longB b (goB o M follow p q a st))
+    longF (loop a b x) st = simp (length-append, longB a st, longB b (importBlock o M follow p q a st))
     longF break st = refl
     longF continue st = refl
     longF (return x) st = refl
@@ -159,16 +137,16 @@ module _ (o : ℕ) (M : Module) (follow : ℕ → St → St) (p q : ℕ → Maki
     longF (call h ys r) st = simp (length-append, flatX-length)
     longF (effect n cs) st = length-carry _ cs
 
-    pub longB : (b : Block Range) (st : Making) → length (flatB (mkB o M follow p q b st)) ≡ length (flatB b)
+    pub longB : (b : Block Range) (st : Builder) → length (flatB (rebuildBlock o M follow p q b st)) ≡ length (flatB b)
     longB end st = refl
-    longB (s then b) st = simp (length-append, longS s st, longB b (goS o M follow p q s st))
+    longB (s then b) st = simp (length-append, longS s st, longB b (importStmt o M follow p q s st))
 
-    longK : (k : Case Range) (st : Making) → length (flatK (mkK o M follow p q k st)) ≡ length (flatK k)
+    longK : (k : Case Range) (st : Builder) → length (flatK (rebuildCase o M follow p q k st)) ≡ length (flatK k)
     longK (case v b f) st = simp (length-append, longB b st)
 
-    longC : (ks : Cases Range) (st : Making) → length (flatC (mkC o M follow p q ks st)) ≡ length (flatC ks)
+    longC : (ks : Cases Range) (st : Builder) → length (flatC (rebuildCases o M follow p q ks st)) ≡ length (flatC ks)
     longC nomore st = refl
-    longC (k also ks) st = simp (length-append, longK k st, longC ks (goK o M follow p q k st))
+    longC (k also ks) st = simp (length-append, longK k st, longC ks (importCase o M follow p q k st))
 
 -- ---- named expressions
 put-length : (ps : List (ℕ × ℕ)) (k w : ℕ) → length (putName ps k w) ≤ suc (length ps)
@@ -210,14 +188,14 @@ unfolding flatAll
 twos-words [] a = refl
 twos-words (r ∷ rs) a = simp length-append (omega (arith, a .0, twos-words rs (a .1)))
 
-carried-words : (o : ℕ) (M : Module) (st : Making) (rs : List Cells) → length (flatAll (map (carried o M st) rs)) ≡ length (flatAll rs)
+carried-words : (o : ℕ) (M : Module) (st : Builder) (rs : List Cells) → length (flatAll (map (carried o M st) rs)) ≡ length (flatAll rs)
 unfolding flatAll
 carried-words o M st [] = refl
 carried-words o M st (r ∷ rs) = simp (length-append, length-carried o M st r, carried-words o M st rs)
 
 -- ---- the whole function
-module _ (o : ℕ) (M : Module) (follow : ℕ → St → St) (Q : ℕ → Type 0) (G : St → Type 0) (law : Law o M follow Q G) (F : Function) (fine : Fine (ctx o M follow Q G law F) F) (s : St) (good : G s) where
-  abbrev fin : Making
+module _ (o : ℕ) (M : Module) (follow : ℕ → Derived → Derived) (Q : ℕ → Type 0) (G : Derived → Type 0) (law : Law o M follow Q G) (F : Function) (fine : Fine (ctx o M follow Q G law F) F) (s : Derived) (good : G s) where
+  abbrev fin : Builder
   fin = final o M follow F s
 
   abbrev F₁ : Function
@@ -236,11 +214,11 @@ module _ (o : ℕ) (M : Module) (follow : ℕ → St → St) (Q : ℕ → Type 0
 
   pub named-fewer : length (F₁ .named) ≤ length (F .named)
   unfolding localized derived keptNames
-  named-fewer = rw (rows-length (keepNames (F .named) (fin .memo) []) (through (went M fin) NAME)) (omega (arith, keep-length (F .named) (fin .memo) []))
+  named-fewer = rw (rows-length (keepNames (F .named) (fin .memo) []) (through (mappedTo M fin) NAME)) (omega (arith, keep-length (F .named) (fin .memo) []))
 
   pub named-shorter : Twos (F .named) → length (flatAll (F₁ .named)) ≤ length (flatAll (F .named))
   unfolding localized derived keptNames
-  named-shorter t = rw (rows-words (keepNames (F .named) (fin .memo) []) (through (went M fin) NAME), twos-words (F .named) t) (omega (arith, keep-length (F .named) (fin .memo) []))
+  named-shorter t = rw (rows-words (keepNames (F .named) (fin .memo) []) (through (mappedTo M fin) NAME), twos-words (F .named) t) (omega (arith, keep-length (F .named) (fin .memo) []))
 
   pub body-same : length (flatB (F₁ .body)) ≡ length (flatB (F .body))
   unfolding localized derived rebuilt

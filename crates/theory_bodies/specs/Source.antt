@@ -7,21 +7,21 @@ use mathlib.Core.Option.{Option, some}
 use native.Mathlib.Omega.{arith}
 use lib.Dec.{eqb, leb}
 use lib.ListN.{getElem?}
-use Rattle.model.specs.Outcome.{Cell, Cells, class, word}
+use Rattle.theory_lists.specs.Booleans.{and-split}
+use Rattle.model.specs.Outcome.{Cell, class, word}
 use Rattle.model.specs.Tree.{Function, Entry, flat, flatEntry}
 use Rattle.model.specs.Module.{Module}
 use Rattle.model.specs.Carry.{Each, each-none, each-next, WellFunction, WellEntry, WellFormed}
-use Rattle.model.specs.Numbers.{Bounds, within, rising, ordered, every, outside, inside, constantOnly, sound, soundFunction, soundEntry, numbered}
+use Rattle.model.specs.Numbers.{Bounds, within, ordered, every, outside, inside, constantOnly, sound, soundFunction, soundEntry, numbered}
 use Rattle.model.specs.Lower.{typesLower, operandsLower, functionsLower, entriesLower, initsLower, lower}
 use Rattle.model.specs.Initial.{initialised}
 use Rattle.model.specs.Scope.{scoped, allScoped, entriesScoped, inScope}
 use Rattle.model.specs.Tables.{tables}
-use Rattle.model.specs.Imports.{St}
+use Rattle.model.specs.Imports.{Derived}
+use Rattle.theory_finish.specs.Words.{rises-right}
+use Rattle.theory_image.specs.Within.{within-append}
 use Rattle.theory_walks.specs.FunctionProof.{scoped-at, entry-at}
-use Rattle.theory_image.specs.Lists.{and-split}
 use Rattle.theory_records.specs.Imported.{Kept}
-use Rattle.theory_records.specs.Functions.{within-append}
-use Rattle.theory_bodies.specs.Lists.{and-true}
 use Rattle.theory_bodies.specs.Passing.{Passes}
 use Rattle.theory_bodies.specs.Lawful.{Good, NamesTo}
 
@@ -48,11 +48,6 @@ entries-lower [] h i E e = let z : _≡_ {A = ℕ} 0 1 = cc in absurd (omega ari
 entries-lower (g ∷ es) h zero E e = let q : g ≡ E = cc in subst (λ (x : Entry). operandsLower (x .function .exprs) 0 ≡ true) q (and-split (operandsLower (g .function .exprs) 0) (entriesLower es) h .0)
 entries-lower (g ∷ es) h (suc i) E e = entries-lower es (and-split (operandsLower (g .function .exprs) 0) (entriesLower es) h .1) i E e
 
-ordered-behind : (xs ys : Cells) → ordered (xs ++ ys) ≡ true → ordered ys ≡ true
-unfolding ordered
-ordered-behind [] ys h = h
-ordered-behind (c ∷ cs) ys h = ordered-behind cs ys (and-split (rising c (cs ++ ys)) (ordered (cs ++ ys)) h .1)
-
 module _ (M : Module) (well : WellFormed M) (three : numbered M ≡ true) (four : lower M ≡ true) (six : inScope M ≡ true) where
   threes : (every (soundFunction (outside M)) (M .functions) ≡ true) × (every (soundEntry (outside M)) (M .entries) ≡ true)
   unfolding numbered
@@ -77,7 +72,7 @@ module _ (M : Module) (well : WellFormed M) (three : numbered M ≡ true) (four 
 
   sixes : (allScoped (M .functions) ≡ true) × (entriesScoped (M .entries) ≡ true)
   unfolding inScope
-  sixes = and-true (allScoped (M .functions)) _ six
+  sixes = and-split (allScoped (M .functions)) _ six
 
   pub function-passes : (i : ℕ) (F : Function) → getElem? (M .functions) i ≡ some F → Passes M F
   function-passes i F e = record {
@@ -93,7 +88,7 @@ module _ (M : Module) (well : WellFormed M) (three : numbered M ≡ true) (four 
       let b = inside (outside M) (E .function) in
       let a = and-split (within b (E .head ++ flat (E .function))) _ h in
       let d = and-split (ordered (E .head ++ flat (E .function))) (initialised (E .function)) (a .1) in
-      rw (within-append b (E .head) (flat (E .function)) (a .0) .1, ordered-behind (E .head) (flat (E .function)) (d .0)) (d .1)
+      rw (within-append b (E .head) (flat (E .function)) (a .0) .1, rises-right (E .head) (flat (E .function)) (d .0)) (d .1)
 
   pub entry-passes : (i : ℕ) (E : Entry) → getElem? (M .entries) i ≡ some E → Passes M (E .function)
   entry-passes i E e = record {
@@ -104,5 +99,5 @@ module _ (M : Module) (well : WellFormed M) (three : numbered M ≡ true) (four 
   }
 
 -- before any function is derived
-pub good-start : (M : Module) (s : St) → Kept (tables M) s → s .functions ≡ [] → Good M s
+pub good-start : (M : Module) (s : Derived) → Kept (tables M) s → s .functions ≡ [] → Good M s
 good-start M s k e = record { kept = k; named = rw e tt }

@@ -11,14 +11,14 @@ use Rattle.model.specs.Carry.{carryCells, WellFormed}
 use Rattle.model.specs.Numbers.{numbered, outside, soundFunction}
 use Rattle.model.specs.Tables.{Tab, tables, count}
 use Rattle.model.specs.Lower.{lower, operandsLower}
-use Rattle.model.specs.References.{function, Node, refs, each, through}
+use Rattle.model.specs.References.{function, Node, refs, foldRefs, through}
 use Rattle.model.specs.Operands.{standing}
 use Rattle.model.specs.Initial.{initial, initialised}
 use Rattle.model.specs.Scope.{evalsB, allOf, seen, scoped}
 use Rattle.model.specs.Callees.{callees}
-use Rattle.model.specs.Imports.{St}
+use Rattle.model.specs.Imports.{Derived}
 use Rattle.model.specs.Agreement.{bodyOf}
-use Rattle.model.specs.Bodies.{Making, went, goB, mkB, keepNames, nameCells, keptNames, declarations, declared, walked, rebuilt, derived, final, localized}
+use Rattle.model.specs.Bodies.{Builder, mappedTo, importBlock, rebuildBlock, keepNames, nameCells, keptNames, declarations, declared, walked, rebuilt, derived, final, localized}
 use Rattle.theory_walks.specs.Agreement.{Maps, mentioned, MayShare, Agrees, Carries}
 use Rattle.theory_walks.specs.Theorems.{carries}
 use Rattle.theory_records.specs.RecordLaws.{All as AllN, all-both as alln-both, Has as HasN, bare}
@@ -38,7 +38,7 @@ use Rattle.theory_bodies.specs.Layout as Layout
 use Rattle.theory_bodies.specs.Opened.{body-copied}
 use Rattle.theory_bodies.specs.Lawful.{Good, import-good, Follows, lawful}
 
--- ---- what is asked of callees can be met: where none is called, by doing nothing
+-- ---- what is required of callees can be met: where none is called, by doing nothing
 pub none-followed : (M : Module) → WellFormed M → numbered M ≡ true → lower M ≡ true → (o : ℕ) → Follows o M (λ n s. s) (λ n. ⊥) (Good M)
 none-followed M well three four o = record {
   is-good = λ s g. g;
@@ -51,8 +51,8 @@ none-followed M well three four o = record {
   grown = λ n s h g. absurd h;
 }
 
-module _ (M : Module) (well : WellFormed M) (three : numbered M ≡ true) (four : lower M ≡ true) (o : ℕ) (follow : ℕ → St → St) (Q : ℕ → Type 0) (G : St → Type 0) (follows : Follows o M follow Q G)
-    (F : Function) (pass : Passes M F) (calls : All Q (callees F)) (s : St) (good : G s) where
+module _ (M : Module) (well : WellFormed M) (three : numbered M ≡ true) (four : lower M ≡ true) (o : ℕ) (follow : ℕ → Derived → Derived) (Q : ℕ → Type 0) (G : Derived → Type 0) (follows : Follows o M follow Q G)
+    (F : Function) (pass : Passes M F) (calls : All Q (callees F)) (s : Derived) (good : G s) where
   abbrev law : Law o M follow Q G
   law = lawful M well three four o follow Q G follows
 
@@ -62,14 +62,14 @@ module _ (M : Module) (well : WellFormed M) (three : numbered M ≡ true) (four 
   abbrev pub F′ : Function
   F′ = localized o M follow F s
 
-  -- under way after the declarations, and at the end
-  abbrev pub dec : Making
+  -- the builder after the declarations, and at the end
+  abbrev pub dec : Builder
   dec = declared o M follow F s
 
-  abbrev pub fin : Making
+  abbrev pub fin : Builder
   fin = final o M follow F s
 
-  -- where an expression went
+  -- what an expression is mapped to
   abbrev pub φ : ℕ → ℕ
   φ = place (fin .memo)
 
@@ -94,37 +94,37 @@ module _ (M : Module) (well : WellFormed M) (three : numbered M ≡ true) (four 
   unmapped = Function.only-mapped o M follow Q G law F fit s good
 
   -- the names of the named expressions that stay are mapped
-  pub names-mapped : AllN (HasN (went M fin)) (refs (nameCells (keptNames o M follow F fin)))
+  pub names-mapped : AllN (HasN (mappedTo M fin)) (refs (nameCells (keptNames o M follow F fin)))
   names-mapped = Function.names-has o M follow Q G law F fit s good
 
   -- ---- 2. the one-level form: `need` for an operand, `glance` for an Emit's first pass
-  pub one-level : (goB o M follow (need o M follow (F .exprs)) (glance o M follow (F .exprs)) (F .body) dec ≡ walked o M follow F dec)
-      × (mkB o M follow (need o M follow (F .exprs)) (glance o M follow (F .exprs)) (F .body) dec ≡ rebuilt o M follow F dec)
+  pub one-level : (importBlock o M follow (need o M follow (F .exprs)) (glance o M follow (F .exprs)) (F .body) dec ≡ walked o M follow F dec)
+      × (rebuildBlock o M follow (need o M follow (F .exprs)) (glance o M follow (F .exprs)) (F .body) dec ≡ rebuilt o M follow F dec)
   one-level = Quick.quick o M follow Q G law F fit s good
 
-  -- operands are lower, as the equations of an expression's import ask (`Levels`)
+  -- operands are lower, as the equations of an expression's import require (`Levels`)
   pub lower-refs : Lower (F .exprs)
   lower-refs e l = own-ops (Function.ctx o M follow Q G law F) (fit .exprs) (λ x. x < e) e (fit .exprs .lower e l)
 
   -- ---- 3. agreement, by any maps that are the linker's where it has mapped, at the end of this import or later
-  pub agrees : (M′ : Module) (μ : Maps) → Match μ φ Q (went M fin) → Agrees M M′ μ F F′ φ
+  pub agrees : (M′ : Module) (μ : Maps) → Match μ φ Q (mappedTo M fin) → Agrees M M′ μ F F′ φ
   agrees M′ μ match = Function.agrees o M follow Q G law F fit s good μ match M′
 
   -- so every walk of the derived function is the source's, carried
-  pub walks : (M′ : Module) (μ : Maps) → Match μ φ Q (went M fin) → (cs : List ℕ) → Carries μ F F′ φ cs
+  pub walks : (M′ : Module) (μ : Maps) → Match μ φ Q (mappedTo M fin) → (cs : List ℕ) → Carries μ F F′ φ cs
   walks M′ μ match cs = carries M M′ μ F F′ φ (agrees M′ μ match) cs
 
-  -- only what stands or is an initialiser expression shares a record
+  -- only standing or initialiser expressions share a record
   pub shares : (x y : ℕ) → Has (fin .memo) x → Has (fin .memo) y → φ x ≡ φ y → (x ≡ y) ⊎ (MayShare F x × MayShare F y)
   shares = Function.shares o M follow Q G law F fit s good
 
   -- ---- 4. no Emit of the derived function holds an initialiser expression
   pub nothing-dropped : allOf F′ ≡ seen F′
-  nothing-dropped = Function.nothing-dropped o M follow Q G law F fit s good (Function.mapsOf (went M fin)) (Function.maps-match M Q fin) M
+  nothing-dropped = Function.nothing-dropped o M follow Q G law F fit s good (Function.mapsOf (mappedTo M fin)) (Function.maps-match M Q fin) M
 
   -- test 6
   pub scoped-again : scoped F′ ≡ true
-  scoped-again = Function.scoped-again o M follow Q G law F fit s good (Function.mapsOf (went M fin)) (Function.maps-match M Q fin) M (pass .six) (initials-fine o M follow Q G law F pass calls)
+  scoped-again = Function.scoped-again o M follow Q G law F fit s good (Function.mapsOf (mappedTo M fin)) (Function.maps-match M Q fin) M (pass .six) (initials-fine o M follow Q G law F pass calls)
 
   -- references are in range, operands lower
   pub in-range : (k : ℕ) → k < length (F′ .exprs) → AllN (LowN (fin .out) k) (refs (getD (F′ .exprs) k []))
@@ -162,8 +162,8 @@ module _ (M : Module) (well : WellFormed M) (three : numbered M ≡ true) (four 
 
   -- ---- 6. cell by cell: the declarations are carried by the maps after them (`derived`), expressions and body by those in the end
   -- a number that is mapped, and may be met
-  abbrev pub Met : Making → Node → Type 0
-  Met x j = HasN (went M x) j × InN M Q j
+  abbrev pub Met : Builder → Node → Type 0
+  Met x j = HasN (mappedTo M x) j × InN M Q j
 
   pub declared-met : AllN (Met dec) (refs (declarations o M follow F))
   declared-met = alln-both (refs (declarations o M follow F)) (λ j h i. (h, i)) (Function.decl-has o M follow Q G law F fit s good) (fit .declared-in)
@@ -171,7 +171,7 @@ module _ (M : Module) (well : WellFormed M) (three : numbered M ≡ true) (four 
   -- an expression that is mapped, and its record
   pub record Kept (e : ℕ) : Type 0 where
     pub below : φ e < length (F′ .exprs)
-    pub same : bare (getD (F′ .exprs) (φ e) []) ≡ bare (carryCells (through (went M fin)) (getD (F .exprs) e []))
+    pub same : bare (getD (F′ .exprs) (φ e) []) ≡ bare (carryCells (through (mappedTo M fin)) (getD (F .exprs) e []))
     pub met : AllN (Met fin) (refs (getD (F .exprs) e []))
 
   pub kept : (e : ℕ) → Has (fin .memo) e → Kept e
@@ -183,8 +183,8 @@ module _ (M : Module) (well : WellFormed M) (three : numbered M ≡ true) (four 
   }
 
   -- the body, opened
-  pub body-same : bare (bodyOf F′) ≡ bare (carryCells (through (went M fin)) (bodyOf F))
-  body-same = body-copied M (went M fin) F F′ (pass .well .body-ok) (Layout.well-again o M follow Q G law F pass calls s good .body-ok) (unfold place went in Function.body-carried o M follow Q G law F fit s good (Function.mapsOf (went M fin)) (Function.maps-match M Q fin) M) (unfold went in mapped)
+  pub body-same : bare (bodyOf F′) ≡ bare (carryCells (through (mappedTo M fin)) (bodyOf F))
+  body-same = body-copied M (mappedTo M fin) F F′ (pass .well .body-ok) (Layout.well-again o M follow Q G law F pass calls s good .body-ok) (unfold place mappedTo in Function.body-carried o M follow Q G law F fit s good (Function.mapsOf (mappedTo M fin)) (Function.maps-match M Q fin) M) (unfold mappedTo in mapped)
 
   -- the names of the named expressions that stay
   pub names-met : AllN (Met fin) (refs (nameCells (keptNames o M follow F fin)))

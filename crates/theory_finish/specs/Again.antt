@@ -1,4 +1,4 @@
--- To number the names of a finished module again changes nothing: they stand in the order of first appearance already.
+-- To number the names of a finished module again changes nothing: they are in the order of first appearance already.
 use mathlib.Core.Path.{_≡_, refl, sym, ap, ap₂, _∙_}
 use mathlib.Core.Bool.{true}
 use mathlib.Core.List.{List, [], _∷_, map}
@@ -90,7 +90,7 @@ cellwise-map f c = record {
   in-pairs = each-map (λ r. each-map f) (c .in-pairs);
 }
 
--- numbers that stand in their order stay
+-- numbers that are in their order stay
 in-order : (k : ℕ) (c : Cell) → Low k c → renumber (numbers k 0) (class c) (word c) ≡ word c
 unfolding renumber
 in-order k (s, zero) l = refl

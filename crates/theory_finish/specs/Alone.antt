@@ -1,38 +1,37 @@
--- FOLLOW NEVER IMPORTS in output order: while function i is imported, every function that it calls is known, so that no other function is appended. A CallResult brings its function too: it has to name a function that i calls (of those that are imported, scope says so; here it is a premise on all of them).
+-- FOLLOW NEVER IMPORTS in output order: while function i is imported, every function that it calls is known, so that no other function is appended. A CallResult imports its function too: it has to name a function that i calls (of those that are imported, scope says so; here it is a premise on all of them).
 use mathlib.Core.Path.{_≡_, refl, sym, ap, _∙_}
-use mathlib.Core.Bool.{Bool, true, false, cond}
+use mathlib.Core.Bool.{true}
 use mathlib.Core.List.{List, [], _∷_, _++_}
 use Prim.Native.Nat.{ℕ, zero, suc, _<_}
 use native.Mathlib.Omega.{arith}
-use lib.Dec.{eqb, ltb}
+use lib.Dec.{eqb}
 use lib.ListN.{length, getD, getElem?}
-use borrow.Author.Tests.{eqb-true, eq-eqb, ltb-true}
-use Rattle.model.specs.Outcome.{Cells, class, word}
-use Rattle.model.specs.Table.{CALLEE, ARGUMENTS, LOCALS, EXPRESSIONS}
+use borrow.Author.Tests.{eq-eqb}
+use Rattle.theory_lists.specs.Booleans.{and-split}
+use Rattle.model.specs.Table.{ARGUMENTS, LOCALS, EXPRESSIONS}
 use Rattle.model.specs.Tree.{Function, Entry, flatAll, flatList, flat, flatEntry}
 use Rattle.model.specs.Module.{Module}
 use Rattle.model.specs.Carry.{Each, each-none, each-next, WellFunction, WellEntry, WellFormed}
-use Rattle.model.specs.Numbers.{Bounds, bound, caps, below as under, within, outside, inside, sound, soundEntry, numbered}
+use Rattle.model.specs.Numbers.{Bounds, bound, below as under, within, outside, inside, sound, soundEntry, numbered}
 use Rattle.model.specs.Lower.{lower}
 use Rattle.model.specs.Names.{named}
-use Rattle.model.specs.Calls.{Call, In, here, later, keep, times, ordered}
+use Rattle.model.specs.Calls.{Call, In, here, later, ordered}
 use Rattle.model.specs.Callees.{callees, calleesAt, calls, orderOf, CalleesKnown}
 use Rattle.model.specs.Redirect.{nothing, function as functionAt}
 use Rattle.model.specs.Tables.{Tab, tables, count}
 use Rattle.model.specs.References.{refs}
-use Rattle.model.specs.Imports.{St, importT}
+use Rattle.model.specs.Imports.{Derived, importT}
 use Rattle.model.specs.Special.{sourced}
 use Rattle.model.specs.Bodies.{final, follow, entered}
 use Rattle.model.specs.Link.{appendAll}
-use Rattle.order_callees.specs.Gathering.{picks}
-use Rattle.order_callees.proofs.Cells.{calleesIn, cells-function}
-use Rattle.order_callees.proofs.Numbered.{numbered-known}
-use Rattle.order_ranks.proofs.Lists.{in-any, in-right}
-use Rattle.theory_image.specs.Lists.{and-split}
+use Rattle.theory_order.specs.Cells.{cells-function}
+use Rattle.theory_order.specs.Numbered.{numbered-known, cells-below}
+use Rattle.theory_order.specs.Lists.{in-any, in-right}
 use Rattle.theory_image.specs.Writing.{flat-right}
-use Rattle.order_ranks.proofs.Theorems.{each-once}
-use Rattle.theory_records.specs.Functions.{cells-in, within-append}
-use Rattle.theory_finish.specs.Finished.{each-at}
+use Rattle.theory_image.specs.Members.{each-at}
+use Rattle.theory_image.specs.Within.{within-append, within-row}
+use Rattle.theory_order.specs.Theorems.{each-once, times-in}
+use Rattle.theory_records.specs.Functions.{cells-in}
 use Rattle.theory_finish.specs.Ringless.{low}
 use Rattle.theory_finish.specs.Sessions.{function-in}
 use Rattle.theory_finish.specs.Known.{Follows, follows-refl}
@@ -66,13 +65,6 @@ module _ (m : Module) (known : CalleesKnown m) where
       below : Each (λ j. j < length (m .functions)) (callees (functionAt m i))
       below = unfold functionAt in each-at known i nothing h
 
--- a row of the expressions is in range where the function is
-row-within : (b : Bounds) (rs : List Cells) → within b (flatAll rs) ≡ true → (x : ℕ) → within b (getD rs x []) ≡ true
-unfolding flatAll within
-row-within b [] h x = refl
-row-within b (r ∷ rs) h zero = within-append b r (flatAll rs) h .0
-row-within b (r ∷ rs) h (suc x) = row-within b rs (within-append b r (flatAll rs) h .1) x
-
 expr-within : (b : Bounds) (f : Function) → within b (flat f) ≡ true → (x : ℕ) → within b (getD (f .exprs) x []) ≡ true
 unfolding flatList within
 expr-within b f h x =
@@ -82,16 +74,16 @@ expr-within b f h x =
     let a₃ = within-append b (f .result) _ a₂ .1 in
     let a₄ = within-append b (flatList LOCALS (f .locals)) _ a₃ .1 in
     let a₅ = within-append b (flatList EXPRESSIONS (f .exprs)) _ a₄ .0 in
-    row-within b (f .exprs) (and-split (under (bound b EXPRESSIONS) (length (f .exprs))) (within b (flatAll (f .exprs))) a₅ .1) x
+    within-row b (f .exprs) (and-split (under (bound b EXPRESSIONS) (length (f .exprs))) (within b (flatAll (f .exprs))) a₅ .1) x
 
 module _ (m : Module) (well : WellFormed m) (three : numbered m ≡ true) (four : lower m ≡ true) (five : named m ≡ true) (os : List ℕ) (e : orderOf m ≡ ordered os) where
   -- ALONE
-  pub alone : (s : St) (xs ys : List ℕ) (i : ℕ) → os ≡ xs ++ (i ∷ ys) → ((x : ℕ) → FunsOk (Call (length (m .functions)) (calls m) i) (refs (getD (functionAt m i .exprs) x [])))
+  pub alone : (s : Derived) (xs ys : List ℕ) (i : ℕ) → os ≡ xs ++ (i ∷ ys) → ((x : ℕ) → FunsOk (Call (length (m .functions)) (calls m) i) (refs (getD (functionAt m i .exprs) x [])))
       → final 0 m (follow 0 m) (functionAt m i) (appendAll xs 0 m (sourced 0 m s)) .out .functions ≡ appendAll xs 0 m (sourced 0 m s) .functions
   alone s xs ys i q rows =
       final-kept m 0 K ik (follow 0 m) (Call (length (m .functions)) (calls m) i) fk (functionAt m i) (function-in m three i) well-at rows (called m (numbered-known m well three) i l) a (start, refl) .1
     where
-      a : St
+      a : Derived
       a = appendAll xs 0 m (sourced 0 m s)
 
       l : i < length (m .functions)
@@ -103,43 +95,24 @@ module _ (m : Module) (well : WellFormed m) (three : numbered m ≡ true) (four 
       start : Follows (tables m) a a
       start = follows-refl (all-follow m well three four 0 _ xs _ (source-follows m well three four five os e s))
 
-      K : St → Type 0
+      K : Derived → Type 0
       K r = Follows (tables m) a r × (r .functions ≡ a .functions)
 
-      ik : (t : Tab) (n : ℕ) (r : St) → n < count (tables m) t → K r → K (importT 0 (tables m) t n r)
+      ik : (t : Tab) (n : ℕ) (r : Derived) → n < count (tables m) t → K r → K (importT 0 (tables m) t n r)
       ik t n r h k = (follows-keeping m well three four 0 a .imports t n r h (k .0), type-functions 0 (tables m) t n r ∙ k .1)
 
-      fk : (f : ℕ) (r : St) → Call (length (m .functions)) (calls m) i f → K r → K (follow 0 m f r)
+      fk : (f : ℕ) (r : Derived) → Call (length (m .functions)) (calls m) i f → K r → K (follow 0 m f r)
       fk f r c k = rw (callees-idle-on m well three four five os e s r xs ys i f q c (k .0)) k
 
   -- ---- ENTRY POINTS: in the end every function is known
-  pub in-times : (l : List ℕ) (x : ℕ) → 0 < times l x → In x l
-  in-times [] x h = absurd (let z : 0 < 0 = (unfold keep in h) in omega arith)
-  in-times (y ∷ l) x h = go (eqb x y) refl (in-times l x)
-    where
-      go : (b : Bool) → eqb x y ≡ b → (0 < times l x → In x l) → In x (y ∷ l)
-      go true q i = rw (eqb-true x y q) here
-      go false q i = later (i (unfold keep in rw (keep, q) at h))
 
-  pub all-idle : (s r : St) (j : ℕ) → j < length (m .functions) → Follows (tables m) (appendAll os 0 m (sourced 0 m s)) r → follow 0 m j r ≡ r
+  pub all-idle : (s r : Derived) (j : ℕ) → j < length (m .functions) → Follows (tables m) (appendAll os 0 m (sourced 0 m s)) r → follow 0 m j r ≡ r
   all-idle s r j h f =
-      let g : In j os = in-times os j (omega (arith, each-once (length (m .functions)) (calls m) os (unfold orderOf in e) j h)) in
+      let g : In j os = times-in os j (omega (arith, each-once (length (m .functions)) (calls m) os (unfold orderOf in e) j h)) in
       follow-idle m well three four 0 r j (bears-kept m well three four 0 j f (all-known m well three four five os e s j g) .found)
 
-  pub within-callees : (b : Bounds) (cs : Cells) → within b cs ≡ true → Each (λ j. j < b .functions) (calleesIn cs)
-  unfolding within picks
-  within-callees b [] h = each-none
-  within-callees b (c ∷ cs) h = let p = and-split (under (bound b (class c)) (word c)) (within b cs) h in go (eqb (class c) CALLEE) refl (p .0) (within-callees b cs (p .1))
-    where
-      go : (z : Bool) → eqb (class c) CALLEE ≡ z → under (bound b (class c)) (word c) ≡ true → Each (λ j. j < b .functions) (calleesIn cs) → Each (λ j. j < b .functions) (cond z (word c ∷ calleesIn cs) (calleesIn cs))
-      go true q k i = each-next (low-word (rw (eqb-true (class c) CALLEE q) at k)) i
-        where
-          low-word : under (bound b CALLEE) (word c) ≡ true → word c < b .functions
-          low-word k = let l : ltb (word c) (b .functions) ≡ true = (unfold bound caps under in k) in ltb-true (word c) (b .functions) l
-      go false q k i = i
-
   -- no function is appended by an entry point
-  pub entry-alone : (s r : St) (p : Entry) → WellEntry p → soundEntry (outside m) p ≡ true → Follows (tables m) (appendAll os 0 m (sourced 0 m s)) r → entered 0 m p r .out .functions ≡ r .functions
+  pub entry-alone : (s r : Derived) (p : Entry) → WellEntry p → soundEntry (outside m) p ≡ true → Follows (tables m) (appendAll os 0 m (sourced 0 m s)) r → entered 0 m p r .out .functions ≡ r .functions
   entry-alone s r p w q f = unfold entered in each-kept m 0 K ik (follow 0 m) (λ j. j < b .functions) fk (λ x y. y) (λ x y z. z) (refs (p .head)) (cells-in m (p .function) (p .head) (both .0)) (low-funs b (p .head) (both .0)) _ body .1
     where
       b : Bounds
@@ -148,13 +121,13 @@ module _ (m : Module) (well : WellFormed m) (three : numbered m ≡ true) (four 
       both : (within b (p .head) ≡ true) × (within b (flat (p .function)) ≡ true)
       both = unfold sound flatEntry in within-append b (p .head) (flat (p .function)) (and-split (within b (p .head ++ flat (p .function))) _ q .0)
 
-      K : St → Type 0
+      K : Derived → Type 0
       K t = Follows (tables m) (appendAll os 0 m (sourced 0 m s)) t × (t .functions ≡ r .functions)
 
-      ik : (t : Tab) (n : ℕ) (u : St) → n < count (tables m) t → K u → K (importT 0 (tables m) t n u)
+      ik : (t : Tab) (n : ℕ) (u : Derived) → n < count (tables m) t → K u → K (importT 0 (tables m) t n u)
       ik t n u h k = (follows-keeping m well three four 0 _ .imports t n u h (k .0), type-functions 0 (tables m) t n u ∙ k .1)
 
-      fk : (j : ℕ) (u : St) → j < b .functions → K u → K (follow 0 m j u)
+      fk : (j : ℕ) (u : Derived) → j < b .functions → K u → K (follow 0 m j u)
       fk j u h k = let l : j < length (m .functions) = (unfold inside outside in h) in rw (all-idle s u j l (k .0)) k
 
       rows : (x : ℕ) → FunsOk (λ j. j < b .functions) (refs (getD (p .function .exprs) x []))
@@ -164,7 +137,7 @@ module _ (m : Module) (well : WellFormed m) (three : numbered m ≡ true) (four 
           row x = expr-within b (p .function) (both .1) x
 
       calls-low : Each (λ j. j < b .functions) (callees (p .function))
-      calls-low = rw (cells-function (w .function-ok)) at (within-callees b (flat (p .function)) (both .1))
+      calls-low = rw (cells-function (w .function-ok)) at (cells-below b (flat (p .function)) (both .1))
 
       body : K (final 0 m (follow 0 m) (p .function) r .out)
       body = final-kept m 0 K ik (follow 0 m) (λ j. j < b .functions) fk (p .function) (both .1) (w .function-ok) rows calls-low r (f, refl)

@@ -1,4 +1,4 @@
--- The names that cells bear: spans play no part, equal records bear the same, a record that is carried bears where its names went, and all that a record refers to in the table of names is a name that it bears.
+-- The names that cells have: spans do not matter, equal records have the same, a record that is carried has what its names are mapped to, and all that a record refers to in the table of names is a name that it has.
 use mathlib.Core.Path.{_≡_, refl, sym, ap, _∙_}
 use mathlib.Core.Bool.{Bool, true, false, _&&_, not}
 use mathlib.Core.Logic.{_⊎_, inl, inr, ⊎-elim}
@@ -8,6 +8,7 @@ use native.Mathlib.Omega.{arith}
 use lib.Dec.{eqb, ltb}
 use lib.ListN.{getD}
 use borrow.Author.Tests.{eqb-true, eqb-false, ltb-false, not-true}
+use Rattle.theory_lists.specs.Booleans.{and-split}
 use Rattle.model.specs.Outcome.{Cell, Cells}
 use Rattle.model.specs.Table.{SPAN, NAME}
 use Rattle.model.specs.Tree.{flatAll}
@@ -15,9 +16,8 @@ use Rattle.model.specs.Carry.{carryCell, carryCells}
 use Rattle.model.specs.Initial.{Mem, here, there}
 use Rattle.theory_image.specs.Members.{no-mem, mem-left, mem-right, mem-cases}
 use Rattle.model.specs.Tables.{Tab, names, isT, codeT, Tables, count}
-use Rattle.model.specs.References.{Place, table, own, function, Target, copied, start, upto, ref, opt, targets, target, Node, refOf, refs, carryW, through, undefinedAt, firstWord, moved, shift, alike, merged}
+use Rattle.model.specs.References.{Place, table, own, function, Target, copied, start, upto, ref, opt, targets, target, Node, refOf, refs, carryW, through, undefinedAt, firstWord, moved, shift, alike, interned}
 use Rattle.model.specs.Finish.{namesIn}
-use Rattle.theory_image.specs.Lists.{and-split}
 use Rattle.theory_records.specs.RecordLaws.{All, all-map, rest-of, Went, bareW, bare, alike-is}
 use Rattle.theory_records.specs.Tested.{cons-all}
 use Rattle.theory_records.specs.Functions.{TabIn, in-table, TabsIn}
@@ -46,13 +46,13 @@ name-cell : (s n : ℕ) (cs : Cells) → eqb s NAME ≡ true → Mem n (namesIn 
 unfolding namesIn
 name-cell s n cs e = rw (namesIn, e) here
 
--- the first cell's, or one behind it
+-- the first cell's, or one after it
 pub cell-cases : {n : ℕ} (s w : ℕ) (cs : Cells) → Mem n (namesIn ((s, w) ∷ cs)) → ((eqb s NAME ≡ true) × (w ≡ suc n)) ⊎ Mem n (namesIn cs)
 unfolding namesIn
 cell-cases s zero cs m = either (eqb s NAME) (λ e. inr (rw (namesIn, e) at m)) λ e. inr (rw (namesIn, e) at m)
 cell-cases s (suc k) cs m = either (eqb s NAME) (λ e. ⊎-elim (λ p. inl (e, ap suc (sym p))) inr (mem-first (rw (namesIn, e) at m))) λ e. inr (rw (namesIn, e) at m)
 
--- ---- spans apart
+-- ---- ignoring spans
 moved-name : (s w o : ℕ) (u : Bool) → eqb s NAME ≡ true → moved (target s) w o u ≡ w
 unfolding target targets moved
 moved-name s w o u e = rw (eqb-true s NAME e)
@@ -86,7 +86,7 @@ carry-names g ((s, w) ∷ cs) {n} {j} m e =
     let i : Mem n (namesIn cs) → g (table names) n ≡ suc j → Mem j (namesIn (carryCells (through g) cs)) = carry-names g cs in
     ⊎-elim (λ p. rw (p .1, went-name g s n (p .0), e) (name-cell s j (carryCells (through g) cs) (p .0))) (λ k. behind-cell (s, through g s w) (carryCells (through g) cs) (i k e)) (cell-cases s w cs m)
 
--- ---- one row behind another
+-- ---- one row after another
 pub left-names : {j : ℕ} (xs ys : Cells) → Mem j (namesIn xs) → Mem j (namesIn (xs ++ ys))
 left-names xs ys m = rw (namesIn-append xs ys) (mem-left (namesIn ys) m)
 
@@ -97,19 +97,19 @@ pub split-names : {j : ℕ} (xs ys : Cells) → Mem j (namesIn (xs ++ ys)) → M
 split-names xs ys m = mem-cases (namesIn xs) (namesIn ys) (rw (namesIn-append xs ys) at m)
 
 -- ---- a table keeps the first of equal records
-pub merged-old : {j : ℕ} (ds : List Cells) (r : Cells) → Mem j (namesIn (flatAll ds)) → Mem j (namesIn (flatAll (merged ds r)))
-unfolding merged flatAll namesIn
+pub merged-old : {j : ℕ} (ds : List Cells) (r : Cells) → Mem j (namesIn (flatAll ds)) → Mem j (namesIn (flatAll (interned ds r)))
+unfolding interned flatAll namesIn
 merged-old [] r m = absurd (no-mem m)
 merged-old (d ∷ ds) r m =
     let i = merged-old ds r in
-    either (alike d r) (λ e. rw (merged, e) m) λ e. rw (merged, e) (⊎-elim (left-names d (flatAll (merged ds r))) (λ k. right-names d (flatAll (merged ds r)) (i k)) (split-names d (flatAll ds) m))
+    either (alike d r) (λ e. rw (interned, e) m) λ e. rw (interned, e) (⊎-elim (left-names d (flatAll (interned ds r))) (λ k. right-names d (flatAll (interned ds r)) (i k)) (split-names d (flatAll ds) m))
 
-pub merged-new : {j : ℕ} (ds : List Cells) (r : Cells) → Mem j (namesIn r) → Mem j (namesIn (flatAll (merged ds r)))
-unfolding merged flatAll
+pub merged-new : {j : ℕ} (ds : List Cells) (r : Cells) → Mem j (namesIn r) → Mem j (namesIn (flatAll (interned ds r)))
+unfolding interned flatAll
 merged-new [] r m = left-names r [] m
 merged-new (d ∷ ds) r m =
     let i = merged-new ds r m in
-    either (alike d r) (λ e. rw (merged, e) (left-names d (flatAll ds) (rw (alike-names d r e) m))) λ e. rw (merged, e) (right-names d (flatAll (merged ds r)) i)
+    either (alike d r) (λ e. rw (interned, e) (left-names d (flatAll ds) (rw (alike-names d r e) m))) λ e. rw (interned, e) (right-names d (flatAll (interned ds r)) i)
 
 -- ---- references: to a name that L allows, or to anything else
 pub data Allowed (L : ℕ → Type 0) : Place → ℕ → Type 0 where
@@ -192,7 +192,7 @@ first-ref s w cs = either (eqb s NAME) (λ e. named w e) λ e. refs-other _ (tar
         at zero = unfold refOf in tt
         at (suc n) = unfold refOf in (a-name (name-cell NAME n cs refl), tt)
 
--- ALL REFERENCES of a record to names are to names that it bears
+-- ALL REFERENCES of a record to names are to names that it has
 pub refs-names : (r : Cells) → Alloweds (λ n. Mem n (namesIn r)) (refs r)
 unfolding refs
 refs-names [] = tt

@@ -8,6 +8,7 @@ use native.Mathlib.Omega.{arith}
 use lib.Dec.{eqb, ltb}
 use lib.ListN.{length, getD}
 use borrow.Author.Tests.{eqb-true, eqb-false, ltb-false, lt-ltb, ltb-true}
+use Rattle.theory_lists.specs.Booleans.{and-true, and-split}
 use Rattle.model.specs.Outcome.{Cells, class, word}
 use Rattle.model.specs.Table.{SPAN, UPTO, NAME, EXPR, OPT-EXPR, NAMED-EXPR, ARGUMENTS, LOCALS, EXPRESSIONS, NAMED, BLOCK, CASES, LENGTH, STMT-KIND}
 use Rattle.model.specs.Tree.{Stmt, Form, Block, Case, Cases, Range, Function, flatAll, flatList, flatS, flatF, flatB, flatK, flatC, flatBlock, flat, wordOf}
@@ -17,16 +18,16 @@ use Rattle.model.specs.Names.{field}
 use Rattle.model.specs.Scope.{inRange}
 use Rattle.model.specs.Numbers.{Bounds, caps, bound, below as under, within, outside, inside}
 use Rattle.model.specs.Tables.{Tab, names, exprs, at, tables, count}
-use Rattle.model.specs.References.{Place, table, own, function, Target, copied, start, upto, ref, opt, targets, target, Node, refOf, refs, each}
-use Rattle.model.specs.Imports.{St, once, importT}
-use Rattle.model.specs.Bodies.{Making, bring, comparesOf, eachE, optE, step, push, join, stand, importE, plain, unique, quiet, goS, goF, goB, goK, goC, putName, nameIf, keepNames, nameCells, declarations, declared, walked, keptNames, namedAfter, final}
-use Rattle.theory_image.specs.Lists.{and-true, and-split}
+use Rattle.model.specs.References.{Place, table, own, function, Target, copied, start, upto, ref, opt, targets, target, Node, refOf, refs, foldRefs}
+use Rattle.model.specs.Imports.{Derived, unlessMapped, importT}
+use Rattle.model.specs.Bodies.{Builder, bring, comparesOf, eachE, optE, step, appendExpr, internExpr, appendStanding, importE, importBody, importInitialiser, importStanding, importStmt, importForm, importBlock, importCase, importCases, putName, nameIf, keepNames, nameCells, declarations, declared, walked, keptNames, namedAfter, final}
 use Rattle.theory_records.specs.RecordLaws.{All}
-use Rattle.theory_records.specs.Functions.{TabIn, in-table, in-own, in-function, TabsIn, cells-in, within-append}
+use Rattle.theory_records.specs.Functions.{TabIn, in-table, in-own, in-function, TabsIn, cells-in}
 use Rattle.model.specs.Table.{FUNCTION, CALLEE, functionHead, counted}
 use Rattle.model.specs.Carry.{Each, each-none, each-next, OkS, OkF, OkB, OkBs, OkK, OkC, ok-stmt, ok-emit, ok-block, ok-branch, ok-switch, ok-loop, ok-break, ok-continue, ok-return, ok-kill, ok-call, ok-effect, ok-deeper, ok-end, ok-then, ok-case, ok-nomore, ok-also, WellFunction}
 use Rattle.model.specs.Callees.{calleesS, calleesF, calleesB, calleesK, calleesC, callees}
 use Rattle.theory_image.specs.Quiet.{each-append}
+use Rattle.theory_image.specs.Within.{within-append, within-next, within-join, within-row}
 use Rattle.theory_finish.specs.Firsts.{either}
 use Rattle.theory_finish.specs.Cellwise.{each-first, each-both}
 use Rattle.theory_finish.specs.Classes.{Not, calm?, calms?, all-not, functionless, calleeless, effect-functionless, effect-calleeless}
@@ -128,50 +129,34 @@ unfolding nameCells refs
 name-funs Q [] = tt
 name-funs Q (p ∷ ps) = target-ok Q (target NAME) (p .1) (refs (nameCells ps)) (unfold target targets noFun noFunP in refl) (name-funs Q ps)
 
-within-next : (b : Bounds) (s w : ℕ) (cs : Cells) → within b ((s, w) ∷ cs) ≡ true → within b cs ≡ true
-unfolding within
-within-next b s w cs h = and-split (under (bound b s) w) (within b cs) h .1
+module _ (m : Module) (o : ℕ) (K : Derived → Type 0) (ik : (t : Tab) (n : ℕ) (s : Derived) → n < count (tables m) t → K s → K (importT o (tables m) t n s)) where
+  module _ (fol : ℕ → Derived → Derived) (Q : ℕ → Type 0) (fk : (f : ℕ) (s : Derived) → Q f → K s → K (fol f s)) where
+    abbrev pub Good : (ℕ → Builder → Builder) → Type 0
+    Good h = (e : ℕ) (x : Builder) → K (x .out) → K (h e x .out)
 
-within-join : (b : Bounds) (xs ys : Cells) → within b xs ≡ true → within b ys ≡ true → within b (xs ++ ys) ≡ true
-unfolding within
-within-join b [] ys h k = k
-within-join b (c ∷ cs) ys h k = let a = and-split (under (bound b (class c)) (word c)) (within b cs) h in and-true (a .0) (within-join b cs ys (a .1) k)
-
--- a record of a flat list
-within-row : (b : Bounds) (rs : List Cells) → within b (flatAll rs) ≡ true → (k : ℕ) → within b (getD rs k []) ≡ true
-unfolding flatAll within
-within-row b [] h k = refl
-within-row b (r ∷ rs) h zero = within-append b r (flatAll rs) h .0
-within-row b (r ∷ rs) h (suc k) = within-row b rs (within-append b r (flatAll rs) h .1) k
-
-module _ (m : Module) (o : ℕ) (K : St → Type 0) (ik : (t : Tab) (n : ℕ) (s : St) → n < count (tables m) t → K s → K (importT o (tables m) t n s)) where
-  module _ (fol : ℕ → St → St) (Q : ℕ → Type 0) (fk : (f : ℕ) (s : St) → Q f → K s → K (fol f s)) where
-    abbrev pub Good : (ℕ → Making → Making) → Type 0
-    Good h = (e : ℕ) (x : Making) → K (x .out) → K (h e x .out)
-
-    step-kept : (h : ℕ → Making → Making) → Good h → {p : Place} {n : ℕ} → TabIn (tables m) p n → FunOk Q p n → (x : Making) → K (x .out) → K (step o m fol h p n x .out)
+    step-kept : (h : ℕ → Builder → Builder) → Good h → {p : Place} {n : ℕ} → TabIn (tables m) p n → FunOk Q p n → (x : Builder) → K (x .out) → K (step o m fol h p n x .out)
     unfolding step bring
     step-kept h g (in-table {t} {n} l) q x k = ik t n (x .out) l k
     step-kept h g (in-own {n}) q x k = g n x k
     step-kept h g (in-function {n}) (fun-call q) x k = fk n (x .out) q k
 
-    pub each-kept : (h : ℕ → Making → Making) → Good h → (js : List Node) → TabsIn (tables m) js → FunsOk Q js → (x : Making) → K (x .out) → K (each js (step o m fol h) x .out)
-    unfolding each
+    pub each-kept : (h : ℕ → Builder → Builder) → Good h → (js : List Node) → TabsIn (tables m) js → FunsOk Q js → (x : Builder) → K (x .out) → K (foldRefs js (step o m fol h) x .out)
+    unfolding foldRefs
     each-kept h g [] a q x k = k
     each-kept h g (j ∷ js) a q x k = each-kept h g js (a .1) (q .1) (step o m fol h (j .place) (j .num) x) (step-kept h g (a .0) (q .0) x k)
 
-    eachE-kept : (h : ℕ → Making → Making) → Good h → (es : List ℕ) (x : Making) → K (x .out) → K (eachE es h x .out)
+    eachE-kept : (h : ℕ → Builder → Builder) → Good h → (es : List ℕ) (x : Builder) → K (x .out) → K (eachE es h x .out)
     unfolding eachE
     eachE-kept h g [] x k = k
     eachE-kept h g (e ∷ es) x k = eachE-kept h g es (h e x) (g e x k)
 
-    optE-kept : (h : ℕ → Making → Making) → Good h → (e : Option ℕ) (x : Making) → K (x .out) → K (optE e h x .out)
+    optE-kept : (h : ℕ → Builder → Builder) → Good h → (e : Option ℕ) (x : Builder) → K (x .out) → K (optE e h x .out)
     unfolding optE
     optE-kept h g none x k = k
     optE-kept h g (some e) x k = g e x k
 
-    once-kept : (v : ℕ) (f : ℕ → Making) (x : Making) → K (f 0 .out) → K (x .out) → K (once v f x .out)
-    unfolding once
+    once-kept : (v : ℕ) (f : ℕ → Builder) (x : Builder) → K (f 0 .out) → K (x .out) → K (unlessMapped v f x .out)
+    unfolding unlessMapped
     once-kept zero f x a b = a
     once-kept (suc v) f x a b = b
 
@@ -208,54 +193,54 @@ module _ (m : Module) (o : ℕ) (K : St → Type 0) (ik : (t : Tab) (n : ℕ) (s
       row-in : (e : ℕ) → TabsIn (tables m) (refs (getD (F .exprs) e []))
       row-in e = cells-in m F (getD (F .exprs) e []) (within-row b (F .exprs) (parts .rows) e)
 
-      importE-kept : (ending : ℕ → Making → Making) → Good ending → (n : ℕ) → Good (importE o m fol (F .exprs) ending n)
+      importE-kept : (ending : ℕ → Builder → Builder) → Good ending → (n : ℕ) → Good (importE o m fol (F .exprs) ending n)
       unfolding importE
       importE-kept ending g zero e x k = k
       importE-kept ending g (suc n) e x k =
           once-kept (getD (x .memo) e 0) _ x (g e _ (each-kept (importE o m fol (F .exprs) ending n) (importE-kept ending g n) (refs (getD (F .exprs) e [])) (row-in e) (rowQ e) x k)) k
 
-      push-kept : Good (push o m fol (F .exprs))
-      unfolding push
+      push-kept : Good (appendExpr o m fol (F .exprs))
+      unfolding appendExpr
       push-kept e x k = k
 
-      join-kept : Good (join o m fol (F .exprs))
-      unfolding join
+      join-kept : Good (internExpr o m fol (F .exprs))
+      unfolding internExpr
       join-kept e x k = k
 
-      stand-kept : Good (stand o m fol (F .exprs))
-      unfolding stand push
+      stand-kept : Good (appendStanding o m fol (F .exprs))
+      unfolding appendStanding appendExpr
       stand-kept e x k = go (standing (F .exprs) e)
         where
-          go : (c : Bool) → K (let y : Making = elim c [ true ↦ push o m fol (F .exprs) e x | false ↦ x ] in y .out)
+          go : (c : Bool) → K (let y : Builder = elim c [ true ↦ appendExpr o m fol (F .exprs) e x | false ↦ x ] in y .out)
           go true = k
           go false = k
 
-      abbrev p : ℕ → Making → Making
-      p = plain o m fol (F .exprs)
+      abbrev p : ℕ → Builder → Builder
+      p = importBody o m fol (F .exprs)
 
-      abbrev q : ℕ → Making → Making
-      q = quiet o m fol (F .exprs)
+      abbrev q : ℕ → Builder → Builder
+      q = importStanding o m fol (F .exprs)
 
       plain-kept : Good p
-      unfolding plain
-      plain-kept = importE-kept (push o m fol (F .exprs)) push-kept (length (F .exprs))
+      unfolding importBody
+      plain-kept = importE-kept (appendExpr o m fol (F .exprs)) push-kept (length (F .exprs))
 
-      unique-kept : Good (unique o m fol (F .exprs))
-      unfolding unique
-      unique-kept = importE-kept (join o m fol (F .exprs)) join-kept (length (F .exprs))
+      unique-kept : Good (importInitialiser o m fol (F .exprs))
+      unfolding importInitialiser
+      unique-kept = importE-kept (internExpr o m fol (F .exprs)) join-kept (length (F .exprs))
 
       quiet-kept : Good q
-      unfolding quiet
-      quiet-kept = importE-kept (stand o m fol (F .exprs)) stand-kept (length (F .exprs))
+      unfolding importStanding
+      quiet-kept = importE-kept (appendStanding o m fol (F .exprs)) stand-kept (length (F .exprs))
 
       -- ---- bodies
       mutual
-        unfolding goS flatS flatBlock bring calleesS
+        unfolding importStmt flatS flatBlock bring calleesS
 
-        goS-kept : {d : ℕ} {s : Stmt Range} → OkS d s → Each Q (calleesS s) → within b (flatS s) ≡ true → (x : Making) → K (x .out) → K (goS o m fol p q s x .out)
+        goS-kept : {d : ℕ} {s : Stmt Range} → OkS d s → Each Q (calleesS s) → within b (flatS s) ≡ true → (x : Builder) → K (x .out) → K (importStmt o m fol p q s x .out)
         goS-kept (ok-stmt f) c h x k = goF-kept f c (within-next b UPTO _ _ (within-next b SPAN _ _ (within-next b STMT-KIND _ _ (within-next b LENGTH _ _ h)))) x k
 
-        goF-kept : {d : ℕ} {f : Form Range} → OkF d f → Each Q (calleesF f) → within b (flatF f) ≡ true → (x : Making) → K (x .out) → K (goF o m fol p q f x .out)
+        goF-kept : {d : ℕ} {f : Form Range} → OkF d f → Each Q (calleesF f) → within b (flatF f) ≡ true → (x : Builder) → K (x .out) → K (importForm o m fol p q f x .out)
         goF-kept (ok-emit {r}) c h x k = eachE-kept p plain-kept (inRange r) _ (eachE-kept q quiet-kept (inRange r) x k)
         goF-kept (ok-block a) c h x k = goB-kept a c (within-next b BLOCK _ _ h) x k
         goF-kept (ok-branch {c = e} {a = v} {b = u} a d) c h x k =
@@ -275,17 +260,17 @@ module _ (m : Module) (o : ℕ) (K : St → Type 0) (ik : (t : Tab) (n : ℕ) (s
         goF-kept (ok-call {f} {xs} {r}) c h x k = optE-kept p plain-kept r _ (eachE-kept p plain-kept xs _ (fk f (x .out) (each-first c) k))
         goF-kept (ok-effect {k = n} {cs} e l) c h x k = each-kept p plain-kept (refs cs) (cells-in m F cs h) (no-funs Q (effect-functionless n e l) (effect-calleeless n e l)) _ (eachE-kept p plain-kept (comparesOf cs) x k)
 
-        goB-kept : {d : ℕ} {a : Block Range} → OkB d a → Each Q (calleesB a) → within b (flatB a) ≡ true → (x : Making) → K (x .out) → K (goB o m fol p q a x .out)
+        goB-kept : {d : ℕ} {a : Block Range} → OkB d a → Each Q (calleesB a) → within b (flatB a) ≡ true → (x : Builder) → K (x .out) → K (importBlock o m fol p q a x .out)
         goB-kept (ok-deeper a) c h x k = goBs-kept a c h x k
 
-        goBs-kept : {d : ℕ} {a : Block Range} → OkBs d a → Each Q (calleesB a) → within b (flatB a) ≡ true → (x : Making) → K (x .out) → K (goB o m fol p q a x .out)
+        goBs-kept : {d : ℕ} {a : Block Range} → OkBs d a → Each Q (calleesB a) → within b (flatB a) ≡ true → (x : Builder) → K (x .out) → K (importBlock o m fol p q a x .out)
         goBs-kept ok-end c h x k = k
         goBs-kept (ok-then {s = u} {b = v} s a) c h x k = let w = within-append b (flatS u) (flatB v) h in let y = each-both (calleesS u) c in goBs-kept a (y .1) (w .1) _ (goS-kept s (y .0) (w .0) x k)
 
-        goK-kept : {d : ℕ} {a : Case Range} → OkK d a → Each Q (calleesK a) → within b (flatK a) ≡ true → (x : Making) → K (x .out) → K (goK o m fol p q a x .out)
+        goK-kept : {d : ℕ} {a : Case Range} → OkK d a → Each Q (calleesK a) → within b (flatK a) ≡ true → (x : Builder) → K (x .out) → K (importCase o m fol p q a x .out)
         goK-kept (ok-case {v = z} {b = v} l a) c h x k = goB-kept a c (within-next b BLOCK _ _ (within-append b z (flatBlock v) (within-append b (z ++ flatBlock v) _ h .0) .1)) x k
 
-        goC-kept : {d : ℕ} {ks : Cases Range} → OkC d ks → Each Q (calleesC ks) → within b (flatC ks) ≡ true → (x : Making) → K (x .out) → K (goC o m fol p q ks x .out)
+        goC-kept : {d : ℕ} {ks : Cases Range} → OkC d ks → Each Q (calleesC ks) → within b (flatC ks) ≡ true → (x : Builder) → K (x .out) → K (importCases o m fol p q ks x .out)
         goC-kept ok-nomore c h x k = k
         goC-kept (ok-also {k = u} {ks = us} a ks) c h x k = let w = within-append b (flatK u) (flatC us) h in let y = each-both (calleesK u) c in goC-kept ks (y .1) (w .1) _ (goK-kept a (y .0) (w .0) x k)
 
@@ -296,11 +281,11 @@ module _ (m : Module) (o : ℕ) (K : St → Type 0) (ik : (t : Tab) (n : ℕ) (s
           (each-append (each-append (each-append (functionless (wellF .head-ok) refl) (all-not FUNCTION (λ cs l. functionless l refl) (wellF .arguments-ok .each))) (functionless (wellF .result-ok) refl)) (all-not FUNCTION (λ cs l. functionless l refl) (wellF .locals-ok .each)))
           (each-append (each-append (each-append (calleeless (wellF .head-ok) refl) (all-not CALLEE (λ cs l. calleeless l refl) (wellF .arguments-ok .each))) (calleeless (wellF .result-ok) refl)) (all-not CALLEE (λ cs l. calleeless l refl) (wellF .locals-ok .each)))
 
-      pub declared-kept : (s : St) → K s → K (declared o m fol F s .out)
+      pub declared-kept : (s : Derived) → K s → K (declared o m fol F s .out)
       unfolding declared
-      declared-kept s k = each-kept (unique o m fol (F .exprs)) unique-kept (refs (declarations o m fol F)) (cells-in m F (declarations o m fol F) (parts .decls)) declared-funs _ k
+      declared-kept s k = each-kept (importInitialiser o m fol (F .exprs)) unique-kept (refs (declarations o m fol F)) (cells-in m F (declarations o m fol F) (parts .decls)) declared-funs _ k
 
-      walked-kept : (x : Making) → K (x .out) → K (walked o m fol F x .out)
+      walked-kept : (x : Builder) → K (x .out) → K (walked o m fol F x .out)
       unfolding walked
       walked-kept x k = goB-kept (wellF .body-ok) callQ (parts .body) x k
 
@@ -338,10 +323,10 @@ module _ (m : Module) (o : ℕ) (K : St → Type 0) (ik : (t : Tab) (n : ℕ) (s
           let a = within-append b r (flatAll rs) f in
           keep-ok rs memo _ (a .1) (if-ok (getD memo (field NAMED-EXPR r) 0) (field NAME r) ps (name-ok r (a .0)) h)
 
-      pub named-kept : (x : Making) → K (x .out) → K (namedAfter o m fol F x .out)
+      pub named-kept : (x : Builder) → K (x .out) → K (namedAfter o m fol F x .out)
       unfolding namedAfter keptNames
       named-kept x k = each-kept p plain-kept (refs (nameCells (keepNames (F .named) (x .memo) []))) (cells-in m F _ (keep-ok (F .named) (x .memo) [] (parts .named) (unfold nameCells within in refl))) (name-funs Q (keepNames (F .named) (x .memo) [])) x k
 
-      pub final-kept : (s : St) → K s → K (final o m fol F s .out)
+      pub final-kept : (s : Derived) → K s → K (final o m fol F s .out)
       unfolding final
       final-kept s k = named-kept _ (walked-kept (declared o m fol F s) (declared-kept s k))

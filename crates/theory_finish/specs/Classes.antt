@@ -1,4 +1,4 @@
--- Where a class does not stand: names have no NAME and no FROM, expressions have neither, a body has no NAME, and what stands before a body has no FROM.
+-- Where a class does not occur: names have no NAME and no FROM, expressions have neither, a body has no NAME, and what comes before a body has no FROM.
 use mathlib.Core.Path.{_≡_, refl, ap}
 use mathlib.Core.Bool.{Bool, true, false, _&&_, _||_, not}
 use mathlib.Core.Option.{some}
@@ -9,11 +9,11 @@ use native.Mathlib.Nat.{mod-lt}
 use lib.Dec.{eqb, ltb}
 use lib.ListN.{getElem?, replicate}
 use borrow.Author.Tests.{eqb-true, eqb-false, lt-ltb, ne-eqb, not-true}
+use Rattle.theory_lists.specs.Booleans.{and-true, and-split, or-l}
 use Rattle.model.specs.Outcome.{Cell, Cells, class}
 use Rattle.model.specs.Table.{Row, WORD, NAME, FUNCTION, CALLEE, FROM, PLACE, PAD, TEXT, VALUE, ATOMIC, RETURNS, EXPR-KIND, Shape, sEmit, sBlock, sIf, sSwitch, sLoop, sBreak, sContinue, sReturn, sKill, sCall, sEffect, values, atomics, results, statements, variants, text, brings, over, more}
 use Rattle.model.specs.Tree.{flatAll}
 use Rattle.model.specs.Carry.{Lays, lays-none, lays-next, Each, each-none, each-next}
-use Rattle.theory_image.specs.Lists.{and-true, and-split}
 use Rattle.theory_image.specs.Plain.{plain-more}
 use Rattle.theory_image.specs.Quiet.{each-append, each-map}
 use Rattle.theory_image.specs.FunctionViews.{among, split-or, variant-brings, NOT-FIELDS, field-not, Expression, expression, expression-shape}
@@ -23,7 +23,7 @@ use Rattle.theory_finish.specs.Firsts.{either}
 abbrev pub Not : ℕ → Cell → Type 0
 Not x c = eqb (class c) x ≡ false
 
--- ---- symbols whose words bring no cell of the class x
+-- ---- symbols whose words are followed by no cell of the class x
 unfoldable pub calm? : ℕ → ℕ → Bool
 calm? x s = (ltb s TEXT && not (eqb s x)) || among s (TEXT ∷ VALUE ∷ ATOMIC ∷ RETURNS ∷ [])
 
@@ -34,9 +34,6 @@ calms? x (s ∷ ss) = calm? x s && calms? x ss
 unfoldable rows? : ℕ → List Row → Bool
 rows? x [] = true
 rows? x (r ∷ rs) = calms? x r && rows? x rs
-
-true-or : (a b : Bool) → a ≡ true → a || b ≡ true
-true-or a b e = rw e
 
 calms-append : (x : ℕ) (xs ss : Row) → calms? x xs ≡ true → calms? x ss ≡ true → calms? x (xs ++ ss) ≡ true
 unfolding calms?
@@ -49,7 +46,7 @@ rows-at x [] k h e = let z : _≡_ {A = ℕ} 0 1 = cc in absurd (omega arith)
 rows-at x (y ∷ l) zero {r} h e = let q : y ≡ r = cc in rw q at (and-split (calms? x y) (rows? x l) h .0)
 rows-at x (y ∷ l) (suc k) h e = rows-at x l k (and-split (calms? x y) (rows? x l) h .1) e
 
--- a word of a class below TEXT brings nothing
+-- a word of a class below TEXT has no fields after it
 pub small-more : (s w : ℕ) (xs : Row) → ltb s TEXT ≡ true → more s w ≡ brings xs → xs ≡ []
 small-more s w xs h e = either (ltb s PAD) (λ a. let q = plain-more s w a in (cc)) λ a. padded a (ltb w (256 ^ (s - PLACE))) refl
   where
@@ -65,7 +62,7 @@ module _ (x : ℕ) (low : x < PAD) (plain : calm? x WORD ≡ true) (vs : rows? x
 
   calm-small : (s : ℕ) → s < TEXT → (s ≡ x → ⊥) → calm? x s ≡ true
   unfolding calm?
-  calm-small s h n = true-or (ltb s TEXT && not (eqb s x)) _ (and-true (lt-ltb s TEXT h) (ap not (ne-eqb s x n)))
+  calm-small s h n = or-l (ltb s TEXT && not (eqb s x)) _ (and-true (lt-ltb s TEXT h) (ap not (ne-eqb s x n)))
 
   calms-last : (w : ℕ) → (w % 4 ≡ 0 → ⊥) → calms? x ((PAD + w % 4 - 1) ∷ []) ≡ true
   unfolding calms?

@@ -1,5 +1,5 @@
 -- THE FUNCTIONS AND ENTRY POINTS of a fresh session, from what holds of each of them when it is imported: that it alone is appended, is well formed and in range, and is no longer than its source. Each function is imported once, so there are no more of them, and no more words, than in the source.
-use mathlib.Core.Path.{_≡_, refl, sym, ap, ap₂, _∙_}
+use mathlib.Core.Path.{_≡_, refl, sym, ap, _∙_}
 use mathlib.Core.Bool.{Bool, true, false}
 use mathlib.Core.List.{List, [], _∷_, _++_, map, append-assoc, append-nil}
 use Prim.Native.Nat.{ℕ, zero, suc, _+_, _<_, _≤_}
@@ -7,8 +7,9 @@ use native.Mathlib.Nat.{le-trans}
 use native.Mathlib.Omega.{arith}
 use lib.Dec.{eqb}
 use lib.ListN.{length, getD, set, replicate, length-append, length-map, getD-replicate}
-use lib.Seq.{getD-set-other}
 use borrow.Author.Tests.{eq-eqb}
+use Rattle.theory_lists.specs.Sums.{sum, sum-set, sumAt}
+use Rattle.theory_lists.specs.Booleans.{and-true, and-split}
 use Rattle.model.specs.Outcome.{Cells}
 use Rattle.model.specs.Tree.{Function, Entry, flat, flatEntry, flatAll}
 use Rattle.model.specs.Module.{Module}
@@ -16,21 +17,21 @@ use Rattle.model.specs.Carry.{Each, each-none, each-next, WellFunction, WellEnt
 use Rattle.model.specs.Numbers.{every, outside, soundFunction, soundEntry, numbered}
 use Rattle.model.specs.Lower.{lower}
 use Rattle.model.specs.Initial.{Mem, here, there}
+use Rattle.theory_finish.specs.Exact.{sumAt-away}
 use Rattle.theory_image.specs.Members.{mem-left}
 use Rattle.model.specs.Calls.{In, here as first, later, keep, times, ordered}
 use Rattle.model.specs.Callees.{calls, orderOf}
 use Rattle.model.specs.Redirect.{nothing, function as functionAt}
 use Rattle.model.specs.Tables.{Tab, names, types, constants, overrides, globals, exprs, at, Tables, tables, recAt, count, mapAt}
-use Rattle.model.specs.References.{Place, table, own, function, Node, refs, each}
-use Rattle.model.specs.Imports.{St, once, settle, commit, stepT, importF, importT, emptied, fresh}
+use Rattle.model.specs.References.{Place, table, own, function, Node, refs, foldRefs}
+use Rattle.model.specs.Imports.{Derived, unlessMapped, intern, commit, stepT, importF, importT, emptied, fresh}
 use Rattle.model.specs.Special.{force, withSpecial, putRay, putPair, sourced}
 use Rattle.model.specs.Bodies.{final, localized, appended, append, follow, entered, entryMade, enterAll, entriesMade}
 use Rattle.model.specs.Finish.{gathered}
 use Rattle.model.specs.Link.{appendAll}
-use Rattle.theory_image.specs.Lists.{and-true, and-split}
 use Rattle.theory_image.specs.Quiet.{each-append}
-use Rattle.order_ranks.proofs.Lists.{in-left, in-right, in-keep}
-use Rattle.order_ranks.proofs.Theorems.{each-once}
+use Rattle.theory_order.specs.Lists.{in-left, in-right, in-keep}
+use Rattle.theory_order.specs.Theorems.{each-once}
 use Rattle.theory_records.specs.Trace.{Trace, Sized, trace-sized, import-trace}
 use Rattle.theory_records.specs.Theorems.{trace-grows}
 use Rattle.theory_records.specs.Tested.{tested-wf}
@@ -43,31 +44,12 @@ use Rattle.theory_finish.specs.Fresh.{stateAt}
 use Rattle.theory_finish.specs.Linking.{Functions}
 use Rattle.theory_finish.specs.Wider.{Wider, functions-wider, entry-wider, every-snoc}
 
--- ---- sums over numbers of which none stands twice
-unfoldable sum : List ℕ → ℕ
-sum [] = 0
-sum (w ∷ ws) = w + sum ws
-
-unfoldable pub sumAt : List ℕ → List ℕ → ℕ
-sumAt ws [] = 0
-sumAt ws (n ∷ ns) = getD ws n 0 + sumAt ws ns
-
-sum-set : (ws : List ℕ) (n : ℕ) → sum (set ws n 0) + getD ws n 0 ≡ sum ws
-unfolding sum
-sum-set [] zero = refl
-sum-set [] (suc n) = refl
-sum-set (w ∷ ws) zero = omega arith
-sum-set (w ∷ ws) (suc n) = omega (arith, sum-set ws n)
-
-sumAt-set : (ws : List ℕ) (n : ℕ) (ns : List ℕ) → (Mem n ns → ⊥) → sumAt (set ws n 0) ns ≡ sumAt ws ns
-unfolding sumAt
-sumAt-set ws n [] h = refl
-sumAt-set ws n (k ∷ ns) h = ap₂ _+_ (getD-set-other ws n k 0 0 λ e. h (rw e here)) (sumAt-set ws n ns λ m. h (there m))
+-- ---- sums over numbers, none of them twice
 
 sum-once : {ns : List ℕ} (ws : List ℕ) → Once ns → sumAt ws ns ≤ sum ws
 unfolding sumAt
 sum-once ws once-none = omega arith
-sum-once ws (once-next {x} {xs} h o) = omega (arith, sum-once (set ws x 0) o, sumAt-set ws x xs h, sum-set ws x)
+sum-once ws (once-next {x} {xs} h o) = omega (arith, sum-once (set ws x 0) o, sumAt-away ws x xs h, sum-set ws x)
 
 sumAt-snoc : (ws xs : List ℕ) (i : ℕ) → sumAt ws (xs ++ (i ∷ [])) ≡ sumAt ws xs + getD ws i 0
 unfolding sumAt
@@ -128,26 +110,26 @@ module _ (m : Module) (os : List ℕ) (e : orderOf m ≡ ordered os) where
       left (x ∷ xs) (once-next h o) = once-next (λ k. h (mem-left ys k)) (left xs o)
 
 -- ---- imports of tables' records leave the functions
-each-functions : (step : Place → ℕ → St → St) → ((p : Place) (n : ℕ) (s : St) → step p n s .functions ≡ s .functions) → (js : List Node) (s : St) → each js step s .functions ≡ s .functions
-unfolding each
+each-functions : (step : Place → ℕ → Derived → Derived) → ((p : Place) (n : ℕ) (s : Derived) → step p n s .functions ≡ s .functions) → (js : List Node) (s : Derived) → foldRefs js step s .functions ≡ s .functions
+unfolding foldRefs
 each-functions step h [] s = refl
 each-functions step h (j ∷ js) s = each-functions step h js (step (j .place) (j .num) s) ∙ h (j .place) (j .num) s
 
-import-functions : (f o : ℕ) (T : Tables) (t : Tab) (n : ℕ) (s : St) → importF f o T t n s .functions ≡ s .functions
+import-functions : (f o : ℕ) (T : Tables) (t : Tab) (n : ℕ) (s : Derived) → importF f o T t n s .functions ≡ s .functions
 unfolding importF
 import-functions zero o T t n s = refl
 import-functions (suc f) o T t n s = go (mapAt (s .maps) t n) (λ js s. each-functions (stepT (importF f o T)) (λ p n s. stepped p n s (import-functions f o T)) js s)
   where
-    stepped : (p : Place) (n : ℕ) (s : St) → ((t : Tab) (n : ℕ) (s : St) → importF f o T t n s .functions ≡ s .functions) → stepT (importF f o T) p n s .functions ≡ s .functions
+    stepped : (p : Place) (n : ℕ) (s : Derived) → ((t : Tab) (n : ℕ) (s : Derived) → importF f o T t n s .functions ≡ s .functions) → stepT (importF f o T) p n s .functions ≡ s .functions
     stepped (table t) n s h = unfold stepT in h t n s
     stepped own n s h = unfold stepT in h _ n s
     stepped function n s h = unfold stepT in refl
 
-    go : (v : ℕ) → ((js : List Node) (s : St) → each js (stepT (importF f o T)) s .functions ≡ s .functions) → once v (λ z. commit o T t n (each (refs (recAt T t n)) (stepT (importF f o T)) s)) s .functions ≡ s .functions
-    go zero h = unfold once commit settle in h _ s
-    go (suc v) h = unfold once in refl
+    go : (v : ℕ) → ((js : List Node) (s : Derived) → foldRefs js (stepT (importF f o T)) s .functions ≡ s .functions) → unlessMapped v (λ z. commit o T t n (foldRefs (refs (recAt T t n)) (stepT (importF f o T)) s)) s .functions ≡ s .functions
+    go zero h = unfold unlessMapped commit intern in h _ s
+    go (suc v) h = unfold unlessMapped in refl
 
-pub type-functions : (o : ℕ) (T : Tables) (t : Tab) (n : ℕ) (s : St) → importT o T t n s .functions ≡ s .functions
+pub type-functions : (o : ℕ) (T : Tables) (t : Tab) (n : ℕ) (s : Derived) → importT o T t n s .functions ≡ s .functions
 unfolding importT
 type-functions o T t n s = import-functions _ o T t n s
 
@@ -164,20 +146,20 @@ pub none-functions : (m : Module) → WellFormed m → numbered m ≡ true → s
 none-functions m well three = sourced-kept m three (none-setting m 0) well fresh (unfold emptied fresh in refl)
 
 -- ---- tables grow
-pub record Longer (T : Tables) (a s : St) : Type 0 where
+pub record Longer (T : Tables) (a s : Derived) : Type 0 where
   pub sized : Sized T s
   pub counts : (u : Tab) → count (a .recs) u ≤ count (s .recs) u
 
-longer-keeping : (m : Module) → WellFormed m → numbered m ≡ true → lower m ≡ true → (a : St) → Keeping m 0 (Longer (tables m) a)
+longer-keeping : (m : Module) → WellFormed m → numbered m ≡ true → lower m ≡ true → (a : Derived) → Keeping m 0 (Longer (tables m) a)
 longer-keeping m well three four a = record {
   imports = λ t n s l k. grown t n s k (import-trace 0 (tables m) (tested-wf m well three four) t n s l (k .sized) .0);
   appends = λ f s k. unfold appended Sized in record { sized = k .sized; counts = k .counts };
 }
   where
-    grown : (t : Tab) (n : ℕ) (s : St) → Longer (tables m) a s → Trace 0 (tables m) s (importT 0 (tables m) t n s) → Longer (tables m) a (importT 0 (tables m) t n s)
+    grown : (t : Tab) (n : ℕ) (s : Derived) → Longer (tables m) a s → Trace 0 (tables m) s (importT 0 (tables m) t n s) → Longer (tables m) a (importT 0 (tables m) t n s)
     grown t n s k tr = record { sized = trace-sized 0 (tables m) tr (k .sized); counts = λ u. le-trans (k .counts u) (trace-grows 0 (tables m) (tested-wf m well three four) tr .longer u) }
 
-longer-wider : {T : Tables} {a s : St} (es fs : List Entry) → Longer T a s → length (a .functions) ≤ length (s .functions) → Wider (outside (gathered a es)) (outside (gathered s fs))
+longer-wider : {T : Tables} {a s : Derived} (es fs : List Entry) → Longer T a s → length (a .functions) ≤ length (s .functions) → Wider (outside (gathered a es)) (outside (gathered s fs))
 unfolding outside gathered
 longer-wider es fs l h = record {
   names = unfold count at in l .counts names;
@@ -194,7 +176,7 @@ longer-wider es fs l h = record {
 
 -- ---- FUNCTIONS
 -- what is to be shown of function i, imported in the state s
-pub record Made (m : Module) (s : St) (i : ℕ) : Type 0 where
+pub record Made (m : Module) (s : Derived) (i : ℕ) : Type 0 where
   pub alone : final 0 m (follow 0 m) (functionAt m i) s .out .functions ≡ s .functions
   pub well : WellFunction (localized 0 m (follow 0 m) (functionAt m i) s)
   pub short : length (flat (localized 0 m (follow 0 m) (functionAt m i) s)) ≤ length (flat (functionAt m i))
@@ -203,7 +185,7 @@ pub record Made (m : Module) (s : St) (i : ℕ) : Type 0 where
 abbrev pub lengths : Module → List ℕ
 lengths m = map length (map flat (m .functions))
 
-pub record Sofar (m : Module) (xs : List ℕ) (s : St) : Type 0 where
+pub record Sofar (m : Module) (xs : List ℕ) (s : Derived) : Type 0 where
   pub many : length (s .functions) ≡ length xs
   pub words : length (flatAll (map flat (s .functions))) ≤ sumAt (lengths m) xs
   pub wells : Each WellFunction (s .functions)
@@ -215,7 +197,7 @@ flat-snoc [] f = length-append (flat f) [] ∙ omega arith
 flat-snoc (g ∷ fs) f =
     length-append (flat g) (flatAll (map flat (fs ++ (f ∷ [])))) ∙ (ap (length (flat g) +_) (flat-snoc fs f) ∙ omega (arith, length-append (flat g) (flatAll (map flat fs))))
 
-pub appendAll-snoc : (xs : List ℕ) (i o : ℕ) (m : Module) (s : St) → appendAll (xs ++ (i ∷ [])) o m s ≡ append o m (follow o m) i (appendAll xs o m s)
+pub appendAll-snoc : (xs : List ℕ) (i o : ℕ) (m : Module) (s : Derived) → appendAll (xs ++ (i ∷ [])) o m s ≡ append o m (follow o m) i (appendAll xs o m s)
 unfolding appendAll
 appendAll-snoc [] i o m s = refl
 appendAll-snoc (x ∷ xs) i o m s = appendAll-snoc xs i o m (append o m (follow o m) x s)
@@ -230,7 +212,7 @@ module _ (m : Module) (well : WellFormed m) (three : numbered m ≡ true) (four 
       at-map (f ∷ fs) zero h = refl
       at-map (f ∷ fs) (suc i) h = at-map fs i (omega arith)
 
-  one-more : (xs : List ℕ) (i : ℕ) (s : St) → i < length (m .functions) → Sized (tables m) s → Made m s i → Sofar m xs s → Sofar m (xs ++ (i ∷ [])) (append 0 m (follow 0 m) i s)
+  one-more : (xs : List ℕ) (i : ℕ) (s : Derived) → i < length (m .functions) → Sized (tables m) s → Made m s i → Sofar m xs s → Sofar m (xs ++ (i ∷ [])) (append 0 m (follow 0 m) i s)
   one-more xs i s h z k f = go (append 0 m (follow 0 m) i s .functions) (unfold append appended in ap (_++ (g ∷ [])) (k .alone)) (k .sound) (function-kept m three (longer-keeping m well three four s) i s (record { sized = z; counts = λ u. omega arith }))
     where
       g : Function
@@ -293,28 +275,28 @@ module _ (m : Module) (well : WellFormed m) (three : numbered m ≡ true) (four 
     }
 
 -- ---- ENTRY POINTS
-pub record EntryMade (m : Module) (e : Entry) (s : St) : Type 0 where
+pub record EntryMade (m : Module) (e : Entry) (s : Derived) : Type 0 where
   pub alone : entered 0 m e s .out .functions ≡ s .functions
   pub well : WellEntry (entryMade 0 m e s)
   pub short : length (flatEntry (entryMade 0 m e s)) ≤ length (flatEntry e)
   pub sound : soundEntry (outside (gathered (entered 0 m e s .out) [])) (entryMade 0 m e s) ≡ true
 
-pub data EntriesMade (m : Module) : List Entry → St → Type 0 where
-  made-none : {s : St} → EntriesMade m [] s
-  made-next : {e : Entry} {es : List Entry} {s : St} → EntryMade m e s → EntriesMade m es (entered 0 m e s .out) → EntriesMade m (e ∷ es) s
+pub data EntriesMade (m : Module) : List Entry → Derived → Type 0 where
+  made-none : {s : Derived} → EntriesMade m [] s
+  made-next : {e : Entry} {es : List Entry} {s : Derived} → EntryMade m e s → EntriesMade m es (entered 0 m e s .out) → EntriesMade m (e ∷ es) s
 
 module _ (m : Module) (well : WellFormed m) (three : numbered m ≡ true) (four : lower m ≡ true) where
-  ends-functions : {es : List Entry} {s : St} → EntriesMade m es s → enterAll es 0 m s .functions ≡ s .functions
+  ends-functions : {es : List Entry} {s : Derived} → EntriesMade m es s → enterAll es 0 m s .functions ≡ s .functions
   unfolding enterAll
   ends-functions made-none = refl
   ends-functions (made-next k ks) = ends-functions ks ∙ k .alone
 
-  ends-well : {es : List Entry} {s : St} → EntriesMade m es s → Each WellEntry (entriesMade es 0 m s)
+  ends-well : {es : List Entry} {s : Derived} → EntriesMade m es s → Each WellEntry (entriesMade es 0 m s)
   unfolding entriesMade
   ends-well made-none = each-none
   ends-well (made-next k ks) = each-next (k .well) (ends-well ks)
 
-  ends-smaller : {es : List Entry} {s : St} → EntriesMade m es s → Smaller (map flatEntry (entriesMade es 0 m s)) (map flatEntry es)
+  ends-smaller : {es : List Entry} {s : Derived} → EntriesMade m es s → Smaller (map flatEntry (entriesMade es 0 m s)) (map flatEntry es)
   unfolding entriesMade flatAll
   ends-smaller made-none = record { few = omega arith; short = omega arith }
   ends-smaller (made-next {e} {es} {s} k ks) =
@@ -324,19 +306,19 @@ module _ (m : Module) (well : WellFormed m) (three : numbered m ≡ true) (four 
         short = omega (arith, i .short, k .short, length-append (flatEntry (entryMade 0 m e s)) (flatAll (map flatEntry (entriesMade es 0 m (entered 0 m e s .out)))), length-append (flatEntry e) (flatAll (map flatEntry es)));
       }
 
-  ends-sound : {es : List Entry} {s : St} (fs : List Entry) → every (soundEntry (outside m)) es ≡ true → Sized (tables m) s → EntriesMade m es s → every (soundEntry (outside (gathered (enterAll es 0 m s) fs))) (entriesMade es 0 m s) ≡ true
+  ends-sound : {es : List Entry} {s : Derived} (fs : List Entry) → every (soundEntry (outside m)) es ≡ true → Sized (tables m) s → EntriesMade m es s → every (soundEntry (outside (gathered (enterAll es 0 m s) fs))) (entriesMade es 0 m s) ≡ true
   unfolding enterAll entriesMade every
   ends-sound fs q z made-none = refl
   ends-sound fs q z (made-next {e} {es} {s} k ks) =
       let a = and-split (soundEntry (outside m) e) (every (soundEntry (outside m)) es) q in
-      let s₁ : St = entered 0 m e s .out in
+      let s₁ : Derived = entered 0 m e s .out in
       let z₁ : Sized (tables m) s₁ = entered-kept m three (longer-keeping m well three four s) e (a .0) s (record { sized = z; counts = λ u. omega arith }) .sized in
       let l : Longer (tables m) s₁ (enterAll es 0 m s₁) = enter-all-kept m three (longer-keeping m well three four s₁) es (a .1) s₁ (record { sized = z₁; counts = λ u. omega arith }) in
       and-true (entry-wider (longer-wider [] fs l (omega (arith, ap length (ends-functions ks)))) (entryMade 0 m e s) (k .sound)) (ends-sound fs (a .1) z₁ ks)
 
   pub entries-facts : (os : List ℕ) → Functions m (stateAt m os) [] → EntriesMade m (m .entries) (stateAt m os) → Functions m (enterAll (m .entries) 0 m (stateAt m os)) (entriesMade (m .entries) 0 m (stateAt m os))
   entries-facts os f k =
-      let s : St = stateAt m os in
+      let s : Derived = stateAt m os in
       let es : List Entry = entriesMade (m .entries) 0 m s in
       let z : Sized (tables m) s = state-fits m well three four 0 os .sized in
       let q = ends-functions k in

@@ -9,16 +9,18 @@ use lib.Dec.{eqb}
 use lib.ListN.{length, getD, set, replicate, length-map, length-append, getD-replicate, List·getD-map}
 use lib.Seq.{getD-set-other}
 use borrow.Author.Tests.{eqb-true, eqb-false}
+use Rattle.theory_lists.specs.Sums.{sumAt}
 use Rattle.model.specs.Outcome.{Cells}
 use Rattle.model.specs.Tree.{Entry, flat, flatEntry, flatAll}
 use Rattle.model.specs.Table.{PLACE}
 use Rattle.model.specs.Module.{Module, Section, HEADER, places, flatTable, sections, pairsFrom, bodies, flatModule}
 use Rattle.model.specs.Carry.{carryCells, carry, carrySpecial}
 use Rattle.model.specs.Initial.{Mem, here, there}
+use Rattle.theory_order.specs.Lists.{length-numbers}
 use Rattle.theory_image.specs.Members.{no-mem}
 use Rattle.model.specs.Calls.{numbers}
 use Rattle.model.specs.Tables.{Tab, names, types, constants, overrides, globals, exprs, isT, codeT, at, Tables}
-use Rattle.model.specs.Imports.{St}
+use Rattle.model.specs.Imports.{Derived}
 use Rattle.model.specs.Finish.{namesIn, appearing, renumber, withNames, namedBy, gathered, finished, tooLarge}
 use Rattle.theory_finish.specs.Firsts.{either, Once, once-none, once-next, firsts-once, firsts-all, mem-first, all-at}
 use Rattle.theory_finish.specs.Finished.{renumber-only}
@@ -28,20 +30,13 @@ use Rattle.theory_finish.specs.Shown.{in-table, in-function, appears, wa
 use Rattle.theory_finish.specs.ShownSource.{None}
 
 -- ---- sums over numbers that differ
-unfoldable sum : List ℕ → ℕ
-sum [] = 0
-sum (w ∷ ws) = w + sum ws
-
-unfoldable sumAt : List ℕ → List ℕ → ℕ
-sumAt ws [] = 0
-sumAt ws (n ∷ ns) = getD ws n 0 + sumAt ws ns
 
 zeroed : (ws : List ℕ) (n : ℕ) → getD (set ws n 0) n 0 ≡ 0
 zeroed [] n = refl
 zeroed (w ∷ ws) zero = refl
 zeroed (w ∷ ws) (suc n) = zeroed ws n
 
-sumAt-away : (ws : List ℕ) (n : ℕ) (ns : List ℕ) → (Mem n ns → ⊥) → sumAt (set ws n 0) ns ≡ sumAt ws ns
+pub sumAt-away : (ws : List ℕ) (n : ℕ) (ns : List ℕ) → (Mem n ns → ⊥) → sumAt (set ws n 0) ns ≡ sumAt ws ns
 unfolding sumAt
 sumAt-away ws n [] h = refl
 sumAt-away ws n (k ∷ ns) h = ap₂ _+_ (getD-set-other ws n k 0 0 λ e. h (rw e here)) (sumAt-away ws n ns λ m. h (there m))
@@ -96,11 +91,6 @@ ones : (n : ℕ) (xs : List ℕ) → ((i : ℕ) → Mem i xs → i < n) → sumA
 unfolding sumAt
 ones n [] h = refl
 ones n (x ∷ xs) h = omega (arith, getD-replicate {A = ℕ} n x 1 0 (h x here), ones n xs λ i g. h i (there g))
-
-length-numbers : (n k : ℕ) → length (numbers n k) ≡ n
-unfolding numbers
-length-numbers zero k = refl
-length-numbers (suc n) k = ap suc (length-numbers n (suc k))
 
 module _ (rs : List Cells) (ns : List ℕ) (o : Once ns) (low : (n : ℕ) → Mem n ns → n < length rs) (all : (n : ℕ) → n < length rs → Mem n ns) where
   abbrev N : List ℕ
@@ -201,7 +191,7 @@ in-section [] k m = absurd (no-mem m)
 in-section (x ∷ ss) zero m = left-names (x .1) (bodies ss) m
 in-section (x ∷ ss) (suc k) m = right-names (x .1) (bodies ss) (in-section ss k m)
 
-module _ (s : St) (es : List Entry) where
+module _ (s : Derived) (es : List Entry) where
   abbrev g : Module
   g = gathered s es
 

@@ -1,4 +1,4 @@
--- THE FINISHED MODULE. Its names are those that appear, in the order of first appearance; every record is kept but for its NAME words, and the text behind each of these is the same; tests 3, 4, 5 and 6 are passed again; to number the names again changes nothing.
+-- THE FINISHED MODULE. Its names are those that appear, in the order of first appearance; every record is kept except for its NAME words, and the name that each of these refers to has the same text; tests 3, 4, 5 and 6 are passed again; to number the names again changes nothing.
 use mathlib.Core.Path.{_≡_, refl, sym, ap, ap₂, _∙_}
 use mathlib.Core.Bool.{Bool, true, false, _&&_, not}
 use mathlib.Core.Logic.{⊎-elim}
@@ -8,13 +8,15 @@ use native.Mathlib.Omega.{arith}
 use lib.Dec.{eqb, ltb}
 use lib.ListN.{length, getD, length-map, List·getD-map}
 use borrow.Author.Tests.{eqb-true, eqb-false, ltb-true, not-true, eq-eqb, ne-eqb}
+use Rattle.theory_lists.specs.Lists.{map-map, map-same}
+use Rattle.theory_lists.specs.Booleans.{and-true, and-split}
 use Rattle.model.specs.Outcome.{Cell, Cells, class, word}
 use Rattle.model.specs.Table.{NAME, KEY, nameRow}
 use Rattle.model.specs.Tree.{Function, Entry, flat, flatEntry}
 use Rattle.model.specs.Module.{Module, flatTable, sections, pairsFrom, bodies, flatModule, HEADER}
 use Rattle.model.specs.Carry.{carryCell, carryCells, carryFunction, carryEntry, carrySpecial, carry, Lays, Each, each-none, each-next, WellFunction, WellEntry}
 use Rattle.model.specs.Initial.{Mem, here, there}
-use Rattle.theory_image.specs.Members.{no-mem}
+use Rattle.theory_image.specs.Members.{no-mem, each-at}
 use Rattle.model.specs.Calls.{numbers}
 use Rattle.model.specs.Numbers.{Bounds, bound, caps, below, within, every, outside, inside, sound, soundFunction, soundEntry, constantOnly, numbered}
 use Rattle.model.specs.Lower.{lower}
@@ -22,7 +24,6 @@ use Rattle.model.specs.Names.{field, present, distinct, same, unlike, differ, f
 use Rattle.model.specs.Scope.{inScope}
 use Rattle.model.specs.Intake.{Passes}
 use Rattle.model.specs.Finish.{namesIn, indexN, appearing, renumber, withNames, namedBy}
-use Rattle.theory_image.specs.Lists.{map-map, map-same, and-true, and-split}
 use Rattle.theory_image.specs.Quiet.{each-map}
 use Rattle.theory_image.specs.Carries.{lays-carry, carry-well-function, carry-well-entry}
 use Rattle.theory_finish.specs.Firsts.{Once, once-none, once-next, either, mem-first, firsts-once, firsts-all, firsts-only, index-in, index-at, index-apart}
@@ -184,7 +185,7 @@ module _ (ns : List ℕ) where
   renumber-apart (suc x) zero p q e = absurd (omega arith)
   renumber-apart (suc x) (suc y) p q e = ap suc (index-apart (p x refl) (q y refl) (omega arith))
 
-  -- ---- the text behind a name
+  -- ---- the text of a name
   at-mapped : {A : Type 0} (f : ℕ → A) (d : A) (l : List ℕ) (i : ℕ) → i < length l → getD (map f l) i d ≡ f (getD l i 0)
   at-mapped f d [] i h = absurd (omega arith)
   at-mapped f d (x ∷ l) zero h = refl
@@ -204,7 +205,7 @@ module _ (ns : List ℕ) (t : Module) where
   unfolding namedBy withNames
   text-at n m = at-mapped ns (λ k. getD (t .names) k []) [] ns (indexN ns n) (index-in m) ∙ ap (λ k. getD (t .names) k []) (index-at m)
 
-  -- THE TEXT behind each name is the same
+  -- THE TEXT of each name is the same
   pub text-kept : (w : ℕ) → ((n : ℕ) → w ≡ suc n → Mem n ns) → textOf (namedBy ns t) (renumber ns NAME w) ≡ textOf t w
   unfolding textOf renumber
   text-kept zero p = refl
@@ -226,11 +227,6 @@ module _ (ns : List ℕ) (t : Module) where
 pub each-mem : {P : ℕ → Type 0} (ns : List ℕ) → ((n : ℕ) → Mem n ns → P n) → Each P ns
 each-mem [] h = each-none
 each-mem (n ∷ ns) h = each-next (h n here) (each-mem ns λ k m. h k (there m))
-
-pub each-at : {A : Type 0} {P : A → Type 0} {l : List A} → Each P l → (n : ℕ) (d : A) → n < length l → P (getD l n d)
-each-at each-none n d h = absurd (omega arith)
-each-at (each-next p ps) zero d h = p
-each-at (each-next p ps) (suc n) d h = each-at ps n d (omega arith)
 
 each-lays : {m : ℕ → ℕ → ℕ} {ss : List ℕ} {rs : List Cells} → Only m → Each (Lays ss) rs → Each (Lays ss) (map (carryCells m) rs)
 each-lays o each-none = each-none

@@ -73,7 +73,7 @@ unfolding firsts
 firsts-only [] seen m = inr m
 firsts-only (x ∷ xs) seen m = ⊎-elim (λ p. inl (there p)) (λ k. ⊎-elim inr (λ e. inl (rw e here)) (keep-cases seen x k)) (firsts-only xs (keepN seen x) m)
 
--- ---- where a number stands
+-- ---- where a number is
 pub index-in : {x : ℕ} {ns : List ℕ} → Mem x ns → indexN ns x < length ns
 unfolding indexN
 index-in {x} (here {xs}) = rw (indexN, eq-eqb x x refl) (omega arith)
@@ -103,7 +103,7 @@ index-from (once-next {x = y} {xs = ys} n o) k =
     ap₂ _∷_ (unfold indexN in rw (indexN, eq-eqb y y refl) (omega arith))
     (map-mem (λ x. k + indexN (y ∷ ys) x) (λ x. suc k + indexN ys x) ys (λ x m. ap (k +_) (index-next y x ys λ e. n (rw e m)) ∙ omega arith) ∙ index-from o (suc k))
 
--- where the numbers of the order stand in it
+-- where the numbers of the order are in it
 pub index-all : {ns : List ℕ} → Once ns → map (indexN ns) ns ≡ numbers (length ns) 0
 index-all {ns} o = map-mem (indexN ns) (λ x. 0 + indexN ns x) ns (λ x m. omega arith) ∙ index-from o 0
 
@@ -122,7 +122,7 @@ module _ (f : ℕ → ℕ) (ns : List ℕ) (apart : (x y : ℕ) → Mem x ns →
   firsts-map (x ∷ xs) seen h k =
       ap (firsts (map f xs)) (keep-map seen x k (h x here)) ∙ firsts-map xs (keepN seen x) (λ z m. h z (there m)) λ z m. ⊎-elim (k z) (λ e. rw e (h x here)) (keep-cases seen x m)
 
--- THE ORDER of what was replaced by where it stands
+-- THE ORDER of what was replaced by where it is
 pub firsts-again : (xs : List ℕ) → firsts (map (indexN (firsts xs [])) xs) [] ≡ numbers (length (firsts xs [])) 0
 firsts-again xs =
     let ns = firsts xs [] in

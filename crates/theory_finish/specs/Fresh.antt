@@ -11,18 +11,19 @@ use borrow.Author.Tests.{le-ltb, lt-ltb}
 use Rattle.model.specs.Outcome.{word, laid}
 use Rattle.model.specs.Tree.{Entry}
 use Rattle.model.specs.Module.{Module, read, write}
-use Rattle.model.specs.Intake.{intakeOf}
+use Rattle.model.specs.Intake.{intakeOf, ofLaid, afterIntake, onWords}
 use Rattle.model.specs.Calls.{In, here, later, ordered}
 use Rattle.model.specs.Callees.{callees, orderOf}
 use Rattle.model.specs.Redirect.{function}
 use Rattle.model.specs.Names.{differ}
 use Rattle.model.specs.Numbers.{numbered}
-use Rattle.model.specs.Imports.{St, fresh}
+use Rattle.model.specs.Imports.{Derived, fresh}
 use Rattle.model.specs.Bodies.{append, follow, enterAll, entriesMade}
 use Rattle.model.specs.Special.{sourced}
 use Rattle.model.specs.Finish.{gathered, finished, tooLarge}
-use Rattle.model.specs.Session.{Source, Session, answered, new, needing, kept, setting, set, importFunction, ending, calleesOf, withEntries, finishWithEntryPoints}
-use Rattle.model.specs.Link.{appendAll, linkBy, linked, inOrder, linkOf, link}
+use Rattle.model.specs.Session.{Source, Session, answered, new, withSource, unlessFull, setModule, set, importFunction, writeIfFits, calleesOf, withEntries, finishWithEntryPoints}
+use Rattle.model.specs.Refusals.{done}
+use Rattle.model.specs.Link.{appendAll, linkBy, inOrder, linkModule, link}
 use Rattle.theory_finish.specs.Kept.{Parts}
 use Rattle.theory_finish.specs.Size.{Within, finished-length, finished-small, source-whole, source-small}
 use Rattle.theory_finish.specs.Ringless.{none-ringing, low}
@@ -31,7 +32,7 @@ use Rattle.theory_finish.specs.Ringless.{none-ringing, low}
 abbrev pub source : Module → Source
 source m = record { image = m; offset = 0 }
 
-abbrev pub with : Module → St → Session
+abbrev pub with : Module → Derived → Session
 with m s = record { source = some (source m); state = s }
 
 -- imports of functions, one after the other, each accepted
@@ -41,22 +42,22 @@ pub data Imported : List ℕ → Session → Session → Type 0 where
 
 -- ---- each operation is accepted
 pub set-accepted : (bytes : ℕ) (ws : List ℕ) (m : Module) → intakeOf bytes ws ≡ 0 → read ws ≡ laid m → tooLarge (finished (sourced 0 m fresh) []) ≡ false → set bytes ws 0 new ≡ answered tt (with m (sourced 0 m fresh))
-unfolding set setting kept new
-set-accepted bytes ws m p r l = rw (set, p, r, kept, l)
+unfolding set onWords afterIntake ofLaid setModule unlessFull new
+set-accepted bytes ws m p r l = rw (set, p, r, unlessFull, l)
 
 module _ (m : Module) (os : List ℕ) (e : orderOf m ≡ ordered os) where
-  abbrev next : ℕ → St → St
+  abbrev next : ℕ → Derived → Derived
   next i s = append 0 m (follow 0 m) i s
 
-  pub import-accepted : (i : ℕ) (s : St) → i < length (m .functions) → tooLarge (finished (next i s) []) ≡ false → importFunction i (with m s) ≡ answered (pred (length (next i s .functions))) (with m (next i s))
-  unfolding importFunction needing kept
-  import-accepted i s h l = rw (importFunction, needing, lt-ltb i (length (m .functions)) h, none-ringing m os e (i ∷ callees (function m i)) s, kept, l)
+  pub import-accepted : (i : ℕ) (s : Derived) → i < length (m .functions) → tooLarge (finished (next i s) []) ≡ false → importFunction i (with m s) ≡ answered (pred (length (next i s .functions))) (with m (next i s))
+  unfolding importFunction withSource unlessFull
+  import-accepted i s h l = rw (importFunction, withSource, lt-ltb i (length (m .functions)) h, none-ringing m os e (i ∷ callees (function m i)) s, unlessFull, l)
 
-  pub finish-accepted : (room : ℕ) (s : St) → tooLarge (withEntries (source m) s) ≡ false → 4 * length (write (withEntries (source m) s)) ≤ room → finishWithEntryPoints room (with m s) ≡ answered (write (withEntries (source m) s)) new
-  unfolding finishWithEntryPoints needing ending
-  finish-accepted room s l h = rw (finishWithEntryPoints, needing, none-ringing m os e (calleesOf (m .entries)) s, ending, l, le-ltb room (4 * length (write (withEntries (source m) s))) h)
+  pub finish-accepted : (room : ℕ) (s : Derived) → tooLarge (withEntries (source m) s) ≡ false → 4 * length (write (withEntries (source m) s)) ≤ room → finishWithEntryPoints room (with m s) ≡ answered (write (withEntries (source m) s)) new
+  unfolding finishWithEntryPoints withSource writeIfFits
+  finish-accepted room s l h = rw (finishWithEntryPoints, withSource, none-ringing m os e (calleesOf (m .entries)) s, writeIfFits, l, le-ltb room (4 * length (write (withEntries (source m) s))) h)
 
-  imports-accepted : (is : List ℕ) (s : St) → ((i : ℕ) → In i is → i < length (m .functions)) → ((xs ys : List ℕ) → is ≡ xs ++ ys → tooLarge (finished (appendAll xs 0 m s) []) ≡ false) → Imported is (with m s) (with m (appendAll is 0 m s))
+  imports-accepted : (is : List ℕ) (s : Derived) → ((i : ℕ) → In i is → i < length (m .functions)) → ((xs ys : List ℕ) → is ≡ xs ++ ys → tooLarge (finished (appendAll xs 0 m s) []) ≡ false) → Imported is (with m s) (with m (appendAll is 0 m s))
   unfolding appendAll
   imports-accepted [] s h l = no-more
   imports-accepted (i ∷ is) s h l = and-then (import-accepted i s (h i here) (l (i ∷ []) is refl)) (imports-accepted is (next i s) (λ j g. h j (later g)) λ xs ys q. l (i ∷ xs) ys (ap (i ∷_) q))
@@ -66,24 +67,24 @@ pub record FreshLink (bytes : ℕ) (ws : List ℕ) (room : ℕ) (m : Module) (os
   pub sets : set bytes ws 0 new ≡ answered tt (with m (sourced 0 m fresh))
   pub imports : Imported os (with m (sourced 0 m fresh)) (with m (appendAll os 0 m (sourced 0 m fresh)))
   pub finishes : finishWithEntryPoints room (with m (appendAll os 0 m (sourced 0 m fresh))) ≡ answered (write (linkBy os m)) new
-  pub links : link bytes ws room ≡ linked (write (linkBy os m))
+  pub links : link bytes ws room ≡ done (write (linkBy os m))
 
 -- the states of the session: after the special types and some of the functions, and at the end
-abbrev pub stateAt : Module → List ℕ → St
+abbrev pub stateAt : Module → List ℕ → Derived
 stateAt m xs = appendAll xs 0 m (sourced 0 m fresh)
 
 -- a state with entry points whose parts are well formed, whose numbers are in range, whose names differ, and that stays within the source
-pub record Stays (m : Module) (s : St) (es : List Entry) : Type 0 where
+pub record Stays (m : Module) (s : Derived) (es : List Entry) : Type 0 where
   pub parts : Parts (gathered s es)
   pub numbers : numbered (gathered s es) ≡ true
   pub names : differ (map (map word) (gathered s es .names)) ≡ true
   pub within : Within (gathered s es) m
 
-pub stays-small : {m : Module} {s : St} {es : List Entry} → Stays m s es → tooLarge m ≡ false → tooLarge (finished s es) ≡ false
+pub stays-small : {m : Module} {s : Derived} {es : List Entry} → Stays m s es → tooLarge m ≡ false → tooLarge (finished s es) ≡ false
 unfolding finished
 stays-small k l = finished-small (k .parts) (k .numbers) (k .names) (k .within) l
 
-pub stays-short : {m : Module} {s : St} {es : List Entry} → Stays m s es → length (write (finished s es)) ≤ length (write m)
+pub stays-short : {m : Module} {s : Derived} {es : List Entry} → Stays m s es → length (write (finished s es)) ≤ length (write m)
 unfolding finished
 stays-short k = finished-length (k .parts) (k .numbers) (k .names) (k .within)
 
@@ -94,9 +95,9 @@ module _ (bytes : ℕ) (ws : List ℕ) (room : ℕ) (m : Module) (os : List ℕ)
   small : tooLarge m ≡ false
   small = source-small bytes ws m passes reads whole
 
-  linked-as : link bytes ws room ≡ linked (write (linkBy os m))
-  unfolding link linkOf inOrder
-  linked-as = rw (link, passes, reads, linkOf, le-ltb room bytes roomy, order)
+  linked-as : link bytes ws room ≡ done (write (linkBy os m))
+  unfolding link onWords afterIntake ofLaid linkModule inOrder
+  linked-as = rw (link, onWords, passes, afterIntake, reads, ofLaid, linkModule, le-ltb room bytes roomy, order)
 
   pub fresh-link : FreshLink bytes ws room m os
   unfolding linkBy withEntries appendAll

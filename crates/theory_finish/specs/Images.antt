@@ -7,14 +7,14 @@ use native.Mathlib.Omega.{arith}
 use lib.Dec.{ltb}
 use lib.ListN.{length, getD}
 use borrow.Author.Tests.{ltb-false, le-leb, eq-eqb}
+use Rattle.theory_lists.specs.Booleans.{and-true}
 use Rattle.model.specs.Outcome.{laid}
 use Rattle.model.specs.Tree.{Entry}
 use Rattle.model.specs.Module.{Module, limits, sections, flatModule, read, write, sized}
 use Rattle.model.specs.Carry.{WellFormed}
 use Rattle.model.specs.Intake.{Passes, tested, verdict, intakeOf}
-use Rattle.model.specs.Imports.{St}
+use Rattle.model.specs.Imports.{Derived}
 use Rattle.model.specs.Finish.{passes, tooLarge, gathered, finished}
-use Rattle.theory_image.specs.Lists.{and-true}
 use Rattle.theory_image.specs.Views.{length-cells, length-write, view-edition, view-total}
 use Rattle.theory_image.specs.Modules.{write-read}
 use Rattle.theory_finish.specs.Kept.{Parts}
@@ -77,7 +77,7 @@ unfolding intakeOf verdict
 image-intake {t} p k e = rw (intakeOf, image-sized t e, image-read p e) (passed k)
 
 -- ---- THE FINISHED MODULE, from what is gathered
-module _ (s : St) (es : List Entry) (p : Parts (gathered s es)) (k : Passes (gathered s es)) where
+module _ (s : Derived) (es : List Entry) (p : Parts (gathered s es)) (k : Passes (gathered s es)) where
   parts : Parts (finished s es)
   unfolding finished
   parts = finished-parts p (k .numbers)

@@ -14,8 +14,8 @@ use Rattle.model.specs.Table.{Row, WORD, PAD, TEXT, nameRow, text, more}
 use Rattle.model.specs.Tree.{Function}
 use Rattle.model.specs.Carry.{carryCell, carryCells, Lays, lays-none, lays-next, Each, each-none, each-next}
 use Rattle.model.specs.Tables.{Tab, names, at, upd, Tables, recAt, count, mapAt}
-use Rattle.model.specs.References.{copied, target, targets, carryW, through, undefinedAt, moved, shift, alike, seat, merged}
-use Rattle.model.specs.Imports.{St, settle, made, commit, wentT, importT}
+use Rattle.model.specs.References.{copied, target, targets, carryW, through, undefinedAt, moved, shift, alike, indexOf, interned}
+use Rattle.model.specs.Imports.{Derived, intern, made, commit, mappedToT, importT}
 use Rattle.model.specs.Redirect.{nameWord}
 use Rattle.model.specs.Bodies.{lastOf}
 use Rattle.theory_image.specs.Quiet.{each-append}
@@ -64,26 +64,26 @@ unfolding shift undefinedAt moved
 copied-shifted each-none o u = refl
 copied-shifted (each-next {a = c} h hs) o u = rw (h, copied-shifted hs o u)
 
--- ---- seats
-seat-old : (ds : List Cells) (c r : Cells) → seat ds r < length ds → seat (merged ds c) r ≡ seat ds r
-unfolding seat merged
+-- ---- where a record is in its table (`indexOf`)
+seat-old : (ds : List Cells) (c r : Cells) → indexOf ds r < length ds → indexOf (interned ds c) r ≡ indexOf ds r
+unfolding indexOf interned
 seat-old [] c r h = absurd (omega arith)
 seat-old (d ∷ ds) c r h =
     let i = seat-old ds c r in
-    either (alike d c) (λ e. rw (merged, e)) λ e. either (alike d r) (λ f. rw (merged, e, seat, f)) λ f. rw (merged, e, seat, f) (ap suc (i (below f h)))
+    either (alike d c) (λ e. rw (interned, e)) λ e. either (alike d r) (λ f. rw (interned, e, indexOf, f)) λ f. rw (interned, e, indexOf, f) (ap suc (i (below f h)))
   where
-    below : alike d r ≡ false → seat (d ∷ ds) r < suc (length ds) → seat ds r < length ds
-    below f h = let k : suc (seat ds r) < suc (length ds) = rw (seat, f) at h in omega arith
+    below : alike d r ≡ false → indexOf (d ∷ ds) r < suc (length ds) → indexOf ds r < length ds
+    below f h = let k : suc (indexOf ds r) < suc (length ds) = rw (indexOf, f) at h in omega arith
 
-merged-longer : (ds : List Cells) (c : Cells) → length ds ≤ length (merged ds c)
-unfolding merged
+merged-longer : (ds : List Cells) (c : Cells) → length ds ≤ length (interned ds c)
+unfolding interned
 merged-longer [] c = omega arith
-merged-longer (d ∷ ds) c = let i = merged-longer ds c in either (alike d c) (λ e. rw (merged, e) (omega arith)) λ e. rw (merged, e) (omega arith)
+merged-longer (d ∷ ds) c = let i = merged-longer ds c in either (alike d c) (λ e. rw (interned, e) (omega arith)) λ e. rw (interned, e) (omega arith)
 
-seat-new : (ds : List Cells) (c : Cells) → (seat (merged ds c) c ≡ seat ds c) × (seat ds c < length (merged ds c))
-unfolding seat merged
-seat-new [] c = (rw (seat, alike-self c c refl), omega arith)
-seat-new (d ∷ ds) c = let i = seat-new ds c in (either (alike d c) (λ e. rw (merged, e, seat, e)) λ e. rw (merged, e, seat, e) (ap suc (i .0)), either (alike d c) (λ e. rw (merged, seat, e) (omega arith)) λ e. rw (merged, seat, e) (omega arith))
+seat-new : (ds : List Cells) (c : Cells) → (indexOf (interned ds c) c ≡ indexOf ds c) × (indexOf ds c < length (interned ds c))
+unfolding indexOf interned
+seat-new [] c = (rw (indexOf, alike-self c c refl), omega arith)
+seat-new (d ∷ ds) c = let i = seat-new ds c in (either (alike d c) (λ e. rw (interned, e, indexOf, e)) λ e. rw (interned, e, indexOf, e) (ap suc (i .0)), either (alike d c) (λ e. rw (interned, indexOf, e) (omega arith)) λ e. rw (interned, indexOf, e) (omega arith))
 
 -- ---- the derived functions by name
 last-kept : (fs : List Function) (j v w : ℕ) → 0 < v → 0 < lastOf fs j v w
@@ -103,24 +103,24 @@ last-hit [] f j v = rw (lastOf, eq-eqb (nameWord f) (nameWord f) refl) (omega ar
 last-hit (g ∷ fs) f j v = either (eqb (nameWord g) (nameWord f)) (λ e. rw (lastOf, e) (last-hit fs f (suc j) (suc j))) λ e. rw (lastOf, e) (last-hit fs f (suc j) v)
 
 -- ---- what holds of a state s that came from a
-abbrev pub nameTable : St → List Cells
+abbrev pub nameTable : Derived → List Cells
 nameTable s = at names (s .recs)
 
-pub record Follows (T : Tables) (a s : St) : Type 0 where
+pub record Follows (T : Tables) (a s : Derived) : Type 0 where
   pub sized : Sized T s
-  -- names keep their seats
-  pub seats : (r : Cells) → seat (nameTable a) r < length (nameTable a) → (seat (nameTable s) r ≡ seat (nameTable a) r) × (seat (nameTable a) r < length (nameTable s))
+  -- names keep their places
+  pub seats : (r : Cells) → indexOf (nameTable a) r < length (nameTable a) → (indexOf (nameTable s) r ≡ indexOf (nameTable a) r) × (indexOf (nameTable a) r < length (nameTable s))
   -- what is mapped stays mapped
   pub mapped : (k : ℕ) → 0 < mapAt (a .maps) names k → 0 < mapAt (s .maps) names k
-  -- and is mapped to its seat
-  pub sound : (k : ℕ) → 0 < mapAt (s .maps) names k → k < count T names → (mapAt (s .maps) names k ≡ suc (seat (nameTable s) (recAt T names k))) × (seat (nameTable s) (recAt T names k) < length (nameTable s))
-  -- a name that some function bears is borne
+  -- and is mapped to its place
+  pub sound : (k : ℕ) → 0 < mapAt (s .maps) names k → k < count T names → (mapAt (s .maps) names k ≡ suc (indexOf (nameTable s) (recAt T names k))) × (indexOf (nameTable s) (recAt T names k) < length (nameTable s))
+  -- a name that some function of a has, some function of s has
   pub borne : (w : ℕ) → 0 < lastOf (a .functions) 0 0 w → 0 < lastOf (s .functions) 0 0 w
 
-pub follows-refl : {T : Tables} {a s : St} → Follows T a s → Follows T s s
+pub follows-refl : {T : Tables} {a s : Derived} → Follows T a s → Follows T s s
 follows-refl f = record { sized = f .sized; seats = λ r h. (refl, h); mapped = λ k h. h; sound = f .sound; borne = λ w h. h }
 
-pub follows-trans : {T : Tables} {a b c : St} → Follows T a b → Follows T b c → Follows T a c
+pub follows-trans : {T : Tables} {a b c : Derived} → Follows T a b → Follows T b c → Follows T a c
 follows-trans {a} {b} {c} f g = record {
   sized = g .sized;
   seats = λ r h. let p = f .seats r h in let q = g .seats r (rw (p .0) (p .1)) in (q .0 ∙ p .0, rw (p .0) at (q .1));
@@ -131,18 +131,18 @@ follows-trans {a} {b} {c} f g = record {
 
 -- ---- a commit
 module _ (o : ℕ) (T : Tables) (plain : (k : ℕ) → k < count T names → Copied (recAt T names k)) where
-  pub made-name : (n : ℕ) (s : St) → n < count T names → made o T names n s ≡ recAt T names n
+  pub made-name : (n : ℕ) (s : Derived) → n < count T names → made o T names n s ≡ recAt T names n
   unfolding made
-  made-name n s h = ap (λ r. shift r o false) (copied-carried (wentT s) (plain n h)) ∙ copied-shifted (plain n h) o false
+  made-name n s h = ap (λ r. shift r o false) (copied-carried (mappedToT s) (plain n h)) ∙ copied-shifted (plain n h) o false
 
-  settle-name : (a s : St) (n : ℕ) (r : Cells) → Ready T s names n → r ≡ recAt T names n → Sized T (settle names n r s) → Follows T a s → Follows T a (settle names n r s)
-  unfolding settle mapAt
+  settle-name : (a s : Derived) (n : ℕ) (r : Cells) → Ready T s names n → r ≡ recAt T names n → Sized T (intern names n r s) → Follows T a s → Follows T a (intern names n r s)
+  unfolding intern mapAt
   settle-name a s n r rd e z f =
-      let tab : at names (upd names (merged (nameTable s) r) (s .recs)) ≡ merged (nameTable s) r = at-same names (merged (nameTable s) r) (s .recs) in
-      let new : List ℕ = set (at names (s .maps)) n (suc (seat (nameTable s) r)) in
+      let tab : at names (upd names (interned (nameTable s) r) (s .recs)) ≡ interned (nameTable s) r = at-same names (interned (nameTable s) r) (s .recs) in
+      let new : List ℕ = set (at names (s .maps)) n (suc (indexOf (nameTable s) r)) in
       let map : at names (upd names new (s .maps)) ≡ new = at-same names new (s .maps) in
-      let hit : getD new n 0 ≡ suc (seat (nameTable s) r) = getD-set-same (at names (s .maps)) n (suc (seat (nameTable s) r)) 0 (rd .room) in
-      let miss : (k : ℕ) → (k ≡ n → ⊥) → getD new k 0 ≡ getD (at names (s .maps)) k 0 = λ k h. getD-set-other (at names (s .maps)) n k (suc (seat (nameTable s) r)) 0 h in
+      let hit : getD new n 0 ≡ suc (indexOf (nameTable s) r) = getD-set-same (at names (s .maps)) n (suc (indexOf (nameTable s) r)) 0 (rd .room) in
+      let miss : (k : ℕ) → (k ≡ n → ⊥) → getD new k 0 ≡ getD (at names (s .maps)) k 0 = λ k h. getD-set-other (at names (s .maps)) n k (suc (indexOf (nameTable s) r)) 0 h in
       record {
         sized = z;
         seats = λ x h. rw tab (kept x (f .seats x h));
@@ -151,26 +151,26 @@ module _ (o : ℕ) (T : Tables) (plain : (k : ℕ) → k < count T names → Cop
         borne = f .borne;
       }
     where
-      kept : (x : Cells) → (seat (nameTable s) x ≡ seat (nameTable a) x) × (seat (nameTable a) x < length (nameTable s)) → (seat (merged (nameTable s) r) x ≡ seat (nameTable a) x) × (seat (nameTable a) x < length (merged (nameTable s) r))
+      kept : (x : Cells) → (indexOf (nameTable s) x ≡ indexOf (nameTable a) x) × (indexOf (nameTable a) x < length (nameTable s)) → (indexOf (interned (nameTable s) r) x ≡ indexOf (nameTable a) x) × (indexOf (nameTable a) x < length (interned (nameTable s) r))
       kept x p = (seat-old (nameTable s) r x (rw (p .0) (p .1)) ∙ p .0, omega (arith, p .1, merged-longer (nameTable s) r))
 
-      first : (k : ℕ) → k ≡ n → getD (set (at names (s .maps)) n (suc (seat (nameTable s) r))) n 0 ≡ suc (seat (nameTable s) r) → (getD (set (at names (s .maps)) n (suc (seat (nameTable s) r))) k 0 ≡ suc (seat (merged (nameTable s) r) (recAt T names k))) × (seat (merged (nameTable s) r) (recAt T names k) < length (merged (nameTable s) r))
+      first : (k : ℕ) → k ≡ n → getD (set (at names (s .maps)) n (suc (indexOf (nameTable s) r))) n 0 ≡ suc (indexOf (nameTable s) r) → (getD (set (at names (s .maps)) n (suc (indexOf (nameTable s) r))) k 0 ≡ suc (indexOf (interned (nameTable s) r) (recAt T names k))) × (indexOf (interned (nameTable s) r) (recAt T names k) < length (interned (nameTable s) r))
       first k q hit = let p = seat-new (nameTable s) r in rw (q, ← e) (hit ∙ ap suc (sym (p .0)), rw (p .0) (p .1))
 
-      other : (k : ℕ) → getD (set (at names (s .maps)) n (suc (seat (nameTable s) r))) k 0 ≡ getD (at names (s .maps)) k 0 → 0 < getD (at names (s .maps)) k 0 → k < count T names → (getD (set (at names (s .maps)) n (suc (seat (nameTable s) r))) k 0 ≡ suc (seat (merged (nameTable s) r) (recAt T names k))) × (seat (merged (nameTable s) r) (recAt T names k) < length (merged (nameTable s) r))
+      other : (k : ℕ) → getD (set (at names (s .maps)) n (suc (indexOf (nameTable s) r))) k 0 ≡ getD (at names (s .maps)) k 0 → 0 < getD (at names (s .maps)) k 0 → k < count T names → (getD (set (at names (s .maps)) n (suc (indexOf (nameTable s) r))) k 0 ≡ suc (indexOf (interned (nameTable s) r) (recAt T names k))) × (indexOf (interned (nameTable s) r) (recAt T names k) < length (interned (nameTable s) r))
       other k q h l =
           let p = f .sound k (unfold mapAt in h) l in
           let u = seat-old (nameTable s) r (recAt T names k) (p .1) in
           (q ∙ (unfold mapAt in p .0) ∙ ap suc (sym u), rw u (omega (arith, p .1, merged-longer (nameTable s) r)))
 
-  settle-other : (a s : St) (t : Tab) (n : ℕ) (r : Cells) → (t ≡ names → ⊥) → Sized T (settle t n r s) → Follows T a s → Follows T a (settle t n r s)
-  unfolding settle mapAt
+  settle-other : (a s : Derived) (t : Tab) (n : ℕ) (r : Cells) → (t ≡ names → ⊥) → Sized T (intern t n r s) → Follows T a s → Follows T a (intern t n r s)
+  unfolding intern mapAt
   settle-other a s t n r p z f =
-      let tab : at names (upd t (merged (at t (s .recs)) r) (s .recs)) ≡ nameTable s = at-other t names (merged (at t (s .recs)) r) (s .recs) p in
-      let map : at names (upd t (set (at t (s .maps)) n (suc (seat (at t (s .recs)) r))) (s .maps)) ≡ at names (s .maps) = at-other t names (set (at t (s .maps)) n (suc (seat (at t (s .recs)) r))) (s .maps) p in
+      let tab : at names (upd t (interned (at t (s .recs)) r) (s .recs)) ≡ nameTable s = at-other t names (interned (at t (s .recs)) r) (s .recs) p in
+      let map : at names (upd t (set (at t (s .maps)) n (suc (indexOf (at t (s .recs)) r))) (s .maps)) ≡ at names (s .maps) = at-other t names (set (at t (s .maps)) n (suc (indexOf (at t (s .recs)) r))) (s .maps) p in
       record { sized = z; seats = λ x h. rw tab (f .seats x h); mapped = λ k h. rw map (f .mapped k h); sound = λ k h l. rw (tab, map) (f .sound k (rw map at h) l); borne = f .borne }
 
-  commit-follows : (a s : St) (t : Tab) (n : ℕ) → Ready T s t n → Follows T a s → Follows T a (commit o T t n s)
+  commit-follows : (a s : Derived) (t : Tab) (n : ℕ) → Ready T s t n → Follows T a s → Follows T a (commit o T t n s)
   commit-follows a s t n rd f =
       elim (Tab-dec t names) [
         | yes p ↦ at-names t p rd
@@ -183,5 +183,5 @@ module _ (o : ℕ) (T : Tables) (plain : (k : ℕ) → k < count T names → Cop
           named : Ready T s names n → Follows T a (commit o T names n s)
           named rd = unfold commit in settle-name a s n (made o T names n s) rd (made-name n s (rd .range)) (unfold commit in commit-sized o T s names n rd (f .sized)) f
 
-  pub import-follows : WF T → (a s : St) (t : Tab) (n : ℕ) → n < count T t → Follows T a s → Follows T a (importT o T t n s)
+  pub import-follows : WF T → (a s : Derived) (t : Tab) (n : ℕ) → n < count T t → Follows T a s → Follows T a (importT o T t n s)
   import-follows wf a s t n h f = keep-rule (Follows T a) (λ s t n rd g. commit-follows a s t n rd g) (import-trace o T wf t n s h (f .sized) .0) f

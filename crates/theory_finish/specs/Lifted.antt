@@ -7,6 +7,7 @@ use native.Mathlib.Omega.{arith}
 use lib.Dec.{eqb}
 use lib.ListN.{length, getD, replicate}
 use borrow.Author.Tests.{eqb-true, lt-ltb}
+use Rattle.theory_lists.specs.Booleans.{and-true, and-split}
 use Rattle.model.specs.Outcome.{Cells, class, word}
 use Rattle.model.specs.Table.{NAME, NAMED-EXPR, ARGUMENTS, LOCALS, EXPRESSIONS, NAMED, BLOCK}
 use Rattle.model.specs.Tree.{Function, flatAll, flatList, flatB, flatBlock, flat}
@@ -14,31 +15,15 @@ use Rattle.model.specs.Module.{Module}
 use Rattle.model.specs.Names.{field}
 use Rattle.model.specs.Numbers.{Bounds, caps, bound, below as under, within, outside, inside}
 use Rattle.model.specs.Tables.{Tab, names, exprs, at, tables, count}
-use Rattle.model.specs.References.{table, function, Node, refs, each}
-use Rattle.model.specs.Imports.{St, importT}
-use Rattle.model.specs.Bodies.{Making, step, unique, putName, nameIf, keepNames, nameCells, declarations, declared, walked, keptNames, namedAfter, final}
-use Rattle.theory_image.specs.Lists.{and-true, and-split}
-use Rattle.theory_records.specs.Functions.{TabIn, in-table, TabsIn, cells-in, within-append}
+use Rattle.model.specs.References.{table, function, Node, refs, foldRefs}
+use Rattle.model.specs.Imports.{Derived, importT}
+use Rattle.model.specs.Bodies.{Builder, step, importInitialiser, putName, nameIf, keepNames, nameCells, declarations, declared, walked, keptNames, namedAfter, final}
+use Rattle.theory_image.specs.Within.{within-append, within-next, within-join, within-row}
+use Rattle.theory_records.specs.Functions.{TabIn, in-table, TabsIn, cells-in}
 use Rattle.theory_finish.specs.Walked as Walked
 
-within-next : (b : Bounds) (s w : ℕ) (cs : Cells) → within b ((s, w) ∷ cs) ≡ true → within b cs ≡ true
-unfolding within
-within-next b s w cs h = and-split (under (bound b s) w) (within b cs) h .1
-
-within-join : (b : Bounds) (xs ys : Cells) → within b xs ≡ true → within b ys ≡ true → within b (xs ++ ys) ≡ true
-unfolding within
-within-join b [] ys h k = k
-within-join b (c ∷ cs) ys h k = let a = and-split (under (bound b (class c)) (word c)) (within b cs) h in and-true (a .0) (within-join b cs ys (a .1) k)
-
--- a record of a flat list
-within-row : (b : Bounds) (rs : List Cells) → within b (flatAll rs) ≡ true → (k : ℕ) → within b (getD rs k []) ≡ true
-unfolding flatAll within
-within-row b [] h k = refl
-within-row b (r ∷ rs) h zero = within-append b r (flatAll rs) h .0
-within-row b (r ∷ rs) h (suc k) = within-row b rs (within-append b r (flatAll rs) h .1) k
-
 -- ---- the references of a function whose numbers test 3 found in range
-module _ (m : Module) (o : ℕ) (fol : ℕ → St → St) (F : Function) (fine : within (inside (outside m) F) (flat F) ≡ true) where
+module _ (m : Module) (o : ℕ) (fol : ℕ → Derived → Derived) (F : Function) (fine : within (inside (outside m) F) (flat F) ≡ true) where
   abbrev b : Bounds
   b = inside (outside m) F
 
@@ -111,50 +96,50 @@ module _ (m : Module) (o : ℕ) (fol : ℕ → St → St) (F : Function) (fine :
       let a = within-append b r (flatAll rs) f in
       keep-ok rs memo _ (a .1) (if-ok (getD memo (field NAMED-EXPR r) 0) (field NAME r) ps (name-ok r (a .0)) h)
 
-  pub named-in : (x : Making) → TabsIn (tables m) (refs (nameCells (keptNames o m fol F x)))
+  pub named-in : (x : Builder) → TabsIn (tables m) (refs (nameCells (keptNames o m fol F x)))
   unfolding keptNames
   named-in x = cells-in m F _ (keep-ok (F .named) (x .memo) [] (parts .named) (unfold nameCells within in refl))
 
-module _ (m : Module) (o : ℕ) (K : St → Type 0) (ik : (t : Tab) (n : ℕ) (s : St) → n < count (tables m) t → K s → K (importT o (tables m) t n s)) where
-  module _ (fol : ℕ → St → St) (fk : (f : ℕ) (s : St) → K s → K (fol f s)) where
-    abbrev pub Good : (ℕ → Making → Making) → Type 0
-    Good h = (e : ℕ) (x : Making) → K (x .out) → K (h e x .out)
+module _ (m : Module) (o : ℕ) (K : Derived → Type 0) (ik : (t : Tab) (n : ℕ) (s : Derived) → n < count (tables m) t → K s → K (importT o (tables m) t n s)) where
+  module _ (fol : ℕ → Derived → Derived) (fk : (f : ℕ) (s : Derived) → K s → K (fol f s)) where
+    abbrev pub Good : (ℕ → Builder → Builder) → Type 0
+    Good h = (e : ℕ) (x : Builder) → K (x .out) → K (h e x .out)
 
-    allowed : (t : Tab) (n : ℕ) (s : St) → TabIn (tables m) (table t) n → K s → K (importT o (tables m) t n s)
+    allowed : (t : Tab) (n : ℕ) (s : Derived) → TabIn (tables m) (table t) n → K s → K (importT o (tables m) t n s)
     allowed t n s (in-table l) k = ik t n s l k
 
-    called : (f : ℕ) (s : St) → TabIn (tables m) function f → K s → K (fol f s)
+    called : (f : ℕ) (s : Derived) → TabIn (tables m) function f → K s → K (fol f s)
     called f s a k = fk f s k
 
-    pub each-kept : (h : ℕ → Making → Making) → Good h → (js : List Node) → TabsIn (tables m) js → (x : Making) → K (x .out) → K (each js (step o m fol h) x .out)
+    pub each-kept : (h : ℕ → Builder → Builder) → Good h → (js : List Node) → TabsIn (tables m) js → (x : Builder) → K (x .out) → K (foldRefs js (step o m fol h) x .out)
     each-kept h g js a x k = Walked.each-kept m o (TabIn (tables m)) K allowed fol called h g js a x k
 
     module _ (F : Function) (fine : within (inside (outside m) F) (flat F) ≡ true) where
-      unique-kept : Good (unique o m fol (F .exprs))
+      unique-kept : Good (importInitialiser o m fol (F .exprs))
       unique-kept = Walked.unique-kept m o (TabIn (tables m)) K allowed fol called F (row-in m o fol F fine)
 
-      pub declared-kept : (s : St) → K s → K (declared o m fol F s .out)
+      pub declared-kept : (s : Derived) → K s → K (declared o m fol F s .out)
       declared-kept s k = Walked.declared-kept m o (TabIn (tables m)) K allowed fol called F (row-in m o fol F fine) (decls-in m o fol F fine) s k
 
       -- where the first reference of the declarations is known
-      pub declared-after : (s : St) (j : Node) (js : List Node) → refs (declarations o m fol F) ≡ j ∷ js
-          → K (step o m fol (unique o m fol (F .exprs)) (j .place) (j .num) (record { out = s; memo = replicate (length (F .exprs)) 0; made = [] }) .out) → K (declared o m fol F s .out)
-      unfolding declared each
+      pub declared-after : (s : Derived) (j : Node) (js : List Node) → refs (declarations o m fol F) ≡ j ∷ js
+          → K (step o m fol (importInitialiser o m fol (F .exprs)) (j .place) (j .num) (record { out = s; memo = replicate (length (F .exprs)) 0; made = [] }) .out) → K (declared o m fol F s .out)
+      unfolding declared foldRefs
       declared-after s j js e k =
           let a : TabsIn (tables m) (j ∷ js) = rw e at (decls-in m o fol F fine) in
-          rw e (each-kept (unique o m fol (F .exprs)) unique-kept js (a .1) _ k)
+          rw e (each-kept (importInitialiser o m fol (F .exprs)) unique-kept js (a .1) _ k)
 
-      pub walked-kept : (x : Making) → K (x .out) → K (walked o m fol F x .out)
+      pub walked-kept : (x : Builder) → K (x .out) → K (walked o m fol F x .out)
       walked-kept x k = Walked.walked-kept m o (TabIn (tables m)) K allowed fol called F (row-in m o fol F fine) (body-in m o fol F fine) x k
 
-      pub named-kept : (x : Making) → K (x .out) → K (namedAfter o m fol F x .out)
+      pub named-kept : (x : Builder) → K (x .out) → K (namedAfter o m fol F x .out)
       named-kept x k = Walked.named-kept m o (TabIn (tables m)) K allowed fol called F (row-in m o fol F fine) x (named-in m o fol F fine x) k
 
-      pub final-kept : (s : St) → K s → K (final o m fol F s .out)
+      pub final-kept : (s : Derived) → K s → K (final o m fol F s .out)
       unfolding final
       final-kept s k = named-kept _ (walked-kept (declared o m fol F s) (declared-kept s k))
 
       -- what is after the declarations, and at the end
-      pub rest-kept : (s : St) → K (declared o m fol F s .out) → K (final o m fol F s .out)
+      pub rest-kept : (s : Derived) → K (declared o m fol F s .out) → K (final o m fol F s .out)
       unfolding final
       rest-kept s k = named-kept _ (walked-kept (declared o m fol F s) k)

@@ -5,6 +5,7 @@ use mathlib.Core.List.{List, [], _∷_, _++_, map}
 use Prim.Native.Nat.{ℕ, suc, _*_, _<_, _≤_}
 use native.Mathlib.Omega.{arith}
 use lib.ListN.{length, getD}
+use Rattle.theory_lists.specs.Booleans.{and-true}
 use Rattle.model.specs.Outcome.{Cells, laid}
 use Rattle.model.specs.Tree.{Entry, flat, flatEntry}
 use Rattle.model.specs.Module.{Module, read, write}
@@ -17,19 +18,19 @@ use Rattle.model.specs.Scope.{inScope}
 use Rattle.model.specs.Calls.{ordered}
 use Rattle.model.specs.Callees.{orderOf}
 use Rattle.model.specs.Tables.{Tab, names, types, constants, overrides, globals, exprs, at, Tables, tables, recAt, count}
-use Rattle.model.specs.Imports.{St}
+use Rattle.model.specs.Imports.{Derived}
 use Rattle.model.specs.Bodies.{enterAll, entriesMade}
 use Rattle.model.specs.Finish.{gathered, finished}
 use Rattle.model.specs.Session.{withEntries}
 use Rattle.model.specs.Link.{linkBy}
-use Rattle.theory_image.specs.Lists.{and-true}
 use Rattle.theory_image.specs.Plain.{plain?, plain-length}
 use Rattle.theory_image.specs.Modules.{read-well}
+use Rattle.theory_image.specs.Members.{each-at}
 use Rattle.theory_records.specs.Kinds.{rowOf}
 use Rattle.theory_records.specs.Passing.{FitR, Fit}
 use Rattle.theory_records.specs.Imported.{derived-three, derived-four}
 use Rattle.theory_finish.specs.Kept.{Parts}
-use Rattle.theory_finish.specs.Finished.{each-mem, each-at, appearing-low, finished-parts}
+use Rattle.theory_finish.specs.Finished.{each-mem, appearing-low, finished-parts}
 use Rattle.theory_finish.specs.Size.{Smaller, Within, intake-sized, source-whole, source-small}
 use Rattle.theory_finish.specs.Images.{image-read, finished-intake}
 use Rattle.theory_finish.specs.Fresh.{stateAt, Stays, stays-small, stays-short, FreshLink, fresh-link}
@@ -37,7 +38,7 @@ use Rattle.theory_finish.specs.Tabled.{Fits, state-fits, end-fits, fits-
 use Rattle.theory_finish.specs.Specials.{Typed, state-typed, end-typed, typed-rays, typed-pairs, typed-within, state-pairs, end-pairs}
 
 -- what is to be shown of functions and entry points
-pub record Functions (m : Module) (s : St) (es : List Entry) : Type 0 where
+pub record Functions (m : Module) (s : Derived) (es : List Entry) : Type 0 where
   pub functions-well : Each WellFunction (s .functions)
   pub entries-well : Each WellEntry es
   pub functions-sound : every (soundFunction (outside (gathered s es))) (s .functions) ≡ true
@@ -50,13 +51,13 @@ each-by [] h = each-none
 each-by (x ∷ l) h = each-next (h 0 (omega arith)) (each-by l λ i k. h (suc i) (omega arith))
 
 -- that they are laid out and their numbers are in range
-pub record LaidOut (s : St) (es : List Entry) : Type 0 where
+pub record LaidOut (s : Derived) (es : List Entry) : Type 0 where
   pub functions-well : Each WellFunction (s .functions)
   pub entries-well : Each WellEntry es
   pub functions-sound : every (soundFunction (outside (gathered s es))) (s .functions) ≡ true
   pub entries-sound : every (soundEntry (outside (gathered s es))) es ≡ true
 
-module _ {T : Tables} (s : St) (es : List Entry) (k : Typed T s) (g : LaidOut s es) where
+module _ {T : Tables} (s : Derived) (es : List Entry) (k : Typed T s) (g : LaidOut s es) where
   table-laid : (t : Tab) → Each (Lays (rowOf t)) (at t (s .recs))
   table-laid t = each-by (at t (s .recs)) λ i h. laid-at i h
     where
@@ -90,7 +91,7 @@ module _ {T : Tables} (s : St) (es : List Entry) (k : Typed T s) (g : LaidOut s 
       let z = typed-within b c k in
       and-true (t .types-in) (and-true (t .constants-in) (and-true (t .overrides-in) (and-true (t .globals-in) (and-true (t .exprs-in) (and-true (t .constant-in) (and-true (g .functions-sound) (and-true (g .entries-sound) (and-true (z .0) (z .1)))))))))
 
-module _ (m : Module) (well : WellFormed m) (s : St) (es : List Entry) (k : Typed (tables m) s) (f : Fits 0 (tables m) s) (q : Smaller (s .special .pairs) (m .special .pairs)) (g : Functions m s es) where
+module _ (m : Module) (well : WellFormed m) (s : Derived) (es : List Entry) (k : Typed (tables m) s) (f : Fits 0 (tables m) s) (q : Smaller (s .special .pairs) (m .special .pairs)) (g : Functions m s es) where
   laid-out : LaidOut s es
   laid-out = record { functions-well = g .functions-well; entries-well = g .entries-well; functions-sound = g .functions-sound; entries-sound = g .entries-sound }
 
@@ -122,7 +123,7 @@ module _ (m : Module) (well : WellFormed m) (s : St) (es : List Entry) (k : Type
   all-stays = record { parts = parts; numbers = numbers; names = unfold gathered at in kept-differ (k .kept); within = inside-source }
 
 -- what is to be shown for tests 4, 5 and 6
-pub record Tests (s : St) (es : List Entry) : Type 0 where
+pub record Tests (s : Derived) (es : List Entry) : Type 0 where
   pub functions-lower : functionsLower (s .functions) ≡ true
   pub entries-lower : entriesLower es ≡ true
   pub functions-present : present (functionNames (s .functions)) ≡ true
@@ -132,7 +133,7 @@ pub record Tests (s : St) (es : List Entry) : Type 0 where
   pub names-apart : distinct (functionNames (s .functions)) ≡ true
   pub scope : inScope (gathered s es) ≡ true
 
-pub gathered-passes : {T : Tables} (s : St) (es : List Entry) → Typed T s → numbered (gathered s es) ≡ true → Tests s es → Passes (gathered s es)
+pub gathered-passes : {T : Tables} (s : Derived) (es : List Entry) → Typed T s → numbered (gathered s es) ≡ true → Tests s es → Passes (gathered s es)
 gathered-passes {T} s es k n t = record {
   numbers = n;
   lowers = unfold lower gathered in (let f = derived-four T s es (k .kept) in and-true (f .bases) (and-true (f .operands) (and-true (f .inits) (and-true (t .functions-lower) (t .entries-lower)))));

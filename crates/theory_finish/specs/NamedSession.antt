@@ -12,14 +12,14 @@ use Rattle.model.specs.Tree.{Entry}
 use Rattle.model.specs.Module.{Module, read, write}
 use Rattle.model.specs.Carry.{WellFormed}
 use Rattle.model.specs.Initial.{Mem}
-use Rattle.model.specs.Intake.{intakeOf}
+use Rattle.model.specs.Intake.{intakeOf, ofLaid, afterIntake, onWords}
 use Rattle.model.specs.Numbers.{numbered}
 use Rattle.model.specs.Tables.{Tab, names, types, isT, tables, count}
-use Rattle.model.specs.Imports.{St}
+use Rattle.model.specs.Imports.{Derived}
 use Rattle.model.specs.Bodies.{enterAll, entriesMade}
 use Rattle.model.specs.Special.{sourced}
 use Rattle.model.specs.Finish.{appearing, gathered, finished, tooLarge}
-use Rattle.model.specs.Session.{Source, Session, Answer, answered, refused, after, new, needing, kept, ringing, setting, set, clear, mapSpan, importing, renameType, importFunction, mapFunctionHandle, ending, finish, withEntries, finishWithEntryPoints}
+use Rattle.model.specs.Session.{Source, Session, Answer, answered, refused, after, new, withSource, unlessFull, meetsRing, setModule, set, clear, mapSpan, importing, renameType, importFunction, mapFunctionHandle, writeIfFits, finish, withEntries, finishWithEntryPoints}
 use Rattle.theory_image.specs.Modules.{read-well}
 use Rattle.theory_finish.specs.Shown.{Shown, held-map}
 use Rattle.theory_finish.specs.ShownSource.{None, nowhere, source-sound, rename-shown, record-shown, call-shown, import-function-shown, end-shown, sourced-shown, fresh-shown, cleared-shown}
@@ -27,7 +27,7 @@ use Rattle.theory_finish.specs.Exact.{exact}
 use Rattle.theory_finish.specs.Linking.{intake-passes}
 
 -- every derived name appears, and a source that is set passed layout and test 3
-unfoldable pub NamedBy : Option Source → St → Type 0
+unfoldable pub NamedBy : Option Source → Derived → Type 0
 NamedBy none s = Shown nowhere None None s
 NamedBy (some x) s = WellFormed (x .image) × (numbered (x .image) ≡ true) × Shown (tables (x .image)) None None s
 
@@ -40,8 +40,8 @@ new-named = fresh-shown None
 
 -- ---- what an operation answers
 module _ (s : Session) (v : Named s) where
-  kept-named : {A : Type 0} (x : Source) (r : St) (a : A) → NamedBy (some x) r → Named (after s (kept x r a))
-  unfolding kept
+  kept-named : {A : Type 0} (x : Source) (r : Derived) (a : A) → NamedBy (some x) r → Named (after s (unlessFull x r a))
+  unfolding unlessFull
   kept-named {A} x r a w = go (tooLarge (finished r []))
     where
       go : (b : Bool) → Named (after {A = A} s (elim b [ true ↦ refused 21 | false ↦ answered a (record { source = some x; state = r }) ]))
@@ -60,21 +60,21 @@ module _ (s : Session) (v : Named s) where
   no-ring true y w = unfold after in v
   no-ring false y w = w
 
-  needing-named : {A : Type 0} (o : Option Source) (f : Source → Answer A) → NamedBy o (s .state) → ((x : Source) → NamedBy (some x) (s .state) → Named (after s (f x))) → Named (after s (needing o f))
-  unfolding needing
+  needing-named : {A : Type 0} (o : Option Source) (f : Source → Answer A) → NamedBy o (s .state) → ((x : Source) → NamedBy (some x) (s .state) → Named (after s (f x))) → Named (after s (withSource o f))
+  unfolding withSource
   needing-named none f w g = unfold after in v
   needing-named (some x) f w g = g x w
 
   -- ---- THE OPERATIONS
   pub set-named : (bytes : ℕ) (ws : List ℕ) (o : ℕ) → Named (after s (set bytes ws o s))
-  unfolding set setting NamedBy
+  unfolding set onWords afterIntake ofLaid setModule NamedBy
   set-named bytes ws o = go (intakeOf bytes ws) refl
     where
       shown : (y : Option Source) → NamedBy y (s .state) → (m : Module) → WellFormed m → numbered m ≡ true → Shown (tables m) None None (sourced o m (s .state))
       shown none w m a b = sourced-shown m a b o nowhere None (s .state) w
       shown (some x) w m a b = sourced-shown m a b o (tables (x .image)) None (s .state) (w .2)
 
-      laid-named : (l : Laid Module) → read ws ≡ l → intakeOf bytes ws ≡ 0 → Named (after s (setting l o s))
+      laid-named : (l : Laid Module) → read ws ≡ l → intakeOf bytes ws ≡ 0 → Named (after s (ofLaid (setModule o s) refused l))
       laid-named (laid m) r e =
           let a = read-well ws m r in
           let b = intake-passes bytes ws m e r .numbers in
@@ -82,7 +82,7 @@ module _ (s : Session) (v : Named s) where
       laid-named bad r e = unfold after in v
       laid-named strange r e = unfold after in v
 
-      go : (n : ℕ) → intakeOf bytes ws ≡ n → Named (after {A = Unit {0}} s (elim n [ zero ↦ setting (read ws) o s | suc k ↦ refused (suc k) ]))
+      go : (n : ℕ) → intakeOf bytes ws ≡ n → Named (after {A = Unit {0}} s (elim n [ zero ↦ ofLaid (setModule o s) refused (read ws) | suc k ↦ refused (suc k) ]))
       go zero e = laid-named (read ws) refl e
       go (suc k) e = unfold after in v
 
@@ -112,16 +112,16 @@ module _ (s : Session) (v : Named s) where
   unfolding importFunction NamedBy
   function-named n =
       needing-named (s .source) _ v λ x w.
-      in-range n (length (x .image .functions)) _ λ l. no-ring (ringing _ (x .image) (s .state)) _ (kept-named x _ _ (w .0, w .1, import-function-shown (x .image) (w .0) (w .1) (x .offset) None n (s .state) (w .2)))
+      in-range n (length (x .image .functions)) _ λ l. no-ring (meetsRing _ (x .image) (s .state)) _ (kept-named x _ _ (w .0, w .1, import-function-shown (x .image) (w .0) (w .1) (x .offset) None n (s .state) (w .2)))
 
   pub handle-named : (n : ℕ) → Named (after s (mapFunctionHandle n s))
   unfolding mapFunctionHandle NamedBy
   handle-named n =
       needing-named (s .source) _ v λ x w.
-      in-range n (length (x .image .functions)) _ λ l. no-ring (ringing _ (x .image) (s .state)) _ (kept-named x _ _ (w .0, w .1, call-shown (x .image) (w .0) (w .1) (x .offset) None n (s .state) (w .2)))
+      in-range n (length (x .image .functions)) _ λ l. no-ring (meetsRing _ (x .image) (s .state)) _ (kept-named x _ _ (w .0, w .1, call-shown (x .image) (w .0) (w .1) (x .offset) None n (s .state) (w .2)))
 
-  ending-named : (m : Module) (room : ℕ) → Named (after s (ending m room))
-  unfolding ending
+  ending-named : (m : Module) (room : ℕ) → Named (after s (writeIfFits m room))
+  unfolding writeIfFits
   ending-named m room = go (tooLarge m)
     where
       open-room : (b : Bool) (ws : List ℕ) → Named (after {A = List ℕ} s (elim b [ true ↦ refused 7 | false ↦ answered ws new ]))
@@ -138,14 +138,14 @@ module _ (s : Session) (v : Named s) where
 
   pub end-named : (room : ℕ) → Named (after s (finishWithEntryPoints room s))
   unfolding finishWithEntryPoints
-  end-named room = needing-named (s .source) _ v λ x w. no-ring (ringing _ (x .image) (s .state)) _ (ending-named (withEntries x (s .state)) room)
+  end-named room = needing-named (s .source) _ v λ x w. no-ring (meetsRing _ (x .image) (s .state)) _ (ending-named (withEntries x (s .state)) room)
 
 -- ---- 21 IS EXACT, of states whose name words are in range: at the end without entry points, and with them
-module _ (x : Source) (s : St) (v : NamedBy (some x) s) where
+module _ (x : Source) (s : Derived) (v : NamedBy (some x) s) where
   abbrev es : List Entry
   es = entriesMade (x .image .entries) (x .offset) (x .image) s
 
-  abbrev e : St
+  abbrev e : Derived
   e = enterAll (x .image .entries) (x .offset) (x .image) s
 
   pub exact-now : ((n : ℕ) → Mem n (appearing (gathered s [])) → n < length (gathered s [] .names)) → tooLarge (finished s []) ≡ tooLarge (gathered s [])

@@ -6,6 +6,7 @@ use Prim.Native.Nat.{ℕ, zero, suc}
 use native.Mathlib.Omega.{arith}
 use lib.Dec.{eqb}
 use borrow.Author.Tests.{eqb-true, eqb-false, not-true, ne-eqb}
+use Rattle.theory_lists.specs.Booleans.{and-true, and-split}
 use Rattle.model.specs.Outcome.{Cells, word}
 use Rattle.model.specs.Table.{NAME, NAMED-EXPR, KEY}
 use Rattle.model.specs.Tree.{Function, Entry}
@@ -13,7 +14,6 @@ use Rattle.model.specs.Module.{Module}
 use Rattle.model.specs.Carry.{carryCell, carryCells, carryFunction, carryEntry, carrySpecial, carry, Each, each-next}
 use Rattle.model.specs.Names.{field, present, absent, distinct, differ, expressionsNamed, functionsNamed, entriesNamed, functionNames, entryNames, named}
 use Rattle.model.specs.Finish.{withNames}
-use Rattle.theory_image.specs.Lists.{and-true, and-split}
 use Rattle.theory_finish.specs.Firsts.{either}
 use Rattle.theory_finish.specs.Touching.{Only}
 

@@ -8,6 +8,7 @@ use native.Mathlib.Omega.{arith}
 use lib.Dec.{eqb, ltb}
 use lib.ListN.{length, getD, length-map}
 use borrow.Author.Tests.{eqb-true, eqb-false, lt-ltb, ltb-false}
+use Rattle.theory_lists.specs.Booleans.{and-true, and-split}
 use Rattle.model.specs.Outcome.{Cell, Cells, class, word}
 use Rattle.model.specs.Table.{NAME, FROM, WORD, ARGUMENTS, LOCALS, EXPRESSIONS, NAMED, functionHead, entryHead, counted}
 use Rattle.model.specs.Tree.{Function, Entry, flatList, flatBlock, flat, flatEntry}
@@ -16,7 +17,6 @@ use Rattle.model.specs.Carry.{carryCell, carryCells, carryFunction, carryEntry,
 use Rattle.model.specs.Initial.{initialised}
 use Rattle.model.specs.Numbers.{Bounds, caps, bound, below, within, rising, ordered, every, outside, inside, sound, soundFunction, soundEntry, constantOnly, numbered}
 use Rattle.model.specs.Finish.{withNames}
-use Rattle.theory_image.specs.Lists.{and-true, and-split}
 use Rattle.theory_image.specs.Writing.{flat-right}
 use Rattle.theory_image.specs.Quiet.{each-append}
 use Rattle.theory_image.specs.Carries.{flat-carry-function, flat-carry-entry, carry-well-function, carry-well-entry}

@@ -7,16 +7,17 @@ use native.Mathlib.Omega.{arith}
 use lib.Dec.{eqb, ltb}
 use lib.ListN.{length}
 use borrow.Author.Tests.{eq-eqb, ltb-true, ltb-false}
+use Rattle.theory_lists.specs.Lists.{length-none}
 use Rattle.model.specs.Module.{Module}
 use Rattle.model.specs.Calls.{Call, Ring, Reaches, on, leads, In, here, numbers, any, keep, free, held, Rounds, rounds, ordered, order}
 use Rattle.model.specs.Callees.{calls, orderOf}
-use Rattle.model.specs.Imports.{St}
-use Rattle.model.specs.Session.{unknown, stuck, ringing}
-use Rattle.order_ranks.proofs.Lists.{in-nil, in-keep, any-in, length-numbers}
-use Rattle.order_ranks.proofs.Rounds.{none, length-round, last-round, some-round}
-use Rattle.order_ranks.proofs.Ring.{reaches}
-use Rattle.order_ranks.proofs.Stages.{waiting, in-waiting, waiting-in, stays, gone, kept, free-is, held-is}
-use Rattle.order_ranks.proofs.Theorems.{order-exactly, none-else}
+use Rattle.model.specs.Imports.{Derived}
+use Rattle.model.specs.Session.{unknown, stuck, meetsRing}
+use Rattle.theory_order.specs.Lists.{in-nil, in-keep, any-in, length-numbers}
+use Rattle.theory_order.specs.Rounds.{length-round, last-round, some-round}
+use Rattle.theory_order.specs.Ring.{reaches}
+use Rattle.theory_order.specs.Stages.{waiting, in-waiting, waiting-in, stays, gone, kept, free-is, held-is}
+use Rattle.theory_order.specs.Theorems.{order-exactly, none-else}
 use Rattle.theory_finish.specs.Firsts.{either}
 
 and-no : {A : Type 0} (a b : Bool) → a ≡ true → (a && not b ≡ true → A) → (b ≡ true → A) → A
@@ -49,7 +50,7 @@ module _ (n : ℕ) (c : ℕ → ℕ → Bool) (ringless : (i : ℕ) → Ring n c
 
   -- THE ROUNDS leave none
   pub left-none : (f : ℕ) (p : ℕ → Bool) → length (waiting n c p) ≤ f → rounds c f (waiting n c p) .left ≡ []
-  left-none zero p h = unfold rounds in none (waiting n c p) (omega arith)
+  left-none zero p h = unfold rounds in length-none (waiting n c p) (omega arith)
   left-none (suc f) p h = go (free c (waiting n c p)) refl (left-none f (kept n c p))
     where
       go : (l : List ℕ) → free c (waiting n c p) ≡ l → (length (waiting n c (kept n c p)) ≤ f → rounds c f (waiting n c (kept n c p)) .left ≡ []) → rounds c (suc f) (waiting n c p) .left ≡ []
@@ -80,18 +81,18 @@ module _ (m : Module) (os : List ℕ) (e : orderOf m ≡ ordered os) where
   ordered-as = unfold orderOf in e
 
   -- NO FUNCTION is stuck, whatever is known
-  pub none-stuck : (s : St) → stuck m s ≡ []
+  pub none-stuck : (s : Derived) → stuck m s ≡ []
   none-stuck s = unfold stuck waiting in left-none (length (m .functions)) (calls m) (order-exactly (length (m .functions)) (calls m) .0 (os, ordered-as)) (length (m .functions)) (unknown m s) few
     where
       few : length (waiting (length (m .functions)) (calls m) (unknown m s)) ≤ length (m .functions)
       few = unfold waiting in omega (arith, keep-short (numbers (length (m .functions)) 0) (unknown m s), length-numbers (length (m .functions)) 0)
 
   -- 22 is not met
-  pub none-ringing : (is : List ℕ) (s : St) → ringing is m s ≡ false
-  unfolding ringing any
+  pub none-ringing : (is : List ℕ) (s : Derived) → meetsRing is m s ≡ false
+  unfolding meetsRing any
   none-ringing is s = rw (none-stuck s) (any-none is)
 
-  -- 13 is not met: what stands in the order is a function
+  -- 13 is not met: what is in the order is a function
   pub low : (i : ℕ) → In i os → i < length (m .functions)
   low i h =
       let n = length (m .functions) in

@@ -8,6 +8,7 @@ use native.Mathlib.Omega.{arith}
 use native.Mathlib.Decide.{ℕ-discrete, decLt}
 use lib.ListN.{length, getD, set, replicate, length-replicate}
 use lib.Seq.{set-out, getD-set-same, getD-set-other}
+use Rattle.theory_lists.specs.Booleans.{and-split}
 use Rattle.model.specs.Outcome.{Cells}
 use Rattle.model.specs.Tree.{Function, Entry, flat, flatAll, flatB, flatEntry}
 use Rattle.model.specs.Module.{Module, Special}
@@ -19,11 +20,10 @@ use Rattle.model.specs.Numbers.{numbered, within, every, outside, inside, sound
 use Rattle.model.specs.Redirect.{nothing, function as functionAt}
 use Rattle.model.specs.Tables.{Tab, names, types, constants, overrides, globals, exprs, isT, codeT, at, six, Tables, tables, recAt, count}
 use Rattle.model.specs.References.{table, refOf, refs}
-use Rattle.model.specs.Imports.{St, importT, rename, renamed, unmapped, emptied, fresh}
+use Rattle.model.specs.Imports.{Derived, importT, rename, renamed, unmapped, emptied, fresh}
 use Rattle.model.specs.Special.{force, withSpecial, putRay, putPair, sourced}
 use Rattle.model.specs.Bodies.{append, follow, enterAll, entriesMade}
 use Rattle.model.specs.Finish.{namesIn}
-use Rattle.theory_image.specs.Lists.{and-split}
 use Rattle.theory_records.specs.TableLaws.{Tab-dec, at-same, at-other, at-six, apart}
 use Rattle.theory_finish.specs.Classes.{Not}
 use Rattle.theory_finish.specs.Numbering.{Cellwise}
@@ -48,17 +48,17 @@ copied-refs each-none = refl
 copied-refs (each-next {a = c} h hs) = rw h (copied-refs hs)
 
 -- ---- another source, or none
-module _ {J : ℕ → Type 0} {s : St} where
-  still : {j : ℕ} (x : St) → x .recs ≡ s .recs → x .functions ≡ s .functions → Where None J s j → Where None J x j
+module _ {J : ℕ → Type 0} {s : Derived} where
+  still : {j : ℕ} (x : Derived) → x .recs ≡ s .recs → x .functions ≡ s .functions → Where None J s j → Where None J x j
   still x e f (appears (in-table t q m)) = appears (in-table t q (rw e m))
   still x e f (appears (in-function m)) = appears (in-function (rw f m))
   still x e f (waits n l p) = absurd l
   still x e f (held h) = held h
 
-  pub other-source : {T : Tables} (U : Tables) (x : St) → x .recs ≡ s .recs → x .functions ≡ s .functions → count U names ≤ length (at names (x .maps)) → Shown T None J s → Shown U None J x
+  pub other-source : {T : Tables} (U : Tables) (x : Derived) → x .recs ≡ s .recs → x .functions ≡ s .functions → count U names ≤ length (at names (x .maps)) → Shown T None J s → Shown U None J x
   other-source {T} U x e f r v = record { room = r; range = λ n l. absurd l; all = λ j l. still x e f (v .all j (rw e at l)) }
 
--- ---- a source whose names refer to nothing, and whose records bear names in range
+-- ---- a source whose names refer to nothing, and whose records have names in range
 pub record Sound (T : Tables) : Type 0 where
   pub plain : (k : ℕ) → refs (recAt T names k) ≡ []
   pub low : (t : Tab) (n k : ℕ) → Mem k (namesIn (recAt T t n)) → k < count T names
@@ -116,7 +116,7 @@ module _ (T : Tables) (d : Sound T) (n name : ℕ) (h : name < count T names) wh
   }
 
   -- A TYPE RENAMED
-  pub rename-shown : (o : ℕ) (L J : ℕ → Type 0) (s : St) → Shown T L J s → Shown T L J (importT o (renamed T n name) types n s)
+  pub rename-shown : (o : ℕ) (L J : ℕ → Type 0) (s : Derived) → Shown T L J s → Shown T L J (importT o (renamed T n name) types n s)
   rename-shown o L J s v =
       let w : Shown U L J s = record { room = rw same-count (v .room); range = λ k l. rw same-count (v .range k l); all = v .all } in
       let x = import-shown o U (renamed-sound .plain) (renamed-sound .low) L J types n s (a-type L n) w in
@@ -154,7 +154,7 @@ module _ (m : Module) (well : WellFormed m) (three : numbered m ≡ true) where
 
   module _ (o : ℕ) where
     -- AN IMPORT of a record that is no name
-    pub record-shown : (J : ℕ → Type 0) (t : Tab) (n : ℕ) (s : St) → isT t names ≡ false → Shown T None J s → Shown T None J (importT o T t n s)
+    pub record-shown : (J : ℕ → Type 0) (t : Tab) (n : ℕ) (s : Derived) → isT t names ≡ false → Shown T None J s → Shown T None J (importT o T t n s)
     record-shown J t n s q v = import-shown o T (source-sound .plain) (source-sound .low) None J t n s (a-record q) v
 
     -- ---- functions
@@ -168,11 +168,11 @@ module _ (m : Module) (well : WellFormed m) (three : numbered m ≡ true) where
         go (each-next w ws) (suc n) = go ws n
 
     -- A CALL FOLLOWED
-    pub call-shown : (J : ℕ → Type 0) (n : ℕ) (s : St) → Shown T None J s → Shown T None J (follow o m n s)
+    pub call-shown : (J : ℕ → Type 0) (n : ℕ) (s : Derived) → Shown T None J s → Shown T None J (follow o m n s)
     call-shown J n s v = follow-shown m o (source-sound .plain) (source-sound .low) (function-in m three) bare None J n s v
 
     -- A FUNCTION IMPORTED
-    pub import-function-shown : (J : ℕ → Type 0) (n : ℕ) (s : St) → Shown T None J s → Shown T None J (append o m (follow o m) n s)
+    pub import-function-shown : (J : ℕ → Type 0) (n : ℕ) (s : Derived) → Shown T None J s → Shown T None J (append o m (follow o m) n s)
     import-function-shown J n s v = function-shown m o (source-sound .plain) (source-sound .low) (function-in m three) bare None J n s v
 
     -- ---- entry points
@@ -184,16 +184,16 @@ module _ (m : Module) (well : WellFormed m) (three : numbered m ≡ true) where
         one-more (and-split (within (inside (outside m) (e .function)) (e .head ++ flat (e .function))) _ (a .0) .0) (well-nameless (w .function-ok)) (entries-fit ws (a .1))
 
     -- THE END with entry points
-    pub end-shown : (s : St) → Shown T None None s → Shown T None (λ j. Mem j (namesIn (flatAll (map flatEntry (entriesMade (m .entries) o m s))))) (enterAll (m .entries) o m s)
+    pub end-shown : (s : Derived) → Shown T None None s → Shown T None (λ j. Mem j (namesIn (flatAll (map flatEntry (entriesMade (m .entries) o m s))))) (enterAll (m .entries) o m s)
     end-shown s v =
         held-map (λ j. ⊎-elim (λ h. absurd h) (λ h. h)) (entries-shown m o (source-sound .plain) (source-sound .low) (function-in m three) bare (entries-fit (well .entries-ok .each) (specials-in m three .2)) None None s v)
 
     -- ---- setting the source
-    special-shown : (J : ℕ → Type 0) (p : Special) (x : St) → Shown T None J x → Shown T None J (withSpecial p x)
+    special-shown : (J : ℕ → Type 0) (p : Special) (x : Derived) → Shown T None J x → Shown T None J (withSpecial p x)
     unfolding withSpecial
     special-shown J p x v = other-source T (withSpecial p x) refl refl (v .room) v
 
-    force-shown : (J : ℕ → Type 0) (n k : ℕ) (x : St) → Shown T None J x → Shown T None J (force n k x)
+    force-shown : (J : ℕ → Type 0) (n k : ℕ) (x : Derived) → Shown T None J x → Shown T None J (force n k x)
     unfolding force isT codeT
     force-shown J n k x v = other-source T (force n k x) refl refl (rw (at-other types names (set (at types (x .maps)) n k) (x .maps) (apart types names refl)) (v .room)) v
 
@@ -205,11 +205,11 @@ module _ (m : Module) (well : WellFormed m) (three : numbered m ≡ true) where
       pair-old = λ key n k s e v. force-shown J n (suc k) s v;
     }
       where
-        import-type : (J : ℕ → Type 0) (n : ℕ) (s : St) → Shown T None J s → Shown T None J (importT o T types n s)
+        import-type : (J : ℕ → Type 0) (n : ℕ) (s : Derived) → Shown T None J s → Shown T None J (importT o T types n s)
         import-type J n s v = import-shown o T (source-sound .plain) (source-sound .low) None J types n s (a-type None n) v
 
     -- A SOURCE SET, after whatever was before
-    pub sourced-shown : (U : Tables) (J : ℕ → Type 0) (s : St) → Shown U None J s → Shown T None J (sourced o m s)
+    pub sourced-shown : (U : Tables) (J : ℕ → Type 0) (s : Derived) → Shown U None J s → Shown T None J (sourced o m s)
     unfolding emptied unmapped
     sourced-shown U J s v =
         sourced-kept m three (setting-shown J) well s
@@ -220,6 +220,6 @@ pub fresh-shown : (J : ℕ → Type 0) → Shown nowhere None J fresh
 unfolding nowhere fresh six count at
 fresh-shown J = record { room = omega arith; range = λ n l. absurd l; all = λ j l. absurd (omega arith) }
 
-pub cleared-shown : (U : Tables) (J : ℕ → Type 0) (s : St) → Shown U None J s → Shown nowhere None J (emptied (six (λ t. [])) s)
+pub cleared-shown : (U : Tables) (J : ℕ → Type 0) (s : Derived) → Shown U None J s → Shown nowhere None J (emptied (six (λ t. [])) s)
 unfolding emptied nowhere six count at
 cleared-shown U J s v = other-source nowhere (emptied (six (λ t. [])) s) refl refl (omega arith) v

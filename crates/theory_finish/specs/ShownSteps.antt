@@ -15,14 +15,15 @@ use Rattle.model.specs.Initial.{Mem}
 use Rattle.model.specs.Numbers.{within, every, outside, inside}
 use Rattle.model.specs.Redirect.{function as functionAt}
 use Rattle.model.specs.Tables.{Tab, names, exprs, at, Tables, tables, recAt, count, mapAt}
-use Rattle.model.specs.References.{Place, table, function, target, targets, refOf, refs, each, through}
-use Rattle.model.specs.Imports.{St, importT}
-use Rattle.model.specs.Bodies.{known, Making, bring, went, carried, step, nameCells, namedRows, declarations, declared, walked, keptNames, namedAfter, plain as plain′, derived, final, localized, appended, append, followF, follow, entered, entryMade, enterAll, entriesMade}
+use Rattle.model.specs.References.{Place, table, function, target, targets, refOf, refs, foldRefs, through}
+use Rattle.model.specs.Imports.{Derived, importT}
+use Rattle.model.specs.Bodies.{known, Builder, bring, mappedTo, carried, step, nameCells, namedRows, declarations, declared, walked, keptNames, namedAfter, importBody as plain′, derived, final, localized, appended, append, followF, follow, entered, entryMade, enterAll, entriesMade}
 use Rattle.model.specs.Finish.{namesIn}
 use Rattle.theory_image.specs.Quiet.{each-map, each-append}
 use Rattle.theory_image.specs.Writing.{flat-right}
+use Rattle.theory_image.specs.Within.{within-append}
 use Rattle.theory_records.specs.Trace.{once-is}
-use Rattle.theory_records.specs.Functions.{cells-in, within-append}
+use Rattle.theory_records.specs.Functions.{cells-in}
 use Rattle.theory_finish.specs.Classes.{Not, nameless, expression-not, effect-nameless, calm?, calms?}
 use Rattle.theory_finish.specs.Finished.{no-names}
 use Rattle.theory_finish.specs.Borne.{no-names as without, same-cell, shift-names, carry-names, left-names, right-names, split-names, Allowed, mores-allowed, refs-names, refs-nameless, names-low}
@@ -54,16 +55,16 @@ map-append : (f : ℕ → ℕ → ℕ) (xs ys : Cells) → carryCells f (xs ++ y
 map-append f [] ys = refl
 map-append f (x ∷ xs) ys = ap (carryCell f x ∷_) (map-append f xs ys)
 
-module _ (o : ℕ) (m : Module) (d : Making) where
-  row-names : (r : Cells) → namesIn (carried o m d r) ≡ namesIn (carryCells (through (went m d)) r)
+module _ (o : ℕ) (m : Module) (d : Builder) where
+  row-names : (r : Cells) → namesIn (carried o m d r) ≡ namesIn (carryCells (through (mappedTo m d)) r)
   unfolding carried
-  row-names r = shift-names (carryCells (through (went m d)) r) o false
+  row-names r = shift-names (carryCells (through (mappedTo m d)) r) o false
 
-  rows-names : (rs : List Cells) {j : ℕ} → Mem j (namesIn (carryCells (through (went m d)) (flatAll rs))) → Mem j (namesIn (flatAll (map (carried o m d) rs)))
+  rows-names : (rs : List Cells) {j : ℕ} → Mem j (namesIn (carryCells (through (mappedTo m d)) (flatAll rs))) → Mem j (namesIn (flatAll (map (carried o m d) rs)))
   unfolding flatAll
   rows-names [] h = h
   rows-names (r ∷ rs) {j} h =
-      let g = through (went m d) in
+      let g = through (mappedTo m d) in
       let i : Mem j (namesIn (carryCells g (flatAll rs))) → Mem j (namesIn (flatAll (map (carried o m d) rs))) = rows-names rs in
       ⊎-elim (λ k. left-names (carried o m d r) _ (rw (row-names r) k)) (λ k. right-names (carried o m d r) _ (i k)) (split-names (carryCells g r) (carryCells g (flatAll rs)) (rw (map-append g r (flatAll rs)) at h))
 
@@ -81,13 +82,13 @@ module _ (g : Place → ℕ → ℕ) where
   named-names ps m e = rw (rows-are ps) (carry-names g (nameCells ps) m e)
 
 -- the names of expressions leave the memo
-named-memo : (o : ℕ) (m : Module) (fol : ℕ → St → St) (h : ℕ → Making → Making) (ps : List (ℕ × ℕ)) (x : Making) → each (refs (nameCells ps)) (step o m fol h) x .memo ≡ x .memo
-unfolding nameCells refs refOf target targets each step bring
+named-memo : (o : ℕ) (m : Module) (fol : ℕ → Derived → Derived) (h : ℕ → Builder → Builder) (ps : List (ℕ × ℕ)) (x : Builder) → foldRefs (refs (nameCells ps)) (step o m fol h) x .memo ≡ x .memo
+unfolding nameCells refs refOf target targets foldRefs step bring
 named-memo o m fol h [] x = refl
 named-memo o m fol h ((k, zero) ∷ ps) x = named-memo o m fol h ps x
 named-memo o m fol h ((k, suc n) ∷ ps) x = named-memo o m fol h ps (bring (importT o (tables m) names n) x)
 
--- ---- a body bears no name
+-- ---- a body has no name
 operands-nameless : (xs : List ℕ) → Each (Not NAME) (map (λ x. (EXPR, x)) xs)
 operands-nameless [] = each-none
 operands-nameless (x ∷ xs) = each-next refl (operands-nameless xs)
@@ -146,17 +147,17 @@ module _ (m : Module) (o : ℕ) (plain : (k : ℕ) → refs (recAt (tables m) na
   abbrev T : Tables
   T = tables m
 
-  abbrev Follows : (ℕ → St → St) → Type 1
-  Follows fol = (L J : ℕ → Type 0) (f : ℕ) (s : St) → Shown T L J s → Shown T L J (fol f s)
+  abbrev Follows : (ℕ → Derived → Derived) → Type 1
+  Follows fol = (L J : ℕ → Type 0) (f : ℕ) (s : Derived) → Shown T L J s → Shown T L J (fol f s)
 
-  module _ (fol : ℕ → St → St) (fk : Follows fol) (F : Function) (fine : within (inside (outside m) F) (flat F) ≡ true) (bare : Nameless F) (L J : ℕ → Type 0) (s : St) (v : Shown T L J s) where
+  module _ (fol : ℕ → Derived → Derived) (fk : Follows fol) (F : Function) (fine : within (inside (outside m) F) (flat F) ≡ true) (bare : Nameless F) (L J : ℕ → Type 0) (s : Derived) (v : Shown T L J s) where
     abbrev decls : Cells
     decls = declarations o m fol F
 
-    abbrev d : Making
+    abbrev d : Builder
     d = declared o m fol F s
 
-    abbrev w : Making
+    abbrev w : Builder
     w = walked o m fol F d
 
     abbrev kept : List (ℕ × ℕ)
@@ -173,16 +174,16 @@ module _ (m : Module) (o : ℕ) (plain : (k : ℕ) → refs (recAt (tables m) na
 
     -- their names are in the derived declarations
     abbrev Declared : ℕ → Type 0
-    Declared j = Mem j (namesIn (carryCells (through (went m d)) decls))
+    Declared j = Mem j (namesIn (carryCells (through (mappedTo m d)) decls))
 
     declared-there : (n j : ℕ) → Bears decls n → mapAt (d .out .maps) names n ≡ suc j → Declared j
-    unfolding went
-    declared-there n j b e = carry-names (went m d) decls b e
+    unfolding mappedTo
+    declared-there n j b e = carry-names (mappedTo m d) decls b e
 
     declared-held : Shown T L (Or J Declared) (d .out)
     declared-held = waits-held declared-there after-declared
 
-    -- the body brings no name
+    -- the body imports no name
     after-walked : Shown T L (Or J Declared) (w .out)
     after-walked =
         Walked.walked-kept m o (Allowed L) (Shown T L (Or J Declared)) (λ t n x a. import-shown o T plain low L (Or J Declared) t n x a) fol (λ g x a. fk L (Or J Declared) g x) F
@@ -202,7 +203,7 @@ module _ (m : Module) (o : ℕ) (plain : (k : ℕ) → refs (recAt (tables m) na
     heads-in : (j : ℕ) → Declared j → InF j
     unfolding declarations localized derived
     heads-in j h =
-        let g = through (went m d) in
+        let g = through (mappedTo m d) in
         let a : Cells = F .head in
         let b : Cells = flatAll (F .arguments) in
         let c : Cells = F .result in
@@ -218,8 +219,8 @@ module _ (m : Module) (o : ℕ) (plain : (k : ℕ) → refs (recAt (tables m) na
     same-kept = rw (named-memo o m fol (plain′ o m fol (F .exprs)) (keptNames o m fol F w) w)
 
     names-in : (n j : ℕ) → Bears (nameCells kept) n → mapAt (final o m fol F s .out .maps) names n ≡ suc j → InF j
-    unfolding localized derived went
-    names-in n j b e = in-named f (rw same-kept (named-names (went m (final o m fol F s)) kept b e))
+    unfolding localized derived mappedTo
+    names-in n j b e = in-named f (rw same-kept (named-names (mappedTo m (final o m fol F s)) kept b e))
 
     pub function-held : Shown T L (Or J InF) (final o m fol F s .out)
     function-held = held-map (λ j. ⊎-elim (⊎-elim inl (λ h. inr (heads-in j h))) inr) (waits-held names-in after-named)
@@ -235,7 +236,7 @@ module _ (m : Module) (o : ℕ) (plain : (k : ℕ) → refs (recAt (tables m) na
   new-function [] f h = left-names (flat f) [] h
   new-function (g ∷ fs) f h = right-names (flat g) _ (new-function fs f h)
 
-  appended-shown : (L J : ℕ → Type 0) (f : Function) (x : St) → Shown T L (Or J (λ j. Mem j (namesIn (flat f)))) x → Shown T L J (appended f x)
+  appended-shown : (L J : ℕ → Type 0) (f : Function) (x : Derived) → Shown T L (Or J (λ j. Mem j (namesIn (flat f)))) x → Shown T L J (appended f x)
   unfolding appended
   appended-shown L J f x v = record { room = v .room; range = v .range; all = λ j l. go j (v .all j l) }
     where
@@ -248,7 +249,7 @@ module _ (m : Module) (o : ℕ) (plain : (k : ℕ) → refs (recAt (tables m) na
 
   -- ---- functions, and the calls that they make
   module _ (fine : (n : ℕ) → within (inside (outside m) (functionAt m n)) (flat (functionAt m n)) ≡ true) (bare : (n : ℕ) → Nameless (functionAt m n)) where
-    append-shown : (fol : ℕ → St → St) → Follows fol → (L J : ℕ → Type 0) (n : ℕ) (s : St) → Shown T L J s → Shown T L J (append o m fol n s)
+    append-shown : (fol : ℕ → Derived → Derived) → Follows fol → (L J : ℕ → Type 0) (n : ℕ) (s : Derived) → Shown T L J s → Shown T L J (append o m fol n s)
     unfolding append
     append-shown fol fk L J n s v = appended-shown L J (localized o m fol (functionAt m n) s) _ (function-held fol fk (functionAt m n) (fine n) (bare n) L J s v)
 
@@ -262,14 +263,14 @@ module _ (m : Module) (o : ℕ) (plain : (k : ℕ) → refs (recAt (tables m) na
     follow-shown L J n s v = depth-shown (length (m .functions)) L J n s v
 
     -- AN IMPORT OF A FUNCTION
-    pub function-shown : (L J : ℕ → Type 0) (n : ℕ) (s : St) → Shown T L J s → Shown T L J (append o m (follow o m) n s)
+    pub function-shown : (L J : ℕ → Type 0) (n : ℕ) (s : Derived) → Shown T L J s → Shown T L J (append o m (follow o m) n s)
     function-shown L J n s v = append-shown (follow o m) follow-shown L J n s v
 
     -- ---- entry points
-    abbrev At : Entry → St → ℕ → Type 0
+    abbrev At : Entry → Derived → ℕ → Type 0
     At e s j = Mem j (namesIn (flatEntry (entryMade o m e s)))
 
-    module _ (e : Entry) (fit : within (inside (outside m) (e .function)) (e .head ++ flat (e .function)) ≡ true) (bareE : Nameless (e .function)) (L J : ℕ → Type 0) (s : St) (v : Shown T L J s) where
+    module _ (e : Entry) (fit : within (inside (outside m) (e .function)) (e .head ++ flat (e .function)) ≡ true) (bareE : Nameless (e .function)) (L J : ℕ → Type 0) (s : Derived) (v : Shown T L J s) where
       abbrev F : Function
       F = e .function
 
@@ -290,14 +291,14 @@ module _ (m : Module) (o : ℕ) (plain : (k : ℕ) → refs (recAt (tables m) na
           (more-waits (names-low T (e .head) (cells-in m F (e .head) (two .0))) (function-held (follow o m) follow-shown F (two .1) bareE L J s v))
 
       head-at : (n j : ℕ) → Bears (e .head) n → mapAt (entered o m e s .out .maps) names n ≡ suc j → HeadAt j
-      unfolding went
-      head-at n j b q = rw (row-names o m (entered o m e s) (e .head)) (carry-names (went m (entered o m e s)) (e .head) b q)
+      unfolding mappedTo
+      head-at n j b q = rw (row-names o m (entered o m e s) (e .head)) (carry-names (mappedTo m (entered o m e s)) (e .head) b q)
 
       entry-held : Shown T L (Or J (At e s)) (entered o m e s .out)
       unfolding entryMade flatEntry
       entry-held = held-map (λ j. ⊎-elim (⊎-elim inl (λ h. inr (right-names (carried o m (entered o m e s) (e .head)) _ h))) (λ h. inr (left-names (carried o m (entered o m e s) (e .head)) _ h))) (waits-held head-at after-head)
 
-    abbrev pub Ats : List Entry → St → ℕ → Type 0
+    abbrev pub Ats : List Entry → Derived → ℕ → Type 0
     Ats es s j = Mem j (namesIn (flatAll (map flatEntry (entriesMade es o m s))))
 
     pub data FitEntries : List Entry → Type 0 where
@@ -305,7 +306,7 @@ module _ (m : Module) (o : ℕ) (plain : (k : ℕ) → refs (recAt (tables m) na
       one-more : {e : Entry} {es : List Entry} → within (inside (outside m) (e .function)) (e .head ++ flat (e .function)) ≡ true → Nameless (e .function) → FitEntries es → FitEntries (e ∷ es)
 
     -- THE ENTRY POINTS at the end
-    pub entries-shown : {es : List Entry} → FitEntries es → (L J : ℕ → Type 0) (s : St) → Shown T L J s → Shown T L (Or J (Ats es s)) (enterAll es o m s)
+    pub entries-shown : {es : List Entry} → FitEntries es → (L J : ℕ → Type 0) (s : Derived) → Shown T L J s → Shown T L (Or J (Ats es s)) (enterAll es o m s)
     unfolding enterAll entriesMade flatAll
     entries-shown no-more L J s v = held-map (λ j. inl) v
     entries-shown (one-more {e} {es} f b fs) L J s v =

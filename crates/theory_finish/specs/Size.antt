@@ -6,20 +6,21 @@ use Prim.Native.Nat.{ℕ, suc, _+_, _*_, _≤_}
 use native.Mathlib.Omega.{arith}
 use lib.Dec.{ltb, leb}
 use lib.ListN.{length, getD, length-map, length-append}
-use borrow.Author.Tests.{ltb-false, le-ltb, leb-true, eq-eqb, not-true}
+use borrow.Author.Tests.{ltb-false, le-ltb, leb-true, not-true}
+use Rattle.theory_lists.specs.Booleans.{and-split}
 use Rattle.model.specs.Outcome.{Cells, word, laid}
 use Rattle.model.specs.Tree.{Function, Entry, flat, flatEntry, flatAll}
-use Rattle.model.specs.Module.{Module, places, flatTable, flatSpecial, limits, sections, flatModule, read, write, sized}
+use Rattle.model.specs.Module.{Module, flatTable, flatSpecial, limits, sections, flatModule, read, write, sized}
 use Rattle.model.specs.Carry.{carryCells, carryFunction, carryEntry, carrySpecial, carry, Each, each-none, each-next, WellFormed}
 use Rattle.model.specs.Names.{same, unlike, differ}
 use Rattle.model.specs.Numbers.{numbered}
 use Rattle.model.specs.Intake.{verdict, intakeOf}
 use Rattle.model.specs.Finish.{appearing, withNames, namedBy, passes, tooLarge}
-use Rattle.theory_image.specs.Lists.{and-split}
-use Rattle.theory_image.specs.Sections.{length-places, cellsOf}
-use Rattle.theory_image.specs.Views.{length-cells, length-write}
+use Rattle.theory_image.specs.Sections.{cellsOf}
+use Rattle.theory_image.specs.Views.{length-cells, length-write, table-length}
 use Rattle.theory_image.specs.Modules.{read-well, sized-read-write}
 use Rattle.theory_image.specs.Carries.{flat-carry-function, flat-carry-entry}
+use Rattle.theory_image.specs.Same.{same-self}
 use Rattle.theory_finish.specs.Touching.{Only, only-keeps}
 use Rattle.theory_finish.specs.Kept.{Parts}
 use Rattle.theory_finish.specs.Finished.{renumber-only, finished-differ}
@@ -40,10 +41,6 @@ pub record Under (m t : Module) : Type 0 where
   pub entries-in : Smaller (map flatEntry (m .entries)) (map flatEntry (t .entries))
   pub rays-in : length (m .special .rays) ≤ length (t .special .rays)
   pub pairs-in : Smaller (m .special .pairs) (t .special .pairs)
-
-pub table-length : (rs : List Cells) → length (flatTable rs) ≡ length rs + length (flatAll rs)
-unfolding flatTable
-table-length rs = length-append (places (length rs) rs) (flatAll rs) ∙ ap (_+ length (flatAll rs)) (length-places rs (length rs))
 
 smaller-table : {a b : List Cells} → Smaller a b → length (flatTable a) ≤ length (flatTable b)
 smaller-table {a} {b} s = omega (arith, table-length a, table-length b)
@@ -146,11 +143,6 @@ picked-smaller ys (apart-next {x} {xs} n a) (each-next i js) = joined (picked-sm
   where
     joined : Smaller xs (without i) → Smaller (x ∷ xs) ys
     joined s = record { few = omega (arith, without-few i); short = unfold flatAll in omega (arith, without-short i, length-append x (flatAll xs)) }
-
-same-self : (x : List ℕ) → same x x ≡ true
-unfolding same
-same-self [] = refl
-same-self (x ∷ xs) = rw (eq-eqb x x refl, same-self xs)
 
 unlike-apart : (x : Cells) (xs : List Cells) → unlike (map (map word) xs) (map word x) ≡ true → Each (λ y. y ≡ x → ⊥) xs
 unfolding unlike

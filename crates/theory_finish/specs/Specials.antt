@@ -1,4 +1,4 @@
--- THE SPECIAL TYPES of a session are laid out by their rows, their numbers are in range, and those that one source brings are no more than the source's. Beside them: what imports keep of the tables (Kept), at every state.
+-- THE SPECIAL TYPES of a session are laid out by their rows, their numbers are in range, and those that one source adds are no more than the source's. Beside them: what imports keep of the tables (Kept), at every state.
 use mathlib.Core.Path.{_≡_, refl, ap, _∙_}
 use mathlib.Core.Bool.{true, false, not}
 use mathlib.Core.List.{List, [], _∷_, _++_, map}
@@ -8,6 +8,8 @@ use native.Mathlib.Omega.{arith}
 use lib.Dec.{eqb, ltb}
 use lib.ListN.{length, getD, set, length-append}
 use borrow.Author.Tests.{lt-ltb}
+use Rattle.theory_lists.specs.Lists.{map-append}
+use Rattle.theory_lists.specs.Booleans.{and-true, and-split}
 use Rattle.model.specs.Outcome.{Cell, Cells, word}
 use Rattle.model.specs.Table.{Row, OPT-TYPE, KEY, TYPE, PAD}
 use Rattle.model.specs.Tree.{Function, flatAll}
@@ -17,12 +19,11 @@ use Rattle.model.specs.Names.{field, absent, distinct}
 use Rattle.model.specs.Numbers.{Bounds, bound, caps, below as under, within, every, numbered}
 use Rattle.model.specs.Lower.{lower}
 use Rattle.model.specs.Tables.{Tab, types, Tables, tables, recAt, count, mapAt}
-use Rattle.model.specs.References.{Place, table, own, function, Node, refs, each}
-use Rattle.model.specs.Imports.{St, once, settle, commit, stepT, importF, importT, unmapped, emptied, fresh}
+use Rattle.model.specs.References.{Place, table, own, function, Node, refs, foldRefs}
+use Rattle.model.specs.Imports.{Derived, unlessMapped, intern, commit, stepT, importF, importT, unmapped, emptied, fresh}
 use Rattle.model.specs.Special.{force, withSpecial, putRay, rayTo, ray, rays, keyed, putPair, pairTo, pairs, sourced}
 use Rattle.model.specs.Bodies.{appended, enterAll}
 use Rattle.model.specs.Link.{appendAll}
-use Rattle.theory_image.specs.Lists.{map-append, and-true, and-split}
 use Rattle.theory_image.specs.Plain.{plain?, plain-more}
 use Rattle.theory_image.specs.Quiet.{Plainly, plain-none, plain-next, plainly, each-append, each-map}
 use Rattle.theory_records.specs.Trace.{Sized, import-trace}
@@ -34,31 +35,31 @@ use Rattle.theory_finish.specs.Size.{Smaller}
 use Rattle.theory_finish.specs.Sessions.{Keeping, Setting, functions-kept, entries-kept, sourced-kept}
 
 -- ---- imports leave the special types
-each-special : (step : Place → ℕ → St → St) → ((p : Place) (n : ℕ) (s : St) → step p n s .special ≡ s .special) → (js : List Node) (s : St) → each js step s .special ≡ s .special
-unfolding each
+each-special : (step : Place → ℕ → Derived → Derived) → ((p : Place) (n : ℕ) (s : Derived) → step p n s .special ≡ s .special) → (js : List Node) (s : Derived) → foldRefs js step s .special ≡ s .special
+unfolding foldRefs
 each-special step h [] s = refl
 each-special step h (j ∷ js) s = each-special step h js (step (j .place) (j .num) s) ∙ h (j .place) (j .num) s
 
-pub import-special : (f o : ℕ) (T : Tables) (t : Tab) (n : ℕ) (s : St) → importF f o T t n s .special ≡ s .special
+pub import-special : (f o : ℕ) (T : Tables) (t : Tab) (n : ℕ) (s : Derived) → importF f o T t n s .special ≡ s .special
 unfolding importF
 import-special zero o T t n s = refl
 import-special (suc f) o T t n s = go (mapAt (s .maps) t n) (λ js s. each-special (stepT (importF f o T)) (λ p n s. stepped p n s (import-special f o T)) js s)
   where
-    stepped : (p : Place) (n : ℕ) (s : St) → ((t : Tab) (n : ℕ) (s : St) → importF f o T t n s .special ≡ s .special) → stepT (importF f o T) p n s .special ≡ s .special
+    stepped : (p : Place) (n : ℕ) (s : Derived) → ((t : Tab) (n : ℕ) (s : Derived) → importF f o T t n s .special ≡ s .special) → stepT (importF f o T) p n s .special ≡ s .special
     stepped (table t) n s h = unfold stepT in h t n s
     stepped own n s h = unfold stepT in h _ n s
     stepped function n s h = unfold stepT in refl
 
-    go : (v : ℕ) → ((js : List Node) (s : St) → each js (stepT (importF f o T)) s .special ≡ s .special) → once v (λ z. commit o T t n (each (refs (recAt T t n)) (stepT (importF f o T)) s)) s .special ≡ s .special
-    go zero h = unfold once commit settle in h _ s
-    go (suc v) h = unfold once in refl
+    go : (v : ℕ) → ((js : List Node) (s : Derived) → foldRefs js (stepT (importF f o T)) s .special ≡ s .special) → unlessMapped v (λ z. commit o T t n (foldRefs (refs (recAt T t n)) (stepT (importF f o T)) s)) s .special ≡ s .special
+    go zero h = unfold unlessMapped commit intern in h _ s
+    go (suc v) h = unfold unlessMapped in refl
 
 -- ---- what holds of the special types
 pub record Pair (n : ℕ) (r : Cells) : Type 0 where
   pub shaped : Plainly (KEY ∷ TYPE ∷ []) r
   pub low : field TYPE r < n
 
-pub record Typed (T : Tables) (s : St) : Type 0 where
+pub record Typed (T : Tables) (s : Derived) : Type 0 where
   pub kept : Kept T s
   pub shaped : Plainly (OPT-TYPE ∷ OPT-TYPE ∷ OPT-TYPE ∷ []) (s .special .rays)
   pub low : Each (λ c. word c ≤ count (s .recs) types) (s .special .rays)
@@ -123,7 +124,7 @@ module _ (m : Module) (well : WellFormed m) (three : numbered m ≡ true) (four 
   abbrev T : Tables
   T = tables m
 
-  import-typed : (t : Tab) (n : ℕ) (s : St) → n < count T t → Typed T s → Typed T (importT o T t n s)
+  import-typed : (t : Tab) (n : ℕ) (s : Derived) → n < count T t → Typed T s → Typed T (importT o T t n s)
   import-typed t n s h k =
       let e : importT o T t n s .special ≡ s .special = (unfold importT in import-special _ o T t n s) in
       let g : count (s .recs) types ≤ count (importT o T t n s .recs) types = trace-grows o T (tested-wf m well three four) (import-trace o T (tested-wf m well three four) t n s h (k .kept .base .sized) .0) .longer types in
@@ -135,18 +136,18 @@ module _ (m : Module) (well : WellFormed m) (three : numbered m ≡ true) (four 
         keys = rw e (k .keys);
       }
 
-  kept-special : (p : Special) (s : St) → Kept T s → Kept T (withSpecial p s)
+  kept-special : (p : Special) (s : Derived) → Kept T s → Kept T (withSpecial p s)
   unfolding withSpecial Sized Inside Distinct
   kept-special p s k = record { base = record { sized = k .base .sized; inside = k .base .inside; wf = k .base .wf; distinct = k .base .distinct }; fit = k .fit }
 
-  pub kept-appended : (f : Function) (s : St) → Kept T s → Kept T (appended f s)
+  pub kept-appended : (f : Function) (s : Derived) → Kept T s → Kept T (appended f s)
   unfolding appended Sized Inside Distinct
   kept-appended f s k = record { base = record { sized = k .base .sized; inside = k .base .inside; wf = k .base .wf; distinct = k .base .distinct }; fit = k .fit }
 
-  mapped-low : (n : ℕ) (s : St) → Kept T s → mapAt (s .maps) types n ≤ count (s .recs) types
+  mapped-low : (n : ℕ) (s : Derived) → Kept T s → mapAt (s .maps) types n ≤ count (s .recs) types
   mapped-low n s k = unfold Inside in k .base .inside types n
 
-  put-ray : (j n : ℕ) (s : St) → Typed T s → Typed T (putRay j n s)
+  put-ray : (j n : ℕ) (s : Derived) → Typed T s → Typed T (putRay j n s)
   unfolding putRay withSpecial
   put-ray j n s k = record {
     kept = (unfold withSpecial in kept-special _ s (k .kept));
@@ -156,7 +157,7 @@ module _ (m : Module) (well : WellFormed m) (three : numbered m ≡ true) (four 
     keys = k .keys;
   }
 
-  put-pair : (key n : ℕ) (s : St) → 0 < mapAt (s .maps) types n → keyed (s .special .pairs) key ≡ 0 → Typed T s → Typed T (putPair key n s)
+  put-pair : (key n : ℕ) (s : Derived) → 0 < mapAt (s .maps) types n → keyed (s .special .pairs) key ≡ 0 → Typed T s → Typed T (putPair key n s)
   unfolding putPair withSpecial
   put-pair key n s h z k = record {
     kept = (unfold withSpecial in kept-special _ s (k .kept));
@@ -166,14 +167,14 @@ module _ (m : Module) (well : WellFormed m) (three : numbered m ≡ true) (four 
     keys = keys-new (s .special .pairs) key (pred (mapAt (s .maps) types n)) z (k .keys);
   }
 
-  force-typed : (n v : ℕ) (s : St) → v ≤ count (s .recs) types → Typed T s → Typed T (force n v s)
+  force-typed : (n v : ℕ) (s : Derived) → v ≤ count (s .recs) types → Typed T s → Typed T (force n v s)
   unfolding force
   force-typed n v s l k = record { kept = (unfold force in force-kept T n v s l (k .kept)); shaped = k .shaped; low = k .low; paired = k .paired; keys = k .keys }
 
   pub typed-keeping : Keeping m o (Typed T)
   typed-keeping = record { imports = import-typed; appends = λ f s k. unfold appended in record { kept = (unfold appended in kept-appended f s (k .kept)); shaped = k .shaped; low = k .low; paired = k .paired; keys = k .keys } }
 
-  same-keyed : (key n : ℕ) (s : St) → keyed (s .special .pairs) key ≡ 0 → keyed (importT o T types n s .special .pairs) key ≡ 0
+  same-keyed : (key n : ℕ) (s : Derived) → keyed (s .special .pairs) key ≡ 0 → keyed (importT o T types n s .special .pairs) key ≡ 0
   same-keyed key n s h = let e : importT o T types n s .special ≡ s .special = (unfold importT in import-special _ o T types n s) in rw e h
 
   pub typed-setting : Setting m o (Typed T)
@@ -205,10 +206,10 @@ plain-lays : {ss : Row} {cs : Cells} → Each (λ s. ltb s PAD ≡ true) ss → 
 plain-lays each-none plain-none = lays-none
 plain-lays (each-next e es) (plain-next {s} {w} p) = lays-next (plain-more s w e) (plain-lays es p)
 
-pub typed-rays : {T : Tables} {s : St} → Typed T s → Lays raysRow (s .special .rays)
+pub typed-rays : {T : Tables} {s : Derived} → Typed T s → Lays raysRow (s .special .rays)
 typed-rays k = plain-lays (each-next refl (each-next refl (each-next refl each-none))) (k .shaped)
 
-pub typed-pairs : {T : Tables} {s : St} → Typed T s → Each (Lays pairRow) (s .special .pairs)
+pub typed-pairs : {T : Tables} {s : Derived} → Typed T s → Each (Lays pairRow) (s .special .pairs)
 typed-pairs k = each-map (λ r p. plain-lays (each-next refl (each-next refl each-none)) (p .shaped)) (k .paired)
 
 within-rays : (b : Bounds) {cs : Cells} → Plainly (OPT-TYPE ∷ OPT-TYPE ∷ OPT-TYPE ∷ []) cs → Each (λ c. word c ≤ b .types) cs → within b cs ≡ true
@@ -225,11 +226,11 @@ unfolding every
 within-pairs b each-none = refl
 within-pairs b (each-next p ps) = and-true (within-pair b (p .shaped) (p .low)) (within-pairs b ps)
 
-pub typed-within : {T : Tables} {s : St} (b : Bounds) → count (s .recs) types ≡ b .types → Typed T s → (within b (s .special .rays) ≡ true) × (every (within b) (s .special .pairs) ≡ true)
+pub typed-within : {T : Tables} {s : Derived} (b : Bounds) → count (s .recs) types ≡ b .types → Typed T s → (within b (s .special .rays) ≡ true) × (every (within b) (s .special .pairs) ≡ true)
 typed-within b e k = (within-rays b (k .shaped) (rw e at (k .low)), within-pairs b (rw e at (k .paired)))
 
 -- ---- how many pairs
-rays-pairs : (cs : Cells) (k o : ℕ) (T : Tables) (s : St) → rays cs k o T s .special .pairs ≡ s .special .pairs
+rays-pairs : (cs : Cells) (k o : ℕ) (T : Tables) (s : Derived) → rays cs k o T s .special .pairs ≡ s .special .pairs
 unfolding rays
 rays-pairs [] k o T s = refl
 rays-pairs (c ∷ cs) k o T s = rays-pairs cs (suc k) o T (ray (word c) k o T s) ∙ one (word c)
@@ -242,16 +243,16 @@ rays-pairs (c ∷ cs) k o T s = rays-pairs cs (suc k) o T (ray (word c) k o T s)
     one zero = unfold ray in refl
     one (suc n) = unfold ray in put (word (getD (s .special .rays) k (0, 0))) n
 
-type-special : (o : ℕ) (T : Tables) (t : Tab) (n : ℕ) (s : St) → importT o T t n s .special ≡ s .special
+type-special : (o : ℕ) (T : Tables) (t : Tab) (n : ℕ) (s : Derived) → importT o T t n s .special ≡ s .special
 unfolding importT
 type-special o T t n s = import-special _ o T t n s
 
-pair-few : (v key n o : ℕ) (T : Tables) (s : St) → length (pairTo v key n o T s .special .pairs) ≤ suc (length (s .special .pairs))
+pair-few : (v key n o : ℕ) (T : Tables) (s : Derived) → length (pairTo v key n o T s .special .pairs) ≤ suc (length (s .special .pairs))
 unfolding pairTo putPair withSpecial force
 pair-few zero key n o T s = rw (type-special o T types n s, length-append (s .special .pairs) (((KEY, key) ∷ (TYPE, pred (mapAt (importT o T types n s .maps) types n)) ∷ []) ∷ [])) (omega arith)
 pair-few (suc v) key n o T s = omega arith
 
-pairs-few : (rs : List Cells) (o : ℕ) (T : Tables) (s : St) → length (pairs rs o T s .special .pairs) ≤ length (s .special .pairs) + length rs
+pairs-few : (rs : List Cells) (o : ℕ) (T : Tables) (s : Derived) → length (pairs rs o T s .special .pairs) ≤ length (s .special .pairs) + length rs
 unfolding pairs
 pairs-few [] o T s = omega arith
 pairs-few (r ∷ rs) o T s =
@@ -283,7 +284,7 @@ unfolding plain?
 pair-plain l = plainly l refl
 
 module _ (m : Module) (well : WellFormed m) (three : numbered m ≡ true) (o : ℕ) where
-  fewer : (s : St) → s .special ≡ sourced o m fresh .special → {T : Tables} → Typed T s → Smaller (s .special .pairs) (m .special .pairs)
+  fewer : (s : Derived) → s .special ≡ sourced o m fresh .special → {T : Tables} → Typed T s → Smaller (s .special .pairs) (m .special .pairs)
   fewer s e k =
       let f : length (s .special .pairs) ≤ length (m .special .pairs) = rw e (sourced-few m o) in
       record { few = f; short = omega (arith, pair-words (each-map (λ r p. p .shaped) (k .paired)), pair-words source-pairs) }

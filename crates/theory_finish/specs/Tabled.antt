@@ -1,13 +1,12 @@
 -- THE DERIVED TABLES of a session that has one source only are within the source's: at most as many records and words, and every name is one of the source's. No two names are equal.
-use mathlib.Core.Path.{_≡_, refl, sym, ap, ap₂, _∙_}
+use mathlib.Core.Path.{_≡_, refl, sym, ap, _∙_}
 use mathlib.Core.Bool.{true, false, not}
 use mathlib.Core.List.{List, [], _∷_, _++_, map}
 use Prim.Native.Nat.{ℕ, zero, suc, _+_, _<_, _≤_}
 use native.Mathlib.Nat.{le-trans}
 use native.Mathlib.Omega.{arith}
-use lib.Dec.{eqb}
 use lib.ListN.{length, getD, set, replicate, length-append, length-map, length-set, length-replicate, List·getD-map}
-use borrow.Author.Tests.{eqb-true}
+use Rattle.theory_lists.specs.Booleans.{and-true}
 use Rattle.model.specs.Outcome.{Cells, word, fits}
 use Rattle.model.specs.Table.{nameRow, run}
 use Rattle.model.specs.Tree.{flatAll}
@@ -17,13 +16,14 @@ use Rattle.model.specs.Names.{same, unlike, differ}
 use Rattle.model.specs.Numbers.{numbered}
 use Rattle.model.specs.Lower.{lower}
 use Rattle.model.specs.Tables.{Tab, names, types, at, upd, six, Tables, tables, recAt, count}
-use Rattle.model.specs.References.{through, shift, alike, merged}
-use Rattle.model.specs.Imports.{St, settle, made, commit, importT, unmapped, emptied, fresh}
+use Rattle.model.specs.References.{through, shift, alike, interned}
+use Rattle.model.specs.Imports.{Derived, intern, made, commit, importT, unmapped, emptied, fresh}
 use Rattle.model.specs.Special.{force, withSpecial, putRay, putPair, sourced}
 use Rattle.model.specs.Bodies.{appended, enterAll}
 use Rattle.model.specs.Link.{appendAll}
-use Rattle.theory_image.specs.Lists.{and-true, and-split}
 use Rattle.theory_image.specs.Writing.{write-run}
+use Rattle.theory_image.specs.Same.{same-true}
+use Rattle.theory_image.specs.Members.{each-at}
 use Rattle.theory_records.specs.TableLaws.{Tab-dec, at-same, at-other, at-six}
 use Rattle.theory_records.specs.RecordLaws.{Went, bare, length-shift, length-carry}
 use Rattle.theory_records.specs.Kinds.{rowOf}
@@ -34,7 +34,6 @@ use Rattle.theory_records.specs.Passing.{FitR, Fit}
 use Rattle.theory_records.specs.Imported.{Kept}
 use Rattle.theory_records.specs.Tested.{tested-wf}
 use Rattle.theory_finish.specs.Firsts.{either}
-use Rattle.theory_finish.specs.Finished.{each-at}
 use Rattle.theory_finish.specs.Size.{Smaller, In, now, later}
 use Rattle.theory_finish.specs.Known.{Copied, name-copied, nameTable, made-name}
 use Rattle.theory_finish.specs.Sessions.{Keeping, Setting, functions-kept, entries-kept, sourced-kept}
@@ -43,17 +42,17 @@ use Rattle.theory_finish.specs.Sessions.{Keeping, Setting, functions-kep
 abbrev Neutral : ℕ → (Cells → ℕ) → Type 0
 Neutral o w = (f : Went) (r : Cells) → w (shift (carryCells (through f) r) o false) ≡ w r
 
-pub record Fits (o : ℕ) (T : Tables) (s : St) : Type 0 where
+pub record Fits (o : ℕ) (T : Tables) (s : Derived) : Type 0 where
   pub sized : Sized T s
   -- what is derived weighs no more than what is mapped
   pub weighs : (w : Cells → ℕ) → Neutral o w → (u : Tab) → total w (at u (s .recs)) ≤ mapped w (at u (s .maps)) (at u T)
   pub among : Each (λ r. In r (at names T)) (nameTable s)
 
 -- ---- lists
-each-merged : {P : Cells → Type 0} {ds : List Cells} (c : Cells) → P c → Each P ds → Each P (merged ds c)
-unfolding merged
+each-merged : {P : Cells → Type 0} {ds : List Cells} (c : Cells) → P c → Each P ds → Each P (interned ds c)
+unfolding interned
 each-merged c p each-none = each-next p each-none
-each-merged c p (each-next {a = d} q qs) = let i = each-merged c p qs in either (alike d c) (λ e. rw (merged, e) (each-next q qs)) λ e. rw (merged, e) (each-next q i)
+each-merged c p (each-next {a = d} q qs) = let i = each-merged c p qs in either (alike d c) (λ e. rw (interned, e) (each-next q qs)) λ e. rw (interned, e) (each-next q i)
 
 in-at : {A : Type 0} (l : List A) (n : ℕ) (d : A) → n < length l → In (getD l n d) l
 in-at [] n d h = absurd (omega arith)
@@ -82,23 +81,23 @@ module _ (m : Module) (well : WellFormed m) (three : numbered m ≡ true) (four 
   unfolding recAt count tables at
   plain k h = name-copied (each-at (well .names-ok .each) k [] h)
 
-  abbrev Among : St → Type 0
+  abbrev Among : Derived → Type 0
   Among s = Each (λ r. In r (at names T)) (nameTable s)
 
-  commit-among : (s : St) (t : Tab) (n : ℕ) → Ready T s t n → Among s → Among (commit o T t n s)
+  commit-among : (s : Derived) (t : Tab) (n : ℕ) → Ready T s t n → Among s → Among (commit o T t n s)
   commit-among s t n rd a =
       elim (Tab-dec t names) [
         | yes p ↦ rw p (here (rw p at rd))
-        | no p ↦ unfold commit settle in rw (at-other t names (merged (at t (s .recs)) (made o T t n s)) (s .recs) p) a
+        | no p ↦ unfold commit intern in rw (at-other t names (interned (at t (s .recs)) (made o T t n s)) (s .recs) p) a
       ]
     where
       source : (k : ℕ) → k < count T names → In (recAt T names k) (at names T)
       source k h = unfold recAt count in in-at (at names T) k [] h
 
       here : Ready T s names n → Among (commit o T names n s)
-      here rd = unfold commit settle in rw (at-same names (merged (nameTable s) (made o T names n s)) (s .recs)) (each-merged (made o T names n s) (rw (made-name o T plain n s (rd .range)) (source n (rd .range))) a)
+      here rd = unfold commit intern in rw (at-same names (interned (nameTable s) (made o T names n s)) (s .recs)) (each-merged (made o T names n s) (rw (made-name o T plain n s (rd .range)) (source n (rd .range))) a)
 
-  import-fits : (t : Tab) (n : ℕ) (s : St) → n < count T t → Fits o T s → Fits o T (importT o T t n s)
+  import-fits : (t : Tab) (n : ℕ) (s : Derived) → n < count T t → Fits o T s → Fits o T (importT o T t n s)
   import-fits t n s h f =
       let tr = import-trace o T wf t n s h (f .sized) .0 in
       record {
@@ -107,10 +106,10 @@ module _ (m : Module) (well : WellFormed m) (three : numbered m ≡ true) (four 
         among = keep-rule Among commit-among tr (f .among);
       }
     where
-      heavier : (w : Cells → ℕ) → Neutral o w → {r : St} → Trace o T s r → (u : Tab) → total w (at u (r .recs)) ≤ mapped w (at u (r .maps)) (at u T)
+      heavier : (w : Cells → ℕ) → Neutral o w → {r : Derived} → Trace o T s r → (u : Tab) → total w (at u (r .recs)) ≤ mapped w (at u (r .maps)) (at u T)
       heavier w q {r} tr u = let z : total w (at u (r .recs)) + mapped w (at u (s .maps)) (at u T) ≤ total w (at u (s .recs)) + mapped w (at u (r .maps)) (at u T) = (unfold Within in trace-within o T wf w q tr u) in omega (arith, f .weighs w q u)
 
-  force-fits : (n v : ℕ) (s : St) → Fits o T s → Fits o T (force n (suc v) s)
+  force-fits : (n v : ℕ) (s : Derived) → Fits o T s → Fits o T (force n (suc v) s)
   unfolding force Sized
   force-fits n v s f = record { sized = sizes; weighs = λ w q u. heavier w u (f .weighs w q u); among = f .among }
     where
@@ -134,7 +133,7 @@ module _ (m : Module) (well : WellFormed m) (three : numbered m ≡ true) (four 
           at-types : (u : Tab) → types ≡ u → total w (at u (s .recs)) ≤ mapped w (at u (s .maps)) (at u T) → total w (at u (s .recs)) ≤ mapped w (at u (upd types (set (at types (s .maps)) n (suc v)) (s .maps))) (at u T)
           at-types u p h = rw (← p, at-same types (set (at types (s .maps)) n (suc v)) (s .maps)) (le-trans (rw (← p) at h) (mapped-more w (at types (s .maps)) (at types T) n v))
 
-  special-fits : (p : Special) (s : St) → Fits o T s → Fits o T (withSpecial p s)
+  special-fits : (p : Special) (s : Derived) → Fits o T s → Fits o T (withSpecial p s)
   unfolding withSpecial Sized
   special-fits p s f = record { sized = f .sized; weighs = f .weighs; among = f .among }
 
@@ -165,30 +164,24 @@ module _ (m : Module) (well : WellFormed m) (three : numbered m ≡ true) (four 
   end-fits is = entries-kept m three fits-keeping _ (state-fits is)
 
 -- ---- records and words
-total-one : (l : List Cells) → total (λ r. 1) l ≡ length l
+pub total-one : (l : List Cells) → total (λ r. 1) l ≡ length l
 unfolding total
 total-one [] = refl
 total-one (x ∷ l) = omega (arith, total-one l)
 
-total-length : (l : List Cells) → total length l ≡ length (flatAll l)
+pub total-length : (l : List Cells) → total length l ≡ length (flatAll l)
 unfolding total flatAll
 total-length [] = refl
 total-length (x ∷ l) = ap (length x +_) (total-length l) ∙ sym (length-append x (flatAll l))
 
 -- EACH TABLE is within the source's
-pub fits-smaller : {o : ℕ} {T : Tables} {s : St} → Fits o T s → (u : Tab) → Smaller (at u (s .recs)) (at u T)
+pub fits-smaller : {o : ℕ} {T : Tables} {s : Derived} → Fits o T s → (u : Tab) → Smaller (at u (s .recs)) (at u T)
 fits-smaller {o} {T} {s} f u = record {
   few = omega (arith, total-one (at u (s .recs)), total-one (at u T), f .weighs (λ r. 1) (λ g r. refl) u, mapped-le (λ r. 1) (at u (s .maps)) (at u T));
   short = omega (arith, total-length (at u (s .recs)), total-length (at u T), f .weighs length (λ g r. length-shift _ o false ∙ length-carry _ r) u, mapped-le length (at u (s .maps)) (at u T));
 }
 
 -- ---- NAMES differ
-same-true : (x y : List ℕ) → same x y ≡ true → x ≡ y
-unfolding same
-same-true [] [] h = refl
-same-true [] (y ∷ ys) h = let z : _≡_ {A = ℕ} 0 1 = cc in absurd (omega arith)
-same-true (x ∷ xs) [] h = let z : _≡_ {A = ℕ} 0 1 = cc in absurd (omega arith)
-same-true (x ∷ xs) (y ∷ ys) h = let p = and-split (eqb x y) (same xs ys) h in ap₂ _∷_ (eqb-true x y (p .0)) (same-true xs ys (p .1))
 
 -- a name's words say its cells
 same-name : {a b : Cells} → Lays nameRow a → Lays nameRow b → map word a ≡ map word b → a ≡ b
@@ -214,7 +207,7 @@ differ-all (x ∷ l) h = and-true (first l λ j k. h 0 (suc j) (omega arith) (om
         two : not (same x y) ≡ true → unlike ys x ≡ true → unlike (y ∷ ys) x ≡ true
         two p q = unfold unlike in and-true p q
 
-pub kept-differ : {T : Tables} {s : St} → Kept T s → differ (map (map word) (nameTable s)) ≡ true
+pub kept-differ : {T : Tables} {s : Derived} → Kept T s → differ (map (map word) (nameTable s)) ≡ true
 kept-differ {T} {s} k =
     differ-all (map (map word) (nameTable s)) λ i j a b n.
     let i′ : i < length (nameTable s) = rw (length-map (nameTable s) (map word)) at a in

@@ -11,7 +11,7 @@ use Rattle.model.specs.Outcome.{Cells}
 use Rattle.model.specs.Table.{Row, NAME, EXPR, EXPR-KIND, OPT-EXPR, OPT-RESULT}
 use Rattle.model.specs.Tree.{Stmt, Form, Block, Cases, Case, _then_, _also_, block, return, effect, Range, optOf}
 use Rattle.model.specs.Carry.{Keeps, carryCell, carryCells, carryOpt, carryRange, carryS, carryF, carryB, carryK, carryC, Lays, Each, each-none, each-next, OkS, OkF, OkB, OkBs, OkK, OkC, ok-stmt, ok-emit, ok-block, ok-branch, ok-switch, ok-loop, ok-break, ok-continue, ok-return, ok-kill, ok-call, ok-effect, ok-deeper, ok-end, ok-then, ok-case, ok-nomore, ok-also}
-use Rattle.theory_image.specs.Lists.{opt-of}
+use Rattle.theory_image.specs.Words.{opt-of}
 use Rattle.theory_finish.specs.Classes.{Not, calm?, calms?, nameless, expression-not, effect-nameless}
 
 pub record Only (m : ℕ → ℕ → ℕ) : Type 0 where

@@ -9,6 +9,7 @@ use native.Mathlib.Nat.{mod-lt}
 use lib.Dec.{eqb, ltb, leb}
 use lib.ListN.{length, getD, replicate, length-append, length-map}
 use borrow.Author.Tests.{ltb-true, ltb-false, leb-true, le-ltb, lt-ltb}
+use Rattle.theory_lists.specs.Booleans.{and-true, and-split}
 use Rattle.base_words.specs.Words.{AllBelow}
 use Rattle.model.specs.Outcome.{Cell, Cells, word, laid}
 use Rattle.model.specs.Table.{Row, WORD, SPAN, PAD, TEXT, EXPR, ARGUMENTS, LOCALS, EXPRESSIONS, NAMED, nameRow, text, more, limit}
@@ -20,12 +21,11 @@ use Rattle.model.specs.Initial.{initialised}
 use Rattle.model.specs.Intake.{intakeOf}
 use Rattle.model.specs.Tables.{Tab, names, types, constants, overrides, globals, exprs, at, tables}
 use Rattle.model.specs.References.{Target, copied, target, targets}
-use Rattle.theory_image.specs.Lists.{and-true, and-split}
 use Rattle.theory_image.specs.Writing.{flat-right}
 use Rattle.theory_image.specs.Modules.{read-well}
 use Rattle.theory_image.specs.Views.{length-write}
 use Rattle.theory_image.specs.Quiet.{each-append, each-map}
-use Rattle.theory_records.specs.Functions.{within-append}
+use Rattle.theory_image.specs.Within.{within-append}
 use Rattle.theory_finish.specs.Classes.{small-more}
 use Rattle.theory_finish.specs.Numbering.{Cellwise}
 use Rattle.theory_finish.specs.Cellwise.{each-rest, each-both, all-of, all-to, cellwise, function-cells}
@@ -203,7 +203,7 @@ rises-left [] ys h = refl
 rises-left (c ∷ []) ys h = refl
 rises-left (c ∷ d ∷ xs) ys h = let p = and-split (rising c (d ∷ xs ++ ys)) (ordered (d ∷ xs ++ ys)) h in and-true (p .0) (rises-left (d ∷ xs) ys (p .1))
 
-rises-right : (xs ys : Cells) → ordered (xs ++ ys) ≡ true → ordered ys ≡ true
+pub rises-right : (xs ys : Cells) → ordered (xs ++ ys) ≡ true → ordered ys ≡ true
 unfolding ordered
 rises-right [] ys h = h
 rises-right (c ∷ xs) ys h = rises-right xs ys (and-split (rising c (xs ++ ys)) (ordered (xs ++ ys)) h .1)

@@ -1,4 +1,4 @@
--- The cells between two places of words and tape: one by one, and where words and tape hold a module, those of its sections and records.
+-- The cells between two places of words and tags: one by one, and where words and tags hold a module, those of its sections and records.
 use mathlib.Core.Path.{_≡_, refl, ap, ap₂, _∙_}
 use mathlib.Core.List.{List, [], _∷_, map}
 use Prim.Native.Nat.{ℕ, suc, _+_, _≤_, _<_}
@@ -6,6 +6,7 @@ use native.Mathlib.Numerals.{add-one}
 use native.Mathlib.Omega.{arith}
 use lib.ListN.{length, getD, take, drop-of-length-le, length-take, length-append}
 use lib.Seq.{slice, slice-cons}
+use Rattle.theory_lists.specs.Lists.{looked-at}
 use Rattle.model.specs.Outcome.{Cells, class, word}
 use Rattle.model.specs.Module.{Module, countAt, offsetAt, places, flatTable, flatModule}
 use Rattle.model.specs.Tree.{flatAll}
@@ -14,7 +15,7 @@ use Rattle.model.specs.Taped.{Taped}
 use Rattle.model.specs.Between.{beside, between, Long, Stretch}
 use Rattle.theory_image.specs.Sections.{length-places}
 use Rattle.theory_image.specs.Views.{sectionOf, view-rising, view-within, view-section, view-next, view-table, view-records, sees-record, length-write}
-use Rattle.theory_image.specs.FunctionViews.{Held, Part, part-end, part-words, part-tags, looked-at, taped-held, taped-count, taped-offset, taped-length, taped-part}
+use Rattle.theory_image.specs.FunctionViews.{Held, Part, part-end, part-words, part-tags, taped-held, taped-count, taped-offset, taped-length, taped-part}
 
 pub beside-cells : (cs : Cells) → beside (map class cs) (map word cs) ≡ cs
 unfolding beside
@@ -36,7 +37,7 @@ between-next tags words i end h t w = rw (slice-cons i end tags 0 h t, slice-con
 pub between-cons : (tags words : List ℕ) (i end : ℕ) → i < end → Long words tags → end ≤ 16384 → between tags words i end ≡ (getD tags i 0, getD words i 0) ∷ between tags words (i + 1) end
 between-cons tags words i end h long ok = rw (add-one i) (between-next tags words i end h (omega arith) (omega arith))
 
--- the part that stands there
+-- the part that is there
 pub held-between : {words tags : List ℕ} {cells cs : Cells} {p q : ℕ} → Held words tags cells → Part cells p q cs → between tags words p q ≡ cs
 unfolding between
 held-between {cs} o v = ap₂ beside (part-tags o v) (part-words o v) ∙ beside-cells cs
@@ -64,7 +65,7 @@ module _ {words tags : List ℕ} {n : ℕ} {m : Module} (t : Taped words tags n 
   pub section-between : (k : ℕ) → k < 8 → between tags words (offsetAt k words) (offsetAt (suc k) words) ≡ sectionOf m k .1
   section-between k h = part-between (section-part k h)
 
-  -- a table: its cells, how many records it has, where their offsets stand, and the records
+  -- a table: its cells, how many records it has, where their offsets are, and the records
   pub table-between : (k : ℕ) → k < 8 → between tags words (offsetAt k words) (offsetAt (suc k) words) ≡ flatTable (getD (tables m) k [])
   table-between k h = section-between k h ∙ ap (λ s. s .1) (view-table m k h)
 

@@ -8,12 +8,13 @@ use native.Mathlib.Omega.{arith}
 use lib.Dec.{ltb}
 use lib.ListN.{length, getD, length-map}
 use borrow.Author.Tests.{ltb-false}
+use Rattle.theory_lists.specs.Lists.{map-append, map-append₃, map-map, map-same}
 use Rattle.model.specs.Outcome.{Cell, Cells, class, word}
 use Rattle.model.specs.Table.{Row, EXPR, OPT-EXPR, OPT-RESULT, PLACE, PAD, OPERANDS, ARGUMENTS, LOCALS, EXPRESSIONS, NAMED, BLOCK, CASES, LENGTH, STMT-KIND, more}
 use Rattle.model.specs.Tree.{Stmt, Form, Block, Cases, Case, stmt, emit, block, branch, switch, loop, break, continue, return, kill, call, effect, end, _then_, nomore, _also_, case, Range, Function, Entry, wordOf, kindOf, sizeB, sizeC, flatS, flatF, flatB, flatK, flatC, flatX, flatAll, flatList, flatBlock, flat, flatEntry}
 use Rattle.model.specs.Module.{Special, Module, places, flatTable, flatSpecial, Section, sections, pairsFrom, bodies, flatModule, HEADER}
 use Rattle.model.specs.Carry.{Keeps, carryCell, carryCells, carryOpt, carryRange, carryS, carryF, carryB, carryK, carryC, carryFunction, carryEntry, carrySpecial, carry, Lays, lays-none, lays-next, Each, each-none, each-next, Listed, OkS, OkF, OkB, OkBs, OkK, OkC, ok-stmt, ok-emit, ok-block, ok-branch, ok-switch, ok-loop, ok-break, ok-continue, ok-return, ok-kill, ok-call, ok-effect, ok-deeper, ok-end, ok-then, ok-case, ok-nomore, ok-also, WellFunction, WellEntry, Tabled, WellFormed}
-use Rattle.theory_image.specs.Lists.{map-append, map-append₃, map-map, map-same, word-of}
+use Rattle.theory_image.specs.Words.{word-of}
 
 module _ (m : ℕ → ℕ → ℕ) where
   size-b : (b : Block Range) → sizeB (carryB m b) ≡ sizeB b
@@ -43,7 +44,7 @@ module _ (m : ℕ → ℕ → ℕ) where
   length-m : (cs : Cells) → length (carryCells m cs) ≡ length cs
   length-m cs = length-map cs (carryCell m)
 
-  -- a cell keeps its class, and its word is rewritten by it: what a pass over words and tape does
+  -- a cell keeps its class, and its word is rewritten by it: what a pass over words and tags does
   pub carried-classes : (cs : Cells) → map class (carryCells m cs) ≡ map class cs
   unfolding carryCell
   carried-classes [] = refl
@@ -220,7 +221,7 @@ module _ (m : ℕ → ℕ → ℕ) (keeps : Keeps m) where
         map-append (carryCell m) (pairsFrom HEADER (sections t)) (bodies (sections t)),
       )
 
-  -- ---- the carried tree is well formed again: a word that brings others is kept
+  -- ---- the carried tree is well formed again: a word that others depend on is kept
   more-carried : (s w : ℕ) → more s (m s w) ≡ more s w
   unfolding more
   more-carried s w = go (ltb s PAD) refl

@@ -1,5 +1,5 @@
--- Views of a function's words and tags: where its lists stand, what their counts and records are, and which classes their cells have.
--- Words and tags hold cells that stand beside one another; a part of the cells from p to q is a run of cells. A function's cells are seven such parts one behind the other, and the lists whose rows are plain have records at even distances, so the places that are computed from the counts are where the parts stand. It holds for any cells in which a function stands: for the functions of a module, and seven words behind its entry points.
+-- Views of a function's words and tags: where its lists are, what their counts and records are, and which classes their cells have.
+-- Words and tags hold cells, word by word; a part of the cells from p to q is a run of cells. A function's cells are seven such parts one after the other, and the lists whose rows are plain have records at even distances, so the places that are computed from the counts are where the parts are. It holds for any cells that contain a function: for the functions of a module, and seven words after the start of its entry points.
 use mathlib.Core.Path.{_≡_, refl, sym, ap, ap₂, _∙_}
 use mathlib.Core.Bool.{Bool, true, false, _&&_, _||_}
 use mathlib.Core.Option.{Option, none, some}
@@ -11,6 +11,8 @@ use lib.Dec.{eqb, ltb, leb}
 use lib.ListN.{length, getD, getElem?, take, drop, length-append, length-map, List·getD-map}
 use lib.Seq.{slice, take-length, take-take, take-at, drop-append-seam, getD-take, length-slice, length-take-le}
 use borrow.Author.Tests.{eqb-true, eqb-false, ne-eqb}
+use Rattle.theory_lists.specs.Lists.{looked-length}
+use Rattle.theory_lists.specs.Booleans.{and-true, and-split}
 use Rattle.model.specs.Outcome.{Cell, Cells, class, word}
 use Rattle.model.specs.Table.{Row, PAD, SPAN, UPTO, NAME, TYPE, CONSTANT, OVERRIDE, GLOBAL, FUNCTION, EXPR, OPT-EXPR, ARGUMENT, LOCAL, NAMED-EXPR, LOCAL-INIT, OPERANDS, LEVEL, QUERY, ARGUMENTS, LOCALS, EXPRESSIONS, NAMED, EXPR-KIND, VALUE, ATOMIC, RETURNS, BLOCK, CASES, LENGTH, STMT-KIND, CALLEE, FROM, TO, RESULT, OPT-RESULT, PLACE, binding, functionHead, entryHead, counted, expressions, levels, queries, results, repeat, variants, variant, brings, more}
 use Rattle.model.specs.Tree.{Function, Entry, flat, flatEntry, flatAll, flatList, flatB, flatBlock, sizeB}
@@ -20,10 +22,10 @@ use Rattle.model.specs.Taped.{Taped}
 use Rattle.model.specs.Operands.{kind, kindAt}
 use Rattle.model.specs.Carry.{Lays, lays-none, lays-next, Each, each-none, each-next, WellFunction, WellEntry}
 use Rattle.model.specs.FunctionView.{ENTRY-HEAD, argumentsAt, argumentAt, returnsAt, localsAt, localAt, expressionsAt}
-use Rattle.theory_image.specs.Lists.{and-true, and-split}
 use Rattle.theory_image.specs.Plain.{plain?, plain-more, plain-length, plain-start, plain-classes}
-use Rattle.theory_image.specs.Views.{length-cells, length-write, looked-length, looked-getD, view-within, view-table, view-records, view-length, SeesRecord, sees-functions, sees-entries, sees-function, sees-entry}
+use Rattle.theory_image.specs.Views.{length-cells, length-write, view-within, view-table, view-records, view-length, SeesRecord, sees-functions, sees-entries, sees-function, sees-entry}
 use Rattle.theory_image.specs.Sections.{slice-slice, getD-slice, slice-map, startOf, start-zero, start-end, length-places}
+use Rattle.theory_image.specs.Members.{each-at, looked-each}
 
 -- ---- words and tags that hold cells, from the first on
 pub record Held (ws ts : List ℕ) (cells : Cells) : Type 0 where
@@ -38,12 +40,6 @@ held-all cells =
       words = ap (λ n. take n (map word cells)) a ∙ take-length (map word cells);
       tags = ap (λ n. take n (map class cells)) b ∙ take-length (map class cells);
     }
-
--- an element of a list of which each is fine
-pub each-at : {A : Type 0} {P : A → Type 0} {l : List A} → Each P l → (i : ℕ) (d : A) → i < length l → P (getD l i d)
-each-at each-none i d h = absurd (omega arith)
-each-at (each-next p ps) zero d h = p
-each-at (each-next p ps) (suc i) d h = each-at ps i d (omega arith)
 
 -- ---- a part of the cells
 pub record Part (cells : Cells) (p q : ℕ) (cs : Cells) : Type 0 where
@@ -68,7 +64,7 @@ part-inner {cells} {p} {q} v a b ds h k e =
 pub part-cell : {cells cs : Cells} {p q : ℕ} → Part cells p q cs → (i : ℕ) (d : Cell) → i < length cs → getD cells (p + i) d ≡ getD cs i d
 part-cell {cells} {p} {q} v i d h = sym (getD-slice cells p q i d (omega (arith, part-end v))) ∙ ap (λ l. getD l i d) (v .cells-are)
 
--- two runs one behind the other
+-- two runs one after the other
 pub part-left : {cells : Cells} {p q : ℕ} (xs ys : Cells) → Part cells p q (xs ++ ys) → Part cells p (p + length xs) xs
 part-left {cells} {p} xs ys v =
     let h : p + 0 ≡ p = omega arith in
@@ -99,7 +95,7 @@ module _ {ws ts : List ℕ} {cells cs : Cells} {p q : ℕ} (o : Held ws ts cells
   pub part-tag : (i : ℕ) → i < length cs → getD ts (p + i) 0 ≡ class (getD cs i (0, 0))
   part-tag i h = sym (getD-slice ts p q i 0 (omega (arith, part-end v))) ∙ ap (λ l. getD l i 0) part-tags ∙ List·getD-map class cs i (0, 0)
 
--- ---- runs one behind the other, and a list behind its count
+-- ---- runs one after the other, and a list after its count
 pub all-record : {cells : Cells} {p q : ℕ} (rs : List Cells) → Part cells p q (flatAll rs) → (i : ℕ) → i < length rs → Part cells (startOf p rs i) (startOf p rs (suc i)) (getD rs i [])
 unfolding flatAll startOf
 all-record [] v i h = absurd (omega arith)
@@ -145,7 +141,7 @@ pub record Stands (ws ts : List ℕ) (cells : Cells) (s e : ℕ) (f : Function) 
 pub stands-all : {cells : Cells} {s e : ℕ} {f : Function} → s ≤ e → e ≤ length cells → slice s e cells ≡ flat f → WellFunction f → Stands (map word cells) (map class cells) cells s e f
 stands-all {cells} a b c w = record { held = held-all cells; part = record { rising = a; within = b; cells-are = c }; well = w }
 
--- where the named expressions stand, and the body
+-- where the named expressions are, and the body
 abbrev pub namedAt : ℕ → List ℕ → Function → ℕ
 namedAt s ws f = expressionsAt s ws + 1 + length (flatAll (f .exprs))
 
@@ -324,7 +320,7 @@ at-query : (w : ℕ) (xs : Row) → more QUERY w ≡ brings xs → fields? xs �
 unfolding more variants
 at-query w xs e = rows-at queries w queries-fields (variant-brings (getElem? queries w) e)
 
--- what a field's word brings are fields
+-- what follows a field's word are fields
 fields-more : (s w : ℕ) (xs : Row) → field? s ≡ true → more s w ≡ brings xs → fields? xs ≡ true
 unfolding fields? field?
 fields-more s w xs h e =
@@ -347,7 +343,7 @@ lays-fields (lays-next {s} {w} {xs} {ss} e l) h =
     let a = and-split (field? s) (fields? ss) h in
     each-next (a .0) (lays-fields l (fields-append xs ss (fields-more s w xs (a .0) e) (a .1)))
 
--- a record begins with its kind, and behind it are fields, laid out by the kind's row
+-- a record begins with its kind, and after it are fields, laid out by the kind's row
 pub data Expression : Cells → Type 0 where
   expression : {k : ℕ} {row : Row} {cs : Cells} → k < length expressions → getElem? expressions k ≡ some row → Lays row cs → Each Field cs → Expression ((EXPR-KIND, k) ∷ cs)
 
@@ -382,7 +378,7 @@ pub each-expression : {rs : List Cells} → Each (Lays (EXPR-KIND ∷ [])) rs �
 each-expression each-none = each-none
 each-expression (each-next p ps) = each-next (expression-shape p) (each-expression ps)
 
--- ---- the parts of a function that stands in cells
+-- ---- the parts of a function that is in cells
 joined : (a b c d e f g : Cells) → a ++ b ++ c ++ d ++ e ++ f ++ g ≡ a ++ (b ++ (c ++ (d ++ (e ++ (f ++ g)))))
 joined a b c d e f g = simp append-assoc
 
@@ -526,7 +522,7 @@ module _ {ws ts : List ℕ} {cells : Cells} {s e : ℕ} {f : Function} (v : Stan
   pub returns-class : getD ts (returnsAt s ws) 0 ≡ RETURNS
   returns-class = let h : returnsAt s ws + 0 ≡ returnsAt s ws = omega arith in rw h at (part-tag o result-here 0 result-first) ∙ result-class returns-shape
 
-  -- 0 or 1, as there is none or one; the word behind 1 is its type
+  -- 0 or 1, as there is none or one; the word after 1 is its type
   pub returns-bound : getD ws (returnsAt s ws) 0 ≤ 1
   returns-bound = rw returns-word (result-bound returns-shape)
 
@@ -638,15 +634,7 @@ module _ {ws ts : List ℕ} {cells : Cells} {s e : ℕ} {f : Function} (v : Stan
   unfolding flatBlock
   stands-end = omega (arith, part-end (parts .body-part))
 
--- ---- words and tape that hold a module
--- an element that is there
-pub looked-at : {A : Type 0} (l : List A) (j : ℕ) (d : A) → j < length l → getElem? l j ≡ some (getD l j d)
-looked-at [] j d h = absurd (omega arith)
-looked-at (x ∷ l) zero d h = refl
-looked-at (x ∷ l) (suc j) d h = looked-at l j d (omega arith)
-
-pub looked-each : {A : Type 0} {P : A → Type 0} {l : List A} → Each P l → (j : ℕ) {x : A} → getElem? l j ≡ some x → P x
-looked-each {P} {l} ps j {x} e = rw (looked-getD l j x e) at (each-at ps j x (looked-length l j e))
+-- ---- words and tags that hold a module
 
 entry-classes : {x : Entry} → WellEntry x → map class (x .head) ≡ NAME ∷ binding []
 unfolding entryHead plain?
@@ -733,7 +721,7 @@ module _ {words tags : List ℕ} {n : ℕ} {m : Module} (t : Taped words tags n 
   pub taped-entries : countAt 7 words ≡ length (m .entries)
   taped-entries = taped-count 7 (omega arith) ∙ sees-entries m refl .count
 
-  -- function j stands where the offsets say
+  -- function j is where the offsets say
   pub taped-function : (j : ℕ) (f : Function) → getElem? (m .functions) j ≡ some f → Stands words tags (flatModule m) (recordAt 6 j words) (recordEnd 6 j words) f
   taped-function j f e =
       record { held = taped-held; part = taped-part (omega arith) (sees-function m refl j f e); well = looked-each (t .well .functions-ok .each) j e }

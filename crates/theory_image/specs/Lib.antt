@@ -1,4 +1,6 @@
-pub mod Lists
+pub mod Words
+pub mod Same
+pub mod Within
 pub mod Members
 pub mod Reached
 pub mod Carries
@@ -14,3 +16,5 @@ pub mod Tables
 pub mod Modules
 pub mod Examples
 pub mod Tapes
+pub mod OnWords
+pub mod IntakeNumbers

@@ -1,5 +1,5 @@
 -- The laws of a whole image: what is written is read, what is read is well formed, what was read and is written out again is the same words, and rewriting words by class is carrying the module.
--- A module is read section by section: the places of the sections are one matter (Placed, Stands), what each of them holds is another (Tables).
+-- A module is read section by section: the places of the sections are one part of the proof (Placed, Stands), what each of them holds is the other (Tables).
 use mathlib.Core.Path.{_≡_, refl, sym, ap, ap₂, _∙_}
 use mathlib.Core.Bool.{Bool, true, false, _&&_}
 use mathlib.Core.List.{List, [], _∷_, _++_, map, zipWith, append-nil}
@@ -9,12 +9,13 @@ use lib.Dec.{eqb, leb}
 use lib.ListN.{length, getD, take, drop, length-map, length-drop, take-append-drop}
 use lib.Seq.{slice, slice-cons, slice-empty, length-slice, drop-append-le, drop-length, length-take-le}
 use borrow.Author.Tests.{eqb-true, eq-eqb, leb-true, le-leb}
+use Rattle.theory_lists.specs.Lists.{map-append}
+use Rattle.theory_lists.specs.Booleans.{if-true, and-true, and-split}
 use Rattle.model.specs.Outcome.{Cells, class, word, Outcome, fits, Laid, laid, bad, strange, exact, both, mapL}
 use Rattle.model.specs.Table.{Row, PLACE, nameRow, typeRow, constantRow, overrideRow, globalRow, expressionRow, run}
 use Rattle.model.specs.Tree.{Block, Range, Function, Entry, flatBlock, flat, flatEntry, blockAt, functionAt, entryAt}
 use Rattle.model.specs.Module.{Special, Module, specialAt, countAt, offsetAt, endAt, limits, placed, HEADER, section, tableAt, by, _⊛_, moduleOf, read, flatTable, flatSpecial, Section, sections, pairsFrom, bodies, flatModule, write, sized}
 use Rattle.model.specs.Carry.{Keeps, carryCell, carryCells, carryB, carryFunction, carryEntry, carry, Lays, Each, each-none, each-next, WellFunction, WellEntry, Tabled, WellFormed}
-use Rattle.theory_image.specs.Lists.{map-append, if-true, and-true, and-split}
 use Rattle.theory_image.specs.Carries.{carried-classes, carried-words, kept-word, lays-carry, ok-b, flat-block, flat-carry-function, flat-carry-entry, flat-carry, carry-well-function, carry-well-entry, carry-well}
 use Rattle.theory_image.specs.Writing.{write-run, write-b, write-function, write-entry, write-special}
 use Rattle.theory_image.specs.Readers.{Took, Takes, run-took, function-took, entry-took, special-took, WellSpecial, read-well-run, read-well-block, read-well-function, read-well-entry}
@@ -238,7 +239,7 @@ pub write-read : (m : Module) → WellFormed m → read (write m) ≡ laid m
 write-read m w = read-whole (write m) m (write-parts m w)
 
 -- ---- what was read, written out again, is the same words
--- the sections from number k on stand in the words, of which the first starts at `at`
+-- the sections from number k on are in the words, of which the first starts at `at`
 data Stands (ws : List ℕ) : ℕ → ℕ → List Section → Type 0 where
   stands-none : {at : ℕ} → at ≡ length ws → Stands ws 9 at []
   stands-next : {k at : ℕ} {s : Section} {ss : List Section} → offsetAt k ws ≡ at → countAt k ws ≡ s .0 → section k ws ≡ map word (s .1) → at ≤ endAt k ws → endAt k ws ≤ length ws → Stands ws (suc k) (endAt k ws) ss → Stands ws k at (s ∷ ss)
@@ -340,12 +341,12 @@ module _ (f : ℕ → ℕ → ℕ) (keeps : Keeps f) where
   unfolding write
   rewrite-read ws m e = rw (← flat-carry f keeps m) (write-read (carry f m) (carry-well f keeps m (read-well ws m e)))
 
-  -- the same of the words and a tape that has the class of each
+  -- the same of the words and the tags, which give the class of each
   pub rewrite-read-tape : (ws tape : List ℕ) (m : Module) → read ws ≡ laid m → ws ≡ write m → tape ≡ map class (flatModule m) → read (zipWith f tape ws) ≡ laid (carry f m)
   unfolding write
   rewrite-read-tape ws tape m e same t = ap read (ap₂ (zipWith f) t same ∙ sym (carried-words f (flatModule m))) ∙ rewrite-read ws m e
 
-  -- the rewritten words are the carried module's image, and the tape stays
+  -- the rewritten words are the carried module's image, and the tags stay
   pub rewrite-write : (m : Module) → zipWith f (map class (flatModule m)) (write m) ≡ write (carry f m)
   unfolding write
   rewrite-write m = sym (ap (map word) (flat-carry f keeps m) ∙ carried-words f (flatModule m))

@@ -1,4 +1,4 @@
--- Rows of plain symbols, each of which is one word that brings nothing: the classes of their cells are the row, so they are as long as it.
+-- Rows of plain symbols, each of which is one word with no fields after it: the classes of their cells are the row, so they are as long as it.
 use mathlib.Core.Path.{_≡_, refl, sym, ap, _∙_}
 use mathlib.Core.Bool.{Bool, true, _&&_}
 use mathlib.Core.List.{List, [], _∷_, _++_, map}
@@ -7,17 +7,17 @@ use native.Mathlib.Nat.{zero-mul, suc-mul}
 use native.Mathlib.Omega.{arith}
 use lib.Dec.{ltb}
 use lib.ListN.{length, length-map}
+use Rattle.theory_lists.specs.Booleans.{and-split}
 use Rattle.model.specs.Outcome.{Cells, class}
 use Rattle.model.specs.Table.{Row, PAD, brings, more}
 use Rattle.model.specs.Carry.{Lays, lays-none, lays-next, Each, each-none, each-next}
-use Rattle.theory_image.specs.Lists.{and-split}
 use Rattle.theory_image.specs.Sections.{startOf}
 
 unfoldable pub plain? : Row → Bool
 plain? [] = true
 plain? (s ∷ ss) = ltb s PAD && plain? ss
 
--- a plain word brings nothing
+-- a plain word has no fields after it
 pub plain-more : (s w : ℕ) → ltb s PAD ≡ true → more s w ≡ brings []
 unfolding more
 plain-more s w e = rw (more, e)

@@ -1,4 +1,4 @@
--- Which classes stand where: behind the kind of a type, in the head, the arguments, the result, the locals and the body of a function there is no kind of a type or an expression, and nothing of the named expressions. What a flat pass asks of the cells that it goes over.
+-- Which classes are where: after the kind of a type, in the head, the arguments, the result, the locals and the body of a function there is no kind of a type or an expression, and nothing of the named expressions. What a flat pass requires of the cells that it goes over.
 use mathlib.Core.Path.{_≡_, refl}
 use mathlib.Core.Bool.{Bool, true, false, _&&_, _||_, not}
 use mathlib.Core.Option.{some}
@@ -8,12 +8,12 @@ use native.Mathlib.Omega.{arith}
 use lib.Dec.{eqb, ltb, leb}
 use lib.ListN.{length, getElem?}
 use borrow.Author.Tests.{eqb-true, ltb-true, ne-eqb, not-true}
+use Rattle.theory_lists.specs.Booleans.{and-true, and-split}
 use Rattle.model.specs.Outcome.{Cell, Cells, class}
 use Rattle.model.specs.Table.{Row, SPAN, UPTO, NAME, EXPR, NAMED-EXPR, PAD, MEMBERS, ARGUMENTS, LOCALS, NAMED, TYPE-KIND, EXPR-KIND, VALUE, ATOMIC, RETURNS, Shape, sEmit, sBlock, sIf, sSwitch, sLoop, sBreak, sContinue, sReturn, sKill, sCall, sEffect, types, values, atomics, results, statements, typeRow, functionHead, entryHead, counted, limit, variants, brings, over, repeat, more}
 use Rattle.model.specs.Tree.{Stmt, Form, Block, Cases, Case, Range, Function, Entry, flatAll, flatList, flatX, flatS, flatF, flatB, flatK, flatC, flatBlock}
 use Rattle.model.specs.Carry.{Lays, lays-none, lays-next, Each, each-none, each-next, OkS, OkF, OkB, OkBs, OkK, OkC, ok-stmt, ok-emit, ok-block, ok-branch, ok-switch, ok-loop, ok-break, ok-continue, ok-return, ok-kill, ok-call, ok-effect, ok-deeper, ok-end, ok-then, ok-case, ok-nomore, ok-also, WellFunction, WellEntry}
 use Rattle.model.specs.Module.{places}
-use Rattle.theory_image.specs.Lists.{and-true, and-split}
 use Rattle.theory_image.specs.Plain.{plain?, plain-more}
 use Rattle.theory_image.specs.FunctionViews.{among, split-or, variant-brings}
 
@@ -61,7 +61,7 @@ module _ {c : Cell} (q : Quiet c) where
   pub quiet-expr-kind : eqb (class c) EXPR-KIND ≡ false
   quiet-expr-kind = none-of (eqb (class c) EXPR-KIND) false (type-on .1) .0
 
--- ---- symbols whose words bring quiet cells only
+-- ---- symbols whose words are followed by quiet cells only
 unfoldable inner? : ℕ → Bool
 inner? s = (ltb s PAD && not (eqb s NAMED-EXPR)) || among s (MEMBERS ∷ VALUE ∷ ATOMIC ∷ RETURNS ∷ [])
 
@@ -288,7 +288,7 @@ mutual
   cases-quiet ok-nomore = each-none
   cases-quiet (ok-also k ks) = each-append (case-quiet k) (cases-quiet ks)
 
--- ---- functions: what stands before the expressions, and the body
+-- ---- functions: what comes before the expressions, and the body
 -- the head, the arguments, the result and the locals
 abbrev pub before : Function → Cells
 before f = f .head ++ flatList ARGUMENTS (f .arguments) ++ f .result ++ flatList LOCALS (f .locals)

@@ -1,4 +1,4 @@
--- The marks of `Initial` are the judgement: `reached` holds of an expression exactly if the locals reach it, and `initial` exactly if it does not stand besides.
+-- The marks of `Initial` are the judgement: `reached` holds of an expression exactly if the locals reach it, and `initial` exactly if it is also not standing.
 -- Why the rounds are enough: a round that marks nothing new leaves the marks closed under reading, and any other leaves fewer unmarked, of which there are no more than rounds. No operand has to be lower, and a number outside the table is reached and reads nothing.
 use mathlib.Core.Path.{_≡_, refl, ap, sym, _∙_, subst}
 use mathlib.Core.Logic.{_⊎_, inl, inr, ⊎-elim}
@@ -8,7 +8,8 @@ use Prim.Native.Nat.{ℕ, zero, suc, _<_, _≤_}
 use native.Mathlib.Omega.{arith}
 use lib.Dec.{eqb, ltb}
 use lib.ListN.{length, replicate, set, length-set, length-replicate, List·getD-eq-default}
-use borrow.Author.Tests.{ltb-true, ltb-false, eqb-true, eqb-false}
+use borrow.Author.Tests.{ltb-true, ltb-false, eqb-true, eqb-false, not-true}
+use Rattle.theory_lists.specs.Booleans.{by, and-split}
 use Rattle.model.specs.Outcome.{Cells}
 use Rattle.model.specs.Tree.{Function}
 use Rattle.model.specs.Operands.{opsOf, ops, kind, constantKind, kindAt, standing}
@@ -16,17 +17,6 @@ use Rattle.model.specs.Initial.{Mem, here, there, root, step, Reached, roots, M
 use Rattle.theory_image.specs.Members.{no-mem, mem-left, mem-right, mem-cases}
 
 -- ---- tests
-by : (P : Type 0) (b : Bool) → (b ≡ true → P) → (b ≡ false → P) → P
-by P true f g = f refl
-by P false f g = g refl
-
-and-true : (a b : Bool) → (a && b) ≡ true → (a ≡ true) × (b ≡ true)
-and-true true b h = (refl, h)
-and-true false b h = absurd (false≢true h)
-
-not-true : (b : Bool) → not b ≡ true → b ≡ false
-not-true true h = absurd (false≢true h)
-not-true false h = refl
 
 -- ---- one mark
 set-from : (m : Marks) (e x : ℕ) → marked (set m e true) x ≡ true → (marked m x ≡ true) ⊎ (x ≡ e)
@@ -229,11 +219,11 @@ moving-is (b ∷ m) [] e q = absurd (omega arith)
 moving-is (b ∷ m) (x ∷ xs) zero q = refl
 moving-is (b ∷ m) (x ∷ xs) (suc e) q = moving-is m xs e (omega arith)
 
--- an initialiser expression is reached, and does not stand
+-- an initialiser expression is reached, and is not standing
 pub initial-is : (F : Function) (e : ℕ) → initial F e ≡ true → Reached F e × (standing (F .exprs) e ≡ false)
 unfolding initial initials reached
 initial-is F e h =
-    let p = and-true (reached F e) _ (sym (moving-is (reachedMarks F) (F .exprs) e (reached-size F)) ∙ h) in
+    let p = and-split (reached F e) _ (sym (moving-is (reachedMarks F) (F .exprs) e (reached-size F)) ∙ h) in
     (reached-is F e (p .0), not-true _ (p .1))
 
 pub initial-all : (F : Function) (e : ℕ) → e < length (F .exprs) → Reached F e → standing (F .exprs) e ≡ false → initial F e ≡ true
@@ -244,8 +234,8 @@ constant-is : (m : Marks) (xs : List Cells) (e : ℕ) → constantAt m xs ≡ tr
 unfolding constantAt marked kindAt
 constant-is [] xs e h l q = absurd (false≢true q)
 constant-is (b ∷ m) [] e h l q = absurd (omega arith)
-constant-is (true ∷ m) (x ∷ xs) zero h l q = and-true (constantKind (kind x)) _ h .0
-constant-is (true ∷ m) (x ∷ xs) (suc e) h l q = constant-is m xs e (and-true (constantKind (kind x)) _ h .1) (omega arith) q
+constant-is (true ∷ m) (x ∷ xs) zero h l q = and-split (constantKind (kind x)) _ h .0
+constant-is (true ∷ m) (x ∷ xs) (suc e) h l q = constant-is m xs e (and-split (constantKind (kind x)) _ h .1) (omega arith) q
 constant-is (false ∷ m) (x ∷ xs) zero h l q = absurd (false≢true q)
 constant-is (false ∷ m) (x ∷ xs) (suc e) h l q = constant-is m xs e h (omega arith) q
 

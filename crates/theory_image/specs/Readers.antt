@@ -1,4 +1,4 @@
--- What is read is well formed, and its words are the words that stood there: for every reader of a tree one induction proves both.
+-- What is read is well formed, and its words are the words that were there: for every reader of a tree one induction proves both.
 use mathlib.Core.Path.{_≡_, refl, sym, ap, ap₂, _∙_, subst}
 use mathlib.Core.Bool.{Bool, true, false}
 use mathlib.Core.Option.{Option, none, some}
@@ -14,7 +14,7 @@ use Rattle.model.specs.Table.{Row, EXPR, OPT-EXPR, OPT-RESULT, ARGUMENTS, LOCAL
 use Rattle.model.specs.Tree.{Stmt, Form, Block, Cases, stmt, Range, Function, Entry, optOf, wordOf, kindOf, sizeB, sizeC, flatS, flatF, flatB, flatK, flatC, flatX, flatAll, flatList, flatBlock, flat, flatEntry, rows, listed, operands, stmts, caseAt, cases, form, checked, shaped, statement, blockAt, DEPTH, functionAt, entryAt}
 use Rattle.model.specs.Module.{Special, flatSpecial, raysRow, pairRow, specialAt}
 use Rattle.model.specs.Carry.{Lays, lays-none, lays-next, Each, each-none, each-next, Listed, OkS, OkF, OkB, OkBs, OkK, OkC, ok-stmt, ok-emit, ok-block, ok-branch, ok-switch, ok-loop, ok-break, ok-continue, ok-return, ok-kill, ok-call, ok-effect, ok-deeper, ok-end, ok-then, ok-case, ok-nomore, ok-also, WellFunction, WellEntry}
-use Rattle.theory_image.specs.Lists.{words-append, word-of}
+use Rattle.theory_image.specs.Words.{words-append, word-of}
 
 -- ---- the judgement, and how it goes through readers that follow one another
 pub data Good {A : Type 0} (P : A → List ℕ → Type 0) : Outcome A → Type 0 where
@@ -52,7 +52,7 @@ taken {P} {o} {a} {rest} g e = inside (subst (Good P) e g)
     inside : Good P (fits a rest) → P a rest
     inside (good p) = p
 
--- two runs of cells, one behind the other
+-- two runs of cells, one after the other
 behind : (cs ds : Cells) (us : List ℕ) {ws vs : List ℕ} → ws ≡ map word cs ++ vs → vs ≡ map word ds ++ us → ws ≡ map word (cs ++ ds) ++ us
 behind cs ds us e f = e ∙ ap (map word cs ++_) f ∙ sym (words-append cs ds us)
 

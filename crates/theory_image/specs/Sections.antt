@@ -1,4 +1,4 @@
--- Runs of cells one behind the other: where each starts, and that the part between two starts is the run. It serves the sections of an image and the records of a section.
+-- Runs of cells one after the other: where each starts, and that the part between two starts is the run. It serves the sections of an image and the records of a section.
 use mathlib.Core.Path.{_≡_, refl, sym, ap, _∙_}
 use mathlib.Core.List.{List, [], _∷_, _++_, map, append-assoc}
 use Prim.Native.Nat.{ℕ, zero, suc, _+_, _*_, _-_, _≤_, _<_}
@@ -40,7 +40,7 @@ drop-map f (suc n) (x ∷ l) = drop-map f n l
 pub slice-map : {A B : Type 0} (f : A → B) (o e : ℕ) (l : List A) → slice o e (map f l) ≡ map f (slice o e l)
 slice-map f o e l = ap (drop o) (take-map f e l) ∙ drop-map f o (take e l)
 
--- ---- where run j starts, if the first starts at `at`; behind the last it is the end
+-- ---- where run j starts, if the first starts at `at`; after the last it is the end
 unfoldable pub startOf : ℕ → List Cells → ℕ → ℕ
 startOf at [] j = at
 startOf at (r ∷ rs) zero = at
@@ -62,7 +62,7 @@ start-step [] at j h = absurd (omega arith)
 start-step (r ∷ rs) at zero h = start-zero (at + length r) rs
 start-step (r ∷ rs) at (suc j) h = start-step rs (at + length r) j (omega arith)
 
--- a start is not behind the end
+-- a start is not after the end
 pub start-in : (rs : List Cells) (at j : ℕ) → j ≤ length rs → startOf at rs j ≤ at + length (flatAll rs)
 unfolding startOf flatAll
 start-in [] at j h = omega arith

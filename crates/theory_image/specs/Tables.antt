@@ -9,11 +9,12 @@ use lib.Dec.{eqb, leb}
 use lib.ListN.{length, take, drop, length-append, length-map, length-drop, take-append-drop}
 use lib.Seq.{take-at, drop-at, length-take-le}
 use borrow.Author.Tests.{eqb-true, eq-eqb, leb-true, le-leb}
+use Rattle.theory_lists.specs.Lists.{map-append, length-none}
+use Rattle.theory_lists.specs.Booleans.{if-true, and-true, and-split}
 use Rattle.model.specs.Outcome.{Cells, word, Outcome, fits, Laid, laid, bad, strange, exact, both}
 use Rattle.model.specs.Tree.{flatAll}
 use Rattle.model.specs.Module.{next, records, table, places, flatTable}
 use Rattle.model.specs.Carry.{Each, each-none, each-next}
-use Rattle.theory_image.specs.Lists.{map-append, if-true, and-true, and-split}
 use Rattle.theory_image.specs.Sections.{length-places}
 use Rattle.theory_image.specs.Readers.{Good, good, good-misfit, good-unknown, Took, Takes}
 
@@ -78,7 +79,7 @@ module _ {A : Type 0} (p : List ℕ → Outcome A) (flatly : A → Cells) where
       (ap p (take-at (map word (flatly a)) (map word (flatAll (map flatly l))) (at + length (flatly a) - at) w) ∙ f .fills)
       (ap (records p stop (at + length (flatly a)) (map word (places (at + length (flatly a)) (map flatly l)))) (drop-at (map word (flatly a)) (map word (flatAll (map flatly l))) (at + length (flatly a) - at) w) ∙ write-records fs (at + length (flatly a)) stop q))
 
-  -- a section of n offsets and what stands behind them
+  -- a section of n offsets and what follows them
   table-of : (os ws : List ℕ) (n : ℕ) (x : Laid (List A)) → length os ≡ n → records p (n + length ws) n os ws ≡ x → table p n (os ++ ws) ≡ x
   unfolding table
   table-of os ws n x m e =
@@ -96,9 +97,6 @@ module _ {A : Type 0} (p : List ℕ → Outcome A) (flatly : A → Cells) where
       (write-records fs (length l) (length l + length (map word (flatAll rs))) (ap (length l +_) (length-map (flatAll rs) word))))
 
 -- ---- read, and written
-length-none : (ws : List ℕ) → length ws ≡ 0 → ws ≡ []
-length-none [] e = refl
-length-none (w ∷ ws) e = absurd (omega arith)
 
 -- offsets and words of records of which the first starts at `at`
 record Held {A : Type 0} (ok : A → Type 0) (flatly : A → Cells) (at : ℕ) (os ws : List ℕ) (l : List A) : Type 0 where

@@ -1,4 +1,4 @@
--- Words and tape hold one module at most. Assumes nothing.
+-- Words and tags hold one module at most.
 use mathlib.Core.Path.{_≡_, sym, ap, _∙_}
 use mathlib.Core.List.{List}
 use Prim.Native.Nat.{ℕ}

@@ -1,5 +1,5 @@
 -- Views of a module's words and cells: the header's counts and offsets, the cells of a section, the cells of a record. They hold for every module, since the header and the offsets are computed from it.
--- With ws = write m and cells = flatModule m, which stand beside one another word for word: section k is `slice (offsetAt k ws) (endAt k ws)`, record j of section k is `slice (recordAt k j ws) (recordEnd k j ws)`, of either.
+-- With ws = write m and cells = flatModule m, which agree word for word: section k is `slice (offsetAt k ws) (endAt k ws)`, record j of section k is `slice (recordAt k j ws) (recordEnd k j ws)`, of either.
 use mathlib.Core.Path.{_≡_, refl, sym, ap, ap₂, _∙_}
 use mathlib.Core.Bool.{Bool, true, false}
 use mathlib.Core.Option.{some}
@@ -11,13 +11,13 @@ use lib.Dec.{eqb}
 use lib.ListN.{length, getD, getElem?, length-append, length-map, List·getD-append}
 use lib.Seq.{slice, take-at}
 use borrow.Author.Tests.{eqb-true, eqb-false}
+use Rattle.theory_lists.specs.Lists.{map-append, looked-length, looked-getD, looked-map}
 use Rattle.model.specs.Outcome.{Cells, class, word}
 use Rattle.model.specs.Table.{PLACE}
 use Rattle.model.specs.Tree.{Function, Entry, flat, flatEntry, flatAll}
 use Rattle.model.specs.Module.{Module, countAt, offsetAt, endAt, section, HEADER, places, flatTable, flatSpecial, Section, sections, pairsFrom, bodies, flatModule, write}
 use Rattle.model.specs.View.{tables, recordAt, recordEnd}
 use Rattle.model.specs.Carry.{WellFormed}
-use Rattle.theory_image.specs.Lists.{map-append}
 use Rattle.theory_image.specs.Plain.{plain?, plain-length, plain-start}
 use Rattle.theory_image.specs.Sections.{slice-slice, getD-slice, slice-map, startOf, start-zero, start-end, start-step, start-in, start-slice, length-places, place-word, cellsOf, length-pairs, bodies-all, pair-count, pair-offset}
 
@@ -123,7 +123,7 @@ pub view-words : (m : Module) (k : ℕ) → k < 9 → section k (write m) ≡ ma
 unfolding section write
 view-words m k h = slice-map word (offsetAt k (write m)) (endAt k (write m)) (flatModule m) ∙ ap (map word) (view-section m k h)
 
--- sections stand in order, without gap, from word 20 to the end
+-- sections are in order, without gap, from word 20 to the end
 pub view-first : (m : Module) → offsetAt 0 (write m) ≡ HEADER
 view-first m = offset-start m 0 (omega arith) ∙ start-zero HEADER (map cellsOf (sections m))
 
@@ -162,25 +162,9 @@ view-table m (suc (suc (suc (suc (suc (suc (suc (suc k)))))))) h = absurd (omega
 pub view-records : (m : Module) (k : ℕ) → k < 8 → countAt k (write m) ≡ length (getD (tables m) k [])
 view-records m k h = view-count m k (omega arith) ∙ ap (λ s. s .0) (view-table m k h)
 
-table-length : (rs : List Cells) → length (flatTable rs) ≡ length rs + length (flatAll rs)
+pub table-length : (rs : List Cells) → length (flatTable rs) ≡ length rs + length (flatAll rs)
 unfolding flatTable
 table-length rs = length-append (places (length rs) rs) (flatAll rs) ∙ ap (_+ length (flatAll rs)) (length-places rs (length rs))
-
--- a record that is found is in the table
-pub looked-length : {A : Type 0} (l : List A) (j : ℕ) {x : A} → getElem? l j ≡ some x → j < length l
-looked-length [] j e = let z : _≡_ {A = ℕ} 0 1 = cc in absurd (omega arith)
-looked-length (y ∷ l) zero e = omega arith
-looked-length (y ∷ l) (suc j) e = omega (arith, looked-length l j e)
-
-pub looked-getD : {A : Type 0} (l : List A) (j : ℕ) (d : A) {x : A} → getElem? l j ≡ some x → getD l j d ≡ x
-looked-getD [] j d e = let z : _≡_ {A = ℕ} 0 1 = cc in absurd (omega arith)
-looked-getD (y ∷ l) zero d e = cc
-looked-getD (y ∷ l) (suc j) d e = looked-getD l j d e
-
-pub looked-map : {A B : Type 0} (f : A → B) (l : List A) (j : ℕ) {x : A} → getElem? l j ≡ some x → getElem? (map f l) j ≡ some (f x)
-looked-map f [] j e = let z : _≡_ {A = ℕ} 0 1 = cc in absurd (omega arith)
-looked-map f (y ∷ l) zero e = cc
-looked-map f (y ∷ l) (suc j) e = looked-map f l j e
 
 module _ (m : Module) (k : ℕ) (h : k < 8) where
   -- the records of section k, the section's cells, and where it ends
@@ -253,7 +237,7 @@ pub record SeesRecord (ws : List ℕ) (m : Module) (k j : ℕ) (r : Cells) : Typ
   pub cells : slice (recordAt k j ws) (recordEnd k j ws) (flatModule m) ≡ r
   pub words : slice (recordAt k j ws) (recordEnd k j ws) ws ≡ map word r
 
--- the sections stand in order, without gap, from word 20 to the end
+-- the sections are in order, without gap, from word 20 to the end
 pub record Ordered (ws : List ℕ) : Type 0 where
   pub first : offsetAt 0 ws ≡ HEADER
   pub onward : (k : ℕ) → k < 8 → endAt k ws ≡ offsetAt (suc k) ws

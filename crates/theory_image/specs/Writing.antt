@@ -1,16 +1,17 @@
--- What is written is read: the words of a well-formed tree, with any words behind them, are read as that tree, and those words are left.
+-- What is written is read: the words of a well-formed tree, with any words after them, are read as that tree, and those words are left.
 use mathlib.Core.Path.{_≡_, refl, ap, _∙_}
 use mathlib.Core.List.{List, [], _∷_, _++_, map, append-assoc}
 use Prim.Native.Nat.{ℕ, suc}
 use lib.Dec.{leb}
 use lib.ListN.{length, getElem?}
 use borrow.Author.Tests.{eq-eqb, le-leb}
+use Rattle.theory_lists.specs.Booleans.{if-true}
 use Rattle.model.specs.Outcome.{Cells, word, fits, misfit, _⟫_, eat, mapO}
 use Rattle.model.specs.Table.{Row, EXPR, OPT-EXPR, OPT-RESULT, ARGUMENTS, LOCALS, EXPRESSIONS, NAMED, statements, counted, limit, follow, run}
 use Rattle.model.specs.Tree.{Stmt, Form, Block, Cases, Case, stmt, emit, block, branch, switch, loop, break, continue, return, kill, call, effect, Range, Function, Entry, wordOf, kindOf, sizeB, sizeC, flatS, flatF, flatB, flatK, flatC, flatX, flatAll, flatList, flatBlock, flat, flatEntry, rows, listed, operands, stmts, caseAt, cases, form, checked, shaped, statement, blockAt, functionAt, entryAt}
 use Rattle.model.specs.Module.{Special, flatSpecial, raysRow, pairRow, specialAt}
 use Rattle.model.specs.Carry.{Lays, lays-none, lays-next, Each, each-none, each-next, Listed, OkS, OkF, OkB, OkBs, OkK, OkC, ok-stmt, ok-emit, ok-block, ok-branch, ok-switch, ok-loop, ok-break, ok-continue, ok-return, ok-kill, ok-call, ok-effect, ok-deeper, ok-end, ok-then, ok-case, ok-nomore, ok-also, WellFunction, WellEntry}
-use Rattle.theory_image.specs.Lists.{words-append, opt-of, if-true}
+use Rattle.theory_image.specs.Words.{words-append, opt-of}
 
 -- ---- rows and lists of rows
 pub run-none : (ws : List ℕ) → run ws [] ≡ fits [] ws

@@ -1,4 +1,4 @@
--- OUTPUT ORDER AGAIN: where functions stand in output order already, their output order is as they stand. So of a linked module, whose functions call as the source's do at their places, a second link would import them in the order of their numbers.
+-- OUTPUT ORDER AGAIN: where functions are in output order already, their output order is the order that they are in. So of a linked module, whose functions call as the source's do at their places, a second link would import them in the order of their numbers.
 use mathlib.Core.Path.{_≡_, refl, sym, ap, ap₂, _∙_, subst}
 use mathlib.Core.Bool.{Bool, true, false, not}
 use mathlib.Core.Logic.{_⊎_, ⊎-elim}
@@ -6,10 +6,12 @@ use mathlib.Core.List.{List, [], _∷_, _++_, append-nil}
 use Prim.Native.Nat.{ℕ, zero, suc, _+_, _<_}
 use native.Mathlib.Omega.{arith}
 use lib.ListN.{length, getD, length-append}
+use borrow.Author.Tests.{not-true}
+use Rattle.theory_lists.specs.Booleans.{either}
 use Rattle.model.specs.Calls.{In, here, later, numbers, any, keep, free, held, Rounds, rounds, answer, order, ordered}
-use Rattle.order_ranks.proofs.Lists.{either, never, in-nil, in-cons, in-left, in-right, in-append, numbers-in, length-numbers, numbers-append, keep-in, in-keep, keep-append, keep-none, keep-all, any-in, in-any, any-off, not-any}
-use Rattle.order_ranks.proofs.Rounds.{no-round, last-round, some-round}
-use Rattle.order_ranks.proofs.Theorems.{ordered-is}
+use Rattle.theory_order.specs.Lists.{in-nil, in-cons, in-left, in-right, in-append, numbers-in, length-numbers, numbers-append, keep-in, in-keep, keep-append, keep-none, keep-all, any-in, in-any, any-off, not-any}
+use Rattle.theory_order.specs.Rounds.{no-round, last-round, some-round}
+use Rattle.theory_order.specs.Theorems.{ordered-is}
 use Rattle.theory_link.specs.Exactly.{rounds-length}
 
 -- ---- the rounds place exactly those that waited
@@ -77,7 +79,7 @@ module _ (g : ℕ → ℕ) where
   fits-right [] q a h = subst (Fits q) (omega arith) h
   fits-right (i ∷ p) q a h = subst (Fits q) (omega arith) (fits-right p q (suc a) (h .1))
 
-  -- ---- calls c′ between places are calls c between what stands there
+  -- ---- calls c′ between places are calls c between what is there
   module _ (c c′ : ℕ → ℕ → Bool) where
     Alike : List ℕ → Type 0
     Alike ws = (x y : ℕ) → In x ws → In y ws → c′ x y ≡ c (g x) (g y)
@@ -86,7 +88,7 @@ module _ (g : ℕ → ℕ) where
       abbrev places : List ℕ
       places = numbers (length (rounds c f w .placed)) a
 
-      -- one calls another that waits exactly if what stands there does
+      -- one calls another that waits exactly if what is there does
       waits : (x : ℕ) → In x places → any places (c′ x) ≡ any w (c (g x))
       unfolding Alike
       waits x h = ⊎-elim yes-so no-so (either (any w (c (g x))))
@@ -108,7 +110,7 @@ module _ (g : ℕ → ℕ) where
     unfolding free keep
     empty f = let r = last-round c′ f [] refl in record { placed-is = ap (λ (x : Rounds). x .placed) r; left-is = ap (λ (x : Rounds). x .left) r }
 
-    -- one round: what it places stands first
+    -- one round: what it places comes first
     one-round : (f : ℕ) (w : List ℕ) (l : List ℕ) (x : ℕ) → free c w ≡ x ∷ l → rounds c (suc f) w .left ≡ [] → (a : ℕ) → Fits (rounds c (suc f) w .placed) a → Alike (numbers (length (rounds c (suc f) w .placed)) a)
         → (Fits (rounds c f (held c w) .placed) (a + length (free c w)) → Alike (numbers (length (rounds c f (held c w) .placed)) (a + length (free c w))) → Same f (numbers (length (rounds c f (held c w) .placed)) (a + length (free c w))))
         → Same (suc f) (numbers (length (rounds c (suc f) w .placed)) a)
@@ -146,11 +148,7 @@ module _ (g : ℕ → ℕ) where
         in-B {y} h = subst (In y) (sym parts) (in-right A h)
 
         A-free : (y : ℕ) → In y A → any ws (c′ y) ≡ false
-        A-free y h = waits (suc f) w e a fit alike y (in-A h) ∙ not-flip (any w (c (g y))) (keep-in (λ i. not (any w (c i))) w (fits-in (free c w) a (fits-left (free c w) p a fit′) h) .1)
-          where
-            not-flip : (b : Bool) → not b ≡ true → b ≡ false
-            not-flip true z = absurd (never (not true) z refl)
-            not-flip false z = refl
+        A-free y h = waits (suc f) w e a fit alike y (in-A h) ∙ not-true (any w (c (g y))) (keep-in (λ i. not (any w (c i))) w (fits-in (free c w) a (fits-left (free c w) p a fit′) h) .1)
 
         B-held : (y : ℕ) → In y B → any ws (c′ y) ≡ true
         B-held y h = waits (suc f) w e a fit alike y (in-B h) ∙ keep-in (λ i. any w (c i)) w (placed-from c f (held c w) (fits-in p (a + length (free c w)) (fits-right (free c w) p a fit′) h)) .1
@@ -189,7 +187,7 @@ module _ (g : ℕ → ℕ) where
             let k : length (free c w) ≡ suc (length l) = ap length q in
             one-round f w l x q e a fit alike (ih (sym (ap (λ (r : Rounds). r .left) (some-round c f w (omega arith))) ∙ e))
 
--- THE ORDER OF WHAT STANDS IN ORDER is as it stands: os is an order by the calls c, and c′ has the same calls between places
+-- THE OUTPUT ORDER OF FUNCTIONS THAT ARE IN ORDER is that order: os is an order by the calls c, and c′ has the same calls between places
 pub order-again : (n : ℕ) (c c′ : ℕ → ℕ → Bool) (os : List ℕ) → order n c ≡ ordered os → ((x y : ℕ) → x < n → y < n → c′ x y ≡ c (getD os x 0) (getD os y 0)) → order n c′ ≡ ordered (numbers n 0)
 unfolding order answer Alike
 order-again n c c′ os e h =

@@ -8,9 +8,11 @@ use Rattle.base_words.proofs.Laws.{bytes-below}
 use Rattle.model.specs.Outcome.{laid}
 use Rattle.model.specs.Module.{Module, read}
 use Rattle.model.specs.Intake.{intakeOf}
-use Rattle.model.specs.Link.{linked, linkImage}
+use Rattle.model.specs.Refusals.{done}
+use Rattle.model.specs.Link.{linkImage}
 use Rattle.theory_link.specs.OnBytes.{Held, Demand3, demand3-bytes, linked-only}
-use Rattle.theory_link.specs.Refuted.{P5, P5-linked, p5-image}
+use Rattle.model_vectors.specs.Links.{P5, P5-linked}
+use Rattle.model_vectors.specs.LinkedBytes.{p5-image}
 
 module _ (output : List ℕ) (roomy : 276 ≤ length output) where
   -- the premises: bytes that pass intake, and room

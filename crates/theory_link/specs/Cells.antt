@@ -1,16 +1,16 @@
--- A RECORD CARRIED AGREES, as agreement in full has it, if the maps in the end say of each number that it refers to where it went (`Becomes`).
+-- A RECORD CARRIED AGREES, as agreement in full has it, if the maps at the end map each number that it refers to as it was carried (`Becomes`).
 use mathlib.Core.Path.{_≡_, refl, sym, ap, _∙_}
 use mathlib.Core.Bool.{true}
 use mathlib.Core.List.{List, [], _∷_}
 use Prim.Native.Nat.{ℕ, zero, suc, _<_, pred}
 use native.Mathlib.Omega.{arith}
 use borrow.Author.Tests.{eq-eqb}
+use Rattle.theory_lists.specs.Booleans.{and-true}
 use Rattle.model.specs.Outcome.{Cells, class, word}
 use Rattle.model.specs.Module.{Module}
 use Rattle.model.specs.Carry.{carryCell, carryCells}
 use Rattle.model.specs.References.{Target, copied, start, upto, ref, opt, target, Node, refOf, refs, carryW, through}
 use Rattle.model.specs.Agreement.{Mapping, becomes, agreesW, agreesR}
-use Rattle.theory_image.specs.Lists.{and-true}
 use Rattle.theory_records.specs.RecordLaws.{All, Went, bareW, bare, rest-of}
 
 module _ (M M′ : Module) (μ : Mapping) (o : List ℕ) (w : Went) where

@@ -15,7 +15,8 @@ use Rattle.model.specs.Calls.{Call, Ring, In, times, ordered}
 use Rattle.model.specs.Callees.{calls, orderOf}
 use Rattle.model.specs.Walk.{walk}
 use Rattle.model.specs.Agreement.{Agreement}
-use Rattle.model.specs.Link.{linkBy, linked, link}
+use Rattle.model.specs.Refusals.{done}
+use Rattle.model.specs.Link.{linkBy, link}
 use Rattle.model.specs.LinkMaps.{linkMaps}
 use Rattle.theory_walks.specs.Reads.{Sound}
 use Rattle.theory_walks.specs.Agreement.{Maps, Carries}
@@ -28,7 +29,7 @@ pub record Linking (ws : List ℕ) (room : ℕ) (m : Module) : Type 0 where
   pub reads : read ws ≡ laid m
   pub roomy : 4 * length ws ≤ room
 
--- F′ walks as F does, the events carried, by every list of numbers; and reads only what stands or has been evaluated
+-- F′ walks as F does, the events carried, by every list of numbers; and reads only what is standing or has been evaluated
 pub record Walks (μ : Maps) (F F′ : Function) (f : ℕ → ℕ) (cs : List ℕ) : Type 0 where
   pub carries : Carries μ F F′ f cs
   pub sound : Sound (standing (F′ .exprs)) (walk F′ cs) []
@@ -57,6 +58,6 @@ pub record Output (ws : List ℕ) (room : ℕ) (m : Module) (os : List ℕ) : Ty
 -- THE DEMAND
 pub record Demand3 (ws : List ℕ) (room : ℕ) (m : Module) : Type 0 where
   -- "Linking succeeds exactly if no chain of calls comes back to its start"
-  pub exactly : ((vs : List ℕ) × (link (4 * length ws) ws room ≡ linked vs)) ↔ ((i : ℕ) → Ring (length (m .functions)) (calls m) i → ⊥)
+  pub exactly : ((vs : List ℕ) × (link (4 * length ws) ws room ≡ done vs)) ↔ ((i : ℕ) → Ring (length (m .functions)) (calls m) i → ⊥)
   -- "Then": what it writes is this
-  pub output : (vs : List ℕ) → link (4 * length ws) ws room ≡ linked vs → (os : List ℕ) × (orderOf m ≡ ordered os) × (vs ≡ write (linkBy os m)) × Output ws room m os
+  pub output : (vs : List ℕ) → link (4 * length ws) ws room ≡ done vs → (os : List ℕ) × (orderOf m ≡ ordered os) × (vs ≡ write (linkBy os m)) × Output ws room m os

@@ -13,11 +13,13 @@ use Rattle.model.specs.Module.{Module, write}
 use Rattle.model.specs.Initial.{Mem, here, there}
 use Rattle.model.specs.Calls.{Ring, In, here as here-in, later, numbers, free, held, rounds, Order, ordered, ring}
 use Rattle.model.specs.Callees.{calls, orderOf}
-use Rattle.model.specs.Link.{linkBy, linked, inOrder, linkOf, link}
+use Rattle.model.specs.Intake.{ofLaid, afterIntake, onWords}
+use Rattle.model.specs.Refusals.{done}
+use Rattle.model.specs.Link.{linkBy, inOrder, linkModule, link}
 use Rattle.model.specs.LinkMaps.{placesOf, linkMaps}
-use Rattle.order_ranks.proofs.Lists.{length-numbers}
-use Rattle.order_ranks.proofs.Rounds.{length-round, no-round, last-round, some-round}
-use Rattle.order_ranks.proofs.Theorems.{order-exactly, ordered-is}
+use Rattle.theory_order.specs.Lists.{length-numbers}
+use Rattle.theory_order.specs.Rounds.{length-round, no-round, last-round, some-round}
+use Rattle.theory_order.specs.Theorems.{order-exactly, ordered-is}
 use Rattle.theory_finish.specs.Firsts.{Once, once-next}
 use Rattle.theory_finish.specs.Ringless.{low}
 use Rattle.theory_finish.specs.Counting.{order-once}
@@ -25,19 +27,19 @@ use Rattle.theory_link.specs.Demand.{Linking}
 
 module _ (ws : List ℕ) (room : ℕ) (m : Module) (l : Linking ws room m) where
   pub link-is : link (4 * length ws) ws room ≡ inOrder (orderOf m) m
-  unfolding link linkOf
-  link-is = rw (link, l .passes, l .reads, linkOf, le-ltb room (4 * length ws) (l .roomy))
+  unfolding link onWords afterIntake ofLaid linkModule
+  link-is = rw (link, onWords, l .passes, afterIntake, l .reads, ofLaid, linkModule, le-ltb room (4 * length ws) (l .roomy))
 
-  by-order : (o : Order) (vs : List ℕ) → inOrder o m ≡ linked vs → (os : List ℕ) × (o ≡ ordered os) × (vs ≡ write (linkBy os m))
+  by-order : (o : Order) (vs : List ℕ) → inOrder o m ≡ done vs → (os : List ℕ) × (o ≡ ordered os) × (vs ≡ write (linkBy os m))
   unfolding inOrder
   by-order (ordered os) vs e = (os, refl, cc)
   by-order (ring k) vs e = let z : _≡_ {A = ℕ} 0 1 = cc in absurd (omega arith)
 
   -- what is written, if anything is
-  pub linked-as : (vs : List ℕ) → link (4 * length ws) ws room ≡ linked vs → (os : List ℕ) × (orderOf m ≡ ordered os) × (vs ≡ write (linkBy os m))
+  pub linked-as : (vs : List ℕ) → link (4 * length ws) ws room ≡ done vs → (os : List ℕ) × (orderOf m ≡ ordered os) × (vs ≡ write (linkBy os m))
   linked-as vs e = by-order (orderOf m) vs (sym link-is ∙ e)
 
-  ringless-order : ((i : ℕ) → Ring (length (m .functions)) (calls m) i → ⊥) → (os : List ℕ) × (inOrder (orderOf m) m ≡ linked (write (linkBy os m)))
+  ringless-order : ((i : ℕ) → Ring (length (m .functions)) (calls m) i → ⊥) → (os : List ℕ) × (inOrder (orderOf m) m ≡ done (write (linkBy os m)))
   unfolding orderOf inOrder
   ringless-order f = let o = order-exactly (length (m .functions)) (calls m) .1 f in (o .0, rw (o .1))
 
@@ -45,13 +47,13 @@ module _ (ws : List ℕ) (room : ℕ) (m : Module) (l : Linking ws room m) where
   unfolding orderOf
   to-order os e = order-exactly (length (m .functions)) (calls m) .0 (os, e)
 
-  pub link-exactly : ((vs : List ℕ) × (link (4 * length ws) ws room ≡ linked vs)) ↔ ((i : ℕ) → Ring (length (m .functions)) (calls m) i → ⊥)
+  pub link-exactly : ((vs : List ℕ) × (link (4 * length ws) ws room ≡ done vs)) ↔ ((i : ℕ) → Ring (length (m .functions)) (calls m) i → ⊥)
   link-exactly = (to, back)
     where
-      to : (vs : List ℕ) × (link (4 * length ws) ws room ≡ linked vs) → (i : ℕ) → Ring (length (m .functions)) (calls m) i → ⊥
+      to : (vs : List ℕ) × (link (4 * length ws) ws room ≡ done vs) → (i : ℕ) → Ring (length (m .functions)) (calls m) i → ⊥
       to a = let o = linked-as (a .0) (a .1) in to-order (o .0) (o .1)
 
-      back : ((i : ℕ) → Ring (length (m .functions)) (calls m) i → ⊥) → (vs : List ℕ) × (link (4 * length ws) ws room ≡ linked vs)
+      back : ((i : ℕ) → Ring (length (m .functions)) (calls m) i → ⊥) → (vs : List ℕ) × (link (4 * length ws) ws room ≡ done vs)
       back f = let o = ringless-order f in (write (linkBy (o .0) m), link-is ∙ rw (o .1))
 
 -- ---- places

@@ -1,4 +1,4 @@
--- DEMAND 3 BY EXAMPLE: a small image that meets what the theorem asks, with its link and its maps by computation, and one whose function calls itself. So the theorem is not empty: of the first it gives agreement in full with what is linked, of the second that nothing is.
+-- DEMAND 3 BY EXAMPLE: a small image that meets what the theorem requires, with its link and its maps by computation, and one whose function calls itself. So the theorem is not empty: of the first it gives agreement in full with what is linked, of the second that nothing is.
 use mathlib.Core.Path.{_≡_, refl}
 use mathlib.Core.Bool.{true}
 use mathlib.Core.List.{List, [], _∷_}
@@ -19,18 +19,19 @@ use Rattle.model.specs.Numbers.{caps, bound, below, within, rising, ordered as 
 use Rattle.model.specs.Lower.{below as lowerThan, basesOf, typesLower, operandsLower, functionsLower, entriesLower, initOf, initsOf, initsLower, lower}
 use Rattle.model.specs.Names.{field, present, absent, distinct, same, unlike, differ, expressionsNamed, functionsNamed, entriesNamed, functionNames, entryNames, named}
 use Rattle.model.specs.Scope.{upFrom, inRange, live, expandS, shapeS, emitted, isOf, callResult, effectResult, kindsS, evalsOpt, evalsS, has, distinct as apart, addE, addOpt, addF, addS, topB, holdsS, contB, vis, allVis, optVis, okE, okS, allOf, seen, scopedAs, scoped, allScoped, entriesScoped, inScope}
-use Rattle.model.specs.Intake.{tested, verdict, intakeOf}
+use Rattle.model.specs.Intake.{tested, verdict, intakeOf, ofLaid, afterIntake, onWords}
 use Rattle.model.specs.Calls.{one, ordered, numbers as counting, any, keep, free, held, round, rounds, answer, order}
 use Rattle.model.specs.Callees.{calleesS, calleesAt, calls, orderOf}
 use Rattle.model.specs.Redirect.{nameWord, nothing, function}
 use Rattle.model.specs.Tables.{codeT, isT, at, upd, six, tables, recAt, count, mapAt}
-use Rattle.model.specs.References.{targets, target, refOf, refs, each, carryW, through, undefined, add as addSpan, spanBy, firstWord, undefinedAt, moved, shift, alikeC, alike, seat, merged}
-use Rattle.model.specs.Imports.{once, settle, wentT, made, commit, stepT, importF, levels, importT, unmapped, emptied, fresh}
-use Rattle.model.specs.Bodies.{lastOf, known, bring, compareOf, comparesOf, eachE, optE, went, carried, step, push, join, stand, importE, plain, unique, quiet, goS, settled, mkS, putName, nameIf, keepNames, nameCells, namedRows, declarations, declared, walked, rebuilt, keptNames, namedAfter, derived, final, localized, appended, append, followF, follow, entered, entryMade, enterAll, entriesMade}
+use Rattle.model.specs.References.{targets, target, refOf, refs, foldRefs, carryW, through, undefined, add as addSpan, spanBy, firstWord, undefinedAt, moved, shift, alikeC, alike, indexOf, interned}
+use Rattle.model.specs.Imports.{unlessMapped, intern, mappedToT, made, commit, stepT, importF, levels, importT, unmapped, emptied, fresh}
+use Rattle.model.specs.Bodies.{lastOf, known, bring, compareOf, comparesOf, eachE, optE, mappedTo, carried, step, appendExpr, internExpr, appendStanding, importE, importBody, importInitialiser, importStanding, importStmt, carriedForm, rebuildStmt, putName, nameIf, keepNames, nameCells, namedRows, declarations, declared, walked, rebuilt, keptNames, namedAfter, derived, final, localized, appended, append, followF, follow, entered, entryMade, enterAll, entriesMade}
 use Rattle.model.specs.Special.{force, withSpecial, putRay, rayTo, ray, rays, keyed, putPair, pairTo, pairs, sourced}
 use Rattle.model.specs.Finish.{namesIn, keepN, firsts, indexN, appearing, renumber, withNames, namedBy, gathered, finished}
 use Rattle.model.specs.Session.{withEntries}
-use Rattle.model.specs.Link.{appendAll, linkBy, linked, inOrder, linkOf, link}
+use Rattle.model.specs.Refusals.{done}
+use Rattle.model.specs.Link.{appendAll, linkBy, inOrder, linkModule, link}
 use Rattle.model.specs.LinkMaps.{placesOf, memosOf, memosIn, linkMaps}
 use Rattle.model.specs.Agreement.{Mapping, Agreement}
 use Rattle.model.specs.SampleBodies.{literal, splat, add, does, evals}
@@ -39,7 +40,7 @@ use Rattle.model.specs.ImportExamples.{leaf, function-of, named as naming}
 use Rattle.theory_link.specs.Demand.{Linking, Output, Demand3}
 use Rattle.theory_link.specs.Theorem.{demand3}
 
--- ---- A LAMP. "shade calls fog; tone; fog calls tone", tone with the body of P10, an entry point with that of P11. Of four names one is nowhere used; of four types two are equal, spans apart, and one is nowhere used
+-- ---- A LAMP. "shade calls fog; tone; fog calls tone", tone with the body of P10, an entry point with that of P11. Of four names one is nowhere used; of four types two are equal, ignoring spans, and one is nowhere used
 abbrev point : Cells → Function → Entry
 point l f = record { head = l; function = f }
 
@@ -88,7 +89,7 @@ ways = record {
 unfoldable pub self : Module
 self = record { names = letter 115 ∷ []; types = []; constants = []; overrides = []; globals = []; exprs = []; functions = function-of 0 [] [] [] (does (call 0 [] none) then end) ∷ []; entries = []; special = record { rays = (OPT-TYPE, 0) ∷ (OPT-TYPE, 0) ∷ (OPT-TYPE, 0) ∷ []; pairs = [] } }
 
--- what intake asks of the words of a module
+-- what intake requires of the words of a module
 record Taken (m : Module) : Type 0 where
   reads : read (write m) ≡ laid m
   size : sized (4 * length (write m)) (write m) ≡ true
@@ -106,7 +107,7 @@ record Computed : Type 0 where
   self-calls : calls self 0 0 ≡ true
 
 computed : Computed
-unfolding lamp lit ways self _⟫_ eat mapO exact both mapL typeRows expressions levelRows queries values atomics results statements nameRow typeRow constantRow overrideRow globalRow expressionRow functionHead entryHead counted limit variants repeat text variant more following run optOf wordOf kindOf sizeB sizeC flatAll flatList flatX flatS flatBlock flat flatEntry rows listed operands stmts caseAt cases form checked shaped statement blockAt functionAt entryAt next records table specialAt countAt offsetAt endAt limits placed section tableAt _⊛_ read places flatTable flatSpecial sections pairsFrom bodies flatModule write sized caps bound below within rising rises every outside inside sound constantOnly numbered optional operand opsOf resultOf functionOf kind standingKind resultKind emittedKind constantKind ops kindAt standing localInits roots marked mark unmarked readBy close reachedMarks moving initials constantAt initialised lowerThan basesOf typesLower operandsLower functionsLower entriesLower initOf initsOf initsLower lower field present absent distinct same unlike differ expressionsNamed functionsNamed entriesNamed functionNames entryNames named upFrom inRange live expandS shapeS emitted isOf callResult effectResult kindsS evalsOpt evalsS has apart addE addOpt addF addS topB holdsS contB vis allVis optVis okE okS allOf seen scopedAs scoped allScoped entriesScoped inScope carryCell carryOpt carryRange carryS carryFunction carryEntry carrySpecial carry counting any keep free held round rounds answer order calleesS calleesAt calls orderOf nameWord nothing function codeT isT at upd six tables recAt count mapAt targets target refOf refs each carryW through undefined addSpan spanBy firstWord undefinedAt moved shift alikeC alike seat merged once settle wentT made commit stepT importF levels importT unmapped emptied fresh lastOf known bring compareOf comparesOf eachE optE went carried step push join stand importE plain unique quiet goS settled mkS putName nameIf keepNames nameCells namedRows declarations declared walked rebuilt keptNames namedAfter derived final localized appended append followF follow entered entryMade enterAll entriesMade force withSpecial putRay rayTo ray rays keyed putPair pairTo pairs sourced namesIn keepN firsts indexN appearing renumber withNames namedBy gathered finished withEntries appendAll linkBy placesOf memosOf memosIn linkMaps
+unfolding lamp lit ways self _⟫_ eat mapO exact both mapL typeRows expressions levelRows queries values atomics results statements nameRow typeRow constantRow overrideRow globalRow expressionRow functionHead entryHead counted limit variants repeat text variant more following run optOf wordOf kindOf sizeB sizeC flatAll flatList flatX flatS flatBlock flat flatEntry rows listed operands stmts caseAt cases form checked shaped statement blockAt functionAt entryAt next records table specialAt countAt offsetAt endAt limits placed section tableAt _⊛_ read places flatTable flatSpecial sections pairsFrom bodies flatModule write sized caps bound below within rising rises every outside inside sound constantOnly numbered optional operand opsOf resultOf functionOf kind standingKind resultKind emittedKind constantKind ops kindAt standing localInits roots marked mark unmarked readBy close reachedMarks moving initials constantAt initialised lowerThan basesOf typesLower operandsLower functionsLower entriesLower initOf initsOf initsLower lower field present absent distinct same unlike differ expressionsNamed functionsNamed entriesNamed functionNames entryNames named upFrom inRange live expandS shapeS emitted isOf callResult effectResult kindsS evalsOpt evalsS has apart addE addOpt addF addS topB holdsS contB vis allVis optVis okE okS allOf seen scopedAs scoped allScoped entriesScoped inScope carryCell carryOpt carryRange carryS carryFunction carryEntry carrySpecial carry counting any keep free held round rounds answer order calleesS calleesAt calls orderOf nameWord nothing function codeT isT at upd six tables recAt count mapAt targets target refOf refs foldRefs carryW through undefined addSpan spanBy firstWord undefinedAt moved shift alikeC alike indexOf interned unlessMapped intern mappedToT made commit stepT importF levels importT unmapped emptied fresh lastOf known bring compareOf comparesOf eachE optE mappedTo carried step appendExpr internExpr appendStanding importE importBody importInitialiser importStanding importStmt carriedForm rebuildStmt putName nameIf keepNames nameCells namedRows declarations declared walked rebuilt keptNames namedAfter derived final localized appended append followF follow entered entryMade enterAll entriesMade force withSpecial putRay rayTo ray rays keyed putPair pairTo pairs sourced namesIn keepN firsts indexN appearing renumber withNames namedBy gathered finished withEntries appendAll linkBy placesOf memosOf memosIn linkMaps
 computed = record {
   lamp-taken = record { reads = refl; size = refl; numbers = refl; lowers = refl; names = refl; scope = refl };
   lamp-order = refl;
@@ -116,7 +117,7 @@ computed = record {
   self-calls = refl;
 }
 
--- ---- what the theorem asks holds of both
+-- ---- what the theorem requires holds of both
 taken-links : (m : Module) → Taken m → Linking (write m) (4 * length (write m)) m
 unfolding intakeOf verdict tested
 taken-links m t = record { passes = rw (intakeOf, t .size, t .reads, verdict, tested, t .numbers, t .lowers, t .names, t .scope); reads = t .reads; roomy = le-refl _ }
@@ -131,9 +132,9 @@ self-linking = taken-links self (computed .self-taken)
 pub lamp-demand : Demand3 (write lamp) (4 * length (write lamp)) lamp
 lamp-demand = demand3 (write lamp) (4 * length (write lamp)) lamp lamp-linking
 
-pub lamp-linked : link (4 * length (write lamp)) (write lamp) (4 * length (write lamp)) ≡ linked (write lit)
-unfolding link linkOf inOrder
-lamp-linked = rw (link, lamp-linking .passes, lamp-linking .reads, linkOf, le-ltb _ _ (lamp-linking .roomy), computed .lamp-order, inOrder, computed .lamp-links)
+pub lamp-linked : link (4 * length (write lamp)) (write lamp) (4 * length (write lamp)) ≡ done (write lit)
+unfolding link onWords afterIntake ofLaid linkModule inOrder
+lamp-linked = rw (link, onWords, lamp-linking .passes, afterIntake, lamp-linking .reads, ofLaid, linkModule, le-ltb _ _ (lamp-linking .roomy), computed .lamp-order, inOrder, computed .lamp-links)
 
 -- it agrees, in full, through the maps
 pub lamp-agrees : Agreement lamp lit ways
@@ -143,7 +144,7 @@ lamp-agrees = given (lamp-demand .output (write lit) lamp-linked)
     given a = let q : a .0 ≡ 1 ∷ 2 ∷ 0 ∷ [] = (let x = a .1 in let y = computed .lamp-order in cc) in rw (← computed .lamp-links, ← computed .lamp-ways) (rw q at (a .3 .agree))
 
 -- ---- AND OF ONE THAT CALLS ITSELF: nothing is linked
-pub self-refused : (vs : List ℕ) → link (4 * length (write self)) (write self) (4 * length (write self)) ≡ linked vs → ⊥
+pub self-refused : (vs : List ℕ) → link (4 * length (write self)) (write self) (4 * length (write self)) ≡ done vs → ⊥
 self-refused vs e = demand3 (write self) (4 * length (write self)) self self-linking .exactly .0 (vs, e) 0 (one (record { from = there; to = there; is = computed .self-calls }))
   where
     there : 0 < length (self .functions)

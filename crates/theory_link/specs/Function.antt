@@ -1,11 +1,12 @@
--- A FUNCTION IN OUTPUT ORDER: what the import of a body asks of callees (`Follows` of the crate theory_bodies) holds of those that it calls, since each of them is known. So what is derived is well formed, in range and no longer than its source.
+-- A FUNCTION IN OUTPUT ORDER: what the import of a body requires of callees (`Follows` of the crate theory_bodies) holds of those that it calls, since each of them is known. So what is derived is well formed, in range and no longer than its source.
 use mathlib.Core.Path.{_≡_, refl, _∙_}
 use mathlib.Core.List.{List, [], _∷_, _++_}
 use mathlib.Core.Option.{some}
-use Prim.Native.Nat.{ℕ, zero, suc, _<_}
+use Prim.Native.Nat.{ℕ, _<_}
 use native.Mathlib.Nat.{le-refl}
 use native.Mathlib.Omega.{arith}
-use lib.ListN.{length, getD, getElem?, length-append}
+use lib.ListN.{length, getElem?, length-append}
+use Rattle.theory_lists.specs.Lists.{looked-at}
 use Rattle.model.specs.Tree.{Function}
 use Rattle.model.specs.Module.{Module}
 use Rattle.model.specs.Carry.{Each, each-none, each-next, WellFormed}
@@ -14,11 +15,11 @@ use Rattle.model.specs.Calls.{Call, here, ordered}
 use Rattle.model.specs.Callees.{callees, calls, orderOf}
 use Rattle.model.specs.Redirect.{nothing, function as functionAt}
 use Rattle.model.specs.Tables.{names, tables}
-use Rattle.model.specs.Imports.{St, fresh}
+use Rattle.model.specs.Imports.{Derived, fresh}
 use Rattle.model.specs.Bodies.{known, final, localized, appended, append, follow}
 use Rattle.model.specs.Finish.{gathered}
-use Rattle.order_ranks.proofs.Lists.{in-right}
-use Rattle.order_callees.proofs.Numbered.{numbered-known}
+use Rattle.theory_order.specs.Lists.{in-right}
+use Rattle.theory_order.specs.Numbered.{numbered-known}
 use Rattle.theory_records.specs.Trace.{Keeps}
 use Rattle.theory_bodies.specs.Context.{grown-refl}
 use Rattle.theory_bodies.specs.Lists.{All}
@@ -33,29 +34,24 @@ use Rattle.theory_finish.specs.Output.{follows-keeping, source-follows, all-fol
 use Rattle.theory_finish.specs.Alone.{called}
 use Rattle.theory_finish.specs.Counting.{Made, type-functions}
 
-pub at-some : (fs : List Function) (i : ℕ) → i < length fs → getElem? fs i ≡ some (getD fs i nothing)
-at-some [] i h = absurd (omega arith)
-at-some (f ∷ fs) zero h = refl
-at-some (f ∷ fs) (suc i) h = at-some fs i (omega arith)
-
 pub all-of-each : {P : ℕ → Type 0} {js : List ℕ} → Each P js → All P js
 all-of-each each-none = tt
 all-of-each (each-next p ps) = (p, all-of-each ps)
 
 -- what stays as it was is no matter
-pub keeps-self : (s : St) → Keeps s s
+pub keeps-self : (s : Derived) → Keeps s s
 unfolding Keeps
 keeps-self s t n h = refl
 
 -- the state while callees are known, from a on
-pub record Going (m : Module) (a s : St) : Type 0 where
+pub record Going (m : Module) (a s : Derived) : Type 0 where
   pub good : Lawful.Good m s
   pub after : Known.Follows (tables m) a s
   pub same : s .functions ≡ a .functions
 
 module _ (m : Module) (well : WellFormed m) (ok : Passes m) where
   -- where all of Q are known whatever follows, following them does nothing
-  pub idle-follows : (a : St) (Q : ℕ → Type 0) → ((j : ℕ) (s : St) → Q j → Known.Follows (tables m) a s → 0 < known m s j) → Lawful.Follows 0 m (follow 0 m) Q (Going m a)
+  pub idle-follows : (a : Derived) (Q : ℕ → Type 0) → ((j : ℕ) (s : Derived) → Q j → Known.Follows (tables m) a s → 0 < known m s j) → Lawful.Follows 0 m (follow 0 m) Q (Going m a)
   idle-follows a Q knows = record {
     is-good = λ s g. g .good;
     imports = λ t n s h g. record {
@@ -71,7 +67,7 @@ module _ (m : Module) (well : WellFormed m) (ok : Passes m) where
     grown = λ j s q g. rw (stays j s q g) (grown-refl s);
   }
     where
-      stays : (j : ℕ) (s : St) → Q j → Going m a s → follow 0 m j s ≡ s
+      stays : (j : ℕ) (s : Derived) → Q j → Going m a s → follow 0 m j s ≡ s
       stays j s q g = follow-idle m well (ok .numbers) (ok .lowers) 0 s j (knows j s q (g .after))
 
   module _ (os : List ℕ) (e : orderOf m ≡ ordered os) where
@@ -80,7 +76,7 @@ module _ (m : Module) (well : WellFormed m) (ok : Passes m) where
 
     -- function i, when its turn comes
     module _ (xs ys : List ℕ) (i : ℕ) (q : os ≡ xs ++ (i ∷ ys)) where
-      abbrev a : St
+      abbrev a : Derived
       a = stateAt m xs
 
       abbrev F : Function
@@ -91,7 +87,7 @@ module _ (m : Module) (well : WellFormed m) (ok : Passes m) where
 
       pub at-i : getElem? (m .functions) i ≡ some F
       unfolding functionAt
-      at-i = at-some (m .functions) i l
+      at-i = looked-at (m .functions) i nothing l
 
       pub pass : Bodies.Passes m F
       pass = function-passes m well (ok .numbers) (ok .lowers) (ok .scope) i F at-i
@@ -100,7 +96,7 @@ module _ (m : Module) (well : WellFormed m) (ok : Passes m) where
       calls-all = all-of-each (called m (numbered-known m well (ok .numbers)) i l)
 
       -- what it calls is known, whatever follows
-      pub callee-known : (j : ℕ) (s : St) → Called i j → Known.Follows (tables m) a s → 0 < known m s j
+      pub callee-known : (j : ℕ) (s : Derived) → Called i j → Known.Follows (tables m) a s → 0 < known m s j
       callee-known j s c f = bears-kept m well (ok .numbers) (ok .lowers) 0 j f (callees-known m well (ok .numbers) (ok .lowers) (ok .names) os e fresh xs ys i j q c) .found
 
       pub follows : Lawful.Follows 0 m (follow 0 m) (Called i) (Going m a)

@@ -4,19 +4,21 @@ use mathlib.Core.List.{List, [], _∷_, _++_, append-nil}
 use mathlib.Core.Option.{some}
 use Prim.Native.Nat.{ℕ, pred}
 use lib.ListN.{getD, getElem?}
+use Rattle.theory_lists.specs.Lists.{looked-getD, looked-length}
 use Rattle.model.specs.Tree.{Function, Entry, flat, flatEntry}
 use Rattle.model.specs.Module.{Module}
 use Rattle.model.specs.Carry.{carryFunction, carryEntry, Each, WellFormed}
 use Rattle.model.specs.Intake.{Passes}
 use Rattle.model.specs.Calls.{ordered}
 use Rattle.model.specs.Callees.{callees, orderOf}
-use Rattle.model.specs.Redirect.{function as functionAt}
-use Rattle.model.specs.Imports.{St}
-use Rattle.model.specs.Bodies.{Making, final, localized, follow, entryMade}
+use Rattle.model.specs.Redirect.{nothing, function as functionAt}
+use Rattle.model.specs.Imports.{Derived}
+use Rattle.model.specs.Bodies.{Builder, final, localized, follow, entryMade}
 use Rattle.model.specs.Finish.{renumber, gathered}
 use Rattle.model.specs.Link.{linkBy}
 use Rattle.model.specs.LinkMaps.{linkMaps}
 use Rattle.model.specs.Agreement.{Mapping}
+use Rattle.theory_image.specs.Members.{looked-each}
 use Rattle.theory_walks.specs.WholeWords.{made}
 use Rattle.theory_bodies.specs.Lists.{all-map}
 use Rattle.theory_finish.specs.Fresh.{stateAt}
@@ -26,8 +28,7 @@ use Rattle.theory_link.specs.Exactly.{placed}
 use Rattle.theory_link.specs.Function.{Going, Called, pass, calls-all, callee-known, follows, start}
 use Rattle.theory_link.specs.Order.{good-at, functions-made, last, Any, known-at, any-follows, calls-any}
 use Rattle.theory_link.specs.Places.{Both, both-at, functions-both, known-place}
-use Rattle.theory_image.specs.FunctionViews.{looked-each}
-use Rattle.theory_link.specs.Walking.{at-in, at-is-in, end, end-going, keeps-end, memo-is, going, place-of, Turn, the-turn, body-going, entry-well, linked-function, linked-entry}
+use Rattle.theory_link.specs.Walking.{end, end-going, keeps-end, memo-is, going, place-of, Turn, the-turn, body-going, entry-well, linked-function, linked-entry}
 use Rattle.theory_link.specs.NameTexts.{ns, whole-seen}
 use Rattle.theory_link.specs.SameCells.{SameCells, Lasts, same-cells}
 
@@ -41,7 +42,7 @@ module _ (m : Module) (well : WellFormed m) (ok : Passes m) (os : List ℕ) (e :
   abbrev names′ : List ℕ
   names′ = ns m well ok os e
 
-  abbrev z : St
+  abbrev z : Derived
   z = last m well ok os e
 
   seen-at : (p : ℕ) (f : Function) → getElem? (end m well ok os e .functions) p ≡ some f → Each (Seen names′) (flat f)
@@ -51,13 +52,13 @@ module _ (m : Module) (well : WellFormed m) (ok : Passes m) (os : List ℕ) (e :
   -- ---- functions
   -- when its turn comes
   module _ (us vs : List ℕ) (i : ℕ) (q : os ≡ us ++ (i ∷ vs)) where
-    abbrev a : St
+    abbrev a : Derived
     a = stateAt m us
 
     abbrev F : Function
     F = functionAt m i
 
-    abbrev fin : Making
+    abbrev fin : Builder
     fin = final 0 m (follow 0 m) F a
 
     lasts : Lasts m well ok os e (Called m well ok os e i) (Going m a) (follows m well ok os e us vs i q) F (pass m well ok os e us vs i q) (calls-all m well ok os e us vs i q) a (start m well ok os e us vs i q (good-at m well ok os e us (i ∷ vs) q))
@@ -77,9 +78,9 @@ module _ (m : Module) (well : WellFormed m) (ok : Passes m) (os : List ℕ) (e :
   -- FUNCTIONS
   pub functions-same : (i : ℕ) (F F′ : Function) → getElem? (m .functions) i ≡ some F → getElem? (m′ .functions) (made μ .function i) ≡ some F′ → SameCells m m′ μ (getD (linkMaps os m .inFunctions) i []) F F′
   functions-same i F F′ q r =
-      let p = place-of m well ok os e i (at-in (m .functions) i F q) in
+      let p = place-of m well ok os e i (looked-length (m .functions) i q) in
       let b = both-at all-same (p .0) i (p .1) in
-      let f : functionAt m i ≡ F = (unfold functionAt in at-is-in (m .functions) i F q) in
+      let f : functionAt m i ≡ F = (unfold functionAt in looked-getD (m .functions) i nothing q) in
       let k : made μ .function i ≡ p .0 = (unfold made in ap pred (placed m os e (p .0) i (p .1))) in
       let g : getElem? (end m well ok os e .functions) (p .0) ≡ some (b .0) = rw (end-going m well ok os e .same) (b .1) in
       let h : getElem? (m′ .functions) (made μ .function i) ≡ some (carryFunction (renumber names′) (b .0)) = rw k (linked-function m well ok os e (p .0) (b .0) g) in
@@ -88,7 +89,7 @@ module _ (m : Module) (well : WellFormed m) (ok : Passes m) (os : List ℕ) (e :
 
   -- ---- entry points
   module _ (p : ℕ) (E : Entry) (t : Turn m well ok os e (m .entries) z p E) where
-    abbrev fin′ : Making
+    abbrev fin′ : Builder
     fin′ = final 0 m (follow 0 m) (E .function) (t .state)
 
     entry-lasts : Lasts m well ok os e (Any m well ok os e) (Going m z) (any-follows m well ok os e) (E .function) (t .sound .pass) (calls-any m well ok os e E (t .sound) (t .state) (t .going)) (t .state) (t .going)

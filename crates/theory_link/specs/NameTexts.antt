@@ -1,5 +1,5 @@
--- NAMES BY TEXT. A name that is mapped in the end has, in the linked module, the text that it has in the source: its derived record has the source's words, and to number names by first appearance keeps the text behind each that appears.
--- So a record of the gathered module that is, spans apart, its source's carried through maps that lead where link's maps say, agrees with it once it is finished (`carried-agrees`); for lists of records `rows-agree`, for the name of a named expression `name-agrees`.
+-- NAMES BY TEXT. A name that is mapped in the end has, in the linked module, the text that it has in the source: its derived record has the source's words, and to number names by first appearance keeps the text of each that appears.
+-- So a record of the gathered module that is, ignoring spans, its source's carried through maps that lead where link's maps say, agrees with it once it is finished (`carried-agrees`); for lists of records `rows-agree`, for the name of a named expression `name-agrees`.
 use mathlib.Core.Path.{_≡_, refl, sym, ap, _∙_}
 use mathlib.Core.Bool.{Bool, true, false, _&&_, not}
 use mathlib.Core.List.{List, [], _∷_, map}
@@ -8,6 +8,7 @@ use native.Mathlib.Omega.{arith}
 use lib.Dec.{eqb, ltb}
 use lib.ListN.{length, getD}
 use borrow.Author.Tests.{eqb-true, eqb-false, eq-eqb, ltb-false, not-true}
+use Rattle.theory_lists.specs.Booleans.{and-true, and-split}
 use Rattle.model.specs.Outcome.{Cells, class, word}
 use Rattle.model.specs.Table.{SPAN, NAME}
 use Rattle.model.specs.Module.{Module, flatModule}
@@ -18,24 +19,25 @@ use Rattle.model.specs.Names.{same}
 use Rattle.model.specs.Calls.{ordered}
 use Rattle.model.specs.Callees.{orderOf}
 use Rattle.model.specs.Tables.{names, codeT, isT, at, tables, recAt, count, mapAt}
-use Rattle.model.specs.References.{Place, table, own, function, Target, copied, start, upto, ref, opt, targets, target, Node, node, refOf, refs, carryW, through, alike, seat}
+use Rattle.model.specs.References.{Place, table, own, function, Target, copied, start, upto, ref, opt, targets, target, Node, node, refOf, refs, carryW, through, alike, indexOf}
 use Rattle.model.specs.Bodies.{entriesMade}
 use Rattle.model.specs.Finish.{namesIn, firsts, indexN, appearing, renumber, namedBy, gathered, finished}
 use Rattle.model.specs.Session.{withEntries}
 use Rattle.model.specs.Link.{linkBy}
 use Rattle.model.specs.LinkMaps.{linkMaps}
 use Rattle.model.specs.Agreement.{becomes, agreesW, agreesR, agreesL}
-use Rattle.theory_image.specs.Lists.{and-true, and-split}
+use Rattle.theory_image.specs.Same.{same-self}
+use Rattle.theory_image.specs.Members.{each-at}
 use Rattle.theory_records.specs.RecordLaws.{All, rest-of, Went, bareW, bare}
 use Rattle.theory_records.specs.Trace.{Sized}
 use Rattle.theory_finish.specs.Firsts.{either, firsts-all}
 use Rattle.theory_finish.specs.Numbering.{Cellwise}
 use Rattle.theory_finish.specs.Cellwise.{cellwise}
-use Rattle.theory_finish.specs.Finished.{Seen, all-seen, renumber-only, textOf, text-kept, each-at}
+use Rattle.theory_finish.specs.Finished.{Seen, all-seen, renumber-only, textOf, text-kept}
 use Rattle.theory_finish.specs.Known.{Copied, name-copied}
 use Rattle.theory_finish.specs.Fresh.{stateAt}
 use Rattle.theory_link.specs.Cells.{Becomes, word-agrees, bare-agrees}
-use Rattle.theory_link.specs.Places.{alike-words, seat-alike, same-self}
+use Rattle.theory_link.specs.Places.{alike-words, seat-alike}
 use Rattle.theory_link.specs.Walking.{end, end-going}
 
 -- ---- NAME is the one class that refers to names
@@ -95,7 +97,7 @@ unfolding appearing
 appearing-seen t = all-seen (flatModule t) (firsts (namesIn (flatModule t)) []) (λ n k. firsts-all (namesIn (flatModule t)) [] k)
 
 module _ (m : Module) (well : WellFormed m) (ok : Passes m) (os : List ℕ) (e : orderOf m ≡ ordered os) where
-  -- what is derived in the end, before its names are numbered anew
+  -- what is derived in the end, before its names are numbered again
   abbrev pub whole : Module
   whole = gathered (end m well ok os e) (entriesMade (m .entries) 0 m (stateAt m os))
 
@@ -120,7 +122,7 @@ module _ (m : Module) (well : WellFormed m) (ok : Passes m) (os : List ℕ) (e :
       let z : length (at names (end m well ok os e .maps)) ≡ count (tables m) names = (unfold Sized in f .sized names) in
       let l : n < count (tables m) names = rw (← z) (mapped-in (at names (end m well ok os e .maps)) n (unfold mapAt in h)) in
       let p = f .sound n h l in
-      rw (p .0) (words (seat (at names (end m well ok os e .recs)) (recAt (tables m) names n)) (copied-name n l) (seat-alike (at names (end m well ok os e .recs)) (recAt (tables m) names n) (p .1)))
+      rw (p .0) (words (indexOf (at names (end m well ok os e .recs)) (recAt (tables m) names n)) (copied-name n l) (seat-alike (at names (end m well ok os e .recs)) (recAt (tables m) names n) (p .1)))
     where
       copied-name : (n : ℕ) → n < count (tables m) names → Copied (getD (m .names) n [])
       copied-name n l = unfold count tables at in name-copied (each-at (well .names-ok .each) n [] l)
@@ -136,7 +138,7 @@ module _ (m : Module) (well : WellFormed m) (ok : Passes m) (os : List ℕ) (e :
       rw (linked-is, t, ← (let x : map word (getD (whole .names) k []) ≡ map word (getD (m .names) n []) = rw h at w in x)) (same-self _)
 
   -- ---- words
-  -- where a reference went in the end; q is the map of the record's own expressions
+  -- what a reference is mapped to in the end; q is the map of the record's own expressions
   unfoldable pub wentTo : List ℕ → Place → ℕ → ℕ
   wentTo q (table t) n = mapAt (end m well ok os e .maps) t n
   wentTo q own n = getD q n 0
@@ -162,7 +164,7 @@ module _ (m : Module) (well : WellFormed m) (ok : Passes m) (os : List ℕ) (e :
     led-one (opt p) zero rest h a = tt
     led-one (opt p) (suc n) rest h a = (led-becomes p n h (a .0), tt)
 
-    -- THE WORD OF A NAME, numbered anew
+    -- THE WORD OF A NAME, numbered again
     pub name-agrees : (v : ℕ) (rest : List Node) → All Leads (refOf (opt (table names)) v rest) → ((k : ℕ) → carryW w (opt (table names)) v ≡ suc k → Mem k ns)
         → agreesW m (linkBy os m) (linkMaps os m) q (opt (table names)) v (renumber ns NAME (carryW w (opt (table names)) v)) ≡ true
     unfolding refOf carryW renumber agreesW

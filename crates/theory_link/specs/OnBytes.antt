@@ -11,21 +11,21 @@ use lib.Dec.{eqb, leb, ltb}
 use lib.ListN.{length, getD, getElem?, take, drop}
 use lib.Seq.{sets, length-sets, take-append-seam, drop-append-seam}
 use borrow.Author.Tests.{eqb-true, lt-ltb, ltb-false}
+use Rattle.theory_lists.specs.Booleans.{and-split}
 use Rattle.base_words.specs.Words.{AllBelow, wordsOf, bytesOf}
 use Rattle.base_words.proofs.Laws.{length-wordsOf, length-bytesOf, words-of-bytes, words-below, sets-front}
-use Rattle.model.specs.Refusals.{SHORT-OUTPUT}
+use Rattle.model.specs.Refusals.{SHORT-OUTPUT, done, refused, ringed, answerBy}
 use Rattle.model.specs.Outcome.{Laid, laid, bad, strange}
 use Rattle.model.specs.Tree.{Function, Entry}
 use Rattle.model.specs.Module.{Module, read, write, sized}
-use Rattle.model.specs.Intake.{verdict, intakeOf}
+use Rattle.model.specs.Intake.{verdict, intakeOf, ofLaid, afterIntake, onWords}
 use Rattle.model.specs.Calls.{Call, Ring, Reaches, Count, In, Sorted, times, ordered, ring}
 use Rattle.model.specs.Callees.{calls, orderOf}
 use Rattle.model.specs.Agreement.{Agreement}
-use Rattle.model.specs.Link.{Linked, linked, refused, ringed, inOrder, linkOf, link, linkBy, outputAfter, linkImage, packed}
+use Rattle.model.specs.Link.{Linked, inOrder, linkModule, link, linkBy, outputAfter, linkImage, linkAnswer}
 use Rattle.model.specs.LinkMaps.{linkMaps}
-use Rattle.order_ranks.proofs.Theorems.{claims}
+use Rattle.theory_order.specs.Theorems.{claims}
 use Rattle.theory_walks.specs.WholeWords.{made}
-use Rattle.theory_image.specs.Lists.{and-split}
 use Rattle.theory_finish.specs.Fresh.{FreshLink}
 use Rattle.theory_finish.specs.Size.{intake-sized}
 use Rattle.theory_link.specs.Demand.{Linking, Walks, Output}
@@ -68,12 +68,12 @@ pub record Held (image output out : List ℕ) (m : Module) (os : List ℕ) (n : 
 -- linking the image that holds m, with this output
 pub record Demand3 (image output : List ℕ) (m : Module) : Type 0 where
   -- "Linking succeeds exactly if no chain of calls comes back to its start"
-  pub exactly : ((vs : List ℕ) × (linkImage image output .0 ≡ linked vs)) ↔ ((i : ℕ) → Ring (length (m .functions)) (calls m) i → ⊥)
+  pub exactly : ((vs : List ℕ) × (linkImage image output .0 ≡ done vs)) ↔ ((i : ℕ) → Ring (length (m .functions)) (calls m) i → ⊥)
   -- otherwise it is refused with 12 and the count of the functions from which a chain reaches a ring, and the output stays
   pub ring-told : (i : ℕ) → Ring (length (m .functions)) (calls m) i → (k : ℕ) × Count (length (m .functions)) (Reaches (length (m .functions)) (calls m)) k × (linkImage image output ≡ (ringed k, output))
   -- "Then the output holds .."; the answer is the count of its bytes
-  pub output-holds : (vs : List ℕ) → linkImage image output .0 ≡ linked vs
-      → (os : List ℕ) × (n : ℕ) × (m′ : Module) × (packed (linkImage image output .0) ≡ n * 4294967296) × Held image output (linkImage image output .1) m os n m′
+  pub output-holds : (vs : List ℕ) → linkImage image output .0 ≡ done vs
+      → (os : List ℕ) × (n : ℕ) × (m′ : Module) × (linkAnswer (linkImage image output .0) ≡ n * 4294967296) × Held image output (linkImage image output .1) m os n m′
 
 -- ---- THE PROOF
 -- an image that passes intake is its words
@@ -128,7 +128,7 @@ module _ (image output : List ℕ) (bytes : AllBelow 256 image) (passes : intake
         let r : linkImage image output .0 ≡ ringed (a .0) = answer ∙ link-is ws room m linking ∙ ap (λ x. inOrder x m) o in
         (a .0, claims (length (m .functions)) (calls m) .ring-counts (a .0) (a .1), after-is (ringed (a .0)) r)
 
-    module _ (os : List ℕ) (e : orderOf m ≡ ordered os) (o : Output ws room m os) (is : linkImage image output .0 ≡ linked (write (linkBy os m))) where
+    module _ (os : List ℕ) (e : orderOf m ≡ ordered os) (o : Output ws room m os) (is : linkImage image output .0 ≡ done (write (linkBy os m))) where
       abbrev vs : List ℕ
       vs = write (linkBy os m)
 
@@ -143,7 +143,7 @@ module _ (image output : List ℕ) (bytes : AllBelow 256 image) (passes : intake
 
       out-is : linkImage image output .1 ≡ bytesOf vs ++ drop n output
       unfolding outputAfter
-      out-is = ap (λ p. p .1) (after-is (linked vs) is) ∙ sets-front (bytesOf vs) output fits
+      out-is = ap (λ p. p .1) (after-is (done vs) is) ∙ sets-front (bytesOf vs) output fits
 
       front : take n (linkImage image output .1) ≡ bytesOf vs
       front = ap (take n) out-is ∙ take-append-seam (bytesOf vs) (drop n output)
@@ -159,7 +159,7 @@ module _ (image output : List ℕ) (bytes : AllBelow 256 image) (passes : intake
         session = subst (λ k. FreshLink k ws room m os) (sym long) (o .session);
         bytes = front;
         behind = ap (drop n) out-is ∙ drop-append-seam (bytesOf vs) (drop n output);
-        as-long = ap length (ap (λ p. p .1) (after-is (linked vs) is)) ∙ length-sets output 0 (bytesOf vs);
+        as-long = ap length (ap (λ p. p .1) (after-is (done vs) is)) ∙ length-sets output 0 (bytesOf vs);
         counted = sym (ap length front);
         shorter = omega (arith, four, long, o .shorter);
         intake = ap₂ intakeOf four again ∙ o .intake;
@@ -174,15 +174,15 @@ module _ (image output : List ℕ) (bytes : AllBelow 256 image) (passes : intake
         entries = o .entries;
       }
 
-      counts : packed (linkImage image output .0) ≡ n * 4294967296
-      unfolding packed
-      counts = ap packed is ∙ ap (_* 4294967296) (sym four)
+      counts : linkAnswer (linkImage image output .0) ≡ n * 4294967296
+      unfolding answerBy
+      counts = let a : linkAnswer (linkImage image output .0) ≡ linkAnswer (done (write (linkBy os m))) = ap linkAnswer is in omega (arith, four)
 
     of-module : Demand3 image output m
     of-module = record {
       exactly = ((λ a. on-words .exactly .0 (a .0, sym answer ∙ a .1)), λ f. let a = on-words .exactly .1 f in (a .0, answer ∙ a .1));
       ring-told = told;
-      output-holds = λ us e. let a = on-words .output us (sym answer ∙ e) in let is = e ∙ ap linked (a .2) in (a .0, length (bytesOf (write (linkBy (a .0) m))), linkBy (a .0) m, counts (a .0) (a .1) (a .3) is, all-held (a .0) (a .1) (a .3) is);
+      output-holds = λ us e. let a = on-words .output us (sym answer ∙ e) in let is = e ∙ ap done (a .2) in (a .0, length (bytesOf (write (linkBy (a .0) m))), linkBy (a .0) m, counts (a .0) (a .1) (a .3) is, all-held (a .0) (a .1) (a .3) is);
     }
 
   -- THE THEOREM: the image holds a module, and demand 3 holds of linking it
@@ -195,27 +195,27 @@ unfolding linkImage outputAfter
 refused-stays image output k e = ap (λ r. outputAfter r output) e
 
 pub not-taken : (image output : List ℕ) (k : ℕ) → intakeOf (length image) (wordsOf image) ≡ suc k → linkImage image output ≡ (refused (suc k), output)
-unfolding linkImage link outputAfter
-not-taken image output k e = rw (linkImage, link, e)
+unfolding linkImage link onWords afterIntake outputAfter
+not-taken image output k e = rw (linkImage, link, onWords, e, afterIntake)
 
 pub too-short : (image output : List ℕ) → intakeOf (length image) (wordsOf image) ≡ 0 → (m : Module) → read (wordsOf image) ≡ laid m → length output < length image → linkImage image output ≡ (refused SHORT-OUTPUT, output)
-unfolding linkImage link linkOf outputAfter
-too-short image output p m r l = rw (linkImage, link, p, r, linkOf, lt-ltb (length output) (length image) l)
+unfolding linkImage link onWords afterIntake ofLaid linkModule outputAfter
+too-short image output p m r l = rw (linkImage, link, onWords, p, afterIntake, r, ofLaid, linkModule, lt-ltb (length output) (length image) l)
 
 -- AND ONLY THERE is anything linked
-pub linked-only : (image output vs : List ℕ) → linkImage image output .0 ≡ linked vs → (intakeOf (length image) (wordsOf image) ≡ 0) × (length image ≤ length output)
-unfolding linkImage link linkOf
+pub linked-only : (image output vs : List ℕ) → linkImage image output .0 ≡ done vs → (intakeOf (length image) (wordsOf image) ≡ 0) × (length image ≤ length output)
+unfolding linkImage link onWords afterIntake ofLaid linkModule
 linked-only image output vs e = go (intakeOf (length image) (wordsOf image)) e
   where
-    roomy : (m : Module) (b : Bool) → ltb (length output) (length image) ≡ b → (let v : Linked = elim b [ true ↦ refused 7 | false ↦ inOrder (orderOf m) m ] in v) ≡ linked vs → length image ≤ length output
+    roomy : (m : Module) (b : Bool) → ltb (length output) (length image) ≡ b → (let v : Linked = elim b [ true ↦ refused 7 | false ↦ inOrder (orderOf m) m ] in v) ≡ done vs → length image ≤ length output
     roomy m true q e = let z : _≡_ {A = ℕ} 0 1 = cc in absurd (omega arith)
     roomy m false q e = ltb-false (length output) (length image) q
 
-    laid-out : (x : Laid Module) → linkOf x (length image) (length output) ≡ linked vs → length image ≤ length output
+    laid-out : (x : Laid Module) → ofLaid (linkModule (length image) (length output)) refused x ≡ done vs → length image ≤ length output
     laid-out (laid m) e = roomy m (ltb (length output) (length image)) refl e
     laid-out bad e = let z : _≡_ {A = ℕ} 0 1 = cc in absurd (omega arith)
     laid-out strange e = let z : _≡_ {A = ℕ} 0 1 = cc in absurd (omega arith)
 
-    go : (n : ℕ) → (let v : Linked = elim n [ zero ↦ linkOf (read (wordsOf image)) (length image) (length output) | suc n ↦ refused (suc n) ] in v) ≡ linked vs → (n ≡ 0) × (length image ≤ length output)
+    go : (n : ℕ) → afterIntake (linkModule (length image) (length output)) refused (wordsOf image) n ≡ done vs → (n ≡ 0) × (length image ≤ length output)
     go zero e = (refl, laid-out (read (wordsOf image)) e)
     go (suc n) e = let z : _≡_ {A = ℕ} 0 1 = cc in absurd (omega arith)

@@ -1,38 +1,38 @@
 -- IN OUTPUT ORDER: every state is one that imports may start from, so what is to be shown of each function (`Made`) holds. The same of entry points.
 use mathlib.Core.Path.{_≡_, refl, sym, ap, _∙_}
-use mathlib.Core.Bool.{Bool, true, _&&_}
+use mathlib.Core.Bool.{Bool, true}
 use mathlib.Core.List.{List, [], _∷_, _++_, append-assoc, append-nil}
 use mathlib.Core.Option.{some}
 use Prim.Native.Nat.{ℕ, zero, suc, _+_, _<_, _≤_}
-use native.Mathlib.Nat.{le-refl, le-trans, le-of-suc-le-suc}
+use native.Mathlib.Nat.{le-refl, le-trans}
 use native.Mathlib.Omega.{arith}
 use lib.ListN.{length, getElem?, length-append}
-use borrow.Author.Tests.{lt-ltb}
+use Rattle.theory_lists.specs.Booleans.{and-split}
 use Rattle.model.specs.Outcome.{Cells}
-use Rattle.model.specs.Table.{WORD, NAME, SPAN, UPTO, functionHead, entryHead, binding}
+use Rattle.model.specs.Table.{WORD, NAME}
 use Rattle.model.specs.Tree.{Function, Entry, flat, flatEntry}
 use Rattle.model.specs.Module.{Module}
-use Rattle.model.specs.Carry.{carryCell, Each, each-next, WellFunction, WellEntry, WellFormed}
-use Rattle.model.specs.Numbers.{Bounds, caps, bound, below as under, within, rising, ordered as rises, every, outside, inside, sound, soundFunction, soundEntry}
-use Rattle.model.specs.Initial.{initialised}
+use Rattle.model.specs.Carry.{carryCell, Each, each-next, WellEntry, WellFormed}
+use Rattle.model.specs.Numbers.{Bounds, caps, bound, below as under, within, rising, ordered as rises, every, outside, inside, sound, soundEntry}
 use Rattle.model.specs.Agreement.{Among, first, later}
 use Rattle.model.specs.Intake.{Passes}
 use Rattle.model.specs.Calls.{In, ordered}
 use Rattle.model.specs.Callees.{callees, calls, orderOf}
 use Rattle.model.specs.Redirect.{nameWord, function as functionAt}
-use Rattle.model.specs.Tables.{Tab, names, at, tables, count, mapAt}
+use Rattle.model.specs.Tables.{Tab, names, at, tables, count}
 use Rattle.model.specs.References.{function, target, targets, refs, through, carryW, shift, moved}
-use Rattle.model.specs.Imports.{St, importT, fresh}
+use Rattle.model.specs.Imports.{Derived, importT, fresh}
 use Rattle.model.specs.Special.{sourced}
-use Rattle.model.specs.Bodies.{known, Making, went, carried, final, localized, appended, append, follow, entered, entryMade}
+use Rattle.model.specs.Bodies.{known, Builder, mappedTo, carried, final, localized, appended, append, follow, entered, entryMade}
 use Rattle.model.specs.Finish.{gathered}
 use Rattle.model.specs.Link.{appendAll}
-use Rattle.order_callees.proofs.Cells.{cells-function}
-use Rattle.order_ranks.proofs.Theorems.{each-once}
-use Rattle.theory_image.specs.Lists.{and-true, and-split}
-use Rattle.theory_image.specs.Plain.{plain?}
-use Rattle.theory_image.specs.Quiet.{Plainly, plain-none, plain-next, plainly}
-use Rattle.theory_records.specs.Functions.{cells-in, within-append}
+use Rattle.theory_order.specs.Numbered.{cells-below}
+use Rattle.theory_bodies.specs.EntryHeads.{Head, headed, entry-head, nameTo, rising-word, sound-of, sound-parts}
+use Rattle.theory_bodies.specs.Names.{name-low}
+use Rattle.theory_order.specs.Cells.{cells-function}
+use Rattle.theory_order.specs.Theorems.{each-once, times-in}
+use Rattle.theory_image.specs.Within.{within-append}
+use Rattle.theory_records.specs.Functions.{cells-in}
 use Rattle.theory_records.specs.Theorems.{Inside}
 use Rattle.theory_bodies.specs.Context.{Grown, grown-refl, grown-trans}
 use Rattle.theory_bodies.specs.Lists.{All}
@@ -41,31 +41,14 @@ use Rattle.theory_bodies.specs.Layout.{lays-carried}
 use Rattle.theory_bodies.specs.Lawful as Lawful
 use Rattle.theory_bodies.specs.Source.{entry-passes, good-start}
 use Rattle.theory_bodies.specs.Theorems as Theorems
-use Rattle.theory_finish.specs.Cellwise.{each-first, function-cells}
-use Rattle.theory_finish.specs.Finished.{Low, within-low}
 use Rattle.theory_finish.specs.Fresh.{stateAt}
 use Rattle.theory_finish.specs.Known as Known
 use Rattle.theory_finish.specs.Sessions.{specials-in}
-use Rattle.theory_finish.specs.Output.{named-head, all-follow, source-follows, bears-kept, all-known}
+use Rattle.theory_finish.specs.Output.{all-follow, source-follows, bears-kept, all-known}
 use Rattle.theory_finish.specs.Specials.{state-typed}
 use Rattle.theory_finish.specs.Called.{low-funs, each-kept}
-use Rattle.theory_finish.specs.Alone.{in-times, within-callees}
 use Rattle.theory_finish.specs.Counting.{Made, EntryMade, EntriesMade, made-none, made-next, appendAll-snoc, none-functions}
 use Rattle.theory_link.specs.Function.{Going, idle-follows, all-of-each, ends, made-one}
-
--- the name of a function that is in range
-pub name-low : (b : Bounds) (f : Function) → WellFunction f → soundFunction b f ≡ true → nameWord f ≤ b .names
-unfolding sound inside
-name-low b f w h = go (named-head plain-head)
-  where
-    plain-head : Plainly (NAME ∷ SPAN ∷ UPTO ∷ []) (f .head)
-    plain-head = unfold functionHead plain? in plainly (w .head-ok) refl
-
-    cells : Each (Low (b .names)) (f .head)
-    cells = function-cells f (within-low (inside b f) (flat f) (and-split (within (inside b f) (flat f)) _ h .0)) .in-head
-
-    go : (v : ℕ) × (r : Cells) × (f .head ≡ (NAME, v) ∷ r) → nameWord f ≤ b .names
-    go a = let c : Each (Low (b .names)) ((NAME, a .0) ∷ a .1) = rw (a .2) at cells in unfold nameWord in rw (a .2) (le-of-suc-le-suc (each-first c refl))
 
 names-snoc : (b : ℕ) (fs : List Function) (f : Function) → Lawful.NamesTo b fs → nameWord f ≤ b → Lawful.NamesTo b (fs ++ (f ∷ []))
 names-snoc b [] f a h = (h, tt)
@@ -112,56 +95,25 @@ pub record Sound (m : Module) (E : Entry) : Type 0 where
   pub three : soundEntry (outside m) E ≡ true
   pub pass : Bodies.Passes m (E .function)
 
--- the head: a name and six words
-pub data Head : Cells → Type 0 where
-  headed : {v a b c d e f : ℕ} → Head ((NAME, v) ∷ (WORD, a) ∷ (WORD, b) ∷ (WORD, c) ∷ (WORD, d) ∷ (WORD, e) ∷ (WORD, f) ∷ [])
-
-head-of : {r : Cells} → Plainly (NAME ∷ binding []) r → Head r
-head-of (plain-next (plain-next (plain-next (plain-next (plain-next (plain-next (plain-next plain-none))))))) = headed
-
-pub entry-head : {E : Entry} → WellEntry E → Head (E .head)
-entry-head w = unfold entryHead plain? in head-of (plainly (w .head-ok) refl)
-
--- where a name went
-unfoldable pub nameTo : Making → ℕ → ℕ
-nameTo x zero = zero
-nameTo x (suc n) = mapAt (x .out .maps) names n
-
-rising-word : (f : ℕ) (ds : Cells) → rises ds ≡ true → (rising (WORD, f) ds && rises ds) ≡ true
-unfolding rising
-rising-word f [] o = o
-rising-word f (g ∷ ds) o = o
-
-pub head-carried : (m : Module) (x : Making) {r : Cells} → Head r → (v : ℕ) × (cs : Cells) × (r ≡ (NAME, v) ∷ cs) × (carried 0 m x r ≡ (NAME, nameTo x v) ∷ cs) × ((b : Bounds) (ds : Cells) → within b ds ≡ true → rises ds ≡ true → (within b (cs ++ ds) ≡ true) × (rises ((NAME, nameTo x v) ∷ (cs ++ ds)) ≡ true))
+pub head-carried : (m : Module) (x : Builder) {r : Cells} → Head r → (v : ℕ) × (cs : Cells) × (r ≡ (NAME, v) ∷ cs) × (carried 0 m x r ≡ (NAME, nameTo x v) ∷ cs) × ((b : Bounds) (ds : Cells) → within b ds ≡ true → rises ds ≡ true → (within b (cs ++ ds) ≡ true) × (rises ((NAME, nameTo x v) ∷ (cs ++ ds)) ≡ true))
 head-carried m x (headed {v} {a} {b} {c} {d} {e} {f}) =
     (v, (WORD, a) ∷ (WORD, b) ∷ (WORD, c) ∷ (WORD, d) ∷ (WORD, e) ∷ (WORD, f) ∷ [], refl, word-of v, λ y ds h o. (unfold within bound caps under in h, unfold rises rising in rising-word f ds o))
   where
     word-of : (v : ℕ) → carried 0 m x ((NAME, v) ∷ (WORD, a) ∷ (WORD, b) ∷ (WORD, c) ∷ (WORD, d) ∷ (WORD, e) ∷ (WORD, f) ∷ []) ≡ (NAME, nameTo x v) ∷ (WORD, a) ∷ (WORD, b) ∷ (WORD, c) ∷ (WORD, d) ∷ (WORD, e) ∷ (WORD, f) ∷ []
     word-of zero = unfold carried shift carryCell through carryW target targets moved nameTo in refl
-    word-of (suc n) = unfold carried shift carryCell through carryW target targets moved nameTo went in refl
-
-sound-of : (b : Bounds) (f : Function) (v : ℕ) (cs : Cells) → v ≤ b .names → within (inside b f) (cs ++ flat f) ≡ true → rises ((NAME, v) ∷ (cs ++ flat f)) ≡ true → initialised f ≡ true → sound b f (((NAME, v) ∷ cs) ++ flat f) ≡ true
-unfolding sound within
-sound-of b f v cs l h r i = and-true (and-true name h) (and-true r i)
-  where
-    name : under (bound (inside b f) NAME) v ≡ true
-    name = unfold bound caps under inside in lt-ltb v (suc (b .names)) (omega arith)
-
-sound-parts : (b : Bounds) (f : Function) → soundFunction b f ≡ true → (within (inside b f) (flat f) ≡ true) × (rises (flat f) ≡ true) × (initialised f ≡ true)
-unfolding sound
-sound-parts b f h = let a = and-split (within (inside b f) (flat f)) _ h in let c = and-split (rises (flat f)) (initialised f) (a .1) in (a .0, c .0, c .1)
+    word-of (suc n) = unfold carried shift carryCell through carryW target targets moved nameTo mappedTo in refl
 
 module _ (m : Module) (well : WellFormed m) (ok : Passes m) (os : List ℕ) (e : orderOf m ≡ ordered os) where
-  abbrev pub last : St
+  abbrev pub last : Derived
   last = stateAt m os
 
   abbrev pub Any : ℕ → Type 0
   Any j = j < length (m .functions)
 
   -- in the end every function is known
-  pub known-at : (j : ℕ) (s : St) → Any j → Known.Follows (tables m) last s → 0 < known m s j
+  pub known-at : (j : ℕ) (s : Derived) → Any j → Known.Follows (tables m) last s → 0 < known m s j
   known-at j s h f =
-      let g : In j os = in-times m well (ok .numbers) (ok .lowers) (ok .names) os e os j (omega (arith, each-once (length (m .functions)) (calls m) os (unfold orderOf in e) j h)) in
+      let g : In j os = times-in os j (omega (arith, each-once (length (m .functions)) (calls m) os (unfold orderOf in e) j h)) in
       bears-kept m well (ok .numbers) (ok .lowers) 0 j f (all-known m well (ok .numbers) (ok .lowers) (ok .names) os e fresh j g) .found
 
   pub any-follows : Lawful.Follows 0 m (follow 0 m) Any (Going m last)
@@ -170,7 +122,7 @@ module _ (m : Module) (well : WellFormed m) (ok : Passes m) (os : List ℕ) (e :
   pub at-end : Going m last last
   at-end = record { good = good-at m well ok os e os [] (rw (append-nil os)); after = Known.follows-refl (all-follow m well (ok .numbers) (ok .lowers) 0 _ os _ (source-follows m well (ok .numbers) (ok .lowers) (ok .names) os e fresh)); same = refl }
 
-  module _ (E : Entry) (p : Sound m E) (s : St) (g : Going m last s) where
+  module _ (E : Entry) (p : Sound m E) (s : Derived) (g : Going m last s) where
     abbrev F : Function
     F = E .function
 
@@ -181,30 +133,30 @@ module _ (m : Module) (well : WellFormed m) (ok : Passes m) (os : List ℕ) (e :
     both = unfold sound flatEntry in within-append b (E .head) (flat F) (and-split (within b (E .head ++ flat F)) _ (p .three) .0)
 
     pub calls-any : All Any (callees F)
-    calls-any = all-of-each (low-callees (rw (cells-function (p .laid .function-ok)) at (within-callees m well (ok .numbers) (ok .lowers) (ok .names) os e b (flat F) (both .1))))
+    calls-any = all-of-each (low-callees (rw (cells-function (p .laid .function-ok)) at (cells-below b (flat F) (both .1))))
       where
         low-callees : Each (λ j. j < b .functions) (callees F) → Each Any (callees F)
         low-callees a = unfold inside outside in a
 
-    abbrev out : St
+    abbrev out : Derived
     out = final 0 m (follow 0 m) F s .out
 
     body-going : Going m last out
     body-going = Theorems.out-good m well (ok .numbers) (ok .lowers) 0 (follow 0 m) Any (Going m last) any-follows F (p .pass) calls-any s g
 
-    abbrev ent : Making
+    abbrev ent : Builder
     ent = entered 0 m E s
 
     on : Going m last (ent .out) × Grown out (ent .out)
     on = unfold entered in each-kept m 0 K ik (follow 0 m) Any fk (λ x y. y) (λ x y k. k) (refs (E .head)) (cells-in m F (E .head) (both .0)) (unfold inside outside in low-funs b (E .head) (both .0)) (final 0 m (follow 0 m) F s) (body-going, grown-refl out)
       where
-        K : St → Type 0
+        K : Derived → Type 0
         K r = Going m last r × Grown out r
 
-        ik : (t : Tab) (n : ℕ) (r : St) → n < count (tables m) t → K r → K (importT 0 (tables m) t n r)
+        ik : (t : Tab) (n : ℕ) (r : Derived) → n < count (tables m) t → K r → K (importT 0 (tables m) t n r)
         ik t n r h k = (any-follows .imports t n r h (k .0), grown-trans (k .1) (Lawful.import-grown m well (ok .numbers) (ok .lowers) 0 t n r h (k .0 .good)))
 
-        fk : (j : ℕ) (r : St) → Any j → K r → K (follow 0 m j r)
+        fk : (j : ℕ) (r : Derived) → Any j → K r → K (follow 0 m j r)
         fk j r h k = (any-follows .good j r h (k .0), grown-trans (k .1) (any-follows .grown j r h (k .0)))
 
     pub entry-going : Going m last (ent .out)
@@ -254,7 +206,7 @@ module _ (m : Module) (well : WellFormed m) (ok : Passes m) (os : List ℕ) (e :
     entry-made = record { alone = entry-going .same ∙ sym (g .same); well = unfold entryMade in record { head-ok = lays-carried 0 m ent (p .laid .head-ok); function-ok = again .well }; short = short-at; sound = sound-at }
 
   -- all of them
-  pub entries-made : (es : List Entry) → ((E : Entry) → Among E es → Sound m E) → (s : St) → Going m last s → EntriesMade m es s
+  pub entries-made : (es : List Entry) → ((E : Entry) → Among E es → Sound m E) → (s : Derived) → Going m last s → EntriesMade m es s
   entries-made [] h s g = made-none
   entries-made (E ∷ es) h s g = made-next (entry-made E (h E first) s g) (entries-made es (λ D k. h D (later k)) (entered 0 m E s .out) (entry-going E (h E first) s g))
 

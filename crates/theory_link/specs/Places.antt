@@ -1,4 +1,4 @@
--- PLACES: the derived functions stand in output order, each bears the name of its source and no other does; so the function that `known` finds is the one at its place.
+-- PLACES: the derived functions are in output order, each has the name of its source and no other does; so the function that `known` finds is the one at its place.
 use mathlib.Core.Path.{_≡_, refl, sym, ap, _∙_}
 use mathlib.Core.Bool.{Bool, true, false, _||_, not, false≢true}
 use mathlib.Core.Logic.{_⊎_, inl, inr}
@@ -10,6 +10,7 @@ use native.Mathlib.Decide.{ℕ-discrete}
 use lib.Dec.{eqb}
 use lib.ListN.{length, getD, getElem?, length-map, List·getD-map}
 use borrow.Author.Tests.{eqb-true, eq-eqb, ne-eqb, not-true}
+use Rattle.theory_lists.specs.Booleans.{and-split}
 use Rattle.model.specs.Outcome.{Cells, class, word}
 use Rattle.model.specs.Table.{SPAN, UPTO, NAME}
 use Rattle.model.specs.Tree.{Function}
@@ -17,21 +18,21 @@ use Rattle.model.specs.Module.{Module}
 use Rattle.model.specs.Carry.{each-next, WellFormed}
 use Rattle.model.specs.Intake.{Passes}
 use Rattle.model.specs.Initial.{Mem, here, there}
-use Rattle.theory_image.specs.Members.{no-mem, mem-left}
+use Rattle.theory_image.specs.Members.{no-mem, mem-left, each-at}
+use Rattle.theory_image.specs.Same.{same-self}
 use Rattle.model.specs.Names.{field, absent, distinct, same, differ, functionNames, named, present, entryNames, functionsNamed, entriesNamed}
 use Rattle.model.specs.Calls.{here as here-in, ordered}
 use Rattle.model.specs.Callees.{orderOf}
 use Rattle.model.specs.Redirect.{nothing, nameWord, function as functionAt}
 use Rattle.model.specs.Tables.{names, at, tables, recAt}
-use Rattle.model.specs.References.{copied, target, targets, alikeC, alike, seat}
-use Rattle.model.specs.Imports.{St, fresh}
+use Rattle.model.specs.References.{copied, target, targets, alikeC, alike, indexOf}
+use Rattle.model.specs.Imports.{Derived, fresh}
 use Rattle.model.specs.Special.{sourced}
 use Rattle.model.specs.Bodies.{lastOf, known, final, localized, appended, append, follow}
 use Rattle.model.specs.Link.{appendAll}
-use Rattle.theory_image.specs.Lists.{and-split}
-use Rattle.order_ranks.proofs.Lists.{in-right}
+use Rattle.theory_order.specs.Lists.{in-right}
 use Rattle.theory_finish.specs.Firsts.{Once, once-none, once-next}
-use Rattle.theory_finish.specs.Finished.{differ-at, names-differ, each-at}
+use Rattle.theory_finish.specs.Finished.{differ-at, names-differ}
 use Rattle.theory_finish.specs.Fresh.{stateAt}
 use Rattle.theory_finish.specs.Ringless.{low}
 use Rattle.theory_finish.specs.Known.{nameTable, Copied, name-copied}
@@ -58,12 +59,12 @@ pub both-length : {R : ℕ → Function → Type 0} {is : List ℕ} {fs : List F
 both-length both-none = refl
 both-length (both-next r b) = ap suc (both-length b)
 
-pub all-append : (xs zs : List ℕ) (o : ℕ) (m : Module) (s : St) → appendAll (xs ++ zs) o m s ≡ appendAll zs o m (appendAll xs o m s)
+pub all-append : (xs zs : List ℕ) (o : ℕ) (m : Module) (s : Derived) → appendAll (xs ++ zs) o m s ≡ appendAll zs o m (appendAll xs o m s)
 unfolding appendAll
 all-append [] zs o m s = refl
 all-append (x ∷ xs) zs o m s = all-append xs zs o m (append o m (follow o m) x s)
 
-append-functions : (m : Module) (i : ℕ) (s : St) → final 0 m (follow 0 m) (functionAt m i) s .out .functions ≡ s .functions → append 0 m (follow 0 m) i s .functions ≡ s .functions ++ (localized 0 m (follow 0 m) (functionAt m i) s ∷ [])
+append-functions : (m : Module) (i : ℕ) (s : Derived) → final 0 m (follow 0 m) (functionAt m i) s .out .functions ≡ s .functions → append 0 m (follow 0 m) i s .functions ≡ s .functions ++ (localized 0 m (follow 0 m) (functionAt m i) s ∷ [])
 unfolding append appended
 append-functions m i s e = ap (_++ (localized 0 m (follow 0 m) (functionAt m i) s ∷ [])) e
 
@@ -90,19 +91,14 @@ alike-words (b ∷ ds) (c ∷ cs) (each-next k ks) h = go (eqb (class b) (class 
     go true false false false e f u v h ih = absurd (false≢true h)
     go false q x y e f u v h ih = absurd (false≢true h)
 
-pub seat-alike : (ds : List Cells) (r : Cells) → seat ds r < length ds → alike (getD ds (seat ds r) []) r ≡ true
-unfolding seat
+pub seat-alike : (ds : List Cells) (r : Cells) → indexOf ds r < length ds → alike (getD ds (indexOf ds r) []) r ≡ true
+unfolding indexOf
 seat-alike [] r h = absurd (omega arith)
 seat-alike (d ∷ ds) r h = go (alike d r) refl h (seat-alike ds r)
   where
-    go : (b : Bool) → alike d r ≡ b → (let n : ℕ = elim b [ true ↦ 0 | false ↦ suc (seat ds r) ] in n) < suc (length ds) → (seat ds r < length ds → alike (getD ds (seat ds r) []) r ≡ true) → alike (getD (d ∷ ds) (elim b [ true ↦ 0 | false ↦ suc (seat ds r) ]) []) r ≡ true
+    go : (b : Bool) → alike d r ≡ b → (let n : ℕ = elim b [ true ↦ 0 | false ↦ suc (indexOf ds r) ] in n) < suc (length ds) → (indexOf ds r < length ds → alike (getD ds (indexOf ds r) []) r ≡ true) → alike (getD (d ∷ ds) (elim b [ true ↦ 0 | false ↦ suc (indexOf ds r) ]) []) r ≡ true
     go true e h ih = e
     go false e h ih = ih (omega arith)
-
-pub same-self : (l : List ℕ) → same l l ≡ true
-unfolding same
-same-self [] = refl
-same-self (x ∷ l) = rw (eq-eqb x x refl) (same-self l)
 
 absent-not : (l : List ℕ) (x j : ℕ) → absent l x ≡ true → j < length l → x ≡ getD l j 0 → ⊥
 unfolding absent
@@ -147,7 +143,7 @@ module _ (m : Module) (well : WellFormed m) (ok : Passes m) where
   head-name i l = let h = headed m well (ok .numbers) (ok .names) i l in (h, rw (h .is) (unfold field in refl), unfold nameWord in rw (h .is) refl)
 
   -- ONE NAME, one function
-  pub name-once : (tbl : List Cells) (i j : ℕ) → i < length (m .functions) → j < length (m .functions) → seat tbl (nameOf i) ≡ seat tbl (nameOf j) → seat tbl (nameOf i) < length tbl → i ≡ j
+  pub name-once : (tbl : List Cells) (i j : ℕ) → i < length (m .functions) → j < length (m .functions) → indexOf tbl (nameOf i) ≡ indexOf tbl (nameOf j) → indexOf tbl (nameOf i) < length tbl → i ≡ j
   name-once tbl i j a b e l =
       let p = head-name i a in
       let q = head-name j b in
@@ -158,7 +154,7 @@ module _ (m : Module) (well : WellFormed m) (ok : Passes m) where
       distinct-at (functionNames (m .functions)) i j names-distinct (rw (names-length (m .functions)) a) (rw (names-length (m .functions)) b)
       (names-at (m .functions) i a ∙ (pi ∙ (ap suc k ∙ sym (names-at (m .functions) j b ∙ qj))))
     where
-      words : (i : ℕ) → seat tbl (nameOf i) < length tbl → (h : Headed m i) → nameWord (functionAt m i) ≡ suc (h .name) → map word (getD tbl (seat tbl (nameOf i)) []) ≡ map word (getD (m .names) (h .name) [])
+      words : (i : ℕ) → indexOf tbl (nameOf i) < length tbl → (h : Headed m i) → nameWord (functionAt m i) ≡ suc (h .name) → map word (getD tbl (indexOf tbl (nameOf i)) []) ≡ map word (getD (m .names) (h .name) [])
       words i l h z = alike-words _ _ (rw z (unfold recAt tables at in name-copied (each-at (well .names-ok .each) (h .name) [] (h .in-range)))) (seat-alike tbl (nameOf i) l) ∙ rw z (unfold recAt tables at in refl)
 
       apart : (x y : ℕ) → x < length (m .names) → y < length (m .names) → (x ≡ y → ⊥) → same (map word (getD (m .names) x [])) (map word (getD (m .names) y [])) ≡ false
@@ -181,15 +177,15 @@ module _ (m : Module) (well : WellFormed m) (ok : Passes m) where
         go [] us p b = let r : xs ≡ us = p ∙ append-nil us in rw r b
         go (z ∷ zs) us p b = go zs (us ++ (z ∷ [])) (p ∙ sym (append-assoc us (z ∷ []) zs)) (rw (more us zs z p) (both-snoc b (h us zs z p)))
 
-    -- function i bears its name in whatever state follows its import
-    abbrev pub Bearing : St → ℕ → Function → Type 0
-    Bearing r i f = (i < length (m .functions)) × (nameWord f ≡ suc (seat (nameTable r) (nameOf i))) × (seat (nameTable r) (nameOf i) < length (nameTable r))
+    -- function i has its name in whatever state follows its import
+    abbrev pub Bearing : Derived → ℕ → Function → Type 0
+    Bearing r i f = (i < length (m .functions)) × (nameWord f ≡ suc (indexOf (nameTable r) (nameOf i))) × (indexOf (nameTable r) (nameOf i) < length (nameTable r))
 
     module _ (us vs : List ℕ) (i : ℕ) (q : os ≡ us ++ (i ∷ vs)) where
-      abbrev a : St
+      abbrev a : Derived
       a = stateAt m us
 
-      abbrev out : St
+      abbrev out : Derived
       out = final 0 m (follow 0 m) (functionAt m i) a .out
 
       l : i < length (m .functions)
@@ -205,17 +201,17 @@ module _ (m : Module) (well : WellFormed m) (ok : Passes m) where
       pub goes-on : (zs : List ℕ) → Known.Follows (tables m) out (stateAt m (us ++ (i ∷ zs)))
       goes-on zs = rw (all-append us (i ∷ zs) 0 m (sourced 0 m fresh)) (unfold appendAll in all-follow m well (ok .numbers) (ok .lowers) 0 out zs _ (unfold append in follows-keeping m well (ok .numbers) (ok .lowers) 0 out .appends (localized 0 m (follow 0 m) (functionAt m i) a) out (imported-follows m well (ok .numbers) (ok .lowers) 0 i a h self)))
 
-      pub bearing : (r : St) → Known.Follows (tables m) out r → Bearing r i (localized 0 m (follow 0 m) (functionAt m i) a)
+      pub bearing : (r : Derived) → Known.Follows (tables m) out r → Bearing r i (localized 0 m (follow 0 m) (functionAt m i) a)
       bearing r f =
           let n = imported-name m well (ok .numbers) (ok .lowers) 0 i a h self in
           let k = f .seats (nameOf i) (n .1) in
           (l, n .0 ∙ ap suc (sym (k .0)), rw (k .0) (k .1))
 
     -- at the state xs, and at any that follows it
-    pub all-bearing : (xs ys : List ℕ) → os ≡ xs ++ ys → (r : St) → Known.Follows (tables m) (stateAt m xs) r → Both (Bearing r) xs (stateAt m xs .functions)
+    pub all-bearing : (xs ys : List ℕ) → os ≡ xs ++ ys → (r : Derived) → Known.Follows (tables m) (stateAt m xs) r → Both (Bearing r) xs (stateAt m xs .functions)
     all-bearing xs ys q r f = functions-both (Bearing r) xs ys q (λ us vs i p. bearing us (vs ++ ys) i (q ∙ (ap (_++ ys) p ∙ append-assoc us (i ∷ vs) ys)) r (Known.follows-trans (ap-follows p (goes-on us (vs ++ ys) i (q ∙ (ap (_++ ys) p ∙ append-assoc us (i ∷ vs) ys)) vs)) f))
       where
-        ap-follows : {a : St} {zs : List ℕ} → xs ≡ zs → Known.Follows (tables m) a (stateAt m zs) → Known.Follows (tables m) a (stateAt m xs)
+        ap-follows : {a : Derived} {zs : List ℕ} → xs ≡ zs → Known.Follows (tables m) a (stateAt m zs) → Known.Follows (tables m) a (stateAt m xs)
         ap-follows p f = rw p f
 
     -- ---- KNOWN is the place
@@ -227,13 +223,13 @@ module _ (m : Module) (well : WellFormed m) (ok : Passes m) where
     Found : List ℕ → ℕ → ℕ → ℕ → ℕ → Type 0
     Found xs j k v u = ((u ≡ v) × (Mem j xs → ⊥)) ⊎ ((p : ℕ) × (getElem? xs p ≡ some j) × (u ≡ suc (k + p)))
 
-    found : (r : St) (j : ℕ) → j < length (m .functions) → {xs : List ℕ} {fs : List Function} → Both (Bearing r) xs fs → Once xs → (k v : ℕ) → Found xs j k v (lastOf fs k v (suc (seat (nameTable r) (nameOf j))))
+    found : (r : Derived) (j : ℕ) → j < length (m .functions) → {xs : List ℕ} {fs : List Function} → Both (Bearing r) xs fs → Once xs → (k v : ℕ) → Found xs j k v (lastOf fs k v (suc (indexOf (nameTable r) (nameOf j))))
     unfolding lastOf Found
     found r j l both-none o k v = inl (refl, λ n. no-mem n)
     found r j l (both-next {i = x} {f} {is} {fs} b bs) (once-next h o) k v = go (ℕ-discrete x j) (found r j l bs o (suc k) (suc k)) (found r j l bs o (suc k) v)
       where
         w : ℕ
-        w = suc (seat (nameTable r) (nameOf j))
+        w = suc (indexOf (nameTable r) (nameOf j))
 
         not-in : {y : ℕ} → (y ≡ j → ⊥) → (Mem j is → ⊥) → Mem j (y ∷ is) → ⊥
         not-in d n here = d refl
@@ -261,10 +257,10 @@ module _ (m : Module) (well : WellFormed m) (ok : Passes m) where
     prefix-at (x ∷ xs) ys (suc p) j h = prefix-at xs ys p j h
 
     -- where a function is known, it is known at its place in output order
-    pub known-place : (xs ys : List ℕ) → os ≡ xs ++ ys → (r : St) → Known.Follows (tables m) (stateAt m xs) r → r .functions ≡ stateAt m xs .functions → (j : ℕ) → j < length (m .functions) → 0 < known m r j → (p : ℕ) × (getElem? os p ≡ some j) × (known m r j ≡ suc p)
+    pub known-place : (xs ys : List ℕ) → os ≡ xs ++ ys → (r : Derived) → Known.Follows (tables m) (stateAt m xs) r → r .functions ≡ stateAt m xs .functions → (j : ℕ) → j < length (m .functions) → 0 < known m r j → (p : ℕ) × (getElem? os p ≡ some j) × (known m r j ≡ suc p)
     unfolding known Found
     known-place xs ys q r f same j l h = go (found r j l (all-bearing xs ys q r f) (prefix-once xs ys (rw q at (order-once m os e))) 0 0)
       where
-        go : Found xs j 0 0 (lastOf (stateAt m xs .functions) 0 0 (suc (seat (nameTable r) (nameOf j)))) → (p : ℕ) × (getElem? os p ≡ some j) × (known m r j ≡ suc p)
+        go : Found xs j 0 0 (lastOf (stateAt m xs .functions) 0 0 (suc (indexOf (nameTable r) (nameOf j)))) → (p : ℕ) × (getElem? os p ≡ some j) × (known m r j ≡ suc p)
         go (inl a) = absurd (let z : 0 < 0 = rw (same, a .0) at h in omega arith)
         go (inr a) = (a .0, rw q (prefix-at xs ys (a .0) j (a .1)), rw (same, a .2) (omega arith))

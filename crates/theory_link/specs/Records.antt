@@ -1,4 +1,4 @@
--- RECORDS OF TABLES AND SPECIAL TYPES of the linked module agree with the source's. Functions and entry points import records of tables and add functions, nothing else; so in the end every record that is mapped is its source's carried, spans apart, and the special types are those that were put when the source was set.
+-- RECORDS OF TABLES AND SPECIAL TYPES of the linked module agree with the source's. Functions and entry points import records of tables and add functions, nothing else; so in the end every record that is mapped is its source's carried, ignoring spans, and the special types are those that were put when the source was set.
 use mathlib.Core.Path.{_≡_, refl, sym, ap, _∙_}
 use mathlib.Core.Bool.{true, false, false≢true}
 use mathlib.Core.List.{List, [], map}
@@ -6,6 +6,7 @@ use Prim.Native.Nat.{ℕ, suc, _<_}
 use native.Mathlib.Omega.{arith}
 use lib.ListN.{length, getD, length-map, List·getD-map}
 use borrow.Author.Tests.{lt-ltb}
+use Rattle.theory_lists.specs.Booleans.{and-true}
 use Rattle.model.specs.Outcome.{Cells}
 use Rattle.model.specs.Module.{Special, Module}
 use Rattle.model.specs.Carry.{carryCells, carrySpecial, carry, Each, each-next, WellFormed}
@@ -14,7 +15,7 @@ use Rattle.model.specs.Calls.{ordered}
 use Rattle.model.specs.Callees.{orderOf}
 use Rattle.model.specs.Tables.{Tab, names, types, constants, overrides, globals, exprs, codeT, isT, at, tables, recAt, count, mapAt}
 use Rattle.model.specs.References.{Place, table, own, function, Node, refs, through}
-use Rattle.model.specs.Imports.{St, wentT, fresh}
+use Rattle.model.specs.Imports.{Derived, mappedToT, fresh}
 use Rattle.model.specs.Special.{sourced}
 use Rattle.model.specs.Bodies.{appended}
 use Rattle.model.specs.Finish.{renumber, withNames, namedBy, gathered, finished}
@@ -22,11 +23,11 @@ use Rattle.model.specs.Session.{withEntries}
 use Rattle.model.specs.Link.{linkBy}
 use Rattle.model.specs.LinkMaps.{linkMaps}
 use Rattle.model.specs.Agreement.{agreesR, agreesL, stands}
-use Rattle.theory_image.specs.Lists.{and-true}
+use Rattle.theory_image.specs.Members.{each-at}
 use Rattle.theory_records.specs.RecordLaws.{All, all-map, Has, bare}
 use Rattle.theory_records.specs.Theorems.{Inside, Entry, Sound, Inv}
 use Rattle.theory_finish.specs.Sessions.{Keeping, functions-kept, entries-kept}
-use Rattle.theory_finish.specs.Finished.{Seen, each-at}
+use Rattle.theory_finish.specs.Finished.{Seen}
 use Rattle.theory_link.specs.Walking.{end}
 use Rattle.theory_link.specs.NameTexts.{ns, whole-seen, wentTo, Leads, carried-agrees}
 use Rattle.theory_link.specs.Setting.{Carried, Rows, rows-none, rows-next, carried-as, rows-as, carried-stays, rows-stay, Goes, goes-trans, still-goes, import-goes, sets}
@@ -34,18 +35,18 @@ use Rattle.theory_link.specs.Setting.{Carried, Rows, rows-none, rows-nex
 module _ (m : Module) (well : WellFormed m) (ok : Passes m) where
   -- ---- along the session
   -- from a on: what holds of imports, what was mapped is mapped as it was, and the special types are the same
-  pub record Since (a s : St) : Type 0 where
+  pub record Since (a s : Derived) : Type 0 where
     pub goes : Goes (tables m) a s
     pub special : s .special ≡ a .special
 
-  since-keeping : (a : St) → Keeping m 0 (Since a)
+  since-keeping : (a : Derived) → Keeping m 0 (Since a)
   since-keeping a = record {
     imports = λ t n s l k. let w = import-goes m well ok t n s l (k .goes .inv) in record { goes = goes-trans (k .goes) (w .0); special = w .1 ∙ k .special };
     appends = λ f s k. unfold appended in record { goes = goes-trans (k .goes) (still-goes (tables m) s _ refl refl (k .goes .inv)); special = k .special };
   }
 
   module _ (os : List ℕ) (e : orderOf m ≡ ordered os) where
-    abbrev z : St
+    abbrev z : Derived
     z = end m well ok os e
 
     -- the maps of global expressions are those of their own ones
@@ -59,16 +60,16 @@ module _ (m : Module) (well : WellFormed m) (ok : Passes m) where
     end-inv = end-since .goes .inv
 
     -- what a record of a table refers to leads where link's maps say
-    led : (j : Node) → Has (wentT z) j → Leads m well ok os e global (wentT z) j
-    unfolding wentTo wentT linkMaps mapAt at
+    led : (j : Node) → Has (mappedToT z) j → Leads m well ok os e global (mappedToT z) j
+    unfolding wentTo mappedToT linkMaps mapAt at
     led j h = (h, to (j .place) (j .num) h)
       where
-        to : (p : Place) (n : ℕ) → 0 < wentT z p n → wentTo m well ok os e global p n ≡ wentT z p n
+        to : (p : Place) (n : ℕ) → 0 < mappedToT z p n → wentTo m well ok os e global p n ≡ mappedToT z p n
         to (table t) n h = refl
         to own n h = refl
         to function n h = absurd (omega arith)
 
-    all-led : (r : Cells) → All (Has (wentT z)) (refs r) → All (Leads m well ok os e global (wentT z)) (refs r)
+    all-led : (r : Cells) → All (Has (mappedToT z)) (refs r) → All (Leads m well ok os e global (mappedToT z)) (refs r)
     all-led r a = all-map (refs r) led a
 
     -- ---- THE RECORDS
@@ -104,8 +105,8 @@ module _ (m : Module) (well : WellFormed m) (ok : Passes m) where
         agrees =
             let sound : (t : Tab) (n : ℕ) → 0 < mapAt (z .maps) t n → Entry (tables m) z t n = (unfold Sound in end-inv .sound) in
             let s = sound t n (omega (arith, q′)) in
-            let b : bare (recAt (z .recs) t k) ≡ bare (carryCells (through (wentT z)) (recAt (tables m) t n)) = rw q′ at (s .alike) in
-            carried-agrees m well ok os e global (wentT z) (recAt (tables m) t n) (getD (at t (z .recs)) k []) (all-led (recAt (tables m) t n) (s .closed)) b (record-seen t k h l)
+            let b : bare (recAt (z .recs) t k) ≡ bare (carryCells (through (mappedToT z)) (recAt (tables m) t n)) = rw q′ at (s .alike) in
+            carried-agrees m well ok os e global (mappedToT z) (recAt (tables m) t n) (getD (at t (z .recs)) k []) (all-led (recAt (tables m) t n) (s .closed)) b (record-seen t k h l)
 
     -- ---- THE SPECIAL TYPES
     pub rays-carried : Carried z (m .special .rays) (z .special .rays)
@@ -115,7 +116,7 @@ module _ (m : Module) (well : WellFormed m) (ok : Passes m) where
     pairs-carried = rows-as (ap (λ (p : Special). p .pairs) (end-since .special)) (rows-stay (end-since .goes .keeps) (sets m well ok .pairs))
 
     one-agrees : {r r′ : Cells} → Carried z r r′ → Each (Seen (ns m well ok os e)) r′ → agreesR m (linkBy os m) (linkMaps os m) global r (carryCells (renumber (ns m well ok os e)) r′) ≡ true
-    one-agrees {r} {r′} c s = carried-agrees m well ok os e global (wentT z) r r′ (all-led r (c .has)) (ap bare (c .is)) s
+    one-agrees {r} {r′} c s = carried-agrees m well ok os e global (mappedToT z) r r′ (all-led r (c .has)) (ap bare (c .is)) s
 
     rows-agree : {rs rs′ : List Cells} → Rows z rs rs′ → Each (Each (Seen (ns m well ok os e))) rs′ → agreesL m (linkBy os m) (linkMaps os m) global rs (map (carryCells (renumber (ns m well ok os e))) rs′) ≡ true
     unfolding agreesL

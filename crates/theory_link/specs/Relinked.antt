@@ -1,4 +1,4 @@
--- WHAT IS LINKED LINKS AGAIN: the calls of a linked module are the source's at their places, so its output order is as its functions stand, no chain of calls comes back to its start, and a second link is accepted and imports the functions in the order of their numbers.
+-- WHAT IS LINKED LINKS AGAIN: the calls of a linked module are the source's at their places, so its output order is the order of its functions, no chain of calls comes back to its start, and a second link is accepted and imports the functions in the order of their numbers.
 use mathlib.Core.Path.{_≡_, refl, sym, ap, ap₂, _∙_}
 use mathlib.Core.Bool.{Bool, true, false}
 use mathlib.Core.List.{List, [], _∷_, _++_, map}
@@ -8,31 +8,32 @@ use native.Mathlib.Omega.{arith}
 use lib.Dec.{eqb}
 use lib.ListN.{length, getD, getElem?, take}
 use borrow.Author.Tests.{le-ltb, eq-eqb, eqb-true, ne-eqb, eqb-false}
+use Rattle.theory_lists.specs.Lists.{map-append, looked-at}
 use Rattle.model.specs.Tree.{Stmt, Form, Block, Cases, Case, stmt, emit, block, branch, switch, loop, break, continue, return, kill, call, effect, end, _then_, nomore, _also_, case, Range, Function}
 use Rattle.base_words.specs.Words.{wordsOf}
 use Rattle.model.specs.Outcome.{laid}
 use Rattle.model.specs.Module.{Module, read, write}
 use Rattle.model.specs.Carry.{Each, each-none, each-next, WellFormed}
-use Rattle.model.specs.Intake.{Passes, intakeOf}
+use Rattle.model.specs.Intake.{Passes, intakeOf, ofLaid, afterIntake, onWords}
 use Rattle.model.specs.Scope.{XStmt, XForm, XBlock, XCase, XCases, expandS, expandF, expand, expandK, expandC, seen}
 use Rattle.model.specs.Calls.{In, here, later, numbers, any, ordered, order}
 use Rattle.model.specs.Callees.{calleesS, calleesF, calleesB, calleesK, calleesC, callees, calleesAt, calls, orderOf}
 use Rattle.model.specs.Redirect.{nothing, function as functionAt}
-use Rattle.model.specs.Link.{linkBy, linked, inOrder, linkOf, link, linkImage}
+use Rattle.model.specs.Refusals.{done}
+use Rattle.model.specs.Link.{linkBy, inOrder, linkModule, link, linkImage}
 use Rattle.model.specs.LinkMaps.{linkMaps}
 use Rattle.theory_walks.specs.Agreement.{Maps, Agrees, carryS, carryF, carryB, carryK, carryC}
 use Rattle.theory_walks.specs.WholeWords.{made}
 use Rattle.theory_image.specs.Quiet.{each-map}
 use Rattle.theory_image.specs.Modules.{read-well}
-use Rattle.order_callees.proofs.Numbered.{numbered-known}
+use Rattle.theory_image.specs.Members.{each-at}
+use Rattle.theory_order.specs.Numbered.{numbered-known}
 use Rattle.theory_finish.specs.Ringless.{low}
-use Rattle.theory_finish.specs.Finished.{each-at}
 use Rattle.theory_finish.specs.Linking.{intake-passes}
 use Rattle.theory_link.specs.Demand.{Linking, Output}
 use Rattle.theory_link.specs.OnBytes.{Held}
 use Rattle.theory_link.specs.Exactly.{link-is, placed, order-length}
 use Rattle.theory_link.specs.Walking.{function-agrees, places-once, place-is}
-use Rattle.theory_link.specs.Function.{at-some}
 use Rattle.theory_link.specs.Again.{order-again}
 
 -- ---- callees, of a body as walks see it
@@ -95,13 +96,9 @@ module _ (drop : ℕ → Bool) where
     same-c nomore = refl
     same-c (k also ks) = ap₂ _++_ (same-k k) (same-c ks)
 
-map-join : (g : ℕ → ℕ) (xs ys : List ℕ) → map g (xs ++ ys) ≡ map g xs ++ map g ys
-map-join g [] ys = refl
-map-join g (x ∷ xs) ys = ap (g x ∷_) (map-join g xs ys)
-
 module _ (μ : Maps) (f : ℕ → ℕ) where
   both : (xs ys xs′ ys′ : List ℕ) → xs′ ≡ map (μ .function) xs → ys′ ≡ map (μ .function) ys → xs′ ++ ys′ ≡ map (μ .function) (xs ++ ys)
-  both xs ys xs′ ys′ p q = ap₂ _++_ p q ∙ sym (map-join (μ .function) xs ys)
+  both xs ys xs′ ys′ p q = ap₂ _++_ p q ∙ sym (map-append (μ .function) xs ys)
 
   mutual
     unfolding seenS carryS
@@ -161,12 +158,12 @@ module _ (m : Module) (well : WellFormed m) (ok : Passes m) (os : List ℕ) (e :
   abbrev μ : Maps
   μ = made (linkMaps os m)
 
-  -- what stands at place x
+  -- what is at place x
   stands : (x : ℕ) → x < n → (getD os x 0 < n) × (μ .function (getD os x 0) ≡ x)
   unfolding made
   stands x h = let a = at os x (omega (arith, order-length m os e)) in (low m os e (getD os x 0) (a .1), ap pred (placed m os e x (getD os x 0) (a .0)))
 
-  -- places tell functions apart
+  -- functions at different places differ
   apart : (j k : ℕ) → j < n → k < n → eqb (μ .function j) (μ .function k) ≡ eqb j k
   apart j k a b = go (eqb j k) refl
     where
@@ -178,7 +175,7 @@ module _ (m : Module) (well : WellFormed m) (ok : Passes m) (os : List ℕ) (e :
   unfolding calls calleesAt functionAt
   calls-at i j a b =
       let F = functionAt m i in
-      let q : getElem? (m .functions) i ≡ some F = at-some (m .functions) i a in
+      let q : getElem? (m .functions) i ≡ some F = looked-at (m .functions) i nothing a in
       let g = function-agrees m well ok os e i F q in
       let c = callees-carried m (linkBy os m) μ F (g .0) (μ .inFunction i) (g .2) in
       let l : Each (λ k. k < n) (callees F) = each-at (numbered-known m well (ok .numbers)) i nothing a in
@@ -188,21 +185,21 @@ module _ (m : Module) (well : WellFormed m) (ok : Passes m) (os : List ℕ) (e :
       ∙ any-same (λ k. eqb (μ .function j) (μ .function k)) (λ k. eqb j k) (each-map (λ k h. apart j k b h) l)
       ∙ sym (ap (λ x. any (calleesAt x) (λ k. eqb j k)) q)
 
-  -- CALLS between places are the source's between what stands there
+  -- CALLS between places are the source's between what is there
   pub linked-calls : (x y : ℕ) → x < n → y < n → calls (linkBy os m) x y ≡ calls m (getD os x 0) (getD os y 0)
   linked-calls x y a b =
       let s = stands x a in
       let t = stands y b in
       ap₂ (calls (linkBy os m)) (sym (s .1)) (sym (t .1)) ∙ calls-at (getD os x 0) (getD os y 0) (s .0) (t .0)
 
-  -- SO THE OUTPUT ORDER of a linked module is as its functions stand
+  -- SO THE OUTPUT ORDER of a linked module is the order of its functions
   pub linked-order : length (linkBy os m .functions) ≡ n → orderOf (linkBy os m) ≡ ordered (numbers n 0)
   unfolding orderOf
   linked-order k = ap (λ l. order l (calls (linkBy os m))) k ∙ order-again n (calls m) (calls (linkBy os m)) os e linked-calls
 
 -- AND IT IS LINKED AGAIN: no refusal, in the order of the numbers
 pub links-again : (ws : List ℕ) (room : ℕ) (m : Module) (os : List ℕ) → Linking ws room m → orderOf m ≡ ordered os → Output ws room m os → (room′ : ℕ) → 4 * length (write (linkBy os m)) ≤ room′
-    → link (4 * length (write (linkBy os m))) (write (linkBy os m)) room′ ≡ linked (write (linkBy (numbers (length (m .functions)) 0) (linkBy os m)))
+    → link (4 * length (write (linkBy os m))) (write (linkBy os m)) room′ ≡ done (write (linkBy (numbers (length (m .functions)) 0) (linkBy os m)))
 unfolding inOrder
 links-again ws room m os l e o room′ h =
     let k : Linking (write (linkBy os m)) room′ (linkBy os m) = record { passes = o .intake; reads = o .reads; roomy = h } in
@@ -210,9 +207,9 @@ links-again ws room m os l e o room′ h =
 
 -- ON BYTES: what the output holds is linked again, into every output that is as long
 pub links-again-bytes : (image output out : List ℕ) (m : Module) (os : List ℕ) (n : ℕ) (m′ : Module) → intakeOf (length image) (wordsOf image) ≡ 0 → read (wordsOf image) ≡ laid m → Held image output out m os n m′ → (output′ : List ℕ) → n ≤ length output′
-    → linkImage (take n out) output′ .0 ≡ linked (write (linkBy (numbers (length (m .functions)) 0) m′))
-unfolding linkImage link linkOf inOrder
+    → linkImage (take n out) output′ .0 ≡ done (write (linkBy (numbers (length (m .functions)) 0) m′))
+unfolding linkImage link onWords afterIntake ofLaid linkModule inOrder
 links-again-bytes image output out m os n m′ p r h output′ l =
     let k : length (linkBy os m .functions) ≡ length (m .functions) = ap (λ x. length (x .functions)) (sym (h .is)) ∙ h .count in
     let o : orderOf m′ ≡ ordered (numbers (length (m .functions)) 0) = ap orderOf (h .is) ∙ linked-order m (read-well (wordsOf image) m r) (intake-passes (length image) (wordsOf image) m p r) os (h .order) k in
-    ap (λ x. link x (wordsOf (take n out)) (length output′)) (sym (h .counted)) ∙ rw (link, h .intake, h .holds, linkOf, le-ltb (length output′) n l, o, inOrder)
+    ap (λ x. link x (wordsOf (take n out)) (length output′)) (sym (h .counted)) ∙ rw (link, onWords, h .intake, afterIntake, h .holds, ofLaid, linkModule, le-ltb (length output′) n l, o, inOrder)

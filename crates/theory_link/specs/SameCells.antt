@@ -1,5 +1,5 @@
 -- THE CELLS OF A DERIVED FUNCTION, cell by cell: head, arguments, result, locals, body, kept expressions and named expressions of a function of the linked module agree with those of its source, through link's maps.
--- Before names are numbered anew its records are its source's carried, by the maps as they are after its declarations or at the end of its import (the crate theory_bodies); what is mapped then is mapped so in the end; and a record carried agrees once it is finished (`NameTexts`).
+-- Before names are numbered again its records are its source's carried, by the maps as they are after its declarations or at the end of its import (the crate theory_bodies); what is mapped then is mapped so in the end; and a record carried agrees once it is finished (`NameTexts`).
 use mathlib.Core.Path.{_≡_, refl, sym, ap, ap₂, _∙_}
 use mathlib.Core.Bool.{true}
 use mathlib.Core.List.{List, [], _∷_, _++_, map}
@@ -8,6 +8,7 @@ use native.Mathlib.Omega.{arith}
 use lib.ListN.{length, getD, length-map, List·getD-map}
 use lib.Dec.{eqb}
 use borrow.Author.Tests.{eq-eqb, lt-ltb}
+use Rattle.theory_lists.specs.Booleans.{and-true}
 use Rattle.model.specs.Outcome.{Cells}
 use Rattle.model.specs.Table.{NAME, NAMED-EXPR}
 use Rattle.model.specs.Tree.{Block, Range, Function, flat, flatAll, flatBlock}
@@ -20,13 +21,13 @@ use Rattle.model.specs.Calls.{ordered}
 use Rattle.model.specs.Callees.{callees, orderOf}
 use Rattle.model.specs.Tables.{names}
 use Rattle.model.specs.References.{Place, table, own, function, opt, target, targets, Node, node, refs, through}
-use Rattle.model.specs.Imports.{St}
-use Rattle.model.specs.Bodies.{known, Making, went, carried, keepNames, nameCells, namedRows, keptNames, declarations, declared, derived, final, localized, follow}
+use Rattle.model.specs.Imports.{Derived}
+use Rattle.model.specs.Bodies.{known, Builder, mappedTo, carried, keepNames, nameCells, namedRows, keptNames, declarations, declared, derived, final, localized, follow}
 use Rattle.model.specs.Finish.{renumber}
 use Rattle.model.specs.Link.{linkBy}
 use Rattle.model.specs.LinkMaps.{linkMaps}
 use Rattle.model.specs.Agreement.{Mapping, becomes, agreesW, agreesR, agreesL, agreesN, stands, opened, bodyOf}
-use Rattle.theory_image.specs.Lists.{and-true}
+use Rattle.theory_image.specs.Members.{each-at}
 use Rattle.theory_walks.specs.Agreement.{mentioned}
 use Rattle.theory_records.specs.RecordLaws.{All as AllN, all-map as alln-map, rest-of, Has as HasN}
 use Rattle.theory_records.specs.Trace.{Keeps}
@@ -40,7 +41,7 @@ use Rattle.theory_bodies.specs.Function.{refs-append}
 use Rattle.theory_bodies.specs.Theorems as Theorems
 use Rattle.theory_finish.specs.Touching.{Only, same-b}
 use Rattle.theory_finish.specs.Kept.{initials-kept}
-use Rattle.theory_finish.specs.Finished.{Seen, renumber-only, each-at}
+use Rattle.theory_finish.specs.Finished.{Seen, renumber-only}
 use Rattle.theory_finish.specs.Cellwise.{CellsOf, function-cells, each-first, each-rest}
 use Rattle.theory_link.specs.Cells.{Becomes, cells-agree}
 use Rattle.theory_link.specs.Walking.{end}
@@ -80,11 +81,11 @@ module _ (m : Module) (well : WellFormed m) (ok : Passes m) (os : List ℕ) (e :
   ρ = renumber names′
 
   -- F, imported where s is derived: what it may call is Q
-  module _ (Q : ℕ → Type 0) (G : St → Type 0) (follows : Lawful.Follows 0 m (follow 0 m) Q G) (F : Function) (pass : Bodies.Passes m F) (calls : All Q (callees F)) (s : St) (good : G s) where
-    abbrev dec : Making
+  module _ (Q : ℕ → Type 0) (G : Derived → Type 0) (follows : Lawful.Follows 0 m (follow 0 m) Q G) (F : Function) (pass : Bodies.Passes m F) (calls : All Q (callees F)) (s : Derived) (good : G s) where
+    abbrev dec : Builder
     dec = declared 0 m (follow 0 m) F s
 
-    abbrev fin : Making
+    abbrev fin : Builder
     fin = final 0 m (follow 0 m) F s
 
     abbrev F′ : Function
@@ -100,16 +101,16 @@ module _ (m : Module) (well : WellFormed m) (ok : Passes m) (os : List ℕ) (e :
       pub knows : All (λ f. 0 < known m (fin .out) f) (callees F)
 
     module _ (l : Lasts) (w : WellFunction F′) (seen : Each (Seen names′) (flat F′)) where
-      abbrev T : Making → Node → Type 0
-      T x = Leads m well ok os e o (went m x)
+      abbrev T : Builder → Node → Type 0
+      T x = Leads m well ok os e o (mappedTo m x)
 
-      leads : (p : Place) (n : ℕ) → 0 < went m fin p n → Inside m Q p n → wentTo m well ok os e o p n ≡ went m fin p n
-      unfolding wentTo went Inside Keeps
+      leads : (p : Place) (n : ℕ) → 0 < mappedTo m fin p n → Inside m Q p n → wentTo m well ok os e o p n ≡ mappedTo m fin p n
+      unfolding wentTo mappedTo Inside Keeps
       leads (table t) n h i = l .keeps t n h
       leads own n h i = refl
       leads function n h i = l .places n i h
 
-      fin-leads : (js : List Node) → AllN (λ j. HasN (went m fin) j × InN m Q j) js → AllN (T fin) js
+      fin-leads : (js : List Node) → AllN (λ j. HasN (mappedTo m fin) j × InN m Q j) js → AllN (T fin) js
       fin-leads js a = alln-map js (λ j h. (h .0, leads (j .place) (j .num) (h .0) (h .1))) a
 
       dec-leads : AllN (T dec) (refs (declarations 0 m (follow 0 m) F))
@@ -129,26 +130,26 @@ module _ (m : Module) (well : WellFormed m) (ok : Passes m) (os : List ℕ) (e :
       cells = function-cells F′ seen
 
       record-agrees : (r : Cells) → AllN (T dec) (refs r) → Each (Seen names′) (carried 0 m dec r) → agreesR m m′ μ o r (carryCells ρ (carried 0 m dec r)) ≡ true
-      record-agrees r a v = carried-agrees m well ok os e o (went m dec) r (carried 0 m dec r) a (bare-carried 0 m dec r) v
+      record-agrees r a v = carried-agrees m well ok os e o (mappedTo m dec) r (carried 0 m dec r) a (bare-carried 0 m dec r) v
 
       list-agrees : (rs : List Cells) → AllN (T dec) (refs (flatAll rs)) → Each (Each (Seen names′)) (map (carried 0 m dec) rs) → agreesL m m′ μ o rs (map (carryCells ρ) (map (carried 0 m dec) rs)) ≡ true
-      list-agrees rs a v = rows-agree m well ok os e o (went m dec) (carried 0 m dec) (bare-carried 0 m dec) (each-refs (T dec) rs a) v
+      list-agrees rs a v = rows-agree m well ok os e o (mappedTo m dec) (carried 0 m dec) (bare-carried 0 m dec) (each-refs (T dec) rs a) v
 
       -- ---- the body refers to expressions of the function and to functions
-      body-becomes : AllN (Becomes m m′ μ o (went m fin)) (refs (bodyOf F))
+      body-becomes : AllN (Becomes m m′ μ o (mappedTo m fin)) (refs (bodyOf F))
       body-becomes =
-          body-refs (Becomes m m′ μ o (went m fin)) F (pass .well .body-ok)
+          body-refs (Becomes m m′ μ o (mappedTo m fin)) F (pass .well .body-ok)
           (all-map (mentioned F) mine (Theorems.mapped m well (ok .numbers) (ok .lowers) 0 (follow 0 m) Q G follows F pass calls s good))
           (all-both (callees F) called (l .knows) calls)
         where
-          mine : (x : ℕ) → Has o x → Becomes m m′ μ o (went m fin) (node own x)
-          mine x h = unfold went becomes in (h, eq-eqb (getD o x 0) (suc (pred (getD o x 0))) (omega arith))
+          mine : (x : ℕ) → Has o x → Becomes m m′ μ o (mappedTo m fin) (node own x)
+          mine x h = unfold mappedTo becomes in (h, eq-eqb (getD o x 0) (suc (pred (getD o x 0))) (omega arith))
 
-          called : (f : ℕ) → 0 < known m (fin .out) f → Q f → Becomes m m′ μ o (went m fin) (node function f)
-          called f h c = unfold went becomes in (h, eq-eqb (getD (linkMaps os m .functions) f 0) (suc (pred (known m (fin .out) f))) (omega (arith, l .places f c h)))
+          called : (f : ℕ) → 0 < known m (fin .out) f → Q f → Becomes m m′ μ o (mappedTo m fin) (node function f)
+          called f h c = unfold mappedTo becomes in (h, eq-eqb (getD (linkMaps os m .functions) f 0) (suc (pred (known m (fin .out) f))) (omega (arith, l .places f c h)))
 
       body-agrees : agreesR m m′ μ o (bodyOf F) (bodyOf (carryFunction ρ F′)) ≡ true
-      body-agrees = rw (body-renamed (renumber-only names′) F′ w) (cells-agree m m′ μ o (went m fin) (bodyOf F) (bodyOf F′) body-becomes (Theorems.body-same m well (ok .numbers) (ok .lowers) 0 (follow 0 m) Q G follows F pass calls s good))
+      body-agrees = rw (body-renamed (renumber-only names′) F′ w) (cells-agree m m′ μ o (mappedTo m fin) (bodyOf F) (bodyOf F′) body-becomes (Theorems.body-same m well (ok .numbers) (ok .lowers) 0 (follow 0 m) Q G follows F pass calls s good))
 
       -- ---- expressions
       kept-stands : (x k : ℕ) → getD o x 0 ≡ suc k → stands m m′ μ o (map (carryCells ρ) (F′ .exprs)) (suc k) (getD (F .exprs) x []) ≡ true
@@ -158,19 +159,19 @@ module _ (m : Module) (well : WellFormed m) (ok : Passes m) (os : List ℕ) (e :
           let z : pred (getD o x 0) ≡ k = ap pred q in
           let b : k < length (F′ .exprs) = rw z at (n .below) in
           and-true (lt-ltb k (length (map (carryCells ρ) (F′ .exprs))) (rw (length-map (F′ .exprs) (carryCells ρ)) b))
-          (rw (List·getD-map (carryCells ρ) (F′ .exprs) k []) (carried-agrees m well ok os e o (went m fin) (getD (F .exprs) x []) (getD (F′ .exprs) k []) (fin-leads (refs (getD (F .exprs) x [])) (n .met)) (rw z at (n .same)) (each-at (cells .in-exprs) k [] b)))
+          (rw (List·getD-map (carryCells ρ) (F′ .exprs) k []) (carried-agrees m well ok os e o (mappedTo m fin) (getD (F .exprs) x []) (getD (F′ .exprs) k []) (fin-leads (refs (getD (F .exprs) x [])) (n .met)) (rw z at (n .same)) (each-at (cells .in-exprs) k [] b)))
 
       -- ---- names of expressions
-      names-agree : (ps : List (ℕ × ℕ)) → AllN (T fin) (refs (nameCells ps)) → Each (Each (Seen names′)) (namedRows ps (through (went m fin) NAME)) → agreesN m m′ μ o ps (map (carryCells ρ) (namedRows ps (through (went m fin) NAME))) ≡ true
+      names-agree : (ps : List (ℕ × ℕ)) → AllN (T fin) (refs (nameCells ps)) → Each (Each (Seen names′)) (namedRows ps (through (mappedTo m fin) NAME)) → agreesN m m′ μ o ps (map (carryCells ρ) (namedRows ps (through (mappedTo m fin) NAME))) ≡ true
       unfolding agreesN namedRows nameCells refs target targets
       names-agree [] a v = refl
       names-agree (p ∷ ps) a v = and-true expression (and-true text (names-agree ps (rest-of (T fin) (opt (table names)) (p .1) (refs (nameCells ps)) a) (each-rest v)))
         where
-          expression : eqb (p .0) (field NAMED-EXPR (carryCells ρ ((NAMED-EXPR, p .0) ∷ (NAME, through (went m fin) NAME (p .1)) ∷ []))) ≡ true
+          expression : eqb (p .0) (field NAMED-EXPR (carryCells ρ ((NAMED-EXPR, p .0) ∷ (NAME, through (mappedTo m fin) NAME (p .1)) ∷ []))) ≡ true
           expression = unfold field carryCell in eq-eqb (p .0) _ (sym (renumber-only names′ .only NAMED-EXPR (p .0) refl))
 
-          text : agreesW m m′ μ o (target NAME) (p .1) (field NAME (carryCells ρ ((NAMED-EXPR, p .0) ∷ (NAME, through (went m fin) NAME (p .1)) ∷ []))) ≡ true
-          text = unfold field carryCell through in name-agrees m well ok os e o (went m fin) (p .1) (refs (nameCells ps)) a (λ k h. each-first (each-rest (each-first v)) k refl (unfold through in h))
+          text : agreesW m m′ μ o (target NAME) (p .1) (field NAME (carryCells ρ ((NAMED-EXPR, p .0) ∷ (NAME, through (mappedTo m fin) NAME (p .1)) ∷ []))) ≡ true
+          text = unfold field carryCell through in name-agrees m well ok os e o (mappedTo m fin) (p .1) (refs (nameCells ps)) a (λ k h. each-first (each-rest (each-first v)) k refl (unfold through in h))
 
       named-agrees : agreesN m m′ μ o (keepNames (F .named) o []) (map (carryCells ρ) (F′ .named)) ≡ true
       unfolding localized derived keptNames

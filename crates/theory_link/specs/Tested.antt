@@ -1,15 +1,16 @@
 -- TESTS 4, 5 AND 6 of the derived functions and entry points.
 use mathlib.Core.Path.{_≡_, refl, sym, ap, _∙_}
-use mathlib.Core.Bool.{Bool, true, false, _&&_, not, false≢true}
-use mathlib.Core.List.{List, [], _∷_, _++_, map, append-nil}
+use mathlib.Core.Bool.{true, not, false≢true}
+use mathlib.Core.List.{List, [], _∷_, _++_, append-nil}
 use mathlib.Core.Option.{some}
 use Prim.Native.Nat.{ℕ, zero, suc, _<_, pred}
 use native.Mathlib.Omega.{arith}
 use lib.Dec.{eqb}
-use lib.ListN.{length, getD, getElem?}
-use borrow.Author.Tests.{eqb-true, ne-eqb, not-true}
-use Rattle.model.specs.Outcome.{Cells, word}
-use Rattle.model.specs.Table.{NAME, SPAN, UPTO, NAMED-EXPR, functionHead}
+use lib.ListN.{length, getElem?}
+use borrow.Author.Tests.{ne-eqb}
+use Rattle.theory_lists.specs.Booleans.{and-true, and-split}
+use Rattle.model.specs.Outcome.{Cells}
+use Rattle.model.specs.Table.{NAME}
 use Rattle.model.specs.Tree.{Function, Entry}
 use Rattle.model.specs.Module.{Module}
 use Rattle.model.specs.Carry.{carryCell, Each, WellFunction, WellFormed}
@@ -20,43 +21,30 @@ use Rattle.model.specs.Names.{field, present, absent, distinct, expressionsName
 use Rattle.model.specs.Scope.{scoped, allScoped, entriesScoped, inScope}
 use Rattle.model.specs.Calls.{ordered}
 use Rattle.model.specs.Callees.{orderOf}
-use Rattle.model.specs.Redirect.{nameWord, function as functionAt}
+use Rattle.model.specs.Redirect.{function as functionAt}
 use Rattle.model.specs.Tables.{names, at, tables, count, mapAt}
 use Rattle.model.specs.Numbers.{outside, inside}
+use Rattle.theory_bodies.specs.EntryHeads.{Head, headed, entry-head}
+use Rattle.theory_bodies.specs.Names.{head-field, derived-named}
 use Rattle.theory_records.specs.Imported.{import-kept}
 use Rattle.theory_finish.specs.Cellwise.{each-first}
 use Rattle.theory_finish.specs.Finished.{Low, within-low}
-use Rattle.model.specs.References.{Place, table, opt, target, targets, node, refOf, refs, each, carryW, through, moved, shift, seat}
-use Rattle.model.specs.Imports.{St, importT}
-use Rattle.model.specs.Bodies.{Making, carried, bring, step, went, putName, nameIf, keepNames, nameCells, namedRows, keptNames, final, derived, localized, follow, entered, entryMade, entriesMade}
+use Rattle.model.specs.References.{table, opt, target, targets, refOf, refs, foldRefs, carryW, through, moved, shift, indexOf}
+use Rattle.model.specs.Imports.{Derived, importT}
+use Rattle.model.specs.Bodies.{Builder, carried, bring, step, mappedTo, final, derived, localized, follow, entered, entryMade, entriesMade}
 use Rattle.model.specs.Finish.{gathered}
 use Rattle.model.specs.Agreement.{Among, first, later}
-use Rattle.theory_image.specs.Lists.{and-true, and-split}
-use Rattle.theory_image.specs.Plain.{plain?}
-use Rattle.theory_image.specs.Quiet.{Plainly, plainly}
-use Rattle.theory_records.specs.RecordLaws.{All as AllN, Has as HasN}
 use Rattle.theory_finish.specs.Firsts.{Once, once-next}
 use Rattle.theory_finish.specs.Fresh.{stateAt}
 use Rattle.theory_finish.specs.Known.{nameTable}
 use Rattle.theory_finish.specs.Known as Known
-use Rattle.theory_finish.specs.Output.{named-head}
 use Rattle.theory_finish.specs.Linking.{Tests}
 use Rattle.theory_finish.specs.Counting.{order-once}
 use Rattle.theory_bodies.specs.Theorems as Theorems
 use Rattle.theory_link.specs.Function.{Going, Called, at-i, pass, calls-all, follows, start, again}
-use Rattle.theory_link.specs.Order.{good-at, functions-made, last, Any, any-follows, at-end, Head, headed, entry-head, Sound, calls-any, entry-going, entry-sound, again as entry-again}
+use Rattle.theory_link.specs.Order.{good-at, functions-made, last, Any, any-follows, at-end, Sound, calls-any, entry-going, entry-sound, again as entry-again}
 use Rattle.theory_link.specs.Places.{Both, both-none, both-next, functions-both, goes-on, Bearing, bearing, nameOf, name-once}
 use Rattle.theory_link.specs.Walking.{end, end-going, head-within, body-good}
-
--- the first word of a function's head is its name
-head-field : (f : Function) → WellFunction f → field NAME (f .head) ≡ nameWord f
-head-field f w = go (named-head plain-head)
-  where
-    plain-head : Plainly (NAME ∷ SPAN ∷ UPTO ∷ []) (f .head)
-    plain-head = unfold functionHead plain? in plainly (w .head-ok) refl
-
-    go : (v : ℕ) × (r : Cells) × (f .head ≡ (NAME, v) ∷ r) → field NAME (f .head) ≡ nameWord f
-    go a = unfold field nameWord in rw (a .2) refl
 
 -- ---- what is shown of each function
 pub record Fit (f : Function) : Type 0 where
@@ -69,70 +57,11 @@ unfolding functionsLower allScoped functionsNamed
 all-lower both-none = (refl, refl, refl)
 all-lower (both-next r b) = let i = all-lower b in (and-true (r .lowers) (i .0), and-true (r .scope) (i .1), and-true (r .names) (i .2))
 
--- ---- 5: named expressions
--- the pairs that are kept: each has a name, and no expression stands twice
-abbrev Keys : List (ℕ × ℕ) → List ℕ
-Keys ps = map (λ p. p .0) ps
-
-abbrev Words : List (ℕ × ℕ) → List ℕ
-Words ps = map (λ p. p .1) ps
-
-put-absent : (ps : List (ℕ × ℕ)) (k w x : ℕ) → absent (Keys ps) x ≡ true → eqb x k ≡ false → absent (Keys (putName ps k w)) x ≡ true
-unfolding putName absent
-put-absent [] k w x h n = and-true {a = not (eqb x k)} (rw n refl) refl
-put-absent (p ∷ ps) k w x h n = go (eqb (p .0) k) refl (put-absent ps k w x (and-split (not (eqb x (p .0))) (absent (Keys ps) x) h .1) n)
-  where
-    go : (b : Bool) → eqb (p .0) k ≡ b → absent (Keys (putName ps k w)) x ≡ true → absent (Keys (elim b [ true ↦ (k, w) ∷ ps | false ↦ p ∷ putName ps k w ])) x ≡ true
-    go true e ih = and-true {a = not (eqb x k)} (rw n refl) (and-split (not (eqb x (p .0))) (absent (Keys ps) x) h .1)
-    go false e ih = and-true (and-split (not (eqb x (p .0))) (absent (Keys ps) x) h .0) ih
-
-put-distinct : (ps : List (ℕ × ℕ)) (k w : ℕ) → distinct (Keys ps) ≡ true → distinct (Keys (putName ps k w)) ≡ true
-unfolding putName distinct absent
-put-distinct [] k w h = refl
-put-distinct (p ∷ ps) k w h = go (eqb (p .0) k) refl (put-distinct ps k w (and-split (absent (Keys ps) (p .0)) (distinct (Keys ps)) h .1)) (put-absent ps k w (p .0) (and-split (absent (Keys ps) (p .0)) (distinct (Keys ps)) h .0))
-  where
-    go : (b : Bool) → eqb (p .0) k ≡ b → distinct (Keys (putName ps k w)) ≡ true → (eqb (p .0) k ≡ false → absent (Keys (putName ps k w)) (p .0) ≡ true) → distinct (Keys (elim b [ true ↦ (k, w) ∷ ps | false ↦ p ∷ putName ps k w ])) ≡ true
-    go true e ih f = let q = eqb-true (p .0) k e in rw q at h
-    go false e ih f = and-true (f e) ih
-
-put-present : (ps : List (ℕ × ℕ)) (k w : ℕ) → present (Words ps) ≡ true → eqb w 0 ≡ false → present (Words (putName ps k w)) ≡ true
-unfolding putName present
-put-present [] k w h n = and-true {a = not (eqb w 0)} (rw n refl) refl
-put-present (p ∷ ps) k w h n = let a = and-split (not (eqb (p .1) 0)) (present (Words ps)) h in go (eqb (p .0) k) a (put-present ps k w (a .1) n)
-  where
-    go : (b : Bool) → (not (eqb (p .1) 0) ≡ true) × (present (Words ps) ≡ true) → present (Words (putName ps k w)) ≡ true → present (Words (elim b [ true ↦ (k, w) ∷ ps | false ↦ p ∷ putName ps k w ])) ≡ true
-    go true a ih = and-true {a = not (eqb w 0)} (rw n refl) (a .1)
-    go false a ih = and-true (a .0) ih
-
-keep-fine : (rs : List Cells) (memo : List ℕ) (ps : List (ℕ × ℕ)) → present (map (field NAME) rs) ≡ true → (distinct (Keys ps) ≡ true) × (present (Words ps) ≡ true) → (distinct (Keys (keepNames rs memo ps)) ≡ true) × (present (Words (keepNames rs memo ps)) ≡ true)
-unfolding keepNames present
-keep-fine [] memo ps h k = k
-keep-fine (r ∷ rs) memo ps h k = let a = and-split (not (eqb (field NAME r) 0)) (present (map (field NAME) rs)) h in keep-fine rs memo _ (a .1) (one (getD memo (field NAMED-EXPR r) 0) (not-true (eqb (field NAME r) 0) (a .0)))
-  where
-    one : (v : ℕ) → eqb (field NAME r) 0 ≡ false → (distinct (Keys (nameIf v (field NAME r) ps)) ≡ true) × (present (Words (nameIf v (field NAME r) ps)) ≡ true)
-    one zero n = unfold nameIf in k
-    one (suc v) n = unfold nameIf in (put-distinct ps v (field NAME r) (k .0), put-present ps v (field NAME r) (k .1) n)
-
-rows-keys : (ps : List (ℕ × ℕ)) (f : ℕ → ℕ) → map (field NAMED-EXPR) (namedRows ps f) ≡ Keys ps
-unfolding namedRows field
-rows-keys [] f = refl
-rows-keys (p ∷ ps) f = ap (p .0 ∷_) (rows-keys ps f)
-
-rows-present : (ps : List (ℕ × ℕ)) (W : Place → ℕ → ℕ) → present (Words ps) ≡ true → AllN (HasN W) (refs (nameCells ps)) → present (map (field NAME) (namedRows ps (through W NAME))) ≡ true
-unfolding namedRows field present nameCells refs target targets through carryW
-rows-present [] W h a = refl
-rows-present (p ∷ ps) W h a = let b = and-split (not (eqb (p .1) 0)) (present (Words ps)) h in go (p .1) (b .0) a (rows-present ps W (b .1))
-  where
-    go : (w : ℕ) → not (eqb w 0) ≡ true → AllN (HasN W) (refOf (opt (table names)) w (refs (nameCells ps))) → (AllN (HasN W) (refs (nameCells ps)) → present (map (field NAME) (namedRows ps (through W NAME))) ≡ true)
-        → (not (eqb (carryW W (opt (table names)) w) 0) && present (map (field NAME) (namedRows ps (through W NAME)))) ≡ true
-    go zero n a ih = absurd (false≢true n)
-    go (suc n) k a ih = unfold carryW in (let r : AllN (HasN W) (node (table names) n ∷ refs (nameCells ps)) = (unfold refOf in a) in and-true {a = not (eqb (W (table names) n) 0)} (ap not (ne-eqb (W (table names) n) 0 (λ q. (let y = r .0 in omega arith)))) (ih (r .1)))
-
 module _ (m : Module) (well : WellFormed m) (ok : Passes m) (os : List ℕ) (e : orderOf m ≡ ordered os) where
-  abbrev z : St
+  abbrev z : Derived
   z = last m well ok os e
 
-  abbrev fine : St
+  abbrev fine : Derived
   fine = end m well ok os e
 
   abbrev es : List Entry
@@ -159,28 +88,21 @@ module _ (m : Module) (well : WellFormed m) (ok : Passes m) (os : List ℕ) (e :
   named-at (g ∷ fs) h zero F q = let r : g ≡ F = cc in rw r at (and-split (expressionsNamed g) (functionsNamed fs) h .0)
   named-at (g ∷ fs) h (suc i) F q = named-at fs (and-split (expressionsNamed g) (functionsNamed fs) h .1) i F q
 
-  derived-named : (F : Function) (s : St) → expressionsNamed F ≡ true → AllN (HasN (went m (final 0 m (follow 0 m) F s))) (refs (nameCells (keptNames 0 m (follow 0 m) F (final 0 m (follow 0 m) F s)))) → expressionsNamed (localized 0 m (follow 0 m) F s) ≡ true
-  unfolding expressionsNamed localized derived keptNames
-  derived-named F s h a =
-      let ps = keepNames (F .named) (final 0 m (follow 0 m) F s .memo) [] in
-      let k = keep-fine (F .named) (final 0 m (follow 0 m) F s .memo) [] (and-split (present (map (field NAME) (F .named))) _ h .0) (unfold distinct present in (refl, refl)) in
-      and-true (rows-present ps (went m (final 0 m (follow 0 m) F s)) (k .1) a) (rw (rows-keys ps (through (went m (final 0 m (follow 0 m) F s)) NAME)) (k .0))
-
   function-named : (us vs : List ℕ) (i : ℕ) (q : os ≡ us ++ (i ∷ vs)) → expressionsNamed (localized 0 m (follow 0 m) (functionAt m i) (stateAt m us)) ≡ true
-  function-named us vs i q = derived-named (functionAt m i) (stateAt m us) (named-at (m .functions) (five .in-functions) i (functionAt m i) (at-i m well ok os e us vs i q)) (Theorems.names-mapped m well (ok .numbers) (ok .lowers) 0 (follow 0 m) (Called m well ok os e i) (Going m (stateAt m us)) (follows m well ok os e us vs i q) (functionAt m i) (pass m well ok os e us vs i q) (calls-all m well ok os e us vs i q) (stateAt m us) (start m well ok os e us vs i q (good-at m well ok os e us (i ∷ vs) q)))
+  function-named us vs i q = derived-named 0 m (follow 0 m) (functionAt m i) (stateAt m us) (named-at (m .functions) (five .in-functions) i (functionAt m i) (at-i m well ok os e us vs i q)) (Theorems.names-mapped m well (ok .numbers) (ok .lowers) 0 (follow 0 m) (Called m well ok os e i) (Going m (stateAt m us)) (follows m well ok os e us vs i q) (functionAt m i) (pass m well ok os e us vs i q) (calls-all m well ok os e us vs i q) (stateAt m us) (start m well ok os e us vs i q (good-at m well ok os e us (i ∷ vs) q)))
 
-  entry-named : (E : Entry) (k : Sound m E) (s : St) (g : Going m z s) → expressionsNamed (E .function) ≡ true → expressionsNamed (localized 0 m (follow 0 m) (E .function) s) ≡ true
-  entry-named E k s g h = derived-named (E .function) s h (Theorems.names-mapped m well (ok .numbers) (ok .lowers) 0 (follow 0 m) (Any m well ok os e) (Going m z) (any-follows m well ok os e) (E .function) (k .pass) (calls-any m well ok os e E k s g) s g)
+  entry-named : (E : Entry) (k : Sound m E) (s : Derived) (g : Going m z s) → expressionsNamed (E .function) ≡ true → expressionsNamed (localized 0 m (follow 0 m) (E .function) s) ≡ true
+  entry-named E k s g h = derived-named 0 m (follow 0 m) (E .function) s h (Theorems.names-mapped m well (ok .numbers) (ok .lowers) 0 (follow 0 m) (Any m well ok os e) (Going m z) (any-follows m well ok os e) (E .function) (k .pass) (calls-any m well ok os e E k s g) s g)
 
   -- the name of an entry point
-  named-head-at : {r : Cells} → Head r → (y : Making) → not (eqb (field NAME r) 0) ≡ true → ((n : ℕ) → field NAME r ≡ suc n → 0 < mapAt (importT 0 (tables m) names n (y .out) .maps) names n)
-      → not (eqb (field NAME (carried 0 m (each (refs r) (step 0 m (follow 0 m) (λ x n. n)) y) r)) 0) ≡ true
+  named-head-at : {r : Cells} → Head r → (y : Builder) → not (eqb (field NAME r) 0) ≡ true → ((n : ℕ) → field NAME r ≡ suc n → 0 < mapAt (importT 0 (tables m) names n (y .out) .maps) names n)
+      → not (eqb (field NAME (carried 0 m (foldRefs (refs r) (step 0 m (follow 0 m) (λ x n. n)) y) r)) 0) ≡ true
   unfolding field refs refOf target targets carried shift carryCell moved
   named-head-at (headed {v}) y k h = go v k h
     where
-      go : (v : ℕ) → not (eqb v 0) ≡ true → ((n : ℕ) → v ≡ suc n → 0 < mapAt (importT 0 (tables m) names n (y .out) .maps) names n) → not (eqb (through (went m (each (refOf (opt (table names)) v []) (step 0 m (follow 0 m) (λ x n. n)) y)) NAME v) 0) ≡ true
+      go : (v : ℕ) → not (eqb v 0) ≡ true → ((n : ℕ) → v ≡ suc n → 0 < mapAt (importT 0 (tables m) names n (y .out) .maps) names n) → not (eqb (through (mappedTo m (foldRefs (refOf (opt (table names)) v []) (step 0 m (follow 0 m) (λ x n. n)) y)) NAME v) 0) ≡ true
       go zero k h = absurd (false≢true k)
-      go (suc n) k h = unfold refOf each step bring through carryW went in ap not (ne-eqb (mapAt (importT 0 (tables m) names n (y .out) .maps) names n) 0 (λ q. (let x = h n refl in omega arith)))
+      go (suc n) k h = unfold refOf foldRefs step bring through carryW mappedTo in ap not (ne-eqb (mapAt (importT 0 (tables m) names n (y .out) .maps) names n) 0 (λ q. (let x = h n refl in omega arith)))
 
   -- ---- 4 and 6
   functions-fit : Both (λ i f. Fit f) os (z .functions)
@@ -193,11 +115,11 @@ module _ (m : Module) (well : WellFormed m) (ok : Passes m) (os : List ℕ) (e :
       at-head : {r : Cells} → Head r → Each (Low (inside (outside m) (E .function) .names)) r → field NAME r ≡ suc n → n < count (tables m) names
       at-head (headed {v}) c q = let z : v ≡ suc n = q in let y : v < suc (length (m .names)) = each-first c refl in omega arith
 
-  entry-present : (E : Entry) → (k : Sound m E) (s : St) → Going m z s → not (eqb (field NAME (E .head)) 0) ≡ true → not (eqb (field NAME (entryMade 0 m E s .head)) 0) ≡ true
+  entry-present : (E : Entry) → (k : Sound m E) (s : Derived) → Going m z s → not (eqb (field NAME (E .head)) 0) ≡ true → not (eqb (field NAME (entryMade 0 m E s .head)) 0) ≡ true
   unfolding entryMade entered
   entry-present E k s g h = named-head-at (entry-head (k .laid)) (final 0 m (follow 0 m) (E .function) s) h (λ n q. import-kept m well (ok .numbers) (ok .lowers) 0 names n (final 0 m (follow 0 m) (E .function) s .out) (head-low E k n q) (body-good m well ok os e E k s g) .1)
 
-  made-facts : (E : Entry) (k : Sound m E) (s : St) (g : Going m z s) → expressionsNamed (E .function) ≡ true → (operandsLower (entryMade 0 m E s .function .exprs) 0 ≡ true) × (scoped (entryMade 0 m E s .function) ≡ true) × (expressionsNamed (entryMade 0 m E s .function) ≡ true)
+  made-facts : (E : Entry) (k : Sound m E) (s : Derived) (g : Going m z s) → expressionsNamed (E .function) ≡ true → (operandsLower (entryMade 0 m E s .function .exprs) 0 ≡ true) × (scoped (entryMade 0 m E s .function) ≡ true) × (expressionsNamed (entryMade 0 m E s .function) ≡ true)
   unfolding entryMade
   made-facts E k s g h = let a = entry-again m well ok os e E k s g in (a .four, a .six, entry-named E k s g h)
 
@@ -207,7 +129,7 @@ module _ (m : Module) (well : WellFormed m) (ok : Passes m) (os : List ℕ) (e :
     presents : present (entryNames ds) ≡ true
     nameds : entriesNamed ds ≡ true
 
-  entries-fit : (ds : List Entry) → ((E : Entry) → Among E ds → Sound m E) → present (entryNames ds) ≡ true → entriesNamed ds ≡ true → (s : St) → Going m z s → Entries (entriesMade ds 0 m s)
+  entries-fit : (ds : List Entry) → ((E : Entry) → Among E ds → Sound m E) → present (entryNames ds) ≡ true → entriesNamed ds ≡ true → (s : Derived) → Going m z s → Entries (entriesMade ds 0 m s)
   unfolding entriesMade entriesLower entriesScoped entryNames present entriesNamed
   entries-fit [] h p n s g = record { lowers = refl; scopes = refl; presents = refl; nameds = refl }
   entries-fit (E ∷ ds) h p n s g =
@@ -225,7 +147,7 @@ module _ (m : Module) (well : WellFormed m) (ok : Passes m) (os : List ℕ) (e :
   all-names : Both Names os (z .functions)
   all-names = functions-both m well ok os e Names os [] (rw (append-nil os)) (λ us vs i q. (bearing m well ok os e us vs i q fine (Known.follows-trans (to-last us vs i q (goes-on m well ok os e us vs i q vs)) (end-going m well ok os e .after)), functions-made m well ok os e us vs i q .well))
     where
-      to-last : (us vs : List ℕ) (i : ℕ) → os ≡ us ++ (i ∷ vs) → {a : St} → Known.Follows (tables m) a (stateAt m (us ++ (i ∷ vs))) → Known.Follows (tables m) a (stateAt m os)
+      to-last : (us vs : List ℕ) (i : ℕ) → os ≡ us ++ (i ∷ vs) → {a : Derived} → Known.Follows (tables m) a (stateAt m (us ++ (i ∷ vs))) → Known.Follows (tables m) a (stateAt m os)
       to-last us vs i q f = rw q f
 
   names-present : {is : List ℕ} {fs : List Function} → Both Names is fs → present (functionNames fs) ≡ true
@@ -233,7 +155,7 @@ module _ (m : Module) (well : WellFormed m) (ok : Passes m) (os : List ℕ) (e :
   names-present both-none = refl
   names-present (both-next {f} r b) = and-true (ap not (ne-eqb (field NAME (f .head)) 0 (λ q. (let x = head-field f (r .1) in let y = r .0 .1 in omega arith)))) (names-present b)
 
-  none-same : {is : List ℕ} {fs : List Function} (j : ℕ) → (Mem j is → ⊥) → j < length (m .functions) → Both Names is fs → absent (functionNames fs) (suc (seat (nameTable fine) (nameOf m well ok j))) ≡ true
+  none-same : {is : List ℕ} {fs : List Function} (j : ℕ) → (Mem j is → ⊥) → j < length (m .functions) → Both Names is fs → absent (functionNames fs) (suc (indexOf (nameTable fine) (nameOf m well ok j))) ≡ true
   unfolding functionNames absent
   none-same j h l both-none = refl
   none-same j h l (both-next {i} {f} r b) =

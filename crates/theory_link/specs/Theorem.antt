@@ -6,6 +6,8 @@ use mathlib.Core.Option.{some}
 use Prim.Native.Nat.{ℕ, _*_}
 use native.Mathlib.Omega.{arith}
 use lib.ListN.{length, getD, getElem?, length-map}
+use Rattle.theory_lists.specs.Lists.{looked-length}
+use Rattle.theory_lists.specs.Booleans.{and-first, and-second}
 use Rattle.model.specs.Tree.{Function, Entry, flatAll}
 use Rattle.model.specs.Module.{Module, flatSpecial}
 use Rattle.theory_walks.specs.WholeLaws.{closed-records, agrees-append, agrees-flat}
@@ -21,12 +23,11 @@ use Rattle.model.specs.Link.{linkBy}
 use Rattle.model.specs.LinkMaps.{linkMaps}
 use Rattle.model.specs.Agreement.{Mapping, agreesR, Holds, as-function, as-entry, Agreement}
 use Rattle.model.specs.Agreement as Whole
-use Rattle.order_ranks.proofs.Theorems.{each-once, callees-first}
+use Rattle.theory_order.specs.Theorems.{each-once, callees-first}
 use Rattle.theory_image.specs.Modules.{read-well}
 use Rattle.theory_walks.specs.Agreement.{Agrees}
 use Rattle.theory_walks.specs.WholeWords.{made}
 use Rattle.theory_walks.specs.Theorems.{carries, carries-sound}
-use Rattle.theory_walks.specs.Tests.{and-l, and-r}
 use Rattle.theory_walks.specs.FunctionProof.{scoped-at, entry-at}
 use Rattle.theory_finish.specs.Fresh.{stateAt}
 use Rattle.theory_finish.specs.Linking.{intake-passes}
@@ -40,7 +41,7 @@ use Rattle.theory_link.specs.Records.{records-agree, rays-agree, pairs-a
 use Rattle.theory_link.specs.Heads.{heads-agree}
 use Rattle.theory_link.specs.SameCells.{SameCells}
 use Rattle.theory_link.specs.Functions.{functions-same, entries-same}
-use Rattle.theory_link.specs.Walking.{Apart, at-in, end-going, all-agree, function-agrees, function-apart, place-is, places-once, places-onto, the-turn, entry-apart, entries-count, entry-agrees}
+use Rattle.theory_link.specs.Walking.{Apart, end-going, all-agree, function-agrees, function-apart, place-is, places-once, places-onto, the-turn, entry-apart, entries-count, entry-agrees}
 
 -- cells and what may share a record make agreement in full
 same-agrees : (M M′ : Module) (μ : Mapping) (o : List ℕ) (F F′ : Function) → SameCells M M′ μ o F F′ → Apart o F → Whole.Agrees M M′ μ o F F′
@@ -59,7 +60,7 @@ module _ (ws : List ℕ) (room : ℕ) (m : Module) (l : Linking ws room m) where
     unfolding inScope
     walks-functions i F q =
         let a = function-agrees m well ok os e i F q in
-        let s : scoped F ≡ true = scoped-at (m .functions) (and-l (allScoped (m .functions)) _ (unfold inScope in ok .scope)) i F q in
+        let s : scoped F ≡ true = scoped-at (m .functions) (and-first (allScoped (m .functions)) _ (unfold inScope in ok .scope)) i F q in
         (a .0, a .1, λ cs. record { carries = carries m (linkBy os m) (made (linkMaps os m)) F (a .0) (made (linkMaps os m) .inFunction i) (a .2) cs; sound = carries-sound m (linkBy os m) (made (linkMaps os m)) F (a .0) (made (linkMaps os m) .inFunction i) (a .2) s cs })
 
     walks-entries : (i : ℕ) (E : Entry) → getElem? (m .entries) i ≡ some E
@@ -67,7 +68,7 @@ module _ (ws : List ℕ) (room : ℕ) (m : Module) (l : Linking ws room m) where
     unfolding inScope
     walks-entries i E q =
         let a = entry-agrees m well ok os e i E q in
-        let s : scoped (E .function) ≡ true = entry-at (m .entries) (and-r (allScoped (m .functions)) _ (unfold inScope in ok .scope)) i E q in
+        let s : scoped (E .function) ≡ true = entry-at (m .entries) (and-second (allScoped (m .functions)) _ (unfold inScope in ok .scope)) i E q in
         (a .0, a .1, λ cs. record { carries = carries m (linkBy os m) (made (linkMaps os m)) (E .function) (a .0 .function) (made (linkMaps os m) .inEntry i) (a .2) cs; sound = carries-sound m (linkBy os m) (made (linkMaps os m)) (E .function) (a .0 .function) (made (linkMaps os m) .inEntry i) (a .2) s cs })
 
     count : length (linkBy os m .functions) ≡ length (m .functions)
@@ -93,7 +94,7 @@ module _ (ws : List ℕ) (room : ℕ) (m : Module) (l : Linking ws room m) where
     agreement : Agreement m (linkBy os m) (linkMaps os m)
     agreement = record {
       records = closed-records m (linkBy os m) (linkMaps os m) (record { in-tables = records-agree m well ok os e; held = held; special = special });
-      functions = λ i F q. let a = agrees-function i F q in (made (linkMaps os m) .function i, a .0, place-is m well ok os e i (at-in (m .functions) i F q), a .1, a .2);
+      functions = λ i F q. let a = agrees-function i F q in (made (linkMaps os m) .function i, a .0, place-is m well ok os e i (looked-length (m .functions) i q), a .1, a .2);
       once = places-once m well ok os e;
       onto = λ j h. places-onto m well ok os e j (rw (order-length m os e, ← count) h);
       entries = λ i E q. let a = agrees-entry i E q in (a .0, a .1, heads-agree m well ok os e i E q (a .0) (a .1), a .2);

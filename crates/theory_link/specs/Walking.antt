@@ -1,30 +1,32 @@
 -- WALKS: the maps of link are those of every import where it has mapped, since what is mapped stays mapped; so every function and every entry point of the linked module agrees with its source, as walks need it.
 use mathlib.Core.Path.{_≡_, refl, sym, ap, _∙_}
 use mathlib.Core.Bool.{true}
-use mathlib.Core.List.{List, [], _∷_, _++_, map, append-nil}
+use mathlib.Core.List.{List, [], _∷_, _++_, append-nil}
 use mathlib.Core.Option.{some}
 use Prim.Native.Nat.{ℕ, zero, suc, _+_, _<_, pred}
 use native.Mathlib.Omega.{arith}
 use lib.ListN.{length, getD, getElem?, replicate, length-replicate, length-set, length-map}
 use lib.Seq.{getD-set-same, getD-set-other}
+use Rattle.theory_lists.specs.Lists.{looked-map, looked-at, looked-getD, looked-length}
+use Rattle.theory_lists.specs.Booleans.{and-split}
 use Rattle.model.specs.Tree.{Function, Entry, flat, flatEntry}
 use Rattle.model.specs.Module.{Module}
 use Rattle.model.specs.Carry.{carryFunction, carryEntry, carry, WellFunction, WellFormed}
 use Rattle.model.specs.Intake.{Passes}
 use Rattle.model.specs.Initial.{Mem, here, there}
 use Rattle.model.specs.Numbers.{every, within, outside, inside, sound, soundEntry}
-use Rattle.theory_image.specs.Lists.{and-split}
-use Rattle.theory_records.specs.Functions.{cells-in, within-append}
+use Rattle.theory_bodies.specs.Names.{renamed-agrees}
+use Rattle.theory_image.specs.Within.{within-append}
+use Rattle.theory_records.specs.Functions.{cells-in}
 use Rattle.theory_finish.specs.Lifted.{each-kept}
-use Rattle.model.specs.Scope.{seen}
 use Rattle.model.specs.Calls.{In, here as here-in, later as later-in, ordered}
 use Rattle.model.specs.Callees.{calls, orderOf}
 use Rattle.model.specs.Redirect.{nothing, function as functionAt}
 use Rattle.model.specs.Tables.{types, constants, overrides, globals, exprs, tables}
-use Rattle.model.specs.References.{Place, table, own, function, Node, refs, each}
-use Rattle.model.specs.Imports.{St, importT, fresh}
+use Rattle.model.specs.References.{Place, table, own, function, Node, refs, foldRefs}
+use Rattle.model.specs.Imports.{Derived, importT, fresh}
 use Rattle.model.specs.Special.{sourced}
-use Rattle.model.specs.Bodies.{Making, bring, went, step, final, localized, appended, append, follow, entered, entryMade, enterAll, entriesMade}
+use Rattle.model.specs.Bodies.{Builder, bring, mappedTo, step, final, localized, appended, append, follow, entered, entryMade, enterAll, entriesMade}
 use Rattle.model.specs.Finish.{renumber, withNames, namedBy, appearing, gathered, finished}
 use Rattle.model.specs.Session.{withEntries}
 use Rattle.model.specs.Link.{appendAll, linkBy}
@@ -33,16 +35,13 @@ use Rattle.model.specs.Agreement.{MayShare, Among, first, later}
 use mathlib.Core.Logic.{_⊎_}
 use Rattle.theory_walks.specs.Agreement.{Maps, Agrees}
 use Rattle.theory_walks.specs.WholeWords.{made}
-use Rattle.order_ranks.proofs.Lists.{in-right}
-use Rattle.order_ranks.proofs.Theorems.{each-once}
-use Rattle.theory_finish.specs.Alone.{in-times}
+use Rattle.theory_order.specs.Lists.{in-right}
+use Rattle.theory_order.specs.Theorems.{each-once, times-in}
 use Rattle.theory_records.specs.Trace.{Keeps, keeps-trans}
 use Rattle.theory_records.specs.Imported.{Kept, import-kept, import-keeps}
 use Rattle.theory_bodies.specs.Inv.{place}
 use Rattle.theory_bodies.specs.Carried.{Match}
 use Rattle.theory_bodies.specs.Theorems as Theorems
-use Rattle.theory_finish.specs.Touching.{Only, same-b}
-use Rattle.theory_finish.specs.Kept.{exprs-same, initials-kept}
 use Rattle.theory_finish.specs.Finished.{renumber-only}
 use Rattle.theory_finish.specs.Firsts.{Once, once-next}
 use Rattle.theory_finish.specs.Fresh.{stateAt}
@@ -51,56 +50,33 @@ use Rattle.theory_finish.specs.Sessions.{Keeping, specials-in, follow-kept, fun
 use Rattle.theory_finish.specs.Specials.{kept-appended}
 use Rattle.theory_finish.specs.Counting.{order-once}
 use Rattle.theory_link.specs.Exactly.{placed}
-use Rattle.theory_link.specs.Function.{Going, at-some, keeps-self, Called, pass, calls-all, follows, start, ends}
+use Rattle.theory_link.specs.Function.{Going, keeps-self, Called, pass, calls-all, follows, start, ends}
 use Rattle.theory_link.specs.Order.{good-at, functions-made, last, Any, any-follows, at-end, Sound, calls-any, entry-going, entry-made, entry-sound}
 use Rattle.theory_link.specs.Places.{Both, both-at, functions-both, all-append, known-place}
 
 -- ---- the expressions' maps
-memos-other : (is : List ℕ) (m : Module) (s : St) (ms : List (List ℕ)) (i : ℕ) → (Mem i is → ⊥) → getD (memosOf is m s ms) i [] ≡ getD ms i []
+memos-other : (is : List ℕ) (m : Module) (s : Derived) (ms : List (List ℕ)) (i : ℕ) → (Mem i is → ⊥) → getD (memosOf is m s ms) i [] ≡ getD ms i []
 unfolding memosOf
 memos-other [] m s ms i h = refl
 memos-other (x ∷ is) m s ms i h = memos-other is m _ _ i (λ k. h (there k)) ∙ getD-set-other ms x i _ [] (λ q. h (rw q here))
 
-memos-at : (us vs : List ℕ) (i : ℕ) (m : Module) (s : St) (ms : List (List ℕ)) → Once (us ++ (i ∷ vs)) → i < length ms → getD (memosOf (us ++ (i ∷ vs)) m s ms) i [] ≡ final 0 m (follow 0 m) (functionAt m i) (appendAll us 0 m s) .memo
+memos-at : (us vs : List ℕ) (i : ℕ) (m : Module) (s : Derived) (ms : List (List ℕ)) → Once (us ++ (i ∷ vs)) → i < length ms → getD (memosOf (us ++ (i ∷ vs)) m s ms) i [] ≡ final 0 m (follow 0 m) (functionAt m i) (appendAll us 0 m s) .memo
 unfolding memosOf appendAll
 memos-at [] vs i m s ms (once-next h o) l = memos-other vs m _ _ i h ∙ getD-set-same ms i _ [] l
 memos-at (x ∷ us) vs i m s ms (once-next h o) l = memos-at us vs i m (append 0 m (follow 0 m) x s) _ o (rw (length-set ms x (final 0 m (follow 0 m) (functionAt m x) s .memo)) l)
-
-map-at : {A B : Type 0} (f : A → B) (l : List A) (i : ℕ) (x : A) → getElem? l i ≡ some x → getElem? (map f l) i ≡ some (f x)
-map-at f [] i x e = let z : _≡_ {A = ℕ} 0 1 = cc in absurd (omega arith)
-map-at f (y ∷ l) zero x e = let q : y ≡ x = cc in rw q
-map-at f (y ∷ l) (suc i) x e = map-at f l i x e
-
-pub at-in : (l : List Function) (i : ℕ) (F : Function) → getElem? l i ≡ some F → i < length l
-at-in [] i F e = let z : _≡_ {A = ℕ} 0 1 = cc in absurd (omega arith)
-at-in (y ∷ l) zero F e = omega arith
-at-in (y ∷ l) (suc i) F e = let r = at-in l i F e in omega arith
-
-pub at-is-in : (l : List Function) (i : ℕ) (F : Function) → getElem? l i ≡ some F → getD l i nothing ≡ F
-at-is-in [] i F e = let z : _≡_ {A = ℕ} 0 1 = cc in absurd (omega arith)
-at-is-in (y ∷ l) zero F e = cc
-at-is-in (y ∷ l) (suc i) F e = at-is-in l i F e
 
 -- "within a function only standing or initialiser expressions may share a record"
 abbrev pub Apart : List ℕ → Function → Type 0
 Apart o F = (x y k : ℕ) → getD o x 0 ≡ suc k → getD o y 0 ≡ suc k → (x ≡ y) ⊎ (MayShare F x × MayShare F y)
 
 -- ---- a function whose names are numbered anew agrees as it did
-renamed-agrees : {ρ : ℕ → ℕ → ℕ} → Only ρ → (M M′ : Module) (μ : Maps) (F F′ : Function) (f : ℕ → ℕ) → WellFunction F′ → Agrees M M′ μ F F′ f → Agrees M M′ μ F (carryFunction ρ F′) f
-renamed-agrees {ρ} o M M′ μ F F′ f w a = record { body = same-seen ∙ a .body; records = λ e k. rw same-exprs (a .records e k); apart = a .apart }
-  where
-    same-seen : seen (carryFunction ρ F′) ≡ seen F′
-    same-seen = unfold seen in (let i = initials-kept o w in let b = same-b o (w .body-ok) in unfold carryFunction in rw (i, b))
-
-    same-exprs : carryFunction ρ F′ .exprs ≡ F′ .exprs
-    same-exprs = unfold carryFunction in exprs-same o w
 
 module _ (m : Module) (well : WellFormed m) (ok : Passes m) where
   -- what is mapped stays mapped
-  Stays : St → St → Type 0
+  Stays : Derived → Derived → Type 0
   Stays a r = Kept (tables m) r × Keeps a r
 
-  stays-keeping : (a : St) → Keeping m 0 (Stays a)
+  stays-keeping : (a : Derived) → Keeping m 0 (Stays a)
   unfolding Stays
   stays-keeping a = record {
     imports = λ t n s l k. (import-kept m well (ok .numbers) (ok .lowers) 0 t n s l (k .0) .0, keeps-trans a s (importT 0 (tables m) t n s) (k .1) (import-keeps m well (ok .numbers) (ok .lowers) 0 t n s l (k .0)));
@@ -108,11 +84,11 @@ module _ (m : Module) (well : WellFormed m) (ok : Passes m) where
   }
 
   module _ (os : List ℕ) (e : orderOf m ≡ ordered os) where
-    abbrev z : St
+    abbrev z : Derived
     z = last m well ok os e
 
     -- the state in the end
-    abbrev pub end : St
+    abbrev pub end : Derived
     end = enterAll (m .entries) 0 m z
 
     abbrev m′ : Module
@@ -121,7 +97,7 @@ module _ (m : Module) (well : WellFormed m) (ok : Passes m) where
     abbrev μ : Maps
     μ = made (linkMaps os m)
 
-    entries-going : (es : List Entry) → ((E : Entry) → Among E es → Sound m E) → (s : St) → Going m z s → Going m z (enterAll es 0 m s)
+    entries-going : (es : List Entry) → ((E : Entry) → Among E es → Sound m E) → (s : Derived) → Going m z s → Going m z (enterAll es 0 m s)
     unfolding enterAll
     entries-going [] h s g = g
     entries-going (E ∷ es) h s g = entries-going es (λ D k. h D (later k)) (entered 0 m E s .out) (entry-going m well ok os e E (h E first) s g)
@@ -130,13 +106,13 @@ module _ (m : Module) (well : WellFormed m) (ok : Passes m) where
     end-going = entries-going (m .entries) (entry-sound m well ok os e) z (at-end m well ok os e)
 
     module _ (us vs : List ℕ) (i : ℕ) (q : os ≡ us ++ (i ∷ vs)) where
-      abbrev a : St
+      abbrev a : Derived
       a = stateAt m us
 
       abbrev F : Function
       F = functionAt m i
 
-      abbrev fin : Making
+      abbrev fin : Builder
       fin = final 0 m (follow 0 m) F a
 
       abbrev F′ : Function
@@ -170,8 +146,8 @@ module _ (m : Module) (well : WellFormed m) (ok : Passes m) where
       unfolding place
       apart-at = rw memo-is (λ x y k g h. Theorems.shares m well (ok .numbers) (ok .lowers) 0 (follow 0 m) (Called m well ok os e i) (Going m a) (follows m well ok os e us vs i q) F (pass m well ok os e us vs i q) (calls-all m well ok os e us vs i q) a (start m well ok os e us vs i q (good-at m well ok os e us (i ∷ vs) q)) x y (omega arith) (omega arith) (ap pred (g ∙ sym h)))
 
-      match : Match μ (place (fin .memo)) (Called m well ok os e i) (went m fin)
-      unfolding made linkMaps went Keeps place
+      match : Match μ (place (fin .memo)) (Called m well ok os e i) (mappedTo m fin)
+      unfolding made linkMaps mappedTo Keeps place
       match = record {
         of-types = λ n h. ap pred (keeps-end types n h);
         of-constants = λ n h. ap pred (keeps-end constants n h);
@@ -196,12 +172,12 @@ module _ (m : Module) (well : WellFormed m) (ok : Passes m) where
     in-at (x ∷ l) i (later-in k) = let r = in-at l i k in (suc (r .0), r .1)
 
     pub place-of : (i : ℕ) → i < length (m .functions) → (p : ℕ) × (getElem? os p ≡ some i)
-    place-of i h = in-at os i (in-times m well (ok .numbers) (ok .lowers) (ok .names) os e os i (omega (arith, each-once (length (m .functions)) (calls m) os (unfold orderOf in e) i h)))
+    place-of i h = in-at os i (times-in os i (omega (arith, each-once (length (m .functions)) (calls m) os (unfold orderOf in e) i h)))
 
     pub function-apart : (i : ℕ) (F : Function) → getElem? (m .functions) i ≡ some F → Apart (getD (linkMaps os m .inFunctions) i []) F
     function-apart i F q =
-        let p = place-of i (at-in (m .functions) i F q) in
-        let f : functionAt m i ≡ F = (unfold functionAt in at-is-in (m .functions) i F q) in
+        let p = place-of i (looked-length (m .functions) i q) in
+        let f : functionAt m i ≡ F = (unfold functionAt in looked-getD (m .functions) i nothing q) in
         rw f at (both-at all-agree (p .0) i (p .1) .2 .2)
 
     -- each function has its place, no two have one, and every place is one of these
@@ -223,9 +199,9 @@ module _ (m : Module) (well : WellFormed m) (ok : Passes m) where
     some-at (x ∷ l) (suc j) h = let r = some-at l j (omega arith) in (r .0, r .1, later-in (r .2))
 
     pub places-onto : (j : ℕ) → j < length os → (i : ℕ) × (F : Function) × (getElem? (m .functions) i ≡ some F) × (getD (linkMaps os m .functions) i 0 ≡ suc j)
-    places-onto j h = let r = some-at os j h in (r .0, functionAt m (r .0), unfold functionAt in at-some (m .functions) (r .0) (low m os e (r .0) (r .2)), placed m os e j (r .0) (r .1))
+    places-onto j h = let r = some-at os j h in (r .0, functionAt m (r .0), unfold functionAt in looked-at (m .functions) (r .0) nothing (low m os e (r .0) (r .2)), placed m os e j (r .0) (r .1))
 
-    entries-length : (ds : List Entry) (s : St) → length (entriesMade ds 0 m s) ≡ length ds
+    entries-length : (ds : List Entry) (s : Derived) → length (entriesMade ds 0 m s) ≡ length ds
     unfolding entriesMade
     entries-length [] s = refl
     entries-length (E ∷ ds) s = ap suc (entries-length ds (entered 0 m E s .out))
@@ -234,21 +210,21 @@ module _ (m : Module) (well : WellFormed m) (ok : Passes m) where
     unfolding linkBy withEntries finished namedBy withNames carry gathered
     entries-count = length-map (entriesMade (m .entries) 0 m z) (carryEntry (renumber (appearing (gathered end (entriesMade (m .entries) 0 m z))))) ∙ entries-length (m .entries) z
 
-    -- a derived function and a derived entry point in the linked module: their names are numbered anew
+    -- a derived function and a derived entry point in the linked module: their names are numbered again
     pub linked-function : (p : ℕ) (f : Function) → getElem? (end .functions) p ≡ some f → getElem? (m′ .functions) p ≡ some (carryFunction (renumber (appearing (gathered end (entriesMade (m .entries) 0 m z)))) f)
     unfolding linkBy withEntries finished namedBy withNames carry gathered
-    linked-function p f g = map-at (carryFunction (renumber (appearing (gathered end (entriesMade (m .entries) 0 m z))))) (end .functions) p f g
+    linked-function p f g = looked-map (carryFunction (renumber (appearing (gathered end (entriesMade (m .entries) 0 m z))))) (end .functions) p {x = f} g
 
     pub linked-entry : (p : ℕ) (f : Entry) → getElem? (entriesMade (m .entries) 0 m z) p ≡ some f → getElem? (m′ .entries) p ≡ some (carryEntry (renumber (appearing (gathered end (entriesMade (m .entries) 0 m z)))) f)
     unfolding linkBy withEntries finished namedBy withNames carry gathered
-    linked-entry p f g = map-at (carryEntry (renumber (appearing (gathered end (entriesMade (m .entries) 0 m z))))) (entriesMade (m .entries) 0 m z) p f g
+    linked-entry p f g = looked-map (carryEntry (renumber (appearing (gathered end (entriesMade (m .entries) 0 m z))))) (entriesMade (m .entries) 0 m z) p {x = f} g
 
     pub function-agrees : (i : ℕ) (F : Function) → getElem? (m .functions) i ≡ some F → (F″ : Function) × (getElem? (m′ .functions) (μ .function i) ≡ some F″) × Agrees m m′ μ F F″ (μ .inFunction i)
     function-agrees i F q =
-        let l = at-in (m .functions) i F q in
+        let l = looked-length (m .functions) i q in
         let p = place-of i l in
         let b = both-at all-agree (p .0) i (p .1) in
-        let f : functionAt m i ≡ F = (unfold functionAt in at-is-in (m .functions) i F q) in
+        let f : functionAt m i ≡ F = (unfold functionAt in looked-getD (m .functions) i nothing q) in
         let es : List Entry = entriesMade (m .entries) 0 m z in
         let ns : List ℕ = appearing (gathered end es) in
         let k : μ .function i ≡ p .0 = (unfold made in ap pred (placed m os e (p .0) i (p .1))) in
@@ -256,18 +232,18 @@ module _ (m : Module) (well : WellFormed m) (ok : Passes m) where
         (carryFunction (renumber ns) (b .0), rw k (linked-function (p .0) (b .0) g), renamed-agrees (renumber-only ns) m m′ μ F (b .0) (μ .inFunction i) (b .2 .1) (rw f at (b .2 .0)))
 
     -- ---- entry points
-    abbrev Fin : Entry → St → Making
+    abbrev Fin : Entry → Derived → Builder
     Fin E s = final 0 m (follow 0 m) (E .function) s
 
     pub head-within : (E : Entry) → Sound m E → within (inside (outside m) (E .function)) (E .head) ≡ true
     unfolding sound flatEntry
     head-within E k = within-append (inside (outside m) (E .function)) (E .head) (flat (E .function)) (and-split (within (inside (outside m) (E .function)) (E .head ++ flat (E .function))) _ (k .three) .0) .0
 
-    pub body-good : (E : Entry) → Sound m E → (s : St) → Going m z s → Kept (tables m) (Fin E s .out)
+    pub body-good : (E : Entry) → Sound m E → (s : Derived) → Going m z s → Kept (tables m) (Fin E s .out)
     body-good E k s g = Theorems.out-good m well (ok .numbers) (ok .lowers) 0 (follow 0 m) (Any m well ok os e) (Going m z) (any-follows m well ok os e) (E .function) (k .pass) (calls-any m well ok os e E k s g) s g .good .kept
 
-    each-memo : (js : List Node) (x : Making) → each js (step 0 m (follow 0 m) (λ y n. n)) x .memo ≡ x .memo
-    unfolding each
+    each-memo : (js : List Node) (x : Builder) → foldRefs js (step 0 m (follow 0 m) (λ y n. n)) x .memo ≡ x .memo
+    unfolding foldRefs
     each-memo [] x = refl
     each-memo (j ∷ js) x = each-memo js _ ∙ one (j .place) (j .num)
       where
@@ -276,14 +252,14 @@ module _ (m : Module) (well : WellFormed m) (ok : Passes m) where
         one own n = unfold step bring in refl
         one function n = unfold step bring in refl
 
-    -- the name of an entry point, behind its function
-    head-stays : (E : Entry) → Sound m E → (s : St) → Going m z s → Stays (Fin E s .out) (entered 0 m E s .out)
+    -- the name of an entry point, after its function
+    head-stays : (E : Entry) → Sound m E → (s : Derived) → Going m z s → Stays (Fin E s .out) (entered 0 m E s .out)
     unfolding entered Stays
     head-stays E k s g = each-kept m 0 (Stays (Fin E s .out)) (stays-keeping (Fin E s .out) .imports) (follow 0 m) (λ n r h. follow-kept m (ok .numbers) (stays-keeping (Fin E s .out)) n r h) (λ x y. y) (λ x y h. h) (refs (E .head)) (cells-in m (E .function) (E .head) (head-within E k)) (Fin E s) (body-good E k s g, keeps-self (Fin E s .out))
 
     -- entry point p of es is imported in some state of the session
-    pub record Turn (es : List Entry) (s : St) (p : ℕ) (E : Entry) : Type 0 where
-      pub state : St
+    pub record Turn (es : List Entry) (s : Derived) (p : ℕ) (E : Entry) : Type 0 where
+      pub state : Derived
       pub sound : Sound m E
       pub going : Going m z state
       pub is : getElem? (entriesMade es 0 m s) p ≡ some (entryMade 0 m E state)
@@ -292,7 +268,7 @@ module _ (m : Module) (well : WellFormed m) (ok : Passes m) where
       -- with its name
       pub head-keeps : Keeps (entered 0 m E state .out) (enterAll es 0 m s)
 
-    turn : (es : List Entry) → ((E : Entry) → Among E es → Sound m E) → every (soundEntry (outside m)) es ≡ true → (s : St) → Going m z s → (p : ℕ) (E : Entry) → getElem? es p ≡ some E → Turn es s p E
+    turn : (es : List Entry) → ((E : Entry) → Among E es → Sound m E) → every (soundEntry (outside m)) es ≡ true → (s : Derived) → Going m z s → (p : ℕ) (E : Entry) → getElem? es p ≡ some E → Turn es s p E
     unfolding entriesMade memosIn enterAll every Stays
     turn [] h v s g p E q = let y : _≡_ {A = ℕ} 0 1 = cc in absurd (omega arith)
     turn (D ∷ es) h v s g zero E q = let r : D ≡ E = cc in now r (h E (rw r first)) (and-split (soundEntry (outside m) D) _ v .1)
@@ -315,7 +291,7 @@ module _ (m : Module) (well : WellFormed m) (ok : Passes m) where
     the-turn p E q = turn (m .entries) (entry-sound m well ok os e) (specials-in m (ok .numbers) .2) z (at-end m well ok os e) p E q
 
     module _ (p : ℕ) (E : Entry) (t : Turn (m .entries) z p E) where
-      abbrev fin′ : Making
+      abbrev fin′ : Builder
       fin′ = Fin E (t .state)
 
       pub body-going : Going m z (fin′ .out)
@@ -329,8 +305,8 @@ module _ (m : Module) (well : WellFormed m) (ok : Passes m) where
       unfolding linkMaps place
       entry-apart = rw (t .memo) (λ x y k g h. Theorems.shares m well (ok .numbers) (ok .lowers) 0 (follow 0 m) (Any m well ok os e) (Going m z) (any-follows m well ok os e) (E .function) (t .sound .pass) (calls-any m well ok os e E (t .sound) (t .state) (t .going)) (t .state) (t .going) x y (omega arith) (omega arith) (ap pred (g ∙ sym h)))
 
-      entry-match : Match μ (place (fin′ .memo)) (Any m well ok os e) (went m fin′)
-      unfolding made linkMaps went Keeps place
+      entry-match : Match μ (place (fin′ .memo)) (Any m well ok os e) (mappedTo m fin′)
+      unfolding made linkMaps mappedTo Keeps place
       entry-match = record {
         of-types = λ n h. ap pred (t .keeps types n h);
         of-constants = λ n h. ap pred (t .keeps constants n h);

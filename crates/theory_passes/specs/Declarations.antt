@@ -1,4 +1,4 @@
--- THE DECLARATIONS: one pass over the head, the arguments, the result and the locals leaves what `declared` leaves, and what is written is the same cells of the derived function. The model carries them by the maps behind all of them, the pass by those of each word's turn: what is mapped stays mapped.
+-- THE DECLARATIONS: one pass over the head, the arguments, the result and the locals leaves what `declared` leaves, and what is written is the same cells of the derived function. The model carries them by the maps after all of them, the pass by those of each word's turn: what is mapped stays mapped.
 use Prim.Native.Nat.{ℕ, zero, suc, _<_}
 use mathlib.Core.Path.{_≡_, refl, ap, sym, _∙_}
 use mathlib.Core.Logic.{inr}
@@ -11,11 +11,11 @@ use Rattle.model.specs.Table.{ARGUMENTS, LOCALS}
 use Rattle.model.specs.Tree.{Function, flatAll, flatList}
 use Rattle.model.specs.Module.{Module}
 use Rattle.model.specs.Carry.{Each, each-none, each-next, WellFunction}
-use Rattle.model.specs.References.{Place, table, own, function, Target, copied, start, upto, ref, opt, targets, target, Node, refOf, refs, each}
+use Rattle.model.specs.References.{Place, table, own, function, Target, copied, start, upto, ref, opt, targets, target, Node, refOf, refs, foldRefs}
 use Rattle.model.specs.Operands.{ops}
 use Rattle.model.specs.Initial.{root, step as reach-step, Reached, roots}
-use Rattle.model.specs.Imports.{St}
-use Rattle.model.specs.Bodies.{Making, carried, step, join as joinE, unique, declarations, declared, derived, localized}
+use Rattle.model.specs.Imports.{Derived}
+use Rattle.model.specs.Bodies.{Builder, carried, step, internExpr as joinE, importInitialiser, declarations, declared, derived, localized}
 use Rattle.theory_records.specs.RecordLaws.{All as AllN, all-both as alln-both}
 use Rattle.theory_bodies.specs.Lists.{all-any, all-mem}
 use Rattle.theory_bodies.specs.Context.{InN, Law, Ctx, OwnP, Own, owns-all}
@@ -43,60 +43,60 @@ unfolding refs
 refs-append [] b = refl
 refs-append (c ∷ a) b = ap (refOf (target (class c)) (word c)) (refs-append a b) ∙ ref-append (target (class c)) (word c) (refs a) (refs b)
 
-pub each-append : {S : Type 0} (js ks : List Node) (f : Place → ℕ → S → S) (s : S) → each (js ++ ks) f s ≡ each ks f (each js f s)
-unfolding each
+pub each-append : {S : Type 0} (js ks : List Node) (f : Place → ℕ → S → S) (s : S) → foldRefs (js ++ ks) f s ≡ foldRefs ks f (foldRefs js f s)
+unfolding foldRefs
 each-append [] ks f s = refl
 each-append (j ∷ js) ks f s = each-append js ks f (f (j .place) (j .num) s)
 
-module _ (o : ℕ) (M : Module) (follow : ℕ → St → St) (p q : ℕ → Making → Making) where
-  abbrev stepP : Place → ℕ → Making → Making
+module _ (o : ℕ) (M : Module) (follow : ℕ → Derived → Derived) (p q : ℕ → Builder → Builder) where
+  abbrev stepP : Place → ℕ → Builder → Builder
   stepP = step o M follow p
 
-  steady-append : (js ks : List Node) (d st : Making) → Steady o M follow p q (js ++ ks) d st → Steady o M follow p q js d st × Steady o M follow p q ks d (each js stepP st)
-  unfolding Steady each
+  steady-append : (js ks : List Node) (d st : Builder) → Steady o M follow p q (js ++ ks) d st → Steady o M follow p q js d st × Steady o M follow p q ks d (foldRefs js stepP st)
+  unfolding Steady foldRefs
   steady-append [] ks d st h = (tt, h)
   steady-append (j ∷ js) ks d st h = let z = steady-append js ks d (stepP (j .place) (j .num) st) (h .1) in ((h .0, z .0), z .1)
 
   -- cells, one run after the other
-  pub steady-both : (a b : Cells) (d st : Making) → Steady o M follow p q (refs (a ++ b)) d st → Steady o M follow p q (refs a) d st × Steady o M follow p q (refs b) d (each (refs a) stepP st)
+  pub steady-both : (a b : Cells) (d st : Builder) → Steady o M follow p q (refs (a ++ b)) d st → Steady o M follow p q (refs a) d st × Steady o M follow p q (refs b) d (foldRefs (refs a) stepP st)
   steady-both a b d st h = steady-append (refs a) (refs b) d st (rw (refs-append a b) at h)
 
-  pub run-both : (a b : Cells) (st : Making) → each (refs (a ++ b)) stepP st ≡ each (refs b) stepP (each (refs a) stepP st)
+  pub run-both : (a b : Cells) (st : Builder) → foldRefs (refs (a ++ b)) stepP st ≡ foldRefs (refs b) stepP (foldRefs (refs a) stepP st)
   run-both a b st = rw (refs-append a b) (each-append (refs a) (refs b) stepP st)
 
   -- records
-  records : {rs : List Cells} → Each Fields rs → (d st : Making) → Steady o M follow p q (refs (flatAll rs)) d st → Passage o M follow p q (flatAll rs) st (each (refs (flatAll rs)) stepP st) (flatAll (map (carried o M d) rs))
-  unfolding flatAll refs each
+  records : {rs : List Cells} → Each Fields rs → (d st : Builder) → Steady o M follow p q (refs (flatAll rs)) d st → Passage o M follow p q (flatAll rs) st (foldRefs (refs (flatAll rs)) stepP st) (flatAll (map (carried o M d) rs))
+  unfolding flatAll refs foldRefs
   records each-none d st h = nothing o M follow p q st
   records (each-next {a = r} {l = rs} f fs) d st h =
       let z = steady-both r (flatAll rs) d st h in
-      rw (run-both r (flatAll rs) st) (join o M follow p q (fields-carried o M follow p q f d st (z .0)) (records fs d (each (refs r) stepP st) (z .1)))
+      rw (run-both r (flatAll rs) st) (join o M follow p q (fields-carried o M follow p q f d st (z .0)) (records fs d (foldRefs (refs r) stepP st) (z .1)))
 
-  -- a list behind its count
-  pub listed : (s : ℕ) {rs : List Cells} → calm? s ≡ true → target s ≡ copied → Each Fields rs → (d st : Making) → Steady o M follow p q (refs (flatAll rs)) d st
-      → Passage o M follow p q (flatList s rs) st (each (refs (flatAll rs)) stepP st) (flatList s (map (carried o M d) rs))
+  -- a list after its count
+  pub listed : (s : ℕ) {rs : List Cells} → calm? s ≡ true → target s ≡ copied → Each Fields rs → (d st : Builder) → Steady o M follow p q (refs (flatAll rs)) d st
+      → Passage o M follow p q (flatList s rs) st (foldRefs (refs (flatAll rs)) stepP st) (flatList s (map (carried o M d) rs))
   unfolding flatList
   listed s {rs} c t fs d st h = rw (length-map rs (carried o M d)) (join o M follow p q (copy o M follow p p q q s (length rs) st c t) (records fs d st h))
 
-  -- a run of cells behind another
-  behind : (a b : Cells) {ws vs x y : Cells} (st : Making) → Passage o M follow p q ws st (each (refs a) stepP st) x → Passage o M follow p q vs (each (refs a) stepP st) (each (refs b) stepP (each (refs a) stepP st)) y → Passage o M follow p q (ws ++ vs) st (each (refs (a ++ b)) stepP st) (x ++ y)
+  -- a run of cells after another
+  behind : (a b : Cells) {ws vs x y : Cells} (st : Builder) → Passage o M follow p q ws st (foldRefs (refs a) stepP st) x → Passage o M follow p q vs (foldRefs (refs a) stepP st) (foldRefs (refs b) stepP (foldRefs (refs a) stepP st)) y → Passage o M follow p q (ws ++ vs) st (foldRefs (refs (a ++ b)) stepP st) (x ++ y)
   behind a b st f g = rw (run-both a b st) (join o M follow p q f g)
 
   -- a head, a list, a result, a list
-  pub declares : (h b : Cells) (A L : List Cells) → Fields h → Each Fields A → Fields b → Each Fields L → (d st : Making) → Steady o M follow p q (refs (h ++ flatAll A ++ b ++ flatAll L)) d st
-      → Passage o M follow p q (h ++ flatList ARGUMENTS A ++ b ++ flatList LOCALS L) st (each (refs (h ++ flatAll A ++ b ++ flatAll L)) stepP st)
+  pub declares : (h b : Cells) (A L : List Cells) → Fields h → Each Fields A → Fields b → Each Fields L → (d st : Builder) → Steady o M follow p q (refs (h ++ flatAll A ++ b ++ flatAll L)) d st
+      → Passage o M follow p q (h ++ flatList ARGUMENTS A ++ b ++ flatList LOCALS L) st (foldRefs (refs (h ++ flatAll A ++ b ++ flatAll L)) stepP st)
       (carried o M d h ++ flatList ARGUMENTS (map (carried o M d) A) ++ carried o M d b ++ flatList LOCALS (map (carried o M d) L))
   declares h b A L fh fA fb fL d st k =
       let z₃ = steady-both (h ++ flatAll A ++ b) (flatAll L) d st k in
       let z₂ = steady-both (h ++ flatAll A) b d st (z₃ .0) in
       let z₁ = steady-both h (flatAll A) d st (z₂ .0) in
       let a = fields-carried o M follow p q fh d st (z₁ .0) in
-      let a₁ = behind h (flatAll A) st a (listed ARGUMENTS (unfold calm? still? target targets in refl) (unfold target targets in refl) fA d (each (refs h) stepP st) (z₁ .1)) in
-      let a₂ = behind (h ++ flatAll A) b st a₁ (fields-carried o M follow p q fb d (each (refs (h ++ flatAll A)) stepP st) (z₂ .1)) in
-      behind (h ++ flatAll A ++ b) (flatAll L) st a₂ (listed LOCALS (unfold calm? still? target targets in refl) (unfold target targets in refl) fL d (each (refs (h ++ flatAll A ++ b)) stepP st) (z₃ .1))
+      let a₁ = behind h (flatAll A) st a (listed ARGUMENTS (unfold calm? still? target targets in refl) (unfold target targets in refl) fA d (foldRefs (refs h) stepP st) (z₁ .1)) in
+      let a₂ = behind (h ++ flatAll A) b st a₁ (fields-carried o M follow p q fb d (foldRefs (refs (h ++ flatAll A)) stepP st) (z₂ .1)) in
+      behind (h ++ flatAll A ++ b) (flatAll L) st a₂ (listed LOCALS (unfold calm? still? target targets in refl) (unfold target targets in refl) fL d (foldRefs (refs (h ++ flatAll A ++ b)) stepP st) (z₃ .1))
 
 -- ---- of a function that passed intake
-module _ (o : ℕ) (M : Module) (follow : ℕ → St → St) (Q : ℕ → Type 0) (G : St → Type 0) (law : Law o M follow Q G) (F : Function) (fine : Fine (ctx o M follow Q G law F) F) where
+module _ (o : ℕ) (M : Module) (follow : ℕ → Derived → Derived) (Q : ℕ → Type 0) (G : Derived → Type 0) (law : Law o M follow Q G) (F : Function) (fine : Fine (ctx o M follow Q G law F) F) where
   abbrev xs : List Cells
   xs = F .exprs
 
@@ -109,17 +109,17 @@ module _ (o : ℕ) (M : Module) (follow : ℕ → St → St) (Q : ℕ → Type 0
   abbrev R : ℕ → Type 0
   R = Reached F
 
-  abbrev joinF : ℕ → Making → Making
+  abbrev joinF : ℕ → Builder → Builder
   joinF = joinE o M follow xs
 
-  abbrev u : ℕ → Making → Making
-  u = unique o M follow xs
+  abbrev u : ℕ → Builder → Builder
+  u = importInitialiser o M follow xs
 
-  abbrev stepU : Place → ℕ → Making → Making
+  abbrev stepU : Place → ℕ → Builder → Builder
   stepU = step o M follow u
 
   -- initialisers merge
-  merges : (e : ℕ) (st : Making) → e < length xs → R e → Un (st .memo) e → Inv c st → Unit {0} → AllN (Wants c joinF (λ e. true) R (λ y. R y → ⊥) (λ s. Unit {0}) st) (refs (getD xs e []))
+  merges : (e : ℕ) (st : Builder) → e < length xs → R e → Un (st .memo) e → Inv c st → Unit {0} → AllN (Wants c joinF (λ e. true) R (λ y. R y → ⊥) (λ s. Unit {0}) st) (refs (getD xs e []))
       → Ends c joinF (λ e. true) R (λ y. R y → ⊥) (λ s. Unit {0}) e st (joinF e st)
   merges e st l r z i j a =
       let p = join-put c e st i l z (alln-both (refs (getD xs e [])) (λ j f g. f g) a (own-ops c ex (λ y. true ≡ true) e (all-any (ops xs e) (λ y. refl)))) in
@@ -128,13 +128,13 @@ module _ (o : ℕ) (M : Module) (follow : ℕ → St → St) (Q : ℕ → Type 0
   pub reach-ops : (e : ℕ) → R e → AllN (Own R) (refs (getD xs e []))
   reach-ops e h = own-ops c ex R e (all-mem R (ops xs e) (λ y m. reach-step h m))
 
-  one : (x : ℕ) (st : Making) → x < length xs → R x → Inv c st → Unit {0} → Res c joinF (λ e. true) R (λ y. R y → ⊥) (λ s. Unit {0}) x st (u x st)
-  unfolding unique
+  one : (x : ℕ) (st : Builder) → x < length xs → R x → Inv c st → Unit {0} → Res c joinF (λ e. true) R (λ y. R y → ⊥) (λ s. Unit {0}) x st (u x st)
+  unfolding importInitialiser
   one x st l r i j =
       import-res c joinF (λ e. true) R (λ y. R y → ⊥) (λ s. Unit {0}) (λ e m. own-ops c ex _ e (ex .lower e m)) (λ e r. ex .inside e (inr (inr r))) reach-ops
       (λ p n s j. tt) merges (length xs) x st l l r i j
 
-  runs : (js : List Node) (st : Making) → AllN (Own (λ x. x < length xs)) js → AllN (Own R) js → AllN (InN M Q) js → Inv c st → Many c joinF (λ e. true) R (λ y. R y → ⊥) (λ s. Unit {0}) (length xs) js st (each js stepU st)
+  runs : (js : List Node) (st : Builder) → AllN (Own (λ x. x < length xs)) js → AllN (Own R) js → AllN (InN M Q) js → Inv c st → Many c joinF (λ e. true) R (λ y. R y → ⊥) (λ s. Unit {0}) (length xs) js st (foldRefs js stepU st)
   runs js st l r w i =
       many c joinF (λ e. true) R (λ y. R y → ⊥) (λ s. Unit {0}) (λ e m. own-ops c ex _ e (ex .lower e m)) (λ e r. ex .inside e (inr (inr r))) reach-ops
       (λ p n s j. tt) merges (length xs) u one js st l r w i tt
@@ -145,16 +145,16 @@ module _ (o : ℕ) (M : Module) (follow : ℕ → St → St) (Q : ℕ → Type 0
   wanted own n = refl
   wanted function n = tt
 
-  steadies : (js : List Node) (st : Making) → AllN (Own (λ x. x < length xs)) js → AllN (Own R) js → AllN (InN M Q) js → Inv c st → Steady o M follow u u js (each js stepU st) st
-  unfolding Steady each
+  steadies : (js : List Node) (st : Builder) → AllN (Own (λ x. x < length xs)) js → AllN (Own R) js → AllN (InN M Q) js → Inv c st → Steady o M follow u u js (foldRefs js stepU st) st
+  unfolding Steady foldRefs
   steadies [] st l r w i = tt
   steadies (j ∷ js) st l r w i =
       let a = runs (j ∷ []) st (l .0, tt) (r .0, tt) (w .0, tt) i in
       let z = runs js (stepU (j .place) (j .num) st) (l .1) (r .1) (w .1) (a .inv) in
       (sym (z .ext .keeps (j .place) (j .num) (a .has .0 (wanted (j .place) (j .num)))), steadies js (stepU (j .place) (j .num) st) (l .1) (r .1) (w .1) (a .inv))
 
-  module _ (s : St) (good : G s) where
-    abbrev d : Making
+  module _ (s : Derived) (good : G s) where
+    abbrev d : Builder
     d = declared o M follow F s
 
     begin-inv : Inv c (begin F s)

@@ -1,4 +1,4 @@
--- The passes by example, computed: P10 and P11 of document 01, an Atomic with its compare, a call with a result, a merged initialiser, blocks in blocks, spans. What is written is the flat list of the derived function, and the state behind is the model's.
+-- The passes by example, computed: P10 and P11 of document 01, an Atomic with its compare, a call with a result, a merged initialiser, blocks in blocks, spans. What is written is the flat list of the derived function, and the state after is the model's.
 use mathlib.Core.Path.{_≡_, refl, ap₂}
 use mathlib.Core.List.{List, [], _∷_}
 use mathlib.Core.Bool.{Bool, true, false, _&&_, false≢true}
@@ -6,6 +6,7 @@ use mathlib.Core.Option.{none, some}
 use Prim.Native.Nat.{ℕ}
 use lib.Dec.{eqb}
 use borrow.Author.Tests.{eqb-true}
+use Rattle.theory_lists.specs.Booleans.{and-first, and-second}
 use Rattle.model.specs.Outcome.{Cell, Cells, class, word}
 use Rattle.model.specs.Table.{WORD, NAME, SPAN, UPTO, TYPE, LOCAL-INIT, VALUE, RETURNS}
 use Rattle.model.specs.Tree.{stmt, block, branch, switch, loop, break, return, kill, call, end, _then_, case, nomore, _also_, Function, optOf, wordOf, kindOf, sizeB, sizeC, flatAll, flatList, flatX, flatS, flatBlock, flat}
@@ -17,12 +18,11 @@ use Rattle.model.specs.Scope.{upFrom, inRange}
 use Rattle.model.specs.SampleBodies.{literal, splat, negate, add as plus, called, does, evals, store, exchange, local}
 use Rattle.model.specs.Redirect.{nameWord, nothing, function}
 use Rattle.model.specs.Tables.{codeT, isT, at, upd, six, tables, recAt, count, mapAt}
-use Rattle.model.specs.References.{targets, target, refOf, refs, each, carryW, through, undefined, add, spanBy, firstWord, undefinedAt, moved, shift, alikeC, alike, seat, merged}
-use Rattle.model.specs.Imports.{once, settle, wentT, made, commit, stepT, importF, levels, importT, unmapped, emptied, fresh}
-use Rattle.model.specs.Bodies.{lastOf, known, Making, bring, compareOf, comparesOf, eachE, optE, went, carried, step, push, join, stand, importE, plain, unique, quiet, goS, settled, mkS, putName, nameIf, keepNames, nameCells, namedRows, declarations, declared, walked, rebuilt, keptNames, namedAfter, derived, final, localized, appended, append, followF, follow}
+use Rattle.model.specs.References.{targets, target, refOf, refs, foldRefs, carryW, through, undefined, add, spanBy, firstWord, undefinedAt, moved, shift, alikeC, alike, indexOf, interned}
+use Rattle.model.specs.Imports.{unlessMapped, intern, mappedToT, made, commit, stepT, importF, levels, importT, unmapped, emptied, fresh}
+use Rattle.model.specs.Bodies.{lastOf, known, Builder, bring, compareOf, comparesOf, eachE, optE, mappedTo, carried, step, appendExpr, internExpr, appendStanding, importE, importBody, importInitialiser, importStanding, importStmt, carriedForm, rebuildStmt, putName, nameIf, keepNames, nameCells, namedRows, declarations, declared, walked, rebuilt, keptNames, namedAfter, derived, final, localized, appended, append, followF, follow}
 use Rattle.model.specs.Special.{force, withSpecial, putRay, rayTo, ray, rays, keyed, putPair, pairTo, pairs, sourced}
 use Rattle.model.specs.ImportExamples.{leaf, module-of, function-of, named as name-of}
-use Rattle.theory_image.specs.Lists.{and-first, and-second}
 use Rattle.theory_bodies.specs.Shallow.{need, peek, glance}
 use Rattle.theory_passes.specs.Pass.{atomicKind, arrive, first, both, early, passed, wordOf as wordAt, after, written, named, rows, front, begin, frontAfter, frontWritten, bodyAfter, bodyWritten, namesAfter, namesWritten, wholeAfter, wholeWritten}
 
@@ -37,10 +37,10 @@ passes M = wholeWritten 10 M (follow 10 M) (function M 0) (sourced 10 M fresh)
 unfoldable pub becomes : Module → Cells
 becomes M = flat (localized 10 M (follow 10 M) (function M 0) (sourced 10 M fresh))
 
-unfoldable pub state : Module → Making
+unfoldable pub state : Module → Builder
 state M = wholeAfter 10 M (follow 10 M) (function M 0) (sourced 10 M fresh)
 
-unfoldable pub ends : Module → Making
+unfoldable pub ends : Module → Builder
 ends M = final 10 M (follow 10 M) (function M 0) (sourced 10 M fresh)
 
 -- equal cells, by a test: to compute it is quicker than to compare both sides step by step
@@ -76,7 +76,7 @@ p11 = world (function-of 0 (local 2 ∷ []) (literal 7 ∷ splat 0 ∷ []) (name
 abbrev pub compare : Module
 compare = world (function-of 0 [] (literal 5 ∷ literal 6 ∷ literal 7 ∷ []) [] (exchange 0 2 2 0 then end) ∷ [])
 
--- a call with an operand and a result, which is read behind it, in a block; statements have spans
+-- a call with an operand and a result, which is read after it, in a block; statements have spans
 abbrev pub calls : Module
 calls = world (function-of 0 [] (literal 7 ∷ called 1 ∷ negate 1 ∷ []) [] (stmt 5 6 (block (stmt 3 0 (call 1 (0 ∷ []) (some 1)) then evals 2 3 then end)) then end) ∷ function-of 1 [] [] [] end ∷ [])
 
@@ -101,29 +101,29 @@ declares =
     } ∷ [])
 
 pub of-p10 : Same p10
-unfolding equal passes becomes state ends atomicKind arrive first both early passed wordAt after written named rows front begin frontAfter frontWritten bodyAfter bodyWritten namesAfter namesWritten wholeAfter wholeWritten need peek glance optOf wordOf kindOf sizeB sizeC flatAll flatList flatX flatS flatBlock flat carryCell carryOpt carryRange carryS optional kind standingKind kindAt standing field upFrom inRange nameWord nothing function codeT isT at upd six tables recAt count mapAt targets target refOf refs each carryW through undefined add spanBy firstWord undefinedAt moved shift alikeC alike seat merged once settle wentT made commit stepT importF levels importT unmapped emptied fresh lastOf known bring compareOf comparesOf eachE optE went carried step push join stand importE plain unique quiet goS settled mkS putName nameIf keepNames nameCells namedRows declarations declared walked rebuilt keptNames namedAfter derived final localized appended append followF follow force withSpecial putRay rayTo ray rays keyed putPair pairTo pairs sourced
+unfolding equal passes becomes state ends atomicKind arrive first both early passed wordAt after written named rows front begin frontAfter frontWritten bodyAfter bodyWritten namesAfter namesWritten wholeAfter wholeWritten need peek glance optOf wordOf kindOf sizeB sizeC flatAll flatList flatX flatS flatBlock flat carryCell carryOpt carryRange carryS optional kind standingKind kindAt standing field upFrom inRange nameWord nothing function codeT isT at upd six tables recAt count mapAt targets target refOf refs foldRefs carryW through undefined add spanBy firstWord undefinedAt moved shift alikeC alike indexOf interned unlessMapped intern mappedToT made commit stepT importF levels importT unmapped emptied fresh lastOf known bring compareOf comparesOf eachE optE mappedTo carried step appendExpr internExpr appendStanding importE importBody importInitialiser importStanding importStmt carriedForm rebuildStmt putName nameIf keepNames nameCells namedRows declarations declared walked rebuilt keptNames namedAfter derived final localized appended append followF follow force withSpecial putRay rayTo ray rays keyed putPair pairTo pairs sourced
 of-p10 = record { cells = equals (passes p10) (becomes p10) refl; memo = refl }
 
 pub of-p11 : Same p11
-unfolding equal passes becomes state ends atomicKind arrive first both early passed wordAt after written named rows front begin frontAfter frontWritten bodyAfter bodyWritten namesAfter namesWritten wholeAfter wholeWritten need peek glance optOf wordOf kindOf sizeB sizeC flatAll flatList flatX flatS flatBlock flat carryCell carryOpt carryRange carryS optional kind standingKind kindAt standing field upFrom inRange nameWord nothing function codeT isT at upd six tables recAt count mapAt targets target refOf refs each carryW through undefined add spanBy firstWord undefinedAt moved shift alikeC alike seat merged once settle wentT made commit stepT importF levels importT unmapped emptied fresh lastOf known bring compareOf comparesOf eachE optE went carried step push join stand importE plain unique quiet goS settled mkS putName nameIf keepNames nameCells namedRows declarations declared walked rebuilt keptNames namedAfter derived final localized appended append followF follow force withSpecial putRay rayTo ray rays keyed putPair pairTo pairs sourced
+unfolding equal passes becomes state ends atomicKind arrive first both early passed wordAt after written named rows front begin frontAfter frontWritten bodyAfter bodyWritten namesAfter namesWritten wholeAfter wholeWritten need peek glance optOf wordOf kindOf sizeB sizeC flatAll flatList flatX flatS flatBlock flat carryCell carryOpt carryRange carryS optional kind standingKind kindAt standing field upFrom inRange nameWord nothing function codeT isT at upd six tables recAt count mapAt targets target refOf refs foldRefs carryW through undefined add spanBy firstWord undefinedAt moved shift alikeC alike indexOf interned unlessMapped intern mappedToT made commit stepT importF levels importT unmapped emptied fresh lastOf known bring compareOf comparesOf eachE optE mappedTo carried step appendExpr internExpr appendStanding importE importBody importInitialiser importStanding importStmt carriedForm rebuildStmt putName nameIf keepNames nameCells namedRows declarations declared walked rebuilt keptNames namedAfter derived final localized appended append followF follow force withSpecial putRay rayTo ray rays keyed putPair pairTo pairs sourced
 of-p11 = record { cells = equals (passes p11) (becomes p11) refl; memo = refl }
 
 pub of-compare : Same compare
-unfolding equal passes becomes state ends atomicKind arrive first both early passed wordAt after written named rows front begin frontAfter frontWritten bodyAfter bodyWritten namesAfter namesWritten wholeAfter wholeWritten need peek glance optOf wordOf kindOf sizeB sizeC flatAll flatList flatX flatS flatBlock flat carryCell carryOpt carryRange carryS optional kind standingKind kindAt standing field upFrom inRange nameWord nothing function codeT isT at upd six tables recAt count mapAt targets target refOf refs each carryW through undefined add spanBy firstWord undefinedAt moved shift alikeC alike seat merged once settle wentT made commit stepT importF levels importT unmapped emptied fresh lastOf known bring compareOf comparesOf eachE optE went carried step push join stand importE plain unique quiet goS settled mkS putName nameIf keepNames nameCells namedRows declarations declared walked rebuilt keptNames namedAfter derived final localized appended append followF follow force withSpecial putRay rayTo ray rays keyed putPair pairTo pairs sourced
+unfolding equal passes becomes state ends atomicKind arrive first both early passed wordAt after written named rows front begin frontAfter frontWritten bodyAfter bodyWritten namesAfter namesWritten wholeAfter wholeWritten need peek glance optOf wordOf kindOf sizeB sizeC flatAll flatList flatX flatS flatBlock flat carryCell carryOpt carryRange carryS optional kind standingKind kindAt standing field upFrom inRange nameWord nothing function codeT isT at upd six tables recAt count mapAt targets target refOf refs foldRefs carryW through undefined add spanBy firstWord undefinedAt moved shift alikeC alike indexOf interned unlessMapped intern mappedToT made commit stepT importF levels importT unmapped emptied fresh lastOf known bring compareOf comparesOf eachE optE mappedTo carried step appendExpr internExpr appendStanding importE importBody importInitialiser importStanding importStmt carriedForm rebuildStmt putName nameIf keepNames nameCells namedRows declarations declared walked rebuilt keptNames namedAfter derived final localized appended append followF follow force withSpecial putRay rayTo ray rays keyed putPair pairTo pairs sourced
 of-compare = record { cells = equals (passes compare) (becomes compare) refl; memo = refl }
 
 pub of-calls : Same calls
-unfolding equal passes becomes state ends atomicKind arrive first both early passed wordAt after written named rows front begin frontAfter frontWritten bodyAfter bodyWritten namesAfter namesWritten wholeAfter wholeWritten need peek glance optOf wordOf kindOf sizeB sizeC flatAll flatList flatX flatS flatBlock flat carryCell carryOpt carryRange carryS optional kind standingKind kindAt standing field upFrom inRange nameWord nothing function codeT isT at upd six tables recAt count mapAt targets target refOf refs each carryW through undefined add spanBy firstWord undefinedAt moved shift alikeC alike seat merged once settle wentT made commit stepT importF levels importT unmapped emptied fresh lastOf known bring compareOf comparesOf eachE optE went carried step push join stand importE plain unique quiet goS settled mkS putName nameIf keepNames nameCells namedRows declarations declared walked rebuilt keptNames namedAfter derived final localized appended append followF follow force withSpecial putRay rayTo ray rays keyed putPair pairTo pairs sourced
+unfolding equal passes becomes state ends atomicKind arrive first both early passed wordAt after written named rows front begin frontAfter frontWritten bodyAfter bodyWritten namesAfter namesWritten wholeAfter wholeWritten need peek glance optOf wordOf kindOf sizeB sizeC flatAll flatList flatX flatS flatBlock flat carryCell carryOpt carryRange carryS optional kind standingKind kindAt standing field upFrom inRange nameWord nothing function codeT isT at upd six tables recAt count mapAt targets target refOf refs foldRefs carryW through undefined add spanBy firstWord undefinedAt moved shift alikeC alike indexOf interned unlessMapped intern mappedToT made commit stepT importF levels importT unmapped emptied fresh lastOf known bring compareOf comparesOf eachE optE mappedTo carried step appendExpr internExpr appendStanding importE importBody importInitialiser importStanding importStmt carriedForm rebuildStmt putName nameIf keepNames nameCells namedRows declarations declared walked rebuilt keptNames namedAfter derived final localized appended append followF follow force withSpecial putRay rayTo ray rays keyed putPair pairTo pairs sourced
 of-calls = record { cells = equals (passes calls) (becomes calls) refl; memo = refl }
 
 pub of-nested : Same nested
-unfolding equal passes becomes state ends atomicKind arrive first both early passed wordAt after written named rows front begin frontAfter frontWritten bodyAfter bodyWritten namesAfter namesWritten wholeAfter wholeWritten need peek glance optOf wordOf kindOf sizeB sizeC flatAll flatList flatX flatS flatBlock flat carryCell carryOpt carryRange carryS optional kind standingKind kindAt standing field upFrom inRange nameWord nothing function codeT isT at upd six tables recAt count mapAt targets target refOf refs each carryW through undefined add spanBy firstWord undefinedAt moved shift alikeC alike seat merged once settle wentT made commit stepT importF levels importT unmapped emptied fresh lastOf known bring compareOf comparesOf eachE optE went carried step push join stand importE plain unique quiet goS settled mkS putName nameIf keepNames nameCells namedRows declarations declared walked rebuilt keptNames namedAfter derived final localized appended append followF follow force withSpecial putRay rayTo ray rays keyed putPair pairTo pairs sourced
+unfolding equal passes becomes state ends atomicKind arrive first both early passed wordAt after written named rows front begin frontAfter frontWritten bodyAfter bodyWritten namesAfter namesWritten wholeAfter wholeWritten need peek glance optOf wordOf kindOf sizeB sizeC flatAll flatList flatX flatS flatBlock flat carryCell carryOpt carryRange carryS optional kind standingKind kindAt standing field upFrom inRange nameWord nothing function codeT isT at upd six tables recAt count mapAt targets target refOf refs foldRefs carryW through undefined add spanBy firstWord undefinedAt moved shift alikeC alike indexOf interned unlessMapped intern mappedToT made commit stepT importF levels importT unmapped emptied fresh lastOf known bring compareOf comparesOf eachE optE mappedTo carried step appendExpr internExpr appendStanding importE importBody importInitialiser importStanding importStmt carriedForm rebuildStmt putName nameIf keepNames nameCells namedRows declarations declared walked rebuilt keptNames namedAfter derived final localized appended append followF follow force withSpecial putRay rayTo ray rays keyed putPair pairTo pairs sourced
 of-nested = record { cells = equals (passes nested) (becomes nested) refl; memo = refl }
 
 pub of-cases : Same cases
-unfolding equal passes becomes state ends atomicKind arrive first both early passed wordAt after written named rows front begin frontAfter frontWritten bodyAfter bodyWritten namesAfter namesWritten wholeAfter wholeWritten need peek glance optOf wordOf kindOf sizeB sizeC flatAll flatList flatX flatS flatBlock flat carryCell carryOpt carryRange carryS optional kind standingKind kindAt standing field upFrom inRange nameWord nothing function codeT isT at upd six tables recAt count mapAt targets target refOf refs each carryW through undefined add spanBy firstWord undefinedAt moved shift alikeC alike seat merged once settle wentT made commit stepT importF levels importT unmapped emptied fresh lastOf known bring compareOf comparesOf eachE optE went carried step push join stand importE plain unique quiet goS settled mkS putName nameIf keepNames nameCells namedRows declarations declared walked rebuilt keptNames namedAfter derived final localized appended append followF follow force withSpecial putRay rayTo ray rays keyed putPair pairTo pairs sourced
+unfolding equal passes becomes state ends atomicKind arrive first both early passed wordAt after written named rows front begin frontAfter frontWritten bodyAfter bodyWritten namesAfter namesWritten wholeAfter wholeWritten need peek glance optOf wordOf kindOf sizeB sizeC flatAll flatList flatX flatS flatBlock flat carryCell carryOpt carryRange carryS optional kind standingKind kindAt standing field upFrom inRange nameWord nothing function codeT isT at upd six tables recAt count mapAt targets target refOf refs foldRefs carryW through undefined add spanBy firstWord undefinedAt moved shift alikeC alike indexOf interned unlessMapped intern mappedToT made commit stepT importF levels importT unmapped emptied fresh lastOf known bring compareOf comparesOf eachE optE mappedTo carried step appendExpr internExpr appendStanding importE importBody importInitialiser importStanding importStmt carriedForm rebuildStmt putName nameIf keepNames nameCells namedRows declarations declared walked rebuilt keptNames namedAfter derived final localized appended append followF follow force withSpecial putRay rayTo ray rays keyed putPair pairTo pairs sourced
 of-cases = record { cells = equals (passes cases) (becomes cases) refl; memo = refl }
 
 pub of-declares : Same declares
-unfolding equal passes becomes state ends atomicKind arrive first both early passed wordAt after written named rows front begin frontAfter frontWritten bodyAfter bodyWritten namesAfter namesWritten wholeAfter wholeWritten need peek glance optOf wordOf kindOf sizeB sizeC flatAll flatList flatX flatS flatBlock flat carryCell carryOpt carryRange carryS optional kind standingKind kindAt standing field upFrom inRange nameWord nothing function codeT isT at upd six tables recAt count mapAt targets target refOf refs each carryW through undefined add spanBy firstWord undefinedAt moved shift alikeC alike seat merged once settle wentT made commit stepT importF levels importT unmapped emptied fresh lastOf known bring compareOf comparesOf eachE optE went carried step push join stand importE plain unique quiet goS settled mkS putName nameIf keepNames nameCells namedRows declarations declared walked rebuilt keptNames namedAfter derived final localized appended append followF follow force withSpecial putRay rayTo ray rays keyed putPair pairTo pairs sourced
+unfolding equal passes becomes state ends atomicKind arrive first both early passed wordAt after written named rows front begin frontAfter frontWritten bodyAfter bodyWritten namesAfter namesWritten wholeAfter wholeWritten need peek glance optOf wordOf kindOf sizeB sizeC flatAll flatList flatX flatS flatBlock flat carryCell carryOpt carryRange carryS optional kind standingKind kindAt standing field upFrom inRange nameWord nothing function codeT isT at upd six tables recAt count mapAt targets target refOf refs foldRefs carryW through undefined add spanBy firstWord undefinedAt moved shift alikeC alike indexOf interned unlessMapped intern mappedToT made commit stepT importF levels importT unmapped emptied fresh lastOf known bring compareOf comparesOf eachE optE mappedTo carried step appendExpr internExpr appendStanding importE importBody importInitialiser importStanding importStmt carriedForm rebuildStmt putName nameIf keepNames nameCells namedRows declarations declared walked rebuilt keptNames namedAfter derived final localized appended append followF follow force withSpecial putRay rayTo ray rays keyed putPair pairTo pairs sourced
 of-declares = record { cells = equals (passes declares) (becomes declares) refl; memo = refl }

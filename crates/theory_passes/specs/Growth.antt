@@ -1,4 +1,4 @@
--- The passes only add: whatever relation between what is under way before and behind holds of each single step (a record of a table, a callee, an expression appended or merged) holds of every pass. So what is too large at some cell is too large in the end. Assumes nothing of the source.
+-- The passes only add: whatever relation between the builder before and after holds of each single step (a record of a table, a callee, an expression appended or merged) holds of every pass. So what is too large at some cell is too large in the end. Assumes nothing of the source.
 use mathlib.Core.Path.{_≡_, refl, _∙_}
 use mathlib.Core.Bool.{Bool, true, false}
 use mathlib.Core.List.{List, [], _∷_, _++_}
@@ -12,46 +12,46 @@ use Rattle.model.specs.Table.{FROM, STMT-KIND, NAME}
 use Rattle.model.specs.Tree.{flatAll}
 use Rattle.model.specs.Module.{Module}
 use Rattle.model.specs.Tables.{Tab, tables}
-use Rattle.model.specs.References.{Place, table, own, function, Target, copied, start, upto, ref, opt, target, Node, refs, each, firstWord, alike, merged}
+use Rattle.model.specs.References.{Place, table, own, function, Target, copied, start, upto, ref, opt, target, Node, refs, foldRefs, firstWord, alike, interned}
 use Rattle.model.specs.Operands.{standing}
 use Rattle.model.specs.Scope.{inRange}
-use Rattle.model.specs.Imports.{St, once, importT}
-use Rattle.model.specs.Bodies.{Making, bring, carried, step, comparesOf, eachE, push, join, importE, unique}
+use Rattle.model.specs.Imports.{Derived, unlessMapped, importT}
+use Rattle.model.specs.Bodies.{Builder, bring, carried, step, comparesOf, eachE, appendExpr, internExpr, importE, importInitialiser}
 use Rattle.theory_records.specs.RecordLaws.{kept, kept-in, kept-longer}
 use Rattle.theory_bodies.specs.Context.{once-is}
 use Rattle.theory_bodies.specs.Shallow.{need, peek, glance}
 use Rattle.theory_passes.specs.Pass.{atomicKind, arrive, first, both, early, passed, after, named}
 
-module _ (o : ℕ) (M : Module) (follow : ℕ → St → St) (xs : List Cells) where
+module _ (o : ℕ) (M : Module) (follow : ℕ → Derived → Derived) (xs : List Cells) where
   -- a relation that each single step keeps
-  pub record Growing (R : Making → Making → Type 0) : Type 0 where
-    pub same : (m : Making) → R m m
-    pub next : (a b c : Making) → R a b → R b c → R a c
-    pub tables : (t : Tab) (n : ℕ) (m : Making) → R m (bring (importT o (tables M) t n) m)
-    pub functions : (f : ℕ) (m : Making) → R m (bring (follow f) m)
-    pub appends : (e : ℕ) (m : Making) → R m (push o M follow xs e m)
-    pub merges : (e : ℕ) (m : Making) → R m (join o M follow xs e m)
+  pub record Growing (R : Builder → Builder → Type 0) : Type 0 where
+    pub same : (m : Builder) → R m m
+    pub next : (a b c : Builder) → R a b → R b c → R a c
+    pub tables : (t : Tab) (n : ℕ) (m : Builder) → R m (bring (importT o (tables M) t n) m)
+    pub functions : (f : ℕ) (m : Builder) → R m (bring (follow f) m)
+    pub appends : (e : ℕ) (m : Builder) → R m (appendExpr o M follow xs e m)
+    pub merges : (e : ℕ) (m : Builder) → R m (internExpr o M follow xs e m)
 
-  module _ (R : Making → Making → Type 0) (g : Growing R) where
-    abbrev Grows : (Making → Making) → Type 0
-    Grows f = (m : Making) → R m (f m)
+  module _ (R : Builder → Builder → Type 0) (g : Growing R) where
+    abbrev Grows : (Builder → Builder) → Type 0
+    Grows f = (m : Builder) → R m (f m)
 
-    chain : (f h : Making → Making) → Grows f → Grows h → Grows (λ m. h (f m))
+    chain : (f h : Builder → Builder) → Grows f → Grows h → Grows (λ m. h (f m))
     chain f h a b m = g .next m (f m) (h (f m)) (a m) (b (f m))
 
-    when : (v : ℕ) (k : ℕ → Making) (m : Making) → R m (k 0) → R m (once v k m)
+    when : (v : ℕ) (k : ℕ → Builder) (m : Builder) → R m (k 0) → R m (unlessMapped v k m)
     when v k m h = once-is (R m) v k m (λ z. h) (λ z. g .same m)
 
     -- ---- p imports an expression, q is a first pass
-    module _ (p : ℕ → Making → Making) (a : (e : ℕ) → Grows (p e)) where
+    module _ (p : ℕ → Builder → Builder) (a : (e : ℕ) → Grows (p e)) where
       grow-step : (s : Place) (n : ℕ) → Grows (step o M follow p s n)
       unfolding step
       grow-step (table t) n m = g .tables t n m
       grow-step own n m = a n m
       grow-step function n m = g .functions n m
 
-      grow-each : (js : List Node) → Grows (each js (step o M follow p))
-      unfolding each
+      grow-each : (js : List Node) → Grows (foldRefs js (step o M follow p))
+      unfolding foldRefs
       grow-each [] m = g .same m
       grow-each (j ∷ js) m = g .next m _ _ (grow-step (j .place) (j .num) m) (grow-each js (step o M follow p (j .place) (j .num) m))
 
@@ -60,7 +60,7 @@ module _ (o : ℕ) (M : Module) (follow : ℕ → St → St) (xs : List Cells) w
       grow-all [] m = g .same m
       grow-all (e ∷ es) m = g .next m _ _ (a e m) (grow-all es (p e m))
 
-      module _ (q : ℕ → Making → Making) (b : (es : List ℕ) → Grows (eachE es q)) where
+      module _ (q : ℕ → Builder → Builder) (b : (es : List ℕ) → Grows (eachE es q)) where
         pub grow-arrive : (t : Target) (w : ℕ) → Grows (arrive o M follow p q t w)
         unfolding arrive
         grow-arrive copied w m = g .same m
@@ -111,18 +111,18 @@ module _ (o : ℕ) (M : Module) (follow : ℕ → St → St) (xs : List Cells) w
     unfolding glance
     grow-glance e m = when (getD (m .memo) e 0) _ m (grow-each (peek o M follow xs) grow-peek (refs (getD xs e [])) m)
 
-    grow-levels : (n e : ℕ) → Grows (importE o M follow xs (join o M follow xs) n e)
+    grow-levels : (n e : ℕ) → Grows (importE o M follow xs (internExpr o M follow xs) n e)
     unfolding importE
     grow-levels zero e m = g .same m
-    grow-levels (suc n) e m = when (getD (m .memo) e 0) _ m (g .next m _ _ (grow-each (importE o M follow xs (join o M follow xs) n) (λ e m. grow-levels n e m) (refs (getD xs e [])) m) (g .merges e _))
+    grow-levels (suc n) e m = when (getD (m .memo) e 0) _ m (g .next m _ _ (grow-each (importE o M follow xs (internExpr o M follow xs) n) (λ e m. grow-levels n e m) (refs (getD xs e [])) m) (g .merges e _))
 
-    pub grow-unique : (e : ℕ) → Grows (unique o M follow xs e)
-    unfolding unique
+    pub grow-unique : (e : ℕ) → Grows (importInitialiser o M follow xs e)
+    unfolding importInitialiser
     grow-unique e m = grow-levels (length xs) e m
 
     -- ---- the passes, from any cell on
-    pub grow-front : (cs : Cells) → Grows (after o M follow (unique o M follow xs) (unique o M follow xs) cs)
-    grow-front cs m = grow-after (unique o M follow xs) grow-unique (unique o M follow xs) (grow-all (unique o M follow xs) grow-unique) cs m
+    pub grow-front : (cs : Cells) → Grows (after o M follow (importInitialiser o M follow xs) (importInitialiser o M follow xs) cs)
+    grow-front cs m = grow-after (importInitialiser o M follow xs) grow-unique (importInitialiser o M follow xs) (grow-all (importInitialiser o M follow xs) grow-unique) cs m
 
     pub grow-body : (cs : Cells) → Grows (after o M follow (need o M follow xs) (glance o M follow xs) cs)
     grow-body cs m = grow-after (need o M follow xs) grow-need (glance o M follow xs) (grow-all (glance o M follow xs) grow-glance) cs m
@@ -131,7 +131,7 @@ module _ (o : ℕ) (M : Module) (follow : ℕ → St → St) (xs : List Cells) w
     grow-names ks m = grow-named (need o M follow xs) grow-need (glance o M follow xs) (grow-all (glance o M follow xs) grow-glance) ks m
 
   -- ---- the expressions made, by number and by words
-  pub record Longer (m m′ : Making) : Type 0 where
+  pub record Longer (m m′ : Builder) : Type 0 where
     pub many : length (m .made) ≤ length (m′ .made)
     pub long : length (flatAll (m .made)) ≤ length (flatAll (m′ .made))
 
@@ -140,18 +140,18 @@ module _ (o : ℕ) (M : Module) (follow : ℕ → St → St) (xs : List Cells) w
   flat-append [] b = omega arith
   flat-append (r ∷ a) b = omega (arith, flat-append a b, length-append r (flatAll (a ++ b)), length-append r (flatAll a))
 
-  merged-longer : (ds : List Cells) (r : Cells) → (length ds ≤ length (merged ds r)) × (length (flatAll ds) ≤ length (flatAll (merged ds r)))
-  unfolding merged flatAll
+  merged-longer : (ds : List Cells) (r : Cells) → (length ds ≤ length (interned ds r)) × (length (flatAll ds) ≤ length (flatAll (interned ds r)))
+  unfolding interned flatAll
   merged-longer [] r = (omega arith, omega arith)
   merged-longer (d ∷ ds) r = go (alike d r) (merged-longer ds r)
     where
-      go : (b : Bool) → (length ds ≤ length (merged ds r)) × (length (flatAll ds) ≤ length (flatAll (merged ds r)))
-          → (suc (length ds) ≤ length {A = Cells} (elim b [ true ↦ d ∷ ds | false ↦ d ∷ merged ds r ])) × (length (d ++ flatAll ds) ≤ length (flatAll (elim b [ true ↦ d ∷ ds | false ↦ d ∷ merged ds r ])))
+      go : (b : Bool) → (length ds ≤ length (interned ds r)) × (length (flatAll ds) ≤ length (flatAll (interned ds r)))
+          → (suc (length ds) ≤ length {A = Cells} (elim b [ true ↦ d ∷ ds | false ↦ d ∷ interned ds r ])) × (length (d ++ flatAll ds) ≤ length (flatAll (elim b [ true ↦ d ∷ ds | false ↦ d ∷ interned ds r ])))
       go true h = (le-refl _, le-refl _)
-      go false h = let x = h .0 in let y = h .1 in (omega arith, omega (arith, length-append d (flatAll ds), length-append d (flatAll (merged ds r))))
+      go false h = let x = h .0 in let y = h .1 in (omega arith, omega (arith, length-append d (flatAll ds), length-append d (flatAll (interned ds r))))
 
   pub longer : Growing Longer
-  unfolding bring push join
+  unfolding bring appendExpr internExpr
   longer = record {
     same = λ m. record { many = le-refl _; long = le-refl _ };
     next = λ a b c p q. record { many = le-trans (p .many) (q .many); long = le-trans (p .long) (q .long) };
@@ -162,10 +162,10 @@ module _ (o : ℕ) (M : Module) (follow : ℕ → St → St) (xs : List Cells) w
   }
 
   -- ---- the memo keeps its length, and sends to what is made
-  pub record Placed (m : Making) : Type 0 where
+  pub record Placed (m : Builder) : Type 0 where
     pub within : (e : ℕ) → getD (m .memo) e 0 ≤ length (m .made)
 
-  pub record Stays (m m′ : Making) : Type 0 where
+  pub record Stays (m m′ : Builder) : Type 0 where
     pub long : length (m′ .memo) ≡ length (m .memo)
     pub places : Placed m → Placed m′
 
@@ -177,7 +177,7 @@ module _ (o : ℕ) (M : Module) (follow : ℕ → St → St) (xs : List Cells) w
   set-within (m ∷ ms) (suc e) v n h l (suc y) = set-within ms e v n (λ y. h (suc y)) l y
 
   pub stays : Growing Stays
-  unfolding bring push join
+  unfolding bring appendExpr internExpr
   stays = record {
     same = λ m. record { long = refl; places = λ h. h };
     next = λ a b c p q. record { long = q .long ∙ p .long; places = λ h. q .places (p .places h) };
@@ -190,5 +190,5 @@ module _ (o : ℕ) (M : Module) (follow : ℕ → St → St) (xs : List Cells) w
     merges = λ e m.
         let r = carried o M m (getD xs e []) in
         let k = kept r (m .made) in
-        record { long = length-set (m .memo) e _; places = λ h. record { within = set-within (m .memo) e _ (length (merged (m .made) r)) (λ y. le-trans (h .within y) (kept-longer k)) (kept-in k) } };
+        record { long = length-set (m .memo) e _; places = λ h. record { within = set-within (m .memo) e _ (length (interned (m .made) r)) (λ y. le-trans (h .within y) (kept-longer k)) (kept-in k) } };
   }

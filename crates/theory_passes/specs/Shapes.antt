@@ -9,18 +9,17 @@ use native.Mathlib.Omega.{arith}
 use lib.Dec.{eqb, ltb}
 use lib.ListN.{getElem?}
 use borrow.Author.Tests.{eqb-true, ltb-true, ne-eqb}
+use Rattle.theory_lists.specs.Booleans.{and-split, or-cases}
 use Rattle.model.specs.Outcome.{Cells, class, word}
 use Rattle.model.specs.Table.{Row, WORD, SPAN, UPTO, NAME, TYPE, EXPR, OPT-EXPR, OPT-RESULT, LOCAL-INIT, PAD, ARGUMENTS, LOCALS, VALUE, ATOMIC, RETURNS, Shape, sEmit, sBlock, sIf, sSwitch, sLoop, sBreak, sContinue, sReturn, sKill, sCall, sEffect, statements, functionHead, counted, values, results, binding, variants, more}
 use Rattle.model.specs.Carry.{carryCell, carryCells, Lays, lays-none, lays-next, Each, each-none, each-next}
 use Rattle.model.specs.References.{Place, targets, target, through, firstWord, shift}
 use Rattle.model.specs.Module.{Module}
-use Rattle.model.specs.Imports.{St}
-use Rattle.model.specs.Bodies.{Making, compareOf, comparesOf, eachE}
+use Rattle.model.specs.Imports.{Derived}
+use Rattle.model.specs.Bodies.{Builder, compareOf, comparesOf, eachE}
 use Rattle.theory_image.specs.Plain.{plain?, plain-more}
-use Rattle.theory_image.specs.Lists.{and-split}
 use Rattle.theory_image.specs.Quiet.{Plainly, plain-none, plain-next, plainly}
 use Rattle.theory_image.specs.FunctionViews.{variant-brings}
-use Rattle.theory_bodies.specs.Lists.{or-true}
 use Rattle.theory_bodies.specs.Classes.{Effects, e-none, e-last, e-more, effect-cells, result-cells}
 use Rattle.theory_passes.specs.Pass.{atomicKind, early}
 use Rattle.theory_passes.specs.Passage.{Calm, still?, calm?, calm-of, Fields, f-none, f-span, f-cell}
@@ -68,7 +67,7 @@ value-copies (lays-next {w} {xs} {cs} e l) = (unfold calm? still? target targets
     go (suc (suc (suc k))) e l = let z : _≡_ {A = ℕ} 0 1 = (unfold values in cc) in absurd (omega arith)
 
 -- ---- an effect's compare
--- the code of an atomic function, with a cell behind it
+-- the code of an atomic function, with a cell after it
 unfoldable some? : Cells → Bool
 some? [] = false
 some? (c ∷ cs) = true
@@ -158,7 +157,7 @@ held-16 l = next-held EXPR refl l (λ d l. next-held EXPR refl l (λ d l. next-h
 
 effect-held : (k : ℕ) {ss : Row} {cs : Cells} → atomicKind k ≡ true → getElem? statements k ≡ some (sEffect ss) → Lays ss cs → held? cs ≡ true
 unfolding atomicKind
-effect-held k {ss} {cs} h e l = ⊎-elim (λ q. at13 (rw (eqb-true k 13 q) at e)) (λ q. at16 (rw (eqb-true k 16 q) at e)) (or-true (eqb k 13) _ h)
+effect-held k {ss} {cs} h e l = ⊎-elim (λ q. at13 (rw (eqb-true k 13 q) at e)) (λ q. at16 (rw (eqb-true k 16 q) at e)) (or-cases (eqb k 13) _ h)
   where
     at13 : getElem? statements 13 ≡ some (sEffect ss) → held? cs ≡ true
     at13 e = let n : ss ≡ EXPR ∷ ATOMIC ∷ EXPR ∷ OPT-RESULT ∷ [] = (unfold statements in cc) in held-13 (rw n at l)
@@ -167,8 +166,8 @@ effect-held k {ss} {cs} h e l = ⊎-elim (λ q. at13 (rw (eqb-true k 13 q) at e)
     at16 e = let n : ss ≡ EXPR ∷ EXPR ∷ OPT-EXPR ∷ ATOMIC ∷ EXPR ∷ [] = (unfold statements in cc) in held-16 (rw n at l)
 
 -- WHAT IS READ AHEAD at an effect's kind is its own compare
-pub effect-early : (o : ℕ) (M : Module) (follow : ℕ → St → St) (p q : ℕ → Making → Making) (k : ℕ) {ss : Row} {cs : Cells} → getElem? statements k ≡ some (sEffect ss) → Lays ss cs
-    → (a b : ℕ) (ts : Cells) (st : Making) → early o M follow p q k ((SPAN, a) ∷ (UPTO, b) ∷ (cs ++ ts)) st ≡ eachE (comparesOf cs) p st
+pub effect-early : (o : ℕ) (M : Module) (follow : ℕ → Derived → Derived) (p q : ℕ → Builder → Builder) (k : ℕ) {ss : Row} {cs : Cells} → getElem? statements k ≡ some (sEffect ss) → Lays ss cs
+    → (a b : ℕ) (ts : Cells) (st : Builder) → early o M follow p q k ((SPAN, a) ∷ (UPTO, b) ∷ (cs ++ ts)) st ≡ eachE (comparesOf cs) p st
 unfolding early
 effect-early o M follow p q k {ss} {cs} e l a b ts st = go (atomicKind k) refl
   where

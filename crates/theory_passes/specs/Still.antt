@@ -1,4 +1,4 @@
--- THE PASSES WITHOUT CALLS IN EXPRESSIONS: an expression is imported by `need`, `glance` and `unique` with a follow that does nothing (`still`); calls are followed at a Call's word alone. The same state, the same cells.
+-- THE PASSES WITHOUT CALLS IN EXPRESSIONS: an expression is imported by `need`, `glance` and `importInitialiser` with a follow that does nothing (`still`); calls are followed at a Call's word alone. The same state, the same cells.
 use Prim.Native.Nat.{ℕ, _<_}
 use mathlib.Core.Path.{_≡_, refl, sym, _∙_, subst}
 use mathlib.Core.Logic.{_⊎_, inl, inr, ⊎-elim}
@@ -10,18 +10,18 @@ use native.Mathlib.Decide.{decLt}
 use lib.Dec.{eqb}
 use lib.ListN.{length, getD, List·getD-eq-default}
 use borrow.Author.Tests.{eqb-true}
+use Rattle.theory_lists.specs.Booleans.{and-split}
 use Rattle.model.specs.Outcome.{Cells}
 use Rattle.model.specs.Tree.{Function, flatBlock}
 use Rattle.model.specs.Module.{Module}
-use Rattle.model.specs.References.{function, Node, refs, each}
+use Rattle.model.specs.References.{function, Node, refs, foldRefs}
 use Rattle.model.specs.Operands.{kind, standingKind, resultKind, emittedKind, constantKind, functionOf, kindAt, standing}
 use Rattle.model.specs.Initial.{root, Reached, roots, marked, initials}
 use Rattle.theory_image.specs.Reached.{initialised-is}
 use Rattle.model.specs.Scope.{inRange, live, emitted, isOf, callResult, effectResult, evalsOpt}
 use Rattle.model.specs.Callees.{callees}
-use Rattle.model.specs.Imports.{St}
-use Rattle.model.specs.Bodies.{Making, went, step, unique, declarations, declared, walked, rebuilt, derived, localized}
-use Rattle.theory_image.specs.Lists.{and-split}
+use Rattle.model.specs.Imports.{Derived}
+use Rattle.model.specs.Bodies.{Builder, mappedTo, step, importInitialiser, declarations, declared, walked, rebuilt, derived, localized}
 use Rattle.theory_finish.specs.Called.{FunsOk}
 use Rattle.theory_records.specs.RecordLaws.{All as AllN}
 use Rattle.theory_bodies.specs.Lists.{All, all-mem}
@@ -41,7 +41,7 @@ use Rattle.theory_passes.specs.Ready.{Ready, Ways}
 use Rattle.theory_passes.specs.Light.{still, funs-map, Bare, Known, need-had, need-known, unique-light, range-need, range-glance}
 use Rattle.theory_passes.specs.Body.{body-ways}
 
-module _ (o : ℕ) (M : Module) (follow : ℕ → St → St) (Q : ℕ → Type 0) (G : St → Type 0) (law : Law o M follow Q G) (F : Function) (pass : Passes M F) (calls : All Q (callees F)) where
+module _ (o : ℕ) (M : Module) (follow : ℕ → Derived → Derived) (Q : ℕ → Type 0) (G : Derived → Type 0) (law : Law o M follow Q G) (F : Function) (pass : Passes M F) (calls : All Q (callees F)) where
   abbrev xs : List Cells
   xs = F .exprs
 
@@ -91,22 +91,22 @@ module _ (o : ℕ) (M : Module) (follow : ℕ → St → St) (Q : ℕ → Type 0
   abbrev init : ℕ → Bool
   init = marked (initials F)
 
-  abbrev LightS : Making → ℕ → Type 0
+  abbrev LightS : Builder → ℕ → Type 0
   LightS st e = Has (st .memo) e ⊎ FunsOk (Known c st) (refs (getD xs e []))
 
-  known-ext : (st st′ : Making) → Ext M st st′ → (f : ℕ) → Known c st f → Known c st′ f
-  unfolding went
+  known-ext : (st st′ : Builder) → Ext M st st′ → (f : ℕ) → Known c st f → Known c st′ f
+  unfolding mappedTo
   known-ext st st′ x f h = rw (x .keeps function f h) h
 
-  light-funs : (st : Making) (f : ℕ) → Known c st f → (es : List ℕ) → All (λ e. FunsOk (λ g. g ≡ f) (refs (getD xs e []))) es → All (LightS st) es
+  light-funs : (st : Builder) (f : ℕ) → Known c st f → (es : List ℕ) → All (λ e. FunsOk (λ g. g ≡ f) (refs (getD xs e []))) es → All (LightS st) es
   light-funs st f k [] a = tt
   light-funs st f k (e ∷ es) a = (inr (funs-map (λ g q. rw q k) (refs (getD xs e [])) (a .0)), light-funs st f k es (a .1))
 
-  light-bares : (st : Making) (es : List ℕ) → All (λ e. FunsOk (Known c st) (refs (getD xs e []))) es → All (LightS st) es
+  light-bares : (st : Builder) (es : List ℕ) → All (λ e. FunsOk (Known c st) (refs (getD xs e []))) es → All (LightS st) es
   light-bares st [] a = tt
   light-bares st (e ∷ es) a = (inr (a .0), light-bares st es (a .1))
 
-  same : (e : ℕ) (st : Making) → Inv c st → Ready c (fit .exprs) st e → LightS st e → need o M still xs e st ≡ needC c e st
+  same : (e : ℕ) (st : Builder) → Inv c st → Ready c (fit .exprs) st e → LightS st e → need o M still xs e st ≡ needC c e st
   same e st i (inl h) l = sym (need-had o M follow xs e st h)
   same e st i (inr b) (inl h) = sym (need-had o M follow xs e st h)
   same e st i (inr b) (inr k) = sym (need-known c e st (i .good) (fit .exprs .inside e (b .1)) k)
@@ -131,23 +131,23 @@ module _ (o : ℕ) (M : Module) (follow : ℕ → St → St) (Q : ℕ → Type 0
       constant : (k : ℕ) → k ≡ 23 → constantKind k ≡ true → ⊥
       constant k q h = false≢true (unfold constantKind in rw q at h)
 
-  abbrev u : ℕ → Making → Making
-  u = unique o M follow xs
+  abbrev u : ℕ → Builder → Builder
+  u = importInitialiser o M follow xs
 
-  abbrev v : ℕ → Making → Making
-  v = unique o M still xs
+  abbrev v : ℕ → Builder → Builder
+  v = importInitialiser o M still xs
 
   roots-agree : AllN (Own (Agree o M follow xs u v)) (refs (declarations o M follow F))
   roots-agree = owns-all _ (refs (declarations o M follow F)) (rw (fit .declared-owned) (all-mem _ (roots (F .locals)) (λ x m k. unique-light o M follow xs (Reached F) initial-bare (reach-ops o M follow Q G law F fit) x k (root m))))
 
-  steady-same : (js : List Node) (d st : Making) → AllN (Own (Agree o M follow xs u v)) js → Steady o M follow u u js d st → Steady o M follow v v js d st
+  steady-same : (js : List Node) (d st : Builder) → AllN (Own (Agree o M follow xs u v)) js → Steady o M follow u u js d st → Steady o M follow v v js d st
   unfolding Steady
   steady-same [] d st a h = tt
   steady-same (j ∷ js) d st a h =
       let e = step-same o M follow xs u v (j .place) (j .num) st (a .0) in
       rw (← e) (h .0, steady-same js d (step o M follow u (j .place) (j .num) st) (a .1) (h .1))
 
-  module _ (s : St) (good : G s) where
+  module _ (s : Derived) (good : G s) where
     pub still-front : Passage o M follow v v (front F) (begin F s) (declared o M follow F s) (front (localized o M follow F s))
     unfolding front localized derived declarations
     still-front =
@@ -156,9 +156,9 @@ module _ (o : ℕ) (M : Module) (follow : ℕ → St → St) (Q : ℕ → Type 0
         let d = declared o M follow F s in
         let f = declares o M follow v v (F .head) (F .result) (F .arguments) (F .locals) (head-fields (w .head-ok)) (each-fields (λ r l. argument-fields l) (w .arguments-ok .each)) (result-fields (w .result-ok)) (each-fields (λ r l. local-fields l) (w .locals-ok .each))
         d (begin F s) (steady-same js d (begin F s) roots-agree (steady o M follow Q G law F fit s good)) in
-        subst (λ (m : Making). Passage o M follow v v (front F) (begin F s) m (front (localized o M follow F s))) (sym (each-same o M follow xs u v js (begin F s) roots-agree) ∙ (unfold declared begin in refl)) f
+        subst (λ (m : Builder). Passage o M follow v v (front F) (begin F s) m (front (localized o M follow F s))) (sym (each-same o M follow xs u v js (begin F s) roots-agree) ∙ (unfold declared begin in refl)) f
 
-    abbrev dec : Making
+    abbrev dec : Builder
     dec = declared o M follow F s
 
     pub still-body : Passage o M follow (need o M still xs) (glance o M still xs) (flatBlock (F .body)) dec (walked o M follow F dec) (flatBlock (rebuilt o M follow F dec))

@@ -1,4 +1,4 @@
--- The theorems on the passes over a function's cells, each with its statement in full, for a source that passed intake's tests 3, 4 and 6 and a way to follow calls (`Follows`): what the passes write is the flat list of the derived function, and what they leave is the model's state behind its import.
+-- The theorems on the passes over a function's cells, each with its statement in full, for a source that passed intake's tests 3, 4 and 6 and a way to follow calls (`Follows`): what the passes write is the flat list of the derived function, and what they leave is the model's state after its import.
 use Prim.Native.Nat.{ℕ, suc, _+_, _*_, _<_}
 use mathlib.Core.Path.{_≡_, refl, ap, sym}
 use mathlib.Core.Bool.{true, false}
@@ -13,8 +13,8 @@ use Rattle.model.specs.Carry.{WellFormed}
 use Rattle.model.specs.Numbers.{numbered}
 use Rattle.model.specs.Lower.{lower}
 use Rattle.model.specs.Callees.{callees}
-use Rattle.model.specs.Imports.{St}
-use Rattle.model.specs.Bodies.{Making, unique, keptNames, declared, walked, rebuilt, derived, final, localized}
+use Rattle.model.specs.Imports.{Derived}
+use Rattle.model.specs.Bodies.{Builder, importInitialiser, keptNames, declared, walked, rebuilt, derived, final, localized}
 use Rattle.theory_bodies.specs.Lists.{All}
 use Rattle.theory_bodies.specs.Context.{Law}
 use Rattle.theory_bodies.specs.Shallow.{need, glance}
@@ -32,21 +32,21 @@ use Rattle.theory_passes.specs.Declarations as Declarations
 use Rattle.theory_passes.specs.Names as Names
 
 -- ---- lengths, of any function and from any state
-module _ (o : ℕ) (M : Module) (follow : ℕ → St → St) (F : Function) where
-  pub front-length : (s : St) → length (frontWritten o M follow F s) ≡ length (front F)
+module _ (o : ℕ) (M : Module) (follow : ℕ → Derived → Derived) (F : Function) where
+  pub front-length : (s : Derived) → length (frontWritten o M follow F s) ≡ length (front F)
   unfolding frontWritten
   front-length s = written-length o M follow _ _ (front F) false _
 
-  pub body-length : (m : Making) → length (bodyWritten o M follow F m) ≡ length (flatBlock (F .body))
+  pub body-length : (m : Builder) → length (bodyWritten o M follow F m) ≡ length (flatBlock (F .body))
   unfolding bodyWritten
   body-length m = written-length o M follow _ _ (flatBlock (F .body)) false m
 
-  pub names-length : (m : Making) → length (namesWritten o M follow F m) ≡ suc (2 * length (keptNames o M follow F m))
+  pub names-length : (m : Builder) → length (namesWritten o M follow F m) ≡ suc (2 * length (keptNames o M follow F m))
   unfolding namesWritten
   names-length m = ap suc (Names.rows-length o M follow _ _ (keptNames o M follow F m) m)
 
   -- so the record is as long as these
-  pub whole-length : (s : St) → length (wholeWritten o M follow F s)
+  pub whole-length : (s : Derived) → length (wholeWritten o M follow F s)
       ≡ length (front F) + suc (length (flatAll (bodyAfter o M follow F (frontAfter o M follow F s) .made))) + suc (2 * length (keptNames o M follow F (bodyAfter o M follow F (frontAfter o M follow F s)))) + length (flatBlock (F .body))
   unfolding wholeWritten flatList
   whole-length s =
@@ -57,8 +57,8 @@ module _ (o : ℕ) (M : Module) (follow : ℕ → St → St) (F : Function) wher
       let d = bodyWritten o M follow F (frontAfter o M follow F s) in
       omega (arith, length-append (a ++ b ++ c) d, length-append (a ++ b) c, length-append a b, front-length s, names-length m, body-length (frontAfter o M follow F s))
 
-module _ (M : Module) (well : WellFormed M) (three : numbered M ≡ true) (four : lower M ≡ true) (o : ℕ) (follow : ℕ → St → St) (Q : ℕ → Type 0) (G : St → Type 0) (follows : Follows o M follow Q G)
-    (F : Function) (pass : Passes M F) (calls : All Q (callees F)) (s : St) (good : G s) where
+module _ (M : Module) (well : WellFormed M) (three : numbered M ≡ true) (four : lower M ≡ true) (o : ℕ) (follow : ℕ → Derived → Derived) (Q : ℕ → Type 0) (G : Derived → Type 0) (follows : Follows o M follow Q G)
+    (F : Function) (pass : Passes M F) (calls : All Q (callees F)) (s : Derived) (good : G s) where
   abbrev law : Law o M follow Q G
   law = lawful M well three four o follow Q G follows
 
@@ -68,17 +68,17 @@ module _ (M : Module) (well : WellFormed M) (three : numbered M ≡ true) (four 
   abbrev pub F′ : Function
   F′ = localized o M follow F s
 
-  -- behind the declarations, the body, and the names
-  abbrev pub dec : Making
+  -- after the declarations, the body, and the names
+  abbrev pub dec : Builder
   dec = declared o M follow F s
 
-  abbrev pub mid : Making
+  abbrev pub mid : Builder
   mid = walked o M follow F dec
 
-  abbrev pub fin : Making
+  abbrev pub fin : Builder
   fin = final o M follow F s
 
-  -- ---- the declarations; an initialiser's operands have lower numbers, so `unique` is without levels (Operands, `unique-new`)
+  -- ---- the declarations; an initialiser's operands have lower numbers, so `importInitialiser` is without levels (Operands, `unique-new`)
   pub operands-lower : Lower o M follow (F .exprs)
   operands-lower e l = own-ops (ctx o M follow Q G law F) (fit .exprs) (λ x. x < e) e (fit .exprs .lower e l)
 
@@ -123,10 +123,10 @@ module _ (M : Module) (well : WellFormed M) (three : numbered M ≡ true) (four 
       (unfold localized derived in ap (λ (e : List Cells). front F′ ++ flatList EXPRESSIONS e ++ flatList NAMED (F′ .named) ++ flatBlock (rebuilt o M follow F dec)) (sym made-same))
 
   -- ---- CALLS ARE FOLLOWED AT A CALL'S WORD ALONE: expressions are imported with a follow that does nothing
-  pub still-front-after : after o M follow (unique o M still (F .exprs)) (unique o M still (F .exprs)) (front F) (begin F s) ≡ dec
+  pub still-front-after : after o M follow (importInitialiser o M still (F .exprs)) (importInitialiser o M still (F .exprs)) (front F) (begin F s) ≡ dec
   still-front-after = alone-after o M follow _ _ (still-front o M follow Q G law F pass calls s good)
 
-  pub still-front-written : written o M follow (unique o M still (F .exprs)) (unique o M still (F .exprs)) (front F) false (begin F s) ≡ front F′
+  pub still-front-written : written o M follow (importInitialiser o M still (F .exprs)) (importInitialiser o M still (F .exprs)) (front F) false (begin F s) ≡ front F′
   still-front-written = alone-written o M follow _ _ (still-front o M follow Q G law F pass calls s good) false
 
   pub still-body-after : after o M follow (need o M still (F .exprs)) (glance o M still (F .exprs)) (flatBlock (F .body)) dec ≡ mid

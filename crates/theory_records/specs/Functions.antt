@@ -10,6 +10,8 @@ use native.Mathlib.Decide.{decLt}
 use lib.Dec.{eqb, ltb}
 use lib.ListN.{length, getD, replicate, List·getD-eq-default}
 use borrow.Author.Tests.{eqb-true, ltb-true, ltb-false, le-ltb, lt-ltb}
+use Rattle.theory_lists.specs.Lists.{behind, getD-behind}
+use Rattle.theory_lists.specs.Booleans.{and-true, and-split}
 use Rattle.model.specs.Outcome.{Cells, class, word}
 use Rattle.model.specs.Table.{WORD, SPAN, UPTO, NAME, EXPR, OPT-EXPR, NAMED-EXPR, ARGUMENTS, LOCALS, EXPRESSIONS, NAMED, BLOCK, CASES, LENGTH, STMT-KIND}
 use Rattle.model.specs.Tree.{Stmt, stmt, Form, emit, block, branch, switch, loop, break, continue, return, kill, call, effect, Block, end, _then_, Case, case, Cases, nomore, _also_, Range, Function, Entry, flatAll, flatList, flatX, flatS, flatF, flatB, flatK, flatC, flatBlock, flat, sizeB, sizeC, kindOf, wordOf}
@@ -22,10 +24,10 @@ use Rattle.model.specs.Numbers.{Bounds, caps, bound, below as under, within, ev
 use Rattle.model.specs.Lower.{lower}
 use Rattle.model.specs.Redirect.{nothing, function as functionAt}
 use Rattle.model.specs.Tables.{Tab, names, types, constants, overrides, globals, exprs, at, Tables, tables, recAt, count, mapAt}
-use Rattle.model.specs.References.{Place, table, own, function, Target, copied, start, upto, ref, opt, targets, target, Node, node, refOf, refs, each}
-use Rattle.model.specs.Imports.{St, once, importT}
-use Rattle.model.specs.Bodies.{known, Making, bring, compareOf, comparesOf, eachE, optE, step, push, join, stand, importE, plain, unique, quiet, goS, goF, goB, goK, goC, putName, nameIf, keepNames, nameCells, declarations, declared, walked, keptNames, namedAfter, final, localized, appended, append, followF, follow}
-use Rattle.theory_image.specs.Lists.{and-true, and-split}
+use Rattle.model.specs.References.{Place, table, own, function, Target, copied, start, upto, ref, opt, targets, target, Node, node, refOf, refs, foldRefs}
+use Rattle.model.specs.Imports.{Derived, unlessMapped, importT}
+use Rattle.model.specs.Bodies.{known, Builder, bring, compareOf, comparesOf, eachE, optE, step, appendExpr, internExpr, appendStanding, importE, importBody, importInitialiser, importStanding, importStmt, importForm, importBlock, importCase, importCases, putName, nameIf, keepNames, nameCells, declarations, declared, walked, keptNames, namedAfter, final, localized, appended, append, followF, follow}
+use Rattle.theory_image.specs.Within.{within-append, within-next, within-join, within-row}
 use Rattle.theory_records.specs.RecordLaws.{All, all-map}
 use Rattle.theory_records.specs.Trace.{Sized}
 use Rattle.theory_records.specs.Theorems.{Inside, Distinct, Base}
@@ -91,14 +93,6 @@ upto-rel : (T : Tables) (c : Option ℕ) → Rel T upto c
 unfolding refOf
 upto-rel T c w h = tt
 
-abbrev behind : {A : Type 0} → List A → List A
-behind [] = []
-behind (x ∷ xs) = xs
-
-getD-behind : {A : Type 0} (l : List A) (k : ℕ) (d : A) → getD l (suc k) d ≡ getD (behind l) k d
-getD-behind [] k d = refl
-getD-behind (x ∷ l) k d = refl
-
 module _ (m : Module) (F : Function) where
   abbrev pub B : Bounds
   B = inside (outside m) F
@@ -127,62 +121,38 @@ module _ (m : Module) (F : Function) where
       let a = and-split (under (bound B (class c)) (word c)) (within B cs) h in
       cons-all (λ j. TabIn (tables m) (j .place) (j .num)) (target (class c)) (word c) (refs cs) (cell-in (class c) (word c) (a .0)) (cells-in cs (a .1))
 
-pub within-append : (b : Bounds) (xs ys : Cells) → within b (xs ++ ys) ≡ true → (within b xs ≡ true) × (within b ys ≡ true)
-unfolding within
-within-append b [] ys h = (refl, h)
-within-append b (c ∷ cs) ys h =
-    let a = and-split (under (bound b (class c)) (word c)) (within b (cs ++ ys)) h in
-    let r = within-append b cs ys (a .1) in
-    (and-true (a .0) (r .0), r .1)
-
-within-next : (b : Bounds) (s w : ℕ) (cs : Cells) → within b ((s, w) ∷ cs) ≡ true → within b cs ≡ true
-unfolding within
-within-next b s w cs h = and-split (under (bound b s) w) (within b cs) h .1
-
-within-join : (b : Bounds) (xs ys : Cells) → within b xs ≡ true → within b ys ≡ true → within b (xs ++ ys) ≡ true
-unfolding within
-within-join b [] ys h k = k
-within-join b (c ∷ cs) ys h k = let a = and-split (under (bound b (class c)) (word c)) (within b cs) h in and-true (a .0) (within-join b cs ys (a .1) k)
-
--- a record of a flat list
-within-row : (b : Bounds) (rs : List Cells) → within b (flatAll rs) ≡ true → (k : ℕ) → within b (getD rs k []) ≡ true
-unfolding flatAll within
-within-row b [] h k = refl
-within-row b (r ∷ rs) h zero = within-append b r (flatAll rs) h .0
-within-row b (r ∷ rs) h (suc k) = within-row b rs (within-append b r (flatAll rs) h .1) k
-
 -- ---- from a source that passed, with a way to follow calls that keeps what is to be kept
 module _ (m : Module) (well : WellFormed m) (three : numbered m ≡ true) (four : lower m ≡ true) (o : ℕ) where
-  abbrev pub K : St → Type 0
+  abbrev pub K : Derived → Type 0
   K s = Kept (tables m) s
 
-  module _ (fol : ℕ → St → St) (fk : (f : ℕ) (s : St) → K s → K (fol f s)) where
-    abbrev pub Good : (ℕ → Making → Making) → Type 0
-    Good h = (e : ℕ) (x : Making) → K (x .out) → K (h e x .out)
+  module _ (fol : ℕ → Derived → Derived) (fk : (f : ℕ) (s : Derived) → K s → K (fol f s)) where
+    abbrev pub Good : (ℕ → Builder → Builder) → Type 0
+    Good h = (e : ℕ) (x : Builder) → K (x .out) → K (h e x .out)
 
-    step-kept : (h : ℕ → Making → Making) → Good h → {p : Place} {n : ℕ} → TabIn (tables m) p n → (x : Making) → K (x .out) → K (step o m fol h p n x .out)
+    step-kept : (h : ℕ → Builder → Builder) → Good h → {p : Place} {n : ℕ} → TabIn (tables m) p n → (x : Builder) → K (x .out) → K (step o m fol h p n x .out)
     unfolding step bring
     step-kept h g (in-table {t} {n} l) x k = import-kept m well three four o t n (x .out) l k .0
     step-kept h g (in-own {n}) x k = g n x k
     step-kept h g (in-function {n}) x k = fk n (x .out) k
 
-    pub each-kept : (h : ℕ → Making → Making) → Good h → (js : List Node) → TabsIn (tables m) js → (x : Making) → K (x .out) → K (each js (step o m fol h) x .out)
-    unfolding each
+    pub each-kept : (h : ℕ → Builder → Builder) → Good h → (js : List Node) → TabsIn (tables m) js → (x : Builder) → K (x .out) → K (foldRefs js (step o m fol h) x .out)
+    unfolding foldRefs
     each-kept h g [] a x k = k
     each-kept h g (j ∷ js) a x k = each-kept h g js (a .1) (step o m fol h (j .place) (j .num) x) (step-kept h g (a .0) x k)
 
-    eachE-kept : (h : ℕ → Making → Making) → Good h → (es : List ℕ) (x : Making) → K (x .out) → K (eachE es h x .out)
+    eachE-kept : (h : ℕ → Builder → Builder) → Good h → (es : List ℕ) (x : Builder) → K (x .out) → K (eachE es h x .out)
     unfolding eachE
     eachE-kept h g [] x k = k
     eachE-kept h g (e ∷ es) x k = eachE-kept h g es (h e x) (g e x k)
 
-    optE-kept : (h : ℕ → Making → Making) → Good h → (e : Option ℕ) (x : Making) → K (x .out) → K (optE e h x .out)
+    optE-kept : (h : ℕ → Builder → Builder) → Good h → (e : Option ℕ) (x : Builder) → K (x .out) → K (optE e h x .out)
     unfolding optE
     optE-kept h g none x k = k
     optE-kept h g (some e) x k = g e x k
 
-    once-kept : (v : ℕ) (f : ℕ → Making) (x : Making) → K (f 0 .out) → K (x .out) → K (once v f x .out)
-    unfolding once
+    once-kept : (v : ℕ) (f : ℕ → Builder) (x : Builder) → K (f 0 .out) → K (x .out) → K (unlessMapped v f x .out)
+    unfolding unlessMapped
     once-kept zero f x a b = a
     once-kept (suc v) f x a b = b
 
@@ -219,54 +189,54 @@ module _ (m : Module) (well : WellFormed m) (three : numbered m ≡ true) (four 
       row-in : (e : ℕ) → TabsIn (tables m) (refs (getD (F .exprs) e []))
       row-in e = cells-in m F (getD (F .exprs) e []) (within-row b (F .exprs) (parts .rows) e)
 
-      importE-kept : (ending : ℕ → Making → Making) → Good ending → (n : ℕ) → Good (importE o m fol (F .exprs) ending n)
+      importE-kept : (ending : ℕ → Builder → Builder) → Good ending → (n : ℕ) → Good (importE o m fol (F .exprs) ending n)
       unfolding importE
       importE-kept ending g zero e x k = k
       importE-kept ending g (suc n) e x k =
           once-kept (getD (x .memo) e 0) _ x (g e _ (each-kept (importE o m fol (F .exprs) ending n) (importE-kept ending g n) (refs (getD (F .exprs) e [])) (row-in e) x k)) k
 
-      push-kept : Good (push o m fol (F .exprs))
-      unfolding push
+      push-kept : Good (appendExpr o m fol (F .exprs))
+      unfolding appendExpr
       push-kept e x k = k
 
-      join-kept : Good (join o m fol (F .exprs))
-      unfolding join
+      join-kept : Good (internExpr o m fol (F .exprs))
+      unfolding internExpr
       join-kept e x k = k
 
-      stand-kept : Good (stand o m fol (F .exprs))
-      unfolding stand push
+      stand-kept : Good (appendStanding o m fol (F .exprs))
+      unfolding appendStanding appendExpr
       stand-kept e x k = go (standing (F .exprs) e)
         where
-          go : (c : Bool) → K (let y : Making = elim c [ true ↦ push o m fol (F .exprs) e x | false ↦ x ] in y .out)
+          go : (c : Bool) → K (let y : Builder = elim c [ true ↦ appendExpr o m fol (F .exprs) e x | false ↦ x ] in y .out)
           go true = k
           go false = k
 
-      abbrev p : ℕ → Making → Making
-      p = plain o m fol (F .exprs)
+      abbrev p : ℕ → Builder → Builder
+      p = importBody o m fol (F .exprs)
 
-      abbrev q : ℕ → Making → Making
-      q = quiet o m fol (F .exprs)
+      abbrev q : ℕ → Builder → Builder
+      q = importStanding o m fol (F .exprs)
 
       plain-kept : Good p
-      unfolding plain
-      plain-kept = importE-kept (push o m fol (F .exprs)) push-kept (length (F .exprs))
+      unfolding importBody
+      plain-kept = importE-kept (appendExpr o m fol (F .exprs)) push-kept (length (F .exprs))
 
-      unique-kept : Good (unique o m fol (F .exprs))
-      unfolding unique
-      unique-kept = importE-kept (join o m fol (F .exprs)) join-kept (length (F .exprs))
+      unique-kept : Good (importInitialiser o m fol (F .exprs))
+      unfolding importInitialiser
+      unique-kept = importE-kept (internExpr o m fol (F .exprs)) join-kept (length (F .exprs))
 
       quiet-kept : Good q
-      unfolding quiet
-      quiet-kept = importE-kept (stand o m fol (F .exprs)) stand-kept (length (F .exprs))
+      unfolding importStanding
+      quiet-kept = importE-kept (appendStanding o m fol (F .exprs)) stand-kept (length (F .exprs))
 
       -- ---- bodies
       mutual
-        unfolding goS flatS flatBlock bring
+        unfolding importStmt flatS flatBlock bring
 
-        goS-kept : (s : Stmt Range) → within b (flatS s) ≡ true → (x : Making) → K (x .out) → K (goS o m fol p q s x .out)
+        goS-kept : (s : Stmt Range) → within b (flatS s) ≡ true → (x : Builder) → K (x .out) → K (importStmt o m fol p q s x .out)
         goS-kept (stmt a c f) h x k = goF-kept f (within-next b UPTO _ _ (within-next b SPAN _ _ (within-next b STMT-KIND _ _ (within-next b LENGTH _ _ h)))) x k
 
-        goF-kept : (f : Form Range) → within b (flatF f) ≡ true → (x : Making) → K (x .out) → K (goF o m fol p q f x .out)
+        goF-kept : (f : Form Range) → within b (flatF f) ≡ true → (x : Builder) → K (x .out) → K (importForm o m fol p q f x .out)
         goF-kept (emit r) h x k = eachE-kept p plain-kept (inRange r) _ (eachE-kept q quiet-kept (inRange r) x k)
         goF-kept (block a) h x k = goB-kept a (within-next b BLOCK _ _ h) x k
         goF-kept (branch c a d) h x k =
@@ -284,22 +254,22 @@ module _ (m : Module) (well : WellFormed m) (three : numbered m ≡ true) (four 
         goF-kept (call f xs r) h x k = optE-kept p plain-kept r _ (eachE-kept p plain-kept xs _ (fk f (x .out) k))
         goF-kept (effect n cs) h x k = each-kept p plain-kept (refs cs) (cells-in m F cs h) _ (eachE-kept p plain-kept (comparesOf cs) x k)
 
-        goB-kept : (a : Block Range) → within b (flatB a) ≡ true → (x : Making) → K (x .out) → K (goB o m fol p q a x .out)
+        goB-kept : (a : Block Range) → within b (flatB a) ≡ true → (x : Builder) → K (x .out) → K (importBlock o m fol p q a x .out)
         goB-kept end h x k = k
         goB-kept (s then a) h x k = let w = within-append b (flatS s) (flatB a) h in goB-kept a (w .1) _ (goS-kept s (w .0) x k)
 
-        goK-kept : (c : Case Range) → within b (flatK c) ≡ true → (x : Making) → K (x .out) → K (goK o m fol p q c x .out)
+        goK-kept : (c : Case Range) → within b (flatK c) ≡ true → (x : Builder) → K (x .out) → K (importCase o m fol p q c x .out)
         goK-kept (case v a f) h x k = goB-kept a (within-next b BLOCK _ _ (within-append b v (flatBlock a) (within-append b (v ++ flatBlock a) _ h .0) .1)) x k
 
-        goC-kept : (ks : Cases Range) → within b (flatC ks) ≡ true → (x : Making) → K (x .out) → K (goC o m fol p q ks x .out)
+        goC-kept : (ks : Cases Range) → within b (flatC ks) ≡ true → (x : Builder) → K (x .out) → K (importCases o m fol p q ks x .out)
         goC-kept nomore h x k = k
         goC-kept (c also ks) h x k = let w = within-append b (flatK c) (flatC ks) h in goC-kept ks (w .1) _ (goK-kept c (w .0) x k)
 
-      declared-kept : (s : St) → K s → K (declared o m fol F s .out)
+      declared-kept : (s : Derived) → K s → K (declared o m fol F s .out)
       unfolding declared
-      declared-kept s k = each-kept (unique o m fol (F .exprs)) unique-kept (refs (declarations o m fol F)) (cells-in m F (declarations o m fol F) (parts .decls)) _ k
+      declared-kept s k = each-kept (importInitialiser o m fol (F .exprs)) unique-kept (refs (declarations o m fol F)) (cells-in m F (declarations o m fol F) (parts .decls)) _ k
 
-      walked-kept : (x : Making) → K (x .out) → K (walked o m fol F x .out)
+      walked-kept : (x : Builder) → K (x .out) → K (walked o m fol F x .out)
       unfolding walked
       walked-kept x k = goB-kept (F .body) (parts .body) x k
 
@@ -337,14 +307,14 @@ module _ (m : Module) (well : WellFormed m) (three : numbered m ≡ true) (four 
           let a = within-append b r (flatAll rs) f in
           keep-ok rs memo _ (a .1) (if-ok (getD memo (field NAMED-EXPR r) 0) (field NAME r) ps (name-ok r (a .0)) h)
 
-      pub final-kept : (s : St) → K s → K (final o m fol F s .out)
+      pub final-kept : (s : Derived) → K s → K (final o m fol F s .out)
       unfolding final namedAfter keptNames
       final-kept s k =
-          let x : Making = walked o m fol F (declared o m fol F s) in
+          let x : Builder = walked o m fol F (declared o m fol F s) in
           each-kept p plain-kept (refs (nameCells (keepNames (F .named) (x .memo) []))) (cells-in m F _ (keep-ok (F .named) (x .memo) [] (parts .named) (unfold nameCells within in refl))) x (walked-kept (declared o m fol F s) (declared-kept s k))
 
   -- ---- the functions of the module
-  appended-kept : (f : Function) (s : St) → K s → K (appended f s)
+  appended-kept : (f : Function) (s : Derived) → K s → K (appended f s)
   unfolding appended Sized Inside Distinct
   appended-kept f s k = record { base = record { sized = k .base .sized; inside = k .base .inside; wf = k .base .wf; distinct = k .base .distinct }; fit = k .fit }
 
@@ -369,25 +339,25 @@ module _ (m : Module) (well : WellFormed m) (three : numbered m ≡ true) (four 
       none-there : (n < length (m .functions) → ⊥) → functionAt m n ≡ nothing
       none-there l = unfold functionAt in List·getD-eq-default (m .functions) nothing {n = n} (omega arith)
 
-  append-kept : (fol : ℕ → St → St) → ((f : ℕ) (s : St) → K s → K (fol f s)) → (n : ℕ) (s : St) → K s → K (append o m fol n s)
+  append-kept : (fol : ℕ → Derived → Derived) → ((f : ℕ) (s : Derived) → K s → K (fol f s)) → (n : ℕ) (s : Derived) → K s → K (append o m fol n s)
   unfolding append
   append-kept fol fk n s k = appended-kept (localized o m fol (functionAt m n) s) (final o m fol (functionAt m n) s .out) (final-kept fol fk (functionAt m n) (function-in n) s k)
 
-  once-st : (v : ℕ) (f : ℕ → St) (s : St) → K (f 0) → K s → K (once v f s)
-  unfolding once
+  once-st : (v : ℕ) (f : ℕ → Derived) (s : Derived) → K (f 0) → K s → K (unlessMapped v f s)
+  unfolding unlessMapped
   once-st zero f s a c = a
   once-st (suc v) f s a c = c
 
-  follow-kept : (d n : ℕ) (s : St) → K s → K (followF d o m n s)
+  follow-kept : (d n : ℕ) (s : Derived) → K s → K (followF d o m n s)
   unfolding followF
   follow-kept zero n s k = k
   follow-kept (suc d) n s k = once-st (known m s n) _ s (append-kept (followF d o m) (follow-kept d) n s k) k
 
   -- IMPORT_FUNCTION AND MAP_FUNCTION_HANDLE KEEP IT
-  pub import-function-kept : (n : ℕ) (s : St) → K s → K (append o m (follow o m) n s)
+  pub import-function-kept : (n : ℕ) (s : Derived) → K s → K (append o m (follow o m) n s)
   unfolding follow
   import-function-kept n s k = append-kept (follow o m) (follow-kept (length (m .functions))) n s k
 
-  pub map-function-kept : (n : ℕ) (s : St) → K s → K (follow o m n s)
+  pub map-function-kept : (n : ℕ) (s : Derived) → K s → K (follow o m n s)
   unfolding follow
   map-function-kept n s k = follow-kept (length (m .functions)) n s k

@@ -5,13 +5,14 @@ use mathlib.Core.List.{List, [], _∷_}
 use Prim.Native.Nat.{ℕ, zero, suc, _<_, _≤_}
 use native.Mathlib.Omega.{arith}
 use lib.ListN.{length, getD, set, replicate, length-replicate, length-set}
+use Rattle.theory_lists.specs.Lists.{zeros}
 use Rattle.model.specs.Tree.{Entry}
 use Rattle.model.specs.Module.{Module}
 use Rattle.model.specs.Carry.{WellFormed}
 use Rattle.model.specs.Numbers.{numbered}
 use Rattle.model.specs.Lower.{lower}
 use Rattle.model.specs.Tables.{Tab, names, types, constants, overrides, globals, exprs, at, upd, six, Tables, tables, recAt, count, Maps, mapAt}
-use Rattle.model.specs.Imports.{St, importT, unmapped, emptied, fresh}
+use Rattle.model.specs.Imports.{Derived, importT, unmapped, emptied, fresh}
 use Rattle.model.specs.Special.{force}
 use Rattle.model.specs.Finish.{gathered}
 use Rattle.theory_records.specs.TableLaws.{Tab-dec, at-same, at-other, at-six}
@@ -21,15 +22,11 @@ use Rattle.theory_records.specs.Theorems.{Inside, NoDup, Distinct, Base,
 use Rattle.theory_records.specs.Tested.{Threes, Fours, tested-wf}
 use Rattle.theory_records.specs.Passing.{Fit, trace-fit, tested-fit, passes-three, passes-four}
 
-pub record Kept (T : Tables) (s : St) : Type 0 where
+pub record Kept (T : Tables) (s : Derived) : Type 0 where
   pub base : Base T s
   pub fit : Fit (s .recs)
 
 -- ---- the start
-zeros : (k n : ℕ) → _≡_ {A = ℕ} (getD (replicate k 0) n 0) 0
-zeros zero n = refl
-zeros (suc k) zero = refl
-zeros (suc k) (suc n) = zeros k n
 
 pub none-mapped : (T : Tables) (t : Tab) (n : ℕ) → mapAt (unmapped T) t n ≡ 0
 unfolding unmapped mapAt
@@ -40,7 +37,7 @@ unfolding fresh
 no-records t = at-six t (λ u. [])
 
 -- "Setting and clearing empty every map but the function map": the tables stay, nothing is mapped
-pub emptied-kept : (T T′ : Tables) (s : St) → Kept T s → Kept T′ (emptied (unmapped T′) s)
+pub emptied-kept : (T T′ : Tables) (s : Derived) → Kept T s → Kept T′ (emptied (unmapped T′) s)
 unfolding emptied Sized Inside Distinct unmapped count
 emptied-kept T T′ s k = record {
   base = record {
@@ -67,20 +64,20 @@ fresh-kept = record {
 -- ---- a source that passed
 module _ (m : Module) (well : WellFormed m) (three : numbered m ≡ true) (four : lower m ≡ true) (o : ℕ) where
   -- an import, after which its number is mapped
-  pub import-kept : (t : Tab) (n : ℕ) (s : St) → n < count (tables m) t → Kept (tables m) s → Kept (tables m) (importT o (tables m) t n s) × (0 < mapAt ((importT o (tables m) t n s) .maps) t n)
+  pub import-kept : (t : Tab) (n : ℕ) (s : Derived) → n < count (tables m) t → Kept (tables m) s → Kept (tables m) (importT o (tables m) t n s) × (0 < mapAt ((importT o (tables m) t n s) .maps) t n)
   import-kept t n s h k =
       let w = import-trace o (tables m) (tested-wf m well three four) t n s h (k .base .sized) in
       (record { base = trace-base o (tables m) (tested-wf m well three four) (w .0) (k .base); fit = trace-fit o (tables m) (tested-fit m well three four) (w .0) (k .fit) }, w .1)
 
-  -- what is mapped stays mapped, and a number that is mapped is not imported again: with the above, all that the import of a function asks of the tables
-  pub import-keeps : (t : Tab) (n : ℕ) (s : St) → n < count (tables m) t → Kept (tables m) s → Keeps s (importT o (tables m) t n s)
+  -- what is mapped stays mapped, and a number that is mapped is not imported again: with the above, all that the import of a function requires of the tables
+  pub import-keeps : (t : Tab) (n : ℕ) (s : Derived) → n < count (tables m) t → Kept (tables m) s → Keeps s (importT o (tables m) t n s)
   import-keeps t n s h k = trace-keeps o (tables m) (import-trace o (tables m) (tested-wf m well three four) t n s h (k .base .sized) .0)
 
-  pub import-idle : (t : Tab) (n : ℕ) (s : St) → n < count (tables m) t → 0 < mapAt (s .maps) t n → importT o (tables m) t n s ≡ s
+  pub import-idle : (t : Tab) (n : ℕ) (s : Derived) → n < count (tables m) t → 0 < mapAt (s .maps) t n → importT o (tables m) t n s ≡ s
   import-idle t n s h l = import-is o (tables m) (tested-wf m well three four) t n s h ∙ once-is o (tables m) (λ r. r ≡ s) (mapAt (s .maps) t n) _ s (λ e. absurd (omega arith)) (λ g. refl)
 
 -- ---- a special type whose place is taken
-force-maps : (n v : ℕ) (s : St) (u : Tab) (P : List ℕ → Type 0) → (u ≡ types → P (set (at u (s .maps)) n v)) → P (at u (s .maps)) → P (at u ((force n v s) .maps))
+force-maps : (n v : ℕ) (s : Derived) (u : Tab) (P : List ℕ → Type 0) → (u ≡ types → P (set (at u (s .maps)) n v)) → P (at u (s .maps)) → P (at u ((force n v s) .maps))
 unfolding force
 force-maps n v s u P f g =
     elim (Tab-dec types u) [
@@ -95,7 +92,7 @@ set-le (x ∷ l) zero v b (suc j) h g = g
 set-le (x ∷ l) (suc n) v b zero h g = g
 set-le (x ∷ l) (suc n) v b (suc j) h g = set-le l n v b j h g
 
-pub force-kept : (T : Tables) (n v : ℕ) (s : St) → v ≤ count (s .recs) types → Kept T s → Kept T (force n v s)
+pub force-kept : (T : Tables) (n v : ℕ) (s : Derived) → v ≤ count (s .recs) types → Kept T s → Kept T (force n v s)
 unfolding force Sized Inside Distinct mapAt
 force-kept T n v s h k = record {
   base = record {
@@ -108,12 +105,12 @@ force-kept T n v s h k = record {
 }
 
 -- ---- THE DERIVED TABLES PASS TESTS 3 AND 4
-pub gathered-tables : (s : St) (es : List Entry) → tables (gathered s es) ≡ s .recs
+pub gathered-tables : (s : Derived) (es : List Entry) → tables (gathered s es) ≡ s .recs
 unfolding tables gathered
 gathered-tables s es = refl
 
-pub derived-three : (T : Tables) (s : St) (es : List Entry) → Kept T s → Threes (gathered s es)
+pub derived-three : (T : Tables) (s : Derived) (es : List Entry) → Kept T s → Threes (gathered s es)
 derived-three T s es k = passes-three (gathered s es) (rw (gathered-tables s es) (k .base .wf)) (rw (gathered-tables s es) (k .fit))
 
-pub derived-four : (T : Tables) (s : St) (es : List Entry) → Kept T s → Fours (gathered s es)
+pub derived-four : (T : Tables) (s : Derived) (es : List Entry) → Kept T s → Fours (gathered s es)
 derived-four T s es k = passes-four (gathered s es) (rw (gathered-tables s es) (k .base .wf)) (rw (gathered-tables s es) (k .fit))

@@ -1,4 +1,4 @@
--- Which classes stand in the records of each table, from their layout: no others refer to anything. Global expressions are of the kinds that document 01 lists for them.
+-- Which classes are in the records of each table, from their layout: no others refer to anything. Global expressions are of the kinds that document 01 lists for them.
 use mathlib.Core.Path.{_≡_, refl, sym, ap, _∙_}
 use mathlib.Core.Bool.{Bool, true, false, _&&_, _||_}
 use mathlib.Core.List.{List, [], _∷_, _++_, append-nil}
@@ -8,6 +8,7 @@ use native.Mathlib.Omega.{arith}
 use lib.Dec.{eqb, ltb, leb}
 use lib.ListN.{length, getD, getElem?, replicate, List·getD-eq-default}
 use borrow.Author.Tests.{eqb-true, ltb-false, leb-true, ne-eqb, le-ltb, lt-ltb, le-leb}
+use Rattle.theory_lists.specs.Booleans.{and-true, and-split}
 use Rattle.model.specs.Outcome.{Cell, Cells, class, word}
 use Rattle.model.specs.Table.{Row, WORD, SPAN, UPTO, NAME, TYPE, CONSTANT, OVERRIDE, INIT, OPT-INIT, EXPR, OPT-EXPR, KEY, PLACE, PAD, TEXT, OPERANDS, MEMBERS, TYPE-KIND, EXPR-KIND, types as typeRows, expressions, nameRow, typeRow, constantRow, overrideRow, globalRow, expressionRow, counted, limit, variants, repeat, text, variant, brings, over, more}
 use Rattle.model.specs.Carry.{Lays, lays-none, lays-next}
@@ -15,12 +16,11 @@ use Rattle.model.specs.Operands.{kind, constantKind}
 use Rattle.model.specs.Numbers.{Bounds, caps, bound}
 use Rattle.model.specs.Tables.{Tab, names, types, constants, overrides, globals, exprs}
 use Rattle.model.specs.References.{Place, table, own, Target, copied, targets, target}
-use Rattle.theory_image.specs.Lists.{and-true, and-split}
 use Rattle.theory_image.specs.Plain.{plain-more}
 use Rattle.theory_image.specs.FunctionViews.{among, split-or, variant-brings}
 use Rattle.theory_records.specs.Well.{May, type-name, type-type, const-name, const-type, const-init, over-name, over-type, over-init, global-name, global-type, global-init, expr-type, expr-const, expr-over, expr-own}
 
--- a class that may stand in a record of the table t
+-- a class that is allowed in a record of the table t
 pub data KindOf (t : Tab) : ℕ → Type 0 where
   is-copied : {s : ℕ} → target s ≡ copied → ((b c : Bounds) → bound b s ≡ bound c s) → KindOf t s
   is-span : KindOf t SPAN
@@ -55,46 +55,46 @@ among-elim : (P : ℕ → Type 0) (ls : List ℕ) → AllL P ls → (s : ℕ) �
 among-elim P [] a s h = let z : _≡_ {A = ℕ} 0 1 = cc in absurd (omega arith)
 among-elim P (x ∷ xs) a s h = split-or (eqb s x) (among s xs) h (λ e. rw (eqb-true s x e) (a .0)) (among-elim P xs (a .1) s)
 
-kind-of : (t : Tab) (s : ℕ) → among s (classes t) ≡ true → KindOf t s
+target-of : (t : Tab) (s : ℕ) → among s (classes t) ≡ true → KindOf t s
 unfolding classes target targets bound caps
-kind-of names s h = among-elim (KindOf names) [] tt s h
-kind-of types s h =
+target-of names s h = among-elim (KindOf names) [] tt s h
+target-of types s h =
     among-elim (KindOf types) (classes types)
     (is-name type-name, (is-span, (is-upto, (is-copied refl (λ b c. refl), (is-copied refl (λ b c. refl), (is-copied refl (λ b c. refl), (is-type type-type, (is-copied refl (λ b c. refl), tt)))))))) s h
-kind-of constants s h = among-elim (KindOf constants) (classes constants) (is-name const-name, (is-span, (is-upto, (is-type const-type, (is-init const-init, tt))))) s h
-kind-of overrides s h = among-elim (KindOf overrides) (classes overrides) (is-name over-name, (is-span, (is-upto, (is-copied refl (λ b c. refl), (is-type over-type, (is-opt-init over-init, tt)))))) s h
-kind-of globals s h = among-elim (KindOf globals) (classes globals) (is-name global-name, (is-span, (is-upto, (is-copied refl (λ b c. refl), (is-type global-type, (is-opt-init global-init, tt)))))) s h
-kind-of exprs s h =
+target-of constants s h = among-elim (KindOf constants) (classes constants) (is-name const-name, (is-span, (is-upto, (is-type const-type, (is-init const-init, tt))))) s h
+target-of overrides s h = among-elim (KindOf overrides) (classes overrides) (is-name over-name, (is-span, (is-upto, (is-copied refl (λ b c. refl), (is-type over-type, (is-opt-init over-init, tt)))))) s h
+target-of globals s h = among-elim (KindOf globals) (classes globals) (is-name global-name, (is-span, (is-upto, (is-copied refl (λ b c. refl), (is-type global-type, (is-opt-init global-init, tt)))))) s h
+target-of exprs s h =
     among-elim (KindOf exprs) (classes exprs)
     (is-span, (is-upto, (is-copied refl (λ b c. refl), (is-copied refl (λ b c. refl), (is-constant expr-const, (is-override expr-over, (is-type expr-type, (is-copied refl (λ b c. refl), (is-expr expr-own, (is-opt-expr expr-own, (is-copied refl (λ b c. refl), (is-copied refl (λ b c. refl), (is-copied refl (λ b c. refl), (is-copied refl (λ b c. refl), (is-copied refl (λ b c. refl), tt))))))))))))))) s h
 
 -- ---- rows of such classes, and what their words bring
-abbrev inL : List ℕ → Row → Bool
+abbrev pub inL : List ℕ → Row → Bool
 inL ls [] = true
 inL ls (s ∷ ss) = among s ls && inL ls ss
 
-in-append : (ls : List ℕ) (xs ss : Row) → inL ls xs ≡ true → inL ls ss ≡ true → inL ls (xs ++ ss) ≡ true
+pub in-append : (ls : List ℕ) (xs ss : Row) → inL ls xs ≡ true → inL ls ss ≡ true → inL ls (xs ++ ss) ≡ true
 in-append ls [] ss h k = k
 in-append ls (x ∷ xs) ss h k = let a = and-split (among x ls) (inL ls xs) h in and-true (a .0) (in-append ls xs ss (a .1) k)
 
-in-repeat : (ls : List ℕ) (n : ℕ) (r : Row) → inL ls r ≡ true → inL ls (repeat n r) ≡ true
+pub in-repeat : (ls : List ℕ) (n : ℕ) (r : Row) → inL ls r ≡ true → inL ls (repeat n r) ≡ true
 unfolding repeat
 in-repeat ls zero r h = refl
 in-repeat ls (suc n) r h = in-append ls r (repeat n r) h (in-repeat ls n r h)
 
-abbrev rowsIn : List ℕ → List Row → Bool
+abbrev pub rowsIn : List ℕ → List Row → Bool
 rowsIn ls [] = true
 rowsIn ls (r ∷ rs) = inL ls r && rowsIn ls rs
 
-row-at : (ls : List ℕ) (l : List Row) (k : ℕ) {r : Row} → rowsIn ls l ≡ true → getElem? l k ≡ some r → inL ls r ≡ true
+pub row-at : (ls : List ℕ) (l : List Row) (k : ℕ) {r : Row} → rowsIn ls l ≡ true → getElem? l k ≡ some r → inL ls r ≡ true
 row-at ls [] k h e = let z : _≡_ {A = ℕ} 0 1 = cc in absurd (omega arith)
 row-at ls (x ∷ l) zero {r} h e = let q : x ≡ r = cc in rw q at (and-split (inL ls x) (rowsIn ls l) h .0)
 row-at ls (x ∷ l) (suc k) h e = row-at ls l k (and-split (inL ls x) (rowsIn ls l) h .1) e
 
-abbrev Brings : List ℕ → ℕ → Type 0
+abbrev pub Brings : List ℕ → ℕ → Type 0
 Brings ls s = (w : ℕ) (xs : Row) → more s w ≡ brings xs → inL ls xs ≡ true
 
-plain-in : (ls : List ℕ) (s : ℕ) → ltb s PAD ≡ true → Brings ls s
+pub plain-in : (ls : List ℕ) (s : ℕ) → ltb s PAD ≡ true → Brings ls s
 plain-in ls s p w xs e = let n : xs ≡ [] = cc (plain-more s w p) in rw n refl
 
 members-in : Brings (classes types) MEMBERS
@@ -133,7 +133,7 @@ lays-kinds : (t : Tab) {ss : Row} {cs : Cells} → Lays ss cs → inL (classes t
 lays-kinds t lays-none h = no-kinds
 lays-kinds t (lays-next {s} {w} {xs} {ss} e l) h =
     let a = and-split (among s (classes t)) (inL (classes t) ss) h in
-    kinds (kind-of t s (a .0)) (lays-kinds t l (in-append (classes t) xs ss (brings-in t s (a .0) w xs e) (a .1)))
+    kinds (target-of t s (a .0)) (lays-kinds t l (in-append (classes t) xs ss (brings-in t s (a .0) w xs e) (a .1)))
 
 -- ---- names: bytes, which refer to nothing
 pub far-copied : (s : ℕ) → KEY ≤ s → target s ≡ copied
@@ -196,7 +196,7 @@ name-kinds : {r : Cells} → Lays (TEXT ∷ []) r → Kinds names r
 unfolding more target targets bound caps
 name-kinds (lays-next {w} {xs} e l) = let n : text w ≡ xs = cc in kinds (is-copied refl (λ b c. refl)) (lays-bytes (rw append-nil at l) (rw n at (text-bytes w)))
 
--- ---- global expressions: the rows of the kinds that may stand there
+-- ---- global expressions: the rows of the kinds that are allowed there
 abbrev constRows : List Row → ℕ → Bool
 constRows [] i = true
 constRows (r ∷ rs) i = elim (constantKind i) [ true ↦ inL (classes exprs) r | false ↦ true ] && constRows rs (suc i)

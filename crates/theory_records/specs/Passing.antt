@@ -9,6 +9,7 @@ use native.Mathlib.Nat.{le-of-suc-le-suc}
 use lib.Dec.{eqb, ltb}
 use lib.ListN.{length, getD}
 use borrow.Author.Tests.{eqb-true, ltb-false, lt-ltb}
+use Rattle.theory_lists.specs.Booleans.{and-true, and-split}
 use Rattle.model.specs.Outcome.{Cells, class, word}
 use Rattle.model.specs.Table.{Row, TYPE, CONSTANT, OVERRIDE, INIT, OPT-INIT, EXPR, OPT-EXPR, EXPR-KIND, PLACE, PAD, brings, more}
 use Rattle.model.specs.Module.{Module}
@@ -18,8 +19,7 @@ use Rattle.model.specs.Numbers.{Bounds, caps, bound, below as under, within, ev
 use Rattle.model.specs.Lower.{below, basesOf, typesLower, operandsLower, initOf, initsOf, initsLower, lower}
 use Rattle.model.specs.Tables.{Tab, names, types, constants, overrides, globals, exprs, codeT, isT, at, Tables, tables, recAt, count}
 use Rattle.model.specs.References.{Place, table, own, Target, copied, start, upto, ref, opt, targets, target, Node, node, refOf, refs, carryW, through, firstWord, undefinedAt, moved, shift}
-use Rattle.model.specs.Imports.{St, settle, made, commit, wentT}
-use Rattle.theory_image.specs.Lists.{and-true, and-split}
+use Rattle.model.specs.Imports.{Derived, intern, made, commit, mappedToT}
 use Rattle.theory_image.specs.Plain.{plain-more}
 use Rattle.theory_image.specs.Carries.{lays-carry}
 use Rattle.theory_records.specs.TableLaws.{apart}
@@ -91,22 +91,22 @@ codes-shift [] o u = refl
 codes-shift (c ∷ cs) o u = let v = undefinedAt (target (class c)) (word c) (firstWord cs) u in rw (move-code (target (class c)) (class c) (word c) o v, codes-shift cs o v)
 
 -- ---- layout
-through-keeps : (f : Went) → Keeps (through f)
+pub through-keeps : (f : Went) → Keeps (through f)
 through-keeps f = record { kept = λ s w h. unfold through carryW in rw (far-copied s (omega arith)) refl }
 
-more-moved : (s w o : ℕ) (u : Bool) → more s (moved (target s) w o u) ≡ more s w
+pub more-moved : (s w o : ℕ) (u : Bool) → more s (moved (target s) w o u) ≡ more s w
 more-moved s w o u = go (ltb s PAD) refl
   where
     go : (b : Bool) → ltb s PAD ≡ b → more s (moved (target s) w o u) ≡ more s w
     go true e = plain-more s (moved (target s) w o u) e ∙ sym (plain-more s w e)
     go false e = unfold moved in rw (far-copied s (omega (arith, ltb-false s PAD e))) refl
 
-lays-shift : {ss : Row} {cs : Cells} → Lays ss cs → (o : ℕ) (u : Bool) → Lays ss (shift cs o u)
+pub lays-shift : {ss : Row} {cs : Cells} → Lays ss cs → (o : ℕ) (u : Bool) → Lays ss (shift cs o u)
 unfolding shift
 lays-shift lays-none o u = lays-none
 lays-shift (lays-next {s} {w} {cs} e l) o u = let v = undefinedAt (target s) w (firstWord cs) u in lays-next (more-moved s w o v ∙ e) (lays-shift l o v)
 
--- the kind of a record stands
+-- the kind of a record is as it was
 kind-made : (f : Went) (r : Cells) (o : ℕ) (u : Bool) → kind (shift (carryCells (through f) r) o u) ≡ kind r
 unfolding kind shift carryCell through
 kind-made f [] o u = refl
@@ -122,7 +122,7 @@ kind-made f (c ∷ cs) o u = go (eqb (class c) EXPR-KIND) refl
     go true e = stays (eqb-true (class c) EXPR-KIND e)
     go false e = refl
 
--- ---- a record that may stand in table t
+-- ---- a record that is allowed in table t
 pub record FitR (t : Tab) (r : Cells) : Type 0 where
   pub laid : Lays (rowOf t) r
   pub coded : (t ≡ names → ⊥) → codes r ≡ true
@@ -138,7 +138,7 @@ fit-made f o {t} {r} h = record {
   constant = λ e. rw (kind-made f r o false) (h .constant e);
 }
 
-commit-fit : (o : ℕ) (T : Tables) → Fit T → (s : St) (t : Tab) (n : ℕ) → Ready T s t n → Fit (s .recs) → Fit ((commit o T t n s) .recs)
+commit-fit : (o : ℕ) (T : Tables) → Fit T → (s : Derived) (t : Tab) (n : ℕ) → Ready T s t n → Fit (s .recs) → Fit ((commit o T t n s) .recs)
 unfolding Fit commit
 commit-fit o T source s t n r F u k h = go (decLt k (count (s .recs) u))
   where
@@ -146,9 +146,9 @@ commit-fit o T source s t n r F u k h = go (decLt k (count (s .recs) u))
     go (yes l) = rw (commit-grows o T s t n .prefix u k l) (F u k l)
     go (no l) =
         let w = settle-new t n (made o T t n s) s u k h l in
-        rw (w .2, w .0) (unfold made in fit-made (wentT s) o (source t n (r .range)))
+        rw (w .2, w .0) (unfold made in fit-made (mappedToT s) o (source t n (r .range)))
 
-pub trace-fit : (o : ℕ) (T : Tables) → Fit T → {a b : St} → Trace o T a b → Fit (a .recs) → Fit (b .recs)
+pub trace-fit : (o : ℕ) (T : Tables) → Fit T → {a b : Derived} → Trace o T a b → Fit (a .recs) → Fit (b .recs)
 trace-fit o T source = keep-rule (λ s. Fit (s .recs)) (commit-fit o T source)
 
 -- what passes intake fits
@@ -167,7 +167,7 @@ module _ (m : Module) (well : WellFormed m) (three : numbered m ≡ true) (four 
   tested-fit t k h = record { laid = laid-at m well three four t k h; coded = coded-at t k h; constant = constant-at m well three four t k h }
 
 -- the references of a word, without those behind it
-first-of : (P : Node → Type 0) (t : Target) (w : ℕ) (rest : List Node) → All P (refOf t w rest) → All P (refOf t w [])
+pub first-of : (P : Node → Type 0) (t : Target) (w : ℕ) (rest : List Node) → All P (refOf t w rest) → All P (refOf t w [])
 unfolding refOf
 first-of P copied w rest a = tt
 first-of P start w rest a = tt
@@ -221,7 +221,7 @@ below-bases (c ∷ cs) n a = go (eqb (class c) TYPE) refl (below-bases cs n (res
     go true e ih = and-true (lt-ltb (word c) n (low (eqb-true (class c) TYPE e))) ih
     go false e ih = ih
 
--- a class s that stands for an expression, and one o that stands for an optional one
+-- a word of the class `one` of an expression, or of the class `two` of an optional one
 below-two : (s w n : ℕ) (one two : ℕ) (xs : List ℕ) → (s ≡ one → w < n) → (s ≡ two → (e : ℕ) → w ≡ suc e → e < n) → below xs n ≡ true
     → below (elim (eqb s one) [ true ↦ w ∷ xs | false ↦ elim (eqb s two) [ true ↦ optional w xs | false ↦ xs ] ]) n ≡ true
 unfolding below optional

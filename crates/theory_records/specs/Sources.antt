@@ -8,6 +8,7 @@ use native.Mathlib.Nat.{le-refl, le-trans, le-of-suc-le-suc}
 use lib.Dec.{eqb, ltb}
 use lib.ListN.{length, getD, set}
 use borrow.Author.Tests.{ltb-true}
+use Rattle.theory_lists.specs.Booleans.{and-split}
 use Rattle.model.specs.Outcome.{Cell, Cells, class, word}
 use Rattle.model.specs.Table.{TYPE, OPT-TYPE, KEY}
 use Rattle.model.specs.Tree.{Entry, flat, flatEntry}
@@ -17,34 +18,34 @@ use Rattle.model.specs.Names.{field}
 use Rattle.model.specs.Numbers.{Bounds, caps, bound, below as under, within, every, outside, inside, constantOnly, sound, soundFunction, soundEntry, numbered}
 use Rattle.model.specs.Lower.{lower}
 use Rattle.model.specs.Tables.{Tab, types, at, six, Tables, tables, count, mapAt}
-use Rattle.model.specs.Imports.{St, settle, commit, importT, unmapped, emptied, fresh}
+use Rattle.model.specs.Imports.{Derived, intern, commit, importT, unmapped, emptied, fresh}
 use Rattle.model.specs.References.{refs}
 use Rattle.model.specs.Bodies.{append, follow, entered, enterAll}
 use Rattle.model.specs.Special.{force, withSpecial, putRay, rayTo, ray, rays, keyed, putPair, pairTo, pairs, sourced}
 use Rattle.model.specs.Finish.{gathered}
 use Rattle.model.specs.Link.{appendAll}
-use Rattle.theory_image.specs.Lists.{and-split}
 use Rattle.theory_image.specs.Plain.{plain?}
 use Rattle.theory_image.specs.Quiet.{Plainly, plain-none, plain-next, plainly}
+use Rattle.theory_image.specs.Within.{within-append}
 use Rattle.theory_records.specs.Trace.{Sized, Trace, keep-rule₂, import-trace}
 use Rattle.theory_records.specs.Theorems.{Inside, Distinct, Base, trace-grows}
 use Rattle.theory_records.specs.Tested.{Threes, Fours, tested-wf}
 use Rattle.theory_records.specs.Imported.{Kept, emptied-kept, fresh-kept, import-kept, force-kept, derived-three, derived-four}
-use Rattle.theory_records.specs.Functions.{within-append, cells-in, each-kept, final-kept, import-function-kept, map-function-kept}
+use Rattle.theory_records.specs.Functions.{cells-in, each-kept, final-kept, import-function-kept, map-function-kept}
 
 -- what is kept, and the special types that are derived are there
-pub record Held (T : Tables) (s : St) : Type 0 where
+pub record Held (T : Tables) (s : Derived) : Type 0 where
   pub kept : Kept T s
   pub rays : (k : ℕ) → word (getD (s .special .rays) k (0, 0)) ≤ count (s .recs) types
   pub keys : (key : ℕ) → keyed (s .special .pairs) key ≤ count (s .recs) types
 
-special-kept : (T : Tables) (p : Special) (s : St) → Kept T s → Kept T (withSpecial p s)
+special-kept : (T : Tables) (p : Special) (s : Derived) → Kept T s → Kept T (withSpecial p s)
 unfolding withSpecial Sized Inside Distinct
 special-kept T p s k = record { base = record { sized = k .base .sized; inside = k .base .inside; wf = k .base .wf; distinct = k .base .distinct }; fit = k .fit }
 
 -- imports leave the special types
-pub trace-special : (o : ℕ) (T : Tables) {a b : St} → Trace o T a b → b .special ≡ a .special
-unfolding commit settle
+pub trace-special : (o : ℕ) (T : Tables) {a b : Derived} → Trace o T a b → b .special ≡ a .special
+unfolding commit intern
 trace-special o T = keep-rule₂ (λ s r. r .special ≡ s .special) (λ s. refl) (λ a b c p q. q ∙ p) (λ s t n r. refl)
 
 set-word : (l : Cells) (k v b j : ℕ) → v ≤ b → word (getD l j (0, 0)) ≤ b → word (getD (set l k (OPT-TYPE, v)) j (0, 0)) ≤ b
@@ -72,7 +73,7 @@ module _ (m : Module) (well : WellFormed m) (three : numbered m ≡ true) (four 
   abbrev T : Tables
   T = tables m
 
-  type-held : (n : ℕ) (s : St) → n < count T types → Held T s → Held T (importT o T types n s)
+  type-held : (n : ℕ) (s : Derived) → n < count T types → Held T s → Held T (importT o T types n s)
   type-held n s h k =
       let w = import-trace o T (tested-wf m well three four) types n s h (k .kept .base .sized) .0 in
       let g : count (s .recs) types ≤ count ((importT o T types n s) .recs) types = trace-grows o T (tested-wf m well three four) w .longer types in
@@ -80,11 +81,11 @@ module _ (m : Module) (well : WellFormed m) (three : numbered m ≡ true) (four 
       record { kept = import-kept m well three four o types n s h (k .kept) .0; rays = λ j. rw e (le-trans (k .rays j) g); keys = λ key. rw e (le-trans (k .keys key) g) }
 
   -- ---- the three by place
-  force-held : (n v : ℕ) (s : St) → v ≤ count (s .recs) types → Held T s → Held T (force n v s)
+  force-held : (n v : ℕ) (s : Derived) → v ≤ count (s .recs) types → Held T s → Held T (force n v s)
   unfolding force
   force-held n v s h k = record { kept = force-kept T n v s h (k .kept); rays = k .rays; keys = k .keys }
 
-  put-ray-held : (k n : ℕ) (s : St) → Held T s → Held T (putRay k n s)
+  put-ray-held : (k n : ℕ) (s : Derived) → Held T s → Held T (putRay k n s)
   unfolding putRay withSpecial Inside
   put-ray-held k n s h = record {
     kept = special-kept T _ s (h .kept);
@@ -92,17 +93,17 @@ module _ (m : Module) (well : WellFormed m) (three : numbered m ≡ true) (four 
     keys = h .keys;
   }
 
-  ray-to-held : (v k n : ℕ) (s : St) → v ≤ count (s .recs) types → n < count T types → Held T s → Held T (rayTo v k n o T s)
+  ray-to-held : (v k n : ℕ) (s : Derived) → v ≤ count (s .recs) types → n < count T types → Held T s → Held T (rayTo v k n o T s)
   unfolding rayTo
   ray-to-held zero k n s l h d = put-ray-held k n (importT o T types n s) (type-held n s h d)
   ray-to-held (suc v) k n s l h d = force-held n (suc v) s l d
 
-  ray-held : (w k : ℕ) (s : St) → w ≤ count T types → Held T s → Held T (ray w k o T s)
+  ray-held : (w k : ℕ) (s : Derived) → w ≤ count T types → Held T s → Held T (ray w k o T s)
   unfolding ray
   ray-held zero k s l d = d
   ray-held (suc n) k s l d = ray-to-held (word (getD (s .special .rays) k (0, 0))) k n s (d .rays k) l d
 
-  rays-held : (cs : Cells) → Plainly (OPT-TYPE ∷ OPT-TYPE ∷ OPT-TYPE ∷ []) cs → within (outside m) cs ≡ true → (s : St) → Held T s → Held T (rays cs 0 o T s)
+  rays-held : (cs : Cells) → Plainly (OPT-TYPE ∷ OPT-TYPE ∷ OPT-TYPE ∷ []) cs → within (outside m) cs ≡ true → (s : Derived) → Held T s → Held T (rays cs 0 o T s)
   unfolding rays within bound caps under outside count tables at
   rays-held _ (plain-next {w = a} (plain-next {w = b} (plain-next {w = c} plain-none))) h s d =
       let x = and-split (ltb a (suc (length (m .types)))) _ h in
@@ -111,7 +112,7 @@ module _ (m : Module) (well : WellFormed m) (three : numbered m ≡ true) (four 
       ray-held c 2 _ (le-of-suc-le-suc (ltb-true _ _ (z .0))) (ray-held b 1 _ (le-of-suc-le-suc (ltb-true _ _ (y .0))) (ray-held a 0 s (le-of-suc-le-suc (ltb-true _ _ (x .0))) d))
 
   -- ---- the pairs by key
-  put-pair-held : (key n : ℕ) (s : St) → 0 < mapAt (s .maps) types n → Held T s → Held T (putPair key n s)
+  put-pair-held : (key n : ℕ) (s : Derived) → 0 < mapAt (s .maps) types n → Held T s → Held T (putPair key n s)
   unfolding putPair withSpecial Inside
   put-pair-held key n s l h = record {
     kept = special-kept T _ s (h .kept);
@@ -119,7 +120,7 @@ module _ (m : Module) (well : WellFormed m) (three : numbered m ≡ true) (four 
     keys = λ j. keyed-append (s .special .pairs) _ j (count (s .recs) types) (h .keys j) (unfold field in (let g : suc (pred (mapAt (s .maps) types n)) ≤ count (s .recs) types = omega (arith, l, h .kept .base .inside types n) in g));
   }
 
-  pair-to-held : (v key n : ℕ) (s : St) → v ≤ count (s .recs) types → n < count T types → Held T s → Held T (pairTo v key n o T s)
+  pair-to-held : (v key n : ℕ) (s : Derived) → v ≤ count (s .recs) types → n < count T types → Held T s → Held T (pairTo v key n o T s)
   unfolding pairTo
   pair-to-held zero key n s l h d = put-pair-held key n (importT o T types n s) (import-kept m well three four o types n s h (d .kept) .1) (type-held n s h d)
   pair-to-held (suc v) key n s l h d = force-held n (suc v) s l d
@@ -128,7 +129,7 @@ module _ (m : Module) (well : WellFormed m) (three : numbered m ≡ true) (four 
   unfolding within bound caps under outside count tables at field
   pair-in (plain-next {w = a} (plain-next {w = b} plain-none)) h = ltb-true b (length (m .types)) (and-split (ltb b (length (m .types))) true h .0)
 
-  pairs-held : (rs : List Cells) → Each (Lays pairRow) rs → every (within (outside m)) rs ≡ true → (s : St) → Held T s → Held T (pairs rs o T s)
+  pairs-held : (rs : List Cells) → Each (Lays pairRow) rs → every (within (outside m)) rs ≡ true → (s : Derived) → Held T s → Held T (pairs rs o T s)
   unfolding pairs every plain?
   pairs-held _ each-none h s d = d
   pairs-held _ (each-next {a = r} {l = rs} p ps) h s d =
@@ -150,23 +151,23 @@ module _ (m : Module) (well : WellFormed m) (three : numbered m ≡ true) (four 
       let j = and-split (within (outside m) (m .special .rays)) _ (i .1) in
       (j .0, j .1, i .0)
 
-  emptied-held : (T′ : Tables) (s : St) → Held T′ s → Held T (emptied (unmapped T) s)
+  emptied-held : (T′ : Tables) (s : Derived) → Held T′ s → Held T (emptied (unmapped T) s)
   unfolding emptied
   emptied-held T′ s h = record { kept = emptied-kept T′ T s (h .kept); rays = h .rays; keys = h .keys }
 
   -- SETTING A SOURCE KEEPS IT
-  pub sourced-held : (T′ : Tables) (s : St) → Held T′ s → Held T (sourced o m s)
+  pub sourced-held : (T′ : Tables) (s : Derived) → Held T′ s → Held T (sourced o m s)
   unfolding sourced plain?
   sourced-held T′ s h =
       pairs-held (m .special .pairs) (well .pairs-ok .each) (specials .1) _ (rays-held (m .special .rays) (plainly (well .rays-ok) refl) (specials .0) (emptied (unmapped T) s) (emptied-held T′ s h))
 
   -- ---- functions in order, and entry points
-  pub append-all-kept : (is : List ℕ) (s : St) → Kept T s → Kept T (appendAll is o m s)
+  pub append-all-kept : (is : List ℕ) (s : Derived) → Kept T s → Kept T (appendAll is o m s)
   unfolding appendAll
   append-all-kept [] s k = k
   append-all-kept (i ∷ is) s k = append-all-kept is _ (import-function-kept m well three four o i s k)
 
-  entered-kept : (e : Entry) → soundEntry (outside m) e ≡ true → (s : St) → Kept T s → Kept T (entered o m e s .out)
+  entered-kept : (e : Entry) → soundEntry (outside m) e ≡ true → (s : Derived) → Kept T s → Kept T (entered o m e s .out)
   unfolding entered sound flatEntry
   entered-kept e h s k =
       let b = inside (outside m) (e .function) in
@@ -174,12 +175,12 @@ module _ (m : Module) (well : WellFormed m) (three : numbered m ≡ true) (four 
       each-kept m well three four o (follow o m) (map-function-kept m well three four o) (λ x y. y) (λ x y z. z) (refs (e .head)) (cells-in m (e .function) (e .head) (w .0)) _
       (final-kept m well three four o (follow o m) (map-function-kept m well three four o) (e .function) (w .1) s k)
 
-  enter-all-kept : (es : List Entry) → every (soundEntry (outside m)) es ≡ true → (s : St) → Kept T s → Kept T (enterAll es o m s)
+  enter-all-kept : (es : List Entry) → every (soundEntry (outside m)) es ≡ true → (s : Derived) → Kept T s → Kept T (enterAll es o m s)
   unfolding enterAll every
   enter-all-kept [] h s k = k
   enter-all-kept (e ∷ es) h s k = let a = and-split (soundEntry (outside m) e) (every (soundEntry (outside m)) es) h in enter-all-kept es (a .1) _ (entered-kept e (a .0) s k)
 
-  pub entries-kept : (s : St) → Kept T s → Kept T (enterAll (m .entries) o m s)
+  pub entries-kept : (s : Derived) → Kept T s → Kept T (enterAll (m .entries) o m s)
   entries-kept s k = enter-all-kept (m .entries) (specials .2) s k
 
 -- ---- from nothing
@@ -197,9 +198,9 @@ fresh-is : emptied (unmapped (fresh .recs)) fresh ≡ fresh
 unfolding emptied unmapped fresh six count at
 fresh-is = refl
 
--- THE TABLES THAT LINK DERIVES PASS TESTS 3 AND 4, whatever the order of functions; names are not numbered anew yet
+-- THE TABLES THAT LINK DERIVES PASS TESTS 3 AND 4, whatever the order of functions; names are not numbered again yet
 module _ (m : Module) (well : WellFormed m) (three : numbered m ≡ true) (four : lower m ≡ true) (is : List ℕ) where
-  abbrev pub end : St
+  abbrev pub end : Derived
   end = enterAll (m .entries) 0 m (appendAll is 0 m (sourced 0 m fresh))
 
   pub link-kept : Kept (tables m) end

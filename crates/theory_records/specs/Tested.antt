@@ -10,26 +10,23 @@ use lib.Dec.{eqb, ltb}
 use native.Mathlib.Decide.{decLt}
 use lib.ListN.{length, getD, List·getD-eq-default}
 use borrow.Author.Tests.{ltb-true}
+use Rattle.theory_lists.specs.Booleans.{and-split}
 use Rattle.model.specs.Outcome.{Cells, class, word}
 use Rattle.model.specs.Table.{TYPE, CONSTANT, OVERRIDE, INIT, OPT-INIT, EXPR, OPT-EXPR}
 use Rattle.model.specs.Module.{Module}
-use Rattle.model.specs.Carry.{Each, each-none, each-next, Lays, WellFormed}
+use Rattle.model.specs.Carry.{Lays, WellFormed}
 use Rattle.model.specs.Operands.{optional, operand, opsOf, kind, constantKind}
 use Rattle.model.specs.Numbers.{Bounds, caps, bound, below as under, within, every, outside, constantOnly, soundFunction, soundEntry, numbered}
 use Rattle.model.specs.Lower.{below, basesOf, typesLower, operandsLower, functionsLower, entriesLower, initOf, initsOf, initsLower, lower}
 use Rattle.model.specs.Tables.{Tab, names, types, constants, overrides, globals, exprs, codeT, isT, at, Tables, tables, recAt, count}
 use Rattle.model.specs.References.{Place, table, own, Target, copied, start, upto, ref, opt, targets, target, Node, node, refOf, refs}
-use Rattle.theory_image.specs.Lists.{and-split}
+use Rattle.theory_image.specs.Members.{each-at}
 use Rattle.theory_records.specs.TableLaws.{Tab-dec, apart}
 use Rattle.theory_records.specs.RecordLaws.{All, all-map, all-both}
 use Rattle.theory_records.specs.Well.{home, May, type-name, type-type, const-name, const-type, const-init, over-name, over-type, over-init, global-name, global-type, global-init, expr-type, expr-const, expr-over, expr-own, InitLow, Good, WF}
 use Rattle.theory_records.specs.Kinds.{KindOf, is-copied, is-span, is-upto, is-name, is-type, is-constant, is-override, is-init, is-opt-init, is-expr, is-opt-expr, Kinds, no-kinds, kinds, rowOf, record-kinds}
 
 -- ---- lists
-pub each-at : {A : Type 0} {P : A → Type 0} {l : List A} → Each P l → (n : ℕ) (d : A) → n < length l → P (getD l n d)
-each-at each-none n d h = absurd (not-suc-le-zero h)
-each-at (each-next p ps) zero d h = p
-each-at (each-next p ps) (suc n) d h = each-at ps n d (le-of-suc-le-suc h)
 
 pub every-at : {A : Type 0} (p : A → Bool) (l : List A) → every p l ≡ true → (n : ℕ) (d : A) → n < length l → p (getD l n d) ≡ true
 unfolding every

@@ -10,16 +10,16 @@ use lib.ListN.{length, getD, set, replicate, length-replicate, length-append, Li
 use Rattle.model.specs.Outcome.{Cells}
 use Rattle.model.specs.Carry.{carryCells}
 use Rattle.model.specs.Tables.{Tab, names, types, constants, overrides, globals, exprs, at, upd, six, Tables, recAt, count, Maps, mapAt}
-use Rattle.model.specs.References.{Place, table, own, function, Node, node, refs, through, shift, seat, merged}
-use Rattle.model.specs.Imports.{St, settle, wentT, made, commit, importT, unmapped, emptied, fresh}
+use Rattle.model.specs.References.{Place, table, own, function, Node, node, refs, through, shift, indexOf, interned}
+use Rattle.model.specs.Imports.{Derived, intern, mappedToT, made, commit, importT, unmapped, emptied, fresh}
 use Rattle.theory_records.specs.TableLaws.{Tab-dec, at-same, at-other, at-six}
 use Rattle.theory_records.specs.RecordLaws.{All, all-map, all-both, all-image, Went, Has, image, bare, refs-shift, refs-alike, bare-shift, length-shift, length-carry, carry-same, refs-carry, Kept, old, new, kept, kept-in, kept-at, kept-longer, kept-prefix, kept-last}
 use Rattle.theory_records.specs.Well.{home, May, InitLow, Good, WF}
 use Rattle.theory_records.specs.Trace.{went-home, Other, node-cases, settle-recs, settle-here, settle-other, Ready, Trace, keep-rule, keep-rule₂, Sized, commit-sized, Keeps, keeps-went, commit-keeps, trace-sized, trace-keeps, import-trace}
 
-pub settle-at : (t : Tab) (n : ℕ) (c : Cells) (s : St) → at t ((settle t n c s) .recs) ≡ merged (at t (s .recs)) c
-unfolding settle
-settle-at t n c s = at-same t (merged (at t (s .recs)) c) (s .recs)
+pub settle-at : (t : Tab) (n : ℕ) (c : Cells) (s : Derived) → at t ((intern t n c s) .recs) ≡ interned (at t (s .recs)) c
+unfolding intern
+settle-at t n c s = at-same t (interned (at t (s .recs)) c) (s .recs)
 
 -- ---- (a) the tables only grow
 pub record Grows (m m′ : Tables) : Type 0 where
@@ -30,7 +30,7 @@ pub grows-trans : {a b c : Tables} → Grows a b → Grows b c → Grows a c
 grows-trans p q =
     record { longer = λ u. le-trans (p .longer u) (q .longer u); prefix = λ u k h. q .prefix u k (lt-of-lt-of-le h (p .longer u)) ∙ p .prefix u k h }
 
-pub settle-grows : (t : Tab) (n : ℕ) (c : Cells) (s : St) → Grows (s .recs) ((settle t n c s) .recs)
+pub settle-grows : (t : Tab) (n : ℕ) (c : Cells) (s : Derived) → Grows (s .recs) ((intern t n c s) .recs)
 unfolding count recAt
 settle-grows t n c s =
     record {
@@ -38,15 +38,15 @@ settle-grows t n c s =
       prefix = λ u k h. settle-recs t n c s u (λ es. getD es k [] ≡ getD (at u (s .recs)) k []) (λ p. kept-prefix (kept c (at u (s .recs))) k h) refl;
     }
 
-pub commit-grows : (o : ℕ) (T : Tables) (s : St) (t : Tab) (n : ℕ) → Grows (s .recs) ((commit o T t n s) .recs)
+pub commit-grows : (o : ℕ) (T : Tables) (s : Derived) (t : Tab) (n : ℕ) → Grows (s .recs) ((commit o T t n s) .recs)
 unfolding commit
 commit-grows o T s t n = settle-grows t n (made o T t n s) s
 
 -- ---- what is mapped is mapped to a derived record
-unfoldable pub Inside : St → Type 0
+unfoldable pub Inside : Derived → Type 0
 Inside s = (t : Tab) (n : ℕ) → mapAt (s .maps) t n ≤ count (s .recs) t
 
-commit-inside : (o : ℕ) (T : Tables) (s : St) (t : Tab) (n : ℕ) → Ready T s t n → Inside s → Inside (commit o T t n s)
+commit-inside : (o : ℕ) (T : Tables) (s : Derived) (t : Tab) (n : ℕ) → Ready T s t n → Inside s → Inside (commit o T t n s)
 unfolding Inside commit count
 commit-inside o T s t n r I =
     node-cases (λ u k. mapAt ((commit o T t n s) .maps) u k ≤ count ((commit o T t n s) .recs) u) t n
@@ -57,23 +57,23 @@ commit-inside o T s t n r I =
     c = made o T t n s
 
 -- ---- (c) the record of what is mapped is its source record, carried
-pub record Entry (T : Tables) (s : St) (t : Tab) (n : ℕ) : Type 0 where
-  pub alike : bare (recAt (s .recs) t (pred (mapAt (s .maps) t n))) ≡ bare (carryCells (through (wentT s)) (recAt T t n))
-  pub closed : All (Has (wentT s)) (refs (recAt T t n))
+pub record Entry (T : Tables) (s : Derived) (t : Tab) (n : ℕ) : Type 0 where
+  pub alike : bare (recAt (s .recs) t (pred (mapAt (s .maps) t n))) ≡ bare (carryCells (through (mappedToT s)) (recAt T t n))
+  pub closed : All (Has (mappedToT s)) (refs (recAt T t n))
 
-unfoldable pub Sound : Tables → St → Type 0
+unfoldable pub Sound : Tables → Derived → Type 0
 Sound T s = (t : Tab) (n : ℕ) → 0 < mapAt (s .maps) t n → Entry T s t n
 
-pub entry-stays : (T : Tables) (s r : St) (t : Tab) (n : ℕ) → mapAt (s .maps) t n ≤ count (s .recs) t → Grows (s .recs) (r .recs) → Keeps s r → 0 < mapAt (s .maps) t n → Entry T s t n → Entry T r t n
+pub entry-stays : (T : Tables) (s r : Derived) (t : Tab) (n : ℕ) → mapAt (s .maps) t n ≤ count (s .recs) t → Grows (s .recs) (r .recs) → Keeps s r → 0 < mapAt (s .maps) t n → Entry T s t n → Entry T r t n
 unfolding Keeps
 entry-stays T s r t n in-s g k h e =
     let same = k t n h in
     record {
-      alike = rw (same, g .prefix t (pred (mapAt (s .maps) t n)) (omega arith), carry-same (wentT s) (wentT r) (recAt T t n) (all-map (refs (recAt T t n)) (λ j. keeps-went s r k (j .place) (j .num)) (e .closed))) (e .alike);
+      alike = rw (same, g .prefix t (pred (mapAt (s .maps) t n)) (omega arith), carry-same (mappedToT s) (mappedToT r) (recAt T t n) (all-map (refs (recAt T t n)) (λ j. keeps-went s r k (j .place) (j .num)) (e .closed))) (e .alike);
       closed = all-map (refs (recAt T t n)) (λ j u. rw (keeps-went s r k (j .place) (j .num) u) u) (e .closed);
     }
 
-commit-sound : (o : ℕ) (T : Tables) (s : St) (t : Tab) (n : ℕ) → Ready T s t n → Inside s → Sound T s → Sound T (commit o T t n s)
+commit-sound : (o : ℕ) (T : Tables) (s : Derived) (t : Tab) (n : ℕ) → Ready T s t n → Inside s → Sound T s → Sound T (commit o T t n s)
 unfolding Sound Keeps commit recAt count Inside
 commit-sound o T s t n r I S =
     node-cases (λ u k. 0 < mapAt ((commit o T t n s) .maps) u k → Entry T (commit o T t n s) u k) t n (λ h. here)
@@ -91,14 +91,14 @@ commit-sound o T s t n r I S =
     here : Entry T (commit o T t n s) t n
     here =
         let at-t = settle-here t n c s (r .room) in
-        let K′ : Kept c (at t (s .recs)) (seat (at t (s .recs)) c) (merged (at t (s .recs)) c) = kept c (at t (s .recs)) in
+        let K′ : Kept c (at t (s .recs)) (indexOf (at t (s .recs)) c) (interned (at t (s .recs)) c) = kept c (at t (s .recs)) in
         record {
-          alike = rw (at-t, settle-at t n c s, carry-same (wentT s) (wentT (commit o T t n s)) (recAt T t n) (all-map (refs (recAt T t n)) (λ j. keeps-went s (commit o T t n s) K (j .place) (j .num)) (r .refsIn))) (kept-at K′ ∙ made-bare);
+          alike = rw (at-t, settle-at t n c s, carry-same (mappedToT s) (mappedToT (commit o T t n s)) (recAt T t n) (all-map (refs (recAt T t n)) (λ j. keeps-went s (commit o T t n s) K (j .place) (j .num)) (r .refsIn))) (kept-at K′ ∙ made-bare);
           closed = all-map (refs (recAt T t n)) (λ j u. rw (keeps-went s (commit o T t n s) K (j .place) (j .num) u) u) (r .refsIn);
         }
       where
-        made-bare : bare c ≡ bare (carryCells (through (wentT s)) (recAt T t n))
-        made-bare = unfold made in bare-shift (carryCells (through (wentT s)) (recAt T t n)) o false
+        made-bare : bare c ≡ bare (carryCells (through (mappedToT s)) (recAt T t n))
+        made-bare = unfold made in bare-shift (carryCells (through (mappedToT s)) (recAt T t n)) o false
 
 -- ---- (d) the derived tables are well-formed
 good-grows : {m m′ : Tables} {t : Tab} {n : ℕ} (j : Node) → Grows m m′ → Good m t n j → Good m′ t n j
@@ -112,14 +112,14 @@ good-grows j g o =
     }
 
 -- what is not old is the new record
-pub settle-new : (t : Tab) (n : ℕ) (c : Cells) (s : St) (u : Tab) (k : ℕ) → k < count ((settle t n c s) .recs) u → (k < count (s .recs) u → ⊥)
-    → (u ≡ t) × (k ≡ count (s .recs) u) × (recAt ((settle t n c s) .recs) u k ≡ c) × (k ≡ seat (at u (s .recs)) c)
+pub settle-new : (t : Tab) (n : ℕ) (c : Cells) (s : Derived) (u : Tab) (k : ℕ) → k < count ((intern t n c s) .recs) u → (k < count (s .recs) u → ⊥)
+    → (u ≡ t) × (k ≡ count (s .recs) u) × (recAt ((intern t n c s) .recs) u k ≡ c) × (k ≡ indexOf (at u (s .recs)) c)
 unfolding count recAt
 settle-new t n c s u k =
-    settle-recs t n c s u (λ es. k < length es → (k < length (at u (s .recs)) → ⊥) → (u ≡ t) × (k ≡ length (at u (s .recs))) × (getD es k [] ≡ c) × (k ≡ seat (at u (s .recs)) c))
+    settle-recs t n c s u (λ es. k < length es → (k < length (at u (s .recs)) → ⊥) → (u ≡ t) × (k ≡ length (at u (s .recs))) × (getD es k [] ≡ c) × (k ≡ indexOf (at u (s .recs)) c))
     (λ p h o. let w = kept-last (kept c (at u (s .recs))) k h o in (p, w .0, w .1, w .2)) (λ h o. absurd (o h))
 
-commit-wf : (o : ℕ) (T : Tables) → WF T → (s : St) (t : Tab) (n : ℕ) → Ready T s t n → Inside s → WF (s .recs) → WF ((commit o T t n s) .recs)
+commit-wf : (o : ℕ) (T : Tables) → WF T → (s : Derived) (t : Tab) (n : ℕ) → Ready T s t n → Inside s → WF (s .recs) → WF ((commit o T t n s) .recs)
 unfolding WF Inside commit
 commit-wf o T wf s t n r I W u k h = go (decLt k (count (s .recs) u))
   where
@@ -133,9 +133,9 @@ commit-wf o T wf s t n r I W u k h = go (decLt k (count (s .recs) u))
     N = count (s .recs) t
 
     -- a reference of the new record
-    one : (j : Node) → Good T t n j → Has (wentT s) j → Good ((commit o T t n s) .recs) t N (image (wentT s) j)
+    one : (j : Node) → Good T t n j → Has (mappedToT s) j → Good ((commit o T t n s) .recs) t N (image (mappedToT s) j)
     one j g m =
-        let k : ℕ = wentT s (j .place) (j .num) in
+        let k : ℕ = mappedToT s (j .place) (j .num) in
         let h : Tab = home (j .place) in
         let l : pred k < count (s .recs) h = omega (arith, I h (j .num), went-home (g .may) s (j .num)) in
         record {
@@ -145,11 +145,11 @@ commit-wf o T wf s t n r I W u k h = go (decLt k (count (s .recs) u))
           init = λ p. unfold InitLow in rw (G .prefix h (pred k) l) (all-map (refs (recAt (s .recs) h (pred k))) (λ i b q. rw (q ∙ sym p) at (b .inside)) (W h (pred k) l));
         }
 
-    made-refs : refs c ≡ map (image (wentT s)) (refs (recAt T t n))
-    made-refs = unfold made in refs-shift (carryCells (through (wentT s)) (recAt T t n)) o false ∙ refs-carry (wentT s) (recAt T t n) (r .refsIn)
+    made-refs : refs c ≡ map (image (mappedToT s)) (refs (recAt T t n))
+    made-refs = unfold made in refs-shift (carryCells (through (mappedToT s)) (recAt T t n)) o false ∙ refs-carry (mappedToT s) (recAt T t n) (r .refsIn)
 
     fresh-good : All (Good ((commit o T t n s) .recs) t N) (refs c)
-    fresh-good = rw made-refs (all-image (Good ((commit o T t n s) .recs) t N) (image (wentT s)) (refs (recAt T t n)) (all-both (refs (recAt T t n)) one (wf t n (r .range)) (r .refsIn)))
+    fresh-good = rw made-refs (all-image (Good ((commit o T t n s) .recs) t N) (image (mappedToT s)) (refs (recAt T t n)) (all-both (refs (recAt T t n)) one (wf t n (r .range)) (r .refsIn)))
 
     go : Dec (k < count (s .recs) u) → All (Good ((commit o T t n s) .recs) u k) (refs (recAt ((commit o T t n s) .recs) u k))
     go (yes l) = rw (G .prefix u k l) (all-map (refs (recAt (s .recs) u k)) (λ j. good-grows j G) (W u k l))
@@ -180,10 +180,10 @@ kept-nodup {c} {ds} (new f) d i j a b e =
     old-at : (k : ℕ) → k < length ds → getD (ds ++ (c ∷ [])) k [] ≡ getD ds k []
     old-at k h = List·getD-append ds (c ∷ []) [] k h
 
-unfoldable pub Distinct : St → Type 0
+unfoldable pub Distinct : Derived → Type 0
 Distinct s = (u : Tab) → NoDup (at u (s .recs))
 
-commit-distinct : (o : ℕ) (T : Tables) (s : St) (t : Tab) (n : ℕ) → Ready T s t n → Distinct s → Distinct (commit o T t n s)
+commit-distinct : (o : ℕ) (T : Tables) (s : Derived) (t : Tab) (n : ℕ) → Ready T s t n → Distinct s → Distinct (commit o T t n s)
 unfolding Distinct commit
 commit-distinct o T s t n r D u = settle-recs t n (made o T t n s) s u NoDup (λ p. kept-nodup (kept (made o T t n s) (at u (s .recs))) (D u)) (D u)
 
@@ -225,50 +225,50 @@ mapped-le w (zero ∷ vs) (d ∷ ds) = omega (arith, mapped-le w vs ds)
 mapped-le w (suc v ∷ vs) (d ∷ ds) = omega (arith, mapped-le w vs ds)
 
 -- what the tables gained is at most what was mapped
-unfoldable pub Within : (Cells → ℕ) → Tables → St → St → Type 0
+unfoldable pub Within : (Cells → ℕ) → Tables → Derived → Derived → Type 0
 Within w T s r = (u : Tab) → total w (at u (r .recs)) + mapped w (at u (s .maps)) (at u T) ≤ total w (at u (s .recs)) + mapped w (at u (r .maps)) (at u T)
 
 commit-within : (w : Cells → ℕ) (o : ℕ) (T : Tables) → ((f : Went) (r : Cells) → w (shift (carryCells (through f) r) o false) ≡ w r)
-    → (s : St) (t : Tab) (n : ℕ) → Ready T s t n → Within w T s (commit o T t n s)
-unfolding Within commit settle
+    → (s : Derived) (t : Tab) (n : ℕ) → Ready T s t n → Within w T s (commit o T t n s)
+unfolding Within commit intern
 commit-within w o T hw s t n r u =
     elim (Tab-dec t u) [
-      | yes p ↦ rw (← p, at-same t (merged (at t (s .recs)) c) (s .recs), at-same t (set (at t (s .maps)) n (suc (seat (at t (s .recs)) c))) (s .maps)) here
-      | no p ↦ rw (at-other t u (merged (at t (s .recs)) c) (s .recs) p, at-other t u (set (at t (s .maps)) n (suc (seat (at t (s .recs)) c))) (s .maps) p) (omega arith)
+      | yes p ↦ rw (← p, at-same t (interned (at t (s .recs)) c) (s .recs), at-same t (set (at t (s .maps)) n (suc (indexOf (at t (s .recs)) c))) (s .maps)) here
+      | no p ↦ rw (at-other t u (interned (at t (s .recs)) c) (s .recs) p, at-other t u (set (at t (s .maps)) n (suc (indexOf (at t (s .recs)) c))) (s .maps) p) (omega arith)
     ]
   where
     c : Cells
     c = made o T t n s
 
-    here : total w (merged (at t (s .recs)) c) + mapped w (at t (s .maps)) (at t T) ≤ total w (at t (s .recs)) + mapped w (set (at t (s .maps)) n (suc (seat (at t (s .recs)) c))) (at t T)
+    here : total w (interned (at t (s .recs)) c) + mapped w (at t (s .maps)) (at t T) ≤ total w (at t (s .recs)) + mapped w (set (at t (s .maps)) n (suc (indexOf (at t (s .recs)) c))) (at t T)
     here =
         let a = kept-total w (kept c (at t (s .recs))) in
-        let b = mapped-set w (at t (s .maps)) (at t T) n (seat (at t (s .recs)) c) (r .room) (unfold count in r .range) (unfold mapAt in r .unmapped) in
-        let e : w c ≡ w (getD (at t T) n []) = unfold made recAt in hw (wentT s) (recAt T t n) in
+        let b = mapped-set w (at t (s .maps)) (at t T) n (indexOf (at t (s .recs)) c) (r .room) (unfold count in r .range) (unfold mapAt in r .unmapped) in
+        let e : w c ≡ w (getD (at t T) n []) = unfold made recAt in hw (mappedToT s) (recAt T t n) in
         omega arith
 
 -- ---- all of it
 -- what every session keeps, whatever is mapped by hand
-pub record Base (T : Tables) (s : St) : Type 0 where
+pub record Base (T : Tables) (s : Derived) : Type 0 where
   pub sized : Sized T s
   pub inside : Inside s
   pub wf : WF (s .recs)
   pub distinct : Distinct s
 
 -- and where nothing was mapped by hand
-pub record Inv (T : Tables) (s : St) : Type 0 where
+pub record Inv (T : Tables) (s : Derived) : Type 0 where
   pub base : Base T s
   pub sound : Sound T s
 
 module _ (o : ℕ) (T : Tables) (wfs : WF T) where
-  pub trace-grows : {a b : St} → Trace o T a b → Grows (a .recs) (b .recs)
+  pub trace-grows : {a b : Derived} → Trace o T a b → Grows (a .recs) (b .recs)
   trace-grows = keep-rule₂ (λ s r. Grows (s .recs) (r .recs)) (λ s. record { longer = λ u. le-refl _; prefix = λ u k h. refl }) (λ a b c. grows-trans) (λ s t n r. commit-grows o T s t n)
 
-  pub trace-within : (w : Cells → ℕ) → ((f : Went) (r : Cells) → w (shift (carryCells (through f) r) o false) ≡ w r) → {a b : St} → Trace o T a b → Within w T a b
+  pub trace-within : (w : Cells → ℕ) → ((f : Went) (r : Cells) → w (shift (carryCells (through f) r) o false) ≡ w r) → {a b : Derived} → Trace o T a b → Within w T a b
   unfolding Within
   trace-within w hw = keep-rule₂ (Within w T) (λ s u. le-refl _) (λ a b c p q u. omega (arith, p u, q u)) (commit-within w o T hw)
 
-  commit-base : (s : St) (t : Tab) (n : ℕ) → Ready T s t n → Base T s → Base T (commit o T t n s)
+  commit-base : (s : Derived) (t : Tab) (n : ℕ) → Ready T s t n → Base T s → Base T (commit o T t n s)
   commit-base s t n r i =
       record {
         sized = commit-sized o T s t n r (i .sized);
@@ -277,8 +277,8 @@ module _ (o : ℕ) (T : Tables) (wfs : WF T) where
         distinct = commit-distinct o T s t n r (i .distinct);
       }
 
-  pub trace-base : {a b : St} → Trace o T a b → Base T a → Base T b
+  pub trace-base : {a b : Derived} → Trace o T a b → Base T a → Base T b
   trace-base = keep-rule (Base T) commit-base
 
-  pub trace-inv : {a b : St} → Trace o T a b → Inv T a → Inv T b
+  pub trace-inv : {a b : Derived} → Trace o T a b → Inv T a → Inv T b
   trace-inv = keep-rule (Inv T) (λ s t n r i. record { base = commit-base s t n r (i .base); sound = commit-sound o T s t n r (i .base .inside) (i .sound) })

@@ -1,4 +1,4 @@
--- TWO WAYS TO FOLLOW CALLS that do the same to every callee of a function, in every state that its import meets, import it alike: the same state in the end, and the same derived function. So the bound on nesting plays no part where callees have heights below it.
+-- TWO WAYS TO FOLLOW CALLS that do the same to every callee of a function, in every state that its import meets, import it alike: the same state in the end, and the same derived function. So the bound on nesting does not matter where callees have heights below it.
 use mathlib.Core.Path.{_≡_, refl, ap, _∙_}
 use mathlib.Core.Logic.{inr}
 use mathlib.Core.Bool.{Bool, true, false}
@@ -14,9 +14,9 @@ use Rattle.model.specs.Operands.{opsOf, resultOf, ops, standing}
 use Rattle.model.specs.Initial.{Mem, root, roots, marked, initials, initial}
 use Rattle.theory_image.specs.Reached.{initial-is}
 use Rattle.model.specs.Scope.{inRange, expandS, expandF, expand, expandK, expandC, evalsOpt, seen}
-use Rattle.model.specs.References.{Place, table, own, function, Node, refs, each, through}
-use Rattle.model.specs.Imports.{St, once}
-use Rattle.model.specs.Bodies.{Making, bring, went, comparesOf, eachE, optE, step, push, join, stand, importE, plain, unique, quiet, goS, goF, goB, goK, goC, settled, mkS, mkF, mkB, mkK, mkC, nameCells, keptNames, declarations, declared, walked, rebuilt, namedAfter, derived, final, localized}
+use Rattle.model.specs.References.{Place, table, own, function, Node, refs, foldRefs, through}
+use Rattle.model.specs.Imports.{Derived, unlessMapped}
+use Rattle.model.specs.Bodies.{Builder, bring, mappedTo, comparesOf, eachE, optE, step, appendExpr, internExpr, appendStanding, importE, importBody, importInitialiser, importStanding, importStmt, importForm, importBlock, importCase, importCases, carriedForm, rebuildStmt, rebuildForm, rebuildBlock, rebuildCase, rebuildCases, nameCells, keptNames, declarations, declared, walked, rebuilt, namedAfter, derived, final, localized}
 use Rattle.theory_walks.specs.Agreement.{mentionsE, mentionsS, mentionsF, mentionsB, mentionsK, mentionsC}
 use Rattle.theory_records.specs.RecordLaws.{All as AllN}
 use Rattle.theory_bodies.specs.Lists.{All, all-mem, mem-all, all-l, all-r}
@@ -25,163 +25,163 @@ use Rattle.theory_bodies.specs.Steps.{Lives, l-end, l-skip, l-keep, lives, Expr
 use Rattle.theory_bodies.specs.Body.{Effect, FitS, FitF, FitB, FitK, FitC}
 use Rattle.theory_bodies.specs.Function.{Fine, May, ctx, keep-in, names-in, names-own}
 
-module _ (c : Ctx) (ex : Exprs c) (follow′ : ℕ → St → St) (same : (n : ℕ) (s : St) → c .calls n → c .G s → follow′ n s ≡ c .follow n s) where
-  abbrev K : Making → Type 0
+module _ (c : Ctx) (ex : Exprs c) (follow′ : ℕ → Derived → Derived) (same : (n : ℕ) (s : Derived) → c .calls n → c .G s → follow′ n s ≡ c .follow n s) where
+  abbrev K : Builder → Type 0
   K x = c .G (x .out)
 
   -- the same of what may be imported, and G goes on
-  abbrev Agree : (ℕ → Making → Making) → (ℕ → Making → Making) → Type 0
-  Agree h h′ = (e : ℕ) (x : Making) → c .may e → K x → (h′ e x ≡ h e x) × K (h e x)
+  abbrev Agree : (ℕ → Builder → Builder) → (ℕ → Builder → Builder) → Type 0
+  Agree h h′ = (e : ℕ) (x : Builder) → c .may e → K x → (h′ e x ≡ h e x) × K (h e x)
 
   -- ---- references
-  step-same : {h h′ : ℕ → Making → Making} → Agree h h′ → (p : Place) (n : ℕ) (x : Making) → Inside (c .M) (c .calls) p n → OwnP (c .may) p n → K x
+  step-same : {h h′ : ℕ → Builder → Builder} → Agree h h′ → (p : Place) (n : ℕ) (x : Builder) → Inside (c .M) (c .calls) p n → OwnP (c .may) p n → K x
       → (step (c .o) (c .M) follow′ h′ p n x ≡ step (c .o) (c .M) (c .follow) h p n x) × K (step (c .o) (c .M) (c .follow) h p n x)
   unfolding step bring OwnP Inside outer
   step-same a (table t) n x i w k = (refl, c .law .good (table t) n (x .out) i k)
   step-same a own n x i w k = a n x w k
-  step-same a function n x i w k = (ap (λ (r : St). record { out = r; memo = x .memo; made = x .made }) (same n (x .out) i k), c .law .good function n (x .out) i k)
+  step-same a function n x i w k = (ap (λ (r : Derived). record { out = r; memo = x .memo; made = x .made }) (same n (x .out) i k), c .law .good function n (x .out) i k)
 
-  each-same : {h h′ : ℕ → Making → Making} → Agree h h′ → (js : List Node) (x : Making) → AllN (InN (c .M) (c .calls)) js → AllN (Own (c .may)) js → K x
-      → (each js (step (c .o) (c .M) follow′ h′) x ≡ each js (step (c .o) (c .M) (c .follow) h) x) × K (each js (step (c .o) (c .M) (c .follow) h) x)
-  unfolding each
+  each-same : {h h′ : ℕ → Builder → Builder} → Agree h h′ → (js : List Node) (x : Builder) → AllN (InN (c .M) (c .calls)) js → AllN (Own (c .may)) js → K x
+      → (foldRefs js (step (c .o) (c .M) follow′ h′) x ≡ foldRefs js (step (c .o) (c .M) (c .follow) h) x) × K (foldRefs js (step (c .o) (c .M) (c .follow) h) x)
+  unfolding foldRefs
   each-same a [] x i w k = (refl, k)
   each-same {h} {h′} a (j ∷ js) x i w k =
       let r = step-same a (j .place) (j .num) x (i .0) (w .0) k in
       let z = each-same a js (step (c .o) (c .M) (c .follow) h (j .place) (j .num) x) (i .1) (w .1) (r .1) in
-      (ap (each js (step (c .o) (c .M) follow′ h′)) (r .0) ∙ z .0, z .1)
+      (ap (foldRefs js (step (c .o) (c .M) follow′ h′)) (r .0) ∙ z .0, z .1)
 
   -- ---- expressions
-  import-same : (d d′ : ℕ → Making → Making) → ((e : ℕ) (x : Making) → K x → (d′ e x ≡ d e x) × K (d e x)) → (n : ℕ) → Agree (importE (c .o) (c .M) (c .follow) (c .xs) d n) (importE (c .o) (c .M) follow′ (c .xs) d′ n)
+  import-same : (d d′ : ℕ → Builder → Builder) → ((e : ℕ) (x : Builder) → K x → (d′ e x ≡ d e x) × K (d e x)) → (n : ℕ) → Agree (importE (c .o) (c .M) (c .follow) (c .xs) d n) (importE (c .o) (c .M) follow′ (c .xs) d′ n)
   unfolding importE
   import-same d d′ f zero e x m k = (refl, k)
   import-same d d′ f (suc n) e x m k = go (getD (x .memo) e 0) (each-same (import-same d d′ f n) (refs (getD (c .xs) e [])) x (ex .inside e m) (own-ops c ex (c .may) e (ex .may-ops e m)) k)
     where
-      y : Making
-      y = each (refs (getD (c .xs) e [])) (step (c .o) (c .M) (c .follow) (importE (c .o) (c .M) (c .follow) (c .xs) d n)) x
+      y : Builder
+      y = foldRefs (refs (getD (c .xs) e [])) (step (c .o) (c .M) (c .follow) (importE (c .o) (c .M) (c .follow) (c .xs) d n)) x
 
-      y′ : Making
-      y′ = each (refs (getD (c .xs) e [])) (step (c .o) (c .M) follow′ (importE (c .o) (c .M) follow′ (c .xs) d′ n)) x
+      y′ : Builder
+      y′ = foldRefs (refs (getD (c .xs) e [])) (step (c .o) (c .M) follow′ (importE (c .o) (c .M) follow′ (c .xs) d′ n)) x
 
-      go : (v : ℕ) → (y′ ≡ y) × K y → (once v (λ z. d′ e y′) x ≡ once v (λ z. d e y) x) × K (once v (λ z. d e y) x)
-      go zero r = unfold once in (ap (d′ e) (r .0) ∙ f e y (r .1) .0, f e y (r .1) .1)
-      go (suc v) r = unfold once in (refl, k)
+      go : (v : ℕ) → (y′ ≡ y) × K y → (unlessMapped v (λ z. d′ e y′) x ≡ unlessMapped v (λ z. d e y) x) × K (unlessMapped v (λ z. d e y) x)
+      go zero r = unfold unlessMapped in (ap (d′ e) (r .0) ∙ f e y (r .1) .0, f e y (r .1) .1)
+      go (suc v) r = unfold unlessMapped in (refl, k)
 
-  abbrev p : ℕ → Making → Making
-  p = plain (c .o) (c .M) (c .follow) (c .xs)
+  abbrev p : ℕ → Builder → Builder
+  p = importBody (c .o) (c .M) (c .follow) (c .xs)
 
-  abbrev p′ : ℕ → Making → Making
-  p′ = plain (c .o) (c .M) follow′ (c .xs)
+  abbrev p′ : ℕ → Builder → Builder
+  p′ = importBody (c .o) (c .M) follow′ (c .xs)
 
-  abbrev q : ℕ → Making → Making
-  q = quiet (c .o) (c .M) (c .follow) (c .xs)
+  abbrev q : ℕ → Builder → Builder
+  q = importStanding (c .o) (c .M) (c .follow) (c .xs)
 
-  abbrev q′ : ℕ → Making → Making
-  q′ = quiet (c .o) (c .M) follow′ (c .xs)
+  abbrev q′ : ℕ → Builder → Builder
+  q′ = importStanding (c .o) (c .M) follow′ (c .xs)
 
   plain-same : Agree p p′
-  unfolding plain push
-  plain-same = import-same (push (c .o) (c .M) (c .follow) (c .xs)) (push (c .o) (c .M) follow′ (c .xs)) (λ e x k. (refl, k)) (length (c .xs))
+  unfolding importBody appendExpr
+  plain-same = import-same (appendExpr (c .o) (c .M) (c .follow) (c .xs)) (appendExpr (c .o) (c .M) follow′ (c .xs)) (λ e x k. (refl, k)) (length (c .xs))
 
-  unique-same : Agree (unique (c .o) (c .M) (c .follow) (c .xs)) (unique (c .o) (c .M) follow′ (c .xs))
-  unfolding unique join
-  unique-same = import-same (join (c .o) (c .M) (c .follow) (c .xs)) (join (c .o) (c .M) follow′ (c .xs)) (λ e x k. (refl, k)) (length (c .xs))
+  unique-same : Agree (importInitialiser (c .o) (c .M) (c .follow) (c .xs)) (importInitialiser (c .o) (c .M) follow′ (c .xs))
+  unfolding importInitialiser internExpr
+  unique-same = import-same (internExpr (c .o) (c .M) (c .follow) (c .xs)) (internExpr (c .o) (c .M) follow′ (c .xs)) (λ e x k. (refl, k)) (length (c .xs))
 
   quiet-same : Agree q q′
-  unfolding quiet stand push
-  quiet-same = import-same (stand (c .o) (c .M) (c .follow) (c .xs)) (stand (c .o) (c .M) follow′ (c .xs)) (λ e x k. (refl, stays e x k)) (length (c .xs))
+  unfolding importStanding appendStanding appendExpr
+  quiet-same = import-same (appendStanding (c .o) (c .M) (c .follow) (c .xs)) (appendStanding (c .o) (c .M) follow′ (c .xs)) (λ e x k. (refl, stays e x k)) (length (c .xs))
     where
-      stays : (e : ℕ) (x : Making) → K x → K (stand (c .o) (c .M) (c .follow) (c .xs) e x)
+      stays : (e : ℕ) (x : Builder) → K x → K (appendStanding (c .o) (c .M) (c .follow) (c .xs) e x)
       stays e x k = go (standing (c .xs) e)
         where
-          go : (b : Bool) → K (let y : Making = elim b [ true ↦ push (c .o) (c .M) (c .follow) (c .xs) e x | false ↦ x ] in y)
+          go : (b : Bool) → K (let y : Builder = elim b [ true ↦ appendExpr (c .o) (c .M) (c .follow) (c .xs) e x | false ↦ x ] in y)
           go true = k
           go false = k
 
-  eachE-same : {h h′ : ℕ → Making → Making} → Agree h h′ → (es : List ℕ) (x : Making) → All (c .may) es → K x → (eachE es h′ x ≡ eachE es h x) × K (eachE es h x)
+  eachE-same : {h h′ : ℕ → Builder → Builder} → Agree h h′ → (es : List ℕ) (x : Builder) → All (c .may) es → K x → (eachE es h′ x ≡ eachE es h x) × K (eachE es h x)
   unfolding eachE
   eachE-same a [] x w k = (refl, k)
   eachE-same {h} {h′} a (e ∷ es) x w k = let r = a e x (w .0) k in let z = eachE-same a es (h e x) (w .1) (r .1) in (ap (eachE es h′) (r .0) ∙ z .0, z .1)
 
-  optE-same : {h h′ : ℕ → Making → Making} → Agree h h′ → (e : Option ℕ) (x : Making) → All (c .may) (evalsOpt e) → K x → (optE e h′ x ≡ optE e h x) × K (optE e h x)
+  optE-same : {h h′ : ℕ → Builder → Builder} → Agree h h′ → (e : Option ℕ) (x : Builder) → All (c .may) (evalsOpt e) → K x → (optE e h′ x ≡ optE e h x) × K (optE e h x)
   unfolding optE evalsOpt
   optE-same a none x w k = (refl, k)
   optE-same a (some e) x w k = a e x (w .0) k
 
   -- ---- statements: the same state after, the same statement made
-  abbrev SameS : Stmt Range → Making → Type 0
-  SameS s x = (goS (c .o) (c .M) follow′ p′ q′ s x ≡ goS (c .o) (c .M) (c .follow) p q s x) × (mkS (c .o) (c .M) follow′ p′ q′ s x ≡ mkS (c .o) (c .M) (c .follow) p q s x) × K (goS (c .o) (c .M) (c .follow) p q s x)
+  abbrev SameS : Stmt Range → Builder → Type 0
+  SameS s x = (importStmt (c .o) (c .M) follow′ p′ q′ s x ≡ importStmt (c .o) (c .M) (c .follow) p q s x) × (rebuildStmt (c .o) (c .M) follow′ p′ q′ s x ≡ rebuildStmt (c .o) (c .M) (c .follow) p q s x) × K (importStmt (c .o) (c .M) (c .follow) p q s x)
 
-  abbrev SameF : Form Range → Making → Type 0
-  SameF g x = (goF (c .o) (c .M) follow′ p′ q′ g x ≡ goF (c .o) (c .M) (c .follow) p q g x) × (mkF (c .o) (c .M) follow′ p′ q′ g x ≡ mkF (c .o) (c .M) (c .follow) p q g x) × K (goF (c .o) (c .M) (c .follow) p q g x)
+  abbrev SameF : Form Range → Builder → Type 0
+  SameF g x = (importForm (c .o) (c .M) follow′ p′ q′ g x ≡ importForm (c .o) (c .M) (c .follow) p q g x) × (rebuildForm (c .o) (c .M) follow′ p′ q′ g x ≡ rebuildForm (c .o) (c .M) (c .follow) p q g x) × K (importForm (c .o) (c .M) (c .follow) p q g x)
 
-  abbrev SameB : Block Range → Making → Type 0
-  SameB b x = (goB (c .o) (c .M) follow′ p′ q′ b x ≡ goB (c .o) (c .M) (c .follow) p q b x) × (mkB (c .o) (c .M) follow′ p′ q′ b x ≡ mkB (c .o) (c .M) (c .follow) p q b x) × K (goB (c .o) (c .M) (c .follow) p q b x)
+  abbrev SameB : Block Range → Builder → Type 0
+  SameB b x = (importBlock (c .o) (c .M) follow′ p′ q′ b x ≡ importBlock (c .o) (c .M) (c .follow) p q b x) × (rebuildBlock (c .o) (c .M) follow′ p′ q′ b x ≡ rebuildBlock (c .o) (c .M) (c .follow) p q b x) × K (importBlock (c .o) (c .M) (c .follow) p q b x)
 
-  abbrev SameK : Case Range → Making → Type 0
-  SameK g x = (goK (c .o) (c .M) follow′ p′ q′ g x ≡ goK (c .o) (c .M) (c .follow) p q g x) × (mkK (c .o) (c .M) follow′ p′ q′ g x ≡ mkK (c .o) (c .M) (c .follow) p q g x) × K (goK (c .o) (c .M) (c .follow) p q g x)
+  abbrev SameK : Case Range → Builder → Type 0
+  SameK g x = (importCase (c .o) (c .M) follow′ p′ q′ g x ≡ importCase (c .o) (c .M) (c .follow) p q g x) × (rebuildCase (c .o) (c .M) follow′ p′ q′ g x ≡ rebuildCase (c .o) (c .M) (c .follow) p q g x) × K (importCase (c .o) (c .M) (c .follow) p q g x)
 
-  abbrev SameC : Cases Range → Making → Type 0
-  SameC g x = (goC (c .o) (c .M) follow′ p′ q′ g x ≡ goC (c .o) (c .M) (c .follow) p q g x) × (mkC (c .o) (c .M) follow′ p′ q′ g x ≡ mkC (c .o) (c .M) (c .follow) p q g x) × K (goC (c .o) (c .M) (c .follow) p q g x)
+  abbrev SameC : Cases Range → Builder → Type 0
+  SameC g x = (importCases (c .o) (c .M) follow′ p′ q′ g x ≡ importCases (c .o) (c .M) (c .follow) p q g x) × (rebuildCases (c .o) (c .M) follow′ p′ q′ g x ≡ rebuildCases (c .o) (c .M) (c .follow) p q g x) × K (importCases (c .o) (c .M) (c .follow) p q g x)
 
-  same-stmt : (a b : ℕ) (g : Form Range) (x : Making) → SameF g x → SameS (stmt a b g) x
-  unfolding goF mkF
+  same-stmt : (a b : ℕ) (g : Form Range) (x : Builder) → SameF g x → SameS (stmt a b g) x
+  unfolding importForm rebuildForm
   same-stmt a b g x z = (z .0, rw (z .1) refl, z .2)
 
-  same-emit : (r : Range) (x : Making) → All (c .may) (inRange r) → K x → SameF (emit r) x
-  unfolding goF mkF
+  same-emit : (r : Range) (x : Builder) → All (c .may) (inRange r) → K x → SameF (emit r) x
+  unfolding importForm rebuildForm
   same-emit r x w k =
       let y = eachE-same quiet-same (inRange r) x w k in
       let z = eachE-same plain-same (inRange r) (eachE (inRange r) q x) w (y .1) in
       (rw (y .0) (z .0), rw (y .0, z .0) refl, z .1)
 
-  same-block : (b : Block Range) (x : Making) → SameB b x → SameF (block b) x
-  unfolding goF mkF
+  same-block : (b : Block Range) (x : Builder) → SameB b x → SameF (block b) x
+  unfolding importForm rebuildForm
   same-block b x z = (z .0, ap block (z .1), z .2)
 
-  same-branch : (e : ℕ) (a b : Block Range) (x : Making) → p′ e x ≡ p e x → SameB a (p e x) → SameB b (goB (c .o) (c .M) (c .follow) p q a (p e x)) → SameF (branch e a b) x
-  unfolding goF mkF
+  same-branch : (e : ℕ) (a b : Block Range) (x : Builder) → p′ e x ≡ p e x → SameB a (p e x) → SameB b (importBlock (c .o) (c .M) (c .follow) p q a (p e x)) → SameF (branch e a b) x
+  unfolding importForm rebuildForm
   same-branch e a b x z u v = (rw (z, u .0) (v .0), rw (z, u .0, u .1, v .1) refl, v .2)
 
-  same-switch : (e : ℕ) (ks : Cases Range) (x : Making) → p′ e x ≡ p e x → SameC ks (p e x) → SameF (switch e ks) x
-  unfolding goF mkF
+  same-switch : (e : ℕ) (ks : Cases Range) (x : Builder) → p′ e x ≡ p e x → SameC ks (p e x) → SameF (switch e ks) x
+  unfolding importForm rebuildForm
   same-switch e ks x z u = (rw z (u .0), rw (z, u .1) refl, u .2)
 
-  same-loop : (a b : Block Range) (e : Option ℕ) (x : Making) → SameB a x → SameB b (goB (c .o) (c .M) (c .follow) p q a x) → (optE e p′ (goB (c .o) (c .M) (c .follow) p q b (goB (c .o) (c .M) (c .follow) p q a x)) ≡ optE e p (goB (c .o) (c .M) (c .follow) p q b (goB (c .o) (c .M) (c .follow) p q a x))) × K (optE e p (goB (c .o) (c .M) (c .follow) p q b (goB (c .o) (c .M) (c .follow) p q a x))) → SameF (loop a b e) x
-  unfolding goF mkF
+  same-loop : (a b : Block Range) (e : Option ℕ) (x : Builder) → SameB a x → SameB b (importBlock (c .o) (c .M) (c .follow) p q a x) → (optE e p′ (importBlock (c .o) (c .M) (c .follow) p q b (importBlock (c .o) (c .M) (c .follow) p q a x)) ≡ optE e p (importBlock (c .o) (c .M) (c .follow) p q b (importBlock (c .o) (c .M) (c .follow) p q a x))) × K (optE e p (importBlock (c .o) (c .M) (c .follow) p q b (importBlock (c .o) (c .M) (c .follow) p q a x))) → SameF (loop a b e) x
+  unfolding importForm rebuildForm
   same-loop a b e x u v w = (rw (u .0, v .0) (w .0), rw (u .0, v .0, u .1, v .1, w .0) refl, w .1)
 
-  same-return : (e : Option ℕ) (x : Making) → (optE e p′ x ≡ optE e p x) × K (optE e p x) → SameF (return e) x
-  unfolding goF mkF settled
+  same-return : (e : Option ℕ) (x : Builder) → (optE e p′ x ≡ optE e p x) × K (optE e p x) → SameF (return e) x
+  unfolding importForm rebuildForm carriedForm
   same-return e x z = (z .0, rw (z .0) refl, z .1)
 
-  same-call : (f : ℕ) (ys : List ℕ) (r : Option ℕ) (x : Making) → c .calls f → All (c .may) ys → All (c .may) (evalsOpt r) → K x → SameF (call f ys r) x
-  unfolding goF mkF settled step bring Inside OwnP
+  same-call : (f : ℕ) (ys : List ℕ) (r : Option ℕ) (x : Builder) → c .calls f → All (c .may) ys → All (c .may) (evalsOpt r) → K x → SameF (call f ys r) x
+  unfolding importForm rebuildForm carriedForm step bring Inside OwnP
   same-call f ys r x w a b k =
       let s = step-same plain-same function f x w tt k in
       let t = eachE-same plain-same ys (bring (c .follow f) x) a (s .1) in
       let u = optE-same plain-same r (eachE ys p (bring (c .follow f) x)) b (t .1) in
-      let e : optE r p′ (eachE ys p′ (bring (follow′ f) x)) ≡ optE r p (eachE ys p (bring (c .follow f) x)) = ap (λ (y : Making). optE r p′ (eachE ys p′ y)) (s .0) ∙ ap (optE r p′) (t .0) ∙ u .0 in
-      (e, ap (λ (m : Making). carryF (through (went (c .M) m)) (call f ys r)) e, u .1)
+      let e : optE r p′ (eachE ys p′ (bring (follow′ f) x)) ≡ optE r p (eachE ys p (bring (c .follow f) x)) = ap (λ (y : Builder). optE r p′ (eachE ys p′ y)) (s .0) ∙ ap (optE r p′) (t .0) ∙ u .0 in
+      (e, ap (λ (m : Builder). carryF (through (mappedTo (c .M) m)) (call f ys r)) e, u .1)
 
-  same-effect : (n : ℕ) (cs : Cells) (x : Making) → Effect c cs → All (c .may) (opsOf cs ++ evalsOpt (resultOf cs)) → K x → SameF (effect n cs) x
-  unfolding goF mkF settled
+  same-effect : (n : ℕ) (cs : Cells) (x : Builder) → Effect c cs → All (c .may) (opsOf cs ++ evalsOpt (resultOf cs)) → K x → SameF (effect n cs) x
+  unfolding importForm rebuildForm carriedForm
   same-effect n cs x w a k =
       let o = all-l (c .may) (opsOf cs) (evalsOpt (resultOf cs)) a in
       let t = eachE-same plain-same (comparesOf cs) x (all-mem (c .may) (comparesOf cs) (λ y m. mem-all (c .may) (w .compares y m) o)) k in
       let u = each-same plain-same (refs cs) (eachE (comparesOf cs) p x) (w .inside) (owns-all (c .may) (refs cs) (rw (w .owned) a)) (t .1) in
-      let e : each (refs cs) (step (c .o) (c .M) follow′ p′) (eachE (comparesOf cs) p′ x) ≡ each (refs cs) (step (c .o) (c .M) (c .follow) p) (eachE (comparesOf cs) p x) = ap (each (refs cs) (step (c .o) (c .M) follow′ p′)) (t .0) ∙ u .0 in
-      (e, ap (λ (m : Making). carryF (through (went (c .M) m)) (effect n cs)) e, u .1)
+      let e : foldRefs (refs cs) (step (c .o) (c .M) follow′ p′) (eachE (comparesOf cs) p′ x) ≡ foldRefs (refs cs) (step (c .o) (c .M) (c .follow) p) (eachE (comparesOf cs) p x) = ap (foldRefs (refs cs) (step (c .o) (c .M) follow′ p′)) (t .0) ∙ u .0 in
+      (e, ap (λ (m : Builder). carryF (through (mappedTo (c .M) m)) (effect n cs)) e, u .1)
 
-  same-then : (s : Stmt Range) (b : Block Range) (x : Making) → SameS s x → SameB b (goS (c .o) (c .M) (c .follow) p q s x) → SameB (s then b) x
-  unfolding goF mkF
+  same-then : (s : Stmt Range) (b : Block Range) (x : Builder) → SameS s x → SameB b (importStmt (c .o) (c .M) (c .follow) p q s x) → SameB (s then b) x
+  unfolding importForm rebuildForm
   same-then s b x u v = (rw (u .0) (v .0), rw (u .0, u .1, v .1) refl, v .2)
 
-  same-case : (v : Cells) (b : Block Range) (f : ℕ) (x : Making) → SameB b x → SameK (case v b f) x
-  unfolding goF mkF
+  same-case : (v : Cells) (b : Block Range) (f : ℕ) (x : Builder) → SameB b x → SameK (case v b f) x
+  unfolding importForm rebuildForm
   same-case v b f x z = (z .0, ap (λ (y : Block Range). case v y f) (z .1), z .2)
 
-  same-also : (g : Case Range) (ks : Cases Range) (x : Making) → SameK g x → SameC ks (goK (c .o) (c .M) (c .follow) p q g x) → SameC (g also ks) x
-  unfolding goF mkF
+  same-also : (g : Case Range) (ks : Cases Range) (x : Builder) → SameK g x → SameC ks (importCase (c .o) (c .M) (c .follow) p q g x) → SameC (g also ks) x
+  unfolding importForm rebuildForm
   same-also g ks x u v = (rw (u .0) (v .0), rw (u .0, u .1, v .1) refl, v .2)
 
   -- what an Emit's range holds is an initialiser expression or evaluated
@@ -196,25 +196,25 @@ module _ (c : Ctx) (ex : Exprs c) (follow′ : ℕ → St → St) (same : (n : �
     M? es = All (c .may) es
 
     mutual
-      unfolding goF mkF expandF mentionsF FitF Inside
+      unfolding importForm rebuildForm expandF mentionsF FitF Inside
 
-      sameS : (s : Stmt Range) (x : Making) → FitS s c → M? (mentionsS (expandS s drop) (c .xs)) → K x → SameS s x
+      sameS : (s : Stmt Range) (x : Builder) → FitS s c → M? (mentionsS (expandS s drop) (c .xs)) → K x → SameS s x
       sameS (stmt a b g) x w m k = same-stmt a b g x (sameF g x w m k)
 
-      sameF : (g : Form Range) (x : Making) → FitF g c → M? (mentionsF (expandF g drop) (c .xs)) → K x → SameF g x
+      sameF : (g : Form Range) (x : Builder) → FitF g c → M? (mentionsF (expandF g drop) (c .xs)) → K x → SameF g x
       sameF (emit r) x w m k = same-emit r x (range-may drop dropped (lives drop (inRange r)) m) k
       sameF (block b) x w m k = same-block b x (sameB b x w m k)
       sameF (branch e a b) x w m k =
           let z = plain-same e x (m .0) k in
           let u = sameB a (p e x) (w .0) (all-l (c .may) (mentionsB (expand a drop) (c .xs)) _ (m .1)) (z .1) in
-          let v = sameB b (goB (c .o) (c .M) (c .follow) p q a (p e x)) (w .1) (all-r (c .may) (mentionsB (expand a drop) (c .xs)) _ (m .1)) (u .2) in
+          let v = sameB b (importBlock (c .o) (c .M) (c .follow) p q a (p e x)) (w .1) (all-r (c .may) (mentionsB (expand a drop) (c .xs)) _ (m .1)) (u .2) in
           same-branch e a b x (z .0) u v
       sameF (switch e ks) x w m k = let z = plain-same e x (m .0) k in same-switch e ks x (z .0) (sameC ks (p e x) w (m .1) (z .1))
       sameF (loop a b e) x w m k =
           let n = all-r (c .may) (evalsOpt e) _ m in
           let u = sameB a x (w .0) (all-l (c .may) (mentionsB (expand a drop) (c .xs)) _ n) k in
-          let v = sameB b (goB (c .o) (c .M) (c .follow) p q a x) (w .1) (all-r (c .may) (mentionsB (expand a drop) (c .xs)) _ n) (u .2) in
-          same-loop a b e x u v (optE-same plain-same e (goB (c .o) (c .M) (c .follow) p q b (goB (c .o) (c .M) (c .follow) p q a x)) (all-l (c .may) (evalsOpt e) _ m) (v .2))
+          let v = sameB b (importBlock (c .o) (c .M) (c .follow) p q a x) (w .1) (all-r (c .may) (mentionsB (expand a drop) (c .xs)) _ n) (u .2) in
+          same-loop a b e x u v (optE-same plain-same e (importBlock (c .o) (c .M) (c .follow) p q b (importBlock (c .o) (c .M) (c .follow) p q a x)) (all-l (c .may) (evalsOpt e) _ m) (v .2))
       sameF break x w m k = (refl, refl, k)
       sameF continue x w m k = (refl, refl, k)
       sameF (return e) x w m k = same-return e x (optE-same plain-same e x m k)
@@ -222,26 +222,26 @@ module _ (c : Ctx) (ex : Exprs c) (follow′ : ℕ → St → St) (same : (n : �
       sameF (call f ys r) x w m k = same-call f ys r x (w .inside) (all-l (c .may) ys _ m) (all-r (c .may) ys _ m) k
       sameF (effect n cs) x w m k = same-effect n cs x w m k
 
-      sameB : (b : Block Range) (x : Making) → FitB b c → M? (mentionsB (expand b drop) (c .xs)) → K x → SameB b x
+      sameB : (b : Block Range) (x : Builder) → FitB b c → M? (mentionsB (expand b drop) (c .xs)) → K x → SameB b x
       sameB end x w m k = (refl, refl, k)
       sameB (s then b) x w m k =
           let u = sameS s x (w .0) (all-l (c .may) (mentionsS (expandS s drop) (c .xs)) _ m) k in
-          let v = sameB b (goS (c .o) (c .M) (c .follow) p q s x) (w .1) (all-r (c .may) (mentionsS (expandS s drop) (c .xs)) _ m) (u .2) in
+          let v = sameB b (importStmt (c .o) (c .M) (c .follow) p q s x) (w .1) (all-r (c .may) (mentionsS (expandS s drop) (c .xs)) _ m) (u .2) in
           same-then s b x u v
 
-      sameK : (g : Case Range) (x : Making) → FitK g c → M? (mentionsK (expandK g drop) (c .xs)) → K x → SameK g x
+      sameK : (g : Case Range) (x : Builder) → FitK g c → M? (mentionsK (expandK g drop) (c .xs)) → K x → SameK g x
       sameK (case v b f) x w m k = same-case v b f x (sameB b x (w .1) m k)
 
-      sameC : (ks : Cases Range) (x : Making) → FitC ks c → M? (mentionsC (expandC ks drop) (c .xs)) → K x → SameC ks x
+      sameC : (ks : Cases Range) (x : Builder) → FitC ks c → M? (mentionsC (expandC ks drop) (c .xs)) → K x → SameC ks x
       sameC nomore x w m k = (refl, refl, k)
       sameC (g also ks) x w m k =
           let u = sameK g x (w .0) (all-l (c .may) (mentionsK (expandK g drop) (c .xs)) _ m) k in
-          let v = sameC ks (goK (c .o) (c .M) (c .follow) p q g x) (w .1) (all-r (c .may) (mentionsK (expandK g drop) (c .xs)) _ m) (u .2) in
+          let v = sameC ks (importCase (c .o) (c .M) (c .follow) p q g x) (w .1) (all-r (c .may) (mentionsK (expandK g drop) (c .xs)) _ m) (u .2) in
           same-also g ks x u v
 
 -- ---- the whole function
-module _ (o : ℕ) (M : Module) (follow follow′ : ℕ → St → St) (Q : ℕ → Type 0) (G : St → Type 0) (law : Law o M follow Q G) (F : Function) (fine : Fine (ctx o M follow Q G law F) F)
-    (mentions : (x : ℕ) → Mem x (mentionsB (seen F) (F .exprs)) → May F x) (same : (n : ℕ) (s : St) → Q n → G s → follow′ n s ≡ follow n s) (s : St) (good : G s) where
+module _ (o : ℕ) (M : Module) (follow follow′ : ℕ → Derived → Derived) (Q : ℕ → Type 0) (G : Derived → Type 0) (law : Law o M follow Q G) (F : Function) (fine : Fine (ctx o M follow Q G law F) F)
+    (mentions : (x : ℕ) → Mem x (mentionsB (seen F) (F .exprs)) → May F x) (same : (n : ℕ) (s : Derived) → Q n → G s → follow′ n s ≡ follow n s) (s : Derived) (good : G s) where
   abbrev c : Ctx
   c = ctx o M follow Q G law F
 

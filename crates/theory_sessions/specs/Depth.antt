@@ -15,9 +15,9 @@ use Rattle.model.specs.Calls.{here}
 use Rattle.model.specs.Callees.{callees}
 use Rattle.model.specs.Redirect.{function as functionAt}
 use Rattle.model.specs.Tables.{tables}
-use Rattle.model.specs.Imports.{St, once}
-use Rattle.model.specs.Bodies.{known, Making, final, localized, appended, append, followF, follow}
-use Rattle.model.specs.Session.{ringing}
+use Rattle.model.specs.Imports.{Derived, unlessMapped}
+use Rattle.model.specs.Bodies.{known, Builder, final, localized, appended, append, followF, follow}
+use Rattle.model.specs.Session.{meetsRing}
 use Rattle.theory_bodies.specs.Context.{Law, once-cong}
 use Rattle.theory_bodies.specs.Lists.{All}
 use Rattle.theory_bodies.specs.Passing as Bodies
@@ -29,10 +29,10 @@ use Rattle.theory_sessions.specs.Holding.{few, callees-low}
 
 module _ (m : Module) (well : WellFormed m) (ok : Passes m) (o : ℕ) where
   -- one function, where its callees are followed alike
-  append-same : (d k k′ : ℕ) → d ≤ k → (s : St) → From m s s → (n : ℕ) → n < length (m .functions) → All (λ j. Low d m s j) (callees (functionAt m n))
-      → ((j : ℕ) (r : St) → Low d m s j → From m s r → followF k′ o m j r ≡ followF k o m j r) → append o m (followF k′ o m) n s ≡ append o m (followF k o m) n s
+  append-same : (d k k′ : ℕ) → d ≤ k → (s : Derived) → From m s s → (n : ℕ) → n < length (m .functions) → All (λ j. Low d m s j) (callees (functionAt m n))
+      → ((j : ℕ) (r : Derived) → Low d m s j → From m s r → followF k′ o m j r ≡ followF k o m j r) → append o m (followF k′ o m) n s ≡ append o m (followF k o m) n s
   unfolding append
-  append-same d k k′ l s f n h calls same = ap₂ (λ (g : Function) (x : Making). appended g (x .out)) alike ends
+  append-same d k k′ l s f n h calls same = ap₂ (λ (g : Function) (x : Builder). appended g (x .out)) alike ends
     where
       Q : ℕ → Type 0
       Q j = Low d m s j
@@ -49,30 +49,30 @@ module _ (m : Module) (well : WellFormed m) (ok : Passes m) (o : ℕ) where
       alike : localized o m (followF k′ o m) (functionAt m n) s ≡ localized o m (followF k o m) (functionAt m n) s
       alike = localized-same o m (followF k o m) (followF k′ o m) Q (From m s) law (functionAt m n) (Bodies.fine o m (followF k o m) Q (From m s) law (functionAt m n) pass calls) (Bodies.mentions-may o m (followF k o m) Q (From m s) law (functionAt m n) pass calls) same s f
 
-  depth-same : (d k k′ : ℕ) → d ≤ k → d ≤ k′ → (s : St) → From m s s → (n : ℕ) → Low d m s n → followF k′ o m n s ≡ followF k o m n s
+  depth-same : (d k k′ : ℕ) → d ≤ k → d ≤ k′ → (s : Derived) → From m s s → (n : ℕ) → Low d m s n → followF k′ o m n s ≡ followF k o m n s
   unfolding followF Low
   depth-same zero k k′ l l′ s f n h = follow-idle m well ok o k′ s n h ∙ sym (follow-idle m well ok o k s n h)
   depth-same (suc d) zero k′ l l′ s f n h = absurd (not-suc-le-zero l)
   depth-same (suc d) (suc k) zero l l′ s f n h = absurd (not-suc-le-zero l′)
   depth-same (suc d) (suc k) (suc k′) l l′ s f n h = once-cong (known m s n) _ _ s (λ z. new z h (λ r g j. depth-same d k k′ (omega arith) (omega arith) r g j))
     where
-      new : known m s n ≡ 0 → Low (suc d) m s n → ((r : St) → From m r r → (j : ℕ) → Low d m r j → followF k′ o m j r ≡ followF k o m j r) → append o m (followF k′ o m) n s ≡ append o m (followF k o m) n s
+      new : known m s n ≡ 0 → Low (suc d) m s n → ((r : Derived) → From m r r → (j : ℕ) → Low d m r j → followF k′ o m j r ≡ followF k o m j r) → append o m (followF k′ o m) n s ≡ append o m (followF k o m) n s
       new z (inl w) ih = absurd (omega arith)
       new z (inr w) ih = append-same d k k′ (omega arith) s f n (w .0) (w .1) (λ j r q g. ih r (from-refl g) j (low-on d m s r (λ x y. rw (g .knows x y) y) j q))
 
-  module _ (s : St) (h : Holds (tables m) s) (n : ℕ) (l : n < length (m .functions)) (free : ringing (n ∷ []) m s ≡ false) where
+  module _ (s : Derived) (h : Holds (tables m) s) (n : ℕ) (l : n < length (m .functions)) (free : meetsRing (n ∷ []) m s ≡ false) where
     -- ANY BOUND that is no less than the number of unknown names
     pub fuel-removed : (k : ℕ) → unknowns m s ≤ k → followF k o m n s ≡ follow o m n s
     unfolding follow
     fuel-removed k g = depth-same (unknowns m s) (length (m .functions)) k (few m well ok o s) g s (holds-from h) n (ringless m well (ok .numbers) s (n ∷ []) free n here l)
 
     -- THE EQUATION without it
-    pub follow-is : follow o m n s ≡ once (known m s n) (λ z. append o m (follow o m) n s) s
+    pub follow-is : follow o m n s ≡ unlessMapped (known m s n) (λ z. append o m (follow o m) n s) s
     unfolding follow followF
     follow-is = depth-same (unknowns m s) (suc (length (m .functions))) (length (m .functions)) (omega (arith, few m well ok o s)) (few m well ok o s) s (holds-from h) n (ringless m well (ok .numbers) s (n ∷ []) free n here l)
 
   -- the same of import_function, which appends whether the name is known or not
-  pub function-fuel : (s : St) → Holds (tables m) s → (n : ℕ) → n < length (m .functions) → ringing (n ∷ callees (functionAt m n)) m s ≡ false → (k : ℕ) → unknowns m s ≤ k → append o m (followF k o m) n s ≡ append o m (follow o m) n s
+  pub function-fuel : (s : Derived) → Holds (tables m) s → (n : ℕ) → n < length (m .functions) → meetsRing (n ∷ callees (functionAt m n)) m s ≡ false → (k : ℕ) → unknowns m s ≤ k → append o m (followF k o m) n s ≡ append o m (follow o m) n s
   unfolding follow
   function-fuel s h n l free k g =
       append-same (unknowns m s) (length (m .functions)) k (few m well ok o s) s (holds-from h) n l (callees-low m well ok o s n l free)

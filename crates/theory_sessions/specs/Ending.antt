@@ -8,6 +8,7 @@ use native.Mathlib.Omega.{arith}
 use lib.Dec.{eqb}
 use lib.ListN.{length}
 use borrow.Author.Tests.{eqb-true, eqb-false, eq-eqb, ne-eqb}
+use Rattle.theory_lists.specs.Booleans.{and-true, and-right}
 use Rattle.model.specs.Outcome.{word, laid}
 use Rattle.model.specs.Table.{NAME, KEY}
 use Rattle.model.specs.Tree.{Function, Entry}
@@ -18,25 +19,23 @@ use Rattle.model.specs.Intake.{tested, verdict, intakeOf}
 use Rattle.model.specs.Numbers.{every, outside, soundFunction, soundEntry, numbered}
 use Rattle.model.specs.Lower.{functionsLower, entriesLower, lower}
 use Rattle.model.specs.Names.{field, present, absent, distinct, differ, functionsNamed, entriesNamed, functionNames, entryNames, named}
-use Rattle.model.specs.Scope.{seen, allScoped, entriesScoped, inScope}
+use Rattle.model.specs.Scope.{allScoped, entriesScoped, inScope}
 use Rattle.model.specs.Tables.{Tab, names, at, Tables, tables, count}
-use Rattle.model.specs.Imports.{St}
+use Rattle.model.specs.Imports.{Derived}
 use Rattle.model.specs.Finish.{appearing, renumber, withNames, namedBy, gathered, finished, tooLarge}
-use Rattle.theory_image.specs.Lists.{and-true}
+use Rattle.theory_bodies.specs.Names.{head-field, renamed-agrees}
 use Rattle.theory_image.specs.Quiet.{each-map}
-use Rattle.theory_walks.specs.Agreement.{Maps, Agrees}
 use Rattle.theory_records.specs.Imported.{derived-four, gathered-tables}
 use Rattle.theory_bodies.specs.Passing as Bodies
 use Rattle.theory_finish.specs.Firsts.{either}
-use Rattle.theory_finish.specs.Kept.{Parts, exprs-same, initials-kept}
-use Rattle.theory_finish.specs.Touching.{Only, same-b}
+use Rattle.theory_finish.specs.Kept.{Parts}
+use Rattle.theory_finish.specs.Touching.{Only}
 use Rattle.theory_finish.specs.Naming.{function-names, entry-names, present-kept, functions-named, entries-named, other-fields}
 use Rattle.theory_finish.specs.Finished.{renumber-only, renumber-names, renumber-apart, image-seen, names-seen, finished-parts, finished-numbered, finished-lower, finished-scope, finished-differ}
 use Rattle.theory_finish.specs.Cellwise.{each-to, cellwise}
 use Rattle.theory_finish.specs.Images.{image-read, image-sized}
 use Rattle.theory_finish.specs.Tabled.{kept-differ}
 use Rattle.theory_finish.specs.Linking.{LaidOut, gathered-parts, gathered-numbers}
-use Rattle.theory_sessions.specs.Named.{head-field}
 use Rattle.theory_sessions.specs.Following.{Origin, Piece, Holds}
 use Rattle.theory_sessions.specs.Entering.{EntryPiece}
 
@@ -52,11 +51,7 @@ pub record Fifth (t : Module) : Type 0 where
 -- that one
 pub fifth-named : {t : Module} → Fifth t → named t ≡ distinct (functionNames (t .functions))
 unfolding named
-fifth-named {t} f = rw (f .functions-present, f .entries-present, f .functions-named, f .entries-named, f .names-differ, f .keys-distinct) (and-last (distinct (functionNames (t .functions))))
-  where
-    and-last : (b : Bool) → (b && true) ≡ b
-    and-last true = refl
-    and-last false = refl
+fifth-named {t} f = rw (f .functions-present, f .entries-present, f .functions-named, f .entries-named, f .names-differ, f .keys-distinct) (and-right (distinct (functionNames (t .functions))))
 
 -- ---- numbered by first appearance
 distinct-map : (r : ℕ → ℕ) (P : ℕ → Type 0) → ((x y : ℕ) → P x → P y → r x ≡ r y → x ≡ y) → {ws : List ℕ} → Each P ws → distinct (map r ws) ≡ distinct ws
@@ -92,7 +87,7 @@ module _ {t : Module} (p : Parts t) (h : numbered t ≡ true) where
         keys-distinct = ap distinct (other-fields o q KEY refl (t .special .pairs)) ∙ f .keys-distinct;
       }
 
-  -- a function's name stands twice exactly if it did
+  -- two functions have one name exactly if two had
   pub distinct-again : distinct (functionNames (t′ .functions)) ≡ distinct (functionNames (t .functions))
   unfolding namedBy withNames carry
   distinct-again =
@@ -100,7 +95,7 @@ module _ {t : Module} (p : Parts t) (h : numbered t ≡ true) where
       ∙ distinct-map (renumber ns NAME) (λ w. (n : ℕ) → w ≡ suc n → Mem n ns) (renumber-apart ns) (names-seen p h (cellwise t (image-seen p h) .in-functions))
 
 -- ---- what is gathered
-module _ {T : Tables} {s : St} {es : List Entry} (h : Holds T s) (ps : Each (EntryPiece s) es) where
+module _ {T : Tables} {s : Derived} {es : List Entry} (h : Holds T s) (ps : Each (EntryPiece s) es) where
   abbrev D : Module
   D = gathered s es
 
@@ -176,7 +171,7 @@ pub record Written (m : Module) (ws : List ℕ) : Type 0 where
   pub one : sized (4 * length ws) ws ≡ true
   pub three : numbered m ≡ true
   pub four : lower m ≡ true
-  -- test 5 is passed unless a function's name stands twice
+  -- test 5 is passed unless two functions have one name
   pub fifth : Fifth m
   pub five : named m ≡ distinct (functionNames (m .functions))
   pub six : inScope m ≡ true
@@ -189,7 +184,7 @@ by-names a true true p q = rw p refl
 by-names a false true p q = rw p refl
 by-names a b false p q = let z : _≡_ {A = ℕ} 0 1 = cc in absurd (omega arith)
 
-pub all-written : {T : Tables} {s : St} {es : List Entry} → Holds T s → Each (EntryPiece s) es → tooLarge (finished s es) ≡ false → Written (finished s es) (write (finished s es))
+pub all-written : {T : Tables} {s : Derived} {es : List Entry} → Holds T s → Each (EntryPiece s) es → tooLarge (finished s es) ≡ false → Written (finished s es) (write (finished s es))
 unfolding finished
 all-written {s} {es} h ps e = record {
   words = refl;
@@ -227,8 +222,8 @@ all-written {s} {es} h ps e = record {
     six′ : inScope t ≡ true
     six′ = finished-scope (parts h ps) (three h ps) ∙ six h ps
 
--- a function's name stands twice in it exactly if it does in the state
-pub names-finished : {T : Tables} {s : St} {es : List Entry} → Holds T s → Each (EntryPiece s) es → distinct (functionNames (finished s es .functions)) ≡ distinct (functionNames (s .functions))
+-- two functions in it have one name exactly if two in the state do
+pub names-finished : {T : Tables} {s : Derived} {es : List Entry} → Holds T s → Each (EntryPiece s) es → distinct (functionNames (finished s es .functions)) ≡ distinct (functionNames (s .functions))
 unfolding finished
 names-finished {s} {es} h ps = names-gathered
   where
@@ -236,17 +231,8 @@ names-finished {s} {es} h ps = names-gathered
     names-gathered = unfold gathered in distinct-again (parts h ps) (three h ps)
 
 -- ---- EACH FUNCTION OF IT agrees with the one that it comes from
--- names are no matter of walks
-renamed-agrees : {ρ : ℕ → ℕ → ℕ} → Only ρ → (M M′ : Module) (μ : Maps) (F F′ : Function) (f : ℕ → ℕ) → WellFunction F′ → Agrees M M′ μ F F′ f → Agrees M M′ μ F (carryFunction ρ F′) f
-renamed-agrees {ρ} o M M′ μ F F′ f w a = record { body = same-seen ∙ a .body; records = λ e m. rw same-rows (a .records e m); apart = a .apart }
-  where
-    same-seen : seen (carryFunction ρ F′) ≡ seen F′
-    same-seen = unfold seen in (let i = initials-kept o w in let b = same-b o (w .body-ok) in unfold carryFunction in rw (i, b) refl)
 
-    same-rows : carryFunction ρ F′ .exprs ≡ F′ .exprs
-    same-rows = unfold carryFunction in exprs-same o w
-
-origin-named : {ρ : ℕ → ℕ → ℕ} {s : St} {f : Function} → Only ρ → WellFunction f → Origin s f → Origin s (carryFunction ρ f)
+origin-named : {ρ : ℕ → ℕ → ℕ} {s : Derived} {f : Function} → Only ρ → WellFunction f → Origin s f → Origin s (carryFunction ρ f)
 origin-named {ρ} {s} {f} o w p = record {
   source = p .source;
   well = p .well;
@@ -259,11 +245,11 @@ origin-named {ρ} {s} {f} o w p = record {
   agrees = λ D. renamed-agrees o (p .source) D _ (p .function) f _ w (p .agrees D);
 }
 
-pub record Origins (s : St) (m : Module) : Type 0 where
+pub record Origins (s : Derived) (m : Module) : Type 0 where
   pub functions : Each (Origin s) (m .functions)
   pub entries : Each (λ E. Origin s (E .function)) (m .entries)
 
-pub all-origins : {T : Tables} {s : St} {es : List Entry} → Holds T s → Each (EntryPiece s) es → Origins s (finished s es)
+pub all-origins : {T : Tables} {s : Derived} {es : List Entry} → Holds T s → Each (EntryPiece s) es → Origins s (finished s es)
 unfolding finished namedBy withNames carry gathered carryEntry
 all-origins {T} {s} {es} h ps = record {
   functions = each-to (carryFunction (renumber (appearing (gathered s es)))) (each-map (λ f p. origin-named (renumber-only (appearing (gathered s es))) (p .passes (gathered s es) (here h ps) (all-here h ps) .well) (p .origin)) (h .pieces));

@@ -1,6 +1,6 @@
 -- ENTRY POINTS: those of the source that is set, as a session ends with them. Each that is derived passes, in the derived module as it is in the end.
 use mathlib.Core.Path.{_≡_, refl, ap}
-use mathlib.Core.Bool.{true, false, _&&_, not, false≢true}
+use mathlib.Core.Bool.{true, false, not, false≢true}
 use mathlib.Core.List.{List, [], _∷_, _++_}
 use mathlib.Core.Option.{some}
 use Prim.Native.Nat.{ℕ, zero, suc, _<_, _≤_}
@@ -8,30 +8,28 @@ use native.Mathlib.Nat.{le-refl, le-trans}
 use native.Mathlib.Omega.{arith}
 use lib.Dec.{eqb}
 use lib.ListN.{length, getElem?}
-use borrow.Author.Tests.{lt-ltb, ne-eqb}
+use borrow.Author.Tests.{ne-eqb}
+use Rattle.theory_lists.specs.Booleans.{and-split}
 use Rattle.model.specs.Outcome.{Cells}
-use Rattle.model.specs.Table.{WORD, NAME, entryHead, binding}
+use Rattle.model.specs.Table.{WORD, NAME}
 use Rattle.model.specs.Tree.{Function, Entry, flat, flatEntry}
 use Rattle.model.specs.Module.{Module}
 use Rattle.model.specs.Carry.{carryCell, Each, each-none, each-next, WellEntry, WellFormed}
-use Rattle.model.specs.Numbers.{Bounds, caps, bound, below as under, within, rising, ordered as rises, every, outside, inside, sound, soundFunction, soundEntry}
-use Rattle.model.specs.Initial.{initialised}
+use Rattle.model.specs.Numbers.{Bounds, caps, bound, below as under, within, rising, ordered as rises, every, outside, inside, sound, soundEntry}
 use Rattle.model.specs.Intake.{Passes}
 use Rattle.model.specs.Names.{field, present, expressionsNamed, functionsNamed, entriesNamed, functionNames, entryNames, named}
 use Rattle.model.specs.Calls.{In}
 use Rattle.model.specs.Callees.{callees}
 use Rattle.model.specs.Tables.{Tab, names, at, tables, count, mapAt}
-use Rattle.model.specs.References.{table, opt, target, targets, refOf, refs, each, through, carryW, shift, moved}
-use Rattle.model.specs.Imports.{St, importT}
-use Rattle.model.specs.Bodies.{Making, bring, went, carried, step, final, localized, follow, entered, entryMade, enterAll, entriesMade}
+use Rattle.model.specs.References.{table, opt, target, targets, refOf, refs, foldRefs, through, carryW, shift, moved}
+use Rattle.model.specs.Imports.{Derived, importT}
+use Rattle.model.specs.Bodies.{Builder, bring, mappedTo, carried, step, final, localized, follow, entered, entryMade, enterAll, entriesMade}
 use Rattle.model.specs.Finish.{gathered}
-use Rattle.model.specs.Session.{ringing, calleesOf}
-use Rattle.order_callees.proofs.Numbered.{sound-below}
-use Rattle.order_ranks.proofs.Lists.{in-left, in-right}
-use Rattle.theory_image.specs.Lists.{and-true, and-split}
-use Rattle.theory_image.specs.Plain.{plain?}
-use Rattle.theory_image.specs.Quiet.{Plainly, plain-none, plain-next, plainly}
-use Rattle.theory_records.specs.Functions.{within-append}
+use Rattle.model.specs.Session.{meetsRing, calleesOf}
+use Rattle.theory_bodies.specs.EntryHeads.{Head, headed, entry-head, nameTo, rising-word, sound-of, sound-parts}
+use Rattle.theory_order.specs.Numbered.{sound-below}
+use Rattle.theory_order.specs.Lists.{in-left, in-right}
+use Rattle.theory_image.specs.Within.{within-append}
 use Rattle.theory_records.specs.Theorems.{Inside}
 use Rattle.theory_records.specs.Imported.{import-kept, gathered-tables}
 use Rattle.theory_bodies.specs.Context.{Grown, grown-refl, grown-trans}
@@ -47,49 +45,20 @@ use Rattle.theory_sessions.specs.Height.{Low, low-on, unknowns}
 use Rattle.theory_sessions.specs.Following.{Of, of-entry, Origin, origin-grown, origin, From, from-refl, from-trans, from-import, follows, ends, again, names-again}
 use Rattle.theory_sessions.specs.Holding.{few, heights}
 
-pub record EntryPiece (s : St) (E : Entry) : Type 0 where
+pub record EntryPiece (s : Derived) (E : Entry) : Type 0 where
   pub laid : WellEntry E
   pub passes : (D : Module) → ((t : Tab) → count (s .recs) t ≤ count (tables D) t) → length (s .functions) ≤ length (D .functions) → (soundEntry (outside D) E ≡ true) × Bodies.Passes D (E .function)
   pub called : not (eqb (field NAME (E .head)) 0) ≡ true
   pub names : expressionsNamed (E .function) ≡ true
   pub origin : Origin s (E .function)
 
-entry-grown : {s r : St} {E : Entry} → Grown s r → EntryPiece s E → EntryPiece r E
+entry-grown : {s r : Derived} {E : Entry} → Grown s r → EntryPiece s E → EntryPiece r E
 entry-grown g p = record { laid = p .laid; passes = λ D t l. p .passes D (λ u. le-trans (g .tables .longer u) (t u)) (le-trans (g .functions) l); called = p .called; names = p .names; origin = origin-grown g (p .origin) }
 
--- ---- the head: a name and six words
-data Head : Cells → Type 0 where
-  headed : {v a b c d e f : ℕ} → Head ((NAME, v) ∷ (WORD, a) ∷ (WORD, b) ∷ (WORD, c) ∷ (WORD, d) ∷ (WORD, e) ∷ (WORD, f) ∷ [])
-
-head-of : {r : Cells} → Plainly (NAME ∷ binding []) r → Head r
-head-of (plain-next (plain-next (plain-next (plain-next (plain-next (plain-next (plain-next plain-none))))))) = headed
-
-entry-head : {E : Entry} → WellEntry E → Head (E .head)
-entry-head w = unfold entryHead plain? in head-of (plainly (w .head-ok) refl)
-
--- where a name went
-unfoldable nameTo : Making → ℕ → ℕ
-nameTo x zero = zero
-nameTo x (suc n) = mapAt (x .out .maps) names n
-
-rising-word : (f : ℕ) (ds : Cells) → rises ds ≡ true → (rising (WORD, f) ds && rises ds) ≡ true
-unfolding rising
-rising-word f [] o = o
-rising-word f (g ∷ ds) o = o
-
-sound-of : (b : Bounds) (f : Function) (v : ℕ) (cs : Cells) → v ≤ b .names → within (inside b f) (cs ++ flat f) ≡ true → rises ((NAME, v) ∷ (cs ++ flat f)) ≡ true → initialised f ≡ true → sound b f (((NAME, v) ∷ cs) ++ flat f) ≡ true
-unfolding sound within
-sound-of b f v cs l h r i = and-true (and-true name h) (and-true r i)
-  where
-    name : under (bound (inside b f) NAME) v ≡ true
-    name = unfold bound caps under inside in lt-ltb v (suc (b .names)) (omega arith)
-
-sound-parts : (b : Bounds) (f : Function) → soundFunction b f ≡ true → (within (inside b f) (flat f) ≡ true) × (rises (flat f) ≡ true) × (initialised f ≡ true)
-unfolding sound
-sound-parts b f h = let a = and-split (within (inside b f) (flat f)) _ h in let c = and-split (rises (flat f)) (initialised f) (a .1) in (a .0, c .0, c .1)
+-- ---- the head
 
 -- a carried head
-record Carried (o : ℕ) (m : Module) (x : Making) (r : Cells) : Type 0 where
+record Carried (o : ℕ) (m : Module) (x : Builder) (r : Cells) : Type 0 where
   name : ℕ
   rest : Cells
   is : field NAME r ≡ name
@@ -97,7 +66,7 @@ record Carried (o : ℕ) (m : Module) (x : Making) (r : Cells) : Type 0 where
   within-rest : (b : Bounds) (ds : Cells) → within b ds ≡ true → within b (rest ++ ds) ≡ true
   rises-rest : (v : ℕ) (ds : Cells) → rises ds ≡ true → rises ((NAME, v) ∷ (rest ++ ds)) ≡ true
 
-head-carried : (o : ℕ) (m : Module) (x : Making) {r : Cells} → Head r → Carried o m x r
+head-carried : (o : ℕ) (m : Module) (x : Builder) {r : Cells} → Head r → Carried o m x r
 head-carried o m x (headed {v} {a} {b} {c} {d} {e} {f}) = record {
   name = v;
   rest = (WORD, a) ∷ (WORD, b) ∷ (WORD, c) ∷ (WORD, d) ∷ (WORD, e) ∷ (WORD, f) ∷ [];
@@ -109,18 +78,18 @@ head-carried o m x (headed {v} {a} {b} {c} {d} {e} {f}) = record {
   where
     word-of : (v : ℕ) → carried o m x ((NAME, v) ∷ (WORD, a) ∷ (WORD, b) ∷ (WORD, c) ∷ (WORD, d) ∷ (WORD, e) ∷ (WORD, f) ∷ []) ≡ (NAME, nameTo x v) ∷ (WORD, a) ∷ (WORD, b) ∷ (WORD, c) ∷ (WORD, d) ∷ (WORD, e) ∷ (WORD, f) ∷ []
     word-of zero = unfold carried shift carryCell through carryW target targets moved nameTo in refl
-    word-of (suc n) = unfold carried shift carryCell through carryW target targets moved nameTo went in refl
+    word-of (suc n) = unfold carried shift carryCell through carryW target targets moved nameTo mappedTo in refl
 
--- what it brings: its name
-head-brings : (K : St → Type 0) (o : ℕ) (m : Module) (fol : ℕ → St → St) {r : Cells} → Head r → (y : Making) → (field NAME r ≡ 0 → K (y .out)) → ((n : ℕ) → field NAME r ≡ suc n → K (importT o (tables m) names n (y .out))) → K (each (refs r) (step o m fol (λ x n. n)) y .out)
+-- what it imports: its name
+head-brings : (K : Derived → Type 0) (o : ℕ) (m : Module) (fol : ℕ → Derived → Derived) {r : Cells} → Head r → (y : Builder) → (field NAME r ≡ 0 → K (y .out)) → ((n : ℕ) → field NAME r ≡ suc n → K (importT o (tables m) names n (y .out))) → K (foldRefs (refs r) (step o m fol (λ x n. n)) y .out)
 unfolding refs refOf target targets field
 head-brings K o m fol (headed {v}) y k f = go v k f
   where
-    go : (v : ℕ) → (v ≡ 0 → K (y .out)) → ((n : ℕ) → v ≡ suc n → K (importT o (tables m) names n (y .out))) → K (each (refOf (opt (table names)) v []) (step o m fol (λ x n. n)) y .out)
-    go zero k f = unfold refOf each in k refl
-    go (suc n) k f = unfold refOf each step bring in f n refl
+    go : (v : ℕ) → (v ≡ 0 → K (y .out)) → ((n : ℕ) → v ≡ suc n → K (importT o (tables m) names n (y .out))) → K (foldRefs (refOf (opt (table names)) v []) (step o m fol (λ x n. n)) y .out)
+    go zero k f = unfold refOf foldRefs in k refl
+    go (suc n) k f = unfold refOf foldRefs step bring in f n refl
 
-module _ (m : Module) (well : WellFormed m) (ok : Passes m) (o : ℕ) (a : St) where
+module _ (m : Module) (well : WellFormed m) (ok : Passes m) (o : ℕ) (a : Derived) where
   -- ---- one entry point of the source
   pub record Sound (E : Entry) : Type 0 where
     pub laid : WellEntry E
@@ -131,7 +100,7 @@ module _ (m : Module) (well : WellFormed m) (ok : Passes m) (o : ℕ) (a : St) w
     pub names : expressionsNamed (E .function) ≡ true
     pub calls : All (λ j. Low (unknowns m a) m a j) (callees (E .function))
 
-  module _ (E : Entry) (p : Sound E) (s : St) (f : From m a s) where
+  module _ (E : Entry) (p : Sound E) (s : Derived) (f : From m a s) where
     abbrev F : Function
     F = E .function
 
@@ -145,13 +114,13 @@ module _ (m : Module) (well : WellFormed m) (ok : Passes m) (o : ℕ) (a : St) w
     calls-low : All (λ j. Low (unknowns m a) m s j) (callees F)
     calls-low = all-map (callees F) (λ j. low-on (unknowns m a) m a s (λ k h. rw (f .knows k h) h) j) (p .calls)
 
-    abbrev e : St
+    abbrev e : Derived
     e = final o m (follow o m) F s .out
 
     body : From m s e
     body = ends m well ok o (follow o m) (λ j. Low (unknowns m a) m s j) s fol-follows F (p .pass) calls-low (from-refl f)
 
-    abbrev ent : Making
+    abbrev ent : Builder
     ent = entered o m E s
 
     head-within : within (inside (outside m) F) (E .head) ≡ true
@@ -203,7 +172,7 @@ module _ (m : Module) (well : WellFormed m) (ok : Passes m) (o : ℕ) (a : St) w
         passes-at : (D : Module) → ((t : Tab) → count (ent .out .recs) t ≤ count (tables D) t) → length (ent .out .functions) ≤ length (D .functions) → Bodies.Passes D F′
         passes-at D t l = again m well ok o (follow o m) (λ j. Low (unknowns m a) m s j) s fol-follows F (p .pass) calls-low (from-refl f) D (λ u. le-trans (on .grown .tables .longer u) (t u)) (le-trans (on .grown .functions) l)
 
-        function-again : (r : St) → Bodies.Passes (gathered (ent .out) []) F′
+        function-again : (r : Derived) → Bodies.Passes (gathered (ent .out) []) F′
         function-again r = passes-at (gathered (ent .out) []) (λ t. rw (gathered-tables (ent .out) []) (le-refl _)) (unfold gathered in le-refl _)
 
         sound-at : (D : Module) → ((t : Tab) → count (ent .out .recs) t ≤ count (tables D) t) → length (ent .out .functions) ≤ length (D .functions) → sound (outside D) F′ (carried o m ent (E .head) ++ flat F′) ≡ true
@@ -216,12 +185,12 @@ module _ (m : Module) (well : WellFormed m) (ok : Passes m) (o : ℕ) (a : St) w
         name-at = rw (c .goes) (unfold field in name-mapped (c .name) (c .is) (rw (c .is) at (p .called)))
 
   -- ---- all of them
-  pub record Entered (es : List Entry) (s : St) : Type 0 where
+  pub record Entered (es : List Entry) (s : Derived) : Type 0 where
     pub from : From m a (enterAll es o m s)
     pub grown : Grown s (enterAll es o m s)
     pub pieces : Each (EntryPiece (enterAll es o m s)) (entriesMade es o m s)
 
-  pub all-entered : {es : List Entry} → Each Sound es → (s : St) → From m a s → Entered es s
+  pub all-entered : {es : List Entry} → Each Sound es → (s : Derived) → From m a s → Entered es s
   unfolding enterAll entriesMade
   all-entered each-none s f = record { from = f; grown = grown-refl s; pieces = each-none }
   all-entered (each-next {a = E} {l = es} p ps) s f =
@@ -250,7 +219,7 @@ module _ (m : Module) (well : WellFormed m) (ok : Passes m) (o : ℕ) (a : St) w
   unfolding outside
   low-callees f p = sound-below (outside m) f (p .well) (p .three)
 
-  each-sound : (is : List ℕ) → ringing is m a ≡ false → (es : List Entry) → ((k : ℕ) (E : Entry) → getElem? es k ≡ some E → Bodies.Passes m (E .function) × Of m (E .function)) → Each WellEntry es → every (soundEntry (outside m)) es ≡ true
+  each-sound : (is : List ℕ) → meetsRing is m a ≡ false → (es : List Entry) → ((k : ℕ) (E : Entry) → getElem? es k ≡ some E → Bodies.Passes m (E .function) × Of m (E .function)) → Each WellEntry es → every (soundEntry (outside m)) es ≡ true
       → present (entryNames es) ≡ true → entriesNamed es ≡ true → ((j : ℕ) → In j (calleesOf es) → In j is) → Each Sound es
   unfolding every present entryNames entriesNamed calleesOf
   each-sound is e [] ps ws t c n h = each-none
@@ -261,5 +230,5 @@ module _ (m : Module) (well : WellFormed m) (ok : Passes m) (o : ℕ) (a : St) w
       let p = ps 0 E refl in
       each-next (record { laid = w; three = t₁ .0; pass = p .0; is = p .1; called = c₁ .0; names = n₁ .0; calls = heights m well ok o a is e (λ j k. h j (in-left (calleesOf es) k)) (low-callees (E .function) (p .0)) }) (each-sound is e es (λ k D q. ps (suc k) D q) ws (t₁ .1) (c₁ .1) (n₁ .1) (λ j k. h j (in-right (callees (E .function)) k)))
 
-  pub entries-sound : ringing (calleesOf (m .entries)) m a ≡ false → Each Sound (m .entries)
+  pub entries-sound : meetsRing (calleesOf (m .entries)) m a ≡ false → Each Sound (m .entries)
   entries-sound e = each-sound (calleesOf (m .entries)) e (m .entries) (λ k E q. (entry-passes m well (ok .numbers) (ok .lowers) (ok .scope) k E q, of-entry k q)) (well .entries-ok .each) (specials-in m (ok .numbers) .2) (five .called) (five .names) (λ j k. k)

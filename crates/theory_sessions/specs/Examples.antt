@@ -24,14 +24,14 @@ use Rattle.theory_sessions.specs.Mapped.{handIf, handRay, handRays, hand
 use Rattle.theory_sessions.specs.Answers.{Appends}
 use Rattle.theory_sessions.specs.Growing.{Grew, ends, turns, does-grow, does-keep, all-distinct, refused-keeps}
 use Rattle.model.specs.Session.{Source, Session, Answer, answered, refused}
-use Rattle.model.specs.Bodies.{append, appended, bring, carried, compareOf, comparesOf, declarations, declared, derived, eachE, enterAll, entered, entriesMade, entryMade, final, follow as bodies-follow, followF, goS, importE, join, keepNames, keptNames, known, lastOf, localized, mkS, nameCells, nameIf, namedAfter, namedRows, optE, plain, push, putName, quiet, rebuilt, settled, stand, step, unique, walked, went}
+use Rattle.model.specs.Bodies.{append, appended, bring, carried, compareOf, comparesOf, declarations, declared, derived, eachE, enterAll, entered, entriesMade, entryMade, final, follow as bodies-follow, followF, importStmt, importE, internExpr, keepNames, keptNames, known, lastOf, localized, rebuildStmt, nameCells, nameIf, namedAfter, namedRows, optE, importBody, appendExpr, putName, importStanding, rebuilt, carriedForm, appendStanding, step, importInitialiser, walked, mappedTo}
 use Rattle.model.specs.Callees.{calleesAt, calleesS, calls}
 use Rattle.model.specs.Calls.{any, free, held, keep, numbers, round, rounds}
 use Rattle.model.specs.Carry.{carry, carryCell, carryEntry, carryFunction, carryOpt, carryRange, carryS, carrySpecial}
 use Rattle.model.specs.Finish.{appearing, finished, firsts, gathered, indexN, keepN, namedBy, namesIn, passes, renumber, tooLarge, withNames}
-use Rattle.model.specs.Imports.{commit, emptied, fresh, importF, importT, levels as imports-levels, made, once, rename, renamed, settle, stepT, unmapped, wentT}
+use Rattle.model.specs.Imports.{commit, emptied, fresh, importF, importT, levels as imports-levels, made, unlessMapped, rename, renamed, intern, stepT, unmapped, mappedToT}
 use Rattle.model.specs.Initial.{close, constantAt, initialised, initials, initsOf as initial-initsOf, mark, marked, moving, reachedMarks, readBy, roots, unmarked}
-use Rattle.model.specs.Intake.{intakeOf, tested, verdict}
+use Rattle.model.specs.Intake.{intakeOf, tested, verdict, ofLaid, afterIntake, onWords}
 use Rattle.model.specs.Lower.{basesOf, below as lower-below, entriesLower, functionsLower, initOf, initsLower, initsOf as lower-initsOf, lower, operandsLower, typesLower}
 use Rattle.model.specs.Module.{_⊛_, bodies, countAt, endAt, flatModule, flatSpecial, flatTable, limits, next, offsetAt, pairsFrom, placed, places, read, records, section, sections, sized, specialAt, table, tableAt, write}
 use Rattle.model.specs.Names.{absent, differ, distinct as names-distinct, entriesNamed, entryNames, expressionsNamed, field, functionNames, functionsNamed, named as names-named, present, same, unlike}
@@ -39,10 +39,10 @@ use Rattle.model.specs.Numbers.{below as numbers-below, bound, caps, constantOn
 use Rattle.model.specs.Operands.{constantKind, emittedKind, functionOf, kind, kindAt, operand, ops, opsOf, optional, resultKind, resultOf, standing, standingKind}
 use Rattle.model.specs.Outcome.{_⟫_, both, eat, exact, mapL, mapO}
 use Rattle.model.specs.Redirect.{function, nameWord, nothing}
-use Rattle.model.specs.References.{add, alike, alikeC, carryW, each, firstWord, merged, moved, refOf, refs, seat, shift, spanBy, target, targets, through, undefined, undefinedAt}
+use Rattle.model.specs.References.{add, alike, alikeC, carryW, foldRefs, firstWord, interned, moved, refOf, refs, indexOf, shift, spanBy, target, targets, through, undefined, undefinedAt}
 use Rattle.theory_sessions.specs.Operating.{does, run}
 use Rattle.model.specs.Scope.{addE, addF, addOpt, addS, allOf, allScoped, allVis, callResult, contB, distinct as scope-distinct, effectResult, emitted, entriesScoped, evalsOpt, evalsS, expandS, has, holdsS, inRange, inScope, isOf, kindsS, live, okE, okS, optVis, scoped, scopedAs, seen, shapeS, topB, upFrom, vis}
-use Rattle.model.specs.Session.{after, calleesOf, clear, ending, finish, finishWithEntryPoints, importFunction, importing, kept, mapFunctionHandle, mapSpan, needing, new, renameType, ringing, set as session-set, setting, stuck, unknown, withEntries}
+use Rattle.model.specs.Session.{after, calleesOf, clear, writeIfFits, finish, finishWithEntryPoints, importFunction, importing, unlessFull, mapFunctionHandle, mapSpan, withSource, new, renameType, meetsRing, set as session-set, setModule, stuck, unknown, withEntries}
 use Rattle.model.specs.Special.{force, keyed, pairTo, pairs, putPair, putRay, ray, rayTo, rays, sourced, withSpecial}
 use Rattle.model.specs.Table.{atomics, constantRow, counted, entryHead, expressionRow, expressions, follow as table-follow, functionHead, globalRow, levels as table-levels, limit, more, nameRow, overrideRow, queries, repeat, results, run as table-run, statements, text, typeRow, types, values, variant, variants}
 use Rattle.model.specs.Tables.{types as tab-types, at, codeT, count, isT, mapAt, recAt, six, tables, upd}
@@ -85,7 +85,7 @@ rings = sets (4 * length (write ring)) (write ring) 0
     ring : Module
     ring = record { names = letter 97 ∷ []; types = []; constants = []; overrides = []; globals = []; exprs = []; functions = calling 0 0 ∷ []; entries = []; special = record { rays = (OPT-TYPE, 0) ∷ (OPT-TYPE, 0) ∷ (OPT-TYPE, 0) ∷ []; pairs = [] } }
 
--- what is answered, and that the session behind an answer is the one that the operation leaves: so that sessions need not be compared by computing them
+-- what is answered, and that the session after an answer is the one that the operation leaves: so that sessions need not be compared by computing them
 number : Answer ℕ → Option ℕ
 number (answered a s) = some a
 number (refused n) = none
@@ -106,14 +106,14 @@ one-left e = ap leaves (sym e)
     leaves x = let s : Session = record { source = x; state = run (setting-it 10 ∷ []) new .state } in answered 2 (after s (importFunction 0 s))
 
 pub record Computed : Type 0 where
-  -- shade brings fog, which brings tone
+  -- shade imports fog, which imports tone
   pub brought : functionNames (run one new .state .functions) ≡ 3 ∷ 2 ∷ 1 ∷ []
   pub brought-once : functionNames (run two new .state .functions) ≡ 3 ∷ 2 ∷ 1 ∷ 1 ∷ []
-  -- the ends are answered
+  -- what finishing answers
   pub ends-one : finish 65536 (run one new) ≡ answered (write (finished (run one new .state) [])) new
   pub ends-two : finish 65536 (run two new) ≡ answered (write (finished (run two new .state) [])) new
   pub ends-with : finishWithEntryPoints 65536 (run one new) ≡ answered (write (withEntries (record { image = shades; offset = 10 }) (run one new .state))) new
-  -- and test 5 is passed unless a function's name stands twice
+  -- and test 5 is passed unless two functions have one name
   pub apart : names-distinct (functionNames (finished (run one new .state) [] .functions)) ≡ true
   pub twice : names-distinct (functionNames (finished (run two new .state) [] .functions)) ≡ false
   -- the special type is mapped to what was derived for its place, with the span of the first
@@ -126,7 +126,7 @@ pub record Computed : Type 0 where
   pub one-set : run one new .source ≡ some (record { image = shades; offset = 10 })
   pub just-set : run (setting-it 10 ∷ []) new .source ≡ some (record { image = shades; offset = 10 })
   pub all-unknown : unknowns shades (run (setting-it 10 ∷ []) new .state) ≡ 3
-  pub no-ring : ringing (0 ∷ []) shades (run (setting-it 10 ∷ []) new .state) ≡ false
+  pub no-ring : meetsRing (0 ∷ []) shades (run (setting-it 10 ∷ []) new .state) ≡ false
   -- shade becomes the third function
   pub answers-third : importFunction 0 (record { source = some (record { image = shades; offset = 10 }); state = run (setting-it 10 ∷ []) new .state }) ≡ answered 2 (run one new)
   -- a ring is refused, and so is a number past the table
@@ -134,7 +134,7 @@ pub record Computed : Type 0 where
   pub range-refused : importFunction 3 (run one new) ≡ refused 13
 
 pub computed : Computed
-unfolding number append appended bring carried compareOf comparesOf declarations declared derived eachE enterAll entered entriesMade entryMade final bodies-follow followF goS importE join keepNames keptNames known lastOf localized mkS nameCells nameIf namedAfter namedRows optE plain push putName quiet rebuilt settled stand step unique walked went calleesAt calleesS calls any free held keep numbers round rounds carry carryCell carryEntry carryFunction carryOpt carryRange carryS carrySpecial appearing finished firsts gathered indexN keepN namedBy namesIn passes renumber tooLarge withNames commit emptied fresh importF importT imports-levels made once rename renamed settle stepT unmapped wentT close constantAt initialised initials initial-initsOf mark marked moving reachedMarks readBy roots unmarked intakeOf tested verdict basesOf lower-below entriesLower functionsLower initOf initsLower lower-initsOf lower operandsLower typesLower _⊛_ bodies countAt endAt flatModule flatSpecial flatTable limits next offsetAt pairsFrom placed places read records section sections sized specialAt table tableAt write absent differ names-distinct entriesNamed entryNames expressionsNamed field functionNames functionsNamed names-named present same unlike numbers-below bound caps constantOnly every inside numbered ordered outside rising sound within constantKind emittedKind functionOf kind kindAt operand ops opsOf optional resultKind resultOf standing standingKind _⟫_ both eat exact mapL mapO function nameWord nothing add alike alikeC carryW each firstWord merged moved refOf refs seat shift spanBy target targets through undefined undefinedAt does run addE addF addOpt addS allOf allScoped allVis callResult contB scope-distinct effectResult emitted entriesScoped evalsOpt evalsS expandS has holdsS inRange inScope isOf kindsS live okE okS optVis scoped scopedAs seen shapeS topB upFrom vis after calleesOf clear ending finish finishWithEntryPoints importFunction importing kept mapFunctionHandle mapSpan needing new renameType ringing session-set setting stuck unknown withEntries force keyed pairTo pairs putPair putRay ray rayTo rays sourced withSpecial atomics constantRow counted entryHead expressionRow expressions table-follow functionHead globalRow table-levels limit more nameRow overrideRow queries repeat results table-run statements text typeRow types values variant variants at codeT count isT mapAt recAt six tables upd blockAt caseAt cases checked entryAt flat flatAll flatBlock flatEntry flatList flatS flatX form functionAt kindOf listed operands optOf rows shaped sizeB sizeC statement stmts wordOf unknowns handIf handRay handRays handPairs taken
+unfolding number append appended bring carried compareOf comparesOf declarations declared derived eachE enterAll entered entriesMade entryMade final bodies-follow followF importStmt importE internExpr keepNames keptNames known lastOf localized rebuildStmt nameCells nameIf namedAfter namedRows optE importBody appendExpr putName importStanding rebuilt carriedForm appendStanding step importInitialiser walked mappedTo calleesAt calleesS calls any free held keep numbers round rounds carry carryCell carryEntry carryFunction carryOpt carryRange carryS carrySpecial appearing finished firsts gathered indexN keepN namedBy namesIn passes renumber tooLarge withNames commit emptied fresh importF importT imports-levels made unlessMapped rename renamed intern stepT unmapped mappedToT close constantAt initialised initials initial-initsOf mark marked moving reachedMarks readBy roots unmarked intakeOf tested verdict ofLaid afterIntake onWords basesOf lower-below entriesLower functionsLower initOf initsLower lower-initsOf lower operandsLower typesLower _⊛_ bodies countAt endAt flatModule flatSpecial flatTable limits next offsetAt pairsFrom placed places read records section sections sized specialAt table tableAt write absent differ names-distinct entriesNamed entryNames expressionsNamed field functionNames functionsNamed names-named present same unlike numbers-below bound caps constantOnly every inside numbered ordered outside rising sound within constantKind emittedKind functionOf kind kindAt operand ops opsOf optional resultKind resultOf standing standingKind _⟫_ both eat exact mapL mapO function nameWord nothing add alike alikeC carryW foldRefs firstWord interned moved refOf refs indexOf shift spanBy target targets through undefined undefinedAt does run addE addF addOpt addS allOf allScoped allVis callResult contB scope-distinct effectResult emitted entriesScoped evalsOpt evalsS expandS has holdsS inRange inScope isOf kindsS live okE okS optVis scoped scopedAs seen shapeS topB upFrom vis after calleesOf clear writeIfFits finish finishWithEntryPoints importFunction importing unlessFull mapFunctionHandle mapSpan withSource new renameType meetsRing session-set setModule stuck unknown withEntries force keyed pairTo pairs putPair putRay ray rayTo rays sourced withSpecial atomics constantRow counted entryHead expressionRow expressions table-follow functionHead globalRow table-levels limit more nameRow overrideRow queries repeat results table-run statements text typeRow types values variant variants at codeT count isT mapAt recAt six tables upd blockAt caseAt cases checked entryAt flat flatAll flatBlock flatEntry flatList flatS flatX form functionAt kindOf listed operands optOf rows shaped sizeB sizeC statement stmts wordOf unknowns handIf handRay handRays handPairs taken
 computed = record { brought = refl; brought-once = refl; ends-one = refl; ends-two = refl; ends-with = refl; apart = refl; twice = refl; place-taken = refl; spans-first = refl; by-hand = refl; none-at-first = refl; one-set = refl; just-set = refl; all-unknown = refl; no-ring = refl; answers-third = answered-is 2 ready (importFunction 0 ready) refl ∙ one-left refl; ring-refused = refl; range-refused = refl }
 
 -- ---- the theorems apply
@@ -176,7 +176,7 @@ three-deep = deep 3 (omega arith) ∙ sym (deep 9 (omega arith))
     deep : (k : ℕ) → 3 ≤ k → followF k 10 shades 0 (begun .state) ≡ bodies-follow 10 shades 0 (begun .state)
     deep k l = fuel-removed (record { image = shades; offset = 10 }) (begun .state) set-begun 0 (omega arith) (computed .no-ring) k (rw (computed .all-unknown) l)
 
-pub followed-by-import : bodies-follow 10 shades 0 (begun .state) ≡ once (known shades (begun .state) 0) (λ z. append 10 shades (bodies-follow 10 shades) 0 (begun .state)) (begun .state)
+pub followed-by-import : bodies-follow 10 shades 0 (begun .state) ≡ unlessMapped (known shades (begun .state) 0) (λ z. append 10 shades (bodies-follow 10 shades) 0 (begun .state)) (begun .state)
 followed-by-import = follow-is (record { image = shades; offset = 10 }) (begun .state) set-begun 0 (omega arith) (computed .no-ring)
 
 -- each function of the first session agrees with the one that it comes from

@@ -1,4 +1,4 @@
--- WHAT OPERATIONS LEAVE: but for the end of a session, tables and functions only grow; while the source stays, what is mapped stays mapped to the same; and no two derived records of a table are equal, spans apart.
+-- WHAT OPERATIONS LEAVE: except at the end of a session, tables and functions only grow; while the source stays, what is mapped stays mapped to the same; and no two derived records of a table are equal, ignoring spans.
 use mathlib.Core.Path.{_≡_, refl}
 use mathlib.Core.Logic.{_⊎_, inl, inr}
 use mathlib.Core.Bool.{Bool, true, false}
@@ -8,9 +8,9 @@ use Rattle.model.specs.Module.{Module}
 use Rattle.model.specs.Carry.{WellFormed}
 use Rattle.model.specs.Intake.{Passes}
 use Rattle.model.specs.Tables.{types, Tables, tables, count}
-use Rattle.model.specs.Imports.{St, importT, unmapped, emptied}
+use Rattle.model.specs.Imports.{Derived, importT, unmapped, emptied}
 use Rattle.model.specs.Special.{force, withSpecial, putRay, putPair, sourced}
-use Rattle.model.specs.Session.{Source, Session, Answer, answered, refused, after, kept, clear}
+use Rattle.model.specs.Session.{Source, Session, Answer, answered, refused, after, unlessFull, clear}
 use Rattle.theory_records.specs.Trace.{Keeps}
 use Rattle.theory_records.specs.Theorems.{Distinct}
 use Rattle.theory_bodies.specs.Context.{Grown, grown-refl, grown-trans}
@@ -20,26 +20,26 @@ use Rattle.theory_sessions.specs.Holding.{same-grown, emptied-holds, hol
 use Rattle.theory_sessions.specs.Operating.{Operation, sets, clears, spans, imports, renames, functions, handles, finishes, finishes-with, does, Set, Good, good-holds, set-after, span-after, import-after, rename-after, function-after, handle-after}
 
 -- tables, and functions, have what they had
-pub record Grew (a s : St) : Type 0 where
+pub record Grew (a s : Derived) : Type 0 where
   pub grown : Grown a s
   pub older : Older a s
 
-grew-refl : (s : St) → Grew s s
+grew-refl : (s : Derived) → Grew s s
 grew-refl s = record { grown = grown-refl s; older = older-same s s refl }
 
-grew-trans : {a b c : St} → Grew a b → Grew b c → Grew a c
+grew-trans : {a b c : Derived} → Grew a b → Grew b c → Grew a c
 grew-trans {a} {b} {c} p q = record { grown = grown-trans (p .grown) (q .grown); older = older-trans a b c (p .grown .functions) (p .older) (q .older) }
 
-grew-same : (s r : St) → r .recs ≡ s .recs → r .functions ≡ s .functions → Grew s r
+grew-same : (s r : Derived) → r .recs ≡ s .recs → r .functions ≡ s .functions → Grew s r
 grew-same s r p q = record { grown = same-grown s r p q; older = older-same s r q }
 
 -- ---- setting a source
-module _ (m : Module) (well : WellFormed m) (ok : Passes m) (o : ℕ) (a : St) where
-  record Both (s : St) : Type 0 where
+module _ (m : Module) (well : WellFormed m) (ok : Passes m) (o : ℕ) (a : Derived) where
+  record Both (s : Derived) : Type 0 where
     holds : Holds (tables m) s
     grew : Grew a s
 
-  import-grew : (n : ℕ) (s : St) → n < count (tables m) types → Both s → Grew a (importT o (tables m) types n s)
+  import-grew : (n : ℕ) (s : Derived) → n < count (tables m) types → Both s → Grew a (importT o (tables m) types n s)
   import-grew n s l b = let f = from-import m well ok o s types n s l (holds-from (b .holds)) in grew-trans (b .grew) (record { grown = f .grown; older = f .older })
 
   both-setting : Setting m o Both
@@ -91,7 +91,7 @@ does-grow p e s g = go p e
     p₀ : P s
     p₀ = grew-refl (s .state)
 
-    next : (x : Source) (r : St) → Set x (s .state) → Next (x .image) (s .state) r → Grew (s .state) r
+    next : (x : Source) (r : Derived) → Set x (s .state) → Next (x .image) (s .state) r → Grew (s .state) r
     next x r k n = record { grown = n .grown; older = n .older }
 
     sets-on : (o : ℕ) (m : Module) → WellFormed m → Passes m → Grew (s .state) (sourced o m (s .state))
@@ -119,7 +119,7 @@ does-keep p e s g = go p e
     p₀ : P s
     p₀ t n h = refl
 
-    next : (x : Source) (r : St) → Set x (s .state) → Next (x .image) (s .state) r → Keeps (s .state) r
+    next : (x : Source) (r : Derived) → Set x (s .state) → Next (x .image) (s .state) r → Keeps (s .state) r
     next x r k n = n .keeps
 
     go : (p : Operation) → turns p ≡ false → P (does p s)
@@ -133,7 +133,7 @@ does-keep p e s g = go p e
     go (finishes room) e = never e
     go (finishes-with room) e = never e
 
--- NO TWO RECORDS of a table are equal, spans apart
+-- NO TWO RECORDS of a table are equal, ignoring spans
 pub all-distinct : (s : Session) → Good s → Distinct (s .state)
 unfolding Good
 all-distinct s g = good-holds (s .source) (s .state) g .1 .typed .kept .base .distinct

@@ -1,4 +1,4 @@
--- HEIGHTS: a function of a known name has the height 0, another one more than all that it calls. Where 22 is not met (`ringing` says false) each function that is asked for has a height, and it is at most the number of functions whose names are unknown.
+-- HEIGHTS: a function of a known name has the height 0, another one more than all that it calls. Where 22 is not met (`meetsRing` says false) each function that is to be imported has a height, and it is at most the number of functions whose names are unknown.
 use mathlib.Core.Path.{_≡_, refl, ap}
 use mathlib.Core.Logic.{_⊎_, inl, inr, ⊎-elim}
 use mathlib.Core.Bool.{true, false}
@@ -9,32 +9,33 @@ use native.Mathlib.Omega.{arith}
 use lib.Dec.{eqb}
 use lib.ListN.{length}
 use borrow.Author.Tests.{eqb-true, eqb-false, eq-eqb}
+use Rattle.theory_lists.specs.Booleans.{never, either}
 use Rattle.model.specs.Module.{Module}
 use Rattle.model.specs.Carry.{Each, each-none, each-next, WellFormed}
 use Rattle.model.specs.Numbers.{numbered}
 use Rattle.model.specs.Calls.{Call, In, numbers, any, keep, free, held, Rounds, rounds}
 use Rattle.model.specs.Callees.{callees, calls}
 use Rattle.model.specs.Redirect.{function as functionAt}
-use Rattle.model.specs.Imports.{St}
+use Rattle.model.specs.Imports.{Derived}
 use Rattle.model.specs.Bodies.{known}
-use Rattle.model.specs.Session.{unknown, stuck, ringing}
-use Rattle.order_ranks.proofs.Lists.{either, never, in-keep, any-in, any-off, in-numbers}
-use Rattle.order_ranks.proofs.Rounds.{length-round, last-round, some-round}
-use Rattle.order_callees.proofs.Numbered.{numbered-known}
+use Rattle.model.specs.Session.{unknown, stuck, meetsRing}
+use Rattle.theory_order.specs.Lists.{in-keep, any-in, any-off, in-numbers}
+use Rattle.theory_order.specs.Rounds.{length-round, last-round, some-round}
+use Rattle.theory_order.specs.Numbered.{numbered-known}
 use Rattle.theory_bodies.specs.Lists.{All, all-map}
 use Rattle.theory_finish.specs.Alone.{called}
 
 -- function n has the height d at most, where the names of s are known
-unfoldable pub Low : ℕ → Module → St → ℕ → Type 0
+unfoldable pub Low : ℕ → Module → Derived → ℕ → Type 0
 Low zero m s n = 0 < known m s n
 Low (suc d) m s n = (0 < known m s n) ⊎ ((n < length (m .functions)) × All (λ j. Low d m s j) (callees (functionAt m n)))
 
-pub low-known : (d : ℕ) (m : Module) (s : St) (n : ℕ) → 0 < known m s n → Low d m s n
+pub low-known : (d : ℕ) (m : Module) (s : Derived) (n : ℕ) → 0 < known m s n → Low d m s n
 unfolding Low
 low-known zero m s n h = h
 low-known (suc d) m s n h = inl h
 
-pub low-more : (d e : ℕ) (m : Module) (s : St) (n : ℕ) → d ≤ e → Low d m s n → Low e m s n
+pub low-more : (d e : ℕ) (m : Module) (s : Derived) (n : ℕ) → d ≤ e → Low d m s n → Low e m s n
 unfolding Low
 low-more zero e m s n l h = low-known e m s n h
 low-more (suc d) zero m s n l h = absurd (not-suc-le-zero l)
@@ -42,20 +43,20 @@ low-more (suc d) (suc e) m s n l (inl h) = inl h
 low-more (suc d) (suc e) m s n l (inr h) = inr (h .0, all-map (callees (functionAt m n)) (λ j. low-more d e m s j (omega arith)) (h .1))
 
 -- where no less is known
-pub low-on : (d : ℕ) (m : Module) (a s : St) → ((k : ℕ) → 0 < known m a k → 0 < known m s k) → (n : ℕ) → Low d m a n → Low d m s n
+pub low-on : (d : ℕ) (m : Module) (a s : Derived) → ((k : ℕ) → 0 < known m a k → 0 < known m s k) → (n : ℕ) → Low d m a n → Low d m s n
 unfolding Low
 low-on zero m a s f n h = f n h
 low-on (suc d) m a s f n (inl h) = inl (f n h)
 low-on (suc d) m a s f n (inr h) = inr (h .0, all-map (callees (functionAt m n)) (λ j. low-on d m a s f j) (h .1))
 
 -- how many functions have names that are unknown
-unfoldable pub unknowns : Module → St → ℕ
+unfoldable pub unknowns : Module → Derived → ℕ
 unknowns m s = length (keep (numbers (length (m .functions)) 0) (unknown m s))
 
 not-any-in : (ws : List ℕ) (i : ℕ) → any ws (eqb i) ≡ false → In i ws → ⊥
 not-any-in ws i e h = never (eqb i i) (eq-eqb i i refl) (any-off (eqb i) ws e i h)
 
-module _ (m : Module) (well : WellFormed m) (three : numbered m ≡ true) (s : St) where
+module _ (m : Module) (well : WellFormed m) (three : numbered m ≡ true) (s : Derived) where
   abbrev N : ℕ
   N = length (m .functions)
 
@@ -93,8 +94,8 @@ module _ (m : Module) (well : WellFormed m) (three : numbered m ≡ true) (s : S
   start-placed i l h = ⊎-elim (λ e. absurd (h (in-keep (unknown m s) (in-numbers N 0 i (omega arith) (omega arith)) (unfold unknown in e)))) (λ e. (let n = eqb-false (known m s i) 0 e in omega arith)) (either (eqb (known m s i) 0))
 
   -- WHERE 22 IS NOT MET each of them has a height
-  pub ringless : (is : List ℕ) → ringing is m s ≡ false → (i : ℕ) → In i is → i < N → Low (unknowns m s) m s i
-  unfolding ringing stuck unknowns
+  pub ringless : (is : List ℕ) → meetsRing is m s ≡ false → (i : ℕ) → In i is → i < N → Low (unknowns m s) m s i
+  unfolding meetsRing stuck unknowns
   ringless is e i h l =
       let ws : List ℕ = keep (numbers N 0) (unknown m s) in
       low-more (0 + length ws) (length ws) m s i (omega arith) (rounds-placed N 0 ws start-placed i l (not-any-in _ i (any-off _ is e i h)))

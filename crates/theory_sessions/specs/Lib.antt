@@ -1,5 +1,4 @@
 pub mod Height
-pub mod Named
 pub mod Following
 pub mod Renaming
 pub mod Alike

@@ -10,6 +10,7 @@ use native.Mathlib.Omega.{arith}
 use lib.Dec.{ltb}
 use lib.ListN.{length, getD}
 use borrow.Author.Tests.{ltb-true}
+use Rattle.theory_lists.specs.Booleans.{and-split}
 use Rattle.model.specs.Outcome.{Cells, word}
 use Rattle.model.specs.Table.{OPT-TYPE, KEY, TYPE}
 use Rattle.model.specs.Module.{Special, Module, pairRow}
@@ -22,11 +23,10 @@ use Rattle.model.specs.Numbers.{bound, caps, below as under, within, every, out
 use Rattle.model.specs.Callees.{callees}
 use Rattle.model.specs.Redirect.{function}
 use Rattle.model.specs.Tables.{Tab, names, types, at, Tables, tables, recAt, count}
-use Rattle.model.specs.Imports.{St, importT, renamed, unmapped, emptied}
+use Rattle.model.specs.Imports.{Derived, importT, renamed, unmapped, emptied}
 use Rattle.model.specs.Special.{withSpecial, putRay, rayTo, ray, rays, keyed, putPair, pairTo, pairs, sourced}
 use Rattle.model.specs.Bodies.{appended, append, follow}
-use Rattle.model.specs.Session.{Source, Session, ringing, importing, renameType, importFunction, mapFunctionHandle}
-use Rattle.theory_image.specs.Lists.{and-split}
+use Rattle.model.specs.Session.{Source, Session, meetsRing, importing, renameType, importFunction, mapFunctionHandle}
 use Rattle.theory_image.specs.Plain.{plain?}
 use Rattle.theory_image.specs.Quiet.{Plainly, plain-none, plain-next, plainly}
 use Rattle.theory_records.specs.Well.{WF}
@@ -48,30 +48,30 @@ unfoldable pub handIf : ℕ → ℕ → List ℕ
 handIf zero n = []
 handIf (suc v) n = n ∷ []
 
-unfoldable pub handRay : ℕ → ℕ → St → List ℕ
+unfoldable pub handRay : ℕ → ℕ → Derived → List ℕ
 handRay zero k s = []
 handRay (suc n) k s = handIf (word (getD (s .special .rays) k (0, 0))) n
 
-unfoldable pub handRays : Cells → ℕ → ℕ → Tables → St → List ℕ
+unfoldable pub handRays : Cells → ℕ → ℕ → Tables → Derived → List ℕ
 handRays [] k o T s = []
 handRays (c ∷ cs) k o T s = handRay (word c) k s ++ handRays cs (suc k) o T (ray (word c) k o T s)
 
-unfoldable pub handPairs : List Cells → ℕ → Tables → St → List ℕ
+unfoldable pub handPairs : List Cells → ℕ → Tables → Derived → List ℕ
 handPairs [] o T s = []
 handPairs (r ∷ rs) o T s = handIf (keyed (s .special .pairs) (field KEY r)) (field TYPE r) ++ handPairs rs o T (pairTo (keyed (s .special .pairs) (field KEY r)) (field KEY r) (field TYPE r) o T s)
 
 -- each step as `sourced` takes it
-unfoldable pub taken : ℕ → Module → St → List ℕ
+unfoldable pub taken : ℕ → Module → Derived → List ℕ
 taken o m s =
     handRays (m .special .rays) 0 o (tables m) (emptied (unmapped (tables m)) s)
     ++ handPairs (m .special .pairs) o (tables m) (rays (m .special .rays) 0 o (tables m) (emptied (unmapped (tables m)) s))
 
 -- ---- imports of tables' records
-record Both (hs : List ℕ) (T S : Tables) (s : St) : Type 0 where
+record Both (hs : List ℕ) (T S : Tables) (s : Derived) : Type 0 where
   base : Base S s
   but : SoundBut hs T s
 
-trace-but : (hs : List ℕ) (o : ℕ) (T S : Tables) → WF S → ((t : Tab) (n : ℕ) → Hand hs t n ⊎ (recAt S t n ≡ recAt T t n)) → {a b : St} → Trace o S a b → Base S a → SoundBut hs T a → SoundBut hs T b
+trace-but : (hs : List ℕ) (o : ℕ) (T S : Tables) → WF S → ((t : Tab) (n : ℕ) → Hand hs t n ⊎ (recAt S t n ≡ recAt T t n)) → {a b : Derived} → Trace o S a b → Base S a → SoundBut hs T a → SoundBut hs T b
 trace-but hs o T S wf agree tr base but =
     keep-rule (Both hs T S) (λ s t n rd b. record { base = trace-base o S wf (then rd done) (b .base); but = commit-but hs o T S agree s t n rd (b .base .inside) (b .but) }) tr (record { base = base; but = but }) .but
 
@@ -80,11 +80,11 @@ module _ (m : Module) (well : WellFormed m) (ok : Passes m) (o : ℕ) (hs : List
   T = tables m
 
   -- what is kept beside it
-  record Known (s : St) : Type 0 where
+  record Known (s : Derived) : Type 0 where
     typed : Typed T s
     but : SoundBut hs T s
 
-  import-but : (t : Tab) (n : ℕ) (s : St) → n < count T t → Known s → SoundBut hs T (importT o T t n s)
+  import-but : (t : Tab) (n : ℕ) (s : Derived) → n < count T t → Known s → SoundBut hs T (importT o T t n s)
   import-but t n s l k = let wf = tested-wf m well (ok .numbers) (ok .lowers) in trace-but hs o T T wf (λ t n. inr refl) (import-trace o T wf t n s l (k .typed .kept .base .sized) .0) (k .typed .kept .base) (k .but)
 
   known-keeping : Keeping m o Known
@@ -93,17 +93,17 @@ module _ (m : Module) (well : WellFormed m) (ok : Passes m) (o : ℕ) (hs : List
     appends = λ f s k. record { typed = z .appends f s (k .typed); but = unfold appended in but-same hs T s (appended f s) (unfold appended in refl) (unfold appended in refl) (k .typed .kept .base .inside) (k .but) };
   }
 
-  pub type-but : (t : Tab) (n : ℕ) (s : St) → n < count T t → Holds T s → SoundBut hs T s → SoundBut hs T (importT o T t n s)
+  pub type-but : (t : Tab) (n : ℕ) (s : Derived) → n < count T t → Holds T s → SoundBut hs T s → SoundBut hs T (importT o T t n s)
   type-but t n s l h b = import-but t n s l (record { typed = h .typed; but = b })
 
-  pub function-but : (n : ℕ) (s : St) → Holds T s → SoundBut hs T s → SoundBut hs T (append o m (follow o m) n s)
+  pub function-but : (n : ℕ) (s : Derived) → Holds T s → SoundBut hs T s → SoundBut hs T (append o m (follow o m) n s)
   function-but n s h b = function-kept m (ok .numbers) known-keeping n s (record { typed = h .typed; but = b }) .but
 
-  pub handle-but : (n : ℕ) (s : St) → Holds T s → SoundBut hs T s → SoundBut hs T (follow o m n s)
+  pub handle-but : (n : ℕ) (s : Derived) → Holds T s → SoundBut hs T s → SoundBut hs T (follow o m n s)
   handle-but n s h b = follow-kept m (ok .numbers) known-keeping n s (record { typed = h .typed; but = b }) .but
 
   -- a type that is renamed is one of these
-  pub rename-but : (n name : ℕ) (s : St) → n < count T types → name < count T names → Mem n hs → Holds T s → SoundBut hs T s → SoundBut hs T (importT o (renamed T n name) types n s)
+  pub rename-but : (n name : ℕ) (s : Derived) → n < count T types → name < count T names → Mem n hs → Holds T s → SoundBut hs T s → SoundBut hs T (importT o (renamed T n name) types n s)
   rename-but n name s l k i h b =
       let c = h .typed .kept .base in
       trace-but hs o T (renamed T n name) (source-wf m well ok o n name l k) elsewhere (renamed-trace m well ok o n name l k s (holds-from h) .0) (record { sized = sized-to m well ok o n name l k s (c .sized); inside = c .inside; wf = c .wf; distinct = c .distinct }) b
@@ -115,34 +115,34 @@ module _ (m : Module) (well : WellFormed m) (ok : Passes m) (o : ℕ) (hs : List
           there-it t j p q = rw (← p, q) (unfold Hand in i)
 
   -- ---- setting the source
-  special-but : (p : Special) (r : St) → Inside r → SoundBut hs T r → SoundBut hs T (withSpecial p r)
+  special-but : (p : Special) (r : Derived) → Inside r → SoundBut hs T r → SoundBut hs T (withSpecial p r)
   unfolding withSpecial
   special-but p r i b = but-same hs T r (withSpecial p r) (unfold withSpecial in refl) (unfold withSpecial in refl) i b
 
-  type-inside : (n : ℕ) (s : St) → n < count T types → Known s → Inside (importT o T types n s)
+  type-inside : (n : ℕ) (s : Derived) → n < count T types → Known s → Inside (importT o T types n s)
   type-inside n s l d = typed-keeping m well (ok .numbers) (ok .lowers) o .imports types n s l (d .typed) .kept .base .inside
 
-  ray-to-known : (v k n : ℕ) (s : St) → word (getD (s .special .rays) k (0, 0)) ≡ v → n < count T types → ((j : ℕ) → Mem j (handIf v n) → Mem j hs) → Known s → Known (rayTo v k n o T s)
+  ray-to-known : (v k n : ℕ) (s : Derived) → word (getD (s .special .rays) k (0, 0)) ≡ v → n < count T types → ((j : ℕ) → Mem j (handIf v n) → Mem j hs) → Known s → Known (rayTo v k n o T s)
   unfolding handIf rayTo
   ray-to-known zero k n s e l f d = record { typed = typed-setting m well (ok .numbers) (ok .lowers) o .ray-new k n s l (d .typed); but = unfold putRay in special-but _ _ (type-inside n s l d) (import-but types n s l d) }
   ray-to-known (suc v) k n s e l f d = record { typed = typed-setting m well (ok .numbers) (ok .lowers) o .ray-old k n v s e (d .typed); but = force-but hs T n (suc v) s (f n here) (d .but) }
 
-  ray-known : (w k : ℕ) (s : St) → w ≤ count T types → ((j : ℕ) → Mem j (handRay w k s) → Mem j hs) → Known s → Known (ray w k o T s)
+  ray-known : (w k : ℕ) (s : Derived) → w ≤ count T types → ((j : ℕ) → Mem j (handRay w k s) → Mem j hs) → Known s → Known (ray w k o T s)
   unfolding ray handRay
   ray-known zero k s l f d = d
   ray-known (suc n) k s l f d = ray-to-known (word (getD (s .special .rays) k (0, 0))) k n s refl l f d
 
-  rays-known : {cs : Cells} → Each (λ c. word c ≤ count T types) cs → (k : ℕ) (s : St) → ((j : ℕ) → Mem j (handRays cs k o T s) → Mem j hs) → Known s → Known (rays cs k o T s)
+  rays-known : {cs : Cells} → Each (λ c. word c ≤ count T types) cs → (k : ℕ) (s : Derived) → ((j : ℕ) → Mem j (handRays cs k o T s) → Mem j hs) → Known s → Known (rays cs k o T s)
   unfolding rays handRays
   rays-known each-none k s f d = d
   rays-known (each-next {a = c} {l = cs} l ls) k s f d = rays-known ls (suc k) (ray (word c) k o T s) (λ j i. f j (mem-right (handRay (word c) k s) i)) (ray-known (word c) k s l (λ j i. f j (mem-left (handRays cs (suc k) o T (ray (word c) k o T s)) i)) d)
 
-  pair-known : (v key n : ℕ) (s : St) → keyed (s .special .pairs) key ≡ v → n < count T types → ((j : ℕ) → Mem j (handIf v n) → Mem j hs) → Known s → Known (pairTo v key n o T s)
+  pair-known : (v key n : ℕ) (s : Derived) → keyed (s .special .pairs) key ≡ v → n < count T types → ((j : ℕ) → Mem j (handIf v n) → Mem j hs) → Known s → Known (pairTo v key n o T s)
   unfolding handIf pairTo
   pair-known zero key n s e l f d = record { typed = typed-setting m well (ok .numbers) (ok .lowers) o .pair-new key n s l e (d .typed); but = unfold putPair in special-but _ _ (type-inside n s l d) (import-but types n s l d) }
   pair-known (suc v) key n s e l f d = record { typed = typed-setting m well (ok .numbers) (ok .lowers) o .pair-old key n v s e (d .typed); but = force-but hs T n (suc v) s (f n here) (d .but) }
 
-  pairs-known : {rs : List Cells} → Each (λ r. field TYPE r < count T types) rs → (s : St) → ((j : ℕ) → Mem j (handPairs rs o T s) → Mem j hs) → Known s → Known (pairs rs o T s)
+  pairs-known : {rs : List Cells} → Each (λ r. field TYPE r < count T types) rs → (s : Derived) → ((j : ℕ) → Mem j (handPairs rs o T s) → Mem j hs) → Known s → Known (pairs rs o T s)
   unfolding pairs handPairs
   pairs-known each-none s f d = d
   pairs-known (each-next {a = r} {l = rs} l ls) s f d =
@@ -163,11 +163,11 @@ module _ (m : Module) (well : WellFormed m) (ok : Passes m) (o : ℕ) (hs : List
   pair-types (each-next {a = r} {l = rs} p ps) q = let x = and-split (within (outside m) r) (every (within (outside m)) rs) q in each-next (pair-in m (ok .numbers) (plainly p refl) (x .0)) (pair-types ps (x .1))
 
   -- with the types that it maps by hand
-  pub sourced-but : (S : Tables) (s : St) → Holds S s → ((j : ℕ) → Mem j (taken o m s) → Mem j hs) → SoundBut hs T (sourced o m s)
+  pub sourced-but : (S : Tables) (s : Derived) → Holds S s → ((j : ℕ) → Mem j (taken o m s) → Mem j hs) → SoundBut hs T (sourced o m s)
   unfolding sourced taken plain?
   sourced-but S s h f =
-      let a : St = emptied (unmapped T) s in
-      let b : St = rays (m .special .rays) 0 o T a in
+      let a : Derived = emptied (unmapped T) s in
+      let b : Derived = rays (m .special .rays) 0 o T a in
       let d : Known a = record { typed = emptied-holds S T s h .typed; but = but-none hs T a (λ t n. unfold emptied in none-mapped T t n) } in
       pairs-known (pair-types (well .pairs-ok .each) (specials-in m (ok .numbers) .1)) b (λ j i. f j (mem-right (handRays (m .special .rays) 0 o T a) i))
       (rays-known (ray-words (plainly (well .rays-ok) refl) (specials-in m (ok .numbers) .0)) 0 a (λ j i. f j (mem-left (handPairs (m .special .pairs) o T b) i)) d) .but
@@ -216,7 +216,7 @@ does-but hs x p e s g f b = go p e f
     own : (y : Source) → s .source ≡ some y → SoundBut hs (tables (y .image)) (s .state)
     own y q = subst (λ (z : Source). SoundBut hs (tables (z .image)) (s .state)) (same-source (sym (b .is) ∙ q)) (b .sound)
 
-    over : (y : Source) → s .source ≡ some y → {r : St} → SoundBut hs (tables (y .image)) r → P (record { source = some y; state = r })
+    over : (y : Source) → s .source ≡ some y → {r : Derived} → SoundBut hs (tables (y .image)) r → P (record { source = some y; state = r })
     over y q {r} h = record { is = sym q ∙ b .is; sound = subst (λ (z : Source). SoundBut hs (tables (z .image)) r) (same-source (sym q ∙ b .is)) h }
 
     go : (p : Operation) → turns p ≡ false → ((j : ℕ) → Mem j (renamedBy p) → Mem j hs) → P (does p s)
@@ -235,12 +235,12 @@ does-but hs x p e s g f b = go p e f
     go (functions n) e f =
         unfold importFunction in needing-after P s b g _ λ y q k.
         ranged-after P s b n (length (y .image .functions)) _ λ l.
-        ringless-after P s b (ringing (n ∷ callees (function (y .image) n)) (y .image) (s .state)) _ λ r.
+        ringless-after P s b (meetsRing (n ∷ callees (function (y .image) n)) (y .image) (s .state)) _ λ r.
         kept-after P s b y _ _ (over y q (function-but (y .image) (k .well) (k .passes) (y .offset) hs n (s .state) (k .holds) (own y q)))
     go (handles n) e f =
         unfold mapFunctionHandle in needing-after P s b g _ λ y q k.
         ranged-after P s b n (length (y .image .functions)) _ λ l.
-        ringless-after P s b (ringing (n ∷ []) (y .image) (s .state)) _ λ r.
+        ringless-after P s b (meetsRing (n ∷ []) (y .image) (s .state)) _ λ r.
         kept-after P s b y _ _ (over y q (handle-but (y .image) (k .well) (k .passes) (y .offset) hs n (s .state) (k .holds) (own y q)))
     go (finishes room) e f = never e
     go (finishes-with room) e f = never e

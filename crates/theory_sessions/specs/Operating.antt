@@ -11,15 +11,15 @@ use borrow.Author.Tests.{ltb-true}
 use Rattle.model.specs.Outcome.{Laid, laid, bad, strange}
 use Rattle.model.specs.Module.{Module, read, write}
 use Rattle.model.specs.Carry.{each-none, WellFormed}
-use Rattle.model.specs.Intake.{Passes, intakeOf}
+use Rattle.model.specs.Intake.{Passes, intakeOf, ofLaid, afterIntake, onWords}
 use Rattle.model.specs.Callees.{callees}
 use Rattle.model.specs.Redirect.{function}
 use Rattle.model.specs.Tables.{Tab, names, types, Tables, tables, count}
-use Rattle.model.specs.Imports.{St}
+use Rattle.model.specs.Imports.{Derived}
 use Rattle.model.specs.Special.{sourced}
 use Rattle.model.specs.Bodies.{enterAll}
 use Rattle.model.specs.Finish.{finished, tooLarge}
-use Rattle.model.specs.Session.{Source, Session, Answer, answered, refused, after, new, needing, kept, ringing, setting, set, clear, mapSpan, importing, renameType, importFunction, mapFunctionHandle, ending, finish, calleesOf, withEntries, finishWithEntryPoints}
+use Rattle.model.specs.Session.{Source, Session, Answer, answered, refused, after, new, withSource, unlessFull, meetsRing, setModule, set, clear, mapSpan, importing, renameType, importFunction, mapFunctionHandle, writeIfFits, finish, calleesOf, withEntries, finishWithEntryPoints}
 use Rattle.theory_image.specs.Modules.{read-well}
 use Rattle.theory_finish.specs.Linking.{intake-passes}
 use Rattle.theory_sessions.specs.Following.{Holds, Next, holds-from, from-next}
@@ -57,19 +57,19 @@ run (p ∷ ps) s = run ps (does p s)
 
 -- ---- what holds of a session
 -- a source that passed, and a state that has its maps
-pub record Set (x : Source) (s : St) : Type 0 where
+pub record Set (x : Source) (s : Derived) : Type 0 where
   pub well : WellFormed (x .image)
   pub passes : Passes (x .image)
   pub holds : Holds (tables (x .image)) s
 
-unfoldable pub GoodBy : Option Source → St → Type 0
+unfoldable pub GoodBy : Option Source → Derived → Type 0
 GoodBy none s = Holds none-set s
 GoodBy (some x) s = Set x s
 
 unfoldable pub Good : Session → Type 0
 Good s = GoodBy (s .source) (s .state)
 
-pub good-holds : (x : Option Source) (s : St) → GoodBy x s → (T : Tables) × Holds T s
+pub good-holds : (x : Option Source) (s : Derived) → GoodBy x s → (T : Tables) × Holds T s
 unfolding GoodBy
 good-holds none s g = (none-set, g)
 good-holds (some x) s g = (tables (x .image), g .holds)
@@ -77,8 +77,8 @@ good-holds (some x) s g = (tables (x .image), g .holds)
 -- ---- a fact P of sessions that holds of s holds of the session after an operation, if it holds of what the operation takes over
 module _ (P : Session → Type 0) (s : Session) (p : P s) where
   -- 21
-  pub kept-after : {A : Type 0} (x : Source) (r : St) (a : A) → P (record { source = some x; state = r }) → P (after s (kept x r a))
-  unfolding kept after
+  pub kept-after : {A : Type 0} (x : Source) (r : Derived) (a : A) → P (record { source = some x; state = r }) → P (after s (unlessFull x r a))
+  unfolding unlessFull after
   kept-after {A} x r a k = go (tooLarge (finished r []))
     where
       go : (b : Bool) → P (after s (let v : Answer A = elim b [ true ↦ refused 21 | false ↦ answered a (record { source = some x; state = r }) ] in v))
@@ -101,8 +101,8 @@ module _ (P : Session → Type 0) (s : Session) (p : P s) where
   ringless-after false a f = f refl
 
   -- the end
-  pub ending-after : (m : Module) (room : ℕ) → P new → P (after s (ending m room))
-  unfolding ending after
+  pub ending-after : (m : Module) (room : ℕ) → P new → P (after s (writeIfFits m room))
+  unfolding writeIfFits after
   ending-after m room n = go (tooLarge m) (ltb room (4 * length (write m)))
     where
       go : (b c : Bool) → P (after s (let v : Answer (List ℕ) = elim b [ true ↦ refused 21 | false ↦ elim c [ true ↦ refused 7 | false ↦ answered (write m) new ] ] in v))
@@ -112,10 +112,10 @@ module _ (P : Session → Type 0) (s : Session) (p : P s) where
 
   -- setting
   pub set-after : (bytes : ℕ) (ws : List ℕ) (o : ℕ) → ((m : Module) → WellFormed m → Passes m → P (record { source = some (record { image = m; offset = o }); state = sourced o m (s .state) })) → P (after s (set bytes ws o s))
-  unfolding set setting after
+  unfolding set onWords afterIntake ofLaid setModule after
   set-after bytes ws o f = go (intakeOf bytes ws) refl (read ws) refl
     where
-      go : (n : ℕ) → intakeOf bytes ws ≡ n → (r : Laid Module) → read ws ≡ r → P (after s (let v : Answer (Unit {0}) = elim n [ zero ↦ setting r o s | suc n ↦ refused (suc n) ] in v))
+      go : (n : ℕ) → intakeOf bytes ws ≡ n → (r : Laid Module) → read ws ≡ r → P (after s (let v : Answer (Unit {0}) = elim n [ zero ↦ ofLaid (setModule o s) refused r | suc n ↦ refused (suc n) ] in v))
       go zero e (laid m) q = kept-after (record { image = m; offset = o }) (sourced o m (s .state)) tt (f m (read-well ws m q) (intake-passes bytes ws m e q))
       go zero e bad q = p
       go zero e strange q = p
@@ -123,11 +123,11 @@ module _ (P : Session → Type 0) (s : Session) (p : P s) where
 
   module _ (g : Good s) where
     -- 20
-    pub needing-after : {A : Type 0} (f : Source → Answer A) → ((x : Source) → s .source ≡ some x → Set x (s .state) → P (after s (f x))) → P (after s (needing (s .source) f))
-    unfolding needing after Good GoodBy
+    pub needing-after : {A : Type 0} (f : Source → Answer A) → ((x : Source) → s .source ≡ some x → Set x (s .state) → P (after s (f x))) → P (after s (withSource (s .source) f))
+    unfolding withSource after Good GoodBy
     needing-after {A} f k = go (s .source) refl g
       where
-        go : (x : Option Source) → s .source ≡ x → GoodBy x (s .state) → P (after s (needing x f))
+        go : (x : Option Source) → s .source ≡ x → GoodBy x (s .state) → P (after s (withSource x f))
         go none e h = p
         go (some x) e h = k x e h
 
@@ -139,11 +139,11 @@ module _ (P : Session → Type 0) (s : Session) (p : P s) where
     unfolding finishWithEntryPoints
     finish-with-after room n =
         needing-after _ λ x q k.
-        ringless-after (ringing (calleesOf (x .image .entries)) (x .image) (s .state)) _ λ e.
+        ringless-after (meetsRing (calleesOf (x .image .entries)) (x .image) (s .state)) _ λ e.
         ending-after (withEntries x (s .state)) room n
 
     -- what an import takes over is a next state
-    module _ (next : (x : Source) (r : St) → Set x (s .state) → Next (x .image) (s .state) r → P (record { source = some x; state = r })) where
+    module _ (next : (x : Source) (r : Derived) → Set x (s .state) → Next (x .image) (s .state) r → P (record { source = some x; state = r })) where
       pub import-after : (t : Tab) (n : ℕ) → P (after s (importing t n s))
       unfolding importing
       import-after t n =
@@ -164,7 +164,7 @@ module _ (P : Session → Type 0) (s : Session) (p : P s) where
       function-after n =
           needing-after _ λ x q k.
           ranged-after n (length (x .image .functions)) _ λ l.
-          ringless-after (ringing (n ∷ callees (function (x .image) n)) (x .image) (s .state)) _ λ e.
+          ringless-after (meetsRing (n ∷ callees (function (x .image) n)) (x .image) (s .state)) _ λ e.
           kept-after x _ _ (next x _ k (function-next (x .image) (k .well) (k .passes) (x .offset) n (s .state) l e (k .holds)))
 
       pub handle-after : (n : ℕ) → P (after s (mapFunctionHandle n s))
@@ -172,7 +172,7 @@ module _ (P : Session → Type 0) (s : Session) (p : P s) where
       handle-after n =
           needing-after _ λ x q k.
           ranged-after n (length (x .image .functions)) _ λ l.
-          ringless-after (ringing (n ∷ []) (x .image) (s .state)) _ λ e.
+          ringless-after (meetsRing (n ∷ []) (x .image) (s .state)) _ λ e.
           kept-after x _ _ (next x _ k (from-next (handle-from (x .image) (k .well) (k .passes) (x .offset) n (s .state) l e (k .holds))))
 
 -- ---- each operation keeps it
@@ -188,7 +188,7 @@ pub set-good : (s : Session) → Good s → (o : ℕ) (m : Module) → WellForme
 unfolding Good GoodBy
 set-good s g o m w p = let h = good-holds (s .source) (s .state) g in record { well = w; passes = p; holds = sourced-holds m w p o (h .0) (s .state) (h .1) }
 
-next-good : (s : Session) (x : Source) (r : St) → Set x (s .state) → Next (x .image) (s .state) r → Good (record { source = some x; state = r })
+next-good : (s : Session) (x : Source) (r : Derived) → Set x (s .state) → Next (x .image) (s .state) r → Good (record { source = some x; state = r })
 unfolding Good GoodBy
 next-good s x r k n = record { well = k .well; passes = k .passes; holds = n .holds }
 
@@ -219,23 +219,23 @@ pub record Newly (s : Session) (o : ℕ) (ws : List ℕ) (r : Session) : Type 0 
   pub is : r ≡ record { source = some (record { image = image; offset = o }); state = sourced o image (s .state) }
 
 pub set-answered : (bytes : ℕ) (ws : List ℕ) (o : ℕ) (s : Session) (v : Unit {0}) (r : Session) → set bytes ws o s ≡ answered v r → Newly s o ws r
-unfolding set setting kept
+unfolding set onWords afterIntake ofLaid setModule unlessFull
 set-answered bytes ws o s v r h = go (intakeOf bytes ws) refl (read ws) refl h
   where
     taken-over : (m : Module) → read ws ≡ laid m → WellFormed m → Passes m → (b : Bool) → (let a : Answer (Unit {0}) = elim b [ true ↦ refused 21 | false ↦ answered tt (record { source = some (record { image = m; offset = o }); state = sourced o m (s .state) }) ] in a) ≡ answered v r → Newly s o ws r
     taken-over m q w p true h = let z : _≡_ {A = ℕ} 0 1 = cc in absurd (omega arith)
     taken-over m q w p false h = record { image = m; reads = q; well = w; passes = p; is = cc }
 
-    go : (n : ℕ) → intakeOf bytes ws ≡ n → (x : Laid Module) → read ws ≡ x → (let a : Answer (Unit {0}) = elim n [ zero ↦ setting x o s | suc n ↦ refused (suc n) ] in a) ≡ answered v r → Newly s o ws r
+    go : (n : ℕ) → intakeOf bytes ws ≡ n → (x : Laid Module) → read ws ≡ x → (let a : Answer (Unit {0}) = elim n [ zero ↦ ofLaid (setModule o s) refused x | suc n ↦ refused (suc n) ] in a) ≡ answered v r → Newly s o ws r
     go zero e (laid m) q h = taken-over m q (read-well ws m q) (intake-passes bytes ws m e q) (tooLarge (finished (sourced o m (s .state)) [])) h
     go zero e bad q h = let z : _≡_ {A = ℕ} 0 1 = cc in absurd (omega arith)
     go zero e strange q h = let z : _≡_ {A = ℕ} 0 1 = cc in absurd (omega arith)
     go (suc n) e x q h = let z : _≡_ {A = ℕ} 0 1 = cc in absurd (omega arith)
 
 -- ---- WHAT IS WRITTEN
--- what `ending` answers is the module's words
-ended : (m : Module) (room : ℕ) (ws : List ℕ) (r : Session) → ending m room ≡ answered ws r → (tooLarge m ≡ false) × (write m ≡ ws)
-unfolding ending
+-- what `writeIfFits` answers is the module's words
+ended : (m : Module) (room : ℕ) (ws : List ℕ) (r : Session) → writeIfFits m room ≡ answered ws r → (tooLarge m ≡ false) × (write m ≡ ws)
+unfolding writeIfFits
 ended m room ws r h = go (tooLarge m) (ltb room (4 * length (write m))) refl h
   where
     go : (b c : Bool) → tooLarge m ≡ b → (let v : Answer (List ℕ) = elim b [ true ↦ refused 21 | false ↦ elim c [ true ↦ refused 7 | false ↦ answered (write m) new ] ] in v) ≡ answered ws r → (tooLarge m ≡ false) × (write m ≡ ws)
@@ -253,11 +253,11 @@ finish-written s g room ws r e =
     let a = ended (finished (s .state) []) room ws r e in
     written-as (a .1) (all-written (h .1) each-none (a .0))
 
-pub finish-with-written : (x : Source) (s : St) → Set x s → (room : ℕ) (ws : List ℕ) (r : Session) → finishWithEntryPoints room (record { source = some x; state = s }) ≡ answered ws r → Written (withEntries x s) ws
-unfolding finishWithEntryPoints needing withEntries
-finish-with-written x s k room ws r h = go (ringing (calleesOf (x .image .entries)) (x .image) s) refl h
+pub finish-with-written : (x : Source) (s : Derived) → Set x s → (room : ℕ) (ws : List ℕ) (r : Session) → finishWithEntryPoints room (record { source = some x; state = s }) ≡ answered ws r → Written (withEntries x s) ws
+unfolding finishWithEntryPoints withSource withEntries
+finish-with-written x s k room ws r h = go (meetsRing (calleesOf (x .image .entries)) (x .image) s) refl h
   where
-    go : (b : Bool) → ringing (calleesOf (x .image .entries)) (x .image) s ≡ b → (let v : Answer (List ℕ) = elim b [ true ↦ refused 22 | false ↦ ending (withEntries x s) room ] in v) ≡ answered ws r → Written (withEntries x s) ws
+    go : (b : Bool) → meetsRing (calleesOf (x .image .entries)) (x .image) s ≡ b → (let v : Answer (List ℕ) = elim b [ true ↦ refused 22 | false ↦ writeIfFits (withEntries x s) room ] in v) ≡ answered ws r → Written (withEntries x s) ws
     go true e h = let z : _≡_ {A = ℕ} 0 1 = cc in absurd (omega arith)
     go false e h =
         let a = ended (withEntries x s) room ws r h in
@@ -269,7 +269,7 @@ pub finish-origins : (s : Session) → Good s → Origins (s .state) (finished (
 unfolding Good
 finish-origins s g = all-origins (good-holds (s .source) (s .state) g .1) each-none
 
-pub finish-with-origins : (x : Source) (s : St) → Set x s → ringing (calleesOf (x .image .entries)) (x .image) s ≡ false → Origins (enterAll (x .image .entries) (x .offset) (x .image) s) (withEntries x s)
+pub finish-with-origins : (x : Source) (s : Derived) → Set x s → meetsRing (calleesOf (x .image .entries)) (x .image) s ≡ false → Origins (enterAll (x .image .entries) (x .offset) (x .image) s) (withEntries x s)
 unfolding withEntries
 finish-with-origins x s k e =
     let i = all-entered (x .image) (k .well) (k .passes) (x .offset) s (entries-sound (x .image) (k .well) (k .passes) (x .offset) s e) s (holds-from (k .holds)) in

@@ -1,4 +1,4 @@
--- RENAMED TYPES: the source in which a type bears another name is well formed as the source is, so an import from it keeps what an import keeps. Its counts and its names are the source's.
+-- RENAMED TYPES: the source in which a type has another name is well formed as the source is, so an import from it keeps what an import keeps. Its counts and its names are the source's.
 use mathlib.Core.Path.{_≡_, refl, sym, ap, subst, _∙_}
 use mathlib.Core.Logic.{_⊎_, inl, inr}
 use mathlib.Core.Bool.{true}
@@ -15,10 +15,11 @@ use Rattle.model.specs.Module.{Module}
 use Rattle.model.specs.Carry.{Lays, lays-next, WellFormed}
 use Rattle.model.specs.Intake.{Passes}
 use Rattle.model.specs.Tables.{Tab, names, types, exprs, codeT, isT, at, Tables, tables, recAt, count, mapAt}
-use Rattle.model.specs.References.{table, Node, node, refOf, refs, target, targets, seat}
-use Rattle.model.specs.Imports.{St, importT, rename, renamed}
+use Rattle.model.specs.References.{table, Node, node, refOf, refs, target, targets, indexOf}
+use Rattle.model.specs.Imports.{Derived, importT, rename, renamed}
 use Rattle.theory_image.specs.Plain.{plain-more}
 use Rattle.theory_image.specs.Quiet.{each-map}
+use Rattle.theory_image.specs.Members.{each-at}
 use Rattle.theory_records.specs.TableLaws.{Tab-dec, at-same, at-other, apart}
 use Rattle.theory_records.specs.RecordLaws.{All, all-map, rest-of}
 use Rattle.theory_records.specs.Well.{home, type-name, InitLow, Good, WF}
@@ -30,7 +31,6 @@ use Rattle.theory_records.specs.Tested.{tested-wf}
 use Rattle.theory_records.specs.Imported.{Kept}
 use Rattle.theory_bodies.specs.Context.{Grown}
 use Rattle.theory_bodies.specs.Lawful as Lawful
-use Rattle.theory_finish.specs.Finished.{each-at}
 use Rattle.theory_finish.specs.Known as Known
 use Rattle.theory_finish.specs.Known.{Copied, name-copied, nameTable, import-follows}
 use Rattle.theory_finish.specs.Counting.{type-functions}
@@ -177,27 +177,27 @@ module _ (m : Module) (well : WellFormed m) (ok : Passes m) (o n name : ℕ) (in
   unfolding recAt
   same-name k = ap (λ (l : List Cells). getD l k []) (same-names S n name in-types in-names source-fit)
 
-  -- name k is mapped to the seat of these words
-  abbrev Seated : St → ℕ → Cells → Type 0
-  Seated s k w = (mapAt (s .maps) names k ≡ suc (seat (nameTable s) w)) × (seat (nameTable s) w < length (nameTable s))
+  -- name k is mapped to the place of these words
+  abbrev Seated : Derived → ℕ → Cells → Type 0
+  Seated s k w = (mapAt (s .maps) names k ≡ suc (indexOf (nameTable s) w)) × (indexOf (nameTable s) w < length (nameTable s))
 
   -- to the renamed source and back
-  pub sized-to : (s : St) → Sized S s → Sized S′ s
+  pub sized-to : (s : Derived) → Sized S s → Sized S′ s
   unfolding Sized
   sized-to s z u = z u ∙ sym (counts u)
 
-  sized-back : (s : St) → Sized S′ s → Sized S s
+  sized-back : (s : Derived) → Sized S′ s → Sized S s
   unfolding Sized
   sized-back s z u = z u ∙ counts u
 
-  follows-to : {a s : St} → Known.Follows S a s → Known.Follows S′ a s
+  follows-to : {a s : Derived} → Known.Follows S a s → Known.Follows S′ a s
   follows-to {a} {s} f = record { sized = sized-to s (f .sized); seats = f .seats; mapped = f .mapped; sound = λ k h l. subst (Seated s k) (sym (same-name k)) (f .sound k h (rw (counts names) at l)); borne = f .borne }
 
-  follows-back : {a s : St} → Known.Follows S′ a s → Known.Follows S a s
+  follows-back : {a s : Derived} → Known.Follows S′ a s → Known.Follows S a s
   follows-back {a} {s} f = record { sized = sized-back s (f .sized); seats = f .seats; mapped = f .mapped; sound = λ k h l. subst (Seated s k) (same-name k) (f .sound k h (rw (counts names) l)); borne = f .borne }
 
-  module _ (s : St) (f : From m s s) where
-    abbrev r : St
+  module _ (s : Derived) (f : From m s s) where
+    abbrev r : Derived
     r = importT o S′ types n s
 
     pub renamed-trace : Trace o S′ s r × (0 < mapAt (r .maps) types n)

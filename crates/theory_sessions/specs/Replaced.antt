@@ -1,4 +1,4 @@
--- WHERE A MAPPING IS MADE BY HAND: a special type whose place or key is taken is mapped to what was derived for it, whatever mapping it had, and a renamed type to a record that bears another name. Every other number that is mapped is mapped to its source's record, carried through the maps as they were; these are the maps as they are, but for references to types that were mapped by hand.
+-- WHERE A MAPPING IS MADE BY HAND: a special type whose place or key is taken is mapped to what was derived for it, whatever mapping it had, and a renamed type to a record that has another name. Every other number that is mapped is mapped to its source's record, carried through the maps as they were; these are the maps as they are, but for references to types that were mapped by hand.
 use mathlib.Core.Path.{_≡_, refl, sym, ap, subst, _∙_}
 use mathlib.Core.Logic.{_⊎_, inl, inr, ⊎-elim}
 use mathlib.Core.Bool.{false}
@@ -13,7 +13,7 @@ use Rattle.model.specs.Carry.{carryCells}
 use Rattle.model.specs.Initial.{Mem}
 use Rattle.model.specs.Tables.{Tab, names, types, constants, overrides, globals, exprs, codeT, isT, at, Tables, recAt, count, mapAt}
 use Rattle.model.specs.References.{Place, table, own, function, Node, refs, through}
-use Rattle.model.specs.Imports.{St, made, commit, wentT}
+use Rattle.model.specs.Imports.{Derived, made, commit, mappedToT}
 use Rattle.model.specs.Special.{force}
 use Rattle.theory_records.specs.TableLaws.{Tab-dec, at-same, at-other, apart}
 use Rattle.theory_records.specs.RecordLaws.{All, all-map, all-both, Has, bare, bare-shift, carry-same, kept, kept-at}
@@ -43,19 +43,19 @@ hand-more hs ks f globals n h = h
 hand-more hs ks f exprs n h = h
 
 -- number n of table t: its derived record is the source's, carried through the maps as they were, whose numbers are in range
-pub record Came (hs : List ℕ) (T : Tables) (s : St) (t : Tab) (n : ℕ) : Type 0 where
+pub record Came (hs : List ℕ) (T : Tables) (s : Derived) (t : Tab) (n : ℕ) : Type 0 where
   pub was : Place → ℕ → ℕ
   pub alike : bare (recAt (s .recs) t (pred (mapAt (s .maps) t n))) ≡ bare (carryCells (through was) (recAt T t n))
   pub closed : All (Has was) (refs (recAt T t n))
   pub ranged : All (λ j. was (j .place) (j .num) ≤ count (s .recs) (home (j .place))) (refs (recAt T t n))
   -- they are the maps as they are, but for references to types that were mapped by hand
-  pub now : All (λ j. (wentT s (j .place) (j .num) ≡ was (j .place) (j .num)) ⊎ HandP hs (j .place) (j .num)) (refs (recAt T t n))
+  pub now : All (λ j. (mappedToT s (j .place) (j .num) ≡ was (j .place) (j .num)) ⊎ HandP hs (j .place) (j .num)) (refs (recAt T t n))
 
-unfoldable pub SoundBut : List ℕ → Tables → St → Type 0
+unfoldable pub SoundBut : List ℕ → Tables → Derived → Type 0
 SoundBut hs T s = (t : Tab) (n : ℕ) → 0 < mapAt (s .maps) t n → Hand hs t n ⊎ Came hs T s t n
 
 -- ---- a later state
-came-stays : (hs : List ℕ) (T : Tables) (s r : St) (t : Tab) (n : ℕ) → mapAt (s .maps) t n ≤ count (s .recs) t → Grows (s .recs) (r .recs) → Keeps s r → 0 < mapAt (s .maps) t n → Came hs T s t n → Came hs T r t n
+came-stays : (hs : List ℕ) (T : Tables) (s r : Derived) (t : Tab) (n : ℕ) → mapAt (s .maps) t n ≤ count (s .recs) t → Grows (s .recs) (r .recs) → Keeps s r → 0 < mapAt (s .maps) t n → Came hs T s t n → Came hs T r t n
 unfolding Keeps
 came-stays hs T s r t n in-s g k h c = record {
   was = c .was;
@@ -66,7 +66,7 @@ came-stays hs T s r t n in-s g k h c = record {
 }
 
 -- more numbers
-pub but-more : (hs ks : List ℕ) (T : Tables) (s : St) → ((n : ℕ) → Mem n hs → Mem n ks) → SoundBut hs T s → SoundBut ks T s
+pub but-more : (hs ks : List ℕ) (T : Tables) (s : Derived) → ((n : ℕ) → Mem n hs → Mem n ks) → SoundBut hs T s → SoundBut ks T s
 unfolding SoundBut
 but-more hs ks T s f b t n h = ⊎-elim (λ q. inl (hand-more hs ks f t n q)) (λ c. inr (more c)) (b t n h)
   where
@@ -80,7 +80,7 @@ but-more hs ks T s f b t n h = ⊎-elim (λ q. inl (hand-more hs ks f t n q)) (�
     }
 
 -- the same tables and maps
-pub but-same : (hs : List ℕ) (T : Tables) (s r : St) → r .recs ≡ s .recs → r .maps ≡ s .maps → Inside s → SoundBut hs T s → SoundBut hs T r
+pub but-same : (hs : List ℕ) (T : Tables) (s r : Derived) → r .recs ≡ s .recs → r .maps ≡ s .maps → Inside s → SoundBut hs T s → SoundBut hs T r
 unfolding SoundBut Inside
 but-same hs T s r p q i b t n h =
     let w : 0 < mapAt (s .maps) t n = rw q at h in
@@ -90,12 +90,12 @@ but-same hs T s r p q i b t n h =
     keeps = unfold Keeps in λ u k l. rw q refl
 
 -- with a new source nothing is mapped
-pub but-none : (hs : List ℕ) (T : Tables) (s : St) → ((t : Tab) (n : ℕ) → mapAt (s .maps) t n ≡ 0) → SoundBut hs T s
+pub but-none : (hs : List ℕ) (T : Tables) (s : Derived) → ((t : Tab) (n : ℕ) → mapAt (s .maps) t n ≡ 0) → SoundBut hs T s
 unfolding SoundBut
 but-none hs T s z t n h = absurd (omega (arith, z t n))
 
-went-in : (s : St) → Inside s → (p : Place) (n : ℕ) → wentT s p n ≤ count (s .recs) (home p)
-unfolding wentT home Inside
+went-in : (s : Derived) → Inside s → (p : Place) (n : ℕ) → mappedToT s p n ≤ count (s .recs) (home p)
+unfolding mappedToT home Inside
 went-in s i (table t) n = i t n
 went-in s i own n = i exprs n
 went-in s i function n = omega arith
@@ -106,7 +106,7 @@ all-any (j ∷ js) f = (f j, all-any js f)
 
 -- ---- a commit from a source that has the records of T but for those types
 module _ (hs : List ℕ) (o : ℕ) (T S : Tables) (agree : (t : Tab) (n : ℕ) → Hand hs t n ⊎ (recAt S t n ≡ recAt T t n)) where
-  pub commit-but : (s : St) (t : Tab) (n : ℕ) → Ready S s t n → Inside s → SoundBut hs T s → SoundBut hs T (commit o S t n s)
+  pub commit-but : (s : Derived) (t : Tab) (n : ℕ) → Ready S s t n → Inside s → SoundBut hs T s → SoundBut hs T (commit o S t n s)
   unfolding SoundBut Keeps commit recAt count Inside
   commit-but s t n rd I b =
       node-cases (λ u k. 0 < mapAt ((commit o S t n s) .maps) u k → Hand hs u k ⊎ Came hs T (commit o S t n s) u k) t n (λ h. ⊎-elim (λ x. inl x) (λ e. inr (new e)) (agree t n))
@@ -125,18 +125,18 @@ module _ (hs : List ℕ) (o : ℕ) (T S : Tables) (agree : (t : Tab) (n : ℕ) �
 
       new : recAt S t n ≡ recAt T t n → Came hs T (commit o S t n s) t n
       new e = record {
-        was = wentT s;
-        alike = rw (settle-here t n c s (rd .room), settle-at t n c s) (kept-at (kept c (at t (s .recs))) ∙ made-bare ∙ ap (λ (r : Cells). bare (carryCells (through (wentT s)) r)) e);
-        closed = subst (λ (r : Cells). All (Has (wentT s)) (refs r)) e (rd .refsIn);
+        was = mappedToT s;
+        alike = rw (settle-here t n c s (rd .room), settle-at t n c s) (kept-at (kept c (at t (s .recs))) ∙ made-bare ∙ ap (λ (r : Cells). bare (carryCells (through (mappedToT s)) r)) e);
+        closed = subst (λ (r : Cells). All (Has (mappedToT s)) (refs r)) e (rd .refsIn);
         ranged = all-any (refs (recAt T t n)) (λ j. le-trans (went-in s I (j .place) (j .num)) (G .longer (home (j .place))));
-        now = all-map (refs (recAt T t n)) (λ j h. inl (keeps-went s (commit o S t n s) K (j .place) (j .num) h)) (subst (λ (r : Cells). All (Has (wentT s)) (refs r)) e (rd .refsIn));
+        now = all-map (refs (recAt T t n)) (λ j h. inl (keeps-went s (commit o S t n s) K (j .place) (j .num) h)) (subst (λ (r : Cells). All (Has (mappedToT s)) (refs r)) e (rd .refsIn));
       }
         where
-          made-bare : bare c ≡ bare (carryCells (through (wentT s)) (recAt S t n))
-          made-bare = unfold made in bare-shift (carryCells (through (wentT s)) (recAt S t n)) o false
+          made-bare : bare c ≡ bare (carryCells (through (mappedToT s)) (recAt S t n))
+          made-bare = unfold made in bare-shift (carryCells (through (mappedToT s)) (recAt S t n)) o false
 
 -- ---- a type that is mapped by hand
-module _ (hs : List ℕ) (T : Tables) (n v : ℕ) (s : St) where
+module _ (hs : List ℕ) (T : Tables) (n v : ℕ) (s : Derived) where
   force-other : (u : Tab) (k : ℕ) → Other types n u k → mapAt ((force n v s) .maps) u k ≡ mapAt (s .maps) u k
   unfolding force mapAt Other
   force-other u k a =
@@ -145,9 +145,9 @@ module _ (hs : List ℕ) (T : Tables) (n v : ℕ) (s : St) where
         | no p ↦ rw (at-other types u (set (at types (s .maps)) n v) (s .maps) p) refl
       ]
 
-  -- where a reference went stays, or it is to that type
-  force-went : Mem n hs → (p : Place) (k : ℕ) → (wentT (force n v s) p k ≡ wentT s p k) ⊎ HandP hs p k
-  unfolding wentT home Other
+  -- what a reference is mapped to stays, or it is to that type
+  force-went : Mem n hs → (p : Place) (k : ℕ) → (mappedToT (force n v s) p k ≡ mappedToT s p k) ⊎ HandP hs p k
+  unfolding mappedToT home Other
   force-went m (table u) k = node-cases (λ u k. (mapAt ((force n v s) .maps) u k ≡ mapAt (s .maps) u k) ⊎ Hand hs u k) types n (inr (unfold Hand in m)) (λ u k a. inl (force-other u k a)) u k
   force-went m own k = inl (force-other exprs k (λ p q. unfold isT codeT in apart exprs types refl p))
   force-went m function k = inl refl
@@ -177,7 +177,7 @@ no-hand overrides n h = h
 no-hand globals n h = h
 no-hand exprs n h = h
 
-pub sound-all : (T : Tables) (s : St) → SoundBut [] T s → Sound T s
+pub sound-all : (T : Tables) (s : Derived) → SoundBut [] T s → Sound T s
 unfolding SoundBut Sound
 sound-all T s b t n h = ⊎-elim (λ q. absurd (no-hand t n q)) (λ c. entry c) (b t n h)
   where
@@ -185,6 +185,6 @@ sound-all T s b t n h = ⊎-elim (λ q. absurd (no-hand t n q)) (λ c. entry c) 
     entry c =
         let e = all-map (refs (recAt T t n)) (λ j q. ⊎-elim (λ z. z) (λ z. absurd (no-hand (home (j .place)) (j .num) z)) q) (c .now) in
         record {
-          alike = rw (carry-same (c .was) (wentT s) (recAt T t n) e) (c .alike);
+          alike = rw (carry-same (c .was) (mappedToT s) (recAt T t n) e) (c .alike);
           closed = all-both (refs (recAt T t n)) (λ j q w. rw q w) e (c .closed);
         }

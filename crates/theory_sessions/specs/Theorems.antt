@@ -11,10 +11,10 @@ use Rattle.model.specs.Module.{Module}
 use Rattle.model.specs.Names.{distinct, functionNames, named}
 use Rattle.model.specs.Callees.{callees}
 use Rattle.model.specs.Redirect.{function}
-use Rattle.model.specs.Imports.{St, once, importT, renamed}
-use Rattle.model.specs.Bodies.{known, append, followF, follow, went, enterAll}
+use Rattle.model.specs.Imports.{Derived, unlessMapped, importT, renamed}
+use Rattle.model.specs.Bodies.{known, append, followF, follow, mappedTo, enterAll}
 use Rattle.model.specs.Finish.{finished}
-use Rattle.model.specs.Session.{Source, Session, Answer, answered, refused, after, new, ringing, set, importing, renameType, importFunction, mapFunctionHandle, hasRequiredSpecialTypes, finish, calleesOf, withEntries, finishWithEntryPoints}
+use Rattle.model.specs.Session.{Source, Session, Answer, answered, refused, after, new, meetsRing, set, importing, renameType, importFunction, mapFunctionHandle, hasRequiredSpecialTypes, finish, calleesOf, withEntries, finishWithEntryPoints}
 use Rattle.theory_walks.specs.Agreement.{Carries}
 use Rattle.theory_records.specs.Trace.{Keeps}
 use Rattle.theory_records.specs.Theorems.{Distinct, Base, Sound}
@@ -56,26 +56,26 @@ source-set s g x e = by-source (s .source) e g
     by-source y e h = subst (λ (z : Option Source). GoodBy z (s .state)) e h
 
 -- ---- 1. CALLS ARE FOLLOWED, whatever is known, where 22 is not met
--- `follow` does what the import of a body asks of it, for all functions that have heights
-pub followed : (x : Source) (s : St) → Set x s → Lawful.Follows (x .offset) (x .image) (follow (x .offset) (x .image)) (λ j. Low (unknowns (x .image) s) (x .image) s j) (From (x .image) s)
+-- `follow` does what the import of a body requires of it, for all functions that have heights
+pub followed : (x : Source) (s : Derived) → Set x s → Lawful.Follows (x .offset) (x .image) (follow (x .offset) (x .image)) (λ j. Low (unknowns (x .image) s) (x .image) s j) (From (x .image) s)
 followed x s k = Holding.follow-follows (x .image) (k .well) (k .passes) (x .offset) s
 
--- the bound on nesting plays no part: each that is no less than the number of unknown names does the same
-pub fuel-removed : (x : Source) (s : St) → Set x s → (n : ℕ) → n < length (x .image .functions) → ringing (n ∷ []) (x .image) s ≡ false → (k : ℕ) → unknowns (x .image) s ≤ k
+-- the bound on nesting does not matter: each that is no less than the number of unknown names does the same
+pub fuel-removed : (x : Source) (s : Derived) → Set x s → (n : ℕ) → n < length (x .image .functions) → meetsRing (n ∷ []) (x .image) s ≡ false → (k : ℕ) → unknowns (x .image) s ≤ k
     → followF k (x .offset) (x .image) n s ≡ follow (x .offset) (x .image) n s
 fuel-removed x s k n l e = Depth.fuel-removed (x .image) (k .well) (k .passes) (x .offset) s (k .holds) n l e
 
 -- and so it is with import_function
-pub function-fuel : (x : Source) (s : St) → Set x s → (n : ℕ) → n < length (x .image .functions) → ringing (n ∷ callees (function (x .image) n)) (x .image) s ≡ false → (k : ℕ) → unknowns (x .image) s ≤ k
+pub function-fuel : (x : Source) (s : Derived) → Set x s → (n : ℕ) → n < length (x .image .functions) → meetsRing (n ∷ callees (function (x .image) n)) (x .image) s ≡ false → (k : ℕ) → unknowns (x .image) s ≤ k
     → append (x .offset) (x .image) (followF k (x .offset) (x .image)) n s ≡ append (x .offset) (x .image) (follow (x .offset) (x .image)) n s
 function-fuel x s k n l e = Depth.function-fuel (x .image) (k .well) (k .passes) (x .offset) s (k .holds) n l e
 
 -- the equation without it
-pub follow-is : (x : Source) (s : St) → Set x s → (n : ℕ) → n < length (x .image .functions) → ringing (n ∷ []) (x .image) s ≡ false
-    → follow (x .offset) (x .image) n s ≡ once (known (x .image) s n) (λ z. append (x .offset) (x .image) (follow (x .offset) (x .image)) n s) s
+pub follow-is : (x : Source) (s : Derived) → Set x s → (n : ℕ) → n < length (x .image .functions) → meetsRing (n ∷ []) (x .image) s ≡ false
+    → follow (x .offset) (x .image) n s ≡ unlessMapped (known (x .image) s n) (λ z. append (x .offset) (x .image) (follow (x .offset) (x .image)) n s) s
 follow-is x s k n l e = Depth.follow-is (x .image) (k .well) (k .passes) (x .offset) s (k .holds) n l e
 
--- ---- 2. WHAT IS WRITTEN is read back and passes tests 1 to 4 and 6, and 5 unless a function's name stands twice (`Written`)
+-- ---- 2. WHAT IS WRITTEN is read back and passes tests 1 to 4 and 6, and 5 unless two functions have one name (`Written`)
 pub written : (ps : List Operation) (room : ℕ) (ws : List ℕ) (r : Session) → finish room (run ps new) ≡ answered ws r → Written (finished (run ps new .state) []) ws
 written ps = Operating.finish-written (run ps new) (every-state ps)
 
@@ -92,15 +92,15 @@ names-twice s g = Ending.names-finished (Operating.good-holds (s .source) (s .st
 pub origins : (ps : List Operation) → Origins (run ps new .state) (finished (run ps new .state) [])
 origins ps = Operating.finish-origins (run ps new) (every-state ps)
 
-pub origins-with : (x : Source) (s : St) → Set x s → ringing (calleesOf (x .image .entries)) (x .image) s ≡ false → Origins (enterAll (x .image .entries) (x .offset) (x .image) s) (withEntries x s)
+pub origins-with : (x : Source) (s : Derived) → Set x s → meetsRing (calleesOf (x .image .entries)) (x .image) s ≡ false → Origins (enterAll (x .image .entries) (x .offset) (x .image) s) (withEntries x s)
 origins-with = Operating.finish-with-origins
 
 -- so its walks are that function's, carried
-pub walks : {s : St} {f : Function} (p : Origin s f) → (D : Module) (cs : List ℕ) → Carries (mapsOf (went (p .source) (p .under))) (p .function) f (place (p .under .memo)) cs
+pub walks : {s : Derived} {f : Function} (p : Origin s f) → (D : Module) (cs : List ℕ) → Carries (mapsOf (mappedTo (p .source) (p .under))) (p .function) f (place (p .under .memo)) cs
 walks = Following.origin-walks
 
 -- ---- 3. WHAT OPERATIONS LEAVE
--- but for the ends, tables and functions only grow
+-- except by finishing, tables and functions only grow
 pub only-grows : (p : Operation) → ends p ≡ false → (s : Session) → Good s → Grew (s .state) (does p s .state)
 only-grows = Growing.does-grow
 
@@ -108,7 +108,7 @@ only-grows = Growing.does-grow
 pub stays-mapped : (p : Operation) → turns p ≡ false → (s : Session) → Good s → Keeps (s .state) (does p s .state)
 stays-mapped = Growing.does-keep
 
--- no two derived records of a table are equal, spans apart
+-- no two derived records of a table are equal, ignoring spans
 pub records-differ : (ps : List Operation) → Distinct (run ps new .state)
 records-differ ps = Growing.all-distinct (run ps new) (every-state ps)
 
@@ -132,7 +132,7 @@ pub none-taken : (o : ℕ) (m : Module) → named m ≡ true → (s : Session) �
 none-taken = Untaken.none-taken
 
 -- and of any mapping, by hand or not: the derived tables are well formed, no two records are equal, and what is mapped is there
-pub tables-hold : (x : Source) (s : St) → Set x s → Base (tables (x .image)) s
+pub tables-hold : (x : Source) (s : Derived) → Set x s → Base (tables (x .image)) s
 tables-hold x s k = k .holds .typed .kept .base
 
 -- ---- 4. A REFUSAL keeps the session, and every operation answers or refuses
@@ -144,16 +144,16 @@ answered-or-refused = Growing.answered-or-refused
 
 -- ---- 5. WHAT IS ANSWERED
 -- the number of the derived record that the number given is mapped to
-pub import-gives : (x : Source) (s : St) (k : Set x s) → (t : Tab) (n v : ℕ) (q : Session) → importing t n (record { source = some x; state = s }) ≡ answered v q → Gives x s k t n v q (importT (x .offset) (tables (x .image)) t n s)
+pub import-gives : (x : Source) (s : Derived) (k : Set x s) → (t : Tab) (n v : ℕ) (q : Session) → importing t n (record { source = some x; state = s }) ≡ answered v q → Gives x s k t n v q (importT (x .offset) (tables (x .image)) t n s)
 import-gives = Answers.import-gives
 
-pub rename-gives : (x : Source) (s : St) (k : Set x s) → (n name v : ℕ) (q : Session) → renameType n name (record { source = some x; state = s }) ≡ answered v q → Gives x s k types n v q (importT (x .offset) (renamed (tables (x .image)) n name) types n s)
+pub rename-gives : (x : Source) (s : Derived) (k : Set x s) → (n name v : ℕ) (q : Session) → renameType n name (record { source = some x; state = s }) ≡ answered v q → Gives x s k types n v q (importT (x .offset) (renamed (tables (x .image)) n name) types n s)
 rename-gives = Answers.rename-gives
 
 -- the last function, which comes from the one given
-pub function-gives : (x : Source) (s : St) (k : Set x s) → (n v : ℕ) (q : Session) → importFunction n (record { source = some x; state = s }) ≡ answered v q → Appends x s k n v q (append (x .offset) (x .image) (follow (x .offset) (x .image)) n s)
+pub function-gives : (x : Source) (s : Derived) (k : Set x s) → (n v : ℕ) (q : Session) → importFunction n (record { source = some x; state = s }) ≡ answered v q → Appends x s k n v q (append (x .offset) (x .image) (follow (x .offset) (x .image)) n s)
 function-gives = Answers.function-gives
 
--- the function that bears the name of the one given
-pub handle-gives : (x : Source) (s : St) (k : Set x s) → (n v : ℕ) (q : Session) → mapFunctionHandle n (record { source = some x; state = s }) ≡ answered v q → Bears x s k n v q (follow (x .offset) (x .image) n s)
+-- the function that has the name of the one given
+pub handle-gives : (x : Source) (s : Derived) (k : Set x s) → (n v : ℕ) (q : Session) → mapFunctionHandle n (record { source = some x; state = s }) ≡ answered v q → Bears x s k n v q (follow (x .offset) (x .image) n s)
 handle-gives = Answers.handle-gives

@@ -8,28 +8,29 @@ use lib.Dec.{eqb, ltb}
 use lib.ListN.{length, getD}
 use lib.Seq.{getD-set-other}
 use borrow.Author.Tests.{ltb-false, not-true}
+use Rattle.theory_lists.specs.Booleans.{and-split}
 use Rattle.model.specs.Outcome.{Cells, word}
 use Rattle.model.specs.Table.{OPT-TYPE, KEY, TYPE}
 use Rattle.model.specs.Module.{Special, Module}
-use Rattle.model.specs.Names.{field, absent, distinct, present, functionNames, entryNames, functionsNamed, entriesNamed, differ, named}
+use Rattle.model.specs.Names.{field, absent, distinct, named}
 use Rattle.model.specs.Tables.{types, Tables, tables, mapAt}
-use Rattle.model.specs.Imports.{St, importT, unmapped, emptied}
+use Rattle.model.specs.Imports.{Derived, importT, unmapped, emptied}
 use Rattle.model.specs.Special.{withSpecial, putRay, rayTo, ray, rays, keyed, putPair, pairTo, pairs}
 use Rattle.model.specs.Session.{Session, anyRay, hasRequiredSpecialTypes}
-use Rattle.theory_image.specs.Lists.{and-split}
+use Rattle.theory_bodies.specs.Names.{keys-distinct}
 use Rattle.theory_finish.specs.Specials.{import-special}
 use Rattle.theory_finish.specs.Images.{or-false}
 use Rattle.theory_sessions.specs.Mapped.{handIf, handRay, handRays, handPairs, taken}
 
 -- ---- places
-abbrev Open : ℕ → St → Type 0
+abbrev Open : ℕ → Derived → Type 0
 Open k s = (j : ℕ) → k ≤ j → word (getD (s .special .rays) j (0, 0)) ≡ 0
 
-kept-special : (o : ℕ) (T : Tables) (n : ℕ) (s : St) → importT o T types n s .special ≡ s .special
+kept-special : (o : ℕ) (T : Tables) (n : ℕ) (s : Derived) → importT o T types n s .special ≡ s .special
 unfolding importT
 kept-special o T n s = import-special _ o T types n s
 
-ray-open : (w k o : ℕ) (T : Tables) (s : St) → Open k s → Open (suc k) (ray w k o T s) × (ray w k o T s .special .pairs ≡ s .special .pairs) × (handRay w k s ≡ [])
+ray-open : (w k o : ℕ) (T : Tables) (s : Derived) → Open k s → Open (suc k) (ray w k o T s) × (ray w k o T s .special .pairs ≡ s .special .pairs) × (handRay w k s ≡ [])
 unfolding ray handRay
 ray-open zero k o T s f = (λ j l. f j (omega arith), refl, refl)
 ray-open (suc n) k o T s f = go (word (getD (s .special .rays) k (0, 0))) (f k (omega arith))
@@ -42,7 +43,7 @@ ray-open (suc n) k o T s f = go (word (getD (s .special .rays) k (0, 0))) (f k (
     )
     go (suc v) e = absurd (omega arith)
 
-rays-open : (cs : Cells) (k o : ℕ) (T : Tables) (s : St) → Open k s → (rays cs k o T s .special .pairs ≡ s .special .pairs) × (handRays cs k o T s ≡ [])
+rays-open : (cs : Cells) (k o : ℕ) (T : Tables) (s : Derived) → Open k s → (rays cs k o T s .special .pairs ≡ s .special .pairs) × (handRays cs k o T s ≡ [])
 unfolding rays handRays
 rays-open [] k o T s f = (refl, refl)
 rays-open (c ∷ cs) k o T s f = let a = ray-open (word c) k o T s f in let b = rays-open cs (suc k) o T (ray (word c) k o T s) (a .0) in (b .0 ∙ a .1, rw (a .2) (b .1))
@@ -66,7 +67,7 @@ unfolding absent
 free-next ps [] key t a f = tt
 free-next ps (r ∷ rs) key t a f = let b = and-split (not (eqb key (field KEY r))) (absent (map (field KEY) rs) key) a in (keyed-other ps key t (field KEY r) (not-true (eqb key (field KEY r)) (b .0)) (f .0), free-next ps rs key t (b .1) (f .1))
 
-pairs-free : (rs : List Cells) (o : ℕ) (T : Tables) (s : St) → distinct (map (field KEY) rs) ≡ true → Free (s .special .pairs) rs → handPairs rs o T s ≡ []
+pairs-free : (rs : List Cells) (o : ℕ) (T : Tables) (s : Derived) → distinct (map (field KEY) rs) ≡ true → Free (s .special .pairs) rs → handPairs rs o T s ≡ []
 unfolding handPairs distinct handIf
 pairs-free [] o T s d f = refl
 pairs-free (r ∷ rs) o T s d f = go (keyed (s .special .pairs) (field KEY r)) (f .0) (pairs-free rs o T)
@@ -80,7 +81,7 @@ pairs-free (r ∷ rs) o T s d f = go (keyed (s .special .pairs) (field KEY r)) (
     parts : (absent (map (field KEY) rs) key ≡ true) × (distinct (map (field KEY) rs) ≡ true)
     parts = and-split (absent (map (field KEY) rs) key) (distinct (map (field KEY) rs)) d
 
-    go : (v : ℕ) → v ≡ 0 → ((s : St) → distinct (map (field KEY) rs) ≡ true → Free (s .special .pairs) rs → handPairs rs o T s ≡ []) → handIf v n ++ handPairs rs o T (pairTo v key n o T s) ≡ []
+    go : (v : ℕ) → v ≡ 0 → ((s : Derived) → distinct (map (field KEY) rs) ≡ true → Free (s .special .pairs) rs → handPairs rs o T s ≡ []) → handIf v n ++ handPairs rs o T (pairTo v key n o T s) ≡ []
     go zero e ih = ih (pairTo 0 key n o T s) (parts .1) (next (parts .0))
       where
         next : absent (map (field KEY) rs) key ≡ true → Free (pairTo 0 key n o T s .special .pairs) rs
@@ -92,16 +93,6 @@ none-keyed : (rs : List Cells) → Free [] rs
 unfolding keyed
 none-keyed [] = tt
 none-keyed (r ∷ rs) = (refl, none-keyed rs)
-
-keys-distinct : (m : Module) → named m ≡ true → distinct (map (field KEY) (m .special .pairs)) ≡ true
-unfolding named
-keys-distinct m h =
-    let h₁ = and-split (present (functionNames (m .functions))) _ h in
-    let h₂ = and-split (present (entryNames (m .entries))) _ (h₁ .1) in
-    let h₃ = and-split (functionsNamed (m .functions)) _ (h₂ .1) in
-    let h₄ = and-split (entriesNamed (m .entries)) _ (h₃ .1) in
-    let h₅ = and-split (differ (map (map word) (m .names))) _ (h₄ .1) in
-    and-split (distinct (functionNames (m .functions))) _ (h₅ .1) .1
 
 no-ray : (cs : Cells) → anyRay cs ≡ false → (j : ℕ) → word (getD cs j (0, 0)) ≡ 0
 unfolding anyRay
@@ -118,6 +109,6 @@ pub none-taken : (o : ℕ) (m : Module) → named m ≡ true → (s : Session) �
 unfolding taken emptied hasRequiredSpecialTypes
 none-taken o m n s h =
     let a = or-false (ltb 0 (length (s .state .special .pairs))) (anyRay (s .state .special .rays)) h in
-    let e : St = emptied (unmapped (tables m)) (s .state) in
+    let e : Derived = emptied (unmapped (tables m)) (s .state) in
     let b = rays-open (m .special .rays) 0 o (tables m) e (λ j l. no-ray (s .state .special .rays) (a .1) j) in
     rw (b .1) (pairs-free (m .special .pairs) o (tables m) (rays (m .special .rays) 0 o (tables m) e) (keys-distinct m n) (rw (b .0, no-pairs (s .state .special .pairs) (a .0)) (none-keyed (m .special .pairs))))

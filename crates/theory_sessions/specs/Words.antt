@@ -8,21 +8,21 @@ use native.Mathlib.Omega.{arith}
 use lib.Dec.{eqb, leb}
 use lib.ListN.{length, getD, set as setAt}
 use borrow.Author.Tests.{eqb-true}
+use Rattle.theory_lists.specs.Booleans.{and-split}
 use Rattle.base_words.specs.Words.{AllBelow, wordsOf}
 use Rattle.base_words.proofs.Laws.{length-wordsOf, words-below}
 use Rattle.model.specs.Outcome.{Cells, Laid, laid, bad, strange}
 use Rattle.model.specs.Module.{Module, read, sized}
 use Rattle.model.specs.Carry.{Each, each-none, each-next}
-use Rattle.model.specs.Intake.{intakeOf}
+use Rattle.model.specs.Intake.{intakeOf, ofLaid, afterIntake, onWords}
 use Rattle.model.specs.Callees.{callees}
 use Rattle.model.specs.Redirect.{function}
 use Rattle.model.specs.Tables.{Tab, names, types, at, upd, Tables, tables, recAt, count}
-use Rattle.model.specs.Imports.{St, rename, renamed, emptied}
+use Rattle.model.specs.Imports.{Derived, rename, renamed, emptied}
 use Rattle.model.specs.Special.{sourced}
 use Rattle.model.specs.Bodies.{follow}
 use Rattle.model.specs.Finish.{finished}
-use Rattle.model.specs.Session.{Source, Session, Answer, answered, refused, after, new, ringing, setting, set, clear, importing, renameType, importFunction, mapFunctionHandle, finish, withEntries, finishWithEntryPoints}
-use Rattle.theory_image.specs.Lists.{and-split}
+use Rattle.model.specs.Session.{Source, Session, Answer, answered, refused, after, new, meetsRing, setModule, set, clear, importing, renameType, importFunction, mapFunctionHandle, finish, withEntries, finishWithEntryPoints}
 use Rattle.theory_records.specs.TableLaws.{Tab-dec, at-same, at-other}
 use Rattle.theory_finish.specs.Small.{Small, Rows, SmallModule, SmallState, at-row, import-small, append-small, follow-small, enter-small, entries-small, sourced-small, fresh-small, finished-small}
 use Rattle.theory_finish.specs.Words.{read-small, written-words}
@@ -67,7 +67,7 @@ pub record SmallSession (s : Session) : Type 0 where
   pub in-source : SmallBy (s .source)
   pub in-state : SmallState (s .state)
 
-with-source : (x : Source) (r : St) → SmallModule (x .image) → SmallState r → SmallSession (record { source = some x; state = r })
+with-source : (x : Source) (r : Derived) → SmallModule (x .image) → SmallState r → SmallSession (record { source = some x; state = r })
 unfolding SmallBy
 with-source x r m k = record { in-source = m; in-state = k }
 
@@ -108,10 +108,10 @@ rename-tables T n name l h u = go (Tab-dec types u)
 -- ---- EVERY OPERATION KEEPS IT
 module _ (s : Session) (g : Good s) (k : SmallSession s) where
   set-small : (bytes : ℕ) (ws : List ℕ) (o : ℕ) → Given bytes ws → SmallSession (after s (set bytes ws o s))
-  unfolding set setting after
+  unfolding set onWords afterIntake ofLaid setModule after
   set-small bytes ws o h = go (intakeOf bytes ws) refl (read ws) refl
     where
-      go : (n : ℕ) → intakeOf bytes ws ≡ n → (r : Laid Module) → read ws ≡ r → SmallSession (after s (let v : Answer (Unit {0}) = elim n [ zero ↦ setting r o s | suc n ↦ refused (suc n) ] in v))
+      go : (n : ℕ) → intakeOf bytes ws ≡ n → (r : Laid Module) → read ws ≡ r → SmallSession (after s (let v : Answer (Unit {0}) = elim n [ zero ↦ ofLaid (setModule o s) refused r | suc n ↦ refused (suc n) ] in v))
       go zero e (laid m) q =
           let x : SmallModule m = read-small bytes ws m e q (h .whole e) (h .below) in
           kept-after SmallSession s k (record { image = m; offset = o }) (sourced o m (s .state)) tt (with-source _ _ x (sourced-small o m x (s .state) (k .in-state)))
@@ -140,7 +140,7 @@ module _ (s : Session) (g : Good s) (k : SmallSession s) where
   functions-small n =
       needing-after SmallSession s k g _ λ x q y.
       ranged-after SmallSession s k n (length (x .image .functions)) _ λ l.
-      ringless-after SmallSession s k (ringing (n ∷ callees (function (x .image) n)) (x .image) (s .state)) _ λ e.
+      ringless-after SmallSession s k (meetsRing (n ∷ callees (function (x .image) n)) (x .image) (s .state)) _ λ e.
       let m = source-of s k x q in
       kept-after SmallSession s k x _ _ (with-source x _ m (append-small (x .offset) (x .image) m (follow (x .offset) (x .image)) (follow-small (x .offset) (x .image) m) n (s .state) (k .in-state)))
 
@@ -149,7 +149,7 @@ module _ (s : Session) (g : Good s) (k : SmallSession s) where
   handles-small n =
       needing-after SmallSession s k g _ λ x q y.
       ranged-after SmallSession s k n (length (x .image .functions)) _ λ l.
-      ringless-after SmallSession s k (ringing (n ∷ []) (x .image) (s .state)) _ λ e.
+      ringless-after SmallSession s k (meetsRing (n ∷ []) (x .image) (s .state)) _ λ e.
       let m = source-of s k x q in
       kept-after SmallSession s k x _ _ (with-source x _ m (follow-small (x .offset) (x .image) m n (s .state) (k .in-state)))
 

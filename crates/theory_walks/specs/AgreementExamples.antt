@@ -4,21 +4,21 @@ use mathlib.Core.Path.{_≡_, refl, ap, sym, _∙_, subst}
 use mathlib.Core.Logic.{inl, ⊎-elim}
 use mathlib.Core.Bool.{true, false≢true}
 use mathlib.Core.List.{List, [], _∷_}
-use mathlib.Core.Option.{some}
+use mathlib.Core.Option.{none, some}
 use Prim.Native.Nat.{ℕ, zero, suc}
 use native.Mathlib.Omega.{arith}
 use lib.ListN.{getD, getElem?}
 use Rattle.model.specs.Outcome.{Cells}
-use Rattle.model.specs.Table.{SPAN, UPTO, NAME, TYPE, INIT, EXPR, PAD, TEXT}
-use Rattle.model.specs.Tree.{end, _then_, Range, Function}
+use Rattle.model.specs.Table.{SPAN, UPTO, NAME, TYPE, INIT, EXPR, OPT-EXPR, PAD, TEXT}
+use Rattle.model.specs.Tree.{stmt, branch, kill, call, end, _then_, Range, Function}
 use Rattle.model.specs.Module.{Module}
 use Rattle.model.specs.Operands.{optional, operand, opsOf, kind, standingKind, resultKind, emittedKind, ops, kindAt, standing}
 use Rattle.model.specs.Initial.{here, there, initsOf, roots, marked, mark, unmarked, readBy, close, reachedMarks, moving, initials, initial, constantAt, initialised}
-use Rattle.model.specs.Scope.{upFrom, inRange, live, expandS, shapeS, emitted, kindsS, evalsS, has, distinct, addE, addF, addS, vis, allVis, okE, okS, allOf, seen, scopedAs, scoped}
+use Rattle.model.specs.Scope.{XForm, upFrom, inRange, live, expandS, shapeS, emitted, kindsS, evalsS, has, distinct, addE, addF, addS, vis, allVis, okE, okS, allOf, seen, scopedAs, scoped}
 use Rattle.model.specs.SampleBodies.{record-of, literal, negate, splat, add, evals, local, function}
 use Rattle.theory_image.specs.Members.{no-mem}
 use Rattle.theory_walks.specs.Members.{Each, each-none, each-cons}
-use Rattle.theory_walks.specs.Agreement.{Maps, carriers, through, carried, textOf, plain, Alike, start, upto, text, field, AlikeR, over, next, carryCells, carryS, mentionsE, mentionsS, mentioned, Agrees, Agreement}
+use Rattle.theory_walks.specs.Agreement.{Maps, optWord, carriers, through, carried, textOf, plain, Alike, start, upto, text, field, AlikeR, over, next, carryOpt, carryCells, carryS, carryF, carryB, mentionsE, mentionsS, mentioned, Agrees, Agreement}
 use Rattle.theory_walks.specs.AgreementProof.{nameless, alike-carried}
 use Rattle.theory_walks.specs.Theorems.{agrees-kind}
 
@@ -68,7 +68,7 @@ p10-modules = record { functions = at; entries = λ i E q. absurd (let z : _≡_
     at zero F q = (target, refl, let p : source ≡ F = cc in subst (λ x. Agrees (holds source) (holds target) maps x target becomes) p p10)
     at (suc i) F q = absurd (let z : _≡_ {A = ℕ} 0 1 = cc in omega arith)
 
--- what the theorems ask of the source beside agreement
+-- what the theorems require of the source beside agreement
 p10-passes : (scoped source ≡ true) × (initialised source ≡ true)
 unfolding scoped scopedAs allOf seen initialised constantAt expandS live inRange upFrom shapeS kindsS emitted emittedKind resultKind standingKind standing kindAt kind evalsS distinct has okS okE allVis vis addS addF addE marked initials moving reachedMarks close mark readBy unmarked roots ops opsOf operand
 p10-passes = (refl, refl)
@@ -127,3 +127,22 @@ not-by-number : Alike (named (a ∷ b ∷ [])) (named (b ∷ a ∷ [])) maps (λ
 unfolding textOf plain
 not-by-number (text h) = let z : _≡_ {A = ℕ} 97 98 = cc in omega arith
 not-by-number (field h q) = false≢true h
+
+-- ---- what is carried, computed where each map adds 1: an optional operand, and none; a callee; the arms of an If, each in its place
+abbrev raised : Maps
+raised = record { type = suc; constant = suc; override = suc; global = suc; globalExpr = suc; function = suc; inFunction = λ i. suc; inEntry = λ i. suc }
+
+abbrev calling : ℕ → XForm
+calling h = call h [] none
+
+carried-operand : carryCells raised suc ((OPT-EXPR, 1) ∷ (OPT-EXPR, 0) ∷ []) ≡ (OPT-EXPR, 2) ∷ (OPT-EXPR, 0) ∷ []
+unfolding carryCells carried carriers through optWord
+carried-operand = refl
+
+carried-callee : carryF (calling 1) raised suc ≡ calling 2
+unfolding carryF carryOpt
+carried-callee = refl
+
+carried-arms : carryF (branch 0 (stmt 0 0 kill then end) end) raised suc ≡ branch 1 (stmt 0 0 kill then end) end
+unfolding carryF carryB carryS
+carried-arms = refl

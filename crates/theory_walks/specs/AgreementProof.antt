@@ -7,6 +7,7 @@ use mathlib.Core.Option.{Option, none, some}
 use lib.ListN.{length}
 use lib.Dec.{eqb}
 use borrow.Author.Tests.{eqb-true}
+use Rattle.theory_lists.specs.Booleans.{and-first, and-second, by}
 use Rattle.model.specs.Outcome.{Cells, class, word}
 use Rattle.model.specs.Table.{SPAN, UPTO, NAME, FUNCTION, EXPR, OPT-EXPR, RESULT, OPT-RESULT, EXPR-KIND}
 use Rattle.model.specs.Tree.{stmt, emit, block, branch, switch, loop, break, continue, return, kill, call, effect, end, _then_, case, nomore, _also_, Function, optOf}
@@ -16,7 +17,6 @@ use Rattle.model.specs.Initial.{here, there}
 use Rattle.model.specs.Scope.{XStmt, XForm, XBlock, XCase, XCases, evalsOpt, seen}
 use Rattle.model.specs.Walk.{read, eval, calls, End, Trace, halt, _▸_, finished, Rest, K, ends, only, ▸read, ▸readOpt, ▸evalOpt, ▸emit, choose, pick, roundEnd, rounds, fallTo, walkS, walkF, walkB, walkK, walkC, walk}
 use Rattle.theory_image.specs.Members.{mem-left, mem-right}
-use Rattle.theory_walks.specs.Tests.{and-l, and-r, by}
 use Rattle.theory_walks.specs.Members.{Each}
 use Rattle.theory_walks.specs.Agreement.{Maps, optWord, carriers, through, carried, plain, Alike, start, upto, text, field, AlikeR, over, next, carryOpt, carryCells, carryS, carryF, carryB, carryK, carryC, mentionsE, mentionsS, mentionsF, mentionsB, mentionsK, mentionsC, mentioned, Agrees, carryE, carryT, endOf, Carries}
 
@@ -127,7 +127,7 @@ module _ (μ : Maps) (f : ℕ → ℕ) where
     pub alike-carried : (r : Cells) → nameless r ≡ true → AlikeR M M′ μ f r (carryCells μ f r)
     unfolding nameless carryCells
     alike-carried [] h = over
-    alike-carried ((s, w) ∷ r) h = next (cell-carried s w (and-l (not (eqb s NAME)) _ h)) (alike-carried r (and-r (not (eqb s NAME)) _ h))
+    alike-carried ((s, w) ∷ r) h = next (cell-carried s w (and-first (not (eqb s NAME)) _ h)) (alike-carried r (and-second (not (eqb s NAME)) _ h))
 
   -- ---- the parts of a walk
   -- k′ is k carried

@@ -7,11 +7,11 @@ use mathlib.Core.List.{List, [], _∷_, _++_}
 use mathlib.Core.Option.{Option, none, some}
 use lib.Dec.{eqb}
 use borrow.Author.Tests.{eqb-true}
+use Rattle.theory_lists.specs.Booleans.{Yes, and-first, and-second, and-true, or-l, or-r, and-map, or-cases, not-map}
 use Rattle.model.specs.Outcome.{Cells}
 use Rattle.model.specs.Tree.{Stmt, stmt, Form, emit, block, branch, switch, loop, break, continue, return, kill, call, effect, Block, end, _then_, Case, case, Cases, nomore, _also_, Range}
 use Rattle.model.specs.Operands.{resultOf, resultKind, emittedKind, kindAt}
 use Rattle.model.specs.Scope.{inRange, live, expandS, expandF, expand, expandK, expandC, emitted, callResult, effectResult, kindsS, kindsF, kindsB, kindsK, kindsC, evalsOpt, evalsS, evalsF, evalsB, evalsK, evalsC, has, distinct}
-use Rattle.theory_walks.specs.Tests.{Yes, and-l, and-r, and-both, or-l, or-r, and-map, or-cases, not-map}
 use Rattle.theory_walks.specs.Members.{Each, each-none, each-append, each-cons}
 
 -- ---- a part of a list, in the same order
@@ -39,7 +39,7 @@ pub part-distinct : {xs ys : List ℕ} → Part xs ys → Yes (distinct ys) → 
 unfolding distinct
 part-distinct none-left h = h
 part-distinct (keep {x = x} {xs = xs} {ys = ys} p) h = and-map (not-map (has xs x) (has ys x) (part-has p x)) (part-distinct p) h
-part-distinct (skip {y = y} {ys = ys} p) h = part-distinct p (and-r (not (has ys y)) _ h)
+part-distinct (skip {y = y} {ys = ys} p) h = part-distinct p (and-second (not (has ys y)) _ h)
 
 -- ---- what is live
 module _ (drop : ℕ → Bool) where
@@ -89,11 +89,11 @@ module _ (drop : ℕ → Bool) where
     live-kinds : (es : List ℕ) → Yes (emitted xs (live es all)) → Yes (emitted xs (live es drop))
     unfolding live emitted
     live-kinds [] h = refl
-    live-kinds (e ∷ es) h = go (drop e) (live-kinds es (and-r (emittedKind (kindAt xs e)) _ h))
+    live-kinds (e ∷ es) h = go (drop e) (live-kinds es (and-second (emittedKind (kindAt xs e)) _ h))
       where
         go : (t : Bool) → Yes (emitted xs (live es drop)) → Yes (emitted xs (elim t [ true ↦ live es drop | false ↦ e ∷ live es drop ]))
         go true ih = ih
-        go false ih = and-both (and-l (emittedKind (kindAt xs e)) _ h) ih
+        go false ih = and-true (and-first (emittedKind (kindAt xs e)) _ h) ih
 
     mutual
       unfolding expandS kindsS
@@ -138,12 +138,12 @@ module _ (drop : ℕ → Bool) where
         go : (t : Bool) → drop e ≡ t → (Yes (emitted xs (live es drop)) → Each Evaluated (live es drop))
             → Yes (emitted xs (elim t [ true ↦ live es drop | false ↦ e ∷ live es drop ])) → Each Evaluated (elim t [ true ↦ live es drop | false ↦ e ∷ live es drop ])
         go true q ih h = ih h
-        go false q ih h = each-cons (emits (and-l (emittedKind (kindAt xs e)) _ h) q) (ih (and-r (emittedKind (kindAt xs e)) _ h))
+        go false q ih h = each-cons (emits (and-first (emittedKind (kindAt xs e)) _ h) q) (ih (and-second (emittedKind (kindAt xs e)) _ h))
 
     call-evaluated : (f : ℕ) (r : Option ℕ) → Yes (callResult xs f r) → Each Evaluated (evalsOpt r)
     unfolding callResult evalsOpt resultKind
     call-evaluated f none h = each-none Evaluated
-    call-evaluated f (some e) h = each-cons (results (rw (eqb-true (kindAt xs e) 23 (and-l (eqb (kindAt xs e) 23) _ h)))) (each-none Evaluated)
+    call-evaluated f (some e) h = each-cons (results (rw (eqb-true (kindAt xs e) 23 (and-first (eqb (kindAt xs e) 23) _ h)))) (each-none Evaluated)
 
     effect-evaluated : (k : ℕ) (r : Option ℕ) → Yes (effectResult xs k r) → Each Evaluated (evalsOpt r)
     unfolding effectResult evalsOpt resultKind
@@ -163,9 +163,9 @@ module _ (drop : ℕ → Bool) where
       evaluatedF : (f : Form Range) → Yes (kindsF (expandF f drop) xs) → Each Evaluated (evalsF (expandF f drop))
       evaluatedF (emit r) h = live-evaluated (inRange r) h
       evaluatedF (block b) h = evaluatedB b h
-      evaluatedF (branch c a b) h = each-append _ _ (evaluatedB a (and-l (kindsB (expand a drop) xs) _ h)) (evaluatedB b (and-r (kindsB (expand a drop) xs) _ h))
+      evaluatedF (branch c a b) h = each-append _ _ (evaluatedB a (and-first (kindsB (expand a drop) xs) _ h)) (evaluatedB b (and-second (kindsB (expand a drop) xs) _ h))
       evaluatedF (switch c ks) h = evaluatedC ks h
-      evaluatedF (loop a b x) h = each-append _ _ (evaluatedB a (and-l (kindsB (expand a drop) xs) _ h)) (evaluatedB b (and-r (kindsB (expand a drop) xs) _ h))
+      evaluatedF (loop a b x) h = each-append _ _ (evaluatedB a (and-first (kindsB (expand a drop) xs) _ h)) (evaluatedB b (and-second (kindsB (expand a drop) xs) _ h))
       evaluatedF break h = each-none Evaluated
       evaluatedF continue h = each-none Evaluated
       evaluatedF (return x) h = each-none Evaluated
@@ -175,11 +175,11 @@ module _ (drop : ℕ → Bool) where
 
       pub evaluatedB : (b : Block Range) → Yes (kindsB (expand b drop) xs) → Each Evaluated (evalsB (expand b drop))
       evaluatedB end h = each-none Evaluated
-      evaluatedB (s then b) h = each-append _ _ (evaluatedS s (and-l (kindsS (expandS s drop) xs) _ h)) (evaluatedB b (and-r (kindsS (expandS s drop) xs) _ h))
+      evaluatedB (s then b) h = each-append _ _ (evaluatedS s (and-first (kindsS (expandS s drop) xs) _ h)) (evaluatedB b (and-second (kindsS (expandS s drop) xs) _ h))
 
       evaluatedK : (k : Case Range) → Yes (kindsK (expandK k drop) xs) → Each Evaluated (evalsK (expandK k drop))
       evaluatedK (case v b f) h = evaluatedB b h
 
       evaluatedC : (ks : Cases Range) → Yes (kindsC (expandC ks drop) xs) → Each Evaluated (evalsC (expandC ks drop))
       evaluatedC nomore h = each-none Evaluated
-      evaluatedC (k also ks) h = each-append _ _ (evaluatedK k (and-l (kindsK (expandK k drop) xs) _ h)) (evaluatedC ks (and-r (kindsK (expandK k drop) xs) _ h))
+      evaluatedC (k also ks) h = each-append _ _ (evaluatedK k (and-first (kindsK (expandK k drop) xs) _ h)) (evaluatedC ks (and-second (kindsK (expandK k drop) xs) _ h))

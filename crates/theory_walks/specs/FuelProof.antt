@@ -1,5 +1,5 @@
 -- The fuel of a Loop is never met: a Loop is its body, its continuing block, the end of the round, and the Loop again (`loop-unrolls`).
--- Why: what follows is asked only at lists of numbers no longer than the walk's own, and at a shorter one after a round. So two walks whose continuations agree on such lists agree (`Resp`), and the fuel that is left after a round is again more than there are numbers.
+-- Why: what follows is used only at lists of numbers no longer than the walk's own, and at a shorter one after a round. So two walks whose continuations agree on such lists agree (`Resp`), and the fuel that is left after a round is again more than there are numbers.
 use Prim.Native.Nat.{ℕ, zero, suc, _<_}
 use mathlib.Core.Path.{_≡_, refl, ap}
 use mathlib.Core.List.{List, [], _∷_}

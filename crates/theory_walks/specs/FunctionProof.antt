@@ -9,6 +9,7 @@ use native.Mathlib.Omega.{arith}
 use lib.Dec.{ltb, leb}
 use lib.ListN.{length, getElem?, List·getD-eq-default}
 use borrow.Author.Tests.{ltb-true, ltb-false, leb-true}
+use Rattle.theory_lists.specs.Booleans.{Yes, and-first, and-second, and-true, or-cases, by}
 use Rattle.model.specs.Table.{expressions}
 use Rattle.model.specs.Outcome.{Cells}
 use Rattle.model.specs.Tree.{Function, Entry}
@@ -18,7 +19,6 @@ use Rattle.model.specs.Initial.{Mem, marked, initials, initial, initialised}
 use Rattle.theory_image.specs.Reached.{initial-is, initialised-is}
 use Rattle.model.specs.Scope.{XBlock, inBody, shapeB, kindsB, distinct, evalsB, okB, allOf, seen, scopedAs, scoped, allScoped, entriesScoped}
 use Rattle.model.specs.Walk.{walk}
-use Rattle.theory_walks.specs.Tests.{Yes, and-l, and-r, and-both, or-cases, by}
 use Rattle.theory_walks.specs.Members.{Each, each-none}
 use Rattle.theory_walks.specs.Reads.{Sound}
 use Rattle.theory_walks.specs.Agreement.{Maps, mentioned, MayShare, Agrees}
@@ -39,27 +39,27 @@ record Rules (all b : XBlock) (xs : List Cells) : Type 0 where
 rules : (all b : XBlock) (xs : List Cells) → Yes (scopedAs all b xs) → Rules all b xs
 unfolding scopedAs
 rules all b xs h =
-    let h₁ = and-r (shapeB b inBody) _ h in
-    let h₂ = and-r (kindsB all xs) _ h₁ in
-    record { shape = and-l (shapeB b inBody) _ h; kinds = and-l (kindsB all xs) _ h₁; once = and-l (distinct (evalsB all)) _ h₂; reads = and-r (distinct (evalsB all)) _ h₂ }
+    let h₁ = and-second (shapeB b inBody) _ h in
+    let h₂ = and-second (kindsB all xs) _ h₁ in
+    record { shape = and-first (shapeB b inBody) _ h; kinds = and-first (kindsB all xs) _ h₁; once = and-first (distinct (evalsB all)) _ h₂; reads = and-second (distinct (evalsB all)) _ h₂ }
 
 scoped-of : (all b : XBlock) (xs : List Cells) → Rules all b xs → Yes (scopedAs all b xs)
 unfolding scopedAs
-scoped-of all b xs r = and-both (r .shape) (and-both (r .kinds) (and-both (r .once) (r .reads)))
+scoped-of all b xs r = and-true (r .shape) (and-true (r .kinds) (and-true (r .once) (r .reads)))
 
 -- ---- kinds
 result-stands : (k : ℕ) → resultKind k ≡ true → standingKind k ≡ true → ⊥
 unfolding resultKind standingKind
 result-stands k h s =
-    let a = leb-true 23 k (and-l (leb 23 k) _ h) in
-    ⊎-elim (λ q. let b = leb-true k 3 q in omega arith) (λ q. let b = leb-true k 11 (and-r (leb 9 k) _ q) in omega arith) (or-cases (leb k 3) _ s)
+    let a = leb-true 23 k (and-first (leb 23 k) _ h) in
+    ⊎-elim (λ q. let b = leb-true k 3 q in omega arith) (λ q. let b = leb-true k 11 (and-second (leb 9 k) _ q) in omega arith) (or-cases (leb k 3) _ s)
 
 result-constant : (k : ℕ) → resultKind k ≡ true → constantKind k ≡ true → ⊥
 unfolding resultKind constantKind
 result-constant k h s =
-    let a = leb-true 23 k (and-l (leb 23 k) _ h) in
+    let a = leb-true 23 k (and-first (leb 23 k) _ h) in
     ⊎-elim (λ q. let b = leb-true k 8 q in omega arith)
-    (λ t. ⊎-elim (λ q. let b = leb-true k 18 (and-r (leb 16 k) _ q) in omega arith) (λ q. let b = leb-true k 22 (and-r (leb 20 k) _ q) in omega arith) (or-cases (leb 16 k && leb k 18) _ t))
+    (λ t. ⊎-elim (λ q. let b = leb-true k 18 (and-second (leb 16 k) _ q) in omega arith) (λ q. let b = leb-true k 22 (and-second (leb 20 k) _ q) in omega arith) (or-cases (leb 16 k && leb k 18) _ t))
     (or-cases (leb k 8) _ s)
 
 emitted-stands : (k : ℕ) → emittedKind k ≡ true → standingKind k ≡ true → ⊥
@@ -100,7 +100,7 @@ module _ (F : Function) (h : scoped F ≡ true) where
   unfolding seen
   evaluated = evaluatedB drop (F .exprs) (F .body) seen-kinds
 
-  -- what is evaluated does not stand
+  -- what is evaluated is not standing
   moves : (e : ℕ) → Mem e (evalsB (seen F)) → standing (F .exprs) e ≡ true → ⊥
   unfolding standing
   moves e m s = go (evaluated e m)
@@ -141,7 +141,7 @@ module _ (M M′ : Module) (μ : Maps) (F F′ : Function) (f : ℕ → ℕ) (a 
   agreed-sound cs = body-sound (F′ .exprs) (seen F′) target-reads cs
 
   module _ (i : initialised F ≡ true) where
-    -- what is evaluated neither stands nor is an initialiser expression
+    -- what is evaluated is neither standing nor an initialiser expression
     own : (e : ℕ) → Mem e (evalsB (seen F)) → MayShare F e → ⊥
     own e m s = ⊎-elim (moves F h e m) (no-initial F h i e m) s
 
@@ -167,11 +167,11 @@ module _ (M M′ : Module) (μ : Maps) (F F′ : Function) (f : ℕ → ℕ) (a 
 pub scoped-at : (Fs : List Function) → allScoped Fs ≡ true → (i : ℕ) (F : Function) → getElem? Fs i ≡ some F → scoped F ≡ true
 unfolding allScoped
 scoped-at [] h i F q = absurd (let z : _≡_ {A = ℕ} 0 1 = cc in omega arith)
-scoped-at (G ∷ Fs) h zero F q = let p : G ≡ F = cc in subst (λ x. scoped x ≡ true) p (and-l (scoped G) _ h)
-scoped-at (G ∷ Fs) h (suc i) F q = scoped-at Fs (and-r (scoped G) _ h) i F q
+scoped-at (G ∷ Fs) h zero F q = let p : G ≡ F = cc in subst (λ x. scoped x ≡ true) p (and-first (scoped G) _ h)
+scoped-at (G ∷ Fs) h (suc i) F q = scoped-at Fs (and-second (scoped G) _ h) i F q
 
 pub entry-at : (es : List Entry) → entriesScoped es ≡ true → (i : ℕ) (E : Entry) → getElem? es i ≡ some E → scoped (E .function) ≡ true
 unfolding entriesScoped
 entry-at [] h i E q = absurd (let z : _≡_ {A = ℕ} 0 1 = cc in omega arith)
-entry-at (D ∷ es) h zero E q = let p : D ≡ E = cc in subst (λ x. scoped (x .function) ≡ true) p (and-l (scoped (D .function)) _ h)
-entry-at (D ∷ es) h (suc i) E q = entry-at es (and-r (scoped (D .function)) _ h) i E q
+entry-at (D ∷ es) h zero E q = let p : D ≡ E = cc in subst (λ x. scoped (x .function) ≡ true) p (and-first (scoped (D .function)) _ h)
+entry-at (D ∷ es) h (suc i) E q = entry-at es (and-second (scoped (D .function)) _ h) i E q

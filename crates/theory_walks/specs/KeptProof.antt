@@ -9,13 +9,13 @@ use mathlib.Core.Option.{Option, none, some}
 use lib.Dec.{eqb}
 use lib.ListN.{getD}
 use borrow.Author.Tests.{eqb-true, eq-eqb}
+use Rattle.theory_lists.specs.Booleans.{Yes, and-later, and-map, or-l, or-r, or-cases, not-map}
 use Rattle.model.specs.Outcome.{Cells}
 use Rattle.model.specs.Tree.{stmt, emit, block, branch, switch, loop, break, continue, return, kill, call, effect, end, _then_, case, nomore, _also_}
 use Rattle.model.specs.Operands.{resultOf, functionOf, emittedKind, kindAt}
 use Rattle.model.specs.Initial.{Mem, here, there}
 use Rattle.model.specs.Scope.{XStmt, XForm, XBlock, XCase, XCases, Place, inSwitch, inLoop, inContinuing, shapeS, shapeF, shapeB, shapeK, shapeC, emitted, isOf, callResult, effectResult, kindsS, kindsF, kindsB, kindsK, kindsC, evalsOpt, evalsS, evalsF, evalsB, evalsK, evalsC, has, distinct}
 use Rattle.theory_image.specs.Members.{mem-left, mem-right}
-use Rattle.theory_walks.specs.Tests.{Yes, and-later, and-map, or-l, or-r, or-cases, not-map}
 use Rattle.theory_walks.specs.Members.{Each}
 use Rattle.theory_walks.specs.Agreement.{Maps, carryOpt, carryS, carryF, carryB, carryK, carryC}
 use Rattle.theory_walks.specs.AgreementProof.{result-carry}

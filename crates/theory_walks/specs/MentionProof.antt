@@ -1,4 +1,4 @@
--- What a body mentions. What it evaluates is mentioned; and where its reads are in scope, whatever it mentions stands or is evaluated, so that a fact of both is a fact of all that it mentions (`isB`).
+-- What a body mentions. What it evaluates is mentioned; and where its reads are in scope, whatever it mentions is standing or evaluated, so that a fact of both is a fact of all that it mentions (`isB`).
 use Prim.Native.Nat.{ℕ}
 use mathlib.Core.Logic.{⊎-elim}
 use mathlib.Core.Bool.{Bool, true, false}
@@ -6,13 +6,13 @@ use mathlib.Core.List.{List, [], _∷_, _++_}
 use mathlib.Core.Option.{Option, none, some}
 use lib.Dec.{eqb}
 use borrow.Author.Tests.{eqb-true}
+use Rattle.theory_lists.specs.Booleans.{Yes, and-first, and-second, or-cases}
 use Rattle.model.specs.Outcome.{Cells}
 use Rattle.model.specs.Tree.{stmt, emit, block, branch, switch, loop, break, continue, return, kill, call, effect, end, _then_, case, nomore, _also_}
 use Rattle.model.specs.Operands.{opsOf, resultOf, ops, standing}
 use Rattle.model.specs.Initial.{Mem, here, there}
 use Rattle.model.specs.Scope.{XStmt, XForm, XBlock, XCase, XCases, evalsOpt, evalsS, evalsF, evalsB, evalsK, evalsC, addE, addOpt, addF, addS, topB, holdsS, contB, vis, allVis, optVis, okE, okS, okF, okB, okK, okC}
 use Rattle.theory_image.specs.Members.{no-mem, mem-left, mem-right, mem-split}
-use Rattle.theory_walks.specs.Tests.{Yes, and-l, and-r, or-cases}
 use Rattle.theory_walks.specs.Members.{Each, each-none, each-append, each-cons}
 use Rattle.theory_walks.specs.Agreement.{mentionsE, mentionsS, mentionsF, mentionsB, mentionsK, mentionsC}
 
@@ -53,7 +53,7 @@ module _ (xs : List Cells) where
     mentionC nomore m = m
     mentionC (k also ks) m = mem-split (evalsK k) (evalsC ks) (λ p. mentionK k p) (λ p. mentionC ks p) m
 
-  -- ---- what is mentioned is in scope somewhere: it stands, or it is evaluated
+  -- ---- what is mentioned is in scope somewhere: it is standing, or it is evaluated
   module _ (P : ℕ → Type 0) (stands : (e : ℕ) → Yes (standing xs e) → P e) where
     vis-is : (ρ : List ℕ) → Each P ρ → (e : ℕ) → Yes (vis (standing xs) ρ e) → P e
     unfolding vis
@@ -63,7 +63,7 @@ module _ (xs : List Cells) where
     all-is : (ρ : List ℕ) → Each P ρ → (ys : List ℕ) → Yes (allVis (standing xs) ρ ys) → Each P ys
     unfolding allVis
     all-is ρ a [] h = each-none P
-    all-is ρ a (y ∷ ys) h = each-cons (vis-is ρ a y (and-l (vis (standing xs) ρ y) _ h)) (all-is ρ a ys (and-r (vis (standing xs) ρ y) _ h))
+    all-is ρ a (y ∷ ys) h = each-cons (vis-is ρ a y (and-first (vis (standing xs) ρ y) _ h)) (all-is ρ a ys (and-second (vis (standing xs) ρ y) _ h))
 
     opt-is : (ρ : List ℕ) → Each P ρ → (x : Option ℕ) → Yes (optVis (standing xs) ρ x) → Each P (evalsOpt x)
     unfolding optVis evalsOpt
@@ -118,8 +118,8 @@ module _ (xs : List Cells) where
     emit-is [] ρ a b h = each-none P
     emit-is (e ∷ es) ρ a b h =
         each-cons (b e here)
-        (each-append (ops xs e) (mentionsE es xs) (all-is ρ a (ops xs e) (and-l (allVis (standing xs) ρ (ops xs e)) _ h))
-        (emit-is es (e ∷ ρ) (each-cons (b e here) a) (λ d m. b d (there m)) (and-r (allVis (standing xs) ρ (ops xs e)) _ h)))
+        (each-append (ops xs e) (mentionsE es xs) (all-is ρ a (ops xs e) (and-first (allVis (standing xs) ρ (ops xs e)) _ h))
+        (emit-is es (e ∷ ρ) (each-cons (b e here) a) (λ d m. b d (there m)) (and-second (allVis (standing xs) ρ (ops xs e)) _ h)))
 
     mutual
       unfolding okS mentionsS evalsS
@@ -131,19 +131,19 @@ module _ (xs : List Cells) where
       isF (emit es) ρ a e h = emit-is es ρ a e h
       isF (block b) ρ a e h = isB b ρ a e h
       isF (branch c p q) ρ a e h =
-          let h₁ = and-r (vis (standing xs) ρ c) _ h in
-          each-cons (vis-is ρ a c (and-l (vis (standing xs) ρ c) _ h))
+          let h₁ = and-second (vis (standing xs) ρ c) _ h in
+          each-cons (vis-is ρ a c (and-first (vis (standing xs) ρ c) _ h))
           (each-append (mentionsB p xs) (mentionsB q xs)
-          (isB p ρ a (λ d m. e d (mem-left (evalsB q) m)) (and-l (okB p xs ρ) _ h₁)) (isB q ρ a (λ d m. e d (mem-right (evalsB p) m)) (and-r (okB p xs ρ) _ h₁)))
-      isF (switch c ks) ρ a e h = each-cons (vis-is ρ a c (and-l (vis (standing xs) ρ c) _ h)) (isC ks ρ a e (and-r (vis (standing xs) ρ c) _ h))
+          (isB p ρ a (λ d m. e d (mem-left (evalsB q) m)) (and-first (okB p xs ρ) _ h₁)) (isB q ρ a (λ d m. e d (mem-right (evalsB p) m)) (and-second (okB p xs ρ) _ h₁)))
+      isF (switch c ks) ρ a e h = each-cons (vis-is ρ a c (and-first (vis (standing xs) ρ c) _ h)) (isC ks ρ a e (and-second (vis (standing xs) ρ c) _ h))
       isF (loop p q x) ρ a e h =
-          let h₁ = and-r (okB p xs ρ) _ h in
+          let h₁ = and-second (okB p xs ρ) _ h in
           let ρc = cont-is p ρ a (λ d m. e d (mem-left (evalsB q) m)) in
           let eq : Each P (evalsB q) = λ d m. e d (mem-right (evalsB p) m) in
           each-append (evalsOpt x) (mentionsB p xs ++ mentionsB q xs)
-          (opt-is (topB q (contB p ρ)) (top-is q (contB p ρ) ρc eq) x (and-r (okB q xs (contB p ρ)) _ h₁))
+          (opt-is (topB q (contB p ρ)) (top-is q (contB p ρ) ρc eq) x (and-second (okB q xs (contB p ρ)) _ h₁))
           (each-append (mentionsB p xs) (mentionsB q xs)
-          (isB p ρ a (λ d m. e d (mem-left (evalsB q) m)) (and-l (okB p xs ρ) _ h)) (isB q (contB p ρ) ρc eq (and-l (okB q xs (contB p ρ)) _ h₁)))
+          (isB p ρ a (λ d m. e d (mem-left (evalsB q) m)) (and-first (okB p xs ρ) _ h)) (isB q (contB p ρ) ρc eq (and-first (okB q xs (contB p ρ)) _ h₁)))
       isF break ρ a e h = each-none P
       isF continue ρ a e h = each-none P
       isF (return x) ρ a e h = opt-is ρ a x h
@@ -155,8 +155,8 @@ module _ (xs : List Cells) where
       isB end ρ a e h = each-none P
       isB (s then b) ρ a e h =
           let es : Each P (evalsS s) = λ d m. e d (mem-left (evalsB b) m) in
-          each-append (mentionsS s xs) (mentionsB b xs) (isS s ρ a es (and-l (okS s xs ρ) _ h))
-          (isB b (addS s ρ) (addS-is s ρ a es) (λ d m. e d (mem-right (evalsS s) m)) (and-r (okS s xs ρ) _ h))
+          each-append (mentionsS s xs) (mentionsB b xs) (isS s ρ a es (and-first (okS s xs ρ) _ h))
+          (isB b (addS s ρ) (addS-is s ρ a es) (λ d m. e d (mem-right (evalsS s) m)) (and-second (okS s xs ρ) _ h))
 
       isK : (k : XCase) (ρ : List ℕ) → Each P ρ → Each P (evalsK k) → Yes (okK k xs ρ) → Each P (mentionsK k xs)
       isK (case v b t) ρ a e h = isB b ρ a e h
@@ -164,5 +164,5 @@ module _ (xs : List Cells) where
       isC : (ks : XCases) (ρ : List ℕ) → Each P ρ → Each P (evalsC ks) → Yes (okC ks xs ρ) → Each P (mentionsC ks xs)
       isC nomore ρ a e h = each-none P
       isC (k also ks) ρ a e h =
-          each-append (mentionsK k xs) (mentionsC ks xs) (isK k ρ a (λ d m. e d (mem-left (evalsC ks) m)) (and-l (okK k xs ρ) _ h))
-          (isC ks ρ a (λ d m. e d (mem-right (evalsK k) m)) (and-r (okK k xs ρ) _ h))
+          each-append (mentionsK k xs) (mentionsC ks xs) (isK k ρ a (λ d m. e d (mem-left (evalsC ks) m)) (and-first (okK k xs ρ) _ h))
+          (isC ks ρ a (λ d m. e d (mem-right (evalsK k) m)) (and-second (okK k xs ρ) _ h))

@@ -6,7 +6,7 @@ use Prim.Native.Nat.{ℕ}
 use Rattle.model.specs.Scope.{vis}
 use Rattle.model.specs.Walk.{End, Trace, halt, _▸_, read, eval, calls}
 
--- stands says which expressions stand; σ is what was evaluated before the trace. Of what is read, `vis stands σ e` says that e stands or is one of σ
+-- `stands` says which expressions are standing; σ is what was evaluated before the trace. Of what is read, `vis stands σ e` says that e is standing or is one of σ
 pub data Sound (stands : ℕ → Bool) : Trace → List ℕ → Type 0 where
   s-halt : {h : End} {σ : List ℕ} → Sound stands (halt h) σ
   s-read : {e : ℕ} {t : Trace} {σ : List ℕ} → vis stands σ e ≡ true → Sound stands t σ → Sound stands (read e ▸ t) σ

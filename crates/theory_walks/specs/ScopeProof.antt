@@ -1,4 +1,4 @@
--- What agreement keeps of scope: where a body's reads are in scope, so are those of the body carried, over records that agree. Scopes are carried element by element, and a Continue stands where it stood, so each test of the source is a test of the target.
+-- What agreement keeps of scope: where a body's reads are in scope, so are those of the body carried, over records that agree. Scopes are carried element by element, and a Continue is where it was, so each test of the source is a test of the target.
 use Prim.Native.Nat.{ℕ}
 use mathlib.Core.Path.{_≡_, refl, ap, ap₂, sym, _∙_}
 use mathlib.Core.Bool.{Bool, true, false, _||_, false≢true}
@@ -6,13 +6,13 @@ use mathlib.Core.List.{List, [], _∷_, _++_, map}
 use mathlib.Core.Option.{Option, none, some}
 use lib.Dec.{eqb}
 use borrow.Author.Tests.{eqb-true, eq-eqb}
+use Rattle.theory_lists.specs.Booleans.{Yes, and-map, or-map}
 use Rattle.model.specs.Outcome.{Cells}
 use Rattle.model.specs.Tree.{stmt, emit, block, branch, switch, loop, break, continue, return, kill, call, effect, end, _then_, case, nomore, _also_}
 use Rattle.model.specs.Operands.{opsOf, resultOf, ops, standing}
 use Rattle.model.specs.Initial.{here, there}
 use Rattle.model.specs.Scope.{XStmt, XForm, XBlock, XCase, XCases, evalsOpt, addE, addOpt, addF, addS, topB, holdsS, holdsF, holdsB, holdsK, holdsC, contB, vis, allVis, optVis, okE, okS, okF, okB, okK, okC}
 use Rattle.theory_image.specs.Members.{mem-left, mem-right}
-use Rattle.theory_walks.specs.Tests.{Yes, and-map, or-map}
 use Rattle.theory_walks.specs.Agreement.{Maps, carryOpt, carryS, carryF, carryB, carryK, carryC, mentionsE, mentionsS, mentionsF, mentionsB, mentionsK, mentionsC}
 use Rattle.theory_walks.specs.Members.{Each}
 use Rattle.theory_walks.specs.AgreementProof.{ops-carry, result-carry}
@@ -94,7 +94,7 @@ module _ (μ : Maps) (f : ℕ → ℕ) where
       go false true q ih = absurd (false≢true (sym q))
       go false false q ih = ih
 
-  -- ---- the tests, over two tables of expressions: what is mentioned and stands, stands again, and its operands are carried
+  -- ---- the tests, over two tables of expressions: what is mentioned and standing is standing again, and its operands are carried
   module _ (xs xs′ : List Cells) where
     abbrev Stands : ℕ → Type 0
     Stands e = Yes (standing xs e) → Yes (standing xs′ (f e))

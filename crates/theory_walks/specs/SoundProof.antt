@@ -1,5 +1,5 @@
 -- Scope is sound: in a walk of a body whose reads are in scope nothing is read before it is evaluated.
--- The invariant: what is in scope (ρ) has been evaluated (σ), `Sub ρ σ`. `Runs ρ k`: from whatever has evaluated ρ, the trace of k is sound. A part of a body is sound if what follows it is, each at the scope that it finds: behind it, at its Breaks, at its Continues (`Does`).
+-- The invariant: what is in scope (ρ) has been evaluated (σ), `Sub ρ σ`. `Runs ρ k`: from whatever has evaluated ρ, the trace of k is sound. A part of a body is sound if what follows it is, each at the scope that it finds: after it, at its Breaks, at its Continues (`Does`).
 use Prim.Native.Nat.{ℕ, zero, suc}
 use mathlib.Core.Path.{refl}
 use mathlib.Core.Bool.{Bool, true, false, _||_, false≢true}
@@ -7,12 +7,12 @@ use mathlib.Core.List.{List, [], _∷_}
 use mathlib.Core.Option.{Option, none, some}
 use lib.ListN.{length}
 use lib.Dec.{eqb}
+use Rattle.theory_lists.specs.Booleans.{Yes, and-first, and-second, or-l, or-r, or-later}
 use Rattle.model.specs.Outcome.{Cells}
 use Rattle.model.specs.Tree.{stmt, emit, block, branch, switch, loop, break, continue, return, kill, call, effect, end, _then_, case, nomore, _also_}
 use Rattle.model.specs.Operands.{opsOf, resultOf, ops, standing}
 use Rattle.model.specs.Scope.{XStmt, XForm, XBlock, XCase, XCases, addE, addOpt, addF, addS, topB, holdsS, holdsF, holdsB, holdsK, holdsC, contB, vis, allVis, optVis, okE, okS, okF, okB, okK, okC}
 use Rattle.model.specs.Walk.{End, finished, Trace, Rest, K, ends, only, ▸read, ▸readOpt, ▸evalOpt, ▸emit, choose, pick, roundEnd, rounds, fallTo, walkS, walkF, walkB, walkK, walkC}
-use Rattle.theory_walks.specs.Tests.{Yes, and-l, and-r, or-l, or-r, or-later}
 use Rattle.theory_walks.specs.Reads.{Sound, s-halt, s-read, s-eval, s-call}
 
 module _ (xs : List Cells) where
@@ -98,7 +98,7 @@ module _ (xs : List Cells) where
   good-read : (ys : List ℕ) (t : Trace) (ρ σ : List ℕ) → Sub ρ σ → Yes (allVis (standing xs) ρ ys) → Good t σ → Good (▸read ys t) σ
   unfolding ▸read allVis
   good-read [] t ρ σ h v g = g
-  good-read (y ∷ ys) t ρ σ h v g = s-read (h y (and-l (Vis ρ y) _ v)) (good-read ys t ρ σ h (and-r (Vis ρ y) _ v) g)
+  good-read (y ∷ ys) t ρ σ h v g = s-read (h y (and-first (Vis ρ y) _ v)) (good-read ys t ρ σ h (and-second (Vis ρ y) _ v) g)
 
   good-readOpt : (x : Option ℕ) (t : Trace) (ρ σ : List ℕ) → Sub ρ σ → Yes (optVis (standing xs) ρ x) → Good t σ → Good (▸readOpt x t) σ
   unfolding ▸readOpt optVis
@@ -114,8 +114,8 @@ module _ (xs : List Cells) where
   unfolding ▸emit okE addE
   good-emit [] k ρ σ h t f cs = f σ h cs
   good-emit (e ∷ es) k ρ σ h t f cs =
-      good-read (ops xs e) _ ρ σ h (and-l (allVis (standing xs) ρ (ops xs e)) _ t)
-      (s-eval (good-emit es k (e ∷ ρ) (e ∷ σ) (sub-cons e ρ σ h) (and-r (allVis (standing xs) ρ (ops xs e)) _ t) f cs))
+      good-read (ops xs e) _ ρ σ h (and-first (allVis (standing xs) ρ (ops xs e)) _ t)
+      (s-eval (good-emit es k (e ∷ ρ) (e ∷ σ) (sub-cons e ρ σ h) (and-second (allVis (standing xs) ρ (ops xs e)) _ t) f cs))
 
   good-choose : (k : ℕ → Rest) (σ : List ℕ) → ((n : ℕ) (ds : List ℕ) → Good (k n ds) σ) → (cs : List ℕ) → Good (choose k cs) σ
   unfolding choose
@@ -137,11 +137,11 @@ module _ (xs : List Cells) where
   runs-fall zero k out ρ f g = g
   runs-fall (suc t) k out ρ f g = f
 
-  -- what a part does from a scope ρ: ρn is the scope behind it, ρc that at its Continues, of which it has some only if H
+  -- what a part does from a scope ρ: ρn is the scope after it, ρc that at its Continues, of which it has some only if H
   abbrev Does : (ρ ρn ρc : List ℕ) (H : Type 0) → (K → Rest) → Type 0
   Does ρ ρn ρc H w = (k : K) → Runs ρn (k .go) → Runs ρ (k .brk) → (H → Runs ρc (k .con)) → Runs ρ (w k)
 
-  -- a Loop: ρ its scope, ρb behind its body, ρc at its continuing block, ρx at its break_if
+  -- a Loop: ρ its scope, ρb after its body, ρc at its continuing block, ρx at its break_if
   runs-rounds : (n : ℕ) (b c : K → Rest) (x : Option ℕ) (out : Rest) (ρ ρb ρc ρx ρd : List ℕ) (H J : Type 0)
       → Sub ρc ρb → Sub ρ ρc → Sub ρc ρx → Yes (optVis (standing xs) ρx x) → Does ρ ρb ρc H b → Does ρc ρx ρd J c → Runs ρ out → Runs ρ (rounds n b c x out)
   unfolding rounds only
@@ -175,21 +175,21 @@ module _ (xs : List Cells) where
     soundF (emit es) ρ t k f fb fc σ h cs = good-emit es (k .go) ρ σ h t f cs
     soundF (block b) ρ t k f fb fc σ h cs = inner b ρ _ (λ j f₁ f₂ f₃ τ s ys. soundB b ρ t j f₁ f₂ f₃ τ s ys) k f fb fc σ h cs
     soundF (branch c a b) ρ t k f fb fc σ h cs =
-        let t₁ = and-r (Vis ρ c) _ t in
-        s-read (h c (and-l (Vis ρ c) _ t))
+        let t₁ = and-second (Vis ρ c) _ t in
+        s-read (h c (and-first (Vis ρ c) _ t))
         (good-choose _ σ
         (good-pick _ _ σ
-        (λ ds. inner a ρ _ (λ j f₁ f₂ f₃ τ s ys. soundB a ρ (and-l (okB a xs ρ) _ t₁) j f₁ f₂ f₃ τ s ys) k f fb (λ j. fc (or-l (holdsB a) _ j)) σ h ds)
-        (λ ds. inner b ρ _ (λ j f₁ f₂ f₃ τ s ys. soundB b ρ (and-r (okB a xs ρ) _ t₁) j f₁ f₂ f₃ τ s ys) k f fb (λ j. fc (or-r (holdsB a) _ j)) σ h ds))
+        (λ ds. inner a ρ _ (λ j f₁ f₂ f₃ τ s ys. soundB a ρ (and-first (okB a xs ρ) _ t₁) j f₁ f₂ f₃ τ s ys) k f fb (λ j. fc (or-l (holdsB a) _ j)) σ h ds)
+        (λ ds. inner b ρ _ (λ j f₁ f₂ f₃ τ s ys. soundB b ρ (and-second (okB a xs ρ) _ t₁) j f₁ f₂ f₃ τ s ys) k f fb (λ j. fc (or-r (holdsB a) _ j)) σ h ds))
         cs)
     soundF (switch c ks) ρ t k f fb fc σ h cs =
-        s-read (h c (and-l (Vis ρ c) _ t)) (good-choose _ σ (λ n ds. soundC ks ρ (and-r (Vis ρ c) _ t) n _ f f fc σ h ds) cs)
+        s-read (h c (and-first (Vis ρ c) _ t)) (good-choose _ σ (λ n ds. soundC ks ρ (and-second (Vis ρ c) _ t) n _ f f fc σ h ds) cs)
     soundF (loop a b x) ρ t k f fb fc σ h cs =
-        let t₁ = and-r (okB a xs ρ) _ t in
+        let t₁ = and-second (okB a xs ρ) _ t in
         runs-rounds (suc (length cs)) (λ j ds. walkB a xs j ds) (λ j ds. walkB b xs j ds) x (k .go) ρ (topB a ρ) (contB a ρ) (topB b (contB a ρ)) (contB b (contB a ρ)) (Yes (holdsB a)) (Yes (holdsB b))
-        (sub-cont a ρ) (sub-in a ρ) (sub-top b (contB a ρ)) (and-r (okB b xs (contB a ρ)) _ t₁)
-        (λ j f₁ f₂ f₃ τ s ds. soundB a ρ (and-l (okB a xs ρ) _ t) j f₁ f₂ f₃ τ s ds)
-        (λ j f₁ f₂ f₃ τ s ds. soundB b (contB a ρ) (and-l (okB b xs (contB a ρ)) _ t₁) j f₁ f₂ f₃ τ s ds)
+        (sub-cont a ρ) (sub-in a ρ) (sub-top b (contB a ρ)) (and-second (okB b xs (contB a ρ)) _ t₁)
+        (λ j f₁ f₂ f₃ τ s ds. soundB a ρ (and-first (okB a xs ρ) _ t) j f₁ f₂ f₃ τ s ds)
+        (λ j f₁ f₂ f₃ τ s ds. soundB b (contB a ρ) (and-first (okB b xs (contB a ρ)) _ t₁) j f₁ f₂ f₃ τ s ds)
         f σ h cs
     soundF break ρ t k f fb fc σ h cs = fb σ h cs
     soundF continue ρ t k f fb fc σ h cs = fc refl σ h cs
@@ -201,8 +201,8 @@ module _ (xs : List Cells) where
     pub soundB : (b : XBlock) (ρ : List ℕ) → Yes (okB b xs ρ) → Does ρ (topB b ρ) (contB b ρ) (Yes (holdsB b)) (λ k. walkB b xs k)
     soundB end ρ t k f fb fc σ h cs = f σ h cs
     soundB (s then b) ρ t k f fb fc σ h cs =
-        soundS s ρ (and-l (okS s xs ρ) _ t) _
-        (λ τ u ds. soundB b (addS s ρ) (and-r (okS s xs ρ) _ t) k f
+        soundS s ρ (and-first (okS s xs ρ) _ t) _
+        (λ τ u ds. soundB b (addS s ρ) (and-second (okS s xs ρ) _ t) k f
         (λ υ w es. fb υ (λ e v. w e (sub-addS s ρ e v)) es)
         (late (holdsS s) (holdsB b) ρ _ (k .con) (λ e v. sub-in b (addS s ρ) e (sub-addS s ρ e v)) fc)
         τ u ds)
@@ -216,8 +216,8 @@ module _ (xs : List Cells) where
     soundC : (ks : XCases) (ρ : List ℕ) → Yes (okC ks xs ρ) → (n : ℕ) → Does ρ ρ ρ (Yes (holdsC ks)) (λ k. walkC ks xs k n)
     soundC nomore ρ t n k f fb fc σ h cs = s-halt
     soundC (c also ks) ρ t zero k f fb fc σ h cs =
-        soundK c ρ (and-l (okK c xs ρ) _ t) _ (λ τ s ds. soundC ks ρ (and-r (okK c xs ρ) _ t) zero k f fb (λ j. fc (or-r (holdsK c) _ j)) τ s ds) k f fb (λ j. fc (or-l (holdsK c) _ j)) σ h cs
-    soundC (c also ks) ρ t (suc n) k f fb fc σ h cs = soundC ks ρ (and-r (okK c xs ρ) _ t) n k f fb (λ j. fc (or-r (holdsK c) _ j)) σ h cs
+        soundK c ρ (and-first (okK c xs ρ) _ t) _ (λ τ s ds. soundC ks ρ (and-second (okK c xs ρ) _ t) zero k f fb (λ j. fc (or-r (holdsK c) _ j)) τ s ds) k f fb (λ j. fc (or-l (holdsK c) _ j)) σ h cs
+    soundC (c also ks) ρ t (suc n) k f fb fc σ h cs = soundC ks ρ (and-second (okK c xs ρ) _ t) n k f fb (λ j. fc (or-r (holdsK c) _ j)) σ h cs
 
   pub body-sound : (b : XBlock) → Yes (okB b xs []) → (cs : List ℕ) → Good (walkB b xs (only (ends finished)) cs) []
   unfolding only

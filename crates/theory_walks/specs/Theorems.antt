@@ -1,10 +1,11 @@
--- The theorems on walks, each with its statement in full; the proofs stand in the files that end in `Proof`. They are about definitions alone and name no linker: what they say of two functions that agree holds however the second came about.
+-- The theorems on walks, each with its statement in full; the proofs are in the files that end in `Proof`. They are about definitions alone and name no linker: what they say of two functions that agree holds however the second came about.
 use mathlib.Core.Path.{_≡_, refl}
 use mathlib.Core.Bool.{true, false, false≢true}
 use mathlib.Core.List.{List, [], map}
 use mathlib.Core.Option.{Option, some}
 use Prim.Native.Nat.{ℕ}
 use lib.ListN.{getD, getElem?}
+use Rattle.theory_lists.specs.Booleans.{and-first, and-second}
 use Rattle.model.specs.Outcome.{Cells}
 use Rattle.model.specs.Tree.{Function, Entry, loop}
 use Rattle.model.specs.Module.{Module}
@@ -16,7 +17,6 @@ use Rattle.model.specs.Carry.{OkB, WellFormed}
 use Rattle.model.specs.Numbers.{numbered}
 use Rattle.model.specs.Agreement.{Mapping}
 use Rattle.model.specs.Agreement as Whole
-use Rattle.theory_walks.specs.Tests.{and-l, and-r}
 use Rattle.theory_walks.specs.Reads.{Sound}
 use Rattle.theory_walks.specs.Agreement.{Maps, carryOpt, mentioned, Agrees, Agreement, Carries}
 use Rattle.theory_walks.specs.FuelProof as FuelProof
@@ -33,7 +33,7 @@ pub loop-unrolls : (a b : XBlock) (x : Option ℕ) (xs : List Cells) (k : K) (cs
     ≡ (let cont : Rest = walkB b xs (only (roundEnd x (k .go) (walkF (loop a b x) xs k))) in walkB a xs (record { go = cont; brk = k .go; con = cont }) cs)
 loop-unrolls = FuelProof.loop-unrolls
 
--- Where Breaks and Continues have their places, what one without a place would do is never asked: of a function's body, and of a continuing block.
+-- Where Breaks and Continues have their places, what one without a place would do is never used: of a function's body, and of a continuing block.
 pub places : (b : XBlock) (p : Place) → p .breaks ≡ false → p .continues ≡ false → shapeB b p ≡ true
     → (xs : List Cells) (go brk con : Rest) (cs : List ℕ) → walkB b xs (record { go = go; brk = brk; con = con }) cs ≡ walkB b xs (only go) cs
 unfolding only
@@ -47,11 +47,11 @@ sound = function-sound
 -- So of every function and every entry point of a module that passes.
 pub sound-functions : (M : Module) → inScope M ≡ true → (i : ℕ) (F : Function) → getElem? (M .functions) i ≡ some F → (cs : List ℕ) → Sound (standing (F .exprs)) (walk F cs) []
 unfolding inScope
-sound-functions M h i F q = sound F (scoped-at (M .functions) (and-l (allScoped (M .functions)) _ h) i F q)
+sound-functions M h i F q = sound F (scoped-at (M .functions) (and-first (allScoped (M .functions)) _ h) i F q)
 
 pub sound-entries : (M : Module) → inScope M ≡ true → (i : ℕ) (E : Entry) → getElem? (M .entries) i ≡ some E → (cs : List ℕ) → Sound (standing (E .function .exprs)) (walk (E .function) cs) []
 unfolding inScope
-sound-entries M h i E q = sound (E .function) (entry-at (M .entries) (and-r (allScoped (M .functions)) _ h) i E q)
+sound-entries M h i E q = sound (E .function) (entry-at (M .entries) (and-second (allScoped (M .functions)) _ h) i E q)
 
 -- "Outside initialisers nothing reads an initialiser expression": nothing that the body reads or evaluates is one. `initialised` is a rule of test 3: "initialisers of locals reach only those kinds".
 pub unread : (F : Function) → scoped F ≡ true → initialised F ≡ true → (e : ℕ) → Mem e (mentioned F) → initial F e ≡ false
@@ -93,7 +93,7 @@ pub carries-scope : (M M′ : Module) (μ : Maps) (F F′ : Function) (f : ℕ �
 carries-scope = agreed-scope
 
 -- ---- agreement in full (`Agreement` of the crate model)
--- It is agreement as it stands above, of modules that are well formed, as all are that are read from an image (`read-well` of the crate theory_image). So for every function and every entry point, and every list of numbers, the target's walk is the source's carried through the maps, and both end alike.
+-- It is agreement as it is above, of modules that are well formed, as all are that are read from an image (`read-well` of the crate theory_image). So for every function and every entry point, and every list of numbers, the target's walk is the source's carried through the maps, and both end alike.
 pub whole : (M M′ : Module) (μ : Mapping) → WellFormed M → WellFormed M′ → Whole.Agreement M M′ μ → Agreement M M′ (made μ)
 whole = module-walks
 
@@ -105,7 +105,7 @@ pub whole-entries : (M M′ : Module) (μ : Mapping) → WellFormed M → WellFo
     → (E′ : Entry) × (getElem? (M′ .entries) i ≡ some E′) × ((cs : List ℕ) → Carries (made μ) (E .function) (E′ .function) (made μ .inEntry i) cs)
 whole-entries M M′ μ w w′ a = carries-entries M M′ (made μ) (module-walks M M′ μ w w′ a)
 
--- Of a source that passes test 6, the target's walks read only what stands or has been evaluated.
+-- Of a source that passes test 6, the target's walks read only what is standing or has been evaluated.
 pub whole-sound : (M M′ : Module) (μ : Mapping) (o : List ℕ) (F F′ : Function) {d d′ : ℕ} → OkB d (F .body) → OkB d′ (F′ .body) → Whole.Agrees M M′ μ o F F′ → scoped F ≡ true → (cs : List ℕ) → Sound (standing (F′ .exprs)) (walk F′ cs) []
 whole-sound M M′ μ o F F′ p p′ a = carries-sound M M′ (made μ) F F′ (to o) (function-walks M M′ μ o F F′ a p p′)
 

@@ -8,6 +8,7 @@ use native.Mathlib.Omega.{arith}
 use lib.Dec.{eqb}
 use lib.ListN.{length, getD, getElem?}
 use borrow.Author.Tests.{eqb-true}
+use Rattle.theory_lists.specs.Booleans.{and-first, and-second}
 use Rattle.model.specs.Outcome.{Cells, class, word}
 use Rattle.model.specs.Table.{SPAN, UPTO, CALLEE, EXPR, OPT-EXPR, RESULT, OPT-RESULT, OPERANDS, BLOCK, CASES, LENGTH, STMT-KIND, VALUE, WORD, Shape, sEmit, sBlock, sIf, sSwitch, sLoop, sBreak, sContinue, sReturn, sKill, sCall, sEffect, statements}
 use Rattle.model.specs.Tree.{Stmt, Form, Block, Case, Cases, stmt, emit, block, branch, switch, loop, break, continue, return, kill, call, effect, end, _then_, case, nomore, _also_, Range, optOf, wordOf, kindOf, sizeB, sizeC, flatX, flatS, flatF, flatB, flatK, flatC, flatBlock}
@@ -18,7 +19,7 @@ use Rattle.model.specs.Initial.{here, there}
 use Rattle.model.specs.Scope.{XStmt, XForm, XBlock, XCase, XCases, inRange, live, evalsOpt, expandS, expandF, expand, expandK, expandC}
 use Rattle.model.specs.References.{Target, copied, ref, opt, own, function, targets, target, firstWord}
 use Rattle.model.specs.Agreement.{Mapping, opened, becomes, agreesW, agreesR}
-use Rattle.theory_walks.specs.Tests.{and-l, and-r}
+use Rattle.theory_image.specs.Words.{word-of}
 use Rattle.theory_walks.specs.Members.{Each, each-none, each-append, each-cons}
 use Rattle.theory_walks.specs.Agreement.{carried, plain, Alike, AlikeR, over, next, carryOpt, carryCells, carryS, carryF, carryB, carryK, carryC, mentionsE, mentionsS, mentionsF, mentionsB, mentionsK, mentionsC}
 use Rattle.theory_walks.specs.Agreement as Old
@@ -149,8 +150,8 @@ module _ (M M′ : Module) (μ : Mapping) (o : List ℕ) where
   unfolding carryCells calmC calm
   alike-cells over h = refl
   alike-cells (next {s = s} {w = w} {w′ = w′} {r = r} {r′ = r′} a b) h =
-      let p = alike-word a (and-l (plain s) _ (and-l (calm s) _ h)) in
-      let q = alike-cells b (and-r (calm s) _ h) in
+      let p = alike-word a (and-first (plain s) _ (and-first (calm s) _ h)) in
+      let q = alike-cells b (and-second (calm s) _ h) in
       cc
 
   optional-kept : (w w′ : ℕ) (zs : List ℕ) → agreesW M M′ μ o (opt own) w w′ ≡ true → Each Kept zs → Each Kept (optional w zs)
@@ -174,11 +175,6 @@ module _ (M M′ : Module) (μ : Mapping) (o : List ℕ) where
   ops-kept (c ∷ cs) [] h = absurd (false≢true h)
   ops-kept (c ∷ cs) (d ∷ ds) h = let p = parts M M′ μ o c d cs ds h in operand-kept (class c) (word c) (word d) (opsOf cs) (p .words) (ops-kept cs ds (p .others))
 
-  opt-of : (w : ℕ) → wordOf (optOf w) ≡ w
-  unfolding wordOf optOf
-  opt-of zero = refl
-  opt-of (suc e) = refl
-
   result-kept : (cs cs′ : Cells) → A cs cs′ → Each Kept (evalsOpt (resultOf cs))
   unfolding resultOf agreesR evalsOpt target targets
   result-kept [] cs′ h = each-none Kept
@@ -188,7 +184,7 @@ module _ (M M′ : Module) (μ : Mapping) (o : List ℕ) where
       go : (p q : Bool) → eqb (class c) RESULT ≡ p → eqb (class c) OPT-RESULT ≡ q → agreesW M M′ μ o (target (class c)) (word c) (word d) ≡ true → Each Kept (evalsOpt (resultOf cs))
           → Each Kept (evalsOpt (elim p [ true ↦ some (word c) | false ↦ elim q [ true ↦ optOf (word c) | false ↦ resultOf cs ] ]))
       go true q i j w r = each-cons (own-word (ref own) refl (word c) (word d) (rw (eqb-true (class c) RESULT i) at w) .1) (each-none Kept)
-      go false true i j w r = own-opt (optOf (word c)) (optOf (word d)) (rw (opt-of (word c), opt-of (word d)) (rw (eqb-true (class c) OPT-RESULT j) at w)) .1
+      go false true i j w r = own-opt (optOf (word c)) (optOf (word d)) (rw (word-of (word c), word-of (word d)) (rw (eqb-true (class c) OPT-RESULT j) at w)) .1
       go false false i j w r = r
 
   -- ---- bodies: xs are the source's expressions, of which a kept one reads kept ones
@@ -243,7 +239,7 @@ module _ (M M′ : Module) (μ : Mapping) (o : List ℕ) where
     abbrev GotC : Cases Range → Cases Range → Cells → Cells → Type 0
     GotC ks ks′ y y′ = (expandC ks′ drop′ ≡ carryC (expandC ks drop) (made μ) (to o)) × Each Kept (mentionsC (expandC ks drop) xs) × Opened y y′
 
-    -- a block behind its count
+    -- a block after its count
     inner : {d : ℕ} {b : Block Range} → OkB d b → (n : ℕ) × OkBs n b
     inner (ok-deeper {d = d} p) = (d, p)
 

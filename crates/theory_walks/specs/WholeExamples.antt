@@ -9,6 +9,7 @@ use Prim.Native.Nat.{ℕ, zero, suc}
 use native.Mathlib.Omega.{arith}
 use lib.Dec.{ltb}
 use lib.ListN.{getD, getElem?}
+use Rattle.theory_lists.specs.Booleans.{and-second}
 use Rattle.model.specs.Outcome.{Cells}
 use Rattle.model.specs.Table.{WORD, SPAN, UPTO, NAME, TYPE, OPT-TYPE, CONSTANT, GLOBAL, INIT, OPT-INIT, EXPR, KEY, TYPE-KIND, LOCAL-INIT, OVERRIDE, FUNCTION, OPT-EXPR, ARGUMENT, LOCAL, MEMBERS, LEVEL, VALUE, RETURNS, NAMED-EXPR}
 use Rattle.model.specs.Tree.{Block, call, return, block, branch, switch, loop, break, continue, kill, effect, case, nomore, _also_, end, _then_, Range, Function, Entry, optOf, wordOf, kindOf, sizeB, sizeC, flatAll, flatList, flatX, flatS, flatBlock, flat, flatEntry}
@@ -21,8 +22,8 @@ use Rattle.model.specs.SampleBodies.{record-of, literal, negate, splat, add, do
 use Rattle.model.specs.RedirectExamples.{letter}
 use Rattle.model.specs.ImportExamples.{leaf}
 use Rattle.model.specs.Tables.{Tab, names, types, constants, overrides, globals, exprs, codeT, isT, at, upd, six, tables, recAt, count, mapAt}
-use Rattle.model.specs.References.{Node, target as targetOf, targets, refOf, refs, firstWord, each, carryW, through, undefined, add as addSpan, spanBy, undefinedAt, moved, shift, alikeC, alike, seat, merged}
-use Rattle.model.specs.Imports.{once, settle, wentT, made, commit, stepT, importF, levels, importT, unmapped, emptied, fresh}
+use Rattle.model.specs.References.{Node, target as targetOf, targets, refOf, refs, firstWord, foldRefs, carryW, through, undefined, add as addSpan, spanBy, undefinedAt, moved, shift, alikeC, alike, indexOf, interned}
+use Rattle.model.specs.Imports.{unlessMapped, intern, mappedToT, made, commit, stepT, importF, levels, importT, unmapped, emptied, fresh}
 use Rattle.model.specs.Special.{force, withSpecial, putRay, rayTo, ray, rays, keyed, putPair, pairTo, pairs, sourced}
 use Rattle.model.specs.Finish.{namesIn, keepN, firsts, indexN, appearing, renumber, withNames, namedBy, gathered, finished}
 use Rattle.model.specs.Session.{withEntries}
@@ -31,10 +32,9 @@ use Rattle.model.specs.LinkMaps.{placesOf, memosOf, memosIn, linkMaps}
 use Rattle.theory_walks.specs.WholeTest.{testF, testO, testP, testFs, inverse, comes, testEs, testT, testTs, test, owner, owners, below, test-agrees}
 use Rattle.model.specs.Redirect.{nameWord, nothing, function as functionAt}
 use Rattle.model.specs.Carry.{carryCell, carryOpt, carryRange, carryS, carryFunction, carryEntry, carrySpecial, carry}
-use Rattle.model.specs.Bodies.{lastOf, known, bring, compareOf, comparesOf, eachE, optE, went, carried, step, push, join, stand, importE, plain, unique, quiet, goS, settled, mkS, putName, nameIf, keepNames, nameCells, namedRows, declarations, declared, walked, rebuilt, keptNames, namedAfter, derived, final, localized, appended, append, followF, follow, entered, entryMade, enterAll, entriesMade}
+use Rattle.model.specs.Bodies.{lastOf, known, bring, compareOf, comparesOf, eachE, optE, mappedTo, carried, step, appendExpr, internExpr, appendStanding, importE, importBody, importInitialiser, importStanding, importStmt, carriedForm, rebuildStmt, putName, nameIf, keepNames, nameCells, namedRows, declarations, declared, walked, rebuilt, keptNames, namedAfter, derived, final, localized, appended, append, followF, follow, entered, entryMade, enterAll, entriesMade}
 use Rattle.model.specs.Agreement.{Mapping, Among, Holds, as-entry, Reached, from-special, from-operand, first, later, opened, bodyOf, stated, becomes, agreesW, agreesR, agreesL, stands, agreesN, Agrees, as-function, from-function, from-kept, from-record, global, Agreement}
 use Rattle.theory_image.specs.Members.{no-mem}
-use Rattle.theory_walks.specs.Tests.{and-r}
 use Rattle.theory_walks.specs.Agreement.{carryS as carryX, mentionsS, mentioned}
 use Rattle.theory_walks.specs.Agreement as Old
 use Rattle.theory_walks.specs.WholeLaws.{allStand, mayShare, owned, sole}
@@ -102,7 +102,7 @@ dropped : (μ : Mapping) → Agreement (holds (leaf 0 1 0 ∷ []) [] [] (makes 1
 unfolding agreesL
 dropped μ a = false≢true (alone _ _ μ (makes 1 (argument 0 ∷ []) [] [] end) (makes 1 [] [] [] end) refl refl a .arguments)
 
--- ---- maps under which every number stays, of so many records each
+-- ---- maps that keep every number of a small module
 abbrev stays : Mapping
 stays = record {
   inTables = record { ofNames = []; ofTypes = 1 ∷ []; ofConstants = 1 ∷ []; ofOverrides = []; ofGlobals = []; ofExprs = 1 ∷ [] };
@@ -125,7 +125,7 @@ types-to-0 μ a = go (mapAt (μ .inTables) types 1) (a .records types 1 refl (fr
     go : (v : ℕ) → stands twoTypes oneType μ (global twoTypes oneType μ) (leaf 0 1 0 ∷ []) v (leaf 0 1 1) ≡ true → ⊥
     go zero h = false≢true h
     go (suc zero) h = false≢true h
-    go (suc (suc k)) h = false≢true (and-r (ltb (suc k) 1) _ h)
+    go (suc (suc k)) h = false≢true (and-second (ltb (suc k) 1) _ h)
 
 -- ---- a constant's init changed: the function returns the constant
 abbrev seven : ℕ → Module
@@ -196,7 +196,7 @@ key-dropped : (μ : Mapping) → Agreement (rayed 0 (((KEY, 7) ∷ (TYPE, 0) ∷
 unfolding agreesL
 key-dropped μ a = false≢true (a .pairs)
 
--- ---- what is not reached is not asked for: a type that nothing names may be mapped anywhere
+-- ---- what is not reached need not agree: a type that nothing names may be mapped anywhere
 abbrev lonely : Module
 lonely = holds (leaf 0 1 0 ∷ []) [] [] [] empty
 
@@ -322,7 +322,7 @@ maps = record {
 
 -- it is what linking makes
 linked : linkBy (1 ∷ 0 ∷ []) source ≡ target
-unfolding source target optOf wordOf kindOf sizeB sizeC flatAll flatList flatX flatS flatBlock carryCell carryOpt carryRange carryS carryFunction carryEntry carrySpecial carry kind standingKind kindAt standing field upFrom inRange nameWord nothing functionAt codeT isT at upd six tables recAt count mapAt targets targetOf refOf refs each carryW through undefined addSpan spanBy firstWord undefinedAt moved shift alikeC alike seat merged once settle wentT made commit stepT importF levels importT unmapped emptied fresh lastOf known bring compareOf comparesOf eachE optE went carried step push join stand importE plain unique quiet goS settled mkS putName nameIf keepNames nameCells namedRows declarations declared walked rebuilt keptNames namedAfter derived final localized appended append followF follow entered entryMade enterAll entriesMade force withSpecial putRay rayTo ray rays keyed putPair pairTo pairs sourced namesIn keepN firsts indexN appearing renumber withNames namedBy gathered finished withEntries appendAll linkBy places flatTable flatSpecial sections pairsFrom bodies flatModule flat flatEntry
+unfolding source target optOf wordOf kindOf sizeB sizeC flatAll flatList flatX flatS flatBlock carryCell carryOpt carryRange carryS carryFunction carryEntry carrySpecial carry kind standingKind kindAt standing field upFrom inRange nameWord nothing functionAt codeT isT at upd six tables recAt count mapAt targets targetOf refOf refs foldRefs carryW through undefined addSpan spanBy firstWord undefinedAt moved shift alikeC alike indexOf interned unlessMapped intern mappedToT made commit stepT importF levels importT unmapped emptied fresh lastOf known bring compareOf comparesOf eachE optE mappedTo carried step appendExpr internExpr appendStanding importE importBody importInitialiser importStanding importStmt carriedForm rebuildStmt putName nameIf keepNames nameCells namedRows declarations declared walked rebuilt keptNames namedAfter derived final localized appended append followF follow entered entryMade enterAll entriesMade force withSpecial putRay rayTo ray rays keyed putPair pairTo pairs sourced namesIn keepN firsts indexN appearing renumber withNames namedBy gathered finished withEntries appendAll linkBy places flatTable flatSpecial sections pairsFrom bodies flatModule flat flatEntry
 linked = refl
 
 met : Agreement source target maps
@@ -331,7 +331,7 @@ met = test-agrees source target maps refl
 
 -- and link's maps are these, with those of the names
 linked-maps : (linkMaps (1 ∷ 0 ∷ []) source .functions ≡ maps .functions) × (linkMaps (1 ∷ 0 ∷ []) source .inFunctions ≡ maps .inFunctions) × (linkMaps (1 ∷ 0 ∷ []) source .inEntries ≡ maps .inEntries) × (linkMaps (1 ∷ 0 ∷ []) source .inTables .ofTypes ≡ maps .inTables .ofTypes)
-unfolding source maps optOf wordOf kindOf sizeB sizeC flatAll flatList flatX flatS flatBlock carryCell carryOpt carryRange carryS carryFunction carryEntry carrySpecial carry kind standingKind kindAt standing field upFrom inRange nameWord nothing functionAt codeT isT at upd six tables recAt count mapAt targets targetOf refOf refs each carryW through undefined addSpan spanBy firstWord undefinedAt moved shift alikeC alike seat merged once settle wentT made commit stepT importF levels importT unmapped emptied fresh lastOf known bring compareOf comparesOf eachE optE went carried step push join stand importE plain unique quiet goS settled mkS putName nameIf keepNames nameCells namedRows declarations declared walked rebuilt keptNames namedAfter derived final localized appended append followF follow entered entryMade enterAll entriesMade force withSpecial putRay rayTo ray rays keyed putPair pairTo pairs sourced namesIn keepN firsts indexN appearing renumber withNames namedBy gathered finished withEntries appendAll linkBy places flatTable flatSpecial sections pairsFrom bodies flatModule flat flatEntry agreesR agreesL agreesW agreesN becomes stands bodyOf opened stated same live marked initials moving reachedMarks close mark readBy unmarked roots initsOf optional operand opsOf initial mayShare owned sole allStand testF testO testP testFs inverse comes testEs testT testTs test owner owners below placesOf memosOf memosIn linkMaps
+unfolding source maps optOf wordOf kindOf sizeB sizeC flatAll flatList flatX flatS flatBlock carryCell carryOpt carryRange carryS carryFunction carryEntry carrySpecial carry kind standingKind kindAt standing field upFrom inRange nameWord nothing functionAt codeT isT at upd six tables recAt count mapAt targets targetOf refOf refs foldRefs carryW through undefined addSpan spanBy firstWord undefinedAt moved shift alikeC alike indexOf interned unlessMapped intern mappedToT made commit stepT importF levels importT unmapped emptied fresh lastOf known bring compareOf comparesOf eachE optE mappedTo carried step appendExpr internExpr appendStanding importE importBody importInitialiser importStanding importStmt carriedForm rebuildStmt putName nameIf keepNames nameCells namedRows declarations declared walked rebuilt keptNames namedAfter derived final localized appended append followF follow entered entryMade enterAll entriesMade force withSpecial putRay rayTo ray rays keyed putPair pairTo pairs sourced namesIn keepN firsts indexN appearing renumber withNames namedBy gathered finished withEntries appendAll linkBy places flatTable flatSpecial sections pairsFrom bodies flatModule flat flatEntry agreesR agreesL agreesW agreesN becomes stands bodyOf opened stated same live marked initials moving reachedMarks close mark readBy unmarked roots initsOf optional operand opsOf initial mayShare owned sole allStand testF testO testP testFs inverse comes testEs testT testTs test owner owners below placesOf memosOf memosIn linkMaps
 linked-maps = (refl, refl, refl, refl)
 
 -- ---- every form of statement, an override, a struct: linked, it agrees by link's maps
@@ -391,5 +391,5 @@ wide = record {
 }
 
 wide-agrees : Agreement wide (linkBy (1 ∷ 0 ∷ []) wide) (linkMaps (1 ∷ 0 ∷ []) wide)
-unfolding wide optOf wordOf kindOf sizeB sizeC flatAll flatList flatX flatS flatBlock carryCell carryOpt carryRange carryS carryFunction carryEntry carrySpecial carry kind standingKind kindAt standing field upFrom inRange nameWord nothing functionAt codeT isT at upd six tables recAt count mapAt targets targetOf refOf refs each carryW through undefined addSpan spanBy firstWord undefinedAt moved shift alikeC alike seat merged once settle wentT made commit stepT importF levels importT unmapped emptied fresh lastOf known bring compareOf comparesOf eachE optE went carried step push join stand importE plain unique quiet goS settled mkS putName nameIf keepNames nameCells namedRows declarations declared walked rebuilt keptNames namedAfter derived final localized appended append followF follow entered entryMade enterAll entriesMade force withSpecial putRay rayTo ray rays keyed putPair pairTo pairs sourced namesIn keepN firsts indexN appearing renumber withNames namedBy gathered finished withEntries appendAll linkBy places flatTable flatSpecial sections pairsFrom bodies flatModule flat flatEntry agreesR agreesL agreesW agreesN becomes stands bodyOf opened stated same live marked initials moving reachedMarks close mark readBy unmarked roots initsOf optional operand opsOf initial mayShare owned sole allStand testF testO testP testFs inverse comes testEs testT testTs test owner owners below placesOf memosOf memosIn linkMaps
+unfolding wide optOf wordOf kindOf sizeB sizeC flatAll flatList flatX flatS flatBlock carryCell carryOpt carryRange carryS carryFunction carryEntry carrySpecial carry kind standingKind kindAt standing field upFrom inRange nameWord nothing functionAt codeT isT at upd six tables recAt count mapAt targets targetOf refOf refs foldRefs carryW through undefined addSpan spanBy firstWord undefinedAt moved shift alikeC alike indexOf interned unlessMapped intern mappedToT made commit stepT importF levels importT unmapped emptied fresh lastOf known bring compareOf comparesOf eachE optE mappedTo carried step appendExpr internExpr appendStanding importE importBody importInitialiser importStanding importStmt carriedForm rebuildStmt putName nameIf keepNames nameCells namedRows declarations declared walked rebuilt keptNames namedAfter derived final localized appended append followF follow entered entryMade enterAll entriesMade force withSpecial putRay rayTo ray rays keyed putPair pairTo pairs sourced namesIn keepN firsts indexN appearing renumber withNames namedBy gathered finished withEntries appendAll linkBy places flatTable flatSpecial sections pairsFrom bodies flatModule flat flatEntry agreesR agreesL agreesW agreesN becomes stands bodyOf opened stated same live marked initials moving reachedMarks close mark readBy unmarked roots initsOf optional operand opsOf initial mayShare owned sole allStand testF testO testP testFs inverse comes testEs testT testTs test owner owners below placesOf memosOf memosIn linkMaps
 wide-agrees = test-agrees wide (linkBy (1 ∷ 0 ∷ []) wide) (linkMaps (1 ∷ 0 ∷ []) wide) refl

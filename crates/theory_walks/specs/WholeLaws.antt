@@ -8,6 +8,7 @@ use lib.Dec.{eqb, ltb}
 use lib.ListN.{length, getD}
 use borrow.Author.Tests.{eqb-true}
 use native.Mathlib.Omega.{arith}
+use Rattle.theory_lists.specs.Booleans.{and-first, and-second, and-true, or-cases}
 use Rattle.model.specs.Outcome.{Cell, Cells, class, word}
 use Rattle.model.specs.Tree.{Function, flatAll}
 use Rattle.model.specs.Module.{Module, flatSpecial}
@@ -16,7 +17,6 @@ use Rattle.model.specs.Initial.{initial}
 use Rattle.model.specs.Tables.{Tab, names, exprs, isT, at, tables, recAt, mapAt}
 use Rattle.model.specs.References.{Place, table, own, function, Target, copied, start, upto, ref, opt, target, Node, node, refOf, refs}
 use Rattle.model.specs.Agreement.{Mapping, Among, first, later, MayShare, bodyOf, stated, becomes, agreesW, agreesR, agreesL, stands, Agrees, Holds, Reached, from-function, from-kept, from-special, from-record, from-operand, global}
-use Rattle.theory_walks.specs.Tests.{and-l, and-r, and-both, or-cases}
 
 none-among : {A : Type 0} {x : A} → Among x [] → ⊥
 none-among = elim [ ]
@@ -25,7 +25,7 @@ no-suc : {k : ℕ} → _≡_ {A = ℕ} 0 (suc k) → ⊥
 no-suc q = omega (arith, q)
 
 module _ (M M′ : Module) (μ : Mapping) where
-  -- where a number went: 0, or the target's number plus 1
+  -- what a number is mapped to: 0, or the target's number plus 1
   unfoldable pub went : List ℕ → Place → ℕ → ℕ
   went o (table t) n = mapAt (μ .inTables) t n
   went o own n = getD o n 0
@@ -68,12 +68,12 @@ module _ (M M′ : Module) (μ : Mapping) where
     pub parts : (c d : Cell) (cs ds : Cells) → agreesR M M′ μ o (c ∷ cs) (d ∷ ds) ≡ true → Parts c d cs ds
     unfolding agreesR
     parts c d cs ds q =
-        let q₁ = and-r (eqb (class c) (class d)) _ q in
-        record { classes = and-l (eqb (class c) (class d)) _ q; words = and-l (agreesW M M′ μ o (target (class c)) (word c) (word d)) _ q₁; others = and-r (agreesW M M′ μ o (target (class c)) (word c) (word d)) _ q₁ }
+        let q₁ = and-second (eqb (class c) (class d)) _ q in
+        record { classes = and-first (eqb (class c) (class d)) _ q; words = and-first (agreesW M M′ μ o (target (class c)) (word c) (word d)) _ q₁; others = and-second (agreesW M M′ μ o (target (class c)) (word c) (word d)) _ q₁ }
 
     pub joined : (c d : Cell) (cs ds : Cells) → Parts c d cs ds → agreesR M M′ μ o (c ∷ cs) (d ∷ ds) ≡ true
     unfolding agreesR
-    joined c d cs ds p = and-both {a = eqb (class c) (class d)} (p .classes) (and-both {a = agreesW M M′ μ o (target (class c)) (word c) (word d)} (p .words) (p .others))
+    joined c d cs ds p = and-true {a = eqb (class c) (class d)} (p .classes) (and-true {a = agreesW M M′ μ o (target (class c)) (word c) (word d)} (p .words) (p .others))
 
     pub refs-mapped : (r r′ : Cells) → agreesR M M′ μ o r r′ ≡ true → (x : Node) → isName (x .place) ≡ false → Among x (refs r) → Mapped x
     unfolding agreesR refs
@@ -83,7 +83,7 @@ module _ (M M′ : Module) (μ : Mapping) where
         let p = parts c d cs ds q in
         word-mapped (target (class c)) (word c) (word d) (p .words) (refs cs) x h a (refs-mapped cs ds (p .others) x h)
 
-    -- ---- records behind one another
+    -- ---- records after one another
     pub agrees-append : (r r′ s s′ : Cells) → agreesR M M′ μ o r r′ ≡ true → agreesR M M′ μ o s s′ ≡ true → agreesR M M′ μ o (r ++ s) (r′ ++ s′) ≡ true
     unfolding agreesR
     agrees-append [] [] s s′ p q = q
@@ -98,7 +98,7 @@ module _ (M M′ : Module) (μ : Mapping) where
     agrees-flat [] [] p = refl
     agrees-flat [] (d ∷ ds) p = absurd (false≢true p)
     agrees-flat (c ∷ cs) [] p = absurd (false≢true p)
-    agrees-flat (c ∷ cs) (d ∷ ds) p = agrees-append c d (flatAll cs) (flatAll ds) (and-l _ (agreesL M M′ μ o cs ds) p) (agrees-flat cs ds (and-r (agreesR M M′ μ o c d) _ p))
+    agrees-flat (c ∷ cs) (d ∷ ds) p = agrees-append c d (flatAll cs) (flatAll ds) (and-first _ (agreesL M M′ μ o cs ds) p) (agrees-flat cs ds (and-second (agreesR M M′ μ o c d) _ p))
 
     pub agrees-stated : (F F′ : Function) → Agrees M M′ μ o F F′ → agreesR M M′ μ o (stated F) (stated F′) ≡ true
     unfolding stated
@@ -121,12 +121,12 @@ module _ (M M′ : Module) (μ : Mapping) where
     pub stand-at : (vs : List ℕ) (rs xs′ : List Cells) → allStand vs rs xs′ ≡ true → (n k : ℕ) → getD vs n 0 ≡ suc k → stands M M′ μ o xs′ (suc k) (getD rs n []) ≡ true
     unfolding allStand
     stand-at [] rs xs′ h n k q = absurd (no-suc q)
-    stand-at (v ∷ vs) [] xs′ h zero k q = absurd (no-suc (sym (eqb-true v 0 (and-l (eqb v 0) _ h)) ∙ q))
-    stand-at (v ∷ vs) [] xs′ h (suc n) k q = stand-at vs [] xs′ (and-r (eqb v 0) _ h) n k q
+    stand-at (v ∷ vs) [] xs′ h zero k q = absurd (no-suc (sym (eqb-true v 0 (and-first (eqb v 0) _ h)) ∙ q))
+    stand-at (v ∷ vs) [] xs′ h (suc n) k q = stand-at vs [] xs′ (and-second (eqb v 0) _ h) n k q
     stand-at (zero ∷ vs) (r ∷ rs) xs′ h zero k q = absurd (no-suc q)
     stand-at (zero ∷ vs) (r ∷ rs) xs′ h (suc n) k q = stand-at vs rs xs′ h n k q
-    stand-at (suc j ∷ vs) (r ∷ rs) xs′ h zero k q = subst (λ x. stands M M′ μ o xs′ x r ≡ true) q (and-l (stands M M′ μ o xs′ (suc j) r) _ h)
-    stand-at (suc j ∷ vs) (r ∷ rs) xs′ h (suc n) k q = stand-at vs rs xs′ (and-r (stands M M′ μ o xs′ (suc j) r) _ h) n k q
+    stand-at (suc j ∷ vs) (r ∷ rs) xs′ h zero k q = subst (λ x. stands M M′ μ o xs′ x r ≡ true) q (and-first (stands M M′ μ o xs′ (suc j) r) _ h)
+    stand-at (suc j ∷ vs) (r ∷ rs) xs′ h (suc n) k q = stand-at vs rs xs′ (and-second (stands M M′ μ o xs′ (suc j) r) _ h) n k q
 
   -- ---- maps under which every mapped record agrees cover all that is reached
   pub record Closed : Type 0 where
@@ -136,7 +136,7 @@ module _ (M M′ : Module) (μ : Mapping) where
 
   stands-agrees : (o : List ℕ) (xs′ : List Cells) (k : ℕ) (r : Cells) → stands M M′ μ o xs′ (suc k) r ≡ true → agreesR M M′ μ o r (getD xs′ k []) ≡ true
   unfolding stands
-  stands-agrees o xs′ k r h = and-r (ltb k (length xs′)) _ h
+  stands-agrees o xs′ k r h = and-second (ltb k (length xs′)) _ h
 
   module _ (c : Closed) where
     reached-mapped : {t : Tab} {n : ℕ} → Reached M M′ μ t n → isT t names ≡ false → (k : ℕ) × (mapAt (μ .inTables) t n ≡ suc k)
@@ -176,10 +176,10 @@ sole-at (zero ∷ vs) i share who h (suc e) k q =
 sole-at (suc j ∷ vs) i share who h zero k q =
     let z : i ≡ i + 0 = omega arith in
     let y : j ≡ k = omega (arith, q) in
-    subst (λ x. owned (share x) (getD who k 0) x ≡ true) z (subst (λ x. owned (share i) (getD who x 0) i ≡ true) y (and-l (owned (share i) (getD who j 0) i) _ h))
+    subst (λ x. owned (share x) (getD who k 0) x ≡ true) z (subst (λ x. owned (share i) (getD who x 0) i ≡ true) y (and-first (owned (share i) (getD who j 0) i) _ h))
 sole-at (suc j ∷ vs) i share who h (suc e) k q =
     let z : suc i + e ≡ i + suc e = omega arith in
-    subst (λ x. owned (share x) (getD who k 0) x ≡ true) z (sole-at vs (suc i) share who (and-r (owned (share i) (getD who j 0) i) _ h) e k q)
+    subst (λ x. owned (share x) (getD who k 0) x ≡ true) z (sole-at vs (suc i) share who (and-second (owned (share i) (getD who j 0) i) _ h) e k q)
 
 may-share : (F : Function) (e : ℕ) → mayShare F e ≡ true → MayShare F e
 unfolding mayShare

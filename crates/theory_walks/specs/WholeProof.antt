@@ -7,6 +7,7 @@ use Prim.Native.Nat.{ℕ, zero, suc, _<_, pred}
 use native.Mathlib.Omega.{arith}
 use lib.Dec.{ltb}
 use lib.ListN.{length, getD, getElem?}
+use Rattle.theory_lists.specs.Booleans.{and-first, and-second, and-true}
 use Rattle.model.specs.Outcome.{Cells}
 use Rattle.model.specs.Tree.{Stmt, Form, Block, Case, Cases, stmt, emit, block, branch, switch, loop, break, continue, return, kill, call, effect, end, _then_, case, nomore, _also_, Range, Function, Entry}
 use Rattle.model.specs.Module.{Module}
@@ -18,7 +19,6 @@ use Rattle.model.specs.Numbers.{Bounds, within, ordered, every, outside, inside
 use Rattle.model.specs.Scope.{inRange, live, evalsS, evalsF, evalsB, evalsK, evalsC, expandS, expandF, expand, expandK, expandC, allOf, seen, scopedAs, scoped, allScoped, entriesScoped, inScope}
 use Rattle.model.specs.Agreement.{Mapping, bodyOf, agreesR, stands}
 use Rattle.model.specs.Agreement as Whole
-use Rattle.theory_walks.specs.Tests.{and-l, and-r, and-both}
 use Rattle.theory_walks.specs.Members.{Each}
 use Rattle.theory_walks.specs.Agreement.{mentioned, Agrees, Agreement}
 use Rattle.theory_walks.specs.FunctionProof.{agreed-scope, scoped-at, entry-at}
@@ -29,7 +29,7 @@ use Rattle.theory_walks.specs.WholeBody.{Kept, ops-kept, body-walks}
 module _ (M M′ : Module) (μ : Mapping) (o : List ℕ) (F F′ : Function) (a : Whole.Agrees M M′ μ o F F′) where
   kept-agrees : (e k : ℕ) → getD o e 0 ≡ suc k → agreesR M M′ μ o (getD (F .exprs) e []) (getD (F′ .exprs) k []) ≡ true
   unfolding stands
-  kept-agrees e k q = and-r (ltb k (length (F′ .exprs))) _ (a .kept e k q)
+  kept-agrees e k q = and-second (ltb k (length (F′ .exprs))) _ (a .kept e k q)
 
   kept-reads : (e : ℕ) → Kept M M′ μ o e → Each (Kept M M′ μ o) (ops (F .exprs) e)
   unfolding ops
@@ -138,14 +138,14 @@ inside-at (y ∷ l) (suc i) h = inside-at l i (omega (arith, h))
 functions-scoped : (Fs : List Function) → ((j : ℕ) (F : Function) → getElem? Fs j ≡ some F → scoped F ≡ true) → allScoped Fs ≡ true
 unfolding allScoped
 functions-scoped [] h = refl
-functions-scoped (F ∷ Fs) h = and-both {a = scoped F} (h 0 F refl) (functions-scoped Fs (λ j G q. h (suc j) G q))
+functions-scoped (F ∷ Fs) h = and-true {a = scoped F} (h 0 F refl) (functions-scoped Fs (λ j G q. h (suc j) G q))
 
 entries-scoped : (Es : List Entry) → ((j : ℕ) (E : Entry) → getElem? Es j ≡ some E → scoped (E .function) ≡ true) → entriesScoped Es ≡ true
 unfolding entriesScoped
 entries-scoped [] h = refl
-entries-scoped (E ∷ Es) h = and-both {a = scoped (E .function)} (h 0 E refl) (entries-scoped Es (λ j G q. h (suc j) G q))
+entries-scoped (E ∷ Es) h = and-true {a = scoped (E .function)} (h 0 E refl) (entries-scoped Es (λ j G q. h (suc j) G q))
 
--- what of test 3 is asked for
+-- the part of test 3 that is needed
 pub record Initialised (M : Module) : Type 0 where
   pub in-functions : (i : ℕ) (F : Function) → getElem? (M .functions) i ≡ some F → initialised F ≡ true
   pub in-entries : (i : ℕ) (E : Entry) → getElem? (M .entries) i ≡ some E → initialised (E .function) ≡ true
@@ -153,26 +153,26 @@ pub record Initialised (M : Module) : Type 0 where
 every-at : {A : Type 0} (p : A → Bool) (l : List A) → every p l ≡ true → (i : ℕ) (x : A) → getElem? l i ≡ some x → p x ≡ true
 unfolding every
 every-at p [] h i x q = absurd (let z : _≡_ {A = ℕ} 0 1 = cc in omega arith)
-every-at p (y ∷ l) h zero x q = let z : y ≡ x = cc in subst (λ w. p w ≡ true) z (and-l (p y) _ h)
-every-at p (y ∷ l) h (suc i) x q = every-at p l (and-r (p y) _ h) i x q
+every-at p (y ∷ l) h zero x q = let z : y ≡ x = cc in subst (λ w. p w ≡ true) z (and-first (p y) _ h)
+every-at p (y ∷ l) h (suc i) x q = every-at p l (and-second (p y) _ h) i x q
 
 sound-initialised : (b : Bounds) (F : Function) (cs : Cells) → sound b F cs ≡ true → initialised F ≡ true
 unfolding sound
-sound-initialised b F cs h = and-r (ordered cs) _ (and-r (within (inside b F) cs) _ h)
+sound-initialised b F cs h = and-second (ordered cs) _ (and-second (within (inside b F) cs) _ h)
 
 pub numbered-initialised : (M : Module) → numbered M ≡ true → Initialised M
 unfolding numbered
 numbered-initialised M h =
-    let h₁ = and-r (every (within (outside M)) (M .types)) _ h in
-    let h₂ = and-r (every (within (outside M)) (M .constants)) _ h₁ in
-    let h₃ = and-r (every (within (outside M)) (M .overrides)) _ h₂ in
-    let h₄ = and-r (every (within (outside M)) (M .globals)) _ h₃ in
-    let h₅ = and-r (every (within (outside M)) (M .exprs)) _ h₄ in
-    let h₆ = and-r (every constantOnly (M .exprs)) _ h₅ in
-    let h₇ = and-r (every (soundFunction (outside M)) (M .functions)) _ h₆ in
+    let h₁ = and-second (every (within (outside M)) (M .types)) _ h in
+    let h₂ = and-second (every (within (outside M)) (M .constants)) _ h₁ in
+    let h₃ = and-second (every (within (outside M)) (M .overrides)) _ h₂ in
+    let h₄ = and-second (every (within (outside M)) (M .globals)) _ h₃ in
+    let h₅ = and-second (every (within (outside M)) (M .exprs)) _ h₄ in
+    let h₆ = and-second (every constantOnly (M .exprs)) _ h₅ in
+    let h₇ = and-second (every (soundFunction (outside M)) (M .functions)) _ h₆ in
     record {
-      in-functions = λ i F q. sound-initialised (outside M) F _ (every-at (soundFunction (outside M)) (M .functions) (and-l (every (soundFunction (outside M)) (M .functions)) _ h₆) i F q);
-      in-entries = λ i E q. sound-initialised (outside M) (E .function) _ (every-at (soundEntry (outside M)) (M .entries) (and-l (every (soundEntry (outside M)) (M .entries)) _ h₇) i E q);
+      in-functions = λ i F q. sound-initialised (outside M) F _ (every-at (soundFunction (outside M)) (M .functions) (and-first (every (soundFunction (outside M)) (M .functions)) _ h₆) i F q);
+      in-entries = λ i E q. sound-initialised (outside M) (E .function) _ (every-at (soundEntry (outside M)) (M .entries) (and-first (every (soundEntry (outside M)) (M .entries)) _ h₇) i E q);
     }
 
 module _ (M M′ : Module) (μ : Mapping) (w : WellFormed M) (w′ : WellFormed M′) (a : Whole.Agreement M M′ μ) (s : inScope M ≡ true) (i : Initialised M) (n : Plain M′) where
@@ -186,7 +186,7 @@ module _ (M M′ : Module) (μ : Mapping) (w : WellFormed M) (w′ : WellFormed 
       let y : r .1 ≡ F′ = (let x = r .3 in cc) in
       subst (λ G. scoped G ≡ true) y
       (scope-whole M M′ μ (getD (μ .inFunctions) (b .0) []) (b .1) (r .1) (all-at (M .functions) (w .functions-ok .each) (b .0) (b .1) (b .2) .body-ok) (all-at (M′ .functions) (w′ .functions-ok .each) (r .0) (r .1) (r .3) .body-ok) (r .4)
-      (scoped-at (M .functions) (and-l (allScoped (M .functions)) _ s) (b .0) (b .1) (b .2)) (i .in-functions (b .0) (b .1) (b .2)) (n .0 (r .0) (r .1) (r .3)))
+      (scoped-at (M .functions) (and-first (allScoped (M .functions)) _ s) (b .0) (b .1) (b .2)) (i .in-functions (b .0) (b .1) (b .2)) (n .0 (r .0) (r .1) (r .3)))
 
   target-entry : (j : ℕ) (E′ : Entry) → getElem? (M′ .entries) j ≡ some E′ → scoped (E′ .function) ≡ true
   unfolding inScope
@@ -198,8 +198,8 @@ module _ (M M′ : Module) (μ : Mapping) (w : WellFormed M) (w′ : WellFormed 
       let y : r .0 ≡ E′ = (let x = r .1 in cc) in
       subst (λ G. scoped (G .function) ≡ true) y
       (scope-whole M M′ μ (getD (μ .inEntries) j []) (b .0 .function) (r .0 .function) (all-at (M .entries) (w .entries-ok .each) j (b .0) (b .1) .function-ok .body-ok) (all-at (M′ .entries) (w′ .entries-ok .each) j (r .0) (r .1) .function-ok .body-ok) (r .3)
-      (entry-at (M .entries) (and-r (allScoped (M .functions)) _ s) j (b .0) (b .1)) (i .in-entries j (b .0) (b .1)) (n .1 j (r .0) (r .1)))
+      (entry-at (M .entries) (and-second (allScoped (M .functions)) _ s) j (b .0) (b .1)) (i .in-entries j (b .0) (b .1)) (n .1 j (r .0) (r .1)))
 
   pub target-in-scope : inScope M′ ≡ true
   unfolding inScope
-  target-in-scope = and-both {a = allScoped (M′ .functions)} (functions-scoped (M′ .functions) target-function) (entries-scoped (M′ .entries) target-entry)
+  target-in-scope = and-true {a = allScoped (M′ .functions)} (functions-scoped (M′ .functions) target-function) (entries-scoped (M′ .entries) target-entry)

@@ -1,4 +1,4 @@
--- The cells of statements that are no Emit: no span, no name and no Emit's range among them, so that they stand in an opened body as they are.
+-- The cells of statements that are no Emit: no span, no name and no Emit's range among them, so that they are in an opened body as they are.
 use mathlib.Core.Path.{_≡_, refl, sym, ap, _∙_, subst}
 use mathlib.Core.Bool.{Bool, true, false, _&&_, _||_, not, false≢true}
 use mathlib.Core.List.{List, [], _∷_, _++_}
@@ -8,11 +8,11 @@ use native.Mathlib.Omega.{arith}
 use lib.Dec.{eqb, ltb}
 use lib.ListN.{getElem?}
 use borrow.Author.Tests.{eqb-true}
+use Rattle.theory_lists.specs.Booleans.{and-first, and-second, and-true, by}
 use Rattle.model.specs.Outcome.{Cell, Cells, class}
 use Rattle.model.specs.Table.{Row, FROM, TO, WORD, PAD, ATOMIC, VALUE, Shape, sEmit, sBlock, sIf, sSwitch, sLoop, sBreak, sContinue, sReturn, sKill, sCall, sEffect, statements, atomics, values, variants, variant, brings, more}
 use Rattle.model.specs.Carry.{Lays, lays-none, lays-next}
 use Rattle.model.specs.Agreement.{opened}
-use Rattle.theory_walks.specs.Tests.{and-l, and-r, and-both, by}
 use Rattle.theory_walks.specs.Agreement.{plain}
 
 -- neither a span nor a name nor an Emit's range
@@ -23,7 +23,7 @@ unfoldable pub calmC : Cells → Bool
 calmC [] = true
 calmC (c ∷ cs) = calm (class c) && calmC cs
 
--- of these classes only ATOMIC brings something
+-- of these classes only ATOMIC is followed by something
 unfoldable quiet : Row → Bool
 quiet [] = true
 quiet (s ∷ ss) = (calm s && (ltb s PAD || eqb s ATOMIC)) && quiet ss
@@ -35,8 +35,8 @@ quietAll (r ∷ rs) = quiet r && quietAll rs
 quiet-at : (rs : List Row) → quietAll rs ≡ true → (i : ℕ) (r : Row) → getElem? rs i ≡ some r → quiet r ≡ true
 unfolding quietAll
 quiet-at [] h i r q = absurd (let z : _≡_ {A = ℕ} 0 1 = cc in omega arith)
-quiet-at (x ∷ rs) h zero r q = let p : x ≡ r = cc in subst (λ y. quiet y ≡ true) p (and-l (quiet x) _ h)
-quiet-at (x ∷ rs) h (suc i) r q = quiet-at rs (and-r (quiet x) _ h) i r q
+quiet-at (x ∷ rs) h zero r q = let p : x ≡ r = cc in subst (λ y. quiet y ≡ true) p (and-first (quiet x) _ h)
+quiet-at (x ∷ rs) h (suc i) r q = quiet-at rs (and-second (quiet x) _ h) i r q
 
 unfoldable quietShapes : List Shape → Bool
 quietShapes [] = true
@@ -55,7 +55,7 @@ quietShapes (sEffect r ∷ hs) = quiet r && quietShapes hs
 shape-at : (hs : List Shape) → quietShapes hs ≡ true → (i : ℕ) (r : Row) → getElem? hs i ≡ some (sEffect r) → quiet r ≡ true
 unfolding quietShapes
 shape-at [] h i r q = absurd (let z : _≡_ {A = ℕ} 0 1 = cc in omega arith)
-shape-at (x ∷ hs) h zero r q = let p : x ≡ sEffect r = cc in and-l (quiet r) (quietShapes hs) (subst (λ y. quietShapes (y ∷ hs) ≡ true) p h)
+shape-at (x ∷ hs) h zero r q = let p : x ≡ sEffect r = cc in and-first (quiet r) (quietShapes hs) (subst (λ y. quietShapes (y ∷ hs) ≡ true) p h)
 shape-at (sEmit ∷ hs) h (suc i) r q = shape-at hs h i r q
 shape-at (sBlock ∷ hs) h (suc i) r q = shape-at hs h i r q
 shape-at (sIf ∷ hs) h (suc i) r q = shape-at hs h i r q
@@ -66,14 +66,14 @@ shape-at (sContinue ∷ hs) h (suc i) r q = shape-at hs h i r q
 shape-at (sReturn ∷ hs) h (suc i) r q = shape-at hs h i r q
 shape-at (sKill ∷ hs) h (suc i) r q = shape-at hs h i r q
 shape-at (sCall ∷ hs) h (suc i) r q = shape-at hs h i r q
-shape-at (sEffect x ∷ hs) h (suc i) r q = shape-at hs (and-r (quiet x) _ h) i r q
+shape-at (sEffect x ∷ hs) h (suc i) r q = shape-at hs (and-second (quiet x) _ h) i r q
 
 quiet-append : (a b : Row) → quiet a ≡ true → quiet b ≡ true → quiet (a ++ b) ≡ true
 unfolding quiet
 quiet-append [] b h g = g
-quiet-append (s ∷ a) b h g = and-both {a = calm s && (ltb s PAD || eqb s ATOMIC)} (and-l (calm s && (ltb s PAD || eqb s ATOMIC)) _ h) (quiet-append a b (and-r (calm s && (ltb s PAD || eqb s ATOMIC)) _ h) g)
+quiet-append (s ∷ a) b h g = and-true {a = calm s && (ltb s PAD || eqb s ATOMIC)} (and-first (calm s && (ltb s PAD || eqb s ATOMIC)) _ h) (quiet-append a b (and-second (calm s && (ltb s PAD || eqb s ATOMIC)) _ h) g)
 
--- what a quiet class brings is quiet
+-- what follows a quiet class is quiet
 variant-quiet : (m : Option Row) (w : ℕ) (xs : Row) → getElem? atomics w ≡ m → variant m ≡ brings xs → quiet xs ≡ true
 unfolding variant atomics quietAll quiet calm plain
 variant-quiet none w xs e p = absurd (let z : _≡_ {A = ℕ} 0 1 = cc in omega arith)
@@ -90,8 +90,8 @@ lays-calm : {ss : Row} {cs : Cells} → Lays ss cs → quiet ss ≡ true → cal
 unfolding quiet calmC
 lays-calm lays-none h = refl
 lays-calm (lays-next {s = s} {w = w} {xs = xs} {ss = ss} {cs = cs} q l) h =
-    let a = and-l (calm s && (ltb s PAD || eqb s ATOMIC)) _ h in
-    and-both {a = calm s} (and-l (calm s) _ a) (lays-calm l (quiet-append xs ss (more-quiet s w xs (and-r (calm s) _ a) q) (and-r (calm s && (ltb s PAD || eqb s ATOMIC)) _ h)))
+    let a = and-first (calm s && (ltb s PAD || eqb s ATOMIC)) _ h in
+    and-true {a = calm s} (and-first (calm s) _ a) (lays-calm l (quiet-append xs ss (more-quiet s w xs (and-second (calm s) _ a) q) (and-second (calm s && (ltb s PAD || eqb s ATOMIC)) _ h)))
 
 pub effect-calm : (k : ℕ) (ss : Row) (cs : Cells) → getElem? statements k ≡ some (sEffect ss) → Lays ss cs → calmC cs ≡ true
 unfolding statements quietShapes quiet calm plain
@@ -111,8 +111,8 @@ pub opened-calm : (cs r : Cells) (drop : ℕ → Bool) → calmC cs ≡ true →
 unfolding calmC calm opened
 opened-calm [] r drop h = refl
 opened-calm (c ∷ cs) r drop h =
-    let n = neither (eqb (class c) FROM) (eqb (class c) TO) (and-r (plain (class c)) _ (and-l (calm (class c)) _ h)) in
-    opened-cons c (cs ++ r) drop (n .0) (n .1) ∙ ap (c ∷_) (opened-calm cs r drop (and-r (calm (class c)) _ h))
+    let n = neither (eqb (class c) FROM) (eqb (class c) TO) (and-second (plain (class c)) _ (and-first (calm (class c)) _ h)) in
+    opened-cons c (cs ++ r) drop (n .0) (n .1) ∙ ap (c ∷_) (opened-calm cs r drop (and-second (calm (class c)) _ h))
 
 -- ---- the value of a case
 pub data Value : Cells → Type 0 where

@@ -1,4 +1,4 @@
--- A test of two modules and maps, which computes, and of which passing is agreement in full. It asks that every mapped record agrees, reached or not, which link's maps meet; agreement asks it of what is reached.
+-- A test of two modules and maps, which computes, and of which passing is agreement in full. It requires that every mapped record agrees, reached or not, which link's maps meet; agreement requires it of what is reached.
 use mathlib.Core.Path.{_≡_, refl, sym, ap, _∙_, subst}
 use mathlib.Core.Bool.{Bool, true, false, _&&_, false≢true}
 use mathlib.Core.List.{List, [], _∷_, map}
@@ -8,13 +8,13 @@ use native.Mathlib.Omega.{arith}
 use lib.Dec.{eqb, ltb}
 use lib.ListN.{length, getD, getElem?}
 use borrow.Author.Tests.{eqb-true, ltb-true, ltb-false}
+use Rattle.theory_lists.specs.Booleans.{and-first, and-second, by}
 use Rattle.model.specs.Tree.{Function, Entry, flatAll}
 use Rattle.model.specs.Module.{Module, flatSpecial}
 use Rattle.model.specs.Scope.{upFrom}
 use Rattle.model.specs.Tables.{Tab, names, types, constants, overrides, globals, exprs, codeT, isT, at, tables, recAt, mapAt}
 use Rattle.model.specs.Bodies.{keepNames}
 use Rattle.model.specs.Agreement.{Mapping, bodyOf, agreesR, agreesL, stands, agreesN, Agrees, Holds, as-function, as-entry, global, Agreement}
-use Rattle.theory_walks.specs.Tests.{and-l, and-r, by}
 use Rattle.theory_walks.specs.WholeLaws.{allStand, stand-at, mayShare, owned, sole, sole-at, sole-apart, closed-records, agrees-append, agrees-flat}
 
 -- of record k of the target: 0 where it is shared, or the number plus 1 of the first expression mapped to it
@@ -33,8 +33,8 @@ below-at : (n : ℕ) (p : ℕ → Bool) → below n p ≡ true → (j : ℕ) →
 unfolding below
 below-at zero p h j l = absurd (omega (arith, l))
 below-at (suc n) p h j l =
-    by _ (ltb j n) (λ q. below-at n p (and-r (p n) _ h) j (ltb-true j n q))
-    (λ q. let x = ltb-false j n q in let z : n ≡ j = omega (arith, x, l) in subst (λ y. p y ≡ true) z (and-l (p n) _ h))
+    by _ (ltb j n) (λ q. below-at n p (and-second (p n) _ h) j (ltb-true j n q))
+    (λ q. let x = ltb-false j n q in let z : n ≡ j = omega (arith, x, l) in subst (λ y. p y ≡ true) z (and-first (p n) _ h))
 
 module _ (M M′ : Module) (μ : Mapping) where
   -- ---- a function
@@ -52,21 +52,21 @@ module _ (M M′ : Module) (μ : Mapping) where
   test-function : (o : List ℕ) (F F′ : Function) → testF o F F′ ≡ true → Agrees M M′ μ o F F′
   unfolding testF
   test-function o F F′ h =
-      let h₁ = and-r (agreesR M M′ μ o (F .head) (F′ .head)) _ h in
-      let h₂ = and-r (agreesL M M′ μ o (F .arguments) (F′ .arguments)) _ h₁ in
-      let h₃ = and-r (agreesR M M′ μ o (F .result) (F′ .result)) _ h₂ in
-      let h₄ = and-r (agreesL M M′ μ o (F .locals) (F′ .locals)) _ h₃ in
-      let h₅ = and-r (agreesR M M′ μ o (bodyOf F) (bodyOf F′)) _ h₄ in
-      let h₆ = and-r (allStand M M′ μ o o (F .exprs) (F′ .exprs)) _ h₅ in
+      let h₁ = and-second (agreesR M M′ μ o (F .head) (F′ .head)) _ h in
+      let h₂ = and-second (agreesL M M′ μ o (F .arguments) (F′ .arguments)) _ h₁ in
+      let h₃ = and-second (agreesR M M′ μ o (F .result) (F′ .result)) _ h₂ in
+      let h₄ = and-second (agreesL M M′ μ o (F .locals) (F′ .locals)) _ h₃ in
+      let h₅ = and-second (agreesR M M′ μ o (bodyOf F) (bodyOf F′)) _ h₄ in
+      let h₆ = and-second (allStand M M′ μ o o (F .exprs) (F′ .exprs)) _ h₅ in
       record {
-        head = and-l (agreesR M M′ μ o (F .head) (F′ .head)) _ h;
-        arguments = and-l (agreesL M M′ μ o (F .arguments) (F′ .arguments)) _ h₁;
-        result = and-l (agreesR M M′ μ o (F .result) (F′ .result)) _ h₂;
-        locals = and-l (agreesL M M′ μ o (F .locals) (F′ .locals)) _ h₃;
-        body = and-l (agreesR M M′ μ o (bodyOf F) (bodyOf F′)) _ h₄;
-        kept = stand-at M M′ μ o o (F .exprs) (F′ .exprs) (and-l (allStand M M′ μ o o (F .exprs) (F′ .exprs)) _ h₅);
-        named = and-l (agreesN M M′ μ o (keepNames (F .named) o []) (F′ .named)) _ h₆;
-        apart = sole-apart F o (owners (length (F′ .exprs)) o (mayShare F)) (and-r (agreesN M M′ μ o (keepNames (F .named) o []) (F′ .named)) _ h₆);
+        head = and-first (agreesR M M′ μ o (F .head) (F′ .head)) _ h;
+        arguments = and-first (agreesL M M′ μ o (F .arguments) (F′ .arguments)) _ h₁;
+        result = and-first (agreesR M M′ μ o (F .result) (F′ .result)) _ h₂;
+        locals = and-first (agreesL M M′ μ o (F .locals) (F′ .locals)) _ h₃;
+        body = and-first (agreesR M M′ μ o (bodyOf F) (bodyOf F′)) _ h₄;
+        kept = stand-at M M′ μ o o (F .exprs) (F′ .exprs) (and-first (allStand M M′ μ o o (F .exprs) (F′ .exprs)) _ h₅);
+        named = and-first (agreesN M M′ μ o (keepNames (F .named) o []) (F′ .named)) _ h₆;
+        apart = sole-apart F o (owners (length (F′ .exprs)) o (mayShare F)) (and-second (agreesN M M′ μ o (keepNames (F .named) o []) (F′ .named)) _ h₆);
       }
 
   -- ---- functions: each at its place
@@ -103,10 +103,10 @@ module _ (M M′ : Module) (μ : Mapping) where
   test-functions (G ∷ Fs) i h zero F q =
       let p : G ≡ F = cc in
       let z : i ≡ i + 0 = omega arith in
-      subst (λ x. Placed x F) z (subst (Placed i) p (test-place i G (and-l (testP (getD (μ .inFunctions) i []) G (getD (μ .functions) i 0)) _ h)))
+      subst (λ x. Placed x F) z (subst (Placed i) p (test-place i G (and-first (testP (getD (μ .inFunctions) i []) G (getD (μ .functions) i 0)) _ h)))
   test-functions (G ∷ Fs) i h (suc k) F q =
       let z : suc i + k ≡ i + suc k = omega arith in
-      subst (λ x. Placed x F) z (test-functions Fs (suc i) (and-r (testP (getD (μ .inFunctions) i []) G (getD (μ .functions) i 0)) _ h) k F q)
+      subst (λ x. Placed x F) z (test-functions Fs (suc i) (and-second (testP (getD (μ .inFunctions) i []) G (getD (μ .functions) i 0)) _ h) k F q)
 
   -- ---- one to one, and onto
   unfoldable pub inverse : List ℕ
@@ -125,9 +125,9 @@ module _ (M M′ : Module) (μ : Mapping) where
   unfolding comes
   come-from j zero h = absurd (false≢true h)
   come-from j (suc i) h =
-      let l = ltb-true i (length (M .functions)) (and-l (ltb i (length (M .functions))) _ h) in
+      let l = ltb-true i (length (M .functions)) (and-first (ltb i (length (M .functions))) _ h) in
       let r = inside-at (M .functions) i l in
-      (i, r .0, r .1, eqb-true (getD (μ .functions) i 0) (suc j) (and-r (ltb i (length (M .functions))) _ h))
+      (i, r .0, r .1, eqb-true (getD (μ .functions) i 0) (suc j) (and-second (ltb i (length (M .functions))) _ h))
 
   alone-at : (i k : ℕ) → sole (μ .functions) 0 (λ e. false) inverse ≡ true → getD (μ .functions) i 0 ≡ suc k → getD inverse k 0 ≡ suc i
   unfolding owned
@@ -145,7 +145,7 @@ module _ (M M′ : Module) (μ : Mapping) where
   test-count [] [] i h = refl
   test-count [] (E′ ∷ Es′) i h = absurd (false≢true h)
   test-count (E ∷ Es) [] i h = absurd (false≢true h)
-  test-count (E ∷ Es) (E′ ∷ Es′) i h = ap suc (test-count Es Es′ (suc i) (and-r (agreesR M M′ μ (global M M′ μ) (E .head) (E′ .head) && testF (getD (μ .inEntries) i []) (E .function) (E′ .function)) _ h))
+  test-count (E ∷ Es) (E′ ∷ Es′) i h = ap suc (test-count Es Es′ (suc i) (and-second (agreesR M M′ μ (global M M′ μ) (E .head) (E′ .head) && testF (getD (μ .inEntries) i []) (E .function) (E′ .function)) _ h))
 
   abbrev Entered : ℕ → Entry → Entry → Type 0
   Entered i E E′ = (agreesR M M′ μ (global M M′ μ) (E .head) (E′ .head) ≡ true) × Agrees M M′ μ (getD (μ .inEntries) i []) (E .function) (E′ .function)
@@ -157,12 +157,12 @@ module _ (M M′ : Module) (μ : Mapping) where
   test-entries (D ∷ Es) (D′ ∷ Es′) i h zero E q =
       let p : D ≡ E = cc in
       let z : i ≡ i + 0 = omega arith in
-      let t = and-l (agreesR M M′ μ (global M M′ μ) (D .head) (D′ .head) && testF (getD (μ .inEntries) i []) (D .function) (D′ .function)) _ h in
-      let r : Entered i D D′ = (and-l (agreesR M M′ μ (global M M′ μ) (D .head) (D′ .head)) _ t, test-function (getD (μ .inEntries) i []) (D .function) (D′ .function) (and-r (agreesR M M′ μ (global M M′ μ) (D .head) (D′ .head)) _ t)) in
+      let t = and-first (agreesR M M′ μ (global M M′ μ) (D .head) (D′ .head) && testF (getD (μ .inEntries) i []) (D .function) (D′ .function)) _ h in
+      let r : Entered i D D′ = (and-first (agreesR M M′ μ (global M M′ μ) (D .head) (D′ .head)) _ t, test-function (getD (μ .inEntries) i []) (D .function) (D′ .function) (and-second (agreesR M M′ μ (global M M′ μ) (D .head) (D′ .head)) _ t)) in
       (D′, refl, subst (λ x. Entered x E D′) z (subst (λ x. Entered i x D′) p r))
   test-entries (D ∷ Es) (D′ ∷ Es′) i h (suc k) E q =
       let z : suc i + k ≡ i + suc k = omega arith in
-      let r = test-entries Es Es′ (suc i) (and-r (agreesR M M′ μ (global M M′ μ) (D .head) (D′ .head) && testF (getD (μ .inEntries) i []) (D .function) (D′ .function)) _ h) k E q in
+      let r = test-entries Es Es′ (suc i) (and-second (agreesR M M′ μ (global M M′ μ) (D .head) (D′ .head) && testF (getD (μ .inEntries) i []) (D .function) (D′ .function)) _ h) k E q in
       (r .0, r .1, subst (λ x. Entered x E (r .0)) z (r .2))
 
   -- ---- tables
@@ -179,11 +179,11 @@ module _ (M M′ : Module) (μ : Mapping) where
   test-tables : testTs ≡ true → (t : Tab) (n k : ℕ) → isT t names ≡ false → mapAt (μ .inTables) t n ≡ suc k → stands M M′ μ (global M M′ μ) (at t (tables M′)) (suc k) (recAt (tables M) t n) ≡ true
   unfolding testTs isT codeT
   test-tables h names n k i q = absurd (false≢true (sym i))
-  test-tables h types n k i q = test-table types (and-l (testT types) _ h) n k q
-  test-tables h constants n k i q = test-table constants (and-l (testT constants) _ (and-r (testT types) _ h)) n k q
-  test-tables h overrides n k i q = test-table overrides (and-l (testT overrides) _ (and-r (testT constants) _ (and-r (testT types) _ h))) n k q
-  test-tables h globals n k i q = test-table globals (and-l (testT globals) _ (and-r (testT overrides) _ (and-r (testT constants) _ (and-r (testT types) _ h)))) n k q
-  test-tables h exprs n k i q = test-table exprs (and-r (testT globals) _ (and-r (testT overrides) _ (and-r (testT constants) _ (and-r (testT types) _ h)))) n k q
+  test-tables h types n k i q = test-table types (and-first (testT types) _ h) n k q
+  test-tables h constants n k i q = test-table constants (and-first (testT constants) _ (and-second (testT types) _ h)) n k q
+  test-tables h overrides n k i q = test-table overrides (and-first (testT overrides) _ (and-second (testT constants) _ (and-second (testT types) _ h))) n k q
+  test-tables h globals n k i q = test-table globals (and-first (testT globals) _ (and-second (testT overrides) _ (and-second (testT constants) _ (and-second (testT types) _ h)))) n k q
+  test-tables h exprs n k i q = test-table exprs (and-second (testT globals) _ (and-second (testT overrides) _ (and-second (testT constants) _ (and-second (testT types) _ h)))) n k q
 
   -- ---- THE TEST
   unfoldable pub test : Bool
@@ -207,38 +207,38 @@ module _ (M M′ : Module) (μ : Mapping) where
   pub test-agrees : test ≡ true → Agreement M M′ μ
   unfolding test
   test-agrees h = record {
-    records = closed-records M M′ μ (record { in-tables = test-tables (and-l testTs _ h); held = held; special = special });
+    records = closed-records M M′ μ (record { in-tables = test-tables (and-first testTs _ h); held = held; special = special });
     functions = functions;
     once = once;
-    onto = λ j l. come-from j (getD inverse j 0) (below-at (length (M′ .functions)) (λ j. comes j (getD inverse j 0)) (and-l (below (length (M′ .functions)) (λ j. comes j (getD inverse j 0))) _ h₃) j l);
+    onto = λ j l. come-from j (getD inverse j 0) (below-at (length (M′ .functions)) (λ j. comes j (getD inverse j 0)) (and-first (below (length (M′ .functions)) (λ j. comes j (getD inverse j 0))) _ h₃) j l);
     entries = entries;
-    no-entry-added = test-count (M .entries) (M′ .entries) 0 (and-l (testEs (M .entries) (M′ .entries) 0) _ h₄);
-    rays = and-l (agreesR M M′ μ (global M M′ μ) (M .special .rays) (M′ .special .rays)) _ h₅;
-    pairs = and-r (agreesR M M′ μ (global M M′ μ) (M .special .rays) (M′ .special .rays)) _ h₅;
+    no-entry-added = test-count (M .entries) (M′ .entries) 0 (and-first (testEs (M .entries) (M′ .entries) 0) _ h₄);
+    rays = and-first (agreesR M M′ μ (global M M′ μ) (M .special .rays) (M′ .special .rays)) _ h₅;
+    pairs = and-second (agreesR M M′ μ (global M M′ μ) (M .special .rays) (M′ .special .rays)) _ h₅;
   }
     where
       h₁ : (testFs (M .functions) 0 && (sole (μ .functions) 0 (λ e. false) inverse && (below (length (M′ .functions)) (λ j. comes j (getD inverse j 0)) && (testEs (M .entries) (M′ .entries) 0 && (agreesR M M′ μ (global M M′ μ) (M .special .rays) (M′ .special .rays) && agreesL M M′ μ (global M M′ μ) (M .special .pairs) (M′ .special .pairs)))))) ≡ true
-      h₁ = and-r testTs _ h
+      h₁ = and-second testTs _ h
 
       h₂ : (sole (μ .functions) 0 (λ e. false) inverse && (below (length (M′ .functions)) (λ j. comes j (getD inverse j 0)) && (testEs (M .entries) (M′ .entries) 0 && (agreesR M M′ μ (global M M′ μ) (M .special .rays) (M′ .special .rays) && agreesL M M′ μ (global M M′ μ) (M .special .pairs) (M′ .special .pairs))))) ≡ true
-      h₂ = and-r (testFs (M .functions) 0) _ h₁
+      h₂ = and-second (testFs (M .functions) 0) _ h₁
 
       h₃ : (below (length (M′ .functions)) (λ j. comes j (getD inverse j 0)) && (testEs (M .entries) (M′ .entries) 0 && (agreesR M M′ μ (global M M′ μ) (M .special .rays) (M′ .special .rays) && agreesL M M′ μ (global M M′ μ) (M .special .pairs) (M′ .special .pairs)))) ≡ true
-      h₃ = and-r (sole (μ .functions) 0 (λ e. false) inverse) _ h₂
+      h₃ = and-second (sole (μ .functions) 0 (λ e. false) inverse) _ h₂
 
       h₄ : (testEs (M .entries) (M′ .entries) 0 && (agreesR M M′ μ (global M M′ μ) (M .special .rays) (M′ .special .rays) && agreesL M M′ μ (global M M′ μ) (M .special .pairs) (M′ .special .pairs))) ≡ true
-      h₄ = and-r (below (length (M′ .functions)) (λ j. comes j (getD inverse j 0))) _ h₃
+      h₄ = and-second (below (length (M′ .functions)) (λ j. comes j (getD inverse j 0))) _ h₃
 
       h₅ : (agreesR M M′ μ (global M M′ μ) (M .special .rays) (M′ .special .rays) && agreesL M M′ μ (global M M′ μ) (M .special .pairs) (M′ .special .pairs)) ≡ true
-      h₅ = and-r (testEs (M .entries) (M′ .entries) 0) _ h₄
+      h₅ = and-second (testEs (M .entries) (M′ .entries) 0) _ h₄
 
       functions : (i : ℕ) (F : Function) → getElem? (M .functions) i ≡ some F → Placed i F
-      functions i F q = at-0 (λ x. Placed x F) i (test-functions (M .functions) 0 (and-l (testFs (M .functions) 0) _ h₁) i F q)
+      functions i F q = at-0 (λ x. Placed x F) i (test-functions (M .functions) 0 (and-first (testFs (M .functions) 0) _ h₁) i F q)
 
       entries : (i : ℕ) (E : Entry) → getElem? (M .entries) i ≡ some E
           → (E′ : Entry) × (getElem? (M′ .entries) i ≡ some E′) × (agreesR M M′ μ (global M M′ μ) (E .head) (E′ .head) ≡ true) × Agrees M M′ μ (getD (μ .inEntries) i []) (E .function) (E′ .function)
       entries i E q =
-          let r = test-entries (M .entries) (M′ .entries) 0 (and-l (testEs (M .entries) (M′ .entries) 0) _ h₄) i E q in
+          let r = test-entries (M .entries) (M′ .entries) 0 (and-first (testEs (M .entries) (M′ .entries) 0) _ h₄) i E q in
           let t = at-0 (λ x. Entered x E (r .0)) i (r .2) in
           (r .0, r .1, t .0, t .1)
 
@@ -246,7 +246,7 @@ module _ (M M′ : Module) (μ : Mapping) where
       once i j l m q =
           let a = inside-at (M .functions) i l in
           let r = functions i (a .0) (a .1) in
-          let s = and-l (sole (μ .functions) 0 (λ e. false) inverse) _ h₂ in
+          let s = and-first (sole (μ .functions) 0 (λ e. false) inverse) _ h₂ in
           let x = alone-at i (r .0) s (r .2) in
           let y = alone-at j (r .0) s (sym q ∙ r .2) in
           let z : suc i ≡ suc j = sym x ∙ y in
@@ -257,4 +257,4 @@ module _ (M M′ : Module) (μ : Mapping) where
       held o F (as-entry i E q) = let r = entries i E q in (r .0 .function, r .3)
 
       special : agreesR M M′ μ (global M M′ μ) (flatSpecial (M .special)) (flatSpecial (M′ .special)) ≡ true
-      special = both-special (and-l (agreesR M M′ μ (global M M′ μ) (M .special .rays) (M′ .special .rays)) _ h₅) (and-r (agreesR M M′ μ (global M M′ μ) (M .special .rays) (M′ .special .rays)) _ h₅)
+      special = both-special (and-first (agreesR M M′ μ (global M M′ μ) (M .special .rays) (M′ .special .rays)) _ h₅) (and-second (agreesR M M′ μ (global M M′ μ) (M .special .rays) (M′ .special .rays)) _ h₅)

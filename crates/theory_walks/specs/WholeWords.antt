@@ -6,17 +6,17 @@ use mathlib.Core.List.{List, [], _∷_}
 use mathlib.Core.Option.{some}
 use Prim.Native.Nat.{ℕ, zero, suc, _+_, _-_, _<_, pred}
 use native.Mathlib.Omega.{arith}
-use lib.Dec.{eqb, ltb, leb}
+use lib.Dec.{ltb, leb}
 use lib.ListN.{getD}
 use borrow.Author.Tests.{eqb-true, ltb-true, ltb-false, leb-true, ne-eqb}
+use Rattle.theory_lists.specs.Booleans.{and-first, and-second, by}
 use Rattle.model.specs.Outcome.{Cells}
 use Rattle.model.specs.Table.{SPAN, UPTO, NAME}
 use Rattle.model.specs.Module.{Module}
-use Rattle.model.specs.Names.{same}
 use Rattle.model.specs.Tables.{names, types, constants, overrides, globals, exprs, codeT, isT, at, mapAt}
 use Rattle.model.specs.References.{Place, table, own, function, copied, start, upto, ref, opt, targets, target}
 use Rattle.model.specs.Agreement.{Mapping, becomes, agreesW, agreesR}
-use Rattle.theory_walks.specs.Tests.{and-l, and-r, by}
+use Rattle.theory_image.specs.Same.{same-true}
 use Rattle.theory_walks.specs.Agreement.{Maps, optWord, carriers, through, carried, textOf, plain, Alike, AlikeR, over, next}
 use Rattle.theory_walks.specs.Agreement as Old
 use Rattle.theory_walks.specs.WholeLaws.{went, isName, becomes-went, parts}
@@ -46,17 +46,10 @@ through-out : (ps : List (ℕ × (ℕ → ℕ))) → within ps ≡ true → (s w
 unfolding within through
 through-out [] h s w d = refl
 through-out (p ∷ ps) h s w d =
-    let a = leb-true 84 (p .0) (and-l (leb 84 (p .0)) _ h) in
-    let h₁ = and-r (leb 84 (p .0)) _ h in
-    let b = leb-true (p .0) 102 (and-l (leb (p .0) 102) _ h₁) in
-    rw (ne-eqb s (p .0) (λ q. ⊎-elim (λ x. omega (arith, a, b, q, x)) (λ x. omega (arith, a, b, q, x)) d), through) (through-out ps (and-r (leb (p .0) 102) _ h₁) s w d)
-
-words-same : (a b : List ℕ) → same a b ≡ true → a ≡ b
-unfolding same
-words-same [] [] h = refl
-words-same [] (y ∷ ys) h = absurd (false≢true h)
-words-same (x ∷ xs) [] h = absurd (false≢true h)
-words-same (x ∷ xs) (y ∷ ys) h = let p = eqb-true x y (and-l (eqb x y) _ h) in let q = words-same xs ys (and-r (eqb x y) _ h) in cc
+    let a = leb-true 84 (p .0) (and-first (leb 84 (p .0)) _ h) in
+    let h₁ = and-second (leb 84 (p .0)) _ h in
+    let b = leb-true (p .0) 102 (and-first (leb (p .0) 102) _ h₁) in
+    rw (ne-eqb s (p .0) (λ q. ⊎-elim (λ x. omega (arith, a, b, q, x)) (λ x. omega (arith, a, b, q, x)) d), through) (through-out ps (and-second (leb (p .0) 102) _ h₁) s w d)
 
 module _ (M M′ : Module) (μ : Mapping) (o : List ℕ) where
   ref-to : (p : Place) (w w′ : ℕ) → isName M M′ μ p ≡ false → agreesW M M′ μ o (ref p) w w′ ≡ true → w′ ≡ pred (went M M′ μ o p w)
@@ -75,7 +68,7 @@ module _ (M M′ : Module) (μ : Mapping) (o : List ℕ) where
   name-to zero zero q = refl
   name-to zero (suc n′) q = absurd (false≢true q)
   name-to (suc n) zero q = absurd (false≢true q)
-  name-to (suc n) (suc n′) q = ap some (words-same _ _ q)
+  name-to (suc n) (suc n′) q = ap some (same-true _ _ q)
 
   copy-to : (w w′ : ℕ) → agreesW M M′ μ o copied w w′ ≡ true → w′ ≡ w
   unfolding agreesW

@@ -1,2 +1,5 @@
 pub mod Answers
-pub mod Refuted
+pub mod Images
+pub mod Text
+pub mod Links
+pub mod Sessions

@@ -1,4 +1,3 @@
--- `base_kinds::constant` meets its contract. Assumes nothing.
 use Rattle.base_kinds.proofs.Ranges.{constant-low, constant-gap, constant-mid, constant-derivative, constant-high}
 use borrow.Author.Needs.{needs}
 use Rattle.base_kinds.proofs.constant.Statement.{statement}

@@ -1,4 +1,3 @@
--- `base_kinds::emits` meets its contract. Assumes nothing.
 use Rattle.base_kinds.proofs.Ranges.{emits-stands, emits-low, emits-rest}
 use borrow.Author.Needs.{needs}
 use Rattle.base_kinds.proofs.emits.Statement.{statement}

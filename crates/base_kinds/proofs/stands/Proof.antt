@@ -1,4 +1,3 @@
--- `base_kinds::stands` meets its contract. Assumes nothing.
 use Rattle.base_kinds.proofs.Ranges.{stands-low, stands-mid, stands-rest}
 use borrow.Author.Needs.{needs}
 use Rattle.base_kinds.proofs.stands.Statement.{statement}

@@ -1,4 +1,3 @@
--- `base_views::arguments` meets its contract. Assumes nothing.
 use Rattle.base_views.proofs.Places.{arguments-inside}
 use mathlib.Core.Path.{ap, _∙_}
 use native.Mathlib.Omega.{arith}

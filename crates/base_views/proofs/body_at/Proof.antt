@@ -1,4 +1,3 @@
--- `base_views::body_at` meets its contract. Assumes nothing.
 use Rattle.base_views.proofs.Places.{body-is}
 use borrow.Author.Needs.{needs}
 use Rattle.base_views.proofs.body_at.Statement.{statement}

@@ -1,4 +1,3 @@
--- `base_views::count` meets its contract. Assumes nothing.
 use Rattle.model.specs.Module.{countAt}
 use borrow.Author.Needs.{needs}
 use Rattle.base_views.proofs.count.Statement.{statement}

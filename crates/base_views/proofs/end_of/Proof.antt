@@ -1,4 +1,3 @@
--- `base_views::end_of` meets its contract. Assumes nothing.
 use mathlib.Core.Path.{sym, _∙_}
 use native.Mathlib.Omega.{arith}
 use Rattle.base_views.proofs.Places.{end-last, end-next}

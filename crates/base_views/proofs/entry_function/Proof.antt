@@ -1,4 +1,3 @@
--- `base_views::entry_function` meets its contract. Assumes nothing.
 use Rattle.base_views.proofs.Places.{offset-inside}
 use borrow.Author.Needs.{needs}
 use Rattle.base_views.proofs.entry_function.Statement.{statement}

@@ -1,4 +1,3 @@
--- `base_views::expressions_at` meets its contract. Assumes nothing.
 use Rattle.base_views.proofs.Places.{expressions-is}
 use native.Mathlib.Omega.{arith}
 use borrow.Author.Needs.{needs}

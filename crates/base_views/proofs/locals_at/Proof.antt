@@ -1,4 +1,3 @@
--- `base_views::locals_at` meets its contract. Assumes nothing.
 use Rattle.base_views.proofs.Places.{locals-inside, locals-is}
 use native.Mathlib.Omega.{arith}
 use borrow.Author.Needs.{needs}

@@ -1,4 +1,3 @@
--- `base_views::named_at` meets its contract. Assumes nothing.
 use Rattle.base_views.proofs.Places.{Seeking, standing-inside, seek-begin, seek-inside, seek-next, seek-done}
 use borrow.Author.Needs.{needs}
 use Prim.Native.Nat.{_-_}

@@ -1,4 +1,3 @@
--- `base_views::offset` meets its contract. Assumes nothing.
 use Rattle.model.specs.Module.{offsetAt}
 use borrow.Author.Needs.{needs}
 use Rattle.base_views.proofs.offset.Statement.{statement}

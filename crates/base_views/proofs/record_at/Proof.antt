@@ -1,4 +1,3 @@
--- `base_views::record_at` meets its contract. Assumes nothing.
 use Rattle.base_views.proofs.Places.{offset-inside}
 use borrow.Author.Needs.{needs}
 use Rattle.base_views.proofs.record_at.Statement.{statement}

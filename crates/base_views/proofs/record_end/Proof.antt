@@ -1,4 +1,3 @@
--- `base_views::record_end` meets its contract. Assumes nothing.
 use Rattle.base_views.proofs.Places.{offsets-inside}
 use borrow.Author.Needs.{needs}
 use Rattle.base_views.proofs.record_end.Statement.{statement}

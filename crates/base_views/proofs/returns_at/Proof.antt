@@ -1,4 +1,3 @@
--- `base_views::returns_at` meets its contract. Assumes nothing.
 use mathlib.Core.Path.{_∙_}
 use native.Mathlib.Omega.{arith}
 use Rattle.base_views.proofs.Places.{returns-inside, returns-is}

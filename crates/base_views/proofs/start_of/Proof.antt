@@ -1,4 +1,3 @@
--- `base_views::start_of` meets its contract. Assumes nothing.
 use native.Mathlib.Omega.{arith}
 use Rattle.base_views.proofs.Places.{start-is}
 use borrow.Author.Needs.{needs}

@@ -1,4 +1,4 @@
--- `base_words::load` meets its contract: each turn puts the next word in place. Assumes nothing.
+-- `base_words::load` meets its contract: each turn puts the next word in place.
 use Prim.Native.Nat.{_/_, _-_}
 use borrow.Author.Needs.{needs}
 use lib.ListN.{length}

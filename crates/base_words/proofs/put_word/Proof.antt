@@ -1,4 +1,4 @@
--- `base_words::put_word` meets its contract: its four stores are the word's bytes in order. Assumes nothing.
+-- `base_words::put_word` meets its contract: its four stores are the word's bytes in order.
 use native.Mathlib.Omega.{arith}
 use lib.ListN.{length-set}
 use borrow.Author.Needs.{needs}

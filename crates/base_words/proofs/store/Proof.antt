@@ -1,4 +1,4 @@
--- `base_words::store` meets its contract: each turn puts the next word's four bytes in place. Assumes nothing.
+-- `base_words::store` meets its contract: each turn puts the next word's four bytes in place.
 use Prim.Native.Nat.{_-_}
 use borrow.Author.Needs.{needs}
 use Rattle.base_words.proofs.Loops.{Storing, store-begin, store-next, store-done}

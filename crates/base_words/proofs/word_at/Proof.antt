@@ -1,4 +1,4 @@
--- `base_words::word_at` meets its contract: four bytes below 256 make a word that fits. Assumes nothing.
+-- `base_words::word_at` meets its contract: four bytes below 256 make a word that fits.
 use native.Mathlib.Omega.{arith}
 use borrow.Author.Needs.{needs}
 use Rattle.base_words.specs.Words.{wordOf, wordAt}

@@ -27,7 +27,7 @@ use Rattle.derive_constants.proofs.+import_const+import_global_expressi
 use Rattle.derive_types.proofs.import_name.Reads as import-name-reads
 use Rattle.derive_types.proofs.import_type.Reads as import-type-reads
 use Rattle.derive_types.proofs.refers_to.Reads as refers-to-reads
-use Rattle.derive_intern.proofs.settle.Reads as settle-reads
+use Rattle.derive_intern.proofs.intern.Reads as intern-reads
 use Rattle.base_views.proofs.record_at.Reads as record-at-reads
 use Rattle.base_views.proofs.record_end.Reads as record-end-reads
 use Rattle.base_words.proofs.wide.Reads as wide-reads
@@ -92,12 +92,11 @@ import-pipeline-override-below t =
     import-pipeline-override.Pre
 
 abbrev import-const-Inv-loop : import-const-lts.InvT-loop
-import-const-Inv-loop words tags kinds n log₀ classes₀ starts₀ maps₀ marks₀ offset k at end e₀ i₀ log classes starts maps marks e i = Turn words tags n offset 2 k (refs (recAt (srcOf words n) (tabOf 2) k)) log₀ classes₀ starts₀ maps₀ marks₀ e₀ end log classes starts maps marks e i
+import-const-Inv-loop words tags targets n log₀ logtags₀ starts₀ maps₀ buckets₀ offset k at end e₀ i₀ log logtags starts maps buckets e i = Turn words tags n offset 2 k (refs (recAt (srcOf words n) (tabOf 2) k)) log₀ logtags₀ starts₀ maps₀ buckets₀ e₀ end log logtags starts maps buckets e i
 
 abbrev import-const-μ-loop : import-const-lts.MeasureT-loop
-import-const-μ-loop words tags kinds n log₀ classes₀ starts₀ maps₀ marks₀ offset k at end e₀ i₀ log classes starts maps marks e i = end - i
+import-const-μ-loop words tags targets n log₀ logtags₀ starts₀ maps₀ buckets₀ offset k at end e₀ i₀ log logtags starts maps buckets e i = end - i
 
--- src/lib.rt:349:9
 import-const-wide-requires : (t : ℕ) → import-const-lts.Need-wide-requires (
   wide-reads.Asked,
   wide-reads.Learnt,
@@ -113,12 +112,11 @@ import-const-wide-requires : (t : ℕ) → import-const-lts.Need-wide-requires (
   import-type-reads.Learnt,
   import-global-expression-below t,
   import-global-expression.Post,
-  settle-reads.Asked,
-  settle-reads.Learnt,
+  intern-reads.Asked,
+  intern-reads.Learnt,
 ) (import-const-at t) import-const.Post import-const-Inv-loop import-const-μ-loop
 import-const-wide-requires t c κs = search needs
 
--- src/lib.rt:350:8
 import-const-mul-if1 : (t : ℕ) → import-const-lts.Need-mul-if1 (
   wide-reads.Asked,
   wide-reads.Learnt,
@@ -134,13 +132,12 @@ import-const-mul-if1 : (t : ℕ) → import-const-lts.Need-mul-if1 (
   import-type-reads.Learnt,
   import-global-expression-below t,
   import-global-expression.Post,
-  settle-reads.Asked,
-  settle-reads.Learnt,
+  intern-reads.Asked,
+  intern-reads.Learnt,
 ) (import-const-at t) import-const.Post import-const-Inv-loop import-const-μ-loop
 unfolding tabOf
 import-const-mul-if1 t c = let a = (c .before .args) in let p = c .before .pre .1 in let src = p .0 in let q = p .1 .0 in let ks = p .1 .1 .0 in let K = p .1 .1 .1 in let hk : c .wide .result < countAt 2 (a .words .now) = rw (c .wide .ensures .0) (q .0) in let z = small-number (a .words .now) (a .tags .now) (a .n) src 2 (c .wide .result) (omega arith) hk in omega arith
 
--- src/lib.rt:350:8
 import-const-index-1-if1 : (t : ℕ) → import-const-lts.Need-index-1-if1 (
   wide-reads.Asked,
   wide-reads.Learnt,
@@ -156,12 +153,11 @@ import-const-index-1-if1 : (t : ℕ) → import-const-lts.Need-index-1-if1 (
   import-type-reads.Learnt,
   import-global-expression-below t,
   import-global-expression.Post,
-  settle-reads.Asked,
-  settle-reads.Learnt,
+  intern-reads.Asked,
+  intern-reads.Learnt,
 ) (import-const-at t) import-const.Post import-const-Inv-loop import-const-μ-loop
 import-const-index-1-if1 t c = search needs
 
--- src/lib.rt:350:8
 import-const-index-2-if1 : (t : ℕ) → import-const-lts.Need-index-2-if1 (
   wide-reads.Asked,
   wide-reads.Learnt,
@@ -177,13 +173,12 @@ import-const-index-2-if1 : (t : ℕ) → import-const-lts.Need-index-2-if1 (
   import-type-reads.Learnt,
   import-global-expression-below t,
   import-global-expression.Post,
-  settle-reads.Asked,
-  settle-reads.Learnt,
+  intern-reads.Asked,
+  intern-reads.Learnt,
 ) (import-const-at t) import-const.Post import-const-Inv-loop import-const-μ-loop
 unfolding tabOf
 import-const-index-2-if1 t c = let a = (c .before .args) in let p = c .before .pre .1 in let src = p .0 in let q = p .1 .0 in let ks = p .1 .1 .0 in let K = p .1 .1 .1 in let hk : c .wide .result < countAt 2 (a .words .now) = rw (c .wide .ensures .0) (q .0) in let z = small-number (a .words .now) (a .tags .now) (a .n) src 2 (c .wide .result) (omega arith) hk in omega arith
 
--- src/lib.rt:351:9
 import-const-returns : (t : ℕ) → import-const-lts.Need-returns (
   wide-reads.Asked,
   wide-reads.Learnt,
@@ -199,13 +194,12 @@ import-const-returns : (t : ℕ) → import-const-lts.Need-returns (
   import-type-reads.Learnt,
   import-global-expression-below t,
   import-global-expression.Post,
-  settle-reads.Asked,
-  settle-reads.Learnt,
+  intern-reads.Asked,
+  intern-reads.Learnt,
 ) (import-const-at t) import-const.Post import-const-Inv-loop import-const-μ-loop
 unfolding tabOf
-import-const-returns t c = let a = (c .before .before .before .args) in let p = c .before .before .before .pre .1 in let src = p .0 in let q = p .1 .0 in let ks = p .1 .1 .0 in let K = p .1 .1 .1 in let hk : c .before .before .wide .result < countAt 2 (a .words .now) = rw (c .before .before .wide .ensures .0) (q .0) in lands-at (a .offset) (srcOf (a .words .now) (a .n)) constants (c .before .before .wide .result) (a .h .0) (c .before .before .wide .ensures .0) (turn-known (a .words .now) (a .tags .now) (a .n) src (a .offset) 2 (c .before .before .wide .result) (omega arith) hk (a .log .now) (a .classes .now) (a .starts .now) (a .maps .now) (a .marks .now) (a .ends) (q .1) K (c .if1 .taken))
+import-const-returns t c = let a = (c .before .before .before .args) in let p = c .before .before .before .pre .1 in let src = p .0 in let q = p .1 .0 in let ks = p .1 .1 .0 in let K = p .1 .1 .1 in let hk : c .before .before .wide .result < countAt 2 (a .words .now) = rw (c .before .before .wide .ensures .0) (q .0) in lands-at (a .offset) (srcOf (a .words .now) (a .n)) constants (c .before .before .wide .result) (a .h .0) (c .before .before .wide .ensures .0) (turn-known (a .words .now) (a .tags .now) (a .n) src (a .offset) 2 (c .before .before .wide .result) (omega arith) hk (a .log .now) (a .logtags .now) (a .starts .now) (a .maps .now) (a .buckets .now) (a .ends) (q .1) K (c .if1 .taken))
 
--- src/lib.rt:353:9
 import-const-record-at-requires : (t : ℕ) → import-const-lts.Need-record-at-requires (
   wide-reads.Asked,
   wide-reads.Learnt,
@@ -221,13 +215,12 @@ import-const-record-at-requires : (t : ℕ) → import-const-lts.Need-record-at-
   import-type-reads.Learnt,
   import-global-expression-below t,
   import-global-expression.Post,
-  settle-reads.Asked,
-  settle-reads.Learnt,
+  intern-reads.Asked,
+  intern-reads.Learnt,
 ) (import-const-at t) import-const.Post import-const-Inv-loop import-const-μ-loop
 unfolding tabOf
 import-const-record-at-requires t c κs = let a = (c .before .before .before .args) in let p = c .before .before .before .pre .1 in let src = p .0 in let q = p .1 .0 in let ks = p .1 .1 .0 in let K = p .1 .1 .1 in let hk : c .before .before .wide .result < countAt 2 (a .words .now) = rw (c .before .before .wide .ensures .0) (q .0) in (tape (a .words .now) (a .tags .now) (a .n) src, (omega arith, hk))
 
--- src/lib.rt:354:9
 import-const-record-end-requires : (t : ℕ) → import-const-lts.Need-record-end-requires (
   wide-reads.Asked,
   wide-reads.Learnt,
@@ -243,13 +236,12 @@ import-const-record-end-requires : (t : ℕ) → import-const-lts.Need-record-en
   import-type-reads.Learnt,
   import-global-expression-below t,
   import-global-expression.Post,
-  settle-reads.Asked,
-  settle-reads.Learnt,
+  intern-reads.Asked,
+  intern-reads.Learnt,
 ) (import-const-at t) import-const.Post import-const-Inv-loop import-const-μ-loop
 unfolding tabOf
 import-const-record-end-requires t c κs = let a = (c .before .before .before .before .args) in let p = c .before .before .before .before .pre .1 in let src = p .0 in let q = p .1 .0 in let ks = p .1 .1 .0 in let K = p .1 .1 .1 in let hk : c .before .before .before .wide .result < countAt 2 (a .words .now) = rw (c .before .before .before .wide .ensures .0) (q .0) in (tape (a .words .now) (a .tags .now) (a .n) src, (omega arith, hk))
 
--- src/lib.rt:357:5
 import-const-loop-holds : (t : ℕ) → import-const-lts.Need-loop-holds (
   wide-reads.Asked,
   wide-reads.Learnt,
@@ -265,13 +257,12 @@ import-const-loop-holds : (t : ℕ) → import-const-lts.Need-loop-holds (
   import-type-reads.Learnt,
   import-global-expression-below t,
   import-global-expression.Post,
-  settle-reads.Asked,
-  settle-reads.Learnt,
+  intern-reads.Asked,
+  intern-reads.Learnt,
 ) (import-const-at t) import-const.Post import-const-Inv-loop import-const-μ-loop
 unfolding tabOf
-import-const-loop-holds t c = let a = (c .before .before .before .before .before .args) in let p = c .before .before .before .before .before .pre .1 in let src = p .0 in let q = p .1 .0 in let ks = p .1 .1 .0 in let K = p .1 .1 .1 in let hk : c .before .before .before .before .wide .result < countAt 2 (a .words .now) = rw (c .before .before .before .before .wide .ensures .0) (q .0) in turn-first (a .words .now) (a .tags .now) (a .n) src (a .offset) 2 (c .before .before .before .before .wide .result) (omega arith) hk (a .log .now) (a .classes .now) (a .starts .now) (a .maps .now) (a .marks .now) (a .ends) (q .1) K (c .before .before .if1 .left) (c .before .record-at .result) (c .record-end .result) (c .before .record-at .ensures) (c .record-end .ensures)
+import-const-loop-holds t c = let a = (c .before .before .before .before .before .args) in let p = c .before .before .before .before .before .pre .1 in let src = p .0 in let q = p .1 .0 in let ks = p .1 .1 .0 in let K = p .1 .1 .1 in let hk : c .before .before .before .before .wide .result < countAt 2 (a .words .now) = rw (c .before .before .before .before .wide .ensures .0) (q .0) in turn-first (a .words .now) (a .tags .now) (a .n) src (a .offset) 2 (c .before .before .before .before .wide .result) (omega arith) hk (a .log .now) (a .logtags .now) (a .starts .now) (a .maps .now) (a .buckets .now) (a .ends) (q .1) K (c .before .before .if1 .left) (c .before .record-at .result) (c .record-end .result) (c .before .record-at .ensures) (c .record-end .ensures)
 
--- src/lib.rt:359:9
 import-const-add-i : (t : ℕ) → import-const-lts.Need-add-i (
   wide-reads.Asked,
   wide-reads.Learnt,
@@ -287,13 +278,12 @@ import-const-add-i : (t : ℕ) → import-const-lts.Need-add-i (
   import-type-reads.Learnt,
   import-global-expression-below t,
   import-global-expression.Post,
-  settle-reads.Asked,
-  settle-reads.Learnt,
+  intern-reads.Asked,
+  intern-reads.Learnt,
 ) (import-const-at t) import-const.Post import-const-Inv-loop import-const-μ-loop
 unfolding tabOf
-import-const-add-i t c = let a = (c .before .before .before .before .before .before .before .args) in let p = c .before .before .before .before .before .before .before .pre .1 in let src = p .0 in let q = p .1 .0 in let ks = p .1 .1 .0 in let K = p .1 .1 .1 in let hk : c .before .before .before .before .before .before .wide .result < countAt 2 (a .words .now) = rw (c .before .before .before .before .before .before .wide .ensures .0) (q .0) in let l = (c .before .loop) in let z = turn-in (a .words .now) (a .tags .now) (a .n) src (a .offset) 2 (c .before .before .before .before .before .before .wide .result) (omega arith) hk (a .log .now) (a .classes .now) (a .starts .now) (a .maps .now) (a .marks .now) (a .ends) (q .1) K (importT (a .offset) (srcOf (a .words .now) (a .n)) (tabOf 2) (c .before .before .before .before .before .before .wide .result)) (refs (recAt (srcOf (a .words .now) (a .n)) (tabOf 2) (c .before .before .before .before .before .before .wide .result))) (ends-in (a .words .now) (a .tags .now) (a .n) src (a .offset) 2 (c .before .before .before .before .before .before .wide .result) (omega arith) hk (a .log .now) (a .classes .now) (a .starts .now) (a .maps .now) (a .marks .now) (a .ends) (q .1) K (c .before .before .before .before .if1 .left) (c .before .before .before .record-at .result) (c .before .before .record-end .result) (c .before .before .before .record-at .ensures) (c .before .before .record-end .ensures)) (c .before .before .before .record-at .result) (c .before .before .record-end .result) (c .before .before .before .record-at .ensures) (c .before .before .record-end .ensures) (l .log) (l .classes) (l .starts) (l .maps) (l .marks) (l .e) (l .i) (l .inv) (c .loop-test .taken) in omega arith
+import-const-add-i t c = let a = (c .before .before .before .before .before .before .before .args) in let p = c .before .before .before .before .before .before .before .pre .1 in let src = p .0 in let q = p .1 .0 in let ks = p .1 .1 .0 in let K = p .1 .1 .1 in let hk : c .before .before .before .before .before .before .wide .result < countAt 2 (a .words .now) = rw (c .before .before .before .before .before .before .wide .ensures .0) (q .0) in let l = (c .before .loop) in let z = turn-in (a .words .now) (a .tags .now) (a .n) src (a .offset) 2 (c .before .before .before .before .before .before .wide .result) (omega arith) hk (a .log .now) (a .logtags .now) (a .starts .now) (a .maps .now) (a .buckets .now) (a .ends) (q .1) K (importT (a .offset) (srcOf (a .words .now) (a .n)) (tabOf 2) (c .before .before .before .before .before .before .wide .result)) (refs (recAt (srcOf (a .words .now) (a .n)) (tabOf 2) (c .before .before .before .before .before .before .wide .result))) (ends-in (a .words .now) (a .tags .now) (a .n) src (a .offset) 2 (c .before .before .before .before .before .before .wide .result) (omega arith) hk (a .log .now) (a .logtags .now) (a .starts .now) (a .maps .now) (a .buckets .now) (a .ends) (q .1) K (c .before .before .before .before .if1 .left) (c .before .before .before .record-at .result) (c .before .before .record-end .result) (c .before .before .before .record-at .ensures) (c .before .before .record-end .ensures)) (c .before .before .before .record-at .result) (c .before .before .record-end .result) (c .before .before .before .record-at .ensures) (c .before .before .record-end .ensures) (l .log) (l .logtags) (l .starts) (l .maps) (l .buckets) (l .e) (l .i) (l .inv) (c .loop-test .taken) in omega arith
 
--- src/lib.rt:360:34
 import-const-element-copy-out-refers-to :
     (t : ℕ) → import-const-lts.Need-element-copy-out-refers-to (
       wide-reads.Asked,
@@ -310,13 +300,12 @@ import-const-element-copy-out-refers-to :
       import-type-reads.Learnt,
       import-global-expression-below t,
       import-global-expression.Post,
-      settle-reads.Asked,
-      settle-reads.Learnt,
+      intern-reads.Asked,
+      intern-reads.Learnt,
     ) (import-const-at t) import-const.Post import-const-Inv-loop import-const-μ-loop
 unfolding tabOf
-import-const-element-copy-out-refers-to t c = let a = (c .before .before .before .before .before .before .before .args) in let p = c .before .before .before .before .before .before .before .pre .1 in let src = p .0 in let q = p .1 .0 in let ks = p .1 .1 .0 in let K = p .1 .1 .1 in let hk : c .before .before .before .before .before .before .wide .result < countAt 2 (a .words .now) = rw (c .before .before .before .before .before .before .wide .ensures .0) (q .0) in let l = (c .before .loop) in turn-in (a .words .now) (a .tags .now) (a .n) src (a .offset) 2 (c .before .before .before .before .before .before .wide .result) (omega arith) hk (a .log .now) (a .classes .now) (a .starts .now) (a .maps .now) (a .marks .now) (a .ends) (q .1) K (importT (a .offset) (srcOf (a .words .now) (a .n)) (tabOf 2) (c .before .before .before .before .before .before .wide .result)) (refs (recAt (srcOf (a .words .now) (a .n)) (tabOf 2) (c .before .before .before .before .before .before .wide .result))) (ends-in (a .words .now) (a .tags .now) (a .n) src (a .offset) 2 (c .before .before .before .before .before .before .wide .result) (omega arith) hk (a .log .now) (a .classes .now) (a .starts .now) (a .maps .now) (a .marks .now) (a .ends) (q .1) K (c .before .before .before .before .if1 .left) (c .before .before .before .record-at .result) (c .before .before .record-end .result) (c .before .before .before .record-at .ensures) (c .before .before .record-end .ensures)) (c .before .before .before .record-at .result) (c .before .before .record-end .result) (c .before .before .before .record-at .ensures) (c .before .before .record-end .ensures) (l .log) (l .classes) (l .starts) (l .maps) (l .marks) (l .e) (l .i) (l .inv) (c .loop-test .taken)
+import-const-element-copy-out-refers-to t c = let a = (c .before .before .before .before .before .before .before .args) in let p = c .before .before .before .before .before .before .before .pre .1 in let src = p .0 in let q = p .1 .0 in let ks = p .1 .1 .0 in let K = p .1 .1 .1 in let hk : c .before .before .before .before .before .before .wide .result < countAt 2 (a .words .now) = rw (c .before .before .before .before .before .before .wide .ensures .0) (q .0) in let l = (c .before .loop) in turn-in (a .words .now) (a .tags .now) (a .n) src (a .offset) 2 (c .before .before .before .before .before .before .wide .result) (omega arith) hk (a .log .now) (a .logtags .now) (a .starts .now) (a .maps .now) (a .buckets .now) (a .ends) (q .1) K (importT (a .offset) (srcOf (a .words .now) (a .n)) (tabOf 2) (c .before .before .before .before .before .before .wide .result)) (refs (recAt (srcOf (a .words .now) (a .n)) (tabOf 2) (c .before .before .before .before .before .before .wide .result))) (ends-in (a .words .now) (a .tags .now) (a .n) src (a .offset) 2 (c .before .before .before .before .before .before .wide .result) (omega arith) hk (a .log .now) (a .logtags .now) (a .starts .now) (a .maps .now) (a .buckets .now) (a .ends) (q .1) K (c .before .before .before .before .if1 .left) (c .before .before .before .record-at .result) (c .before .before .record-end .result) (c .before .before .before .record-at .ensures) (c .before .before .record-end .ensures)) (c .before .before .before .record-at .result) (c .before .before .record-end .result) (c .before .before .before .record-at .ensures) (c .before .before .record-end .ensures) (l .log) (l .logtags) (l .starts) (l .maps) (l .buckets) (l .e) (l .i) (l .inv) (c .loop-test .taken)
 
--- src/lib.rt:360:43
 import-const-mul-refers-to : (t : ℕ) → import-const-lts.Need-mul-refers-to (
   wide-reads.Asked,
   wide-reads.Learnt,
@@ -332,13 +321,12 @@ import-const-mul-refers-to : (t : ℕ) → import-const-lts.Need-mul-refers-to (
   import-type-reads.Learnt,
   import-global-expression-below t,
   import-global-expression.Post,
-  settle-reads.Asked,
-  settle-reads.Learnt,
+  intern-reads.Asked,
+  intern-reads.Learnt,
 ) (import-const-at t) import-const.Post import-const-Inv-loop import-const-μ-loop
 unfolding tabOf
-import-const-mul-refers-to t c = let a = (c .before .before .before .before .before .before .before .before .args) in let p = c .before .before .before .before .before .before .before .before .pre .1 in let src = p .0 in let q = p .1 .0 in let ks = p .1 .1 .0 in let K = p .1 .1 .1 in let hk : c .before .before .before .before .before .before .before .wide .result < countAt 2 (a .words .now) = rw (c .before .before .before .before .before .before .before .wide .ensures .0) (q .0) in let l = (c .before .before .loop) in let z = turn-in (a .words .now) (a .tags .now) (a .n) src (a .offset) 2 (c .before .before .before .before .before .before .before .wide .result) (omega arith) hk (a .log .now) (a .classes .now) (a .starts .now) (a .maps .now) (a .marks .now) (a .ends) (q .1) K (importT (a .offset) (srcOf (a .words .now) (a .n)) (tabOf 2) (c .before .before .before .before .before .before .before .wide .result)) (refs (recAt (srcOf (a .words .now) (a .n)) (tabOf 2) (c .before .before .before .before .before .before .before .wide .result))) (ends-in (a .words .now) (a .tags .now) (a .n) src (a .offset) 2 (c .before .before .before .before .before .before .before .wide .result) (omega arith) hk (a .log .now) (a .classes .now) (a .starts .now) (a .maps .now) (a .marks .now) (a .ends) (q .1) K (c .before .before .before .before .before .if1 .left) (c .before .before .before .before .record-at .result) (c .before .before .before .record-end .result) (c .before .before .before .before .record-at .ensures) (c .before .before .before .record-end .ensures)) (c .before .before .before .before .record-at .result) (c .before .before .before .record-end .result) (c .before .before .before .before .record-at .ensures) (c .before .before .before .record-end .ensures) (l .log) (l .classes) (l .starts) (l .maps) (l .marks) (l .e) (l .i) (l .inv) (c .before .loop-test .taken) in omega arith
+import-const-mul-refers-to t c = let a = (c .before .before .before .before .before .before .before .before .args) in let p = c .before .before .before .before .before .before .before .before .pre .1 in let src = p .0 in let q = p .1 .0 in let ks = p .1 .1 .0 in let K = p .1 .1 .1 in let hk : c .before .before .before .before .before .before .before .wide .result < countAt 2 (a .words .now) = rw (c .before .before .before .before .before .before .before .wide .ensures .0) (q .0) in let l = (c .before .before .loop) in let z = turn-in (a .words .now) (a .tags .now) (a .n) src (a .offset) 2 (c .before .before .before .before .before .before .before .wide .result) (omega arith) hk (a .log .now) (a .logtags .now) (a .starts .now) (a .maps .now) (a .buckets .now) (a .ends) (q .1) K (importT (a .offset) (srcOf (a .words .now) (a .n)) (tabOf 2) (c .before .before .before .before .before .before .before .wide .result)) (refs (recAt (srcOf (a .words .now) (a .n)) (tabOf 2) (c .before .before .before .before .before .before .before .wide .result))) (ends-in (a .words .now) (a .tags .now) (a .n) src (a .offset) 2 (c .before .before .before .before .before .before .before .wide .result) (omega arith) hk (a .log .now) (a .logtags .now) (a .starts .now) (a .maps .now) (a .buckets .now) (a .ends) (q .1) K (c .before .before .before .before .before .if1 .left) (c .before .before .before .before .record-at .result) (c .before .before .before .record-end .result) (c .before .before .before .before .record-at .ensures) (c .before .before .before .record-end .ensures)) (c .before .before .before .before .record-at .result) (c .before .before .before .record-end .result) (c .before .before .before .before .record-at .ensures) (c .before .before .before .record-end .ensures) (l .log) (l .logtags) (l .starts) (l .maps) (l .buckets) (l .e) (l .i) (l .inv) (c .before .loop-test .taken) in omega arith
 
--- src/lib.rt:360:43
 import-const-element-copy-out-refers-to-2 :
     (t : ℕ) → import-const-lts.Need-element-copy-out-refers-to-2 (
       wide-reads.Asked,
@@ -355,13 +343,12 @@ import-const-element-copy-out-refers-to-2 :
       import-type-reads.Learnt,
       import-global-expression-below t,
       import-global-expression.Post,
-      settle-reads.Asked,
-      settle-reads.Learnt,
+      intern-reads.Asked,
+      intern-reads.Learnt,
     ) (import-const-at t) import-const.Post import-const-Inv-loop import-const-μ-loop
 unfolding tabOf
-import-const-element-copy-out-refers-to-2 t c = let a = (c .before .before .before .before .before .before .before .before .args) in let p = c .before .before .before .before .before .before .before .before .pre .1 in let src = p .0 in let q = p .1 .0 in let ks = p .1 .1 .0 in let K = p .1 .1 .1 in let hk : c .before .before .before .before .before .before .before .wide .result < countAt 2 (a .words .now) = rw (c .before .before .before .before .before .before .before .wide .ensures .0) (q .0) in let l = (c .before .before .loop) in turn-in (a .words .now) (a .tags .now) (a .n) src (a .offset) 2 (c .before .before .before .before .before .before .before .wide .result) (omega arith) hk (a .log .now) (a .classes .now) (a .starts .now) (a .maps .now) (a .marks .now) (a .ends) (q .1) K (importT (a .offset) (srcOf (a .words .now) (a .n)) (tabOf 2) (c .before .before .before .before .before .before .before .wide .result)) (refs (recAt (srcOf (a .words .now) (a .n)) (tabOf 2) (c .before .before .before .before .before .before .before .wide .result))) (ends-in (a .words .now) (a .tags .now) (a .n) src (a .offset) 2 (c .before .before .before .before .before .before .before .wide .result) (omega arith) hk (a .log .now) (a .classes .now) (a .starts .now) (a .maps .now) (a .marks .now) (a .ends) (q .1) K (c .before .before .before .before .before .if1 .left) (c .before .before .before .before .record-at .result) (c .before .before .before .record-end .result) (c .before .before .before .before .record-at .ensures) (c .before .before .before .record-end .ensures)) (c .before .before .before .before .record-at .result) (c .before .before .before .record-end .result) (c .before .before .before .before .record-at .ensures) (c .before .before .before .record-end .ensures) (l .log) (l .classes) (l .starts) (l .maps) (l .marks) (l .e) (l .i) (l .inv) (c .before .loop-test .taken)
+import-const-element-copy-out-refers-to-2 t c = let a = (c .before .before .before .before .before .before .before .before .args) in let p = c .before .before .before .before .before .before .before .before .pre .1 in let src = p .0 in let q = p .1 .0 in let ks = p .1 .1 .0 in let K = p .1 .1 .1 in let hk : c .before .before .before .before .before .before .before .wide .result < countAt 2 (a .words .now) = rw (c .before .before .before .before .before .before .before .wide .ensures .0) (q .0) in let l = (c .before .before .loop) in turn-in (a .words .now) (a .tags .now) (a .n) src (a .offset) 2 (c .before .before .before .before .before .before .before .wide .result) (omega arith) hk (a .log .now) (a .logtags .now) (a .starts .now) (a .maps .now) (a .buckets .now) (a .ends) (q .1) K (importT (a .offset) (srcOf (a .words .now) (a .n)) (tabOf 2) (c .before .before .before .before .before .before .before .wide .result)) (refs (recAt (srcOf (a .words .now) (a .n)) (tabOf 2) (c .before .before .before .before .before .before .before .wide .result))) (ends-in (a .words .now) (a .tags .now) (a .n) src (a .offset) 2 (c .before .before .before .before .before .before .before .wide .result) (omega arith) hk (a .log .now) (a .logtags .now) (a .starts .now) (a .maps .now) (a .buckets .now) (a .ends) (q .1) K (c .before .before .before .before .before .if1 .left) (c .before .before .before .before .record-at .result) (c .before .before .before .record-end .result) (c .before .before .before .before .record-at .ensures) (c .before .before .before .record-end .ensures)) (c .before .before .before .before .record-at .result) (c .before .before .before .record-end .result) (c .before .before .before .before .record-at .ensures) (c .before .before .before .record-end .ensures) (l .log) (l .logtags) (l .starts) (l .maps) (l .buckets) (l .e) (l .i) (l .inv) (c .before .loop-test .taken)
 
--- src/lib.rt:360:13
 import-const-refers-to-requires : (t : ℕ) → import-const-lts.Need-refers-to-requires (
   wide-reads.Asked,
   wide-reads.Learnt,
@@ -377,13 +364,12 @@ import-const-refers-to-requires : (t : ℕ) → import-const-lts.Need-refers-to-
   import-type-reads.Learnt,
   import-global-expression-below t,
   import-global-expression.Post,
-  settle-reads.Asked,
-  settle-reads.Learnt,
+  intern-reads.Asked,
+  intern-reads.Learnt,
 ) (import-const-at t) import-const.Post import-const-Inv-loop import-const-μ-loop
 unfolding tabOf
 import-const-refers-to-requires t c κs = let a = (c .before .before .before .before .before .before .before .before .before .args) in let p = c .before .before .before .before .before .before .before .before .before .pre .1 in let src = p .0 in let q = p .1 .0 in let ks = p .1 .1 .0 in let K = p .1 .1 .1 in ks
 
--- src/lib.rt:362:13
 import-const-import-name-requires : (t : ℕ) → import-const-lts.Need-import-name-requires (
   wide-reads.Asked,
   wide-reads.Learnt,
@@ -399,13 +385,12 @@ import-const-import-name-requires : (t : ℕ) → import-const-lts.Need-import-n
   import-type-reads.Learnt,
   import-global-expression-below t,
   import-global-expression.Post,
-  settle-reads.Asked,
-  settle-reads.Learnt,
+  intern-reads.Asked,
+  intern-reads.Learnt,
 ) (import-const-at t) import-const.Post import-const-Inv-loop import-const-μ-loop
 unfolding tabOf
-import-const-import-name-requires t c κs = let a = (c .before .before .before .before .before .before .before .before .before .before .before .before .before .before .before .before .before .args) in let p = c .before .before .before .before .before .before .before .before .before .before .before .before .before .before .before .before .before .pre .1 in let src = p .0 in let q = p .1 .0 in let ks = p .1 .1 .0 in let K = p .1 .1 .1 in let hk : c .before .before .before .before .before .before .before .before .before .before .before .before .before .before .before .before .wide .result < countAt 2 (a .words .now) = rw (c .before .before .before .before .before .before .before .before .before .before .before .before .before .before .before .before .wide .ensures .0) (q .0) in let l = (c .before .before .before .before .before .before .before .before .before .before .before .loop) in (src, ((turn-number (a .words .now) (a .tags .now) (a .n) src (a .offset) 2 (c .before .before .before .before .before .before .before .before .before .before .before .before .before .before .before .before .wide .result) (omega arith) hk (a .log .now) (a .classes .now) (a .starts .now) (a .maps .now) (a .marks .now) (a .ends) (q .1) K (importT (a .offset) (srcOf (a .words .now) (a .n)) (tabOf 2) (c .before .before .before .before .before .before .before .before .before .before .before .before .before .before .before .before .wide .result)) (refs (recAt (srcOf (a .words .now) (a .n)) (tabOf 2) (c .before .before .before .before .before .before .before .before .before .before .before .before .before .before .before .before .wide .result))) (ends-in (a .words .now) (a .tags .now) (a .n) src (a .offset) 2 (c .before .before .before .before .before .before .before .before .before .before .before .before .before .before .before .before .wide .result) (omega arith) hk (a .log .now) (a .classes .now) (a .starts .now) (a .maps .now) (a .marks .now) (a .ends) (q .1) K (c .before .before .before .before .before .before .before .before .before .before .before .before .before .before .if1 .left) (c .before .before .before .before .before .before .before .before .before .before .before .before .before .record-at .result) (c .before .before .before .before .before .before .before .before .before .before .before .before .record-end .result) (c .before .before .before .before .before .before .before .before .before .before .before .before .before .record-at .ensures) (c .before .before .before .before .before .before .before .before .before .before .before .before .record-end .ensures)) (c .before .before .before .before .before .before .before .before .before .before .before .before .before .record-at .result) (c .before .before .before .before .before .before .before .before .before .before .before .before .record-end .result) (c .before .before .before .before .before .before .before .before .before .before .before .before .before .record-at .ensures) (c .before .before .before .before .before .before .before .before .before .before .before .before .record-end .ensures) (l .log) (l .classes) (l .starts) (l .maps) (l .marks) (l .e) (l .i) (l .inv) (c .before .before .before .before .before .before .before .before .before .before .loop-test .taken) 0 (sym (c .before .before .before .before .before .if2 .taken) ∙ c .before .before .before .before .before .before .before .refers-to .ensures .0) (omega arith) (c .before .before .before .before .before .before .before .refers-to .result .number) (c .before .before .before .before .before .before .before .refers-to .ensures .1), l .inv .going), (ks, l .inv .kept)))
+import-const-import-name-requires t c κs = let a = (c .before .before .before .before .before .before .before .before .before .before .before .before .before .before .before .before .before .args) in let p = c .before .before .before .before .before .before .before .before .before .before .before .before .before .before .before .before .before .pre .1 in let src = p .0 in let q = p .1 .0 in let ks = p .1 .1 .0 in let K = p .1 .1 .1 in let hk : c .before .before .before .before .before .before .before .before .before .before .before .before .before .before .before .before .wide .result < countAt 2 (a .words .now) = rw (c .before .before .before .before .before .before .before .before .before .before .before .before .before .before .before .before .wide .ensures .0) (q .0) in let l = (c .before .before .before .before .before .before .before .before .before .before .before .loop) in (src, ((turn-number (a .words .now) (a .tags .now) (a .n) src (a .offset) 2 (c .before .before .before .before .before .before .before .before .before .before .before .before .before .before .before .before .wide .result) (omega arith) hk (a .log .now) (a .logtags .now) (a .starts .now) (a .maps .now) (a .buckets .now) (a .ends) (q .1) K (importT (a .offset) (srcOf (a .words .now) (a .n)) (tabOf 2) (c .before .before .before .before .before .before .before .before .before .before .before .before .before .before .before .before .wide .result)) (refs (recAt (srcOf (a .words .now) (a .n)) (tabOf 2) (c .before .before .before .before .before .before .before .before .before .before .before .before .before .before .before .before .wide .result))) (ends-in (a .words .now) (a .tags .now) (a .n) src (a .offset) 2 (c .before .before .before .before .before .before .before .before .before .before .before .before .before .before .before .before .wide .result) (omega arith) hk (a .log .now) (a .logtags .now) (a .starts .now) (a .maps .now) (a .buckets .now) (a .ends) (q .1) K (c .before .before .before .before .before .before .before .before .before .before .before .before .before .before .if1 .left) (c .before .before .before .before .before .before .before .before .before .before .before .before .before .record-at .result) (c .before .before .before .before .before .before .before .before .before .before .before .before .record-end .result) (c .before .before .before .before .before .before .before .before .before .before .before .before .before .record-at .ensures) (c .before .before .before .before .before .before .before .before .before .before .before .before .record-end .ensures)) (c .before .before .before .before .before .before .before .before .before .before .before .before .before .record-at .result) (c .before .before .before .before .before .before .before .before .before .before .before .before .record-end .result) (c .before .before .before .before .before .before .before .before .before .before .before .before .before .record-at .ensures) (c .before .before .before .before .before .before .before .before .before .before .before .before .record-end .ensures) (l .log) (l .logtags) (l .starts) (l .maps) (l .buckets) (l .e) (l .i) (l .inv) (c .before .before .before .before .before .before .before .before .before .before .loop-test .taken) 0 (sym (c .before .before .before .before .before .if2 .taken) ∙ c .before .before .before .before .before .before .before .refers-to .ensures .0) (omega arith) (c .before .before .before .before .before .before .before .refers-to .result .number) (c .before .before .before .before .before .before .before .refers-to .ensures .1), l .inv .going), (ks, l .inv .kept)))
 
--- src/lib.rt:377:17
 import-const-returns-2 : (t : ℕ) → import-const-lts.Need-returns-2 (
   wide-reads.Asked,
   wide-reads.Learnt,
@@ -421,13 +406,12 @@ import-const-returns-2 : (t : ℕ) → import-const-lts.Need-returns-2 (
   import-type-reads.Learnt,
   import-global-expression-below t,
   import-global-expression.Post,
-  settle-reads.Asked,
-  settle-reads.Learnt,
+  intern-reads.Asked,
+  intern-reads.Learnt,
 ) (import-const-at t) import-const.Post import-const-Inv-loop import-const-μ-loop
 unfolding tabOf
-import-const-returns-2 t c = let a = (c .before .before .before .before .before .before .before .before .before .before .before .before .before .before .before .before .before .before .before .args) in let p = c .before .before .before .before .before .before .before .before .before .before .before .before .before .before .before .before .before .before .before .pre .1 in let src = p .0 in let q = p .1 .0 in let ks = p .1 .1 .0 in let K = p .1 .1 .1 in let hk : c .before .before .before .before .before .before .before .before .before .before .before .before .before .before .before .before .before .before .wide .result < countAt 2 (a .words .now) = rw (c .before .before .before .before .before .before .before .before .before .before .before .before .before .before .before .before .before .before .wide .ensures .0) (q .0) in let l = (c .before .before .before .before .before .before .before .before .before .before .before .before .before .loop) in lands-at (a .offset) (srcOf (a .words .now) (a .n)) constants (c .before .before .before .before .before .before .before .before .before .before .before .before .before .before .before .before .before .before .wide .result) (a .h .0) (c .before .before .before .before .before .before .before .before .before .before .before .before .before .before .before .before .before .before .wide .ensures .0) (turn-full (a .words .now) (a .tags .now) (a .n) src (a .offset) 2 (c .before .before .before .before .before .before .before .before .before .before .before .before .before .before .before .before .before .before .wide .result) (omega arith) hk (a .log .now) (a .classes .now) (a .starts .now) (a .maps .now) (a .marks .now) (a .ends) (q .1) K (importT (a .offset) (srcOf (a .words .now) (a .n)) (tabOf 2) (c .before .before .before .before .before .before .before .before .before .before .before .before .before .before .before .before .before .before .wide .result)) (refs (recAt (srcOf (a .words .now) (a .n)) (tabOf 2) (c .before .before .before .before .before .before .before .before .before .before .before .before .before .before .before .before .before .before .wide .result))) (ends-in (a .words .now) (a .tags .now) (a .n) src (a .offset) 2 (c .before .before .before .before .before .before .before .before .before .before .before .before .before .before .before .before .before .before .wide .result) (omega arith) hk (a .log .now) (a .classes .now) (a .starts .now) (a .maps .now) (a .marks .now) (a .ends) (q .1) K (c .before .before .before .before .before .before .before .before .before .before .before .before .before .before .before .before .if1 .left) (c .before .before .before .before .before .before .before .before .before .before .before .before .before .before .before .record-at .result) (c .before .before .before .before .before .before .before .before .before .before .before .before .before .before .record-end .result) (c .before .before .before .before .before .before .before .before .before .before .before .before .before .before .before .record-at .ensures) (c .before .before .before .before .before .before .before .before .before .before .before .before .before .before .record-end .ensures)) (c .before .before .before .before .before .before .before .before .before .before .before .before .before .before .before .record-at .result) (c .before .before .before .before .before .before .before .before .before .before .before .before .before .before .record-end .result) (c .before .before .before .before .before .before .before .before .before .before .before .before .before .before .before .record-at .ensures) (c .before .before .before .before .before .before .before .before .before .before .before .before .before .before .record-end .ensures) (l .log) (l .classes) (l .starts) (l .maps) (l .marks) (l .e) (l .i) (l .inv) (c .before .before .before .before .before .before .before .before .before .before .before .before .loop-test .taken) 0 (sym (c .before .before .before .before .before .before .before .if2 .taken) ∙ c .before .before .before .before .before .before .before .before .before .refers-to .ensures .0) (omega arith) (c .before .before .before .before .before .before .before .before .before .refers-to .result .number) (c .before .before .before .before .before .before .before .before .before .refers-to .ensures .1) _ _ _ _ _ _ (c .before .import-name .ensures) (c .if3 .taken))
+import-const-returns-2 t c = let a = (c .before .before .before .before .before .before .before .before .before .before .before .before .before .before .before .before .before .before .before .args) in let p = c .before .before .before .before .before .before .before .before .before .before .before .before .before .before .before .before .before .before .before .pre .1 in let src = p .0 in let q = p .1 .0 in let ks = p .1 .1 .0 in let K = p .1 .1 .1 in let hk : c .before .before .before .before .before .before .before .before .before .before .before .before .before .before .before .before .before .before .wide .result < countAt 2 (a .words .now) = rw (c .before .before .before .before .before .before .before .before .before .before .before .before .before .before .before .before .before .before .wide .ensures .0) (q .0) in let l = (c .before .before .before .before .before .before .before .before .before .before .before .before .before .loop) in lands-at (a .offset) (srcOf (a .words .now) (a .n)) constants (c .before .before .before .before .before .before .before .before .before .before .before .before .before .before .before .before .before .before .wide .result) (a .h .0) (c .before .before .before .before .before .before .before .before .before .before .before .before .before .before .before .before .before .before .wide .ensures .0) (turn-full (a .words .now) (a .tags .now) (a .n) src (a .offset) 2 (c .before .before .before .before .before .before .before .before .before .before .before .before .before .before .before .before .before .before .wide .result) (omega arith) hk (a .log .now) (a .logtags .now) (a .starts .now) (a .maps .now) (a .buckets .now) (a .ends) (q .1) K (importT (a .offset) (srcOf (a .words .now) (a .n)) (tabOf 2) (c .before .before .before .before .before .before .before .before .before .before .before .before .before .before .before .before .before .before .wide .result)) (refs (recAt (srcOf (a .words .now) (a .n)) (tabOf 2) (c .before .before .before .before .before .before .before .before .before .before .before .before .before .before .before .before .before .before .wide .result))) (ends-in (a .words .now) (a .tags .now) (a .n) src (a .offset) 2 (c .before .before .before .before .before .before .before .before .before .before .before .before .before .before .before .before .before .before .wide .result) (omega arith) hk (a .log .now) (a .logtags .now) (a .starts .now) (a .maps .now) (a .buckets .now) (a .ends) (q .1) K (c .before .before .before .before .before .before .before .before .before .before .before .before .before .before .before .before .if1 .left) (c .before .before .before .before .before .before .before .before .before .before .before .before .before .before .before .record-at .result) (c .before .before .before .before .before .before .before .before .before .before .before .before .before .before .record-end .result) (c .before .before .before .before .before .before .before .before .before .before .before .before .before .before .before .record-at .ensures) (c .before .before .before .before .before .before .before .before .before .before .before .before .before .before .record-end .ensures)) (c .before .before .before .before .before .before .before .before .before .before .before .before .before .before .before .record-at .result) (c .before .before .before .before .before .before .before .before .before .before .before .before .before .before .record-end .result) (c .before .before .before .before .before .before .before .before .before .before .before .before .before .before .before .record-at .ensures) (c .before .before .before .before .before .before .before .before .before .before .before .before .before .before .record-end .ensures) (l .log) (l .logtags) (l .starts) (l .maps) (l .buckets) (l .e) (l .i) (l .inv) (c .before .before .before .before .before .before .before .before .before .before .before .before .loop-test .taken) 0 (sym (c .before .before .before .before .before .before .before .if2 .taken) ∙ c .before .before .before .before .before .before .before .before .before .refers-to .ensures .0) (omega arith) (c .before .before .before .before .before .before .before .before .before .refers-to .result .number) (c .before .before .before .before .before .before .before .before .before .refers-to .ensures .1) _ _ _ _ _ _ (c .before .import-name .ensures) (c .if3 .taken))
 
--- src/lib.rt:357:5
 import-const-loop-less : (t : ℕ) → import-const-lts.Need-loop-less (
   wide-reads.Asked,
   wide-reads.Learnt,
@@ -443,13 +427,12 @@ import-const-loop-less : (t : ℕ) → import-const-lts.Need-loop-less (
   import-type-reads.Learnt,
   import-global-expression-below t,
   import-global-expression.Post,
-  settle-reads.Asked,
-  settle-reads.Learnt,
+  intern-reads.Asked,
+  intern-reads.Learnt,
 ) (import-const-at t) import-const.Post import-const-Inv-loop import-const-μ-loop
 unfolding tabOf
 import-const-loop-less t c = let a = (c .before .before .before .before .before .before .before .before .before .before .before .before .before .before .before .before .before .before .before .args) in let p = c .before .before .before .before .before .before .before .before .before .before .before .before .before .before .before .before .before .before .before .pre .1 in let src = p .0 in let q = p .1 .0 in let ks = p .1 .1 .0 in let K = p .1 .1 .1 in let hk : c .before .before .before .before .before .before .before .before .before .before .before .before .before .before .before .before .before .before .wide .result < countAt 2 (a .words .now) = rw (c .before .before .before .before .before .before .before .before .before .before .before .before .before .before .before .before .before .before .wide .ensures .0) (q .0) in let l = (c .before .before .before .before .before .before .before .before .before .before .before .before .before .loop) in let z = c .before .before .before .before .before .before .before .before .before .before .before .before .loop-test .taken in omega arith
 
--- src/lib.rt:357:5
 import-const-loop-again : (t : ℕ) → import-const-lts.Need-loop-again (
   wide-reads.Asked,
   wide-reads.Learnt,
@@ -465,13 +448,12 @@ import-const-loop-again : (t : ℕ) → import-const-lts.Need-loop-again (
   import-type-reads.Learnt,
   import-global-expression-below t,
   import-global-expression.Post,
-  settle-reads.Asked,
-  settle-reads.Learnt,
+  intern-reads.Asked,
+  intern-reads.Learnt,
 ) (import-const-at t) import-const.Post import-const-Inv-loop import-const-μ-loop
 unfolding tabOf
-import-const-loop-again t c = let a = (c .before .before .before .before .before .before .before .before .before .before .before .before .before .before .before .before .before .before .before .args) in let p = c .before .before .before .before .before .before .before .before .before .before .before .before .before .before .before .before .before .before .before .pre .1 in let src = p .0 in let q = p .1 .0 in let ks = p .1 .1 .0 in let K = p .1 .1 .1 in let hk : c .before .before .before .before .before .before .before .before .before .before .before .before .before .before .before .before .before .before .wide .result < countAt 2 (a .words .now) = rw (c .before .before .before .before .before .before .before .before .before .before .before .before .before .before .before .before .before .before .wide .ensures .0) (q .0) in let l = (c .before .before .before .before .before .before .before .before .before .before .before .before .before .loop) in turn-next (a .words .now) (a .tags .now) (a .n) src (a .offset) 2 (c .before .before .before .before .before .before .before .before .before .before .before .before .before .before .before .before .before .before .wide .result) (omega arith) hk (a .log .now) (a .classes .now) (a .starts .now) (a .maps .now) (a .marks .now) (a .ends) (q .1) K (importT (a .offset) (srcOf (a .words .now) (a .n)) (tabOf 2) (c .before .before .before .before .before .before .before .before .before .before .before .before .before .before .before .before .before .before .wide .result)) (refs (recAt (srcOf (a .words .now) (a .n)) (tabOf 2) (c .before .before .before .before .before .before .before .before .before .before .before .before .before .before .before .before .before .before .wide .result))) (ends-in (a .words .now) (a .tags .now) (a .n) src (a .offset) 2 (c .before .before .before .before .before .before .before .before .before .before .before .before .before .before .before .before .before .before .wide .result) (omega arith) hk (a .log .now) (a .classes .now) (a .starts .now) (a .maps .now) (a .marks .now) (a .ends) (q .1) K (c .before .before .before .before .before .before .before .before .before .before .before .before .before .before .before .before .if1 .left) (c .before .before .before .before .before .before .before .before .before .before .before .before .before .before .before .record-at .result) (c .before .before .before .before .before .before .before .before .before .before .before .before .before .before .record-end .result) (c .before .before .before .before .before .before .before .before .before .before .before .before .before .before .before .record-at .ensures) (c .before .before .before .before .before .before .before .before .before .before .before .before .before .before .record-end .ensures)) (c .before .before .before .before .before .before .before .before .before .before .before .before .before .before .before .record-at .result) (c .before .before .before .before .before .before .before .before .before .before .before .before .before .before .record-end .result) (c .before .before .before .before .before .before .before .before .before .before .before .before .before .before .before .record-at .ensures) (c .before .before .before .before .before .before .before .before .before .before .before .before .before .before .record-end .ensures) (l .log) (l .classes) (l .starts) (l .maps) (l .marks) (l .e) (l .i) (l .inv) (c .before .before .before .before .before .before .before .before .before .before .before .before .loop-test .taken) 0 (sym (c .before .before .before .before .before .before .before .if2 .taken) ∙ c .before .before .before .before .before .before .before .before .before .refers-to .ensures .0) (omega arith) (c .before .before .before .before .before .before .before .before .before .refers-to .result .number) (c .before .before .before .before .before .before .before .before .before .refers-to .ensures .1) _ _ _ _ _ _ (c .before .import-name .ensures) (c .if3 .left)
+import-const-loop-again t c = let a = (c .before .before .before .before .before .before .before .before .before .before .before .before .before .before .before .before .before .before .before .args) in let p = c .before .before .before .before .before .before .before .before .before .before .before .before .before .before .before .before .before .before .before .pre .1 in let src = p .0 in let q = p .1 .0 in let ks = p .1 .1 .0 in let K = p .1 .1 .1 in let hk : c .before .before .before .before .before .before .before .before .before .before .before .before .before .before .before .before .before .before .wide .result < countAt 2 (a .words .now) = rw (c .before .before .before .before .before .before .before .before .before .before .before .before .before .before .before .before .before .before .wide .ensures .0) (q .0) in let l = (c .before .before .before .before .before .before .before .before .before .before .before .before .before .loop) in turn-next (a .words .now) (a .tags .now) (a .n) src (a .offset) 2 (c .before .before .before .before .before .before .before .before .before .before .before .before .before .before .before .before .before .before .wide .result) (omega arith) hk (a .log .now) (a .logtags .now) (a .starts .now) (a .maps .now) (a .buckets .now) (a .ends) (q .1) K (importT (a .offset) (srcOf (a .words .now) (a .n)) (tabOf 2) (c .before .before .before .before .before .before .before .before .before .before .before .before .before .before .before .before .before .before .wide .result)) (refs (recAt (srcOf (a .words .now) (a .n)) (tabOf 2) (c .before .before .before .before .before .before .before .before .before .before .before .before .before .before .before .before .before .before .wide .result))) (ends-in (a .words .now) (a .tags .now) (a .n) src (a .offset) 2 (c .before .before .before .before .before .before .before .before .before .before .before .before .before .before .before .before .before .before .wide .result) (omega arith) hk (a .log .now) (a .logtags .now) (a .starts .now) (a .maps .now) (a .buckets .now) (a .ends) (q .1) K (c .before .before .before .before .before .before .before .before .before .before .before .before .before .before .before .before .if1 .left) (c .before .before .before .before .before .before .before .before .before .before .before .before .before .before .before .record-at .result) (c .before .before .before .before .before .before .before .before .before .before .before .before .before .before .record-end .result) (c .before .before .before .before .before .before .before .before .before .before .before .before .before .before .before .record-at .ensures) (c .before .before .before .before .before .before .before .before .before .before .before .before .before .before .record-end .ensures)) (c .before .before .before .before .before .before .before .before .before .before .before .before .before .before .before .record-at .result) (c .before .before .before .before .before .before .before .before .before .before .before .before .before .before .record-end .result) (c .before .before .before .before .before .before .before .before .before .before .before .before .before .before .before .record-at .ensures) (c .before .before .before .before .before .before .before .before .before .before .before .before .before .before .record-end .ensures) (l .log) (l .logtags) (l .starts) (l .maps) (l .buckets) (l .e) (l .i) (l .inv) (c .before .before .before .before .before .before .before .before .before .before .before .before .loop-test .taken) 0 (sym (c .before .before .before .before .before .before .before .if2 .taken) ∙ c .before .before .before .before .before .before .before .before .before .refers-to .ensures .0) (omega arith) (c .before .before .before .before .before .before .before .before .before .refers-to .result .number) (c .before .before .before .before .before .before .before .before .before .refers-to .ensures .1) _ _ _ _ _ _ (c .before .import-name .ensures) (c .if3 .left)
 
--- src/lib.rt:380:13
 import-const-import-type-requires : (t : ℕ) → import-const-lts.Need-import-type-requires (
   wide-reads.Asked,
   wide-reads.Learnt,
@@ -487,13 +469,12 @@ import-const-import-type-requires : (t : ℕ) → import-const-lts.Need-import-t
   import-type-reads.Learnt,
   import-global-expression-below t,
   import-global-expression.Post,
-  settle-reads.Asked,
-  settle-reads.Learnt,
+  intern-reads.Asked,
+  intern-reads.Learnt,
 ) (import-const-at t) import-const.Post import-const-Inv-loop import-const-μ-loop
 unfolding tabOf
-import-const-import-type-requires t c κs = let a = (c .before .before .before .before .before .before .before .before .before .before .before .before .before .before .before .before .before .before .before .args) in let p = c .before .before .before .before .before .before .before .before .before .before .before .before .before .before .before .before .before .before .before .pre .1 in let src = p .0 in let q = p .1 .0 in let ks = p .1 .1 .0 in let K = p .1 .1 .1 in let hk : c .before .before .before .before .before .before .before .before .before .before .before .before .before .before .before .before .before .before .wide .result < countAt 2 (a .words .now) = rw (c .before .before .before .before .before .before .before .before .before .before .before .before .before .before .before .before .before .before .wide .ensures .0) (q .0) in let l = (c .before .before .before .before .before .before .before .before .before .before .before .before .before .loop) in (src, ((turn-number (a .words .now) (a .tags .now) (a .n) src (a .offset) 2 (c .before .before .before .before .before .before .before .before .before .before .before .before .before .before .before .before .before .before .wide .result) (omega arith) hk (a .log .now) (a .classes .now) (a .starts .now) (a .maps .now) (a .marks .now) (a .ends) (q .1) K (importT (a .offset) (srcOf (a .words .now) (a .n)) (tabOf 2) (c .before .before .before .before .before .before .before .before .before .before .before .before .before .before .before .before .before .before .wide .result)) (refs (recAt (srcOf (a .words .now) (a .n)) (tabOf 2) (c .before .before .before .before .before .before .before .before .before .before .before .before .before .before .before .before .before .before .wide .result))) (ends-in (a .words .now) (a .tags .now) (a .n) src (a .offset) 2 (c .before .before .before .before .before .before .before .before .before .before .before .before .before .before .before .before .before .before .wide .result) (omega arith) hk (a .log .now) (a .classes .now) (a .starts .now) (a .maps .now) (a .marks .now) (a .ends) (q .1) K (c .before .before .before .before .before .before .before .before .before .before .before .before .before .before .before .before .if1 .left) (c .before .before .before .before .before .before .before .before .before .before .before .before .before .before .before .record-at .result) (c .before .before .before .before .before .before .before .before .before .before .before .before .before .before .record-end .result) (c .before .before .before .before .before .before .before .before .before .before .before .before .before .before .before .record-at .ensures) (c .before .before .before .before .before .before .before .before .before .before .before .before .before .before .record-end .ensures)) (c .before .before .before .before .before .before .before .before .before .before .before .before .before .before .before .record-at .result) (c .before .before .before .before .before .before .before .before .before .before .before .before .before .before .record-end .result) (c .before .before .before .before .before .before .before .before .before .before .before .before .before .before .before .record-at .ensures) (c .before .before .before .before .before .before .before .before .before .before .before .before .before .before .record-end .ensures) (l .log) (l .classes) (l .starts) (l .maps) (l .marks) (l .e) (l .i) (l .inv) (c .before .before .before .before .before .before .before .before .before .before .before .before .loop-test .taken) 1 (sym (c .before .before .before .before .before .if4 .taken) ∙ c .before .before .before .before .before .before .before .before .before .refers-to .ensures .0) (omega arith) (c .before .before .before .before .before .before .before .before .before .refers-to .result .number) (c .before .before .before .before .before .before .before .before .before .refers-to .ensures .1), l .inv .going), (ks, l .inv .kept)))
+import-const-import-type-requires t c κs = let a = (c .before .before .before .before .before .before .before .before .before .before .before .before .before .before .before .before .before .before .before .args) in let p = c .before .before .before .before .before .before .before .before .before .before .before .before .before .before .before .before .before .before .before .pre .1 in let src = p .0 in let q = p .1 .0 in let ks = p .1 .1 .0 in let K = p .1 .1 .1 in let hk : c .before .before .before .before .before .before .before .before .before .before .before .before .before .before .before .before .before .before .wide .result < countAt 2 (a .words .now) = rw (c .before .before .before .before .before .before .before .before .before .before .before .before .before .before .before .before .before .before .wide .ensures .0) (q .0) in let l = (c .before .before .before .before .before .before .before .before .before .before .before .before .before .loop) in (src, ((turn-number (a .words .now) (a .tags .now) (a .n) src (a .offset) 2 (c .before .before .before .before .before .before .before .before .before .before .before .before .before .before .before .before .before .before .wide .result) (omega arith) hk (a .log .now) (a .logtags .now) (a .starts .now) (a .maps .now) (a .buckets .now) (a .ends) (q .1) K (importT (a .offset) (srcOf (a .words .now) (a .n)) (tabOf 2) (c .before .before .before .before .before .before .before .before .before .before .before .before .before .before .before .before .before .before .wide .result)) (refs (recAt (srcOf (a .words .now) (a .n)) (tabOf 2) (c .before .before .before .before .before .before .before .before .before .before .before .before .before .before .before .before .before .before .wide .result))) (ends-in (a .words .now) (a .tags .now) (a .n) src (a .offset) 2 (c .before .before .before .before .before .before .before .before .before .before .before .before .before .before .before .before .before .before .wide .result) (omega arith) hk (a .log .now) (a .logtags .now) (a .starts .now) (a .maps .now) (a .buckets .now) (a .ends) (q .1) K (c .before .before .before .before .before .before .before .before .before .before .before .before .before .before .before .before .if1 .left) (c .before .before .before .before .before .before .before .before .before .before .before .before .before .before .before .record-at .result) (c .before .before .before .before .before .before .before .before .before .before .before .before .before .before .record-end .result) (c .before .before .before .before .before .before .before .before .before .before .before .before .before .before .before .record-at .ensures) (c .before .before .before .before .before .before .before .before .before .before .before .before .before .before .record-end .ensures)) (c .before .before .before .before .before .before .before .before .before .before .before .before .before .before .before .record-at .result) (c .before .before .before .before .before .before .before .before .before .before .before .before .before .before .record-end .result) (c .before .before .before .before .before .before .before .before .before .before .before .before .before .before .before .record-at .ensures) (c .before .before .before .before .before .before .before .before .before .before .before .before .before .before .record-end .ensures) (l .log) (l .logtags) (l .starts) (l .maps) (l .buckets) (l .e) (l .i) (l .inv) (c .before .before .before .before .before .before .before .before .before .before .before .before .loop-test .taken) 1 (sym (c .before .before .before .before .before .if4 .taken) ∙ c .before .before .before .before .before .before .before .before .before .refers-to .ensures .0) (omega arith) (c .before .before .before .before .before .before .before .before .before .refers-to .result .number) (c .before .before .before .before .before .before .before .before .before .refers-to .ensures .1), l .inv .going), (ks, l .inv .kept)))
 
--- src/lib.rt:395:17
 import-const-returns-3 : (t : ℕ) → import-const-lts.Need-returns-3 (
   wide-reads.Asked,
   wide-reads.Learnt,
@@ -509,13 +490,12 @@ import-const-returns-3 : (t : ℕ) → import-const-lts.Need-returns-3 (
   import-type-reads.Learnt,
   import-global-expression-below t,
   import-global-expression.Post,
-  settle-reads.Asked,
-  settle-reads.Learnt,
+  intern-reads.Asked,
+  intern-reads.Learnt,
 ) (import-const-at t) import-const.Post import-const-Inv-loop import-const-μ-loop
 unfolding tabOf
-import-const-returns-3 t c = let a = (c .before .before .before .before .before .before .before .before .before .before .before .before .before .before .before .before .before .before .before .before .before .args) in let p = c .before .before .before .before .before .before .before .before .before .before .before .before .before .before .before .before .before .before .before .before .before .pre .1 in let src = p .0 in let q = p .1 .0 in let ks = p .1 .1 .0 in let K = p .1 .1 .1 in let hk : c .before .before .before .before .before .before .before .before .before .before .before .before .before .before .before .before .before .before .before .before .wide .result < countAt 2 (a .words .now) = rw (c .before .before .before .before .before .before .before .before .before .before .before .before .before .before .before .before .before .before .before .before .wide .ensures .0) (q .0) in let l = (c .before .before .before .before .before .before .before .before .before .before .before .before .before .before .before .loop) in lands-at (a .offset) (srcOf (a .words .now) (a .n)) constants (c .before .before .before .before .before .before .before .before .before .before .before .before .before .before .before .before .before .before .before .before .wide .result) (a .h .0) (c .before .before .before .before .before .before .before .before .before .before .before .before .before .before .before .before .before .before .before .before .wide .ensures .0) (turn-full (a .words .now) (a .tags .now) (a .n) src (a .offset) 2 (c .before .before .before .before .before .before .before .before .before .before .before .before .before .before .before .before .before .before .before .before .wide .result) (omega arith) hk (a .log .now) (a .classes .now) (a .starts .now) (a .maps .now) (a .marks .now) (a .ends) (q .1) K (importT (a .offset) (srcOf (a .words .now) (a .n)) (tabOf 2) (c .before .before .before .before .before .before .before .before .before .before .before .before .before .before .before .before .before .before .before .before .wide .result)) (refs (recAt (srcOf (a .words .now) (a .n)) (tabOf 2) (c .before .before .before .before .before .before .before .before .before .before .before .before .before .before .before .before .before .before .before .before .wide .result))) (ends-in (a .words .now) (a .tags .now) (a .n) src (a .offset) 2 (c .before .before .before .before .before .before .before .before .before .before .before .before .before .before .before .before .before .before .before .before .wide .result) (omega arith) hk (a .log .now) (a .classes .now) (a .starts .now) (a .maps .now) (a .marks .now) (a .ends) (q .1) K (c .before .before .before .before .before .before .before .before .before .before .before .before .before .before .before .before .before .before .if1 .left) (c .before .before .before .before .before .before .before .before .before .before .before .before .before .before .before .before .before .record-at .result) (c .before .before .before .before .before .before .before .before .before .before .before .before .before .before .before .before .record-end .result) (c .before .before .before .before .before .before .before .before .before .before .before .before .before .before .before .before .before .record-at .ensures) (c .before .before .before .before .before .before .before .before .before .before .before .before .before .before .before .before .record-end .ensures)) (c .before .before .before .before .before .before .before .before .before .before .before .before .before .before .before .before .before .record-at .result) (c .before .before .before .before .before .before .before .before .before .before .before .before .before .before .before .before .record-end .result) (c .before .before .before .before .before .before .before .before .before .before .before .before .before .before .before .before .before .record-at .ensures) (c .before .before .before .before .before .before .before .before .before .before .before .before .before .before .before .before .record-end .ensures) (l .log) (l .classes) (l .starts) (l .maps) (l .marks) (l .e) (l .i) (l .inv) (c .before .before .before .before .before .before .before .before .before .before .before .before .before .before .loop-test .taken) 1 (sym (c .before .before .before .before .before .before .before .if4 .taken) ∙ c .before .before .before .before .before .before .before .before .before .before .before .refers-to .ensures .0) (omega arith) (c .before .before .before .before .before .before .before .before .before .before .before .refers-to .result .number) (c .before .before .before .before .before .before .before .before .before .before .before .refers-to .ensures .1) _ _ _ _ _ _ (c .before .import-type .ensures) (c .if5 .taken))
+import-const-returns-3 t c = let a = (c .before .before .before .before .before .before .before .before .before .before .before .before .before .before .before .before .before .before .before .before .before .args) in let p = c .before .before .before .before .before .before .before .before .before .before .before .before .before .before .before .before .before .before .before .before .before .pre .1 in let src = p .0 in let q = p .1 .0 in let ks = p .1 .1 .0 in let K = p .1 .1 .1 in let hk : c .before .before .before .before .before .before .before .before .before .before .before .before .before .before .before .before .before .before .before .before .wide .result < countAt 2 (a .words .now) = rw (c .before .before .before .before .before .before .before .before .before .before .before .before .before .before .before .before .before .before .before .before .wide .ensures .0) (q .0) in let l = (c .before .before .before .before .before .before .before .before .before .before .before .before .before .before .before .loop) in lands-at (a .offset) (srcOf (a .words .now) (a .n)) constants (c .before .before .before .before .before .before .before .before .before .before .before .before .before .before .before .before .before .before .before .before .wide .result) (a .h .0) (c .before .before .before .before .before .before .before .before .before .before .before .before .before .before .before .before .before .before .before .before .wide .ensures .0) (turn-full (a .words .now) (a .tags .now) (a .n) src (a .offset) 2 (c .before .before .before .before .before .before .before .before .before .before .before .before .before .before .before .before .before .before .before .before .wide .result) (omega arith) hk (a .log .now) (a .logtags .now) (a .starts .now) (a .maps .now) (a .buckets .now) (a .ends) (q .1) K (importT (a .offset) (srcOf (a .words .now) (a .n)) (tabOf 2) (c .before .before .before .before .before .before .before .before .before .before .before .before .before .before .before .before .before .before .before .before .wide .result)) (refs (recAt (srcOf (a .words .now) (a .n)) (tabOf 2) (c .before .before .before .before .before .before .before .before .before .before .before .before .before .before .before .before .before .before .before .before .wide .result))) (ends-in (a .words .now) (a .tags .now) (a .n) src (a .offset) 2 (c .before .before .before .before .before .before .before .before .before .before .before .before .before .before .before .before .before .before .before .before .wide .result) (omega arith) hk (a .log .now) (a .logtags .now) (a .starts .now) (a .maps .now) (a .buckets .now) (a .ends) (q .1) K (c .before .before .before .before .before .before .before .before .before .before .before .before .before .before .before .before .before .before .if1 .left) (c .before .before .before .before .before .before .before .before .before .before .before .before .before .before .before .before .before .record-at .result) (c .before .before .before .before .before .before .before .before .before .before .before .before .before .before .before .before .record-end .result) (c .before .before .before .before .before .before .before .before .before .before .before .before .before .before .before .before .before .record-at .ensures) (c .before .before .before .before .before .before .before .before .before .before .before .before .before .before .before .before .record-end .ensures)) (c .before .before .before .before .before .before .before .before .before .before .before .before .before .before .before .before .before .record-at .result) (c .before .before .before .before .before .before .before .before .before .before .before .before .before .before .before .before .record-end .result) (c .before .before .before .before .before .before .before .before .before .before .before .before .before .before .before .before .before .record-at .ensures) (c .before .before .before .before .before .before .before .before .before .before .before .before .before .before .before .before .record-end .ensures) (l .log) (l .logtags) (l .starts) (l .maps) (l .buckets) (l .e) (l .i) (l .inv) (c .before .before .before .before .before .before .before .before .before .before .before .before .before .before .loop-test .taken) 1 (sym (c .before .before .before .before .before .before .before .if4 .taken) ∙ c .before .before .before .before .before .before .before .before .before .before .before .refers-to .ensures .0) (omega arith) (c .before .before .before .before .before .before .before .before .before .before .before .refers-to .result .number) (c .before .before .before .before .before .before .before .before .before .before .before .refers-to .ensures .1) _ _ _ _ _ _ (c .before .import-type .ensures) (c .if5 .taken))
 
--- src/lib.rt:357:5
 import-const-loop-less-2 : (t : ℕ) → import-const-lts.Need-loop-less-2 (
   wide-reads.Asked,
   wide-reads.Learnt,
@@ -531,13 +511,12 @@ import-const-loop-less-2 : (t : ℕ) → import-const-lts.Need-loop-less-2 (
   import-type-reads.Learnt,
   import-global-expression-below t,
   import-global-expression.Post,
-  settle-reads.Asked,
-  settle-reads.Learnt,
+  intern-reads.Asked,
+  intern-reads.Learnt,
 ) (import-const-at t) import-const.Post import-const-Inv-loop import-const-μ-loop
 unfolding tabOf
 import-const-loop-less-2 t c = let a = (c .before .before .before .before .before .before .before .before .before .before .before .before .before .before .before .before .before .before .before .before .before .args) in let p = c .before .before .before .before .before .before .before .before .before .before .before .before .before .before .before .before .before .before .before .before .before .pre .1 in let src = p .0 in let q = p .1 .0 in let ks = p .1 .1 .0 in let K = p .1 .1 .1 in let hk : c .before .before .before .before .before .before .before .before .before .before .before .before .before .before .before .before .before .before .before .before .wide .result < countAt 2 (a .words .now) = rw (c .before .before .before .before .before .before .before .before .before .before .before .before .before .before .before .before .before .before .before .before .wide .ensures .0) (q .0) in let l = (c .before .before .before .before .before .before .before .before .before .before .before .before .before .before .before .loop) in let z = c .before .before .before .before .before .before .before .before .before .before .before .before .before .before .loop-test .taken in omega arith
 
--- src/lib.rt:357:5
 import-const-loop-again-2 : (t : ℕ) → import-const-lts.Need-loop-again-2 (
   wide-reads.Asked,
   wide-reads.Learnt,
@@ -553,13 +532,12 @@ import-const-loop-again-2 : (t : ℕ) → import-const-lts.Need-loop-again-2 (
   import-type-reads.Learnt,
   import-global-expression-below t,
   import-global-expression.Post,
-  settle-reads.Asked,
-  settle-reads.Learnt,
+  intern-reads.Asked,
+  intern-reads.Learnt,
 ) (import-const-at t) import-const.Post import-const-Inv-loop import-const-μ-loop
 unfolding tabOf
-import-const-loop-again-2 t c = let a = (c .before .before .before .before .before .before .before .before .before .before .before .before .before .before .before .before .before .before .before .before .before .args) in let p = c .before .before .before .before .before .before .before .before .before .before .before .before .before .before .before .before .before .before .before .before .before .pre .1 in let src = p .0 in let q = p .1 .0 in let ks = p .1 .1 .0 in let K = p .1 .1 .1 in let hk : c .before .before .before .before .before .before .before .before .before .before .before .before .before .before .before .before .before .before .before .before .wide .result < countAt 2 (a .words .now) = rw (c .before .before .before .before .before .before .before .before .before .before .before .before .before .before .before .before .before .before .before .before .wide .ensures .0) (q .0) in let l = (c .before .before .before .before .before .before .before .before .before .before .before .before .before .before .before .loop) in turn-next (a .words .now) (a .tags .now) (a .n) src (a .offset) 2 (c .before .before .before .before .before .before .before .before .before .before .before .before .before .before .before .before .before .before .before .before .wide .result) (omega arith) hk (a .log .now) (a .classes .now) (a .starts .now) (a .maps .now) (a .marks .now) (a .ends) (q .1) K (importT (a .offset) (srcOf (a .words .now) (a .n)) (tabOf 2) (c .before .before .before .before .before .before .before .before .before .before .before .before .before .before .before .before .before .before .before .before .wide .result)) (refs (recAt (srcOf (a .words .now) (a .n)) (tabOf 2) (c .before .before .before .before .before .before .before .before .before .before .before .before .before .before .before .before .before .before .before .before .wide .result))) (ends-in (a .words .now) (a .tags .now) (a .n) src (a .offset) 2 (c .before .before .before .before .before .before .before .before .before .before .before .before .before .before .before .before .before .before .before .before .wide .result) (omega arith) hk (a .log .now) (a .classes .now) (a .starts .now) (a .maps .now) (a .marks .now) (a .ends) (q .1) K (c .before .before .before .before .before .before .before .before .before .before .before .before .before .before .before .before .before .before .if1 .left) (c .before .before .before .before .before .before .before .before .before .before .before .before .before .before .before .before .before .record-at .result) (c .before .before .before .before .before .before .before .before .before .before .before .before .before .before .before .before .record-end .result) (c .before .before .before .before .before .before .before .before .before .before .before .before .before .before .before .before .before .record-at .ensures) (c .before .before .before .before .before .before .before .before .before .before .before .before .before .before .before .before .record-end .ensures)) (c .before .before .before .before .before .before .before .before .before .before .before .before .before .before .before .before .before .record-at .result) (c .before .before .before .before .before .before .before .before .before .before .before .before .before .before .before .before .record-end .result) (c .before .before .before .before .before .before .before .before .before .before .before .before .before .before .before .before .before .record-at .ensures) (c .before .before .before .before .before .before .before .before .before .before .before .before .before .before .before .before .record-end .ensures) (l .log) (l .classes) (l .starts) (l .maps) (l .marks) (l .e) (l .i) (l .inv) (c .before .before .before .before .before .before .before .before .before .before .before .before .before .before .loop-test .taken) 1 (sym (c .before .before .before .before .before .before .before .if4 .taken) ∙ c .before .before .before .before .before .before .before .before .before .before .before .refers-to .ensures .0) (omega arith) (c .before .before .before .before .before .before .before .before .before .before .before .refers-to .result .number) (c .before .before .before .before .before .before .before .before .before .before .before .refers-to .ensures .1) _ _ _ _ _ _ (c .before .import-type .ensures) (c .if5 .left)
+import-const-loop-again-2 t c = let a = (c .before .before .before .before .before .before .before .before .before .before .before .before .before .before .before .before .before .before .before .before .before .args) in let p = c .before .before .before .before .before .before .before .before .before .before .before .before .before .before .before .before .before .before .before .before .before .pre .1 in let src = p .0 in let q = p .1 .0 in let ks = p .1 .1 .0 in let K = p .1 .1 .1 in let hk : c .before .before .before .before .before .before .before .before .before .before .before .before .before .before .before .before .before .before .before .before .wide .result < countAt 2 (a .words .now) = rw (c .before .before .before .before .before .before .before .before .before .before .before .before .before .before .before .before .before .before .before .before .wide .ensures .0) (q .0) in let l = (c .before .before .before .before .before .before .before .before .before .before .before .before .before .before .before .loop) in turn-next (a .words .now) (a .tags .now) (a .n) src (a .offset) 2 (c .before .before .before .before .before .before .before .before .before .before .before .before .before .before .before .before .before .before .before .before .wide .result) (omega arith) hk (a .log .now) (a .logtags .now) (a .starts .now) (a .maps .now) (a .buckets .now) (a .ends) (q .1) K (importT (a .offset) (srcOf (a .words .now) (a .n)) (tabOf 2) (c .before .before .before .before .before .before .before .before .before .before .before .before .before .before .before .before .before .before .before .before .wide .result)) (refs (recAt (srcOf (a .words .now) (a .n)) (tabOf 2) (c .before .before .before .before .before .before .before .before .before .before .before .before .before .before .before .before .before .before .before .before .wide .result))) (ends-in (a .words .now) (a .tags .now) (a .n) src (a .offset) 2 (c .before .before .before .before .before .before .before .before .before .before .before .before .before .before .before .before .before .before .before .before .wide .result) (omega arith) hk (a .log .now) (a .logtags .now) (a .starts .now) (a .maps .now) (a .buckets .now) (a .ends) (q .1) K (c .before .before .before .before .before .before .before .before .before .before .before .before .before .before .before .before .before .before .if1 .left) (c .before .before .before .before .before .before .before .before .before .before .before .before .before .before .before .before .before .record-at .result) (c .before .before .before .before .before .before .before .before .before .before .before .before .before .before .before .before .record-end .result) (c .before .before .before .before .before .before .before .before .before .before .before .before .before .before .before .before .before .record-at .ensures) (c .before .before .before .before .before .before .before .before .before .before .before .before .before .before .before .before .record-end .ensures)) (c .before .before .before .before .before .before .before .before .before .before .before .before .before .before .before .before .before .record-at .result) (c .before .before .before .before .before .before .before .before .before .before .before .before .before .before .before .before .record-end .result) (c .before .before .before .before .before .before .before .before .before .before .before .before .before .before .before .before .before .record-at .ensures) (c .before .before .before .before .before .before .before .before .before .before .before .before .before .before .before .before .record-end .ensures) (l .log) (l .logtags) (l .starts) (l .maps) (l .buckets) (l .e) (l .i) (l .inv) (c .before .before .before .before .before .before .before .before .before .before .before .before .before .before .loop-test .taken) 1 (sym (c .before .before .before .before .before .before .before .if4 .taken) ∙ c .before .before .before .before .before .before .before .before .before .before .before .refers-to .ensures .0) (omega arith) (c .before .before .before .before .before .before .before .before .before .before .before .refers-to .result .number) (c .before .before .before .before .before .before .before .before .before .before .before .refers-to .ensures .1) _ _ _ _ _ _ (c .before .import-type .ensures) (c .if5 .left)
 
--- src/lib.rt:398:13
 import-const-import-global-expression-requires :
     (t : ℕ) → import-const-lts.Need-import-global-expression-requires (
       wide-reads.Asked,
@@ -576,13 +554,12 @@ import-const-import-global-expression-requires :
       import-type-reads.Learnt,
       import-global-expression-below t,
       import-global-expression.Post,
-      settle-reads.Asked,
-      settle-reads.Learnt,
+      intern-reads.Asked,
+      intern-reads.Learnt,
     ) (import-const-at t) import-const.Post import-const-Inv-loop import-const-μ-loop
 unfolding tabOf
-import-const-import-global-expression-requires t c κs = let a = (c .before .before .before .before .before .before .before .before .before .before .before .before .before .before .before .before .before .before .before .before .before .args) in let p = c .before .before .before .before .before .before .before .before .before .before .before .before .before .before .before .before .before .before .before .before .before .pre .1 in let src = p .0 in let q = p .1 .0 in let ks = p .1 .1 .0 in let K = p .1 .1 .1 in let hk : c .before .before .before .before .before .before .before .before .before .before .before .before .before .before .before .before .before .before .before .before .wide .result < countAt 2 (a .words .now) = rw (c .before .before .before .before .before .before .before .before .before .before .before .before .before .before .before .before .before .before .before .before .wide .ensures .0) (q .0) in let l = (c .before .before .before .before .before .before .before .before .before .before .before .before .before .before .before .loop) in let g = turn-falls (a .words .now) (a .tags .now) (a .n) src (a .offset) 2 (c .before .before .before .before .before .before .before .before .before .before .before .before .before .before .before .before .before .before .before .before .wide .result) (omega arith) hk (a .log .now) (a .classes .now) (a .starts .now) (a .maps .now) (a .marks .now) (a .ends) (q .1) K (importT (a .offset) (srcOf (a .words .now) (a .n)) (tabOf 2) (c .before .before .before .before .before .before .before .before .before .before .before .before .before .before .before .before .before .before .before .before .wide .result)) (refs (recAt (srcOf (a .words .now) (a .n)) (tabOf 2) (c .before .before .before .before .before .before .before .before .before .before .before .before .before .before .before .before .before .before .before .before .wide .result))) (ends-in (a .words .now) (a .tags .now) (a .n) src (a .offset) 2 (c .before .before .before .before .before .before .before .before .before .before .before .before .before .before .before .before .before .before .before .before .wide .result) (omega arith) hk (a .log .now) (a .classes .now) (a .starts .now) (a .maps .now) (a .marks .now) (a .ends) (q .1) K (c .before .before .before .before .before .before .before .before .before .before .before .before .before .before .before .before .before .before .if1 .left) (c .before .before .before .before .before .before .before .before .before .before .before .before .before .before .before .before .before .record-at .result) (c .before .before .before .before .before .before .before .before .before .before .before .before .before .before .before .before .record-end .result) (c .before .before .before .before .before .before .before .before .before .before .before .before .before .before .before .before .before .record-at .ensures) (c .before .before .before .before .before .before .before .before .before .before .before .before .before .before .before .before .record-end .ensures)) (c .before .before .before .before .before .before .before .before .before .before .before .before .before .before .before .before .before .record-at .result) (c .before .before .before .before .before .before .before .before .before .before .before .before .before .before .before .before .record-end .result) (c .before .before .before .before .before .before .before .before .before .before .before .before .before .before .before .before .before .record-at .ensures) (c .before .before .before .before .before .before .before .before .before .before .before .before .before .before .before .before .record-end .ensures) (l .log) (l .classes) (l .starts) (l .maps) (l .marks) (l .e) (l .i) (l .inv) (c .before .before .before .before .before .before .before .before .before .before .before .before .before .before .loop-test .taken) 5 (sym (c .before .before .before .before .before .if6 .taken) ∙ c .before .before .before .before .before .before .before .before .before .before .before .refers-to .ensures .0) (omega arith) (c .before .before .before .before .before .before .before .before .before .before .before .refers-to .result .number) (c .before .before .before .before .before .before .before .before .before .before .before .refers-to .ensures .1) in let z = c .before .before .before .before .before .before .before .before .before .before .before .before .before .before .before .before .before .before .before .before .before .pre .0 in (rw z at (rw (c .before .before .before .before .before .before .before .before .before .before .before .before .before .before .before .before .before .before .before .before .wide .ensures .0) at g), (src, ((turn-number (a .words .now) (a .tags .now) (a .n) src (a .offset) 2 (c .before .before .before .before .before .before .before .before .before .before .before .before .before .before .before .before .before .before .before .before .wide .result) (omega arith) hk (a .log .now) (a .classes .now) (a .starts .now) (a .maps .now) (a .marks .now) (a .ends) (q .1) K (importT (a .offset) (srcOf (a .words .now) (a .n)) (tabOf 2) (c .before .before .before .before .before .before .before .before .before .before .before .before .before .before .before .before .before .before .before .before .wide .result)) (refs (recAt (srcOf (a .words .now) (a .n)) (tabOf 2) (c .before .before .before .before .before .before .before .before .before .before .before .before .before .before .before .before .before .before .before .before .wide .result))) (ends-in (a .words .now) (a .tags .now) (a .n) src (a .offset) 2 (c .before .before .before .before .before .before .before .before .before .before .before .before .before .before .before .before .before .before .before .before .wide .result) (omega arith) hk (a .log .now) (a .classes .now) (a .starts .now) (a .maps .now) (a .marks .now) (a .ends) (q .1) K (c .before .before .before .before .before .before .before .before .before .before .before .before .before .before .before .before .before .before .if1 .left) (c .before .before .before .before .before .before .before .before .before .before .before .before .before .before .before .before .before .record-at .result) (c .before .before .before .before .before .before .before .before .before .before .before .before .before .before .before .before .record-end .result) (c .before .before .before .before .before .before .before .before .before .before .before .before .before .before .before .before .before .record-at .ensures) (c .before .before .before .before .before .before .before .before .before .before .before .before .before .before .before .before .record-end .ensures)) (c .before .before .before .before .before .before .before .before .before .before .before .before .before .before .before .before .before .record-at .result) (c .before .before .before .before .before .before .before .before .before .before .before .before .before .before .before .before .record-end .result) (c .before .before .before .before .before .before .before .before .before .before .before .before .before .before .before .before .before .record-at .ensures) (c .before .before .before .before .before .before .before .before .before .before .before .before .before .before .before .before .record-end .ensures) (l .log) (l .classes) (l .starts) (l .maps) (l .marks) (l .e) (l .i) (l .inv) (c .before .before .before .before .before .before .before .before .before .before .before .before .before .before .loop-test .taken) 5 (sym (c .before .before .before .before .before .if6 .taken) ∙ c .before .before .before .before .before .before .before .before .before .before .before .refers-to .ensures .0) (omega arith) (c .before .before .before .before .before .before .before .before .before .before .before .refers-to .result .number) (c .before .before .before .before .before .before .before .before .before .before .before .refers-to .ensures .1), l .inv .going), (ks, l .inv .kept))))
+import-const-import-global-expression-requires t c κs = let a = (c .before .before .before .before .before .before .before .before .before .before .before .before .before .before .before .before .before .before .before .before .before .args) in let p = c .before .before .before .before .before .before .before .before .before .before .before .before .before .before .before .before .before .before .before .before .before .pre .1 in let src = p .0 in let q = p .1 .0 in let ks = p .1 .1 .0 in let K = p .1 .1 .1 in let hk : c .before .before .before .before .before .before .before .before .before .before .before .before .before .before .before .before .before .before .before .before .wide .result < countAt 2 (a .words .now) = rw (c .before .before .before .before .before .before .before .before .before .before .before .before .before .before .before .before .before .before .before .before .wide .ensures .0) (q .0) in let l = (c .before .before .before .before .before .before .before .before .before .before .before .before .before .before .before .loop) in let g = turn-falls (a .words .now) (a .tags .now) (a .n) src (a .offset) 2 (c .before .before .before .before .before .before .before .before .before .before .before .before .before .before .before .before .before .before .before .before .wide .result) (omega arith) hk (a .log .now) (a .logtags .now) (a .starts .now) (a .maps .now) (a .buckets .now) (a .ends) (q .1) K (importT (a .offset) (srcOf (a .words .now) (a .n)) (tabOf 2) (c .before .before .before .before .before .before .before .before .before .before .before .before .before .before .before .before .before .before .before .before .wide .result)) (refs (recAt (srcOf (a .words .now) (a .n)) (tabOf 2) (c .before .before .before .before .before .before .before .before .before .before .before .before .before .before .before .before .before .before .before .before .wide .result))) (ends-in (a .words .now) (a .tags .now) (a .n) src (a .offset) 2 (c .before .before .before .before .before .before .before .before .before .before .before .before .before .before .before .before .before .before .before .before .wide .result) (omega arith) hk (a .log .now) (a .logtags .now) (a .starts .now) (a .maps .now) (a .buckets .now) (a .ends) (q .1) K (c .before .before .before .before .before .before .before .before .before .before .before .before .before .before .before .before .before .before .if1 .left) (c .before .before .before .before .before .before .before .before .before .before .before .before .before .before .before .before .before .record-at .result) (c .before .before .before .before .before .before .before .before .before .before .before .before .before .before .before .before .record-end .result) (c .before .before .before .before .before .before .before .before .before .before .before .before .before .before .before .before .before .record-at .ensures) (c .before .before .before .before .before .before .before .before .before .before .before .before .before .before .before .before .record-end .ensures)) (c .before .before .before .before .before .before .before .before .before .before .before .before .before .before .before .before .before .record-at .result) (c .before .before .before .before .before .before .before .before .before .before .before .before .before .before .before .before .record-end .result) (c .before .before .before .before .before .before .before .before .before .before .before .before .before .before .before .before .before .record-at .ensures) (c .before .before .before .before .before .before .before .before .before .before .before .before .before .before .before .before .record-end .ensures) (l .log) (l .logtags) (l .starts) (l .maps) (l .buckets) (l .e) (l .i) (l .inv) (c .before .before .before .before .before .before .before .before .before .before .before .before .before .before .loop-test .taken) 5 (sym (c .before .before .before .before .before .if6 .taken) ∙ c .before .before .before .before .before .before .before .before .before .before .before .refers-to .ensures .0) (omega arith) (c .before .before .before .before .before .before .before .before .before .before .before .refers-to .result .number) (c .before .before .before .before .before .before .before .before .before .before .before .refers-to .ensures .1) in let z = c .before .before .before .before .before .before .before .before .before .before .before .before .before .before .before .before .before .before .before .before .before .pre .0 in (rw z at (rw (c .before .before .before .before .before .before .before .before .before .before .before .before .before .before .before .before .before .before .before .before .wide .ensures .0) at g), (src, ((turn-number (a .words .now) (a .tags .now) (a .n) src (a .offset) 2 (c .before .before .before .before .before .before .before .before .before .before .before .before .before .before .before .before .before .before .before .before .wide .result) (omega arith) hk (a .log .now) (a .logtags .now) (a .starts .now) (a .maps .now) (a .buckets .now) (a .ends) (q .1) K (importT (a .offset) (srcOf (a .words .now) (a .n)) (tabOf 2) (c .before .before .before .before .before .before .before .before .before .before .before .before .before .before .before .before .before .before .before .before .wide .result)) (refs (recAt (srcOf (a .words .now) (a .n)) (tabOf 2) (c .before .before .before .before .before .before .before .before .before .before .before .before .before .before .before .before .before .before .before .before .wide .result))) (ends-in (a .words .now) (a .tags .now) (a .n) src (a .offset) 2 (c .before .before .before .before .before .before .before .before .before .before .before .before .before .before .before .before .before .before .before .before .wide .result) (omega arith) hk (a .log .now) (a .logtags .now) (a .starts .now) (a .maps .now) (a .buckets .now) (a .ends) (q .1) K (c .before .before .before .before .before .before .before .before .before .before .before .before .before .before .before .before .before .before .if1 .left) (c .before .before .before .before .before .before .before .before .before .before .before .before .before .before .before .before .before .record-at .result) (c .before .before .before .before .before .before .before .before .before .before .before .before .before .before .before .before .record-end .result) (c .before .before .before .before .before .before .before .before .before .before .before .before .before .before .before .before .before .record-at .ensures) (c .before .before .before .before .before .before .before .before .before .before .before .before .before .before .before .before .record-end .ensures)) (c .before .before .before .before .before .before .before .before .before .before .before .before .before .before .before .before .before .record-at .result) (c .before .before .before .before .before .before .before .before .before .before .before .before .before .before .before .before .record-end .result) (c .before .before .before .before .before .before .before .before .before .before .before .before .before .before .before .before .before .record-at .ensures) (c .before .before .before .before .before .before .before .before .before .before .before .before .before .before .before .before .record-end .ensures) (l .log) (l .logtags) (l .starts) (l .maps) (l .buckets) (l .e) (l .i) (l .inv) (c .before .before .before .before .before .before .before .before .before .before .before .before .before .before .loop-test .taken) 5 (sym (c .before .before .before .before .before .if6 .taken) ∙ c .before .before .before .before .before .before .before .before .before .before .before .refers-to .ensures .0) (omega arith) (c .before .before .before .before .before .before .before .before .before .before .before .refers-to .result .number) (c .before .before .before .before .before .before .before .before .before .before .before .refers-to .ensures .1), l .inv .going), (ks, l .inv .kept))))
 
--- src/lib.rt:413:17
 import-const-returns-4 : (t : ℕ) → import-const-lts.Need-returns-4 (
   wide-reads.Asked,
   wide-reads.Learnt,
@@ -598,13 +575,12 @@ import-const-returns-4 : (t : ℕ) → import-const-lts.Need-returns-4 (
   import-type-reads.Learnt,
   import-global-expression-below t,
   import-global-expression.Post,
-  settle-reads.Asked,
-  settle-reads.Learnt,
+  intern-reads.Asked,
+  intern-reads.Learnt,
 ) (import-const-at t) import-const.Post import-const-Inv-loop import-const-μ-loop
 unfolding tabOf
-import-const-returns-4 t c = let a = (c .before .before .before .before .before .before .before .before .before .before .before .before .before .before .before .before .before .before .before .before .before .before .before .args) in let p = c .before .before .before .before .before .before .before .before .before .before .before .before .before .before .before .before .before .before .before .before .before .before .before .pre .1 in let src = p .0 in let q = p .1 .0 in let ks = p .1 .1 .0 in let K = p .1 .1 .1 in let hk : c .before .before .before .before .before .before .before .before .before .before .before .before .before .before .before .before .before .before .before .before .before .before .wide .result < countAt 2 (a .words .now) = rw (c .before .before .before .before .before .before .before .before .before .before .before .before .before .before .before .before .before .before .before .before .before .before .wide .ensures .0) (q .0) in let l = (c .before .before .before .before .before .before .before .before .before .before .before .before .before .before .before .before .before .loop) in lands-at (a .offset) (srcOf (a .words .now) (a .n)) constants (c .before .before .before .before .before .before .before .before .before .before .before .before .before .before .before .before .before .before .before .before .before .before .wide .result) (a .h .0) (c .before .before .before .before .before .before .before .before .before .before .before .before .before .before .before .before .before .before .before .before .before .before .wide .ensures .0) (turn-full (a .words .now) (a .tags .now) (a .n) src (a .offset) 2 (c .before .before .before .before .before .before .before .before .before .before .before .before .before .before .before .before .before .before .before .before .before .before .wide .result) (omega arith) hk (a .log .now) (a .classes .now) (a .starts .now) (a .maps .now) (a .marks .now) (a .ends) (q .1) K (importT (a .offset) (srcOf (a .words .now) (a .n)) (tabOf 2) (c .before .before .before .before .before .before .before .before .before .before .before .before .before .before .before .before .before .before .before .before .before .before .wide .result)) (refs (recAt (srcOf (a .words .now) (a .n)) (tabOf 2) (c .before .before .before .before .before .before .before .before .before .before .before .before .before .before .before .before .before .before .before .before .before .before .wide .result))) (ends-in (a .words .now) (a .tags .now) (a .n) src (a .offset) 2 (c .before .before .before .before .before .before .before .before .before .before .before .before .before .before .before .before .before .before .before .before .before .before .wide .result) (omega arith) hk (a .log .now) (a .classes .now) (a .starts .now) (a .maps .now) (a .marks .now) (a .ends) (q .1) K (c .before .before .before .before .before .before .before .before .before .before .before .before .before .before .before .before .before .before .before .before .if1 .left) (c .before .before .before .before .before .before .before .before .before .before .before .before .before .before .before .before .before .before .before .record-at .result) (c .before .before .before .before .before .before .before .before .before .before .before .before .before .before .before .before .before .before .record-end .result) (c .before .before .before .before .before .before .before .before .before .before .before .before .before .before .before .before .before .before .before .record-at .ensures) (c .before .before .before .before .before .before .before .before .before .before .before .before .before .before .before .before .before .before .record-end .ensures)) (c .before .before .before .before .before .before .before .before .before .before .before .before .before .before .before .before .before .before .before .record-at .result) (c .before .before .before .before .before .before .before .before .before .before .before .before .before .before .before .before .before .before .record-end .result) (c .before .before .before .before .before .before .before .before .before .before .before .before .before .before .before .before .before .before .before .record-at .ensures) (c .before .before .before .before .before .before .before .before .before .before .before .before .before .before .before .before .before .before .record-end .ensures) (l .log) (l .classes) (l .starts) (l .maps) (l .marks) (l .e) (l .i) (l .inv) (c .before .before .before .before .before .before .before .before .before .before .before .before .before .before .before .before .loop-test .taken) 5 (sym (c .before .before .before .before .before .before .before .if6 .taken) ∙ c .before .before .before .before .before .before .before .before .before .before .before .before .before .refers-to .ensures .0) (omega arith) (c .before .before .before .before .before .before .before .before .before .before .before .before .before .refers-to .result .number) (c .before .before .before .before .before .before .before .before .before .before .before .before .before .refers-to .ensures .1) _ _ _ _ _ _ (c .before .import-global-expression .ensures) (c .if7 .taken))
+import-const-returns-4 t c = let a = (c .before .before .before .before .before .before .before .before .before .before .before .before .before .before .before .before .before .before .before .before .before .before .before .args) in let p = c .before .before .before .before .before .before .before .before .before .before .before .before .before .before .before .before .before .before .before .before .before .before .before .pre .1 in let src = p .0 in let q = p .1 .0 in let ks = p .1 .1 .0 in let K = p .1 .1 .1 in let hk : c .before .before .before .before .before .before .before .before .before .before .before .before .before .before .before .before .before .before .before .before .before .before .wide .result < countAt 2 (a .words .now) = rw (c .before .before .before .before .before .before .before .before .before .before .before .before .before .before .before .before .before .before .before .before .before .before .wide .ensures .0) (q .0) in let l = (c .before .before .before .before .before .before .before .before .before .before .before .before .before .before .before .before .before .loop) in lands-at (a .offset) (srcOf (a .words .now) (a .n)) constants (c .before .before .before .before .before .before .before .before .before .before .before .before .before .before .before .before .before .before .before .before .before .before .wide .result) (a .h .0) (c .before .before .before .before .before .before .before .before .before .before .before .before .before .before .before .before .before .before .before .before .before .before .wide .ensures .0) (turn-full (a .words .now) (a .tags .now) (a .n) src (a .offset) 2 (c .before .before .before .before .before .before .before .before .before .before .before .before .before .before .before .before .before .before .before .before .before .before .wide .result) (omega arith) hk (a .log .now) (a .logtags .now) (a .starts .now) (a .maps .now) (a .buckets .now) (a .ends) (q .1) K (importT (a .offset) (srcOf (a .words .now) (a .n)) (tabOf 2) (c .before .before .before .before .before .before .before .before .before .before .before .before .before .before .before .before .before .before .before .before .before .before .wide .result)) (refs (recAt (srcOf (a .words .now) (a .n)) (tabOf 2) (c .before .before .before .before .before .before .before .before .before .before .before .before .before .before .before .before .before .before .before .before .before .before .wide .result))) (ends-in (a .words .now) (a .tags .now) (a .n) src (a .offset) 2 (c .before .before .before .before .before .before .before .before .before .before .before .before .before .before .before .before .before .before .before .before .before .before .wide .result) (omega arith) hk (a .log .now) (a .logtags .now) (a .starts .now) (a .maps .now) (a .buckets .now) (a .ends) (q .1) K (c .before .before .before .before .before .before .before .before .before .before .before .before .before .before .before .before .before .before .before .before .if1 .left) (c .before .before .before .before .before .before .before .before .before .before .before .before .before .before .before .before .before .before .before .record-at .result) (c .before .before .before .before .before .before .before .before .before .before .before .before .before .before .before .before .before .before .record-end .result) (c .before .before .before .before .before .before .before .before .before .before .before .before .before .before .before .before .before .before .before .record-at .ensures) (c .before .before .before .before .before .before .before .before .before .before .before .before .before .before .before .before .before .before .record-end .ensures)) (c .before .before .before .before .before .before .before .before .before .before .before .before .before .before .before .before .before .before .before .record-at .result) (c .before .before .before .before .before .before .before .before .before .before .before .before .before .before .before .before .before .before .record-end .result) (c .before .before .before .before .before .before .before .before .before .before .before .before .before .before .before .before .before .before .before .record-at .ensures) (c .before .before .before .before .before .before .before .before .before .before .before .before .before .before .before .before .before .before .record-end .ensures) (l .log) (l .logtags) (l .starts) (l .maps) (l .buckets) (l .e) (l .i) (l .inv) (c .before .before .before .before .before .before .before .before .before .before .before .before .before .before .before .before .loop-test .taken) 5 (sym (c .before .before .before .before .before .before .before .if6 .taken) ∙ c .before .before .before .before .before .before .before .before .before .before .before .before .before .refers-to .ensures .0) (omega arith) (c .before .before .before .before .before .before .before .before .before .before .before .before .before .refers-to .result .number) (c .before .before .before .before .before .before .before .before .before .before .before .before .before .refers-to .ensures .1) _ _ _ _ _ _ (c .before .import-global-expression .ensures) (c .if7 .taken))
 
--- src/lib.rt:357:5
 import-const-loop-less-3 : (t : ℕ) → import-const-lts.Need-loop-less-3 (
   wide-reads.Asked,
   wide-reads.Learnt,
@@ -620,13 +596,12 @@ import-const-loop-less-3 : (t : ℕ) → import-const-lts.Need-loop-less-3 (
   import-type-reads.Learnt,
   import-global-expression-below t,
   import-global-expression.Post,
-  settle-reads.Asked,
-  settle-reads.Learnt,
+  intern-reads.Asked,
+  intern-reads.Learnt,
 ) (import-const-at t) import-const.Post import-const-Inv-loop import-const-μ-loop
 unfolding tabOf
 import-const-loop-less-3 t c = let a = (c .before .before .before .before .before .before .before .before .before .before .before .before .before .before .before .before .before .before .before .before .before .before .before .args) in let p = c .before .before .before .before .before .before .before .before .before .before .before .before .before .before .before .before .before .before .before .before .before .before .before .pre .1 in let src = p .0 in let q = p .1 .0 in let ks = p .1 .1 .0 in let K = p .1 .1 .1 in let hk : c .before .before .before .before .before .before .before .before .before .before .before .before .before .before .before .before .before .before .before .before .before .before .wide .result < countAt 2 (a .words .now) = rw (c .before .before .before .before .before .before .before .before .before .before .before .before .before .before .before .before .before .before .before .before .before .before .wide .ensures .0) (q .0) in let l = (c .before .before .before .before .before .before .before .before .before .before .before .before .before .before .before .before .before .loop) in let z = c .before .before .before .before .before .before .before .before .before .before .before .before .before .before .before .before .loop-test .taken in omega arith
 
--- src/lib.rt:357:5
 import-const-loop-again-3 : (t : ℕ) → import-const-lts.Need-loop-again-3 (
   wide-reads.Asked,
   wide-reads.Learnt,
@@ -642,13 +617,12 @@ import-const-loop-again-3 : (t : ℕ) → import-const-lts.Need-loop-again-3 (
   import-type-reads.Learnt,
   import-global-expression-below t,
   import-global-expression.Post,
-  settle-reads.Asked,
-  settle-reads.Learnt,
+  intern-reads.Asked,
+  intern-reads.Learnt,
 ) (import-const-at t) import-const.Post import-const-Inv-loop import-const-μ-loop
 unfolding tabOf
-import-const-loop-again-3 t c = let a = (c .before .before .before .before .before .before .before .before .before .before .before .before .before .before .before .before .before .before .before .before .before .before .before .args) in let p = c .before .before .before .before .before .before .before .before .before .before .before .before .before .before .before .before .before .before .before .before .before .before .before .pre .1 in let src = p .0 in let q = p .1 .0 in let ks = p .1 .1 .0 in let K = p .1 .1 .1 in let hk : c .before .before .before .before .before .before .before .before .before .before .before .before .before .before .before .before .before .before .before .before .before .before .wide .result < countAt 2 (a .words .now) = rw (c .before .before .before .before .before .before .before .before .before .before .before .before .before .before .before .before .before .before .before .before .before .before .wide .ensures .0) (q .0) in let l = (c .before .before .before .before .before .before .before .before .before .before .before .before .before .before .before .before .before .loop) in turn-next (a .words .now) (a .tags .now) (a .n) src (a .offset) 2 (c .before .before .before .before .before .before .before .before .before .before .before .before .before .before .before .before .before .before .before .before .before .before .wide .result) (omega arith) hk (a .log .now) (a .classes .now) (a .starts .now) (a .maps .now) (a .marks .now) (a .ends) (q .1) K (importT (a .offset) (srcOf (a .words .now) (a .n)) (tabOf 2) (c .before .before .before .before .before .before .before .before .before .before .before .before .before .before .before .before .before .before .before .before .before .before .wide .result)) (refs (recAt (srcOf (a .words .now) (a .n)) (tabOf 2) (c .before .before .before .before .before .before .before .before .before .before .before .before .before .before .before .before .before .before .before .before .before .before .wide .result))) (ends-in (a .words .now) (a .tags .now) (a .n) src (a .offset) 2 (c .before .before .before .before .before .before .before .before .before .before .before .before .before .before .before .before .before .before .before .before .before .before .wide .result) (omega arith) hk (a .log .now) (a .classes .now) (a .starts .now) (a .maps .now) (a .marks .now) (a .ends) (q .1) K (c .before .before .before .before .before .before .before .before .before .before .before .before .before .before .before .before .before .before .before .before .if1 .left) (c .before .before .before .before .before .before .before .before .before .before .before .before .before .before .before .before .before .before .before .record-at .result) (c .before .before .before .before .before .before .before .before .before .before .before .before .before .before .before .before .before .before .record-end .result) (c .before .before .before .before .before .before .before .before .before .before .before .before .before .before .before .before .before .before .before .record-at .ensures) (c .before .before .before .before .before .before .before .before .before .before .before .before .before .before .before .before .before .before .record-end .ensures)) (c .before .before .before .before .before .before .before .before .before .before .before .before .before .before .before .before .before .before .before .record-at .result) (c .before .before .before .before .before .before .before .before .before .before .before .before .before .before .before .before .before .before .record-end .result) (c .before .before .before .before .before .before .before .before .before .before .before .before .before .before .before .before .before .before .before .record-at .ensures) (c .before .before .before .before .before .before .before .before .before .before .before .before .before .before .before .before .before .before .record-end .ensures) (l .log) (l .classes) (l .starts) (l .maps) (l .marks) (l .e) (l .i) (l .inv) (c .before .before .before .before .before .before .before .before .before .before .before .before .before .before .before .before .loop-test .taken) 5 (sym (c .before .before .before .before .before .before .before .if6 .taken) ∙ c .before .before .before .before .before .before .before .before .before .before .before .before .before .refers-to .ensures .0) (omega arith) (c .before .before .before .before .before .before .before .before .before .before .before .before .before .refers-to .result .number) (c .before .before .before .before .before .before .before .before .before .before .before .before .before .refers-to .ensures .1) _ _ _ _ _ _ (c .before .import-global-expression .ensures) (c .if7 .left)
+import-const-loop-again-3 t c = let a = (c .before .before .before .before .before .before .before .before .before .before .before .before .before .before .before .before .before .before .before .before .before .before .before .args) in let p = c .before .before .before .before .before .before .before .before .before .before .before .before .before .before .before .before .before .before .before .before .before .before .before .pre .1 in let src = p .0 in let q = p .1 .0 in let ks = p .1 .1 .0 in let K = p .1 .1 .1 in let hk : c .before .before .before .before .before .before .before .before .before .before .before .before .before .before .before .before .before .before .before .before .before .before .wide .result < countAt 2 (a .words .now) = rw (c .before .before .before .before .before .before .before .before .before .before .before .before .before .before .before .before .before .before .before .before .before .before .wide .ensures .0) (q .0) in let l = (c .before .before .before .before .before .before .before .before .before .before .before .before .before .before .before .before .before .loop) in turn-next (a .words .now) (a .tags .now) (a .n) src (a .offset) 2 (c .before .before .before .before .before .before .before .before .before .before .before .before .before .before .before .before .before .before .before .before .before .before .wide .result) (omega arith) hk (a .log .now) (a .logtags .now) (a .starts .now) (a .maps .now) (a .buckets .now) (a .ends) (q .1) K (importT (a .offset) (srcOf (a .words .now) (a .n)) (tabOf 2) (c .before .before .before .before .before .before .before .before .before .before .before .before .before .before .before .before .before .before .before .before .before .before .wide .result)) (refs (recAt (srcOf (a .words .now) (a .n)) (tabOf 2) (c .before .before .before .before .before .before .before .before .before .before .before .before .before .before .before .before .before .before .before .before .before .before .wide .result))) (ends-in (a .words .now) (a .tags .now) (a .n) src (a .offset) 2 (c .before .before .before .before .before .before .before .before .before .before .before .before .before .before .before .before .before .before .before .before .before .before .wide .result) (omega arith) hk (a .log .now) (a .logtags .now) (a .starts .now) (a .maps .now) (a .buckets .now) (a .ends) (q .1) K (c .before .before .before .before .before .before .before .before .before .before .before .before .before .before .before .before .before .before .before .before .if1 .left) (c .before .before .before .before .before .before .before .before .before .before .before .before .before .before .before .before .before .before .before .record-at .result) (c .before .before .before .before .before .before .before .before .before .before .before .before .before .before .before .before .before .before .record-end .result) (c .before .before .before .before .before .before .before .before .before .before .before .before .before .before .before .before .before .before .before .record-at .ensures) (c .before .before .before .before .before .before .before .before .before .before .before .before .before .before .before .before .before .before .record-end .ensures)) (c .before .before .before .before .before .before .before .before .before .before .before .before .before .before .before .before .before .before .before .record-at .result) (c .before .before .before .before .before .before .before .before .before .before .before .before .before .before .before .before .before .before .record-end .result) (c .before .before .before .before .before .before .before .before .before .before .before .before .before .before .before .before .before .before .before .record-at .ensures) (c .before .before .before .before .before .before .before .before .before .before .before .before .before .before .before .before .before .before .record-end .ensures) (l .log) (l .logtags) (l .starts) (l .maps) (l .buckets) (l .e) (l .i) (l .inv) (c .before .before .before .before .before .before .before .before .before .before .before .before .before .before .before .before .loop-test .taken) 5 (sym (c .before .before .before .before .before .before .before .if6 .taken) ∙ c .before .before .before .before .before .before .before .before .before .before .before .before .before .refers-to .ensures .0) (omega arith) (c .before .before .before .before .before .before .before .before .before .before .before .before .before .refers-to .result .number) (c .before .before .before .before .before .before .before .before .before .before .before .before .before .refers-to .ensures .1) _ _ _ _ _ _ (c .before .import-global-expression .ensures) (c .if7 .left)
 
--- src/lib.rt:357:5
 import-const-loop-less-4 : (t : ℕ) → import-const-lts.Need-loop-less-4 (
   wide-reads.Asked,
   wide-reads.Learnt,
@@ -664,13 +638,12 @@ import-const-loop-less-4 : (t : ℕ) → import-const-lts.Need-loop-less-4 (
   import-type-reads.Learnt,
   import-global-expression-below t,
   import-global-expression.Post,
-  settle-reads.Asked,
-  settle-reads.Learnt,
+  intern-reads.Asked,
+  intern-reads.Learnt,
 ) (import-const-at t) import-const.Post import-const-Inv-loop import-const-μ-loop
 unfolding tabOf
 import-const-loop-less-4 t c = let a = (c .before .before .before .before .before .before .before .before .before .before .before .before .before .before .before .before .args) in let p = c .before .before .before .before .before .before .before .before .before .before .before .before .before .before .before .before .pre .1 in let src = p .0 in let q = p .1 .0 in let ks = p .1 .1 .0 in let K = p .1 .1 .1 in let hk : c .before .before .before .before .before .before .before .before .before .before .before .before .before .before .before .wide .result < countAt 2 (a .words .now) = rw (c .before .before .before .before .before .before .before .before .before .before .before .before .before .before .before .wide .ensures .0) (q .0) in let l = (c .before .before .before .before .before .before .before .before .before .before .loop) in let z = c .before .before .before .before .before .before .before .before .before .loop-test .taken in omega arith
 
--- src/lib.rt:357:5
 import-const-loop-again-4 : (t : ℕ) → import-const-lts.Need-loop-again-4 (
   wide-reads.Asked,
   wide-reads.Learnt,
@@ -686,14 +659,13 @@ import-const-loop-again-4 : (t : ℕ) → import-const-lts.Need-loop-again-4 (
   import-type-reads.Learnt,
   import-global-expression-below t,
   import-global-expression.Post,
-  settle-reads.Asked,
-  settle-reads.Learnt,
+  intern-reads.Asked,
+  intern-reads.Learnt,
 ) (import-const-at t) import-const.Post import-const-Inv-loop import-const-μ-loop
 unfolding tabOf
-import-const-loop-again-4 t c = let a = (c .before .before .before .before .before .before .before .before .before .before .before .before .before .before .before .before .args) in let p = c .before .before .before .before .before .before .before .before .before .before .before .before .before .before .before .before .pre .1 in let src = p .0 in let q = p .1 .0 in let ks = p .1 .1 .0 in let K = p .1 .1 .1 in let hk : c .before .before .before .before .before .before .before .before .before .before .before .before .before .before .before .wide .result < countAt 2 (a .words .now) = rw (c .before .before .before .before .before .before .before .before .before .before .before .before .before .before .before .wide .ensures .0) (q .0) in let l = (c .before .before .before .before .before .before .before .before .before .before .loop) in turn-skip (a .words .now) (a .tags .now) (a .n) src (a .offset) 2 (c .before .before .before .before .before .before .before .before .before .before .before .before .before .before .before .wide .result) (omega arith) hk (a .log .now) (a .classes .now) (a .starts .now) (a .maps .now) (a .marks .now) (a .ends) (q .1) K (importT (a .offset) (srcOf (a .words .now) (a .n)) (tabOf 2) (c .before .before .before .before .before .before .before .before .before .before .before .before .before .before .before .wide .result)) (refs (recAt (srcOf (a .words .now) (a .n)) (tabOf 2) (c .before .before .before .before .before .before .before .before .before .before .before .before .before .before .before .wide .result))) (ends-in (a .words .now) (a .tags .now) (a .n) src (a .offset) 2 (c .before .before .before .before .before .before .before .before .before .before .before .before .before .before .before .wide .result) (omega arith) hk (a .log .now) (a .classes .now) (a .starts .now) (a .maps .now) (a .marks .now) (a .ends) (q .1) K (c .before .before .before .before .before .before .before .before .before .before .before .before .before .if1 .left) (c .before .before .before .before .before .before .before .before .before .before .before .before .record-at .result) (c .before .before .before .before .before .before .before .before .before .before .before .record-end .result) (c .before .before .before .before .before .before .before .before .before .before .before .before .record-at .ensures) (c .before .before .before .before .before .before .before .before .before .before .before .record-end .ensures)) (c .before .before .before .before .before .before .before .before .before .before .before .before .record-at .result) (c .before .before .before .before .before .before .before .before .before .before .before .record-end .result) (c .before .before .before .before .before .before .before .before .before .before .before .before .record-at .ensures) (c .before .before .before .before .before .before .before .before .before .before .before .record-end .ensures) (l .log) (l .classes) (l .starts) (l .maps) (l .marks) (l .e) (l .i) (l .inv) (c .before .before .before .before .before .before .before .before .before .loop-test .taken) (c .before .before .before .before .before .before .refers-to .result .table) (c .before .before .before .before .before .before .refers-to .ensures .0) (past-const (c .before .before .before .before .before .before .refers-to .result .table) (turn-allowed (a .words .now) (a .tags .now) (a .n) src (a .offset) 2 (c .before .before .before .before .before .before .before .before .before .before .before .before .before .before .before .wide .result) (omega arith) hk (a .log .now) (a .classes .now) (a .starts .now) (a .maps .now) (a .marks .now) (a .ends) (q .1) K (importT (a .offset) (srcOf (a .words .now) (a .n)) (tabOf 2) (c .before .before .before .before .before .before .before .before .before .before .before .before .before .before .before .wide .result)) (refs (recAt (srcOf (a .words .now) (a .n)) (tabOf 2) (c .before .before .before .before .before .before .before .before .before .before .before .before .before .before .before .wide .result))) (ends-in (a .words .now) (a .tags .now) (a .n) src (a .offset) 2 (c .before .before .before .before .before .before .before .before .before .before .before .before .before .before .before .wide .result) (omega arith) hk (a .log .now) (a .classes .now) (a .starts .now) (a .maps .now) (a .marks .now) (a .ends) (q .1) K (c .before .before .before .before .before .before .before .before .before .before .before .before .before .if1 .left) (c .before .before .before .before .before .before .before .before .before .before .before .before .record-at .result) (c .before .before .before .before .before .before .before .before .before .before .before .record-end .result) (c .before .before .before .before .before .before .before .before .before .before .before .before .record-at .ensures) (c .before .before .before .before .before .before .before .before .before .before .before .record-end .ensures)) (c .before .before .before .before .before .before .before .before .before .before .before .before .record-at .result) (c .before .before .before .before .before .before .before .before .before .before .before .record-end .result) (c .before .before .before .before .before .before .before .before .before .before .before .before .record-at .ensures) (c .before .before .before .before .before .before .before .before .before .before .before .record-end .ensures) (l .log) (l .classes) (l .starts) (l .maps) (l .marks) (l .e) (l .i) (l .inv) (c .before .before .before .before .before .before .before .before .before .loop-test .taken) (c .before .before .before .before .before .before .refers-to .result .table) (c .before .before .before .before .before .before .refers-to .ensures .0)) (c .before .before .before .before .if2 .left) (c .before .before .if4 .left) (c .if6 .left))
+import-const-loop-again-4 t c = let a = (c .before .before .before .before .before .before .before .before .before .before .before .before .before .before .before .before .args) in let p = c .before .before .before .before .before .before .before .before .before .before .before .before .before .before .before .before .pre .1 in let src = p .0 in let q = p .1 .0 in let ks = p .1 .1 .0 in let K = p .1 .1 .1 in let hk : c .before .before .before .before .before .before .before .before .before .before .before .before .before .before .before .wide .result < countAt 2 (a .words .now) = rw (c .before .before .before .before .before .before .before .before .before .before .before .before .before .before .before .wide .ensures .0) (q .0) in let l = (c .before .before .before .before .before .before .before .before .before .before .loop) in turn-skip (a .words .now) (a .tags .now) (a .n) src (a .offset) 2 (c .before .before .before .before .before .before .before .before .before .before .before .before .before .before .before .wide .result) (omega arith) hk (a .log .now) (a .logtags .now) (a .starts .now) (a .maps .now) (a .buckets .now) (a .ends) (q .1) K (importT (a .offset) (srcOf (a .words .now) (a .n)) (tabOf 2) (c .before .before .before .before .before .before .before .before .before .before .before .before .before .before .before .wide .result)) (refs (recAt (srcOf (a .words .now) (a .n)) (tabOf 2) (c .before .before .before .before .before .before .before .before .before .before .before .before .before .before .before .wide .result))) (ends-in (a .words .now) (a .tags .now) (a .n) src (a .offset) 2 (c .before .before .before .before .before .before .before .before .before .before .before .before .before .before .before .wide .result) (omega arith) hk (a .log .now) (a .logtags .now) (a .starts .now) (a .maps .now) (a .buckets .now) (a .ends) (q .1) K (c .before .before .before .before .before .before .before .before .before .before .before .before .before .if1 .left) (c .before .before .before .before .before .before .before .before .before .before .before .before .record-at .result) (c .before .before .before .before .before .before .before .before .before .before .before .record-end .result) (c .before .before .before .before .before .before .before .before .before .before .before .before .record-at .ensures) (c .before .before .before .before .before .before .before .before .before .before .before .record-end .ensures)) (c .before .before .before .before .before .before .before .before .before .before .before .before .record-at .result) (c .before .before .before .before .before .before .before .before .before .before .before .record-end .result) (c .before .before .before .before .before .before .before .before .before .before .before .before .record-at .ensures) (c .before .before .before .before .before .before .before .before .before .before .before .record-end .ensures) (l .log) (l .logtags) (l .starts) (l .maps) (l .buckets) (l .e) (l .i) (l .inv) (c .before .before .before .before .before .before .before .before .before .loop-test .taken) (c .before .before .before .before .before .before .refers-to .result .table) (c .before .before .before .before .before .before .refers-to .ensures .0) (past-const (c .before .before .before .before .before .before .refers-to .result .table) (turn-allowed (a .words .now) (a .tags .now) (a .n) src (a .offset) 2 (c .before .before .before .before .before .before .before .before .before .before .before .before .before .before .before .wide .result) (omega arith) hk (a .log .now) (a .logtags .now) (a .starts .now) (a .maps .now) (a .buckets .now) (a .ends) (q .1) K (importT (a .offset) (srcOf (a .words .now) (a .n)) (tabOf 2) (c .before .before .before .before .before .before .before .before .before .before .before .before .before .before .before .wide .result)) (refs (recAt (srcOf (a .words .now) (a .n)) (tabOf 2) (c .before .before .before .before .before .before .before .before .before .before .before .before .before .before .before .wide .result))) (ends-in (a .words .now) (a .tags .now) (a .n) src (a .offset) 2 (c .before .before .before .before .before .before .before .before .before .before .before .before .before .before .before .wide .result) (omega arith) hk (a .log .now) (a .logtags .now) (a .starts .now) (a .maps .now) (a .buckets .now) (a .ends) (q .1) K (c .before .before .before .before .before .before .before .before .before .before .before .before .before .if1 .left) (c .before .before .before .before .before .before .before .before .before .before .before .before .record-at .result) (c .before .before .before .before .before .before .before .before .before .before .before .record-end .result) (c .before .before .before .before .before .before .before .before .before .before .before .before .record-at .ensures) (c .before .before .before .before .before .before .before .before .before .before .before .record-end .ensures)) (c .before .before .before .before .before .before .before .before .before .before .before .before .record-at .result) (c .before .before .before .before .before .before .before .before .before .before .before .record-end .result) (c .before .before .before .before .before .before .before .before .before .before .before .before .record-at .ensures) (c .before .before .before .before .before .before .before .before .before .before .before .record-end .ensures) (l .log) (l .logtags) (l .starts) (l .maps) (l .buckets) (l .e) (l .i) (l .inv) (c .before .before .before .before .before .before .before .before .before .loop-test .taken) (c .before .before .before .before .before .before .refers-to .result .table) (c .before .before .before .before .before .before .refers-to .ensures .0)) (c .before .before .before .before .if2 .left) (c .before .before .if4 .left) (c .if6 .left))
 
--- src/lib.rt:417:5
-import-const-settle-requires : (t : ℕ) → import-const-lts.Need-settle-requires (
+import-const-settle-requires : (t : ℕ) → import-const-lts.Need-intern-requires (
   wide-reads.Asked,
   wide-reads.Learnt,
   record-at-reads.Asked,
@@ -708,13 +680,12 @@ import-const-settle-requires : (t : ℕ) → import-const-lts.Need-settle-requir
   import-type-reads.Learnt,
   import-global-expression-below t,
   import-global-expression.Post,
-  settle-reads.Asked,
-  settle-reads.Learnt,
+  intern-reads.Asked,
+  intern-reads.Learnt,
 ) (import-const-at t) import-const.Post import-const-Inv-loop import-const-μ-loop
 unfolding tabOf
-import-const-settle-requires t c κs = let a = (c .before .before .before .before .before .before .before .before .before .before .before .before .args) in let p = c .before .before .before .before .before .before .before .before .before .before .before .before .pre .1 in let src = p .0 in let q = p .1 .0 in let ks = p .1 .1 .0 in let K = p .1 .1 .1 in let hk : c .before .before .before .before .before .before .before .before .before .before .before .wide .result < countAt 2 (a .words .now) = rw (c .before .before .before .before .before .before .before .before .before .before .before .wide .ensures .0) (q .0) in let l = (c .before .before .before .before .before .before .loop) in (readable (a .words .now) (a .tags .now) (a .n) src 2 (c .before .before .before .before .before .before .before .before .before .before .before .wide .result) (omega arith) hk (c .before .before .before .before .before .before .before .before .record-at .result) (c .before .before .before .before .before .before .before .record-end .result) (c .before .before .before .before .before .before .before .before .record-at .ensures) (c .before .before .before .before .before .before .before .record-end .ensures) (a .kinds .now) ks, ((omega arith, hk, small-number (a .words .now) (a .tags .now) (a .n) src 2 (c .before .before .before .before .before .before .before .before .before .before .before .wide .result) (omega arith) hk, l .inv .going), (plain-name (a .words .now) (a .tags .now) (a .n) src 2 (c .before .before .before .before .before .before .before .before .before .before .before .wide .result) (omega arith) hk (c .before .before .before .before .before .before .before .before .record-at .result) (c .before .before .before .before .before .before .before .record-end .result) (c .before .before .before .before .before .before .before .before .record-at .ensures) (c .before .before .before .before .before .before .before .record-end .ensures), l .inv .kept)))
+import-const-settle-requires t c κs = let a = (c .before .before .before .before .before .before .before .before .before .before .before .before .args) in let p = c .before .before .before .before .before .before .before .before .before .before .before .before .pre .1 in let src = p .0 in let q = p .1 .0 in let ks = p .1 .1 .0 in let K = p .1 .1 .1 in let hk : c .before .before .before .before .before .before .before .before .before .before .before .wide .result < countAt 2 (a .words .now) = rw (c .before .before .before .before .before .before .before .before .before .before .before .wide .ensures .0) (q .0) in let l = (c .before .before .before .before .before .before .loop) in (readable (a .words .now) (a .tags .now) (a .n) src 2 (c .before .before .before .before .before .before .before .before .before .before .before .wide .result) (omega arith) hk (c .before .before .before .before .before .before .before .before .record-at .result) (c .before .before .before .before .before .before .before .record-end .result) (c .before .before .before .before .before .before .before .before .record-at .ensures) (c .before .before .before .before .before .before .before .record-end .ensures) (a .targets .now) ks, ((omega arith, hk, small-number (a .words .now) (a .tags .now) (a .n) src 2 (c .before .before .before .before .before .before .before .before .before .before .before .wide .result) (omega arith) hk, l .inv .going), (plain-name (a .words .now) (a .tags .now) (a .n) src 2 (c .before .before .before .before .before .before .before .before .before .before .before .wide .result) (omega arith) hk (c .before .before .before .before .before .before .before .before .record-at .result) (c .before .before .before .before .before .before .before .record-end .result) (c .before .before .before .before .before .before .before .before .record-at .ensures) (c .before .before .before .before .before .before .before .record-end .ensures), l .inv .kept)))
 
--- src/lib.rt:329:1
 import-const-returns-5 : (t : ℕ) → import-const-lts.Need-returns-5 (
   wide-reads.Asked,
   wide-reads.Learnt,
@@ -730,19 +701,18 @@ import-const-returns-5 : (t : ℕ) → import-const-lts.Need-returns-5 (
   import-type-reads.Learnt,
   import-global-expression-below t,
   import-global-expression.Post,
-  settle-reads.Asked,
-  settle-reads.Learnt,
+  intern-reads.Asked,
+  intern-reads.Learnt,
 ) (import-const-at t) import-const.Post import-const-Inv-loop import-const-μ-loop
 unfolding tabOf
-import-const-returns-5 t c = let a = (c .before .before .before .before .before .before .before .before .before .before .before .before .before .args) in let p = c .before .before .before .before .before .before .before .before .before .before .before .before .before .pre .1 in let src = p .0 in let q = p .1 .0 in let ks = p .1 .1 .0 in let K = p .1 .1 .1 in let hk : c .before .before .before .before .before .before .before .before .before .before .before .before .wide .result < countAt 2 (a .words .now) = rw (c .before .before .before .before .before .before .before .before .before .before .before .before .wide .ensures .0) (q .0) in let l = (c .before .before .before .before .before .before .before .loop) in lands-at (a .offset) (srcOf (a .words .now) (a .n)) constants (c .before .before .before .before .before .before .before .before .before .before .before .before .wide .result) (a .h .0) (c .before .before .before .before .before .before .before .before .before .before .before .before .wide .ensures .0) (turn-settled (a .words .now) (a .tags .now) (a .n) src (a .offset) 2 (c .before .before .before .before .before .before .before .before .before .before .before .before .wide .result) (omega arith) hk (a .log .now) (a .classes .now) (a .starts .now) (a .maps .now) (a .marks .now) (a .ends) (q .1) K (c .before .before .before .before .before .before .before .before .before .before .if1 .left) (c .before .before .before .before .before .before .before .before .before .record-at .result) (c .before .before .before .before .before .before .before .before .record-end .result) (c .before .before .before .before .before .before .before .before .before .record-at .ensures) (c .before .before .before .before .before .before .before .before .record-end .ensures) (l .log) (l .classes) (l .starts) (l .maps) (l .marks) (l .e) (l .i) (l .inv) (c .before .before .before .before .before .before .loop-test .left) _ _ _ _ _ _ (c .settle .ensures))
+import-const-returns-5 t c = let a = (c .before .before .before .before .before .before .before .before .before .before .before .before .before .args) in let p = c .before .before .before .before .before .before .before .before .before .before .before .before .before .pre .1 in let src = p .0 in let q = p .1 .0 in let ks = p .1 .1 .0 in let K = p .1 .1 .1 in let hk : c .before .before .before .before .before .before .before .before .before .before .before .before .wide .result < countAt 2 (a .words .now) = rw (c .before .before .before .before .before .before .before .before .before .before .before .before .wide .ensures .0) (q .0) in let l = (c .before .before .before .before .before .before .before .loop) in lands-at (a .offset) (srcOf (a .words .now) (a .n)) constants (c .before .before .before .before .before .before .before .before .before .before .before .before .wide .result) (a .h .0) (c .before .before .before .before .before .before .before .before .before .before .before .before .wide .ensures .0) (turn-settled (a .words .now) (a .tags .now) (a .n) src (a .offset) 2 (c .before .before .before .before .before .before .before .before .before .before .before .before .wide .result) (omega arith) hk (a .log .now) (a .logtags .now) (a .starts .now) (a .maps .now) (a .buckets .now) (a .ends) (q .1) K (c .before .before .before .before .before .before .before .before .before .before .if1 .left) (c .before .before .before .before .before .before .before .before .before .record-at .result) (c .before .before .before .before .before .before .before .before .record-end .result) (c .before .before .before .before .before .before .before .before .before .record-at .ensures) (c .before .before .before .before .before .before .before .before .record-end .ensures) (l .log) (l .logtags) (l .starts) (l .maps) (l .buckets) (l .e) (l .i) (l .inv) (c .before .before .before .before .before .before .loop-test .left) _ _ _ _ _ _ (c .intern .ensures))
 
 abbrev import-global-expression-Inv-loop : import-global-expression-lts.InvT-loop
-import-global-expression-Inv-loop words tags kinds n log₀ classes₀ starts₀ maps₀ marks₀ offset k at end e₀ i₀ log classes starts maps marks e i = Turn words tags n offset 5 k (refs (recAt (srcOf words n) (tabOf 5) k)) log₀ classes₀ starts₀ maps₀ marks₀ e₀ end log classes starts maps marks e i
+import-global-expression-Inv-loop words tags targets n log₀ logtags₀ starts₀ maps₀ buckets₀ offset k at end e₀ i₀ log logtags starts maps buckets e i = Turn words tags n offset 5 k (refs (recAt (srcOf words n) (tabOf 5) k)) log₀ logtags₀ starts₀ maps₀ buckets₀ e₀ end log logtags starts maps buckets e i
 
 abbrev import-global-expression-μ-loop : import-global-expression-lts.MeasureT-loop
-import-global-expression-μ-loop words tags kinds n log₀ classes₀ starts₀ maps₀ marks₀ offset k at end e₀ i₀ log classes starts maps marks e i = end - i
+import-global-expression-μ-loop words tags targets n log₀ logtags₀ starts₀ maps₀ buckets₀ offset k at end e₀ i₀ log logtags starts maps buckets e i = end - i
 
--- src/lib.rt:224:9
 import-global-expression-wide-requires : (t : ℕ) → import-global-expression-lts.Need-wide-requires (
   wide-reads.Asked,
   wide-reads.Learnt,
@@ -760,8 +730,8 @@ import-global-expression-wide-requires : (t : ℕ) → import-global-expression-
   import-pipeline-override.Post,
   import-global-expression-below t,
   import-global-expression.Post,
-  settle-reads.Asked,
-  settle-reads.Learnt,
+  intern-reads.Asked,
+  intern-reads.Learnt,
 )
     (import-global-expression-at t)
     import-global-expression.Post
@@ -769,7 +739,6 @@ import-global-expression-wide-requires : (t : ℕ) → import-global-expression-
     import-global-expression-μ-loop
 import-global-expression-wide-requires t c κs = search needs
 
--- src/lib.rt:225:8
 import-global-expression-mul-if1 : (t : ℕ) → import-global-expression-lts.Need-mul-if1 (
   wide-reads.Asked,
   wide-reads.Learnt,
@@ -787,8 +756,8 @@ import-global-expression-mul-if1 : (t : ℕ) → import-global-expression-lts.Ne
   import-pipeline-override.Post,
   import-global-expression-below t,
   import-global-expression.Post,
-  settle-reads.Asked,
-  settle-reads.Learnt,
+  intern-reads.Asked,
+  intern-reads.Learnt,
 )
     (import-global-expression-at t)
     import-global-expression.Post
@@ -797,7 +766,6 @@ import-global-expression-mul-if1 : (t : ℕ) → import-global-expression-lts.Ne
 unfolding tabOf
 import-global-expression-mul-if1 t c = let a = (c .before .args) in let p = c .before .pre .1 in let src = p .0 in let q = p .1 .0 in let ks = p .1 .1 .0 in let K = p .1 .1 .1 in let hk : c .wide .result < countAt 5 (a .words .now) = rw (c .wide .ensures .0) (q .0) in let z = small-number (a .words .now) (a .tags .now) (a .n) src 5 (c .wide .result) (omega arith) hk in omega arith
 
--- src/lib.rt:225:8
 import-global-expression-index-1-if1 : (t : ℕ) → import-global-expression-lts.Need-index-1-if1 (
   wide-reads.Asked,
   wide-reads.Learnt,
@@ -815,8 +783,8 @@ import-global-expression-index-1-if1 : (t : ℕ) → import-global-expression-lt
   import-pipeline-override.Post,
   import-global-expression-below t,
   import-global-expression.Post,
-  settle-reads.Asked,
-  settle-reads.Learnt,
+  intern-reads.Asked,
+  intern-reads.Learnt,
 )
     (import-global-expression-at t)
     import-global-expression.Post
@@ -824,7 +792,6 @@ import-global-expression-index-1-if1 : (t : ℕ) → import-global-expression-lt
     import-global-expression-μ-loop
 import-global-expression-index-1-if1 t c = search needs
 
--- src/lib.rt:225:8
 import-global-expression-index-2-if1 : (t : ℕ) → import-global-expression-lts.Need-index-2-if1 (
   wide-reads.Asked,
   wide-reads.Learnt,
@@ -842,8 +809,8 @@ import-global-expression-index-2-if1 : (t : ℕ) → import-global-expression-lt
   import-pipeline-override.Post,
   import-global-expression-below t,
   import-global-expression.Post,
-  settle-reads.Asked,
-  settle-reads.Learnt,
+  intern-reads.Asked,
+  intern-reads.Learnt,
 )
     (import-global-expression-at t)
     import-global-expression.Post
@@ -852,7 +819,6 @@ import-global-expression-index-2-if1 : (t : ℕ) → import-global-expression-lt
 unfolding tabOf
 import-global-expression-index-2-if1 t c = let a = (c .before .args) in let p = c .before .pre .1 in let src = p .0 in let q = p .1 .0 in let ks = p .1 .1 .0 in let K = p .1 .1 .1 in let hk : c .wide .result < countAt 5 (a .words .now) = rw (c .wide .ensures .0) (q .0) in let z = small-number (a .words .now) (a .tags .now) (a .n) src 5 (c .wide .result) (omega arith) hk in omega arith
 
--- src/lib.rt:226:9
 import-global-expression-returns : (t : ℕ) → import-global-expression-lts.Need-returns (
   wide-reads.Asked,
   wide-reads.Learnt,
@@ -870,17 +836,16 @@ import-global-expression-returns : (t : ℕ) → import-global-expression-lts.Ne
   import-pipeline-override.Post,
   import-global-expression-below t,
   import-global-expression.Post,
-  settle-reads.Asked,
-  settle-reads.Learnt,
+  intern-reads.Asked,
+  intern-reads.Learnt,
 )
     (import-global-expression-at t)
     import-global-expression.Post
     import-global-expression-Inv-loop
     import-global-expression-μ-loop
 unfolding tabOf
-import-global-expression-returns t c = let a = (c .before .before .before .args) in let p = c .before .before .before .pre .1 in let src = p .0 in let q = p .1 .0 in let ks = p .1 .1 .0 in let K = p .1 .1 .1 in let hk : c .before .before .wide .result < countAt 5 (a .words .now) = rw (c .before .before .wide .ensures .0) (q .0) in lands-at (a .offset) (srcOf (a .words .now) (a .n)) exprs (c .before .before .wide .result) (a .h .0) (c .before .before .wide .ensures .0) (turn-known (a .words .now) (a .tags .now) (a .n) src (a .offset) 5 (c .before .before .wide .result) (omega arith) hk (a .log .now) (a .classes .now) (a .starts .now) (a .maps .now) (a .marks .now) (a .ends) (q .1) K (c .if1 .taken))
+import-global-expression-returns t c = let a = (c .before .before .before .args) in let p = c .before .before .before .pre .1 in let src = p .0 in let q = p .1 .0 in let ks = p .1 .1 .0 in let K = p .1 .1 .1 in let hk : c .before .before .wide .result < countAt 5 (a .words .now) = rw (c .before .before .wide .ensures .0) (q .0) in lands-at (a .offset) (srcOf (a .words .now) (a .n)) exprs (c .before .before .wide .result) (a .h .0) (c .before .before .wide .ensures .0) (turn-known (a .words .now) (a .tags .now) (a .n) src (a .offset) 5 (c .before .before .wide .result) (omega arith) hk (a .log .now) (a .logtags .now) (a .starts .now) (a .maps .now) (a .buckets .now) (a .ends) (q .1) K (c .if1 .taken))
 
--- src/lib.rt:228:9
 import-global-expression-record-at-requires :
     (t : ℕ) → import-global-expression-lts.Need-record-at-requires (
       wide-reads.Asked,
@@ -899,8 +864,8 @@ import-global-expression-record-at-requires :
       import-pipeline-override.Post,
       import-global-expression-below t,
       import-global-expression.Post,
-      settle-reads.Asked,
-      settle-reads.Learnt,
+      intern-reads.Asked,
+      intern-reads.Learnt,
     )
     (import-global-expression-at t)
     import-global-expression.Post
@@ -909,7 +874,6 @@ import-global-expression-record-at-requires :
 unfolding tabOf
 import-global-expression-record-at-requires t c κs = let a = (c .before .before .before .args) in let p = c .before .before .before .pre .1 in let src = p .0 in let q = p .1 .0 in let ks = p .1 .1 .0 in let K = p .1 .1 .1 in let hk : c .before .before .wide .result < countAt 5 (a .words .now) = rw (c .before .before .wide .ensures .0) (q .0) in (tape (a .words .now) (a .tags .now) (a .n) src, (omega arith, hk))
 
--- src/lib.rt:229:9
 import-global-expression-record-end-requires :
     (t : ℕ) → import-global-expression-lts.Need-record-end-requires (
       wide-reads.Asked,
@@ -928,8 +892,8 @@ import-global-expression-record-end-requires :
       import-pipeline-override.Post,
       import-global-expression-below t,
       import-global-expression.Post,
-      settle-reads.Asked,
-      settle-reads.Learnt,
+      intern-reads.Asked,
+      intern-reads.Learnt,
     )
     (import-global-expression-at t)
     import-global-expression.Post
@@ -938,7 +902,6 @@ import-global-expression-record-end-requires :
 unfolding tabOf
 import-global-expression-record-end-requires t c κs = let a = (c .before .before .before .before .args) in let p = c .before .before .before .before .pre .1 in let src = p .0 in let q = p .1 .0 in let ks = p .1 .1 .0 in let K = p .1 .1 .1 in let hk : c .before .before .before .wide .result < countAt 5 (a .words .now) = rw (c .before .before .before .wide .ensures .0) (q .0) in (tape (a .words .now) (a .tags .now) (a .n) src, (omega arith, hk))
 
--- src/lib.rt:232:5
 import-global-expression-loop-holds : (t : ℕ) → import-global-expression-lts.Need-loop-holds (
   wide-reads.Asked,
   wide-reads.Learnt,
@@ -956,17 +919,16 @@ import-global-expression-loop-holds : (t : ℕ) → import-global-expression-lts
   import-pipeline-override.Post,
   import-global-expression-below t,
   import-global-expression.Post,
-  settle-reads.Asked,
-  settle-reads.Learnt,
+  intern-reads.Asked,
+  intern-reads.Learnt,
 )
     (import-global-expression-at t)
     import-global-expression.Post
     import-global-expression-Inv-loop
     import-global-expression-μ-loop
 unfolding tabOf
-import-global-expression-loop-holds t c = let a = (c .before .before .before .before .before .args) in let p = c .before .before .before .before .before .pre .1 in let src = p .0 in let q = p .1 .0 in let ks = p .1 .1 .0 in let K = p .1 .1 .1 in let hk : c .before .before .before .before .wide .result < countAt 5 (a .words .now) = rw (c .before .before .before .before .wide .ensures .0) (q .0) in turn-first (a .words .now) (a .tags .now) (a .n) src (a .offset) 5 (c .before .before .before .before .wide .result) (omega arith) hk (a .log .now) (a .classes .now) (a .starts .now) (a .maps .now) (a .marks .now) (a .ends) (q .1) K (c .before .before .if1 .left) (c .before .record-at .result) (c .record-end .result) (c .before .record-at .ensures) (c .record-end .ensures)
+import-global-expression-loop-holds t c = let a = (c .before .before .before .before .before .args) in let p = c .before .before .before .before .before .pre .1 in let src = p .0 in let q = p .1 .0 in let ks = p .1 .1 .0 in let K = p .1 .1 .1 in let hk : c .before .before .before .before .wide .result < countAt 5 (a .words .now) = rw (c .before .before .before .before .wide .ensures .0) (q .0) in turn-first (a .words .now) (a .tags .now) (a .n) src (a .offset) 5 (c .before .before .before .before .wide .result) (omega arith) hk (a .log .now) (a .logtags .now) (a .starts .now) (a .maps .now) (a .buckets .now) (a .ends) (q .1) K (c .before .before .if1 .left) (c .before .record-at .result) (c .record-end .result) (c .before .record-at .ensures) (c .record-end .ensures)
 
--- src/lib.rt:234:9
 import-global-expression-add-i : (t : ℕ) → import-global-expression-lts.Need-add-i (
   wide-reads.Asked,
   wide-reads.Learnt,
@@ -984,17 +946,16 @@ import-global-expression-add-i : (t : ℕ) → import-global-expression-lts.Need
   import-pipeline-override.Post,
   import-global-expression-below t,
   import-global-expression.Post,
-  settle-reads.Asked,
-  settle-reads.Learnt,
+  intern-reads.Asked,
+  intern-reads.Learnt,
 )
     (import-global-expression-at t)
     import-global-expression.Post
     import-global-expression-Inv-loop
     import-global-expression-μ-loop
 unfolding tabOf
-import-global-expression-add-i t c = let a = (c .before .before .before .before .before .before .before .args) in let p = c .before .before .before .before .before .before .before .pre .1 in let src = p .0 in let q = p .1 .0 in let ks = p .1 .1 .0 in let K = p .1 .1 .1 in let hk : c .before .before .before .before .before .before .wide .result < countAt 5 (a .words .now) = rw (c .before .before .before .before .before .before .wide .ensures .0) (q .0) in let l = (c .before .loop) in let z = turn-in (a .words .now) (a .tags .now) (a .n) src (a .offset) 5 (c .before .before .before .before .before .before .wide .result) (omega arith) hk (a .log .now) (a .classes .now) (a .starts .now) (a .maps .now) (a .marks .now) (a .ends) (q .1) K (importT (a .offset) (srcOf (a .words .now) (a .n)) (tabOf 5) (c .before .before .before .before .before .before .wide .result)) (refs (recAt (srcOf (a .words .now) (a .n)) (tabOf 5) (c .before .before .before .before .before .before .wide .result))) (ends-in (a .words .now) (a .tags .now) (a .n) src (a .offset) 5 (c .before .before .before .before .before .before .wide .result) (omega arith) hk (a .log .now) (a .classes .now) (a .starts .now) (a .maps .now) (a .marks .now) (a .ends) (q .1) K (c .before .before .before .before .if1 .left) (c .before .before .before .record-at .result) (c .before .before .record-end .result) (c .before .before .before .record-at .ensures) (c .before .before .record-end .ensures)) (c .before .before .before .record-at .result) (c .before .before .record-end .result) (c .before .before .before .record-at .ensures) (c .before .before .record-end .ensures) (l .log) (l .classes) (l .starts) (l .maps) (l .marks) (l .e) (l .i) (l .inv) (c .loop-test .taken) in omega arith
+import-global-expression-add-i t c = let a = (c .before .before .before .before .before .before .before .args) in let p = c .before .before .before .before .before .before .before .pre .1 in let src = p .0 in let q = p .1 .0 in let ks = p .1 .1 .0 in let K = p .1 .1 .1 in let hk : c .before .before .before .before .before .before .wide .result < countAt 5 (a .words .now) = rw (c .before .before .before .before .before .before .wide .ensures .0) (q .0) in let l = (c .before .loop) in let z = turn-in (a .words .now) (a .tags .now) (a .n) src (a .offset) 5 (c .before .before .before .before .before .before .wide .result) (omega arith) hk (a .log .now) (a .logtags .now) (a .starts .now) (a .maps .now) (a .buckets .now) (a .ends) (q .1) K (importT (a .offset) (srcOf (a .words .now) (a .n)) (tabOf 5) (c .before .before .before .before .before .before .wide .result)) (refs (recAt (srcOf (a .words .now) (a .n)) (tabOf 5) (c .before .before .before .before .before .before .wide .result))) (ends-in (a .words .now) (a .tags .now) (a .n) src (a .offset) 5 (c .before .before .before .before .before .before .wide .result) (omega arith) hk (a .log .now) (a .logtags .now) (a .starts .now) (a .maps .now) (a .buckets .now) (a .ends) (q .1) K (c .before .before .before .before .if1 .left) (c .before .before .before .record-at .result) (c .before .before .record-end .result) (c .before .before .before .record-at .ensures) (c .before .before .record-end .ensures)) (c .before .before .before .record-at .result) (c .before .before .record-end .result) (c .before .before .before .record-at .ensures) (c .before .before .record-end .ensures) (l .log) (l .logtags) (l .starts) (l .maps) (l .buckets) (l .e) (l .i) (l .inv) (c .loop-test .taken) in omega arith
 
--- src/lib.rt:235:34
 import-global-expression-element-copy-out-refers-to :
     (t : ℕ) → import-global-expression-lts.Need-element-copy-out-refers-to (
       wide-reads.Asked,
@@ -1013,17 +974,16 @@ import-global-expression-element-copy-out-refers-to :
       import-pipeline-override.Post,
       import-global-expression-below t,
       import-global-expression.Post,
-      settle-reads.Asked,
-      settle-reads.Learnt,
+      intern-reads.Asked,
+      intern-reads.Learnt,
     )
     (import-global-expression-at t)
     import-global-expression.Post
     import-global-expression-Inv-loop
     import-global-expression-μ-loop
 unfolding tabOf
-import-global-expression-element-copy-out-refers-to t c = let a = (c .before .before .before .before .before .before .before .args) in let p = c .before .before .before .before .before .before .before .pre .1 in let src = p .0 in let q = p .1 .0 in let ks = p .1 .1 .0 in let K = p .1 .1 .1 in let hk : c .before .before .before .before .before .before .wide .result < countAt 5 (a .words .now) = rw (c .before .before .before .before .before .before .wide .ensures .0) (q .0) in let l = (c .before .loop) in turn-in (a .words .now) (a .tags .now) (a .n) src (a .offset) 5 (c .before .before .before .before .before .before .wide .result) (omega arith) hk (a .log .now) (a .classes .now) (a .starts .now) (a .maps .now) (a .marks .now) (a .ends) (q .1) K (importT (a .offset) (srcOf (a .words .now) (a .n)) (tabOf 5) (c .before .before .before .before .before .before .wide .result)) (refs (recAt (srcOf (a .words .now) (a .n)) (tabOf 5) (c .before .before .before .before .before .before .wide .result))) (ends-in (a .words .now) (a .tags .now) (a .n) src (a .offset) 5 (c .before .before .before .before .before .before .wide .result) (omega arith) hk (a .log .now) (a .classes .now) (a .starts .now) (a .maps .now) (a .marks .now) (a .ends) (q .1) K (c .before .before .before .before .if1 .left) (c .before .before .before .record-at .result) (c .before .before .record-end .result) (c .before .before .before .record-at .ensures) (c .before .before .record-end .ensures)) (c .before .before .before .record-at .result) (c .before .before .record-end .result) (c .before .before .before .record-at .ensures) (c .before .before .record-end .ensures) (l .log) (l .classes) (l .starts) (l .maps) (l .marks) (l .e) (l .i) (l .inv) (c .loop-test .taken)
+import-global-expression-element-copy-out-refers-to t c = let a = (c .before .before .before .before .before .before .before .args) in let p = c .before .before .before .before .before .before .before .pre .1 in let src = p .0 in let q = p .1 .0 in let ks = p .1 .1 .0 in let K = p .1 .1 .1 in let hk : c .before .before .before .before .before .before .wide .result < countAt 5 (a .words .now) = rw (c .before .before .before .before .before .before .wide .ensures .0) (q .0) in let l = (c .before .loop) in turn-in (a .words .now) (a .tags .now) (a .n) src (a .offset) 5 (c .before .before .before .before .before .before .wide .result) (omega arith) hk (a .log .now) (a .logtags .now) (a .starts .now) (a .maps .now) (a .buckets .now) (a .ends) (q .1) K (importT (a .offset) (srcOf (a .words .now) (a .n)) (tabOf 5) (c .before .before .before .before .before .before .wide .result)) (refs (recAt (srcOf (a .words .now) (a .n)) (tabOf 5) (c .before .before .before .before .before .before .wide .result))) (ends-in (a .words .now) (a .tags .now) (a .n) src (a .offset) 5 (c .before .before .before .before .before .before .wide .result) (omega arith) hk (a .log .now) (a .logtags .now) (a .starts .now) (a .maps .now) (a .buckets .now) (a .ends) (q .1) K (c .before .before .before .before .if1 .left) (c .before .before .before .record-at .result) (c .before .before .record-end .result) (c .before .before .before .record-at .ensures) (c .before .before .record-end .ensures)) (c .before .before .before .record-at .result) (c .before .before .record-end .result) (c .before .before .before .record-at .ensures) (c .before .before .record-end .ensures) (l .log) (l .logtags) (l .starts) (l .maps) (l .buckets) (l .e) (l .i) (l .inv) (c .loop-test .taken)
 
--- src/lib.rt:235:43
 import-global-expression-mul-refers-to : (t : ℕ) → import-global-expression-lts.Need-mul-refers-to (
   wide-reads.Asked,
   wide-reads.Learnt,
@@ -1041,17 +1001,16 @@ import-global-expression-mul-refers-to : (t : ℕ) → import-global-expression-
   import-pipeline-override.Post,
   import-global-expression-below t,
   import-global-expression.Post,
-  settle-reads.Asked,
-  settle-reads.Learnt,
+  intern-reads.Asked,
+  intern-reads.Learnt,
 )
     (import-global-expression-at t)
     import-global-expression.Post
     import-global-expression-Inv-loop
     import-global-expression-μ-loop
 unfolding tabOf
-import-global-expression-mul-refers-to t c = let a = (c .before .before .before .before .before .before .before .before .args) in let p = c .before .before .before .before .before .before .before .before .pre .1 in let src = p .0 in let q = p .1 .0 in let ks = p .1 .1 .0 in let K = p .1 .1 .1 in let hk : c .before .before .before .before .before .before .before .wide .result < countAt 5 (a .words .now) = rw (c .before .before .before .before .before .before .before .wide .ensures .0) (q .0) in let l = (c .before .before .loop) in let z = turn-in (a .words .now) (a .tags .now) (a .n) src (a .offset) 5 (c .before .before .before .before .before .before .before .wide .result) (omega arith) hk (a .log .now) (a .classes .now) (a .starts .now) (a .maps .now) (a .marks .now) (a .ends) (q .1) K (importT (a .offset) (srcOf (a .words .now) (a .n)) (tabOf 5) (c .before .before .before .before .before .before .before .wide .result)) (refs (recAt (srcOf (a .words .now) (a .n)) (tabOf 5) (c .before .before .before .before .before .before .before .wide .result))) (ends-in (a .words .now) (a .tags .now) (a .n) src (a .offset) 5 (c .before .before .before .before .before .before .before .wide .result) (omega arith) hk (a .log .now) (a .classes .now) (a .starts .now) (a .maps .now) (a .marks .now) (a .ends) (q .1) K (c .before .before .before .before .before .if1 .left) (c .before .before .before .before .record-at .result) (c .before .before .before .record-end .result) (c .before .before .before .before .record-at .ensures) (c .before .before .before .record-end .ensures)) (c .before .before .before .before .record-at .result) (c .before .before .before .record-end .result) (c .before .before .before .before .record-at .ensures) (c .before .before .before .record-end .ensures) (l .log) (l .classes) (l .starts) (l .maps) (l .marks) (l .e) (l .i) (l .inv) (c .before .loop-test .taken) in omega arith
+import-global-expression-mul-refers-to t c = let a = (c .before .before .before .before .before .before .before .before .args) in let p = c .before .before .before .before .before .before .before .before .pre .1 in let src = p .0 in let q = p .1 .0 in let ks = p .1 .1 .0 in let K = p .1 .1 .1 in let hk : c .before .before .before .before .before .before .before .wide .result < countAt 5 (a .words .now) = rw (c .before .before .before .before .before .before .before .wide .ensures .0) (q .0) in let l = (c .before .before .loop) in let z = turn-in (a .words .now) (a .tags .now) (a .n) src (a .offset) 5 (c .before .before .before .before .before .before .before .wide .result) (omega arith) hk (a .log .now) (a .logtags .now) (a .starts .now) (a .maps .now) (a .buckets .now) (a .ends) (q .1) K (importT (a .offset) (srcOf (a .words .now) (a .n)) (tabOf 5) (c .before .before .before .before .before .before .before .wide .result)) (refs (recAt (srcOf (a .words .now) (a .n)) (tabOf 5) (c .before .before .before .before .before .before .before .wide .result))) (ends-in (a .words .now) (a .tags .now) (a .n) src (a .offset) 5 (c .before .before .before .before .before .before .before .wide .result) (omega arith) hk (a .log .now) (a .logtags .now) (a .starts .now) (a .maps .now) (a .buckets .now) (a .ends) (q .1) K (c .before .before .before .before .before .if1 .left) (c .before .before .before .before .record-at .result) (c .before .before .before .record-end .result) (c .before .before .before .before .record-at .ensures) (c .before .before .before .record-end .ensures)) (c .before .before .before .before .record-at .result) (c .before .before .before .record-end .result) (c .before .before .before .before .record-at .ensures) (c .before .before .before .record-end .ensures) (l .log) (l .logtags) (l .starts) (l .maps) (l .buckets) (l .e) (l .i) (l .inv) (c .before .loop-test .taken) in omega arith
 
--- src/lib.rt:235:43
 import-global-expression-element-copy-out-refers-to-2 :
     (t : ℕ) → import-global-expression-lts.Need-element-copy-out-refers-to-2 (
       wide-reads.Asked,
@@ -1070,17 +1029,16 @@ import-global-expression-element-copy-out-refers-to-2 :
       import-pipeline-override.Post,
       import-global-expression-below t,
       import-global-expression.Post,
-      settle-reads.Asked,
-      settle-reads.Learnt,
+      intern-reads.Asked,
+      intern-reads.Learnt,
     )
     (import-global-expression-at t)
     import-global-expression.Post
     import-global-expression-Inv-loop
     import-global-expression-μ-loop
 unfolding tabOf
-import-global-expression-element-copy-out-refers-to-2 t c = let a = (c .before .before .before .before .before .before .before .before .args) in let p = c .before .before .before .before .before .before .before .before .pre .1 in let src = p .0 in let q = p .1 .0 in let ks = p .1 .1 .0 in let K = p .1 .1 .1 in let hk : c .before .before .before .before .before .before .before .wide .result < countAt 5 (a .words .now) = rw (c .before .before .before .before .before .before .before .wide .ensures .0) (q .0) in let l = (c .before .before .loop) in turn-in (a .words .now) (a .tags .now) (a .n) src (a .offset) 5 (c .before .before .before .before .before .before .before .wide .result) (omega arith) hk (a .log .now) (a .classes .now) (a .starts .now) (a .maps .now) (a .marks .now) (a .ends) (q .1) K (importT (a .offset) (srcOf (a .words .now) (a .n)) (tabOf 5) (c .before .before .before .before .before .before .before .wide .result)) (refs (recAt (srcOf (a .words .now) (a .n)) (tabOf 5) (c .before .before .before .before .before .before .before .wide .result))) (ends-in (a .words .now) (a .tags .now) (a .n) src (a .offset) 5 (c .before .before .before .before .before .before .before .wide .result) (omega arith) hk (a .log .now) (a .classes .now) (a .starts .now) (a .maps .now) (a .marks .now) (a .ends) (q .1) K (c .before .before .before .before .before .if1 .left) (c .before .before .before .before .record-at .result) (c .before .before .before .record-end .result) (c .before .before .before .before .record-at .ensures) (c .before .before .before .record-end .ensures)) (c .before .before .before .before .record-at .result) (c .before .before .before .record-end .result) (c .before .before .before .before .record-at .ensures) (c .before .before .before .record-end .ensures) (l .log) (l .classes) (l .starts) (l .maps) (l .marks) (l .e) (l .i) (l .inv) (c .before .loop-test .taken)
+import-global-expression-element-copy-out-refers-to-2 t c = let a = (c .before .before .before .before .before .before .before .before .args) in let p = c .before .before .before .before .before .before .before .before .pre .1 in let src = p .0 in let q = p .1 .0 in let ks = p .1 .1 .0 in let K = p .1 .1 .1 in let hk : c .before .before .before .before .before .before .before .wide .result < countAt 5 (a .words .now) = rw (c .before .before .before .before .before .before .before .wide .ensures .0) (q .0) in let l = (c .before .before .loop) in turn-in (a .words .now) (a .tags .now) (a .n) src (a .offset) 5 (c .before .before .before .before .before .before .before .wide .result) (omega arith) hk (a .log .now) (a .logtags .now) (a .starts .now) (a .maps .now) (a .buckets .now) (a .ends) (q .1) K (importT (a .offset) (srcOf (a .words .now) (a .n)) (tabOf 5) (c .before .before .before .before .before .before .before .wide .result)) (refs (recAt (srcOf (a .words .now) (a .n)) (tabOf 5) (c .before .before .before .before .before .before .before .wide .result))) (ends-in (a .words .now) (a .tags .now) (a .n) src (a .offset) 5 (c .before .before .before .before .before .before .before .wide .result) (omega arith) hk (a .log .now) (a .logtags .now) (a .starts .now) (a .maps .now) (a .buckets .now) (a .ends) (q .1) K (c .before .before .before .before .before .if1 .left) (c .before .before .before .before .record-at .result) (c .before .before .before .record-end .result) (c .before .before .before .before .record-at .ensures) (c .before .before .before .record-end .ensures)) (c .before .before .before .before .record-at .result) (c .before .before .before .record-end .result) (c .before .before .before .before .record-at .ensures) (c .before .before .before .record-end .ensures) (l .log) (l .logtags) (l .starts) (l .maps) (l .buckets) (l .e) (l .i) (l .inv) (c .before .loop-test .taken)
 
--- src/lib.rt:235:13
 import-global-expression-refers-to-requires :
     (t : ℕ) → import-global-expression-lts.Need-refers-to-requires (
       wide-reads.Asked,
@@ -1099,8 +1057,8 @@ import-global-expression-refers-to-requires :
       import-pipeline-override.Post,
       import-global-expression-below t,
       import-global-expression.Post,
-      settle-reads.Asked,
-      settle-reads.Learnt,
+      intern-reads.Asked,
+      intern-reads.Learnt,
     )
     (import-global-expression-at t)
     import-global-expression.Post
@@ -1109,7 +1067,6 @@ import-global-expression-refers-to-requires :
 unfolding tabOf
 import-global-expression-refers-to-requires t c κs = let a = (c .before .before .before .before .before .before .before .before .before .args) in let p = c .before .before .before .before .before .before .before .before .before .pre .1 in let src = p .0 in let q = p .1 .0 in let ks = p .1 .1 .0 in let K = p .1 .1 .1 in ks
 
--- src/lib.rt:237:13
 import-global-expression-import-type-requires :
     (t : ℕ) → import-global-expression-lts.Need-import-type-requires (
       wide-reads.Asked,
@@ -1128,17 +1085,16 @@ import-global-expression-import-type-requires :
       import-pipeline-override.Post,
       import-global-expression-below t,
       import-global-expression.Post,
-      settle-reads.Asked,
-      settle-reads.Learnt,
+      intern-reads.Asked,
+      intern-reads.Learnt,
     )
     (import-global-expression-at t)
     import-global-expression.Post
     import-global-expression-Inv-loop
     import-global-expression-μ-loop
 unfolding tabOf
-import-global-expression-import-type-requires t c κs = let a = (c .before .before .before .before .before .before .before .before .before .before .before .before .before .before .before .before .before .args) in let p = c .before .before .before .before .before .before .before .before .before .before .before .before .before .before .before .before .before .pre .1 in let src = p .0 in let q = p .1 .0 in let ks = p .1 .1 .0 in let K = p .1 .1 .1 in let hk : c .before .before .before .before .before .before .before .before .before .before .before .before .before .before .before .before .wide .result < countAt 5 (a .words .now) = rw (c .before .before .before .before .before .before .before .before .before .before .before .before .before .before .before .before .wide .ensures .0) (q .0) in let l = (c .before .before .before .before .before .before .before .before .before .before .before .loop) in (src, ((turn-number (a .words .now) (a .tags .now) (a .n) src (a .offset) 5 (c .before .before .before .before .before .before .before .before .before .before .before .before .before .before .before .before .wide .result) (omega arith) hk (a .log .now) (a .classes .now) (a .starts .now) (a .maps .now) (a .marks .now) (a .ends) (q .1) K (importT (a .offset) (srcOf (a .words .now) (a .n)) (tabOf 5) (c .before .before .before .before .before .before .before .before .before .before .before .before .before .before .before .before .wide .result)) (refs (recAt (srcOf (a .words .now) (a .n)) (tabOf 5) (c .before .before .before .before .before .before .before .before .before .before .before .before .before .before .before .before .wide .result))) (ends-in (a .words .now) (a .tags .now) (a .n) src (a .offset) 5 (c .before .before .before .before .before .before .before .before .before .before .before .before .before .before .before .before .wide .result) (omega arith) hk (a .log .now) (a .classes .now) (a .starts .now) (a .maps .now) (a .marks .now) (a .ends) (q .1) K (c .before .before .before .before .before .before .before .before .before .before .before .before .before .before .if1 .left) (c .before .before .before .before .before .before .before .before .before .before .before .before .before .record-at .result) (c .before .before .before .before .before .before .before .before .before .before .before .before .record-end .result) (c .before .before .before .before .before .before .before .before .before .before .before .before .before .record-at .ensures) (c .before .before .before .before .before .before .before .before .before .before .before .before .record-end .ensures)) (c .before .before .before .before .before .before .before .before .before .before .before .before .before .record-at .result) (c .before .before .before .before .before .before .before .before .before .before .before .before .record-end .result) (c .before .before .before .before .before .before .before .before .before .before .before .before .before .record-at .ensures) (c .before .before .before .before .before .before .before .before .before .before .before .before .record-end .ensures) (l .log) (l .classes) (l .starts) (l .maps) (l .marks) (l .e) (l .i) (l .inv) (c .before .before .before .before .before .before .before .before .before .before .loop-test .taken) 1 (sym (c .before .before .before .before .before .if2 .taken) ∙ c .before .before .before .before .before .before .before .refers-to .ensures .0) (omega arith) (c .before .before .before .before .before .before .before .refers-to .result .number) (c .before .before .before .before .before .before .before .refers-to .ensures .1), l .inv .going), (ks, l .inv .kept)))
+import-global-expression-import-type-requires t c κs = let a = (c .before .before .before .before .before .before .before .before .before .before .before .before .before .before .before .before .before .args) in let p = c .before .before .before .before .before .before .before .before .before .before .before .before .before .before .before .before .before .pre .1 in let src = p .0 in let q = p .1 .0 in let ks = p .1 .1 .0 in let K = p .1 .1 .1 in let hk : c .before .before .before .before .before .before .before .before .before .before .before .before .before .before .before .before .wide .result < countAt 5 (a .words .now) = rw (c .before .before .before .before .before .before .before .before .before .before .before .before .before .before .before .before .wide .ensures .0) (q .0) in let l = (c .before .before .before .before .before .before .before .before .before .before .before .loop) in (src, ((turn-number (a .words .now) (a .tags .now) (a .n) src (a .offset) 5 (c .before .before .before .before .before .before .before .before .before .before .before .before .before .before .before .before .wide .result) (omega arith) hk (a .log .now) (a .logtags .now) (a .starts .now) (a .maps .now) (a .buckets .now) (a .ends) (q .1) K (importT (a .offset) (srcOf (a .words .now) (a .n)) (tabOf 5) (c .before .before .before .before .before .before .before .before .before .before .before .before .before .before .before .before .wide .result)) (refs (recAt (srcOf (a .words .now) (a .n)) (tabOf 5) (c .before .before .before .before .before .before .before .before .before .before .before .before .before .before .before .before .wide .result))) (ends-in (a .words .now) (a .tags .now) (a .n) src (a .offset) 5 (c .before .before .before .before .before .before .before .before .before .before .before .before .before .before .before .before .wide .result) (omega arith) hk (a .log .now) (a .logtags .now) (a .starts .now) (a .maps .now) (a .buckets .now) (a .ends) (q .1) K (c .before .before .before .before .before .before .before .before .before .before .before .before .before .before .if1 .left) (c .before .before .before .before .before .before .before .before .before .before .before .before .before .record-at .result) (c .before .before .before .before .before .before .before .before .before .before .before .before .record-end .result) (c .before .before .before .before .before .before .before .before .before .before .before .before .before .record-at .ensures) (c .before .before .before .before .before .before .before .before .before .before .before .before .record-end .ensures)) (c .before .before .before .before .before .before .before .before .before .before .before .before .before .record-at .result) (c .before .before .before .before .before .before .before .before .before .before .before .before .record-end .result) (c .before .before .before .before .before .before .before .before .before .before .before .before .before .record-at .ensures) (c .before .before .before .before .before .before .before .before .before .before .before .before .record-end .ensures) (l .log) (l .logtags) (l .starts) (l .maps) (l .buckets) (l .e) (l .i) (l .inv) (c .before .before .before .before .before .before .before .before .before .before .loop-test .taken) 1 (sym (c .before .before .before .before .before .if2 .taken) ∙ c .before .before .before .before .before .before .before .refers-to .ensures .0) (omega arith) (c .before .before .before .before .before .before .before .refers-to .result .number) (c .before .before .before .before .before .before .before .refers-to .ensures .1), l .inv .going), (ks, l .inv .kept)))
 
--- src/lib.rt:252:17
 import-global-expression-returns-2 : (t : ℕ) → import-global-expression-lts.Need-returns-2 (
   wide-reads.Asked,
   wide-reads.Learnt,
@@ -1156,17 +1112,16 @@ import-global-expression-returns-2 : (t : ℕ) → import-global-expression-lts.
   import-pipeline-override.Post,
   import-global-expression-below t,
   import-global-expression.Post,
-  settle-reads.Asked,
-  settle-reads.Learnt,
+  intern-reads.Asked,
+  intern-reads.Learnt,
 )
     (import-global-expression-at t)
     import-global-expression.Post
     import-global-expression-Inv-loop
     import-global-expression-μ-loop
 unfolding tabOf
-import-global-expression-returns-2 t c = let a = (c .before .before .before .before .before .before .before .before .before .before .before .before .before .before .before .before .before .before .before .args) in let p = c .before .before .before .before .before .before .before .before .before .before .before .before .before .before .before .before .before .before .before .pre .1 in let src = p .0 in let q = p .1 .0 in let ks = p .1 .1 .0 in let K = p .1 .1 .1 in let hk : c .before .before .before .before .before .before .before .before .before .before .before .before .before .before .before .before .before .before .wide .result < countAt 5 (a .words .now) = rw (c .before .before .before .before .before .before .before .before .before .before .before .before .before .before .before .before .before .before .wide .ensures .0) (q .0) in let l = (c .before .before .before .before .before .before .before .before .before .before .before .before .before .loop) in lands-at (a .offset) (srcOf (a .words .now) (a .n)) exprs (c .before .before .before .before .before .before .before .before .before .before .before .before .before .before .before .before .before .before .wide .result) (a .h .0) (c .before .before .before .before .before .before .before .before .before .before .before .before .before .before .before .before .before .before .wide .ensures .0) (turn-full (a .words .now) (a .tags .now) (a .n) src (a .offset) 5 (c .before .before .before .before .before .before .before .before .before .before .before .before .before .before .before .before .before .before .wide .result) (omega arith) hk (a .log .now) (a .classes .now) (a .starts .now) (a .maps .now) (a .marks .now) (a .ends) (q .1) K (importT (a .offset) (srcOf (a .words .now) (a .n)) (tabOf 5) (c .before .before .before .before .before .before .before .before .before .before .before .before .before .before .before .before .before .before .wide .result)) (refs (recAt (srcOf (a .words .now) (a .n)) (tabOf 5) (c .before .before .before .before .before .before .before .before .before .before .before .before .before .before .before .before .before .before .wide .result))) (ends-in (a .words .now) (a .tags .now) (a .n) src (a .offset) 5 (c .before .before .before .before .before .before .before .before .before .before .before .before .before .before .before .before .before .before .wide .result) (omega arith) hk (a .log .now) (a .classes .now) (a .starts .now) (a .maps .now) (a .marks .now) (a .ends) (q .1) K (c .before .before .before .before .before .before .before .before .before .before .before .before .before .before .before .before .if1 .left) (c .before .before .before .before .before .before .before .before .before .before .before .before .before .before .before .record-at .result) (c .before .before .before .before .before .before .before .before .before .before .before .before .before .before .record-end .result) (c .before .before .before .before .before .before .before .before .before .before .before .before .before .before .before .record-at .ensures) (c .before .before .before .before .before .before .before .before .before .before .before .before .before .before .record-end .ensures)) (c .before .before .before .before .before .before .before .before .before .before .before .before .before .before .before .record-at .result) (c .before .before .before .before .before .before .before .before .before .before .before .before .before .before .record-end .result) (c .before .before .before .before .before .before .before .before .before .before .before .before .before .before .before .record-at .ensures) (c .before .before .before .before .before .before .before .before .before .before .before .before .before .before .record-end .ensures) (l .log) (l .classes) (l .starts) (l .maps) (l .marks) (l .e) (l .i) (l .inv) (c .before .before .before .before .before .before .before .before .before .before .before .before .loop-test .taken) 1 (sym (c .before .before .before .before .before .before .before .if2 .taken) ∙ c .before .before .before .before .before .before .before .before .before .refers-to .ensures .0) (omega arith) (c .before .before .before .before .before .before .before .before .before .refers-to .result .number) (c .before .before .before .before .before .before .before .before .before .refers-to .ensures .1) _ _ _ _ _ _ (c .before .import-type .ensures) (c .if3 .taken))
+import-global-expression-returns-2 t c = let a = (c .before .before .before .before .before .before .before .before .before .before .before .before .before .before .before .before .before .before .before .args) in let p = c .before .before .before .before .before .before .before .before .before .before .before .before .before .before .before .before .before .before .before .pre .1 in let src = p .0 in let q = p .1 .0 in let ks = p .1 .1 .0 in let K = p .1 .1 .1 in let hk : c .before .before .before .before .before .before .before .before .before .before .before .before .before .before .before .before .before .before .wide .result < countAt 5 (a .words .now) = rw (c .before .before .before .before .before .before .before .before .before .before .before .before .before .before .before .before .before .before .wide .ensures .0) (q .0) in let l = (c .before .before .before .before .before .before .before .before .before .before .before .before .before .loop) in lands-at (a .offset) (srcOf (a .words .now) (a .n)) exprs (c .before .before .before .before .before .before .before .before .before .before .before .before .before .before .before .before .before .before .wide .result) (a .h .0) (c .before .before .before .before .before .before .before .before .before .before .before .before .before .before .before .before .before .before .wide .ensures .0) (turn-full (a .words .now) (a .tags .now) (a .n) src (a .offset) 5 (c .before .before .before .before .before .before .before .before .before .before .before .before .before .before .before .before .before .before .wide .result) (omega arith) hk (a .log .now) (a .logtags .now) (a .starts .now) (a .maps .now) (a .buckets .now) (a .ends) (q .1) K (importT (a .offset) (srcOf (a .words .now) (a .n)) (tabOf 5) (c .before .before .before .before .before .before .before .before .before .before .before .before .before .before .before .before .before .before .wide .result)) (refs (recAt (srcOf (a .words .now) (a .n)) (tabOf 5) (c .before .before .before .before .before .before .before .before .before .before .before .before .before .before .before .before .before .before .wide .result))) (ends-in (a .words .now) (a .tags .now) (a .n) src (a .offset) 5 (c .before .before .before .before .before .before .before .before .before .before .before .before .before .before .before .before .before .before .wide .result) (omega arith) hk (a .log .now) (a .logtags .now) (a .starts .now) (a .maps .now) (a .buckets .now) (a .ends) (q .1) K (c .before .before .before .before .before .before .before .before .before .before .before .before .before .before .before .before .if1 .left) (c .before .before .before .before .before .before .before .before .before .before .before .before .before .before .before .record-at .result) (c .before .before .before .before .before .before .before .before .before .before .before .before .before .before .record-end .result) (c .before .before .before .before .before .before .before .before .before .before .before .before .before .before .before .record-at .ensures) (c .before .before .before .before .before .before .before .before .before .before .before .before .before .before .record-end .ensures)) (c .before .before .before .before .before .before .before .before .before .before .before .before .before .before .before .record-at .result) (c .before .before .before .before .before .before .before .before .before .before .before .before .before .before .record-end .result) (c .before .before .before .before .before .before .before .before .before .before .before .before .before .before .before .record-at .ensures) (c .before .before .before .before .before .before .before .before .before .before .before .before .before .before .record-end .ensures) (l .log) (l .logtags) (l .starts) (l .maps) (l .buckets) (l .e) (l .i) (l .inv) (c .before .before .before .before .before .before .before .before .before .before .before .before .loop-test .taken) 1 (sym (c .before .before .before .before .before .before .before .if2 .taken) ∙ c .before .before .before .before .before .before .before .before .before .refers-to .ensures .0) (omega arith) (c .before .before .before .before .before .before .before .before .before .refers-to .result .number) (c .before .before .before .before .before .before .before .before .before .refers-to .ensures .1) _ _ _ _ _ _ (c .before .import-type .ensures) (c .if3 .taken))
 
--- src/lib.rt:232:5
 import-global-expression-loop-less : (t : ℕ) → import-global-expression-lts.Need-loop-less (
   wide-reads.Asked,
   wide-reads.Learnt,
@@ -1184,8 +1139,8 @@ import-global-expression-loop-less : (t : ℕ) → import-global-expression-lts.
   import-pipeline-override.Post,
   import-global-expression-below t,
   import-global-expression.Post,
-  settle-reads.Asked,
-  settle-reads.Learnt,
+  intern-reads.Asked,
+  intern-reads.Learnt,
 )
     (import-global-expression-at t)
     import-global-expression.Post
@@ -1194,7 +1149,6 @@ import-global-expression-loop-less : (t : ℕ) → import-global-expression-lts.
 unfolding tabOf
 import-global-expression-loop-less t c = let a = (c .before .before .before .before .before .before .before .before .before .before .before .before .before .before .before .before .before .before .before .args) in let p = c .before .before .before .before .before .before .before .before .before .before .before .before .before .before .before .before .before .before .before .pre .1 in let src = p .0 in let q = p .1 .0 in let ks = p .1 .1 .0 in let K = p .1 .1 .1 in let hk : c .before .before .before .before .before .before .before .before .before .before .before .before .before .before .before .before .before .before .wide .result < countAt 5 (a .words .now) = rw (c .before .before .before .before .before .before .before .before .before .before .before .before .before .before .before .before .before .before .wide .ensures .0) (q .0) in let l = (c .before .before .before .before .before .before .before .before .before .before .before .before .before .loop) in let z = c .before .before .before .before .before .before .before .before .before .before .before .before .loop-test .taken in omega arith
 
--- src/lib.rt:232:5
 import-global-expression-loop-again : (t : ℕ) → import-global-expression-lts.Need-loop-again (
   wide-reads.Asked,
   wide-reads.Learnt,
@@ -1212,17 +1166,16 @@ import-global-expression-loop-again : (t : ℕ) → import-global-expression-lts
   import-pipeline-override.Post,
   import-global-expression-below t,
   import-global-expression.Post,
-  settle-reads.Asked,
-  settle-reads.Learnt,
+  intern-reads.Asked,
+  intern-reads.Learnt,
 )
     (import-global-expression-at t)
     import-global-expression.Post
     import-global-expression-Inv-loop
     import-global-expression-μ-loop
 unfolding tabOf
-import-global-expression-loop-again t c = let a = (c .before .before .before .before .before .before .before .before .before .before .before .before .before .before .before .before .before .before .before .args) in let p = c .before .before .before .before .before .before .before .before .before .before .before .before .before .before .before .before .before .before .before .pre .1 in let src = p .0 in let q = p .1 .0 in let ks = p .1 .1 .0 in let K = p .1 .1 .1 in let hk : c .before .before .before .before .before .before .before .before .before .before .before .before .before .before .before .before .before .before .wide .result < countAt 5 (a .words .now) = rw (c .before .before .before .before .before .before .before .before .before .before .before .before .before .before .before .before .before .before .wide .ensures .0) (q .0) in let l = (c .before .before .before .before .before .before .before .before .before .before .before .before .before .loop) in turn-next (a .words .now) (a .tags .now) (a .n) src (a .offset) 5 (c .before .before .before .before .before .before .before .before .before .before .before .before .before .before .before .before .before .before .wide .result) (omega arith) hk (a .log .now) (a .classes .now) (a .starts .now) (a .maps .now) (a .marks .now) (a .ends) (q .1) K (importT (a .offset) (srcOf (a .words .now) (a .n)) (tabOf 5) (c .before .before .before .before .before .before .before .before .before .before .before .before .before .before .before .before .before .before .wide .result)) (refs (recAt (srcOf (a .words .now) (a .n)) (tabOf 5) (c .before .before .before .before .before .before .before .before .before .before .before .before .before .before .before .before .before .before .wide .result))) (ends-in (a .words .now) (a .tags .now) (a .n) src (a .offset) 5 (c .before .before .before .before .before .before .before .before .before .before .before .before .before .before .before .before .before .before .wide .result) (omega arith) hk (a .log .now) (a .classes .now) (a .starts .now) (a .maps .now) (a .marks .now) (a .ends) (q .1) K (c .before .before .before .before .before .before .before .before .before .before .before .before .before .before .before .before .if1 .left) (c .before .before .before .before .before .before .before .before .before .before .before .before .before .before .before .record-at .result) (c .before .before .before .before .before .before .before .before .before .before .before .before .before .before .record-end .result) (c .before .before .before .before .before .before .before .before .before .before .before .before .before .before .before .record-at .ensures) (c .before .before .before .before .before .before .before .before .before .before .before .before .before .before .record-end .ensures)) (c .before .before .before .before .before .before .before .before .before .before .before .before .before .before .before .record-at .result) (c .before .before .before .before .before .before .before .before .before .before .before .before .before .before .record-end .result) (c .before .before .before .before .before .before .before .before .before .before .before .before .before .before .before .record-at .ensures) (c .before .before .before .before .before .before .before .before .before .before .before .before .before .before .record-end .ensures) (l .log) (l .classes) (l .starts) (l .maps) (l .marks) (l .e) (l .i) (l .inv) (c .before .before .before .before .before .before .before .before .before .before .before .before .loop-test .taken) 1 (sym (c .before .before .before .before .before .before .before .if2 .taken) ∙ c .before .before .before .before .before .before .before .before .before .refers-to .ensures .0) (omega arith) (c .before .before .before .before .before .before .before .before .before .refers-to .result .number) (c .before .before .before .before .before .before .before .before .before .refers-to .ensures .1) _ _ _ _ _ _ (c .before .import-type .ensures) (c .if3 .left)
+import-global-expression-loop-again t c = let a = (c .before .before .before .before .before .before .before .before .before .before .before .before .before .before .before .before .before .before .before .args) in let p = c .before .before .before .before .before .before .before .before .before .before .before .before .before .before .before .before .before .before .before .pre .1 in let src = p .0 in let q = p .1 .0 in let ks = p .1 .1 .0 in let K = p .1 .1 .1 in let hk : c .before .before .before .before .before .before .before .before .before .before .before .before .before .before .before .before .before .before .wide .result < countAt 5 (a .words .now) = rw (c .before .before .before .before .before .before .before .before .before .before .before .before .before .before .before .before .before .before .wide .ensures .0) (q .0) in let l = (c .before .before .before .before .before .before .before .before .before .before .before .before .before .loop) in turn-next (a .words .now) (a .tags .now) (a .n) src (a .offset) 5 (c .before .before .before .before .before .before .before .before .before .before .before .before .before .before .before .before .before .before .wide .result) (omega arith) hk (a .log .now) (a .logtags .now) (a .starts .now) (a .maps .now) (a .buckets .now) (a .ends) (q .1) K (importT (a .offset) (srcOf (a .words .now) (a .n)) (tabOf 5) (c .before .before .before .before .before .before .before .before .before .before .before .before .before .before .before .before .before .before .wide .result)) (refs (recAt (srcOf (a .words .now) (a .n)) (tabOf 5) (c .before .before .before .before .before .before .before .before .before .before .before .before .before .before .before .before .before .before .wide .result))) (ends-in (a .words .now) (a .tags .now) (a .n) src (a .offset) 5 (c .before .before .before .before .before .before .before .before .before .before .before .before .before .before .before .before .before .before .wide .result) (omega arith) hk (a .log .now) (a .logtags .now) (a .starts .now) (a .maps .now) (a .buckets .now) (a .ends) (q .1) K (c .before .before .before .before .before .before .before .before .before .before .before .before .before .before .before .before .if1 .left) (c .before .before .before .before .before .before .before .before .before .before .before .before .before .before .before .record-at .result) (c .before .before .before .before .before .before .before .before .before .before .before .before .before .before .record-end .result) (c .before .before .before .before .before .before .before .before .before .before .before .before .before .before .before .record-at .ensures) (c .before .before .before .before .before .before .before .before .before .before .before .before .before .before .record-end .ensures)) (c .before .before .before .before .before .before .before .before .before .before .before .before .before .before .before .record-at .result) (c .before .before .before .before .before .before .before .before .before .before .before .before .before .before .record-end .result) (c .before .before .before .before .before .before .before .before .before .before .before .before .before .before .before .record-at .ensures) (c .before .before .before .before .before .before .before .before .before .before .before .before .before .before .record-end .ensures) (l .log) (l .logtags) (l .starts) (l .maps) (l .buckets) (l .e) (l .i) (l .inv) (c .before .before .before .before .before .before .before .before .before .before .before .before .loop-test .taken) 1 (sym (c .before .before .before .before .before .before .before .if2 .taken) ∙ c .before .before .before .before .before .before .before .before .before .refers-to .ensures .0) (omega arith) (c .before .before .before .before .before .before .before .before .before .refers-to .result .number) (c .before .before .before .before .before .before .before .before .before .refers-to .ensures .1) _ _ _ _ _ _ (c .before .import-type .ensures) (c .if3 .left)
 
--- src/lib.rt:255:13
 import-global-expression-import-const-requires :
     (t : ℕ) → import-global-expression-lts.Need-import-const-requires (
       wide-reads.Asked,
@@ -1241,17 +1194,16 @@ import-global-expression-import-const-requires :
       import-pipeline-override.Post,
       import-global-expression-below t,
       import-global-expression.Post,
-      settle-reads.Asked,
-      settle-reads.Learnt,
+      intern-reads.Asked,
+      intern-reads.Learnt,
     )
     (import-global-expression-at t)
     import-global-expression.Post
     import-global-expression-Inv-loop
     import-global-expression-μ-loop
 unfolding tabOf
-import-global-expression-import-const-requires t c κs = let a = (c .before .before .before .before .before .before .before .before .before .before .before .before .before .before .before .before .before .before .before .args) in let p = c .before .before .before .before .before .before .before .before .before .before .before .before .before .before .before .before .before .before .before .pre .1 in let src = p .0 in let q = p .1 .0 in let ks = p .1 .1 .0 in let K = p .1 .1 .1 in let hk : c .before .before .before .before .before .before .before .before .before .before .before .before .before .before .before .before .before .before .wide .result < countAt 5 (a .words .now) = rw (c .before .before .before .before .before .before .before .before .before .before .before .before .before .before .before .before .before .before .wide .ensures .0) (q .0) in let l = (c .before .before .before .before .before .before .before .before .before .before .before .before .before .loop) in let g = turn-falls (a .words .now) (a .tags .now) (a .n) src (a .offset) 5 (c .before .before .before .before .before .before .before .before .before .before .before .before .before .before .before .before .before .before .wide .result) (omega arith) hk (a .log .now) (a .classes .now) (a .starts .now) (a .maps .now) (a .marks .now) (a .ends) (q .1) K (importT (a .offset) (srcOf (a .words .now) (a .n)) (tabOf 5) (c .before .before .before .before .before .before .before .before .before .before .before .before .before .before .before .before .before .before .wide .result)) (refs (recAt (srcOf (a .words .now) (a .n)) (tabOf 5) (c .before .before .before .before .before .before .before .before .before .before .before .before .before .before .before .before .before .before .wide .result))) (ends-in (a .words .now) (a .tags .now) (a .n) src (a .offset) 5 (c .before .before .before .before .before .before .before .before .before .before .before .before .before .before .before .before .before .before .wide .result) (omega arith) hk (a .log .now) (a .classes .now) (a .starts .now) (a .maps .now) (a .marks .now) (a .ends) (q .1) K (c .before .before .before .before .before .before .before .before .before .before .before .before .before .before .before .before .if1 .left) (c .before .before .before .before .before .before .before .before .before .before .before .before .before .before .before .record-at .result) (c .before .before .before .before .before .before .before .before .before .before .before .before .before .before .record-end .result) (c .before .before .before .before .before .before .before .before .before .before .before .before .before .before .before .record-at .ensures) (c .before .before .before .before .before .before .before .before .before .before .before .before .before .before .record-end .ensures)) (c .before .before .before .before .before .before .before .before .before .before .before .before .before .before .before .record-at .result) (c .before .before .before .before .before .before .before .before .before .before .before .before .before .before .record-end .result) (c .before .before .before .before .before .before .before .before .before .before .before .before .before .before .before .record-at .ensures) (c .before .before .before .before .before .before .before .before .before .before .before .before .before .before .record-end .ensures) (l .log) (l .classes) (l .starts) (l .maps) (l .marks) (l .e) (l .i) (l .inv) (c .before .before .before .before .before .before .before .before .before .before .before .before .loop-test .taken) 2 (sym (c .before .before .before .before .before .if4 .taken) ∙ c .before .before .before .before .before .before .before .before .before .refers-to .ensures .0) (omega arith) (c .before .before .before .before .before .before .before .before .before .refers-to .result .number) (c .before .before .before .before .before .before .before .before .before .refers-to .ensures .1) in let z = c .before .before .before .before .before .before .before .before .before .before .before .before .before .before .before .before .before .before .before .pre .0 in (rw z at (rw (c .before .before .before .before .before .before .before .before .before .before .before .before .before .before .before .before .before .before .wide .ensures .0) at g), (src, ((turn-number (a .words .now) (a .tags .now) (a .n) src (a .offset) 5 (c .before .before .before .before .before .before .before .before .before .before .before .before .before .before .before .before .before .before .wide .result) (omega arith) hk (a .log .now) (a .classes .now) (a .starts .now) (a .maps .now) (a .marks .now) (a .ends) (q .1) K (importT (a .offset) (srcOf (a .words .now) (a .n)) (tabOf 5) (c .before .before .before .before .before .before .before .before .before .before .before .before .before .before .before .before .before .before .wide .result)) (refs (recAt (srcOf (a .words .now) (a .n)) (tabOf 5) (c .before .before .before .before .before .before .before .before .before .before .before .before .before .before .before .before .before .before .wide .result))) (ends-in (a .words .now) (a .tags .now) (a .n) src (a .offset) 5 (c .before .before .before .before .before .before .before .before .before .before .before .before .before .before .before .before .before .before .wide .result) (omega arith) hk (a .log .now) (a .classes .now) (a .starts .now) (a .maps .now) (a .marks .now) (a .ends) (q .1) K (c .before .before .before .before .before .before .before .before .before .before .before .before .before .before .before .before .if1 .left) (c .before .before .before .before .before .before .before .before .before .before .before .before .before .before .before .record-at .result) (c .before .before .before .before .before .before .before .before .before .before .before .before .before .before .record-end .result) (c .before .before .before .before .before .before .before .before .before .before .before .before .before .before .before .record-at .ensures) (c .before .before .before .before .before .before .before .before .before .before .before .before .before .before .record-end .ensures)) (c .before .before .before .before .before .before .before .before .before .before .before .before .before .before .before .record-at .result) (c .before .before .before .before .before .before .before .before .before .before .before .before .before .before .record-end .result) (c .before .before .before .before .before .before .before .before .before .before .before .before .before .before .before .record-at .ensures) (c .before .before .before .before .before .before .before .before .before .before .before .before .before .before .record-end .ensures) (l .log) (l .classes) (l .starts) (l .maps) (l .marks) (l .e) (l .i) (l .inv) (c .before .before .before .before .before .before .before .before .before .before .before .before .loop-test .taken) 2 (sym (c .before .before .before .before .before .if4 .taken) ∙ c .before .before .before .before .before .before .before .before .before .refers-to .ensures .0) (omega arith) (c .before .before .before .before .before .before .before .before .before .refers-to .result .number) (c .before .before .before .before .before .before .before .before .before .refers-to .ensures .1), l .inv .going), (ks, l .inv .kept))))
+import-global-expression-import-const-requires t c κs = let a = (c .before .before .before .before .before .before .before .before .before .before .before .before .before .before .before .before .before .before .before .args) in let p = c .before .before .before .before .before .before .before .before .before .before .before .before .before .before .before .before .before .before .before .pre .1 in let src = p .0 in let q = p .1 .0 in let ks = p .1 .1 .0 in let K = p .1 .1 .1 in let hk : c .before .before .before .before .before .before .before .before .before .before .before .before .before .before .before .before .before .before .wide .result < countAt 5 (a .words .now) = rw (c .before .before .before .before .before .before .before .before .before .before .before .before .before .before .before .before .before .before .wide .ensures .0) (q .0) in let l = (c .before .before .before .before .before .before .before .before .before .before .before .before .before .loop) in let g = turn-falls (a .words .now) (a .tags .now) (a .n) src (a .offset) 5 (c .before .before .before .before .before .before .before .before .before .before .before .before .before .before .before .before .before .before .wide .result) (omega arith) hk (a .log .now) (a .logtags .now) (a .starts .now) (a .maps .now) (a .buckets .now) (a .ends) (q .1) K (importT (a .offset) (srcOf (a .words .now) (a .n)) (tabOf 5) (c .before .before .before .before .before .before .before .before .before .before .before .before .before .before .before .before .before .before .wide .result)) (refs (recAt (srcOf (a .words .now) (a .n)) (tabOf 5) (c .before .before .before .before .before .before .before .before .before .before .before .before .before .before .before .before .before .before .wide .result))) (ends-in (a .words .now) (a .tags .now) (a .n) src (a .offset) 5 (c .before .before .before .before .before .before .before .before .before .before .before .before .before .before .before .before .before .before .wide .result) (omega arith) hk (a .log .now) (a .logtags .now) (a .starts .now) (a .maps .now) (a .buckets .now) (a .ends) (q .1) K (c .before .before .before .before .before .before .before .before .before .before .before .before .before .before .before .before .if1 .left) (c .before .before .before .before .before .before .before .before .before .before .before .before .before .before .before .record-at .result) (c .before .before .before .before .before .before .before .before .before .before .before .before .before .before .record-end .result) (c .before .before .before .before .before .before .before .before .before .before .before .before .before .before .before .record-at .ensures) (c .before .before .before .before .before .before .before .before .before .before .before .before .before .before .record-end .ensures)) (c .before .before .before .before .before .before .before .before .before .before .before .before .before .before .before .record-at .result) (c .before .before .before .before .before .before .before .before .before .before .before .before .before .before .record-end .result) (c .before .before .before .before .before .before .before .before .before .before .before .before .before .before .before .record-at .ensures) (c .before .before .before .before .before .before .before .before .before .before .before .before .before .before .record-end .ensures) (l .log) (l .logtags) (l .starts) (l .maps) (l .buckets) (l .e) (l .i) (l .inv) (c .before .before .before .before .before .before .before .before .before .before .before .before .loop-test .taken) 2 (sym (c .before .before .before .before .before .if4 .taken) ∙ c .before .before .before .before .before .before .before .before .before .refers-to .ensures .0) (omega arith) (c .before .before .before .before .before .before .before .before .before .refers-to .result .number) (c .before .before .before .before .before .before .before .before .before .refers-to .ensures .1) in let z = c .before .before .before .before .before .before .before .before .before .before .before .before .before .before .before .before .before .before .before .pre .0 in (rw z at (rw (c .before .before .before .before .before .before .before .before .before .before .before .before .before .before .before .before .before .before .wide .ensures .0) at g), (src, ((turn-number (a .words .now) (a .tags .now) (a .n) src (a .offset) 5 (c .before .before .before .before .before .before .before .before .before .before .before .before .before .before .before .before .before .before .wide .result) (omega arith) hk (a .log .now) (a .logtags .now) (a .starts .now) (a .maps .now) (a .buckets .now) (a .ends) (q .1) K (importT (a .offset) (srcOf (a .words .now) (a .n)) (tabOf 5) (c .before .before .before .before .before .before .before .before .before .before .before .before .before .before .before .before .before .before .wide .result)) (refs (recAt (srcOf (a .words .now) (a .n)) (tabOf 5) (c .before .before .before .before .before .before .before .before .before .before .before .before .before .before .before .before .before .before .wide .result))) (ends-in (a .words .now) (a .tags .now) (a .n) src (a .offset) 5 (c .before .before .before .before .before .before .before .before .before .before .before .before .before .before .before .before .before .before .wide .result) (omega arith) hk (a .log .now) (a .logtags .now) (a .starts .now) (a .maps .now) (a .buckets .now) (a .ends) (q .1) K (c .before .before .before .before .before .before .before .before .before .before .before .before .before .before .before .before .if1 .left) (c .before .before .before .before .before .before .before .before .before .before .before .before .before .before .before .record-at .result) (c .before .before .before .before .before .before .before .before .before .before .before .before .before .before .record-end .result) (c .before .before .before .before .before .before .before .before .before .before .before .before .before .before .before .record-at .ensures) (c .before .before .before .before .before .before .before .before .before .before .before .before .before .before .record-end .ensures)) (c .before .before .before .before .before .before .before .before .before .before .before .before .before .before .before .record-at .result) (c .before .before .before .before .before .before .before .before .before .before .before .before .before .before .record-end .result) (c .before .before .before .before .before .before .before .before .before .before .before .before .before .before .before .record-at .ensures) (c .before .before .before .before .before .before .before .before .before .before .before .before .before .before .record-end .ensures) (l .log) (l .logtags) (l .starts) (l .maps) (l .buckets) (l .e) (l .i) (l .inv) (c .before .before .before .before .before .before .before .before .before .before .before .before .loop-test .taken) 2 (sym (c .before .before .before .before .before .if4 .taken) ∙ c .before .before .before .before .before .before .before .before .before .refers-to .ensures .0) (omega arith) (c .before .before .before .before .before .before .before .before .before .refers-to .result .number) (c .before .before .before .before .before .before .before .before .before .refers-to .ensures .1), l .inv .going), (ks, l .inv .kept))))
 
--- src/lib.rt:270:17
 import-global-expression-returns-3 : (t : ℕ) → import-global-expression-lts.Need-returns-3 (
   wide-reads.Asked,
   wide-reads.Learnt,
@@ -1269,17 +1221,16 @@ import-global-expression-returns-3 : (t : ℕ) → import-global-expression-lts.
   import-pipeline-override.Post,
   import-global-expression-below t,
   import-global-expression.Post,
-  settle-reads.Asked,
-  settle-reads.Learnt,
+  intern-reads.Asked,
+  intern-reads.Learnt,
 )
     (import-global-expression-at t)
     import-global-expression.Post
     import-global-expression-Inv-loop
     import-global-expression-μ-loop
 unfolding tabOf
-import-global-expression-returns-3 t c = let a = (c .before .before .before .before .before .before .before .before .before .before .before .before .before .before .before .before .before .before .before .before .before .args) in let p = c .before .before .before .before .before .before .before .before .before .before .before .before .before .before .before .before .before .before .before .before .before .pre .1 in let src = p .0 in let q = p .1 .0 in let ks = p .1 .1 .0 in let K = p .1 .1 .1 in let hk : c .before .before .before .before .before .before .before .before .before .before .before .before .before .before .before .before .before .before .before .before .wide .result < countAt 5 (a .words .now) = rw (c .before .before .before .before .before .before .before .before .before .before .before .before .before .before .before .before .before .before .before .before .wide .ensures .0) (q .0) in let l = (c .before .before .before .before .before .before .before .before .before .before .before .before .before .before .before .loop) in lands-at (a .offset) (srcOf (a .words .now) (a .n)) exprs (c .before .before .before .before .before .before .before .before .before .before .before .before .before .before .before .before .before .before .before .before .wide .result) (a .h .0) (c .before .before .before .before .before .before .before .before .before .before .before .before .before .before .before .before .before .before .before .before .wide .ensures .0) (turn-full (a .words .now) (a .tags .now) (a .n) src (a .offset) 5 (c .before .before .before .before .before .before .before .before .before .before .before .before .before .before .before .before .before .before .before .before .wide .result) (omega arith) hk (a .log .now) (a .classes .now) (a .starts .now) (a .maps .now) (a .marks .now) (a .ends) (q .1) K (importT (a .offset) (srcOf (a .words .now) (a .n)) (tabOf 5) (c .before .before .before .before .before .before .before .before .before .before .before .before .before .before .before .before .before .before .before .before .wide .result)) (refs (recAt (srcOf (a .words .now) (a .n)) (tabOf 5) (c .before .before .before .before .before .before .before .before .before .before .before .before .before .before .before .before .before .before .before .before .wide .result))) (ends-in (a .words .now) (a .tags .now) (a .n) src (a .offset) 5 (c .before .before .before .before .before .before .before .before .before .before .before .before .before .before .before .before .before .before .before .before .wide .result) (omega arith) hk (a .log .now) (a .classes .now) (a .starts .now) (a .maps .now) (a .marks .now) (a .ends) (q .1) K (c .before .before .before .before .before .before .before .before .before .before .before .before .before .before .before .before .before .before .if1 .left) (c .before .before .before .before .before .before .before .before .before .before .before .before .before .before .before .before .before .record-at .result) (c .before .before .before .before .before .before .before .before .before .before .before .before .before .before .before .before .record-end .result) (c .before .before .before .before .before .before .before .before .before .before .before .before .before .before .before .before .before .record-at .ensures) (c .before .before .before .before .before .before .before .before .before .before .before .before .before .before .before .before .record-end .ensures)) (c .before .before .before .before .before .before .before .before .before .before .before .before .before .before .before .before .before .record-at .result) (c .before .before .before .before .before .before .before .before .before .before .before .before .before .before .before .before .record-end .result) (c .before .before .before .before .before .before .before .before .before .before .before .before .before .before .before .before .before .record-at .ensures) (c .before .before .before .before .before .before .before .before .before .before .before .before .before .before .before .before .record-end .ensures) (l .log) (l .classes) (l .starts) (l .maps) (l .marks) (l .e) (l .i) (l .inv) (c .before .before .before .before .before .before .before .before .before .before .before .before .before .before .loop-test .taken) 2 (sym (c .before .before .before .before .before .before .before .if4 .taken) ∙ c .before .before .before .before .before .before .before .before .before .before .before .refers-to .ensures .0) (omega arith) (c .before .before .before .before .before .before .before .before .before .before .before .refers-to .result .number) (c .before .before .before .before .before .before .before .before .before .before .before .refers-to .ensures .1) _ _ _ _ _ _ (c .before .import-const .ensures) (c .if5 .taken))
+import-global-expression-returns-3 t c = let a = (c .before .before .before .before .before .before .before .before .before .before .before .before .before .before .before .before .before .before .before .before .before .args) in let p = c .before .before .before .before .before .before .before .before .before .before .before .before .before .before .before .before .before .before .before .before .before .pre .1 in let src = p .0 in let q = p .1 .0 in let ks = p .1 .1 .0 in let K = p .1 .1 .1 in let hk : c .before .before .before .before .before .before .before .before .before .before .before .before .before .before .before .before .before .before .before .before .wide .result < countAt 5 (a .words .now) = rw (c .before .before .before .before .before .before .before .before .before .before .before .before .before .before .before .before .before .before .before .before .wide .ensures .0) (q .0) in let l = (c .before .before .before .before .before .before .before .before .before .before .before .before .before .before .before .loop) in lands-at (a .offset) (srcOf (a .words .now) (a .n)) exprs (c .before .before .before .before .before .before .before .before .before .before .before .before .before .before .before .before .before .before .before .before .wide .result) (a .h .0) (c .before .before .before .before .before .before .before .before .before .before .before .before .before .before .before .before .before .before .before .before .wide .ensures .0) (turn-full (a .words .now) (a .tags .now) (a .n) src (a .offset) 5 (c .before .before .before .before .before .before .before .before .before .before .before .before .before .before .before .before .before .before .before .before .wide .result) (omega arith) hk (a .log .now) (a .logtags .now) (a .starts .now) (a .maps .now) (a .buckets .now) (a .ends) (q .1) K (importT (a .offset) (srcOf (a .words .now) (a .n)) (tabOf 5) (c .before .before .before .before .before .before .before .before .before .before .before .before .before .before .before .before .before .before .before .before .wide .result)) (refs (recAt (srcOf (a .words .now) (a .n)) (tabOf 5) (c .before .before .before .before .before .before .before .before .before .before .before .before .before .before .before .before .before .before .before .before .wide .result))) (ends-in (a .words .now) (a .tags .now) (a .n) src (a .offset) 5 (c .before .before .before .before .before .before .before .before .before .before .before .before .before .before .before .before .before .before .before .before .wide .result) (omega arith) hk (a .log .now) (a .logtags .now) (a .starts .now) (a .maps .now) (a .buckets .now) (a .ends) (q .1) K (c .before .before .before .before .before .before .before .before .before .before .before .before .before .before .before .before .before .before .if1 .left) (c .before .before .before .before .before .before .before .before .before .before .before .before .before .before .before .before .before .record-at .result) (c .before .before .before .before .before .before .before .before .before .before .before .before .before .before .before .before .record-end .result) (c .before .before .before .before .before .before .before .before .before .before .before .before .before .before .before .before .before .record-at .ensures) (c .before .before .before .before .before .before .before .before .before .before .before .before .before .before .before .before .record-end .ensures)) (c .before .before .before .before .before .before .before .before .before .before .before .before .before .before .before .before .before .record-at .result) (c .before .before .before .before .before .before .before .before .before .before .before .before .before .before .before .before .record-end .result) (c .before .before .before .before .before .before .before .before .before .before .before .before .before .before .before .before .before .record-at .ensures) (c .before .before .before .before .before .before .before .before .before .before .before .before .before .before .before .before .record-end .ensures) (l .log) (l .logtags) (l .starts) (l .maps) (l .buckets) (l .e) (l .i) (l .inv) (c .before .before .before .before .before .before .before .before .before .before .before .before .before .before .loop-test .taken) 2 (sym (c .before .before .before .before .before .before .before .if4 .taken) ∙ c .before .before .before .before .before .before .before .before .before .before .before .refers-to .ensures .0) (omega arith) (c .before .before .before .before .before .before .before .before .before .before .before .refers-to .result .number) (c .before .before .before .before .before .before .before .before .before .before .before .refers-to .ensures .1) _ _ _ _ _ _ (c .before .import-const .ensures) (c .if5 .taken))
 
--- src/lib.rt:232:5
 import-global-expression-loop-less-2 : (t : ℕ) → import-global-expression-lts.Need-loop-less-2 (
   wide-reads.Asked,
   wide-reads.Learnt,
@@ -1297,8 +1248,8 @@ import-global-expression-loop-less-2 : (t : ℕ) → import-global-expression-lt
   import-pipeline-override.Post,
   import-global-expression-below t,
   import-global-expression.Post,
-  settle-reads.Asked,
-  settle-reads.Learnt,
+  intern-reads.Asked,
+  intern-reads.Learnt,
 )
     (import-global-expression-at t)
     import-global-expression.Post
@@ -1307,7 +1258,6 @@ import-global-expression-loop-less-2 : (t : ℕ) → import-global-expression-lt
 unfolding tabOf
 import-global-expression-loop-less-2 t c = let a = (c .before .before .before .before .before .before .before .before .before .before .before .before .before .before .before .before .before .before .before .before .before .args) in let p = c .before .before .before .before .before .before .before .before .before .before .before .before .before .before .before .before .before .before .before .before .before .pre .1 in let src = p .0 in let q = p .1 .0 in let ks = p .1 .1 .0 in let K = p .1 .1 .1 in let hk : c .before .before .before .before .before .before .before .before .before .before .before .before .before .before .before .before .before .before .before .before .wide .result < countAt 5 (a .words .now) = rw (c .before .before .before .before .before .before .before .before .before .before .before .before .before .before .before .before .before .before .before .before .wide .ensures .0) (q .0) in let l = (c .before .before .before .before .before .before .before .before .before .before .before .before .before .before .before .loop) in let z = c .before .before .before .before .before .before .before .before .before .before .before .before .before .before .loop-test .taken in omega arith
 
--- src/lib.rt:232:5
 import-global-expression-loop-again-2 : (t : ℕ) → import-global-expression-lts.Need-loop-again-2 (
   wide-reads.Asked,
   wide-reads.Learnt,
@@ -1325,17 +1275,16 @@ import-global-expression-loop-again-2 : (t : ℕ) → import-global-expression-l
   import-pipeline-override.Post,
   import-global-expression-below t,
   import-global-expression.Post,
-  settle-reads.Asked,
-  settle-reads.Learnt,
+  intern-reads.Asked,
+  intern-reads.Learnt,
 )
     (import-global-expression-at t)
     import-global-expression.Post
     import-global-expression-Inv-loop
     import-global-expression-μ-loop
 unfolding tabOf
-import-global-expression-loop-again-2 t c = let a = (c .before .before .before .before .before .before .before .before .before .before .before .before .before .before .before .before .before .before .before .before .before .args) in let p = c .before .before .before .before .before .before .before .before .before .before .before .before .before .before .before .before .before .before .before .before .before .pre .1 in let src = p .0 in let q = p .1 .0 in let ks = p .1 .1 .0 in let K = p .1 .1 .1 in let hk : c .before .before .before .before .before .before .before .before .before .before .before .before .before .before .before .before .before .before .before .before .wide .result < countAt 5 (a .words .now) = rw (c .before .before .before .before .before .before .before .before .before .before .before .before .before .before .before .before .before .before .before .before .wide .ensures .0) (q .0) in let l = (c .before .before .before .before .before .before .before .before .before .before .before .before .before .before .before .loop) in turn-next (a .words .now) (a .tags .now) (a .n) src (a .offset) 5 (c .before .before .before .before .before .before .before .before .before .before .before .before .before .before .before .before .before .before .before .before .wide .result) (omega arith) hk (a .log .now) (a .classes .now) (a .starts .now) (a .maps .now) (a .marks .now) (a .ends) (q .1) K (importT (a .offset) (srcOf (a .words .now) (a .n)) (tabOf 5) (c .before .before .before .before .before .before .before .before .before .before .before .before .before .before .before .before .before .before .before .before .wide .result)) (refs (recAt (srcOf (a .words .now) (a .n)) (tabOf 5) (c .before .before .before .before .before .before .before .before .before .before .before .before .before .before .before .before .before .before .before .before .wide .result))) (ends-in (a .words .now) (a .tags .now) (a .n) src (a .offset) 5 (c .before .before .before .before .before .before .before .before .before .before .before .before .before .before .before .before .before .before .before .before .wide .result) (omega arith) hk (a .log .now) (a .classes .now) (a .starts .now) (a .maps .now) (a .marks .now) (a .ends) (q .1) K (c .before .before .before .before .before .before .before .before .before .before .before .before .before .before .before .before .before .before .if1 .left) (c .before .before .before .before .before .before .before .before .before .before .before .before .before .before .before .before .before .record-at .result) (c .before .before .before .before .before .before .before .before .before .before .before .before .before .before .before .before .record-end .result) (c .before .before .before .before .before .before .before .before .before .before .before .before .before .before .before .before .before .record-at .ensures) (c .before .before .before .before .before .before .before .before .before .before .before .before .before .before .before .before .record-end .ensures)) (c .before .before .before .before .before .before .before .before .before .before .before .before .before .before .before .before .before .record-at .result) (c .before .before .before .before .before .before .before .before .before .before .before .before .before .before .before .before .record-end .result) (c .before .before .before .before .before .before .before .before .before .before .before .before .before .before .before .before .before .record-at .ensures) (c .before .before .before .before .before .before .before .before .before .before .before .before .before .before .before .before .record-end .ensures) (l .log) (l .classes) (l .starts) (l .maps) (l .marks) (l .e) (l .i) (l .inv) (c .before .before .before .before .before .before .before .before .before .before .before .before .before .before .loop-test .taken) 2 (sym (c .before .before .before .before .before .before .before .if4 .taken) ∙ c .before .before .before .before .before .before .before .before .before .before .before .refers-to .ensures .0) (omega arith) (c .before .before .before .before .before .before .before .before .before .before .before .refers-to .result .number) (c .before .before .before .before .before .before .before .before .before .before .before .refers-to .ensures .1) _ _ _ _ _ _ (c .before .import-const .ensures) (c .if5 .left)
+import-global-expression-loop-again-2 t c = let a = (c .before .before .before .before .before .before .before .before .before .before .before .before .before .before .before .before .before .before .before .before .before .args) in let p = c .before .before .before .before .before .before .before .before .before .before .before .before .before .before .before .before .before .before .before .before .before .pre .1 in let src = p .0 in let q = p .1 .0 in let ks = p .1 .1 .0 in let K = p .1 .1 .1 in let hk : c .before .before .before .before .before .before .before .before .before .before .before .before .before .before .before .before .before .before .before .before .wide .result < countAt 5 (a .words .now) = rw (c .before .before .before .before .before .before .before .before .before .before .before .before .before .before .before .before .before .before .before .before .wide .ensures .0) (q .0) in let l = (c .before .before .before .before .before .before .before .before .before .before .before .before .before .before .before .loop) in turn-next (a .words .now) (a .tags .now) (a .n) src (a .offset) 5 (c .before .before .before .before .before .before .before .before .before .before .before .before .before .before .before .before .before .before .before .before .wide .result) (omega arith) hk (a .log .now) (a .logtags .now) (a .starts .now) (a .maps .now) (a .buckets .now) (a .ends) (q .1) K (importT (a .offset) (srcOf (a .words .now) (a .n)) (tabOf 5) (c .before .before .before .before .before .before .before .before .before .before .before .before .before .before .before .before .before .before .before .before .wide .result)) (refs (recAt (srcOf (a .words .now) (a .n)) (tabOf 5) (c .before .before .before .before .before .before .before .before .before .before .before .before .before .before .before .before .before .before .before .before .wide .result))) (ends-in (a .words .now) (a .tags .now) (a .n) src (a .offset) 5 (c .before .before .before .before .before .before .before .before .before .before .before .before .before .before .before .before .before .before .before .before .wide .result) (omega arith) hk (a .log .now) (a .logtags .now) (a .starts .now) (a .maps .now) (a .buckets .now) (a .ends) (q .1) K (c .before .before .before .before .before .before .before .before .before .before .before .before .before .before .before .before .before .before .if1 .left) (c .before .before .before .before .before .before .before .before .before .before .before .before .before .before .before .before .before .record-at .result) (c .before .before .before .before .before .before .before .before .before .before .before .before .before .before .before .before .record-end .result) (c .before .before .before .before .before .before .before .before .before .before .before .before .before .before .before .before .before .record-at .ensures) (c .before .before .before .before .before .before .before .before .before .before .before .before .before .before .before .before .record-end .ensures)) (c .before .before .before .before .before .before .before .before .before .before .before .before .before .before .before .before .before .record-at .result) (c .before .before .before .before .before .before .before .before .before .before .before .before .before .before .before .before .record-end .result) (c .before .before .before .before .before .before .before .before .before .before .before .before .before .before .before .before .before .record-at .ensures) (c .before .before .before .before .before .before .before .before .before .before .before .before .before .before .before .before .record-end .ensures) (l .log) (l .logtags) (l .starts) (l .maps) (l .buckets) (l .e) (l .i) (l .inv) (c .before .before .before .before .before .before .before .before .before .before .before .before .before .before .loop-test .taken) 2 (sym (c .before .before .before .before .before .before .before .if4 .taken) ∙ c .before .before .before .before .before .before .before .before .before .before .before .refers-to .ensures .0) (omega arith) (c .before .before .before .before .before .before .before .before .before .before .before .refers-to .result .number) (c .before .before .before .before .before .before .before .before .before .before .before .refers-to .ensures .1) _ _ _ _ _ _ (c .before .import-const .ensures) (c .if5 .left)
 
--- src/lib.rt:273:13
 import-global-expression-import-pipeline-override-requires :
     (t : ℕ) → import-global-expression-lts.Need-import-pipeline-override-requires (
       wide-reads.Asked,
@@ -1354,17 +1303,16 @@ import-global-expression-import-pipeline-override-requires :
       import-pipeline-override.Post,
       import-global-expression-below t,
       import-global-expression.Post,
-      settle-reads.Asked,
-      settle-reads.Learnt,
+      intern-reads.Asked,
+      intern-reads.Learnt,
     )
     (import-global-expression-at t)
     import-global-expression.Post
     import-global-expression-Inv-loop
     import-global-expression-μ-loop
 unfolding tabOf
-import-global-expression-import-pipeline-override-requires t c κs = let a = (c .before .before .before .before .before .before .before .before .before .before .before .before .before .before .before .before .before .before .before .before .before .args) in let p = c .before .before .before .before .before .before .before .before .before .before .before .before .before .before .before .before .before .before .before .before .before .pre .1 in let src = p .0 in let q = p .1 .0 in let ks = p .1 .1 .0 in let K = p .1 .1 .1 in let hk : c .before .before .before .before .before .before .before .before .before .before .before .before .before .before .before .before .before .before .before .before .wide .result < countAt 5 (a .words .now) = rw (c .before .before .before .before .before .before .before .before .before .before .before .before .before .before .before .before .before .before .before .before .wide .ensures .0) (q .0) in let l = (c .before .before .before .before .before .before .before .before .before .before .before .before .before .before .before .loop) in let g = turn-falls (a .words .now) (a .tags .now) (a .n) src (a .offset) 5 (c .before .before .before .before .before .before .before .before .before .before .before .before .before .before .before .before .before .before .before .before .wide .result) (omega arith) hk (a .log .now) (a .classes .now) (a .starts .now) (a .maps .now) (a .marks .now) (a .ends) (q .1) K (importT (a .offset) (srcOf (a .words .now) (a .n)) (tabOf 5) (c .before .before .before .before .before .before .before .before .before .before .before .before .before .before .before .before .before .before .before .before .wide .result)) (refs (recAt (srcOf (a .words .now) (a .n)) (tabOf 5) (c .before .before .before .before .before .before .before .before .before .before .before .before .before .before .before .before .before .before .before .before .wide .result))) (ends-in (a .words .now) (a .tags .now) (a .n) src (a .offset) 5 (c .before .before .before .before .before .before .before .before .before .before .before .before .before .before .before .before .before .before .before .before .wide .result) (omega arith) hk (a .log .now) (a .classes .now) (a .starts .now) (a .maps .now) (a .marks .now) (a .ends) (q .1) K (c .before .before .before .before .before .before .before .before .before .before .before .before .before .before .before .before .before .before .if1 .left) (c .before .before .before .before .before .before .before .before .before .before .before .before .before .before .before .before .before .record-at .result) (c .before .before .before .before .before .before .before .before .before .before .before .before .before .before .before .before .record-end .result) (c .before .before .before .before .before .before .before .before .before .before .before .before .before .before .before .before .before .record-at .ensures) (c .before .before .before .before .before .before .before .before .before .before .before .before .before .before .before .before .record-end .ensures)) (c .before .before .before .before .before .before .before .before .before .before .before .before .before .before .before .before .before .record-at .result) (c .before .before .before .before .before .before .before .before .before .before .before .before .before .before .before .before .record-end .result) (c .before .before .before .before .before .before .before .before .before .before .before .before .before .before .before .before .before .record-at .ensures) (c .before .before .before .before .before .before .before .before .before .before .before .before .before .before .before .before .record-end .ensures) (l .log) (l .classes) (l .starts) (l .maps) (l .marks) (l .e) (l .i) (l .inv) (c .before .before .before .before .before .before .before .before .before .before .before .before .before .before .loop-test .taken) 3 (sym (c .before .before .before .before .before .if6 .taken) ∙ c .before .before .before .before .before .before .before .before .before .before .before .refers-to .ensures .0) (omega arith) (c .before .before .before .before .before .before .before .before .before .before .before .refers-to .result .number) (c .before .before .before .before .before .before .before .before .before .before .before .refers-to .ensures .1) in let z = c .before .before .before .before .before .before .before .before .before .before .before .before .before .before .before .before .before .before .before .before .before .pre .0 in (rw z at (rw (c .before .before .before .before .before .before .before .before .before .before .before .before .before .before .before .before .before .before .before .before .wide .ensures .0) at g), (src, ((turn-number (a .words .now) (a .tags .now) (a .n) src (a .offset) 5 (c .before .before .before .before .before .before .before .before .before .before .before .before .before .before .before .before .before .before .before .before .wide .result) (omega arith) hk (a .log .now) (a .classes .now) (a .starts .now) (a .maps .now) (a .marks .now) (a .ends) (q .1) K (importT (a .offset) (srcOf (a .words .now) (a .n)) (tabOf 5) (c .before .before .before .before .before .before .before .before .before .before .before .before .before .before .before .before .before .before .before .before .wide .result)) (refs (recAt (srcOf (a .words .now) (a .n)) (tabOf 5) (c .before .before .before .before .before .before .before .before .before .before .before .before .before .before .before .before .before .before .before .before .wide .result))) (ends-in (a .words .now) (a .tags .now) (a .n) src (a .offset) 5 (c .before .before .before .before .before .before .before .before .before .before .before .before .before .before .before .before .before .before .before .before .wide .result) (omega arith) hk (a .log .now) (a .classes .now) (a .starts .now) (a .maps .now) (a .marks .now) (a .ends) (q .1) K (c .before .before .before .before .before .before .before .before .before .before .before .before .before .before .before .before .before .before .if1 .left) (c .before .before .before .before .before .before .before .before .before .before .before .before .before .before .before .before .before .record-at .result) (c .before .before .before .before .before .before .before .before .before .before .before .before .before .before .before .before .record-end .result) (c .before .before .before .before .before .before .before .before .before .before .before .before .before .before .before .before .before .record-at .ensures) (c .before .before .before .before .before .before .before .before .before .before .before .before .before .before .before .before .record-end .ensures)) (c .before .before .before .before .before .before .before .before .before .before .before .before .before .before .before .before .before .record-at .result) (c .before .before .before .before .before .before .before .before .before .before .before .before .before .before .before .before .record-end .result) (c .before .before .before .before .before .before .before .before .before .before .before .before .before .before .before .before .before .record-at .ensures) (c .before .before .before .before .before .before .before .before .before .before .before .before .before .before .before .before .record-end .ensures) (l .log) (l .classes) (l .starts) (l .maps) (l .marks) (l .e) (l .i) (l .inv) (c .before .before .before .before .before .before .before .before .before .before .before .before .before .before .loop-test .taken) 3 (sym (c .before .before .before .before .before .if6 .taken) ∙ c .before .before .before .before .before .before .before .before .before .before .before .refers-to .ensures .0) (omega arith) (c .before .before .before .before .before .before .before .before .before .before .before .refers-to .result .number) (c .before .before .before .before .before .before .before .before .before .before .before .refers-to .ensures .1), l .inv .going), (ks, l .inv .kept))))
+import-global-expression-import-pipeline-override-requires t c κs = let a = (c .before .before .before .before .before .before .before .before .before .before .before .before .before .before .before .before .before .before .before .before .before .args) in let p = c .before .before .before .before .before .before .before .before .before .before .before .before .before .before .before .before .before .before .before .before .before .pre .1 in let src = p .0 in let q = p .1 .0 in let ks = p .1 .1 .0 in let K = p .1 .1 .1 in let hk : c .before .before .before .before .before .before .before .before .before .before .before .before .before .before .before .before .before .before .before .before .wide .result < countAt 5 (a .words .now) = rw (c .before .before .before .before .before .before .before .before .before .before .before .before .before .before .before .before .before .before .before .before .wide .ensures .0) (q .0) in let l = (c .before .before .before .before .before .before .before .before .before .before .before .before .before .before .before .loop) in let g = turn-falls (a .words .now) (a .tags .now) (a .n) src (a .offset) 5 (c .before .before .before .before .before .before .before .before .before .before .before .before .before .before .before .before .before .before .before .before .wide .result) (omega arith) hk (a .log .now) (a .logtags .now) (a .starts .now) (a .maps .now) (a .buckets .now) (a .ends) (q .1) K (importT (a .offset) (srcOf (a .words .now) (a .n)) (tabOf 5) (c .before .before .before .before .before .before .before .before .before .before .before .before .before .before .before .before .before .before .before .before .wide .result)) (refs (recAt (srcOf (a .words .now) (a .n)) (tabOf 5) (c .before .before .before .before .before .before .before .before .before .before .before .before .before .before .before .before .before .before .before .before .wide .result))) (ends-in (a .words .now) (a .tags .now) (a .n) src (a .offset) 5 (c .before .before .before .before .before .before .before .before .before .before .before .before .before .before .before .before .before .before .before .before .wide .result) (omega arith) hk (a .log .now) (a .logtags .now) (a .starts .now) (a .maps .now) (a .buckets .now) (a .ends) (q .1) K (c .before .before .before .before .before .before .before .before .before .before .before .before .before .before .before .before .before .before .if1 .left) (c .before .before .before .before .before .before .before .before .before .before .before .before .before .before .before .before .before .record-at .result) (c .before .before .before .before .before .before .before .before .before .before .before .before .before .before .before .before .record-end .result) (c .before .before .before .before .before .before .before .before .before .before .before .before .before .before .before .before .before .record-at .ensures) (c .before .before .before .before .before .before .before .before .before .before .before .before .before .before .before .before .record-end .ensures)) (c .before .before .before .before .before .before .before .before .before .before .before .before .before .before .before .before .before .record-at .result) (c .before .before .before .before .before .before .before .before .before .before .before .before .before .before .before .before .record-end .result) (c .before .before .before .before .before .before .before .before .before .before .before .before .before .before .before .before .before .record-at .ensures) (c .before .before .before .before .before .before .before .before .before .before .before .before .before .before .before .before .record-end .ensures) (l .log) (l .logtags) (l .starts) (l .maps) (l .buckets) (l .e) (l .i) (l .inv) (c .before .before .before .before .before .before .before .before .before .before .before .before .before .before .loop-test .taken) 3 (sym (c .before .before .before .before .before .if6 .taken) ∙ c .before .before .before .before .before .before .before .before .before .before .before .refers-to .ensures .0) (omega arith) (c .before .before .before .before .before .before .before .before .before .before .before .refers-to .result .number) (c .before .before .before .before .before .before .before .before .before .before .before .refers-to .ensures .1) in let z = c .before .before .before .before .before .before .before .before .before .before .before .before .before .before .before .before .before .before .before .before .before .pre .0 in (rw z at (rw (c .before .before .before .before .before .before .before .before .before .before .before .before .before .before .before .before .before .before .before .before .wide .ensures .0) at g), (src, ((turn-number (a .words .now) (a .tags .now) (a .n) src (a .offset) 5 (c .before .before .before .before .before .before .before .before .before .before .before .before .before .before .before .before .before .before .before .before .wide .result) (omega arith) hk (a .log .now) (a .logtags .now) (a .starts .now) (a .maps .now) (a .buckets .now) (a .ends) (q .1) K (importT (a .offset) (srcOf (a .words .now) (a .n)) (tabOf 5) (c .before .before .before .before .before .before .before .before .before .before .before .before .before .before .before .before .before .before .before .before .wide .result)) (refs (recAt (srcOf (a .words .now) (a .n)) (tabOf 5) (c .before .before .before .before .before .before .before .before .before .before .before .before .before .before .before .before .before .before .before .before .wide .result))) (ends-in (a .words .now) (a .tags .now) (a .n) src (a .offset) 5 (c .before .before .before .before .before .before .before .before .before .before .before .before .before .before .before .before .before .before .before .before .wide .result) (omega arith) hk (a .log .now) (a .logtags .now) (a .starts .now) (a .maps .now) (a .buckets .now) (a .ends) (q .1) K (c .before .before .before .before .before .before .before .before .before .before .before .before .before .before .before .before .before .before .if1 .left) (c .before .before .before .before .before .before .before .before .before .before .before .before .before .before .before .before .before .record-at .result) (c .before .before .before .before .before .before .before .before .before .before .before .before .before .before .before .before .record-end .result) (c .before .before .before .before .before .before .before .before .before .before .before .before .before .before .before .before .before .record-at .ensures) (c .before .before .before .before .before .before .before .before .before .before .before .before .before .before .before .before .record-end .ensures)) (c .before .before .before .before .before .before .before .before .before .before .before .before .before .before .before .before .before .record-at .result) (c .before .before .before .before .before .before .before .before .before .before .before .before .before .before .before .before .record-end .result) (c .before .before .before .before .before .before .before .before .before .before .before .before .before .before .before .before .before .record-at .ensures) (c .before .before .before .before .before .before .before .before .before .before .before .before .before .before .before .before .record-end .ensures) (l .log) (l .logtags) (l .starts) (l .maps) (l .buckets) (l .e) (l .i) (l .inv) (c .before .before .before .before .before .before .before .before .before .before .before .before .before .before .loop-test .taken) 3 (sym (c .before .before .before .before .before .if6 .taken) ∙ c .before .before .before .before .before .before .before .before .before .before .before .refers-to .ensures .0) (omega arith) (c .before .before .before .before .before .before .before .before .before .before .before .refers-to .result .number) (c .before .before .before .before .before .before .before .before .before .before .before .refers-to .ensures .1), l .inv .going), (ks, l .inv .kept))))
 
--- src/lib.rt:288:17
 import-global-expression-returns-4 : (t : ℕ) → import-global-expression-lts.Need-returns-4 (
   wide-reads.Asked,
   wide-reads.Learnt,
@@ -1382,17 +1330,16 @@ import-global-expression-returns-4 : (t : ℕ) → import-global-expression-lts.
   import-pipeline-override.Post,
   import-global-expression-below t,
   import-global-expression.Post,
-  settle-reads.Asked,
-  settle-reads.Learnt,
+  intern-reads.Asked,
+  intern-reads.Learnt,
 )
     (import-global-expression-at t)
     import-global-expression.Post
     import-global-expression-Inv-loop
     import-global-expression-μ-loop
 unfolding tabOf
-import-global-expression-returns-4 t c = let a = (c .before .before .before .before .before .before .before .before .before .before .before .before .before .before .before .before .before .before .before .before .before .before .before .args) in let p = c .before .before .before .before .before .before .before .before .before .before .before .before .before .before .before .before .before .before .before .before .before .before .before .pre .1 in let src = p .0 in let q = p .1 .0 in let ks = p .1 .1 .0 in let K = p .1 .1 .1 in let hk : c .before .before .before .before .before .before .before .before .before .before .before .before .before .before .before .before .before .before .before .before .before .before .wide .result < countAt 5 (a .words .now) = rw (c .before .before .before .before .before .before .before .before .before .before .before .before .before .before .before .before .before .before .before .before .before .before .wide .ensures .0) (q .0) in let l = (c .before .before .before .before .before .before .before .before .before .before .before .before .before .before .before .before .before .loop) in lands-at (a .offset) (srcOf (a .words .now) (a .n)) exprs (c .before .before .before .before .before .before .before .before .before .before .before .before .before .before .before .before .before .before .before .before .before .before .wide .result) (a .h .0) (c .before .before .before .before .before .before .before .before .before .before .before .before .before .before .before .before .before .before .before .before .before .before .wide .ensures .0) (turn-full (a .words .now) (a .tags .now) (a .n) src (a .offset) 5 (c .before .before .before .before .before .before .before .before .before .before .before .before .before .before .before .before .before .before .before .before .before .before .wide .result) (omega arith) hk (a .log .now) (a .classes .now) (a .starts .now) (a .maps .now) (a .marks .now) (a .ends) (q .1) K (importT (a .offset) (srcOf (a .words .now) (a .n)) (tabOf 5) (c .before .before .before .before .before .before .before .before .before .before .before .before .before .before .before .before .before .before .before .before .before .before .wide .result)) (refs (recAt (srcOf (a .words .now) (a .n)) (tabOf 5) (c .before .before .before .before .before .before .before .before .before .before .before .before .before .before .before .before .before .before .before .before .before .before .wide .result))) (ends-in (a .words .now) (a .tags .now) (a .n) src (a .offset) 5 (c .before .before .before .before .before .before .before .before .before .before .before .before .before .before .before .before .before .before .before .before .before .before .wide .result) (omega arith) hk (a .log .now) (a .classes .now) (a .starts .now) (a .maps .now) (a .marks .now) (a .ends) (q .1) K (c .before .before .before .before .before .before .before .before .before .before .before .before .before .before .before .before .before .before .before .before .if1 .left) (c .before .before .before .before .before .before .before .before .before .before .before .before .before .before .before .before .before .before .before .record-at .result) (c .before .before .before .before .before .before .before .before .before .before .before .before .before .before .before .before .before .before .record-end .result) (c .before .before .before .before .before .before .before .before .before .before .before .before .before .before .before .before .before .before .before .record-at .ensures) (c .before .before .before .before .before .before .before .before .before .before .before .before .before .before .before .before .before .before .record-end .ensures)) (c .before .before .before .before .before .before .before .before .before .before .before .before .before .before .before .before .before .before .before .record-at .result) (c .before .before .before .before .before .before .before .before .before .before .before .before .before .before .before .before .before .before .record-end .result) (c .before .before .before .before .before .before .before .before .before .before .before .before .before .before .before .before .before .before .before .record-at .ensures) (c .before .before .before .before .before .before .before .before .before .before .before .before .before .before .before .before .before .before .record-end .ensures) (l .log) (l .classes) (l .starts) (l .maps) (l .marks) (l .e) (l .i) (l .inv) (c .before .before .before .before .before .before .before .before .before .before .before .before .before .before .before .before .loop-test .taken) 3 (sym (c .before .before .before .before .before .before .before .if6 .taken) ∙ c .before .before .before .before .before .before .before .before .before .before .before .before .before .refers-to .ensures .0) (omega arith) (c .before .before .before .before .before .before .before .before .before .before .before .before .before .refers-to .result .number) (c .before .before .before .before .before .before .before .before .before .before .before .before .before .refers-to .ensures .1) _ _ _ _ _ _ (c .before .import-pipeline-override .ensures) (c .if7 .taken))
+import-global-expression-returns-4 t c = let a = (c .before .before .before .before .before .before .before .before .before .before .before .before .before .before .before .before .before .before .before .before .before .before .before .args) in let p = c .before .before .before .before .before .before .before .before .before .before .before .before .before .before .before .before .before .before .before .before .before .before .before .pre .1 in let src = p .0 in let q = p .1 .0 in let ks = p .1 .1 .0 in let K = p .1 .1 .1 in let hk : c .before .before .before .before .before .before .before .before .before .before .before .before .before .before .before .before .before .before .before .before .before .before .wide .result < countAt 5 (a .words .now) = rw (c .before .before .before .before .before .before .before .before .before .before .before .before .before .before .before .before .before .before .before .before .before .before .wide .ensures .0) (q .0) in let l = (c .before .before .before .before .before .before .before .before .before .before .before .before .before .before .before .before .before .loop) in lands-at (a .offset) (srcOf (a .words .now) (a .n)) exprs (c .before .before .before .before .before .before .before .before .before .before .before .before .before .before .before .before .before .before .before .before .before .before .wide .result) (a .h .0) (c .before .before .before .before .before .before .before .before .before .before .before .before .before .before .before .before .before .before .before .before .before .before .wide .ensures .0) (turn-full (a .words .now) (a .tags .now) (a .n) src (a .offset) 5 (c .before .before .before .before .before .before .before .before .before .before .before .before .before .before .before .before .before .before .before .before .before .before .wide .result) (omega arith) hk (a .log .now) (a .logtags .now) (a .starts .now) (a .maps .now) (a .buckets .now) (a .ends) (q .1) K (importT (a .offset) (srcOf (a .words .now) (a .n)) (tabOf 5) (c .before .before .before .before .before .before .before .before .before .before .before .before .before .before .before .before .before .before .before .before .before .before .wide .result)) (refs (recAt (srcOf (a .words .now) (a .n)) (tabOf 5) (c .before .before .before .before .before .before .before .before .before .before .before .before .before .before .before .before .before .before .before .before .before .before .wide .result))) (ends-in (a .words .now) (a .tags .now) (a .n) src (a .offset) 5 (c .before .before .before .before .before .before .before .before .before .before .before .before .before .before .before .before .before .before .before .before .before .before .wide .result) (omega arith) hk (a .log .now) (a .logtags .now) (a .starts .now) (a .maps .now) (a .buckets .now) (a .ends) (q .1) K (c .before .before .before .before .before .before .before .before .before .before .before .before .before .before .before .before .before .before .before .before .if1 .left) (c .before .before .before .before .before .before .before .before .before .before .before .before .before .before .before .before .before .before .before .record-at .result) (c .before .before .before .before .before .before .before .before .before .before .before .before .before .before .before .before .before .before .record-end .result) (c .before .before .before .before .before .before .before .before .before .before .before .before .before .before .before .before .before .before .before .record-at .ensures) (c .before .before .before .before .before .before .before .before .before .before .before .before .before .before .before .before .before .before .record-end .ensures)) (c .before .before .before .before .before .before .before .before .before .before .before .before .before .before .before .before .before .before .before .record-at .result) (c .before .before .before .before .before .before .before .before .before .before .before .before .before .before .before .before .before .before .record-end .result) (c .before .before .before .before .before .before .before .before .before .before .before .before .before .before .before .before .before .before .before .record-at .ensures) (c .before .before .before .before .before .before .before .before .before .before .before .before .before .before .before .before .before .before .record-end .ensures) (l .log) (l .logtags) (l .starts) (l .maps) (l .buckets) (l .e) (l .i) (l .inv) (c .before .before .before .before .before .before .before .before .before .before .before .before .before .before .before .before .loop-test .taken) 3 (sym (c .before .before .before .before .before .before .before .if6 .taken) ∙ c .before .before .before .before .before .before .before .before .before .before .before .before .before .refers-to .ensures .0) (omega arith) (c .before .before .before .before .before .before .before .before .before .before .before .before .before .refers-to .result .number) (c .before .before .before .before .before .before .before .before .before .before .before .before .before .refers-to .ensures .1) _ _ _ _ _ _ (c .before .import-pipeline-override .ensures) (c .if7 .taken))
 
--- src/lib.rt:232:5
 import-global-expression-loop-less-3 : (t : ℕ) → import-global-expression-lts.Need-loop-less-3 (
   wide-reads.Asked,
   wide-reads.Learnt,
@@ -1410,8 +1357,8 @@ import-global-expression-loop-less-3 : (t : ℕ) → import-global-expression-lt
   import-pipeline-override.Post,
   import-global-expression-below t,
   import-global-expression.Post,
-  settle-reads.Asked,
-  settle-reads.Learnt,
+  intern-reads.Asked,
+  intern-reads.Learnt,
 )
     (import-global-expression-at t)
     import-global-expression.Post
@@ -1420,7 +1367,6 @@ import-global-expression-loop-less-3 : (t : ℕ) → import-global-expression-lt
 unfolding tabOf
 import-global-expression-loop-less-3 t c = let a = (c .before .before .before .before .before .before .before .before .before .before .before .before .before .before .before .before .before .before .before .before .before .before .before .args) in let p = c .before .before .before .before .before .before .before .before .before .before .before .before .before .before .before .before .before .before .before .before .before .before .before .pre .1 in let src = p .0 in let q = p .1 .0 in let ks = p .1 .1 .0 in let K = p .1 .1 .1 in let hk : c .before .before .before .before .before .before .before .before .before .before .before .before .before .before .before .before .before .before .before .before .before .before .wide .result < countAt 5 (a .words .now) = rw (c .before .before .before .before .before .before .before .before .before .before .before .before .before .before .before .before .before .before .before .before .before .before .wide .ensures .0) (q .0) in let l = (c .before .before .before .before .before .before .before .before .before .before .before .before .before .before .before .before .before .loop) in let z = c .before .before .before .before .before .before .before .before .before .before .before .before .before .before .before .before .loop-test .taken in omega arith
 
--- src/lib.rt:232:5
 import-global-expression-loop-again-3 : (t : ℕ) → import-global-expression-lts.Need-loop-again-3 (
   wide-reads.Asked,
   wide-reads.Learnt,
@@ -1438,17 +1384,16 @@ import-global-expression-loop-again-3 : (t : ℕ) → import-global-expression-l
   import-pipeline-override.Post,
   import-global-expression-below t,
   import-global-expression.Post,
-  settle-reads.Asked,
-  settle-reads.Learnt,
+  intern-reads.Asked,
+  intern-reads.Learnt,
 )
     (import-global-expression-at t)
     import-global-expression.Post
     import-global-expression-Inv-loop
     import-global-expression-μ-loop
 unfolding tabOf
-import-global-expression-loop-again-3 t c = let a = (c .before .before .before .before .before .before .before .before .before .before .before .before .before .before .before .before .before .before .before .before .before .before .before .args) in let p = c .before .before .before .before .before .before .before .before .before .before .before .before .before .before .before .before .before .before .before .before .before .before .before .pre .1 in let src = p .0 in let q = p .1 .0 in let ks = p .1 .1 .0 in let K = p .1 .1 .1 in let hk : c .before .before .before .before .before .before .before .before .before .before .before .before .before .before .before .before .before .before .before .before .before .before .wide .result < countAt 5 (a .words .now) = rw (c .before .before .before .before .before .before .before .before .before .before .before .before .before .before .before .before .before .before .before .before .before .before .wide .ensures .0) (q .0) in let l = (c .before .before .before .before .before .before .before .before .before .before .before .before .before .before .before .before .before .loop) in turn-next (a .words .now) (a .tags .now) (a .n) src (a .offset) 5 (c .before .before .before .before .before .before .before .before .before .before .before .before .before .before .before .before .before .before .before .before .before .before .wide .result) (omega arith) hk (a .log .now) (a .classes .now) (a .starts .now) (a .maps .now) (a .marks .now) (a .ends) (q .1) K (importT (a .offset) (srcOf (a .words .now) (a .n)) (tabOf 5) (c .before .before .before .before .before .before .before .before .before .before .before .before .before .before .before .before .before .before .before .before .before .before .wide .result)) (refs (recAt (srcOf (a .words .now) (a .n)) (tabOf 5) (c .before .before .before .before .before .before .before .before .before .before .before .before .before .before .before .before .before .before .before .before .before .before .wide .result))) (ends-in (a .words .now) (a .tags .now) (a .n) src (a .offset) 5 (c .before .before .before .before .before .before .before .before .before .before .before .before .before .before .before .before .before .before .before .before .before .before .wide .result) (omega arith) hk (a .log .now) (a .classes .now) (a .starts .now) (a .maps .now) (a .marks .now) (a .ends) (q .1) K (c .before .before .before .before .before .before .before .before .before .before .before .before .before .before .before .before .before .before .before .before .if1 .left) (c .before .before .before .before .before .before .before .before .before .before .before .before .before .before .before .before .before .before .before .record-at .result) (c .before .before .before .before .before .before .before .before .before .before .before .before .before .before .before .before .before .before .record-end .result) (c .before .before .before .before .before .before .before .before .before .before .before .before .before .before .before .before .before .before .before .record-at .ensures) (c .before .before .before .before .before .before .before .before .before .before .before .before .before .before .before .before .before .before .record-end .ensures)) (c .before .before .before .before .before .before .before .before .before .before .before .before .before .before .before .before .before .before .before .record-at .result) (c .before .before .before .before .before .before .before .before .before .before .before .before .before .before .before .before .before .before .record-end .result) (c .before .before .before .before .before .before .before .before .before .before .before .before .before .before .before .before .before .before .before .record-at .ensures) (c .before .before .before .before .before .before .before .before .before .before .before .before .before .before .before .before .before .before .record-end .ensures) (l .log) (l .classes) (l .starts) (l .maps) (l .marks) (l .e) (l .i) (l .inv) (c .before .before .before .before .before .before .before .before .before .before .before .before .before .before .before .before .loop-test .taken) 3 (sym (c .before .before .before .before .before .before .before .if6 .taken) ∙ c .before .before .before .before .before .before .before .before .before .before .before .before .before .refers-to .ensures .0) (omega arith) (c .before .before .before .before .before .before .before .before .before .before .before .before .before .refers-to .result .number) (c .before .before .before .before .before .before .before .before .before .before .before .before .before .refers-to .ensures .1) _ _ _ _ _ _ (c .before .import-pipeline-override .ensures) (c .if7 .left)
+import-global-expression-loop-again-3 t c = let a = (c .before .before .before .before .before .before .before .before .before .before .before .before .before .before .before .before .before .before .before .before .before .before .before .args) in let p = c .before .before .before .before .before .before .before .before .before .before .before .before .before .before .before .before .before .before .before .before .before .before .before .pre .1 in let src = p .0 in let q = p .1 .0 in let ks = p .1 .1 .0 in let K = p .1 .1 .1 in let hk : c .before .before .before .before .before .before .before .before .before .before .before .before .before .before .before .before .before .before .before .before .before .before .wide .result < countAt 5 (a .words .now) = rw (c .before .before .before .before .before .before .before .before .before .before .before .before .before .before .before .before .before .before .before .before .before .before .wide .ensures .0) (q .0) in let l = (c .before .before .before .before .before .before .before .before .before .before .before .before .before .before .before .before .before .loop) in turn-next (a .words .now) (a .tags .now) (a .n) src (a .offset) 5 (c .before .before .before .before .before .before .before .before .before .before .before .before .before .before .before .before .before .before .before .before .before .before .wide .result) (omega arith) hk (a .log .now) (a .logtags .now) (a .starts .now) (a .maps .now) (a .buckets .now) (a .ends) (q .1) K (importT (a .offset) (srcOf (a .words .now) (a .n)) (tabOf 5) (c .before .before .before .before .before .before .before .before .before .before .before .before .before .before .before .before .before .before .before .before .before .before .wide .result)) (refs (recAt (srcOf (a .words .now) (a .n)) (tabOf 5) (c .before .before .before .before .before .before .before .before .before .before .before .before .before .before .before .before .before .before .before .before .before .before .wide .result))) (ends-in (a .words .now) (a .tags .now) (a .n) src (a .offset) 5 (c .before .before .before .before .before .before .before .before .before .before .before .before .before .before .before .before .before .before .before .before .before .before .wide .result) (omega arith) hk (a .log .now) (a .logtags .now) (a .starts .now) (a .maps .now) (a .buckets .now) (a .ends) (q .1) K (c .before .before .before .before .before .before .before .before .before .before .before .before .before .before .before .before .before .before .before .before .if1 .left) (c .before .before .before .before .before .before .before .before .before .before .before .before .before .before .before .before .before .before .before .record-at .result) (c .before .before .before .before .before .before .before .before .before .before .before .before .before .before .before .before .before .before .record-end .result) (c .before .before .before .before .before .before .before .before .before .before .before .before .before .before .before .before .before .before .before .record-at .ensures) (c .before .before .before .before .before .before .before .before .before .before .before .before .before .before .before .before .before .before .record-end .ensures)) (c .before .before .before .before .before .before .before .before .before .before .before .before .before .before .before .before .before .before .before .record-at .result) (c .before .before .before .before .before .before .before .before .before .before .before .before .before .before .before .before .before .before .record-end .result) (c .before .before .before .before .before .before .before .before .before .before .before .before .before .before .before .before .before .before .before .record-at .ensures) (c .before .before .before .before .before .before .before .before .before .before .before .before .before .before .before .before .before .before .record-end .ensures) (l .log) (l .logtags) (l .starts) (l .maps) (l .buckets) (l .e) (l .i) (l .inv) (c .before .before .before .before .before .before .before .before .before .before .before .before .before .before .before .before .loop-test .taken) 3 (sym (c .before .before .before .before .before .before .before .if6 .taken) ∙ c .before .before .before .before .before .before .before .before .before .before .before .before .before .refers-to .ensures .0) (omega arith) (c .before .before .before .before .before .before .before .before .before .before .before .before .before .refers-to .result .number) (c .before .before .before .before .before .before .before .before .before .before .before .before .before .refers-to .ensures .1) _ _ _ _ _ _ (c .before .import-pipeline-override .ensures) (c .if7 .left)
 
--- src/lib.rt:291:13
 import-global-expression-import-global-expression-requires :
     (t : ℕ) → import-global-expression-lts.Need-import-global-expression-requires (
       wide-reads.Asked,
@@ -1467,17 +1412,16 @@ import-global-expression-import-global-expression-requires :
       import-pipeline-override.Post,
       import-global-expression-below t,
       import-global-expression.Post,
-      settle-reads.Asked,
-      settle-reads.Learnt,
+      intern-reads.Asked,
+      intern-reads.Learnt,
     )
     (import-global-expression-at t)
     import-global-expression.Post
     import-global-expression-Inv-loop
     import-global-expression-μ-loop
 unfolding tabOf
-import-global-expression-import-global-expression-requires t c κs = let a = (c .before .before .before .before .before .before .before .before .before .before .before .before .before .before .before .before .before .before .before .before .before .before .before .args) in let p = c .before .before .before .before .before .before .before .before .before .before .before .before .before .before .before .before .before .before .before .before .before .before .before .pre .1 in let src = p .0 in let q = p .1 .0 in let ks = p .1 .1 .0 in let K = p .1 .1 .1 in let hk : c .before .before .before .before .before .before .before .before .before .before .before .before .before .before .before .before .before .before .before .before .before .before .wide .result < countAt 5 (a .words .now) = rw (c .before .before .before .before .before .before .before .before .before .before .before .before .before .before .before .before .before .before .before .before .before .before .wide .ensures .0) (q .0) in let l = (c .before .before .before .before .before .before .before .before .before .before .before .before .before .before .before .before .before .loop) in let g = turn-falls (a .words .now) (a .tags .now) (a .n) src (a .offset) 5 (c .before .before .before .before .before .before .before .before .before .before .before .before .before .before .before .before .before .before .before .before .before .before .wide .result) (omega arith) hk (a .log .now) (a .classes .now) (a .starts .now) (a .maps .now) (a .marks .now) (a .ends) (q .1) K (importT (a .offset) (srcOf (a .words .now) (a .n)) (tabOf 5) (c .before .before .before .before .before .before .before .before .before .before .before .before .before .before .before .before .before .before .before .before .before .before .wide .result)) (refs (recAt (srcOf (a .words .now) (a .n)) (tabOf 5) (c .before .before .before .before .before .before .before .before .before .before .before .before .before .before .before .before .before .before .before .before .before .before .wide .result))) (ends-in (a .words .now) (a .tags .now) (a .n) src (a .offset) 5 (c .before .before .before .before .before .before .before .before .before .before .before .before .before .before .before .before .before .before .before .before .before .before .wide .result) (omega arith) hk (a .log .now) (a .classes .now) (a .starts .now) (a .maps .now) (a .marks .now) (a .ends) (q .1) K (c .before .before .before .before .before .before .before .before .before .before .before .before .before .before .before .before .before .before .before .before .if1 .left) (c .before .before .before .before .before .before .before .before .before .before .before .before .before .before .before .before .before .before .before .record-at .result) (c .before .before .before .before .before .before .before .before .before .before .before .before .before .before .before .before .before .before .record-end .result) (c .before .before .before .before .before .before .before .before .before .before .before .before .before .before .before .before .before .before .before .record-at .ensures) (c .before .before .before .before .before .before .before .before .before .before .before .before .before .before .before .before .before .before .record-end .ensures)) (c .before .before .before .before .before .before .before .before .before .before .before .before .before .before .before .before .before .before .before .record-at .result) (c .before .before .before .before .before .before .before .before .before .before .before .before .before .before .before .before .before .before .record-end .result) (c .before .before .before .before .before .before .before .before .before .before .before .before .before .before .before .before .before .before .before .record-at .ensures) (c .before .before .before .before .before .before .before .before .before .before .before .before .before .before .before .before .before .before .record-end .ensures) (l .log) (l .classes) (l .starts) (l .maps) (l .marks) (l .e) (l .i) (l .inv) (c .before .before .before .before .before .before .before .before .before .before .before .before .before .before .before .before .loop-test .taken) 5 (sym (c .before .before .before .before .before .if8 .taken) ∙ c .before .before .before .before .before .before .before .before .before .before .before .before .before .refers-to .ensures .0) (omega arith) (c .before .before .before .before .before .before .before .before .before .before .before .before .before .refers-to .result .number) (c .before .before .before .before .before .before .before .before .before .before .before .before .before .refers-to .ensures .1) in let z = c .before .before .before .before .before .before .before .before .before .before .before .before .before .before .before .before .before .before .before .before .before .before .before .pre .0 in (rw z at (rw (c .before .before .before .before .before .before .before .before .before .before .before .before .before .before .before .before .before .before .before .before .before .before .wide .ensures .0) at g), (src, ((turn-number (a .words .now) (a .tags .now) (a .n) src (a .offset) 5 (c .before .before .before .before .before .before .before .before .before .before .before .before .before .before .before .before .before .before .before .before .before .before .wide .result) (omega arith) hk (a .log .now) (a .classes .now) (a .starts .now) (a .maps .now) (a .marks .now) (a .ends) (q .1) K (importT (a .offset) (srcOf (a .words .now) (a .n)) (tabOf 5) (c .before .before .before .before .before .before .before .before .before .before .before .before .before .before .before .before .before .before .before .before .before .before .wide .result)) (refs (recAt (srcOf (a .words .now) (a .n)) (tabOf 5) (c .before .before .before .before .before .before .before .before .before .before .before .before .before .before .before .before .before .before .before .before .before .before .wide .result))) (ends-in (a .words .now) (a .tags .now) (a .n) src (a .offset) 5 (c .before .before .before .before .before .before .before .before .before .before .before .before .before .before .before .before .before .before .before .before .before .before .wide .result) (omega arith) hk (a .log .now) (a .classes .now) (a .starts .now) (a .maps .now) (a .marks .now) (a .ends) (q .1) K (c .before .before .before .before .before .before .before .before .before .before .before .before .before .before .before .before .before .before .before .before .if1 .left) (c .before .before .before .before .before .before .before .before .before .before .before .before .before .before .before .before .before .before .before .record-at .result) (c .before .before .before .before .before .before .before .before .before .before .before .before .before .before .before .before .before .before .record-end .result) (c .before .before .before .before .before .before .before .before .before .before .before .before .before .before .before .before .before .before .before .record-at .ensures) (c .before .before .before .before .before .before .before .before .before .before .before .before .before .before .before .before .before .before .record-end .ensures)) (c .before .before .before .before .before .before .before .before .before .before .before .before .before .before .before .before .before .before .before .record-at .result) (c .before .before .before .before .before .before .before .before .before .before .before .before .before .before .before .before .before .before .record-end .result) (c .before .before .before .before .before .before .before .before .before .before .before .before .before .before .before .before .before .before .before .record-at .ensures) (c .before .before .before .before .before .before .before .before .before .before .before .before .before .before .before .before .before .before .record-end .ensures) (l .log) (l .classes) (l .starts) (l .maps) (l .marks) (l .e) (l .i) (l .inv) (c .before .before .before .before .before .before .before .before .before .before .before .before .before .before .before .before .loop-test .taken) 5 (sym (c .before .before .before .before .before .if8 .taken) ∙ c .before .before .before .before .before .before .before .before .before .before .before .before .before .refers-to .ensures .0) (omega arith) (c .before .before .before .before .before .before .before .before .before .before .before .before .before .refers-to .result .number) (c .before .before .before .before .before .before .before .before .before .before .before .before .before .refers-to .ensures .1), l .inv .going), (ks, l .inv .kept))))
+import-global-expression-import-global-expression-requires t c κs = let a = (c .before .before .before .before .before .before .before .before .before .before .before .before .before .before .before .before .before .before .before .before .before .before .before .args) in let p = c .before .before .before .before .before .before .before .before .before .before .before .before .before .before .before .before .before .before .before .before .before .before .before .pre .1 in let src = p .0 in let q = p .1 .0 in let ks = p .1 .1 .0 in let K = p .1 .1 .1 in let hk : c .before .before .before .before .before .before .before .before .before .before .before .before .before .before .before .before .before .before .before .before .before .before .wide .result < countAt 5 (a .words .now) = rw (c .before .before .before .before .before .before .before .before .before .before .before .before .before .before .before .before .before .before .before .before .before .before .wide .ensures .0) (q .0) in let l = (c .before .before .before .before .before .before .before .before .before .before .before .before .before .before .before .before .before .loop) in let g = turn-falls (a .words .now) (a .tags .now) (a .n) src (a .offset) 5 (c .before .before .before .before .before .before .before .before .before .before .before .before .before .before .before .before .before .before .before .before .before .before .wide .result) (omega arith) hk (a .log .now) (a .logtags .now) (a .starts .now) (a .maps .now) (a .buckets .now) (a .ends) (q .1) K (importT (a .offset) (srcOf (a .words .now) (a .n)) (tabOf 5) (c .before .before .before .before .before .before .before .before .before .before .before .before .before .before .before .before .before .before .before .before .before .before .wide .result)) (refs (recAt (srcOf (a .words .now) (a .n)) (tabOf 5) (c .before .before .before .before .before .before .before .before .before .before .before .before .before .before .before .before .before .before .before .before .before .before .wide .result))) (ends-in (a .words .now) (a .tags .now) (a .n) src (a .offset) 5 (c .before .before .before .before .before .before .before .before .before .before .before .before .before .before .before .before .before .before .before .before .before .before .wide .result) (omega arith) hk (a .log .now) (a .logtags .now) (a .starts .now) (a .maps .now) (a .buckets .now) (a .ends) (q .1) K (c .before .before .before .before .before .before .before .before .before .before .before .before .before .before .before .before .before .before .before .before .if1 .left) (c .before .before .before .before .before .before .before .before .before .before .before .before .before .before .before .before .before .before .before .record-at .result) (c .before .before .before .before .before .before .before .before .before .before .before .before .before .before .before .before .before .before .record-end .result) (c .before .before .before .before .before .before .before .before .before .before .before .before .before .before .before .before .before .before .before .record-at .ensures) (c .before .before .before .before .before .before .before .before .before .before .before .before .before .before .before .before .before .before .record-end .ensures)) (c .before .before .before .before .before .before .before .before .before .before .before .before .before .before .before .before .before .before .before .record-at .result) (c .before .before .before .before .before .before .before .before .before .before .before .before .before .before .before .before .before .before .record-end .result) (c .before .before .before .before .before .before .before .before .before .before .before .before .before .before .before .before .before .before .before .record-at .ensures) (c .before .before .before .before .before .before .before .before .before .before .before .before .before .before .before .before .before .before .record-end .ensures) (l .log) (l .logtags) (l .starts) (l .maps) (l .buckets) (l .e) (l .i) (l .inv) (c .before .before .before .before .before .before .before .before .before .before .before .before .before .before .before .before .loop-test .taken) 5 (sym (c .before .before .before .before .before .if8 .taken) ∙ c .before .before .before .before .before .before .before .before .before .before .before .before .before .refers-to .ensures .0) (omega arith) (c .before .before .before .before .before .before .before .before .before .before .before .before .before .refers-to .result .number) (c .before .before .before .before .before .before .before .before .before .before .before .before .before .refers-to .ensures .1) in let z = c .before .before .before .before .before .before .before .before .before .before .before .before .before .before .before .before .before .before .before .before .before .before .before .pre .0 in (rw z at (rw (c .before .before .before .before .before .before .before .before .before .before .before .before .before .before .before .before .before .before .before .before .before .before .wide .ensures .0) at g), (src, ((turn-number (a .words .now) (a .tags .now) (a .n) src (a .offset) 5 (c .before .before .before .before .before .before .before .before .before .before .before .before .before .before .before .before .before .before .before .before .before .before .wide .result) (omega arith) hk (a .log .now) (a .logtags .now) (a .starts .now) (a .maps .now) (a .buckets .now) (a .ends) (q .1) K (importT (a .offset) (srcOf (a .words .now) (a .n)) (tabOf 5) (c .before .before .before .before .before .before .before .before .before .before .before .before .before .before .before .before .before .before .before .before .before .before .wide .result)) (refs (recAt (srcOf (a .words .now) (a .n)) (tabOf 5) (c .before .before .before .before .before .before .before .before .before .before .before .before .before .before .before .before .before .before .before .before .before .before .wide .result))) (ends-in (a .words .now) (a .tags .now) (a .n) src (a .offset) 5 (c .before .before .before .before .before .before .before .before .before .before .before .before .before .before .before .before .before .before .before .before .before .before .wide .result) (omega arith) hk (a .log .now) (a .logtags .now) (a .starts .now) (a .maps .now) (a .buckets .now) (a .ends) (q .1) K (c .before .before .before .before .before .before .before .before .before .before .before .before .before .before .before .before .before .before .before .before .if1 .left) (c .before .before .before .before .before .before .before .before .before .before .before .before .before .before .before .before .before .before .before .record-at .result) (c .before .before .before .before .before .before .before .before .before .before .before .before .before .before .before .before .before .before .record-end .result) (c .before .before .before .before .before .before .before .before .before .before .before .before .before .before .before .before .before .before .before .record-at .ensures) (c .before .before .before .before .before .before .before .before .before .before .before .before .before .before .before .before .before .before .record-end .ensures)) (c .before .before .before .before .before .before .before .before .before .before .before .before .before .before .before .before .before .before .before .record-at .result) (c .before .before .before .before .before .before .before .before .before .before .before .before .before .before .before .before .before .before .record-end .result) (c .before .before .before .before .before .before .before .before .before .before .before .before .before .before .before .before .before .before .before .record-at .ensures) (c .before .before .before .before .before .before .before .before .before .before .before .before .before .before .before .before .before .before .record-end .ensures) (l .log) (l .logtags) (l .starts) (l .maps) (l .buckets) (l .e) (l .i) (l .inv) (c .before .before .before .before .before .before .before .before .before .before .before .before .before .before .before .before .loop-test .taken) 5 (sym (c .before .before .before .before .before .if8 .taken) ∙ c .before .before .before .before .before .before .before .before .before .before .before .before .before .refers-to .ensures .0) (omega arith) (c .before .before .before .before .before .before .before .before .before .before .before .before .before .refers-to .result .number) (c .before .before .before .before .before .before .before .before .before .before .before .before .before .refers-to .ensures .1), l .inv .going), (ks, l .inv .kept))))
 
--- src/lib.rt:306:17
 import-global-expression-returns-5 : (t : ℕ) → import-global-expression-lts.Need-returns-5 (
   wide-reads.Asked,
   wide-reads.Learnt,
@@ -1495,17 +1439,16 @@ import-global-expression-returns-5 : (t : ℕ) → import-global-expression-lts.
   import-pipeline-override.Post,
   import-global-expression-below t,
   import-global-expression.Post,
-  settle-reads.Asked,
-  settle-reads.Learnt,
+  intern-reads.Asked,
+  intern-reads.Learnt,
 )
     (import-global-expression-at t)
     import-global-expression.Post
     import-global-expression-Inv-loop
     import-global-expression-μ-loop
 unfolding tabOf
-import-global-expression-returns-5 t c = let a = (c .before .before .before .before .before .before .before .before .before .before .before .before .before .before .before .before .before .before .before .before .before .before .before .before .before .args) in let p = c .before .before .before .before .before .before .before .before .before .before .before .before .before .before .before .before .before .before .before .before .before .before .before .before .before .pre .1 in let src = p .0 in let q = p .1 .0 in let ks = p .1 .1 .0 in let K = p .1 .1 .1 in let hk : c .before .before .before .before .before .before .before .before .before .before .before .before .before .before .before .before .before .before .before .before .before .before .before .before .wide .result < countAt 5 (a .words .now) = rw (c .before .before .before .before .before .before .before .before .before .before .before .before .before .before .before .before .before .before .before .before .before .before .before .before .wide .ensures .0) (q .0) in let l = (c .before .before .before .before .before .before .before .before .before .before .before .before .before .before .before .before .before .before .before .loop) in lands-at (a .offset) (srcOf (a .words .now) (a .n)) exprs (c .before .before .before .before .before .before .before .before .before .before .before .before .before .before .before .before .before .before .before .before .before .before .before .before .wide .result) (a .h .0) (c .before .before .before .before .before .before .before .before .before .before .before .before .before .before .before .before .before .before .before .before .before .before .before .before .wide .ensures .0) (turn-full (a .words .now) (a .tags .now) (a .n) src (a .offset) 5 (c .before .before .before .before .before .before .before .before .before .before .before .before .before .before .before .before .before .before .before .before .before .before .before .before .wide .result) (omega arith) hk (a .log .now) (a .classes .now) (a .starts .now) (a .maps .now) (a .marks .now) (a .ends) (q .1) K (importT (a .offset) (srcOf (a .words .now) (a .n)) (tabOf 5) (c .before .before .before .before .before .before .before .before .before .before .before .before .before .before .before .before .before .before .before .before .before .before .before .before .wide .result)) (refs (recAt (srcOf (a .words .now) (a .n)) (tabOf 5) (c .before .before .before .before .before .before .before .before .before .before .before .before .before .before .before .before .before .before .before .before .before .before .before .before .wide .result))) (ends-in (a .words .now) (a .tags .now) (a .n) src (a .offset) 5 (c .before .before .before .before .before .before .before .before .before .before .before .before .before .before .before .before .before .before .before .before .before .before .before .before .wide .result) (omega arith) hk (a .log .now) (a .classes .now) (a .starts .now) (a .maps .now) (a .marks .now) (a .ends) (q .1) K (c .before .before .before .before .before .before .before .before .before .before .before .before .before .before .before .before .before .before .before .before .before .before .if1 .left) (c .before .before .before .before .before .before .before .before .before .before .before .before .before .before .before .before .before .before .before .before .before .record-at .result) (c .before .before .before .before .before .before .before .before .before .before .before .before .before .before .before .before .before .before .before .before .record-end .result) (c .before .before .before .before .before .before .before .before .before .before .before .before .before .before .before .before .before .before .before .before .before .record-at .ensures) (c .before .before .before .before .before .before .before .before .before .before .before .before .before .before .before .before .before .before .before .before .record-end .ensures)) (c .before .before .before .before .before .before .before .before .before .before .before .before .before .before .before .before .before .before .before .before .before .record-at .result) (c .before .before .before .before .before .before .before .before .before .before .before .before .before .before .before .before .before .before .before .before .record-end .result) (c .before .before .before .before .before .before .before .before .before .before .before .before .before .before .before .before .before .before .before .before .before .record-at .ensures) (c .before .before .before .before .before .before .before .before .before .before .before .before .before .before .before .before .before .before .before .before .record-end .ensures) (l .log) (l .classes) (l .starts) (l .maps) (l .marks) (l .e) (l .i) (l .inv) (c .before .before .before .before .before .before .before .before .before .before .before .before .before .before .before .before .before .before .loop-test .taken) 5 (sym (c .before .before .before .before .before .before .before .if8 .taken) ∙ c .before .before .before .before .before .before .before .before .before .before .before .before .before .before .before .refers-to .ensures .0) (omega arith) (c .before .before .before .before .before .before .before .before .before .before .before .before .before .before .before .refers-to .result .number) (c .before .before .before .before .before .before .before .before .before .before .before .before .before .before .before .refers-to .ensures .1) _ _ _ _ _ _ (c .before .import-global-expression .ensures) (c .if9 .taken))
+import-global-expression-returns-5 t c = let a = (c .before .before .before .before .before .before .before .before .before .before .before .before .before .before .before .before .before .before .before .before .before .before .before .before .before .args) in let p = c .before .before .before .before .before .before .before .before .before .before .before .before .before .before .before .before .before .before .before .before .before .before .before .before .before .pre .1 in let src = p .0 in let q = p .1 .0 in let ks = p .1 .1 .0 in let K = p .1 .1 .1 in let hk : c .before .before .before .before .before .before .before .before .before .before .before .before .before .before .before .before .before .before .before .before .before .before .before .before .wide .result < countAt 5 (a .words .now) = rw (c .before .before .before .before .before .before .before .before .before .before .before .before .before .before .before .before .before .before .before .before .before .before .before .before .wide .ensures .0) (q .0) in let l = (c .before .before .before .before .before .before .before .before .before .before .before .before .before .before .before .before .before .before .before .loop) in lands-at (a .offset) (srcOf (a .words .now) (a .n)) exprs (c .before .before .before .before .before .before .before .before .before .before .before .before .before .before .before .before .before .before .before .before .before .before .before .before .wide .result) (a .h .0) (c .before .before .before .before .before .before .before .before .before .before .before .before .before .before .before .before .before .before .before .before .before .before .before .before .wide .ensures .0) (turn-full (a .words .now) (a .tags .now) (a .n) src (a .offset) 5 (c .before .before .before .before .before .before .before .before .before .before .before .before .before .before .before .before .before .before .before .before .before .before .before .before .wide .result) (omega arith) hk (a .log .now) (a .logtags .now) (a .starts .now) (a .maps .now) (a .buckets .now) (a .ends) (q .1) K (importT (a .offset) (srcOf (a .words .now) (a .n)) (tabOf 5) (c .before .before .before .before .before .before .before .before .before .before .before .before .before .before .before .before .before .before .before .before .before .before .before .before .wide .result)) (refs (recAt (srcOf (a .words .now) (a .n)) (tabOf 5) (c .before .before .before .before .before .before .before .before .before .before .before .before .before .before .before .before .before .before .before .before .before .before .before .before .wide .result))) (ends-in (a .words .now) (a .tags .now) (a .n) src (a .offset) 5 (c .before .before .before .before .before .before .before .before .before .before .before .before .before .before .before .before .before .before .before .before .before .before .before .before .wide .result) (omega arith) hk (a .log .now) (a .logtags .now) (a .starts .now) (a .maps .now) (a .buckets .now) (a .ends) (q .1) K (c .before .before .before .before .before .before .before .before .before .before .before .before .before .before .before .before .before .before .before .before .before .before .if1 .left) (c .before .before .before .before .before .before .before .before .before .before .before .before .before .before .before .before .before .before .before .before .before .record-at .result) (c .before .before .before .before .before .before .before .before .before .before .before .before .before .before .before .before .before .before .before .before .record-end .result) (c .before .before .before .before .before .before .before .before .before .before .before .before .before .before .before .before .before .before .before .before .before .record-at .ensures) (c .before .before .before .before .before .before .before .before .before .before .before .before .before .before .before .before .before .before .before .before .record-end .ensures)) (c .before .before .before .before .before .before .before .before .before .before .before .before .before .before .before .before .before .before .before .before .before .record-at .result) (c .before .before .before .before .before .before .before .before .before .before .before .before .before .before .before .before .before .before .before .before .record-end .result) (c .before .before .before .before .before .before .before .before .before .before .before .before .before .before .before .before .before .before .before .before .before .record-at .ensures) (c .before .before .before .before .before .before .before .before .before .before .before .before .before .before .before .before .before .before .before .before .record-end .ensures) (l .log) (l .logtags) (l .starts) (l .maps) (l .buckets) (l .e) (l .i) (l .inv) (c .before .before .before .before .before .before .before .before .before .before .before .before .before .before .before .before .before .before .loop-test .taken) 5 (sym (c .before .before .before .before .before .before .before .if8 .taken) ∙ c .before .before .before .before .before .before .before .before .before .before .before .before .before .before .before .refers-to .ensures .0) (omega arith) (c .before .before .before .before .before .before .before .before .before .before .before .before .before .before .before .refers-to .result .number) (c .before .before .before .before .before .before .before .before .before .before .before .before .before .before .before .refers-to .ensures .1) _ _ _ _ _ _ (c .before .import-global-expression .ensures) (c .if9 .taken))
 
--- src/lib.rt:232:5
 import-global-expression-loop-less-4 : (t : ℕ) → import-global-expression-lts.Need-loop-less-4 (
   wide-reads.Asked,
   wide-reads.Learnt,
@@ -1523,8 +1466,8 @@ import-global-expression-loop-less-4 : (t : ℕ) → import-global-expression-lt
   import-pipeline-override.Post,
   import-global-expression-below t,
   import-global-expression.Post,
-  settle-reads.Asked,
-  settle-reads.Learnt,
+  intern-reads.Asked,
+  intern-reads.Learnt,
 )
     (import-global-expression-at t)
     import-global-expression.Post
@@ -1533,7 +1476,6 @@ import-global-expression-loop-less-4 : (t : ℕ) → import-global-expression-lt
 unfolding tabOf
 import-global-expression-loop-less-4 t c = let a = (c .before .before .before .before .before .before .before .before .before .before .before .before .before .before .before .before .before .before .before .before .before .before .before .before .before .args) in let p = c .before .before .before .before .before .before .before .before .before .before .before .before .before .before .before .before .before .before .before .before .before .before .before .before .before .pre .1 in let src = p .0 in let q = p .1 .0 in let ks = p .1 .1 .0 in let K = p .1 .1 .1 in let hk : c .before .before .before .before .before .before .before .before .before .before .before .before .before .before .before .before .before .before .before .before .before .before .before .before .wide .result < countAt 5 (a .words .now) = rw (c .before .before .before .before .before .before .before .before .before .before .before .before .before .before .before .before .before .before .before .before .before .before .before .before .wide .ensures .0) (q .0) in let l = (c .before .before .before .before .before .before .before .before .before .before .before .before .before .before .before .before .before .before .before .loop) in let z = c .before .before .before .before .before .before .before .before .before .before .before .before .before .before .before .before .before .before .loop-test .taken in omega arith
 
--- src/lib.rt:232:5
 import-global-expression-loop-again-4 : (t : ℕ) → import-global-expression-lts.Need-loop-again-4 (
   wide-reads.Asked,
   wide-reads.Learnt,
@@ -1551,17 +1493,16 @@ import-global-expression-loop-again-4 : (t : ℕ) → import-global-expression-l
   import-pipeline-override.Post,
   import-global-expression-below t,
   import-global-expression.Post,
-  settle-reads.Asked,
-  settle-reads.Learnt,
+  intern-reads.Asked,
+  intern-reads.Learnt,
 )
     (import-global-expression-at t)
     import-global-expression.Post
     import-global-expression-Inv-loop
     import-global-expression-μ-loop
 unfolding tabOf
-import-global-expression-loop-again-4 t c = let a = (c .before .before .before .before .before .before .before .before .before .before .before .before .before .before .before .before .before .before .before .before .before .before .before .before .before .args) in let p = c .before .before .before .before .before .before .before .before .before .before .before .before .before .before .before .before .before .before .before .before .before .before .before .before .before .pre .1 in let src = p .0 in let q = p .1 .0 in let ks = p .1 .1 .0 in let K = p .1 .1 .1 in let hk : c .before .before .before .before .before .before .before .before .before .before .before .before .before .before .before .before .before .before .before .before .before .before .before .before .wide .result < countAt 5 (a .words .now) = rw (c .before .before .before .before .before .before .before .before .before .before .before .before .before .before .before .before .before .before .before .before .before .before .before .before .wide .ensures .0) (q .0) in let l = (c .before .before .before .before .before .before .before .before .before .before .before .before .before .before .before .before .before .before .before .loop) in turn-next (a .words .now) (a .tags .now) (a .n) src (a .offset) 5 (c .before .before .before .before .before .before .before .before .before .before .before .before .before .before .before .before .before .before .before .before .before .before .before .before .wide .result) (omega arith) hk (a .log .now) (a .classes .now) (a .starts .now) (a .maps .now) (a .marks .now) (a .ends) (q .1) K (importT (a .offset) (srcOf (a .words .now) (a .n)) (tabOf 5) (c .before .before .before .before .before .before .before .before .before .before .before .before .before .before .before .before .before .before .before .before .before .before .before .before .wide .result)) (refs (recAt (srcOf (a .words .now) (a .n)) (tabOf 5) (c .before .before .before .before .before .before .before .before .before .before .before .before .before .before .before .before .before .before .before .before .before .before .before .before .wide .result))) (ends-in (a .words .now) (a .tags .now) (a .n) src (a .offset) 5 (c .before .before .before .before .before .before .before .before .before .before .before .before .before .before .before .before .before .before .before .before .before .before .before .before .wide .result) (omega arith) hk (a .log .now) (a .classes .now) (a .starts .now) (a .maps .now) (a .marks .now) (a .ends) (q .1) K (c .before .before .before .before .before .before .before .before .before .before .before .before .before .before .before .before .before .before .before .before .before .before .if1 .left) (c .before .before .before .before .before .before .before .before .before .before .before .before .before .before .before .before .before .before .before .before .before .record-at .result) (c .before .before .before .before .before .before .before .before .before .before .before .before .before .before .before .before .before .before .before .before .record-end .result) (c .before .before .before .before .before .before .before .before .before .before .before .before .before .before .before .before .before .before .before .before .before .record-at .ensures) (c .before .before .before .before .before .before .before .before .before .before .before .before .before .before .before .before .before .before .before .before .record-end .ensures)) (c .before .before .before .before .before .before .before .before .before .before .before .before .before .before .before .before .before .before .before .before .before .record-at .result) (c .before .before .before .before .before .before .before .before .before .before .before .before .before .before .before .before .before .before .before .before .record-end .result) (c .before .before .before .before .before .before .before .before .before .before .before .before .before .before .before .before .before .before .before .before .before .record-at .ensures) (c .before .before .before .before .before .before .before .before .before .before .before .before .before .before .before .before .before .before .before .before .record-end .ensures) (l .log) (l .classes) (l .starts) (l .maps) (l .marks) (l .e) (l .i) (l .inv) (c .before .before .before .before .before .before .before .before .before .before .before .before .before .before .before .before .before .before .loop-test .taken) 5 (sym (c .before .before .before .before .before .before .before .if8 .taken) ∙ c .before .before .before .before .before .before .before .before .before .before .before .before .before .before .before .refers-to .ensures .0) (omega arith) (c .before .before .before .before .before .before .before .before .before .before .before .before .before .before .before .refers-to .result .number) (c .before .before .before .before .before .before .before .before .before .before .before .before .before .before .before .refers-to .ensures .1) _ _ _ _ _ _ (c .before .import-global-expression .ensures) (c .if9 .left)
+import-global-expression-loop-again-4 t c = let a = (c .before .before .before .before .before .before .before .before .before .before .before .before .before .before .before .before .before .before .before .before .before .before .before .before .before .args) in let p = c .before .before .before .before .before .before .before .before .before .before .before .before .before .before .before .before .before .before .before .before .before .before .before .before .before .pre .1 in let src = p .0 in let q = p .1 .0 in let ks = p .1 .1 .0 in let K = p .1 .1 .1 in let hk : c .before .before .before .before .before .before .before .before .before .before .before .before .before .before .before .before .before .before .before .before .before .before .before .before .wide .result < countAt 5 (a .words .now) = rw (c .before .before .before .before .before .before .before .before .before .before .before .before .before .before .before .before .before .before .before .before .before .before .before .before .wide .ensures .0) (q .0) in let l = (c .before .before .before .before .before .before .before .before .before .before .before .before .before .before .before .before .before .before .before .loop) in turn-next (a .words .now) (a .tags .now) (a .n) src (a .offset) 5 (c .before .before .before .before .before .before .before .before .before .before .before .before .before .before .before .before .before .before .before .before .before .before .before .before .wide .result) (omega arith) hk (a .log .now) (a .logtags .now) (a .starts .now) (a .maps .now) (a .buckets .now) (a .ends) (q .1) K (importT (a .offset) (srcOf (a .words .now) (a .n)) (tabOf 5) (c .before .before .before .before .before .before .before .before .before .before .before .before .before .before .before .before .before .before .before .before .before .before .before .before .wide .result)) (refs (recAt (srcOf (a .words .now) (a .n)) (tabOf 5) (c .before .before .before .before .before .before .before .before .before .before .before .before .before .before .before .before .before .before .before .before .before .before .before .before .wide .result))) (ends-in (a .words .now) (a .tags .now) (a .n) src (a .offset) 5 (c .before .before .before .before .before .before .before .before .before .before .before .before .before .before .before .before .before .before .before .before .before .before .before .before .wide .result) (omega arith) hk (a .log .now) (a .logtags .now) (a .starts .now) (a .maps .now) (a .buckets .now) (a .ends) (q .1) K (c .before .before .before .before .before .before .before .before .before .before .before .before .before .before .before .before .before .before .before .before .before .before .if1 .left) (c .before .before .before .before .before .before .before .before .before .before .before .before .before .before .before .before .before .before .before .before .before .record-at .result) (c .before .before .before .before .before .before .before .before .before .before .before .before .before .before .before .before .before .before .before .before .record-end .result) (c .before .before .before .before .before .before .before .before .before .before .before .before .before .before .before .before .before .before .before .before .before .record-at .ensures) (c .before .before .before .before .before .before .before .before .before .before .before .before .before .before .before .before .before .before .before .before .record-end .ensures)) (c .before .before .before .before .before .before .before .before .before .before .before .before .before .before .before .before .before .before .before .before .before .record-at .result) (c .before .before .before .before .before .before .before .before .before .before .before .before .before .before .before .before .before .before .before .before .record-end .result) (c .before .before .before .before .before .before .before .before .before .before .before .before .before .before .before .before .before .before .before .before .before .record-at .ensures) (c .before .before .before .before .before .before .before .before .before .before .before .before .before .before .before .before .before .before .before .before .record-end .ensures) (l .log) (l .logtags) (l .starts) (l .maps) (l .buckets) (l .e) (l .i) (l .inv) (c .before .before .before .before .before .before .before .before .before .before .before .before .before .before .before .before .before .before .loop-test .taken) 5 (sym (c .before .before .before .before .before .before .before .if8 .taken) ∙ c .before .before .before .before .before .before .before .before .before .before .before .before .before .before .before .refers-to .ensures .0) (omega arith) (c .before .before .before .before .before .before .before .before .before .before .before .before .before .before .before .refers-to .result .number) (c .before .before .before .before .before .before .before .before .before .before .before .before .before .before .before .refers-to .ensures .1) _ _ _ _ _ _ (c .before .import-global-expression .ensures) (c .if9 .left)
 
--- src/lib.rt:232:5
 import-global-expression-loop-less-5 : (t : ℕ) → import-global-expression-lts.Need-loop-less-5 (
   wide-reads.Asked,
   wide-reads.Learnt,
@@ -1579,8 +1520,8 @@ import-global-expression-loop-less-5 : (t : ℕ) → import-global-expression-lt
   import-pipeline-override.Post,
   import-global-expression-below t,
   import-global-expression.Post,
-  settle-reads.Asked,
-  settle-reads.Learnt,
+  intern-reads.Asked,
+  intern-reads.Learnt,
 )
     (import-global-expression-at t)
     import-global-expression.Post
@@ -1589,7 +1530,6 @@ import-global-expression-loop-less-5 : (t : ℕ) → import-global-expression-lt
 unfolding tabOf
 import-global-expression-loop-less-5 t c = let a = (c .before .before .before .before .before .before .before .before .before .before .before .before .before .before .before .before .before .before .args) in let p = c .before .before .before .before .before .before .before .before .before .before .before .before .before .before .before .before .before .before .pre .1 in let src = p .0 in let q = p .1 .0 in let ks = p .1 .1 .0 in let K = p .1 .1 .1 in let hk : c .before .before .before .before .before .before .before .before .before .before .before .before .before .before .before .before .before .wide .result < countAt 5 (a .words .now) = rw (c .before .before .before .before .before .before .before .before .before .before .before .before .before .before .before .before .before .wide .ensures .0) (q .0) in let l = (c .before .before .before .before .before .before .before .before .before .before .before .before .loop) in let z = c .before .before .before .before .before .before .before .before .before .before .before .loop-test .taken in omega arith
 
--- src/lib.rt:232:5
 import-global-expression-loop-again-5 : (t : ℕ) → import-global-expression-lts.Need-loop-again-5 (
   wide-reads.Asked,
   wide-reads.Learnt,
@@ -1607,19 +1547,18 @@ import-global-expression-loop-again-5 : (t : ℕ) → import-global-expression-l
   import-pipeline-override.Post,
   import-global-expression-below t,
   import-global-expression.Post,
-  settle-reads.Asked,
-  settle-reads.Learnt,
+  intern-reads.Asked,
+  intern-reads.Learnt,
 )
     (import-global-expression-at t)
     import-global-expression.Post
     import-global-expression-Inv-loop
     import-global-expression-μ-loop
 unfolding tabOf
-import-global-expression-loop-again-5 t c = let a = (c .before .before .before .before .before .before .before .before .before .before .before .before .before .before .before .before .before .before .args) in let p = c .before .before .before .before .before .before .before .before .before .before .before .before .before .before .before .before .before .before .pre .1 in let src = p .0 in let q = p .1 .0 in let ks = p .1 .1 .0 in let K = p .1 .1 .1 in let hk : c .before .before .before .before .before .before .before .before .before .before .before .before .before .before .before .before .before .wide .result < countAt 5 (a .words .now) = rw (c .before .before .before .before .before .before .before .before .before .before .before .before .before .before .before .before .before .wide .ensures .0) (q .0) in let l = (c .before .before .before .before .before .before .before .before .before .before .before .before .loop) in turn-skip (a .words .now) (a .tags .now) (a .n) src (a .offset) 5 (c .before .before .before .before .before .before .before .before .before .before .before .before .before .before .before .before .before .wide .result) (omega arith) hk (a .log .now) (a .classes .now) (a .starts .now) (a .maps .now) (a .marks .now) (a .ends) (q .1) K (importT (a .offset) (srcOf (a .words .now) (a .n)) (tabOf 5) (c .before .before .before .before .before .before .before .before .before .before .before .before .before .before .before .before .before .wide .result)) (refs (recAt (srcOf (a .words .now) (a .n)) (tabOf 5) (c .before .before .before .before .before .before .before .before .before .before .before .before .before .before .before .before .before .wide .result))) (ends-in (a .words .now) (a .tags .now) (a .n) src (a .offset) 5 (c .before .before .before .before .before .before .before .before .before .before .before .before .before .before .before .before .before .wide .result) (omega arith) hk (a .log .now) (a .classes .now) (a .starts .now) (a .maps .now) (a .marks .now) (a .ends) (q .1) K (c .before .before .before .before .before .before .before .before .before .before .before .before .before .before .before .if1 .left) (c .before .before .before .before .before .before .before .before .before .before .before .before .before .before .record-at .result) (c .before .before .before .before .before .before .before .before .before .before .before .before .before .record-end .result) (c .before .before .before .before .before .before .before .before .before .before .before .before .before .before .record-at .ensures) (c .before .before .before .before .before .before .before .before .before .before .before .before .before .record-end .ensures)) (c .before .before .before .before .before .before .before .before .before .before .before .before .before .before .record-at .result) (c .before .before .before .before .before .before .before .before .before .before .before .before .before .record-end .result) (c .before .before .before .before .before .before .before .before .before .before .before .before .before .before .record-at .ensures) (c .before .before .before .before .before .before .before .before .before .before .before .before .before .record-end .ensures) (l .log) (l .classes) (l .starts) (l .maps) (l .marks) (l .e) (l .i) (l .inv) (c .before .before .before .before .before .before .before .before .before .before .before .loop-test .taken) (c .before .before .before .before .before .before .before .before .refers-to .result .table) (c .before .before .before .before .before .before .before .before .refers-to .ensures .0) (past-expr (c .before .before .before .before .before .before .before .before .refers-to .result .table) (turn-allowed (a .words .now) (a .tags .now) (a .n) src (a .offset) 5 (c .before .before .before .before .before .before .before .before .before .before .before .before .before .before .before .before .before .wide .result) (omega arith) hk (a .log .now) (a .classes .now) (a .starts .now) (a .maps .now) (a .marks .now) (a .ends) (q .1) K (importT (a .offset) (srcOf (a .words .now) (a .n)) (tabOf 5) (c .before .before .before .before .before .before .before .before .before .before .before .before .before .before .before .before .before .wide .result)) (refs (recAt (srcOf (a .words .now) (a .n)) (tabOf 5) (c .before .before .before .before .before .before .before .before .before .before .before .before .before .before .before .before .before .wide .result))) (ends-in (a .words .now) (a .tags .now) (a .n) src (a .offset) 5 (c .before .before .before .before .before .before .before .before .before .before .before .before .before .before .before .before .before .wide .result) (omega arith) hk (a .log .now) (a .classes .now) (a .starts .now) (a .maps .now) (a .marks .now) (a .ends) (q .1) K (c .before .before .before .before .before .before .before .before .before .before .before .before .before .before .before .if1 .left) (c .before .before .before .before .before .before .before .before .before .before .before .before .before .before .record-at .result) (c .before .before .before .before .before .before .before .before .before .before .before .before .before .record-end .result) (c .before .before .before .before .before .before .before .before .before .before .before .before .before .before .record-at .ensures) (c .before .before .before .before .before .before .before .before .before .before .before .before .before .record-end .ensures)) (c .before .before .before .before .before .before .before .before .before .before .before .before .before .before .record-at .result) (c .before .before .before .before .before .before .before .before .before .before .before .before .before .record-end .result) (c .before .before .before .before .before .before .before .before .before .before .before .before .before .before .record-at .ensures) (c .before .before .before .before .before .before .before .before .before .before .before .before .before .record-end .ensures) (l .log) (l .classes) (l .starts) (l .maps) (l .marks) (l .e) (l .i) (l .inv) (c .before .before .before .before .before .before .before .before .before .before .before .loop-test .taken) (c .before .before .before .before .before .before .before .before .refers-to .result .table) (c .before .before .before .before .before .before .before .before .refers-to .ensures .0)) (c .before .before .before .before .before .before .if2 .left) (c .before .before .before .before .if4 .left) (c .before .before .if6 .left) (c .if8 .left))
+import-global-expression-loop-again-5 t c = let a = (c .before .before .before .before .before .before .before .before .before .before .before .before .before .before .before .before .before .before .args) in let p = c .before .before .before .before .before .before .before .before .before .before .before .before .before .before .before .before .before .before .pre .1 in let src = p .0 in let q = p .1 .0 in let ks = p .1 .1 .0 in let K = p .1 .1 .1 in let hk : c .before .before .before .before .before .before .before .before .before .before .before .before .before .before .before .before .before .wide .result < countAt 5 (a .words .now) = rw (c .before .before .before .before .before .before .before .before .before .before .before .before .before .before .before .before .before .wide .ensures .0) (q .0) in let l = (c .before .before .before .before .before .before .before .before .before .before .before .before .loop) in turn-skip (a .words .now) (a .tags .now) (a .n) src (a .offset) 5 (c .before .before .before .before .before .before .before .before .before .before .before .before .before .before .before .before .before .wide .result) (omega arith) hk (a .log .now) (a .logtags .now) (a .starts .now) (a .maps .now) (a .buckets .now) (a .ends) (q .1) K (importT (a .offset) (srcOf (a .words .now) (a .n)) (tabOf 5) (c .before .before .before .before .before .before .before .before .before .before .before .before .before .before .before .before .before .wide .result)) (refs (recAt (srcOf (a .words .now) (a .n)) (tabOf 5) (c .before .before .before .before .before .before .before .before .before .before .before .before .before .before .before .before .before .wide .result))) (ends-in (a .words .now) (a .tags .now) (a .n) src (a .offset) 5 (c .before .before .before .before .before .before .before .before .before .before .before .before .before .before .before .before .before .wide .result) (omega arith) hk (a .log .now) (a .logtags .now) (a .starts .now) (a .maps .now) (a .buckets .now) (a .ends) (q .1) K (c .before .before .before .before .before .before .before .before .before .before .before .before .before .before .before .if1 .left) (c .before .before .before .before .before .before .before .before .before .before .before .before .before .before .record-at .result) (c .before .before .before .before .before .before .before .before .before .before .before .before .before .record-end .result) (c .before .before .before .before .before .before .before .before .before .before .before .before .before .before .record-at .ensures) (c .before .before .before .before .before .before .before .before .before .before .before .before .before .record-end .ensures)) (c .before .before .before .before .before .before .before .before .before .before .before .before .before .before .record-at .result) (c .before .before .before .before .before .before .before .before .before .before .before .before .before .record-end .result) (c .before .before .before .before .before .before .before .before .before .before .before .before .before .before .record-at .ensures) (c .before .before .before .before .before .before .before .before .before .before .before .before .before .record-end .ensures) (l .log) (l .logtags) (l .starts) (l .maps) (l .buckets) (l .e) (l .i) (l .inv) (c .before .before .before .before .before .before .before .before .before .before .before .loop-test .taken) (c .before .before .before .before .before .before .before .before .refers-to .result .table) (c .before .before .before .before .before .before .before .before .refers-to .ensures .0) (past-expr (c .before .before .before .before .before .before .before .before .refers-to .result .table) (turn-allowed (a .words .now) (a .tags .now) (a .n) src (a .offset) 5 (c .before .before .before .before .before .before .before .before .before .before .before .before .before .before .before .before .before .wide .result) (omega arith) hk (a .log .now) (a .logtags .now) (a .starts .now) (a .maps .now) (a .buckets .now) (a .ends) (q .1) K (importT (a .offset) (srcOf (a .words .now) (a .n)) (tabOf 5) (c .before .before .before .before .before .before .before .before .before .before .before .before .before .before .before .before .before .wide .result)) (refs (recAt (srcOf (a .words .now) (a .n)) (tabOf 5) (c .before .before .before .before .before .before .before .before .before .before .before .before .before .before .before .before .before .wide .result))) (ends-in (a .words .now) (a .tags .now) (a .n) src (a .offset) 5 (c .before .before .before .before .before .before .before .before .before .before .before .before .before .before .before .before .before .wide .result) (omega arith) hk (a .log .now) (a .logtags .now) (a .starts .now) (a .maps .now) (a .buckets .now) (a .ends) (q .1) K (c .before .before .before .before .before .before .before .before .before .before .before .before .before .before .before .if1 .left) (c .before .before .before .before .before .before .before .before .before .before .before .before .before .before .record-at .result) (c .before .before .before .before .before .before .before .before .before .before .before .before .before .record-end .result) (c .before .before .before .before .before .before .before .before .before .before .before .before .before .before .record-at .ensures) (c .before .before .before .before .before .before .before .before .before .before .before .before .before .record-end .ensures)) (c .before .before .before .before .before .before .before .before .before .before .before .before .before .before .record-at .result) (c .before .before .before .before .before .before .before .before .before .before .before .before .before .record-end .result) (c .before .before .before .before .before .before .before .before .before .before .before .before .before .before .record-at .ensures) (c .before .before .before .before .before .before .before .before .before .before .before .before .before .record-end .ensures) (l .log) (l .logtags) (l .starts) (l .maps) (l .buckets) (l .e) (l .i) (l .inv) (c .before .before .before .before .before .before .before .before .before .before .before .loop-test .taken) (c .before .before .before .before .before .before .before .before .refers-to .result .table) (c .before .before .before .before .before .before .before .before .refers-to .ensures .0)) (c .before .before .before .before .before .before .if2 .left) (c .before .before .before .before .if4 .left) (c .before .before .if6 .left) (c .if8 .left))
 
--- src/lib.rt:310:5
 import-global-expression-settle-requires :
-    (t : ℕ) → import-global-expression-lts.Need-settle-requires (
+    (t : ℕ) → import-global-expression-lts.Need-intern-requires (
       wide-reads.Asked,
       wide-reads.Learnt,
       record-at-reads.Asked,
@@ -1636,17 +1575,16 @@ import-global-expression-settle-requires :
       import-pipeline-override.Post,
       import-global-expression-below t,
       import-global-expression.Post,
-      settle-reads.Asked,
-      settle-reads.Learnt,
+      intern-reads.Asked,
+      intern-reads.Learnt,
     )
     (import-global-expression-at t)
     import-global-expression.Post
     import-global-expression-Inv-loop
     import-global-expression-μ-loop
 unfolding tabOf
-import-global-expression-settle-requires t c κs = let a = (c .before .before .before .before .before .before .before .before .before .before .before .before .args) in let p = c .before .before .before .before .before .before .before .before .before .before .before .before .pre .1 in let src = p .0 in let q = p .1 .0 in let ks = p .1 .1 .0 in let K = p .1 .1 .1 in let hk : c .before .before .before .before .before .before .before .before .before .before .before .wide .result < countAt 5 (a .words .now) = rw (c .before .before .before .before .before .before .before .before .before .before .before .wide .ensures .0) (q .0) in let l = (c .before .before .before .before .before .before .loop) in (readable (a .words .now) (a .tags .now) (a .n) src 5 (c .before .before .before .before .before .before .before .before .before .before .before .wide .result) (omega arith) hk (c .before .before .before .before .before .before .before .before .record-at .result) (c .before .before .before .before .before .before .before .record-end .result) (c .before .before .before .before .before .before .before .before .record-at .ensures) (c .before .before .before .before .before .before .before .record-end .ensures) (a .kinds .now) ks, ((omega arith, hk, small-number (a .words .now) (a .tags .now) (a .n) src 5 (c .before .before .before .before .before .before .before .before .before .before .before .wide .result) (omega arith) hk, l .inv .going), (plain-name (a .words .now) (a .tags .now) (a .n) src 5 (c .before .before .before .before .before .before .before .before .before .before .before .wide .result) (omega arith) hk (c .before .before .before .before .before .before .before .before .record-at .result) (c .before .before .before .before .before .before .before .record-end .result) (c .before .before .before .before .before .before .before .before .record-at .ensures) (c .before .before .before .before .before .before .before .record-end .ensures), l .inv .kept)))
+import-global-expression-settle-requires t c κs = let a = (c .before .before .before .before .before .before .before .before .before .before .before .before .args) in let p = c .before .before .before .before .before .before .before .before .before .before .before .before .pre .1 in let src = p .0 in let q = p .1 .0 in let ks = p .1 .1 .0 in let K = p .1 .1 .1 in let hk : c .before .before .before .before .before .before .before .before .before .before .before .wide .result < countAt 5 (a .words .now) = rw (c .before .before .before .before .before .before .before .before .before .before .before .wide .ensures .0) (q .0) in let l = (c .before .before .before .before .before .before .loop) in (readable (a .words .now) (a .tags .now) (a .n) src 5 (c .before .before .before .before .before .before .before .before .before .before .before .wide .result) (omega arith) hk (c .before .before .before .before .before .before .before .before .record-at .result) (c .before .before .before .before .before .before .before .record-end .result) (c .before .before .before .before .before .before .before .before .record-at .ensures) (c .before .before .before .before .before .before .before .record-end .ensures) (a .targets .now) ks, ((omega arith, hk, small-number (a .words .now) (a .tags .now) (a .n) src 5 (c .before .before .before .before .before .before .before .before .before .before .before .wide .result) (omega arith) hk, l .inv .going), (plain-name (a .words .now) (a .tags .now) (a .n) src 5 (c .before .before .before .before .before .before .before .before .before .before .before .wide .result) (omega arith) hk (c .before .before .before .before .before .before .before .before .record-at .result) (c .before .before .before .before .before .before .before .record-end .result) (c .before .before .before .before .before .before .before .before .record-at .ensures) (c .before .before .before .before .before .before .before .record-end .ensures), l .inv .kept)))
 
--- src/lib.rt:204:1
 import-global-expression-returns-6 : (t : ℕ) → import-global-expression-lts.Need-returns-6 (
   wide-reads.Asked,
   wide-reads.Learnt,
@@ -1664,23 +1602,22 @@ import-global-expression-returns-6 : (t : ℕ) → import-global-expression-lts.
   import-pipeline-override.Post,
   import-global-expression-below t,
   import-global-expression.Post,
-  settle-reads.Asked,
-  settle-reads.Learnt,
+  intern-reads.Asked,
+  intern-reads.Learnt,
 )
     (import-global-expression-at t)
     import-global-expression.Post
     import-global-expression-Inv-loop
     import-global-expression-μ-loop
 unfolding tabOf
-import-global-expression-returns-6 t c = let a = (c .before .before .before .before .before .before .before .before .before .before .before .before .before .args) in let p = c .before .before .before .before .before .before .before .before .before .before .before .before .before .pre .1 in let src = p .0 in let q = p .1 .0 in let ks = p .1 .1 .0 in let K = p .1 .1 .1 in let hk : c .before .before .before .before .before .before .before .before .before .before .before .before .wide .result < countAt 5 (a .words .now) = rw (c .before .before .before .before .before .before .before .before .before .before .before .before .wide .ensures .0) (q .0) in let l = (c .before .before .before .before .before .before .before .loop) in lands-at (a .offset) (srcOf (a .words .now) (a .n)) exprs (c .before .before .before .before .before .before .before .before .before .before .before .before .wide .result) (a .h .0) (c .before .before .before .before .before .before .before .before .before .before .before .before .wide .ensures .0) (turn-settled (a .words .now) (a .tags .now) (a .n) src (a .offset) 5 (c .before .before .before .before .before .before .before .before .before .before .before .before .wide .result) (omega arith) hk (a .log .now) (a .classes .now) (a .starts .now) (a .maps .now) (a .marks .now) (a .ends) (q .1) K (c .before .before .before .before .before .before .before .before .before .before .if1 .left) (c .before .before .before .before .before .before .before .before .before .record-at .result) (c .before .before .before .before .before .before .before .before .record-end .result) (c .before .before .before .before .before .before .before .before .before .record-at .ensures) (c .before .before .before .before .before .before .before .before .record-end .ensures) (l .log) (l .classes) (l .starts) (l .maps) (l .marks) (l .e) (l .i) (l .inv) (c .before .before .before .before .before .before .loop-test .left) _ _ _ _ _ _ (c .settle .ensures))
+import-global-expression-returns-6 t c = let a = (c .before .before .before .before .before .before .before .before .before .before .before .before .before .args) in let p = c .before .before .before .before .before .before .before .before .before .before .before .before .before .pre .1 in let src = p .0 in let q = p .1 .0 in let ks = p .1 .1 .0 in let K = p .1 .1 .1 in let hk : c .before .before .before .before .before .before .before .before .before .before .before .before .wide .result < countAt 5 (a .words .now) = rw (c .before .before .before .before .before .before .before .before .before .before .before .before .wide .ensures .0) (q .0) in let l = (c .before .before .before .before .before .before .before .loop) in lands-at (a .offset) (srcOf (a .words .now) (a .n)) exprs (c .before .before .before .before .before .before .before .before .before .before .before .before .wide .result) (a .h .0) (c .before .before .before .before .before .before .before .before .before .before .before .before .wide .ensures .0) (turn-settled (a .words .now) (a .tags .now) (a .n) src (a .offset) 5 (c .before .before .before .before .before .before .before .before .before .before .before .before .wide .result) (omega arith) hk (a .log .now) (a .logtags .now) (a .starts .now) (a .maps .now) (a .buckets .now) (a .ends) (q .1) K (c .before .before .before .before .before .before .before .before .before .before .if1 .left) (c .before .before .before .before .before .before .before .before .before .record-at .result) (c .before .before .before .before .before .before .before .before .record-end .result) (c .before .before .before .before .before .before .before .before .before .record-at .ensures) (c .before .before .before .before .before .before .before .before .record-end .ensures) (l .log) (l .logtags) (l .starts) (l .maps) (l .buckets) (l .e) (l .i) (l .inv) (c .before .before .before .before .before .before .loop-test .left) _ _ _ _ _ _ (c .intern .ensures))
 
 abbrev import-pipeline-override-Inv-loop : import-pipeline-override-lts.InvT-loop
-import-pipeline-override-Inv-loop words tags kinds n log₀ classes₀ starts₀ maps₀ marks₀ offset k at end e₀ i₀ log classes starts maps marks e i = Turn words tags n offset 3 k (refs (recAt (srcOf words n) (tabOf 3) k)) log₀ classes₀ starts₀ maps₀ marks₀ e₀ end log classes starts maps marks e i
+import-pipeline-override-Inv-loop words tags targets n log₀ logtags₀ starts₀ maps₀ buckets₀ offset k at end e₀ i₀ log logtags starts maps buckets e i = Turn words tags n offset 3 k (refs (recAt (srcOf words n) (tabOf 3) k)) log₀ logtags₀ starts₀ maps₀ buckets₀ e₀ end log logtags starts maps buckets e i
 
 abbrev import-pipeline-override-μ-loop : import-pipeline-override-lts.MeasureT-loop
-import-pipeline-override-μ-loop words tags kinds n log₀ classes₀ starts₀ maps₀ marks₀ offset k at end e₀ i₀ log classes starts maps marks e i = end - i
+import-pipeline-override-μ-loop words tags targets n log₀ logtags₀ starts₀ maps₀ buckets₀ offset k at end e₀ i₀ log logtags starts maps buckets e i = end - i
 
--- src/lib.rt:456:9
 import-pipeline-override-wide-requires : (t : ℕ) → import-pipeline-override-lts.Need-wide-requires (
   wide-reads.Asked,
   wide-reads.Learnt,
@@ -1696,8 +1633,8 @@ import-pipeline-override-wide-requires : (t : ℕ) → import-pipeline-override-
   import-type-reads.Learnt,
   import-global-expression-below t,
   import-global-expression.Post,
-  settle-reads.Asked,
-  settle-reads.Learnt,
+  intern-reads.Asked,
+  intern-reads.Learnt,
 )
     (import-pipeline-override-at t)
     import-pipeline-override.Post
@@ -1705,7 +1642,6 @@ import-pipeline-override-wide-requires : (t : ℕ) → import-pipeline-override-
     import-pipeline-override-μ-loop
 import-pipeline-override-wide-requires t c κs = search needs
 
--- src/lib.rt:457:8
 import-pipeline-override-mul-if1 : (t : ℕ) → import-pipeline-override-lts.Need-mul-if1 (
   wide-reads.Asked,
   wide-reads.Learnt,
@@ -1721,8 +1657,8 @@ import-pipeline-override-mul-if1 : (t : ℕ) → import-pipeline-override-lts.Ne
   import-type-reads.Learnt,
   import-global-expression-below t,
   import-global-expression.Post,
-  settle-reads.Asked,
-  settle-reads.Learnt,
+  intern-reads.Asked,
+  intern-reads.Learnt,
 )
     (import-pipeline-override-at t)
     import-pipeline-override.Post
@@ -1731,7 +1667,6 @@ import-pipeline-override-mul-if1 : (t : ℕ) → import-pipeline-override-lts.Ne
 unfolding tabOf
 import-pipeline-override-mul-if1 t c = let a = (c .before .args) in let p = c .before .pre .1 in let src = p .0 in let q = p .1 .0 in let ks = p .1 .1 .0 in let K = p .1 .1 .1 in let hk : c .wide .result < countAt 3 (a .words .now) = rw (c .wide .ensures .0) (q .0) in let z = small-number (a .words .now) (a .tags .now) (a .n) src 3 (c .wide .result) (omega arith) hk in omega arith
 
--- src/lib.rt:457:8
 import-pipeline-override-index-1-if1 : (t : ℕ) → import-pipeline-override-lts.Need-index-1-if1 (
   wide-reads.Asked,
   wide-reads.Learnt,
@@ -1747,8 +1682,8 @@ import-pipeline-override-index-1-if1 : (t : ℕ) → import-pipeline-override-lt
   import-type-reads.Learnt,
   import-global-expression-below t,
   import-global-expression.Post,
-  settle-reads.Asked,
-  settle-reads.Learnt,
+  intern-reads.Asked,
+  intern-reads.Learnt,
 )
     (import-pipeline-override-at t)
     import-pipeline-override.Post
@@ -1756,7 +1691,6 @@ import-pipeline-override-index-1-if1 : (t : ℕ) → import-pipeline-override-lt
     import-pipeline-override-μ-loop
 import-pipeline-override-index-1-if1 t c = search needs
 
--- src/lib.rt:457:8
 import-pipeline-override-index-2-if1 : (t : ℕ) → import-pipeline-override-lts.Need-index-2-if1 (
   wide-reads.Asked,
   wide-reads.Learnt,
@@ -1772,8 +1706,8 @@ import-pipeline-override-index-2-if1 : (t : ℕ) → import-pipeline-override-lt
   import-type-reads.Learnt,
   import-global-expression-below t,
   import-global-expression.Post,
-  settle-reads.Asked,
-  settle-reads.Learnt,
+  intern-reads.Asked,
+  intern-reads.Learnt,
 )
     (import-pipeline-override-at t)
     import-pipeline-override.Post
@@ -1782,7 +1716,6 @@ import-pipeline-override-index-2-if1 : (t : ℕ) → import-pipeline-override-lt
 unfolding tabOf
 import-pipeline-override-index-2-if1 t c = let a = (c .before .args) in let p = c .before .pre .1 in let src = p .0 in let q = p .1 .0 in let ks = p .1 .1 .0 in let K = p .1 .1 .1 in let hk : c .wide .result < countAt 3 (a .words .now) = rw (c .wide .ensures .0) (q .0) in let z = small-number (a .words .now) (a .tags .now) (a .n) src 3 (c .wide .result) (omega arith) hk in omega arith
 
--- src/lib.rt:458:9
 import-pipeline-override-returns : (t : ℕ) → import-pipeline-override-lts.Need-returns (
   wide-reads.Asked,
   wide-reads.Learnt,
@@ -1798,17 +1731,16 @@ import-pipeline-override-returns : (t : ℕ) → import-pipeline-override-lts.Ne
   import-type-reads.Learnt,
   import-global-expression-below t,
   import-global-expression.Post,
-  settle-reads.Asked,
-  settle-reads.Learnt,
+  intern-reads.Asked,
+  intern-reads.Learnt,
 )
     (import-pipeline-override-at t)
     import-pipeline-override.Post
     import-pipeline-override-Inv-loop
     import-pipeline-override-μ-loop
 unfolding tabOf
-import-pipeline-override-returns t c = let a = (c .before .before .before .args) in let p = c .before .before .before .pre .1 in let src = p .0 in let q = p .1 .0 in let ks = p .1 .1 .0 in let K = p .1 .1 .1 in let hk : c .before .before .wide .result < countAt 3 (a .words .now) = rw (c .before .before .wide .ensures .0) (q .0) in lands-at (a .offset) (srcOf (a .words .now) (a .n)) overrides (c .before .before .wide .result) (a .h .0) (c .before .before .wide .ensures .0) (turn-known (a .words .now) (a .tags .now) (a .n) src (a .offset) 3 (c .before .before .wide .result) (omega arith) hk (a .log .now) (a .classes .now) (a .starts .now) (a .maps .now) (a .marks .now) (a .ends) (q .1) K (c .if1 .taken))
+import-pipeline-override-returns t c = let a = (c .before .before .before .args) in let p = c .before .before .before .pre .1 in let src = p .0 in let q = p .1 .0 in let ks = p .1 .1 .0 in let K = p .1 .1 .1 in let hk : c .before .before .wide .result < countAt 3 (a .words .now) = rw (c .before .before .wide .ensures .0) (q .0) in lands-at (a .offset) (srcOf (a .words .now) (a .n)) overrides (c .before .before .wide .result) (a .h .0) (c .before .before .wide .ensures .0) (turn-known (a .words .now) (a .tags .now) (a .n) src (a .offset) 3 (c .before .before .wide .result) (omega arith) hk (a .log .now) (a .logtags .now) (a .starts .now) (a .maps .now) (a .buckets .now) (a .ends) (q .1) K (c .if1 .taken))
 
--- src/lib.rt:460:9
 import-pipeline-override-record-at-requires :
     (t : ℕ) → import-pipeline-override-lts.Need-record-at-requires (
       wide-reads.Asked,
@@ -1825,8 +1757,8 @@ import-pipeline-override-record-at-requires :
       import-type-reads.Learnt,
       import-global-expression-below t,
       import-global-expression.Post,
-      settle-reads.Asked,
-      settle-reads.Learnt,
+      intern-reads.Asked,
+      intern-reads.Learnt,
     )
     (import-pipeline-override-at t)
     import-pipeline-override.Post
@@ -1835,7 +1767,6 @@ import-pipeline-override-record-at-requires :
 unfolding tabOf
 import-pipeline-override-record-at-requires t c κs = let a = (c .before .before .before .args) in let p = c .before .before .before .pre .1 in let src = p .0 in let q = p .1 .0 in let ks = p .1 .1 .0 in let K = p .1 .1 .1 in let hk : c .before .before .wide .result < countAt 3 (a .words .now) = rw (c .before .before .wide .ensures .0) (q .0) in (tape (a .words .now) (a .tags .now) (a .n) src, (omega arith, hk))
 
--- src/lib.rt:461:9
 import-pipeline-override-record-end-requires :
     (t : ℕ) → import-pipeline-override-lts.Need-record-end-requires (
       wide-reads.Asked,
@@ -1852,8 +1783,8 @@ import-pipeline-override-record-end-requires :
       import-type-reads.Learnt,
       import-global-expression-below t,
       import-global-expression.Post,
-      settle-reads.Asked,
-      settle-reads.Learnt,
+      intern-reads.Asked,
+      intern-reads.Learnt,
     )
     (import-pipeline-override-at t)
     import-pipeline-override.Post
@@ -1862,7 +1793,6 @@ import-pipeline-override-record-end-requires :
 unfolding tabOf
 import-pipeline-override-record-end-requires t c κs = let a = (c .before .before .before .before .args) in let p = c .before .before .before .before .pre .1 in let src = p .0 in let q = p .1 .0 in let ks = p .1 .1 .0 in let K = p .1 .1 .1 in let hk : c .before .before .before .wide .result < countAt 3 (a .words .now) = rw (c .before .before .before .wide .ensures .0) (q .0) in (tape (a .words .now) (a .tags .now) (a .n) src, (omega arith, hk))
 
--- src/lib.rt:464:5
 import-pipeline-override-loop-holds : (t : ℕ) → import-pipeline-override-lts.Need-loop-holds (
   wide-reads.Asked,
   wide-reads.Learnt,
@@ -1878,17 +1808,16 @@ import-pipeline-override-loop-holds : (t : ℕ) → import-pipeline-override-lts
   import-type-reads.Learnt,
   import-global-expression-below t,
   import-global-expression.Post,
-  settle-reads.Asked,
-  settle-reads.Learnt,
+  intern-reads.Asked,
+  intern-reads.Learnt,
 )
     (import-pipeline-override-at t)
     import-pipeline-override.Post
     import-pipeline-override-Inv-loop
     import-pipeline-override-μ-loop
 unfolding tabOf
-import-pipeline-override-loop-holds t c = let a = (c .before .before .before .before .before .args) in let p = c .before .before .before .before .before .pre .1 in let src = p .0 in let q = p .1 .0 in let ks = p .1 .1 .0 in let K = p .1 .1 .1 in let hk : c .before .before .before .before .wide .result < countAt 3 (a .words .now) = rw (c .before .before .before .before .wide .ensures .0) (q .0) in turn-first (a .words .now) (a .tags .now) (a .n) src (a .offset) 3 (c .before .before .before .before .wide .result) (omega arith) hk (a .log .now) (a .classes .now) (a .starts .now) (a .maps .now) (a .marks .now) (a .ends) (q .1) K (c .before .before .if1 .left) (c .before .record-at .result) (c .record-end .result) (c .before .record-at .ensures) (c .record-end .ensures)
+import-pipeline-override-loop-holds t c = let a = (c .before .before .before .before .before .args) in let p = c .before .before .before .before .before .pre .1 in let src = p .0 in let q = p .1 .0 in let ks = p .1 .1 .0 in let K = p .1 .1 .1 in let hk : c .before .before .before .before .wide .result < countAt 3 (a .words .now) = rw (c .before .before .before .before .wide .ensures .0) (q .0) in turn-first (a .words .now) (a .tags .now) (a .n) src (a .offset) 3 (c .before .before .before .before .wide .result) (omega arith) hk (a .log .now) (a .logtags .now) (a .starts .now) (a .maps .now) (a .buckets .now) (a .ends) (q .1) K (c .before .before .if1 .left) (c .before .record-at .result) (c .record-end .result) (c .before .record-at .ensures) (c .record-end .ensures)
 
--- src/lib.rt:466:9
 import-pipeline-override-add-i : (t : ℕ) → import-pipeline-override-lts.Need-add-i (
   wide-reads.Asked,
   wide-reads.Learnt,
@@ -1904,17 +1833,16 @@ import-pipeline-override-add-i : (t : ℕ) → import-pipeline-override-lts.Need
   import-type-reads.Learnt,
   import-global-expression-below t,
   import-global-expression.Post,
-  settle-reads.Asked,
-  settle-reads.Learnt,
+  intern-reads.Asked,
+  intern-reads.Learnt,
 )
     (import-pipeline-override-at t)
     import-pipeline-override.Post
     import-pipeline-override-Inv-loop
     import-pipeline-override-μ-loop
 unfolding tabOf
-import-pipeline-override-add-i t c = let a = (c .before .before .before .before .before .before .before .args) in let p = c .before .before .before .before .before .before .before .pre .1 in let src = p .0 in let q = p .1 .0 in let ks = p .1 .1 .0 in let K = p .1 .1 .1 in let hk : c .before .before .before .before .before .before .wide .result < countAt 3 (a .words .now) = rw (c .before .before .before .before .before .before .wide .ensures .0) (q .0) in let l = (c .before .loop) in let z = turn-in (a .words .now) (a .tags .now) (a .n) src (a .offset) 3 (c .before .before .before .before .before .before .wide .result) (omega arith) hk (a .log .now) (a .classes .now) (a .starts .now) (a .maps .now) (a .marks .now) (a .ends) (q .1) K (importT (a .offset) (srcOf (a .words .now) (a .n)) (tabOf 3) (c .before .before .before .before .before .before .wide .result)) (refs (recAt (srcOf (a .words .now) (a .n)) (tabOf 3) (c .before .before .before .before .before .before .wide .result))) (ends-in (a .words .now) (a .tags .now) (a .n) src (a .offset) 3 (c .before .before .before .before .before .before .wide .result) (omega arith) hk (a .log .now) (a .classes .now) (a .starts .now) (a .maps .now) (a .marks .now) (a .ends) (q .1) K (c .before .before .before .before .if1 .left) (c .before .before .before .record-at .result) (c .before .before .record-end .result) (c .before .before .before .record-at .ensures) (c .before .before .record-end .ensures)) (c .before .before .before .record-at .result) (c .before .before .record-end .result) (c .before .before .before .record-at .ensures) (c .before .before .record-end .ensures) (l .log) (l .classes) (l .starts) (l .maps) (l .marks) (l .e) (l .i) (l .inv) (c .loop-test .taken) in omega arith
+import-pipeline-override-add-i t c = let a = (c .before .before .before .before .before .before .before .args) in let p = c .before .before .before .before .before .before .before .pre .1 in let src = p .0 in let q = p .1 .0 in let ks = p .1 .1 .0 in let K = p .1 .1 .1 in let hk : c .before .before .before .before .before .before .wide .result < countAt 3 (a .words .now) = rw (c .before .before .before .before .before .before .wide .ensures .0) (q .0) in let l = (c .before .loop) in let z = turn-in (a .words .now) (a .tags .now) (a .n) src (a .offset) 3 (c .before .before .before .before .before .before .wide .result) (omega arith) hk (a .log .now) (a .logtags .now) (a .starts .now) (a .maps .now) (a .buckets .now) (a .ends) (q .1) K (importT (a .offset) (srcOf (a .words .now) (a .n)) (tabOf 3) (c .before .before .before .before .before .before .wide .result)) (refs (recAt (srcOf (a .words .now) (a .n)) (tabOf 3) (c .before .before .before .before .before .before .wide .result))) (ends-in (a .words .now) (a .tags .now) (a .n) src (a .offset) 3 (c .before .before .before .before .before .before .wide .result) (omega arith) hk (a .log .now) (a .logtags .now) (a .starts .now) (a .maps .now) (a .buckets .now) (a .ends) (q .1) K (c .before .before .before .before .if1 .left) (c .before .before .before .record-at .result) (c .before .before .record-end .result) (c .before .before .before .record-at .ensures) (c .before .before .record-end .ensures)) (c .before .before .before .record-at .result) (c .before .before .record-end .result) (c .before .before .before .record-at .ensures) (c .before .before .record-end .ensures) (l .log) (l .logtags) (l .starts) (l .maps) (l .buckets) (l .e) (l .i) (l .inv) (c .loop-test .taken) in omega arith
 
--- src/lib.rt:467:34
 import-pipeline-override-element-copy-out-refers-to :
     (t : ℕ) → import-pipeline-override-lts.Need-element-copy-out-refers-to (
       wide-reads.Asked,
@@ -1931,17 +1859,16 @@ import-pipeline-override-element-copy-out-refers-to :
       import-type-reads.Learnt,
       import-global-expression-below t,
       import-global-expression.Post,
-      settle-reads.Asked,
-      settle-reads.Learnt,
+      intern-reads.Asked,
+      intern-reads.Learnt,
     )
     (import-pipeline-override-at t)
     import-pipeline-override.Post
     import-pipeline-override-Inv-loop
     import-pipeline-override-μ-loop
 unfolding tabOf
-import-pipeline-override-element-copy-out-refers-to t c = let a = (c .before .before .before .before .before .before .before .args) in let p = c .before .before .before .before .before .before .before .pre .1 in let src = p .0 in let q = p .1 .0 in let ks = p .1 .1 .0 in let K = p .1 .1 .1 in let hk : c .before .before .before .before .before .before .wide .result < countAt 3 (a .words .now) = rw (c .before .before .before .before .before .before .wide .ensures .0) (q .0) in let l = (c .before .loop) in turn-in (a .words .now) (a .tags .now) (a .n) src (a .offset) 3 (c .before .before .before .before .before .before .wide .result) (omega arith) hk (a .log .now) (a .classes .now) (a .starts .now) (a .maps .now) (a .marks .now) (a .ends) (q .1) K (importT (a .offset) (srcOf (a .words .now) (a .n)) (tabOf 3) (c .before .before .before .before .before .before .wide .result)) (refs (recAt (srcOf (a .words .now) (a .n)) (tabOf 3) (c .before .before .before .before .before .before .wide .result))) (ends-in (a .words .now) (a .tags .now) (a .n) src (a .offset) 3 (c .before .before .before .before .before .before .wide .result) (omega arith) hk (a .log .now) (a .classes .now) (a .starts .now) (a .maps .now) (a .marks .now) (a .ends) (q .1) K (c .before .before .before .before .if1 .left) (c .before .before .before .record-at .result) (c .before .before .record-end .result) (c .before .before .before .record-at .ensures) (c .before .before .record-end .ensures)) (c .before .before .before .record-at .result) (c .before .before .record-end .result) (c .before .before .before .record-at .ensures) (c .before .before .record-end .ensures) (l .log) (l .classes) (l .starts) (l .maps) (l .marks) (l .e) (l .i) (l .inv) (c .loop-test .taken)
+import-pipeline-override-element-copy-out-refers-to t c = let a = (c .before .before .before .before .before .before .before .args) in let p = c .before .before .before .before .before .before .before .pre .1 in let src = p .0 in let q = p .1 .0 in let ks = p .1 .1 .0 in let K = p .1 .1 .1 in let hk : c .before .before .before .before .before .before .wide .result < countAt 3 (a .words .now) = rw (c .before .before .before .before .before .before .wide .ensures .0) (q .0) in let l = (c .before .loop) in turn-in (a .words .now) (a .tags .now) (a .n) src (a .offset) 3 (c .before .before .before .before .before .before .wide .result) (omega arith) hk (a .log .now) (a .logtags .now) (a .starts .now) (a .maps .now) (a .buckets .now) (a .ends) (q .1) K (importT (a .offset) (srcOf (a .words .now) (a .n)) (tabOf 3) (c .before .before .before .before .before .before .wide .result)) (refs (recAt (srcOf (a .words .now) (a .n)) (tabOf 3) (c .before .before .before .before .before .before .wide .result))) (ends-in (a .words .now) (a .tags .now) (a .n) src (a .offset) 3 (c .before .before .before .before .before .before .wide .result) (omega arith) hk (a .log .now) (a .logtags .now) (a .starts .now) (a .maps .now) (a .buckets .now) (a .ends) (q .1) K (c .before .before .before .before .if1 .left) (c .before .before .before .record-at .result) (c .before .before .record-end .result) (c .before .before .before .record-at .ensures) (c .before .before .record-end .ensures)) (c .before .before .before .record-at .result) (c .before .before .record-end .result) (c .before .before .before .record-at .ensures) (c .before .before .record-end .ensures) (l .log) (l .logtags) (l .starts) (l .maps) (l .buckets) (l .e) (l .i) (l .inv) (c .loop-test .taken)
 
--- src/lib.rt:467:43
 import-pipeline-override-mul-refers-to : (t : ℕ) → import-pipeline-override-lts.Need-mul-refers-to (
   wide-reads.Asked,
   wide-reads.Learnt,
@@ -1957,17 +1884,16 @@ import-pipeline-override-mul-refers-to : (t : ℕ) → import-pipeline-override-
   import-type-reads.Learnt,
   import-global-expression-below t,
   import-global-expression.Post,
-  settle-reads.Asked,
-  settle-reads.Learnt,
+  intern-reads.Asked,
+  intern-reads.Learnt,
 )
     (import-pipeline-override-at t)
     import-pipeline-override.Post
     import-pipeline-override-Inv-loop
     import-pipeline-override-μ-loop
 unfolding tabOf
-import-pipeline-override-mul-refers-to t c = let a = (c .before .before .before .before .before .before .before .before .args) in let p = c .before .before .before .before .before .before .before .before .pre .1 in let src = p .0 in let q = p .1 .0 in let ks = p .1 .1 .0 in let K = p .1 .1 .1 in let hk : c .before .before .before .before .before .before .before .wide .result < countAt 3 (a .words .now) = rw (c .before .before .before .before .before .before .before .wide .ensures .0) (q .0) in let l = (c .before .before .loop) in let z = turn-in (a .words .now) (a .tags .now) (a .n) src (a .offset) 3 (c .before .before .before .before .before .before .before .wide .result) (omega arith) hk (a .log .now) (a .classes .now) (a .starts .now) (a .maps .now) (a .marks .now) (a .ends) (q .1) K (importT (a .offset) (srcOf (a .words .now) (a .n)) (tabOf 3) (c .before .before .before .before .before .before .before .wide .result)) (refs (recAt (srcOf (a .words .now) (a .n)) (tabOf 3) (c .before .before .before .before .before .before .before .wide .result))) (ends-in (a .words .now) (a .tags .now) (a .n) src (a .offset) 3 (c .before .before .before .before .before .before .before .wide .result) (omega arith) hk (a .log .now) (a .classes .now) (a .starts .now) (a .maps .now) (a .marks .now) (a .ends) (q .1) K (c .before .before .before .before .before .if1 .left) (c .before .before .before .before .record-at .result) (c .before .before .before .record-end .result) (c .before .before .before .before .record-at .ensures) (c .before .before .before .record-end .ensures)) (c .before .before .before .before .record-at .result) (c .before .before .before .record-end .result) (c .before .before .before .before .record-at .ensures) (c .before .before .before .record-end .ensures) (l .log) (l .classes) (l .starts) (l .maps) (l .marks) (l .e) (l .i) (l .inv) (c .before .loop-test .taken) in omega arith
+import-pipeline-override-mul-refers-to t c = let a = (c .before .before .before .before .before .before .before .before .args) in let p = c .before .before .before .before .before .before .before .before .pre .1 in let src = p .0 in let q = p .1 .0 in let ks = p .1 .1 .0 in let K = p .1 .1 .1 in let hk : c .before .before .before .before .before .before .before .wide .result < countAt 3 (a .words .now) = rw (c .before .before .before .before .before .before .before .wide .ensures .0) (q .0) in let l = (c .before .before .loop) in let z = turn-in (a .words .now) (a .tags .now) (a .n) src (a .offset) 3 (c .before .before .before .before .before .before .before .wide .result) (omega arith) hk (a .log .now) (a .logtags .now) (a .starts .now) (a .maps .now) (a .buckets .now) (a .ends) (q .1) K (importT (a .offset) (srcOf (a .words .now) (a .n)) (tabOf 3) (c .before .before .before .before .before .before .before .wide .result)) (refs (recAt (srcOf (a .words .now) (a .n)) (tabOf 3) (c .before .before .before .before .before .before .before .wide .result))) (ends-in (a .words .now) (a .tags .now) (a .n) src (a .offset) 3 (c .before .before .before .before .before .before .before .wide .result) (omega arith) hk (a .log .now) (a .logtags .now) (a .starts .now) (a .maps .now) (a .buckets .now) (a .ends) (q .1) K (c .before .before .before .before .before .if1 .left) (c .before .before .before .before .record-at .result) (c .before .before .before .record-end .result) (c .before .before .before .before .record-at .ensures) (c .before .before .before .record-end .ensures)) (c .before .before .before .before .record-at .result) (c .before .before .before .record-end .result) (c .before .before .before .before .record-at .ensures) (c .before .before .before .record-end .ensures) (l .log) (l .logtags) (l .starts) (l .maps) (l .buckets) (l .e) (l .i) (l .inv) (c .before .loop-test .taken) in omega arith
 
--- src/lib.rt:467:43
 import-pipeline-override-element-copy-out-refers-to-2 :
     (t : ℕ) → import-pipeline-override-lts.Need-element-copy-out-refers-to-2 (
       wide-reads.Asked,
@@ -1984,17 +1910,16 @@ import-pipeline-override-element-copy-out-refers-to-2 :
       import-type-reads.Learnt,
       import-global-expression-below t,
       import-global-expression.Post,
-      settle-reads.Asked,
-      settle-reads.Learnt,
+      intern-reads.Asked,
+      intern-reads.Learnt,
     )
     (import-pipeline-override-at t)
     import-pipeline-override.Post
     import-pipeline-override-Inv-loop
     import-pipeline-override-μ-loop
 unfolding tabOf
-import-pipeline-override-element-copy-out-refers-to-2 t c = let a = (c .before .before .before .before .before .before .before .before .args) in let p = c .before .before .before .before .before .before .before .before .pre .1 in let src = p .0 in let q = p .1 .0 in let ks = p .1 .1 .0 in let K = p .1 .1 .1 in let hk : c .before .before .before .before .before .before .before .wide .result < countAt 3 (a .words .now) = rw (c .before .before .before .before .before .before .before .wide .ensures .0) (q .0) in let l = (c .before .before .loop) in turn-in (a .words .now) (a .tags .now) (a .n) src (a .offset) 3 (c .before .before .before .before .before .before .before .wide .result) (omega arith) hk (a .log .now) (a .classes .now) (a .starts .now) (a .maps .now) (a .marks .now) (a .ends) (q .1) K (importT (a .offset) (srcOf (a .words .now) (a .n)) (tabOf 3) (c .before .before .before .before .before .before .before .wide .result)) (refs (recAt (srcOf (a .words .now) (a .n)) (tabOf 3) (c .before .before .before .before .before .before .before .wide .result))) (ends-in (a .words .now) (a .tags .now) (a .n) src (a .offset) 3 (c .before .before .before .before .before .before .before .wide .result) (omega arith) hk (a .log .now) (a .classes .now) (a .starts .now) (a .maps .now) (a .marks .now) (a .ends) (q .1) K (c .before .before .before .before .before .if1 .left) (c .before .before .before .before .record-at .result) (c .before .before .before .record-end .result) (c .before .before .before .before .record-at .ensures) (c .before .before .before .record-end .ensures)) (c .before .before .before .before .record-at .result) (c .before .before .before .record-end .result) (c .before .before .before .before .record-at .ensures) (c .before .before .before .record-end .ensures) (l .log) (l .classes) (l .starts) (l .maps) (l .marks) (l .e) (l .i) (l .inv) (c .before .loop-test .taken)
+import-pipeline-override-element-copy-out-refers-to-2 t c = let a = (c .before .before .before .before .before .before .before .before .args) in let p = c .before .before .before .before .before .before .before .before .pre .1 in let src = p .0 in let q = p .1 .0 in let ks = p .1 .1 .0 in let K = p .1 .1 .1 in let hk : c .before .before .before .before .before .before .before .wide .result < countAt 3 (a .words .now) = rw (c .before .before .before .before .before .before .before .wide .ensures .0) (q .0) in let l = (c .before .before .loop) in turn-in (a .words .now) (a .tags .now) (a .n) src (a .offset) 3 (c .before .before .before .before .before .before .before .wide .result) (omega arith) hk (a .log .now) (a .logtags .now) (a .starts .now) (a .maps .now) (a .buckets .now) (a .ends) (q .1) K (importT (a .offset) (srcOf (a .words .now) (a .n)) (tabOf 3) (c .before .before .before .before .before .before .before .wide .result)) (refs (recAt (srcOf (a .words .now) (a .n)) (tabOf 3) (c .before .before .before .before .before .before .before .wide .result))) (ends-in (a .words .now) (a .tags .now) (a .n) src (a .offset) 3 (c .before .before .before .before .before .before .before .wide .result) (omega arith) hk (a .log .now) (a .logtags .now) (a .starts .now) (a .maps .now) (a .buckets .now) (a .ends) (q .1) K (c .before .before .before .before .before .if1 .left) (c .before .before .before .before .record-at .result) (c .before .before .before .record-end .result) (c .before .before .before .before .record-at .ensures) (c .before .before .before .record-end .ensures)) (c .before .before .before .before .record-at .result) (c .before .before .before .record-end .result) (c .before .before .before .before .record-at .ensures) (c .before .before .before .record-end .ensures) (l .log) (l .logtags) (l .starts) (l .maps) (l .buckets) (l .e) (l .i) (l .inv) (c .before .loop-test .taken)
 
--- src/lib.rt:467:13
 import-pipeline-override-refers-to-requires :
     (t : ℕ) → import-pipeline-override-lts.Need-refers-to-requires (
       wide-reads.Asked,
@@ -2011,8 +1936,8 @@ import-pipeline-override-refers-to-requires :
       import-type-reads.Learnt,
       import-global-expression-below t,
       import-global-expression.Post,
-      settle-reads.Asked,
-      settle-reads.Learnt,
+      intern-reads.Asked,
+      intern-reads.Learnt,
     )
     (import-pipeline-override-at t)
     import-pipeline-override.Post
@@ -2021,7 +1946,6 @@ import-pipeline-override-refers-to-requires :
 unfolding tabOf
 import-pipeline-override-refers-to-requires t c κs = let a = (c .before .before .before .before .before .before .before .before .before .args) in let p = c .before .before .before .before .before .before .before .before .before .pre .1 in let src = p .0 in let q = p .1 .0 in let ks = p .1 .1 .0 in let K = p .1 .1 .1 in ks
 
--- src/lib.rt:469:13
 import-pipeline-override-import-name-requires :
     (t : ℕ) → import-pipeline-override-lts.Need-import-name-requires (
       wide-reads.Asked,
@@ -2038,17 +1962,16 @@ import-pipeline-override-import-name-requires :
       import-type-reads.Learnt,
       import-global-expression-below t,
       import-global-expression.Post,
-      settle-reads.Asked,
-      settle-reads.Learnt,
+      intern-reads.Asked,
+      intern-reads.Learnt,
     )
     (import-pipeline-override-at t)
     import-pipeline-override.Post
     import-pipeline-override-Inv-loop
     import-pipeline-override-μ-loop
 unfolding tabOf
-import-pipeline-override-import-name-requires t c κs = let a = (c .before .before .before .before .before .before .before .before .before .before .before .before .before .before .before .before .before .args) in let p = c .before .before .before .before .before .before .before .before .before .before .before .before .before .before .before .before .before .pre .1 in let src = p .0 in let q = p .1 .0 in let ks = p .1 .1 .0 in let K = p .1 .1 .1 in let hk : c .before .before .before .before .before .before .before .before .before .before .before .before .before .before .before .before .wide .result < countAt 3 (a .words .now) = rw (c .before .before .before .before .before .before .before .before .before .before .before .before .before .before .before .before .wide .ensures .0) (q .0) in let l = (c .before .before .before .before .before .before .before .before .before .before .before .loop) in (src, ((turn-number (a .words .now) (a .tags .now) (a .n) src (a .offset) 3 (c .before .before .before .before .before .before .before .before .before .before .before .before .before .before .before .before .wide .result) (omega arith) hk (a .log .now) (a .classes .now) (a .starts .now) (a .maps .now) (a .marks .now) (a .ends) (q .1) K (importT (a .offset) (srcOf (a .words .now) (a .n)) (tabOf 3) (c .before .before .before .before .before .before .before .before .before .before .before .before .before .before .before .before .wide .result)) (refs (recAt (srcOf (a .words .now) (a .n)) (tabOf 3) (c .before .before .before .before .before .before .before .before .before .before .before .before .before .before .before .before .wide .result))) (ends-in (a .words .now) (a .tags .now) (a .n) src (a .offset) 3 (c .before .before .before .before .before .before .before .before .before .before .before .before .before .before .before .before .wide .result) (omega arith) hk (a .log .now) (a .classes .now) (a .starts .now) (a .maps .now) (a .marks .now) (a .ends) (q .1) K (c .before .before .before .before .before .before .before .before .before .before .before .before .before .before .if1 .left) (c .before .before .before .before .before .before .before .before .before .before .before .before .before .record-at .result) (c .before .before .before .before .before .before .before .before .before .before .before .before .record-end .result) (c .before .before .before .before .before .before .before .before .before .before .before .before .before .record-at .ensures) (c .before .before .before .before .before .before .before .before .before .before .before .before .record-end .ensures)) (c .before .before .before .before .before .before .before .before .before .before .before .before .before .record-at .result) (c .before .before .before .before .before .before .before .before .before .before .before .before .record-end .result) (c .before .before .before .before .before .before .before .before .before .before .before .before .before .record-at .ensures) (c .before .before .before .before .before .before .before .before .before .before .before .before .record-end .ensures) (l .log) (l .classes) (l .starts) (l .maps) (l .marks) (l .e) (l .i) (l .inv) (c .before .before .before .before .before .before .before .before .before .before .loop-test .taken) 0 (sym (c .before .before .before .before .before .if2 .taken) ∙ c .before .before .before .before .before .before .before .refers-to .ensures .0) (omega arith) (c .before .before .before .before .before .before .before .refers-to .result .number) (c .before .before .before .before .before .before .before .refers-to .ensures .1), l .inv .going), (ks, l .inv .kept)))
+import-pipeline-override-import-name-requires t c κs = let a = (c .before .before .before .before .before .before .before .before .before .before .before .before .before .before .before .before .before .args) in let p = c .before .before .before .before .before .before .before .before .before .before .before .before .before .before .before .before .before .pre .1 in let src = p .0 in let q = p .1 .0 in let ks = p .1 .1 .0 in let K = p .1 .1 .1 in let hk : c .before .before .before .before .before .before .before .before .before .before .before .before .before .before .before .before .wide .result < countAt 3 (a .words .now) = rw (c .before .before .before .before .before .before .before .before .before .before .before .before .before .before .before .before .wide .ensures .0) (q .0) in let l = (c .before .before .before .before .before .before .before .before .before .before .before .loop) in (src, ((turn-number (a .words .now) (a .tags .now) (a .n) src (a .offset) 3 (c .before .before .before .before .before .before .before .before .before .before .before .before .before .before .before .before .wide .result) (omega arith) hk (a .log .now) (a .logtags .now) (a .starts .now) (a .maps .now) (a .buckets .now) (a .ends) (q .1) K (importT (a .offset) (srcOf (a .words .now) (a .n)) (tabOf 3) (c .before .before .before .before .before .before .before .before .before .before .before .before .before .before .before .before .wide .result)) (refs (recAt (srcOf (a .words .now) (a .n)) (tabOf 3) (c .before .before .before .before .before .before .before .before .before .before .before .before .before .before .before .before .wide .result))) (ends-in (a .words .now) (a .tags .now) (a .n) src (a .offset) 3 (c .before .before .before .before .before .before .before .before .before .before .before .before .before .before .before .before .wide .result) (omega arith) hk (a .log .now) (a .logtags .now) (a .starts .now) (a .maps .now) (a .buckets .now) (a .ends) (q .1) K (c .before .before .before .before .before .before .before .before .before .before .before .before .before .before .if1 .left) (c .before .before .before .before .before .before .before .before .before .before .before .before .before .record-at .result) (c .before .before .before .before .before .before .before .before .before .before .before .before .record-end .result) (c .before .before .before .before .before .before .before .before .before .before .before .before .before .record-at .ensures) (c .before .before .before .before .before .before .before .before .before .before .before .before .record-end .ensures)) (c .before .before .before .before .before .before .before .before .before .before .before .before .before .record-at .result) (c .before .before .before .before .before .before .before .before .before .before .before .before .record-end .result) (c .before .before .before .before .before .before .before .before .before .before .before .before .before .record-at .ensures) (c .before .before .before .before .before .before .before .before .before .before .before .before .record-end .ensures) (l .log) (l .logtags) (l .starts) (l .maps) (l .buckets) (l .e) (l .i) (l .inv) (c .before .before .before .before .before .before .before .before .before .before .loop-test .taken) 0 (sym (c .before .before .before .before .before .if2 .taken) ∙ c .before .before .before .before .before .before .before .refers-to .ensures .0) (omega arith) (c .before .before .before .before .before .before .before .refers-to .result .number) (c .before .before .before .before .before .before .before .refers-to .ensures .1), l .inv .going), (ks, l .inv .kept)))
 
--- src/lib.rt:484:17
 import-pipeline-override-returns-2 : (t : ℕ) → import-pipeline-override-lts.Need-returns-2 (
   wide-reads.Asked,
   wide-reads.Learnt,
@@ -2064,17 +1987,16 @@ import-pipeline-override-returns-2 : (t : ℕ) → import-pipeline-override-lts.
   import-type-reads.Learnt,
   import-global-expression-below t,
   import-global-expression.Post,
-  settle-reads.Asked,
-  settle-reads.Learnt,
+  intern-reads.Asked,
+  intern-reads.Learnt,
 )
     (import-pipeline-override-at t)
     import-pipeline-override.Post
     import-pipeline-override-Inv-loop
     import-pipeline-override-μ-loop
 unfolding tabOf
-import-pipeline-override-returns-2 t c = let a = (c .before .before .before .before .before .before .before .before .before .before .before .before .before .before .before .before .before .before .before .args) in let p = c .before .before .before .before .before .before .before .before .before .before .before .before .before .before .before .before .before .before .before .pre .1 in let src = p .0 in let q = p .1 .0 in let ks = p .1 .1 .0 in let K = p .1 .1 .1 in let hk : c .before .before .before .before .before .before .before .before .before .before .before .before .before .before .before .before .before .before .wide .result < countAt 3 (a .words .now) = rw (c .before .before .before .before .before .before .before .before .before .before .before .before .before .before .before .before .before .before .wide .ensures .0) (q .0) in let l = (c .before .before .before .before .before .before .before .before .before .before .before .before .before .loop) in lands-at (a .offset) (srcOf (a .words .now) (a .n)) overrides (c .before .before .before .before .before .before .before .before .before .before .before .before .before .before .before .before .before .before .wide .result) (a .h .0) (c .before .before .before .before .before .before .before .before .before .before .before .before .before .before .before .before .before .before .wide .ensures .0) (turn-full (a .words .now) (a .tags .now) (a .n) src (a .offset) 3 (c .before .before .before .before .before .before .before .before .before .before .before .before .before .before .before .before .before .before .wide .result) (omega arith) hk (a .log .now) (a .classes .now) (a .starts .now) (a .maps .now) (a .marks .now) (a .ends) (q .1) K (importT (a .offset) (srcOf (a .words .now) (a .n)) (tabOf 3) (c .before .before .before .before .before .before .before .before .before .before .before .before .before .before .before .before .before .before .wide .result)) (refs (recAt (srcOf (a .words .now) (a .n)) (tabOf 3) (c .before .before .before .before .before .before .before .before .before .before .before .before .before .before .before .before .before .before .wide .result))) (ends-in (a .words .now) (a .tags .now) (a .n) src (a .offset) 3 (c .before .before .before .before .before .before .before .before .before .before .before .before .before .before .before .before .before .before .wide .result) (omega arith) hk (a .log .now) (a .classes .now) (a .starts .now) (a .maps .now) (a .marks .now) (a .ends) (q .1) K (c .before .before .before .before .before .before .before .before .before .before .before .before .before .before .before .before .if1 .left) (c .before .before .before .before .before .before .before .before .before .before .before .before .before .before .before .record-at .result) (c .before .before .before .before .before .before .before .before .before .before .before .before .before .before .record-end .result) (c .before .before .before .before .before .before .before .before .before .before .before .before .before .before .before .record-at .ensures) (c .before .before .before .before .before .before .before .before .before .before .before .before .before .before .record-end .ensures)) (c .before .before .before .before .before .before .before .before .before .before .before .before .before .before .before .record-at .result) (c .before .before .before .before .before .before .before .before .before .before .before .before .before .before .record-end .result) (c .before .before .before .before .before .before .before .before .before .before .before .before .before .before .before .record-at .ensures) (c .before .before .before .before .before .before .before .before .before .before .before .before .before .before .record-end .ensures) (l .log) (l .classes) (l .starts) (l .maps) (l .marks) (l .e) (l .i) (l .inv) (c .before .before .before .before .before .before .before .before .before .before .before .before .loop-test .taken) 0 (sym (c .before .before .before .before .before .before .before .if2 .taken) ∙ c .before .before .before .before .before .before .before .before .before .refers-to .ensures .0) (omega arith) (c .before .before .before .before .before .before .before .before .before .refers-to .result .number) (c .before .before .before .before .before .before .before .before .before .refers-to .ensures .1) _ _ _ _ _ _ (c .before .import-name .ensures) (c .if3 .taken))
+import-pipeline-override-returns-2 t c = let a = (c .before .before .before .before .before .before .before .before .before .before .before .before .before .before .before .before .before .before .before .args) in let p = c .before .before .before .before .before .before .before .before .before .before .before .before .before .before .before .before .before .before .before .pre .1 in let src = p .0 in let q = p .1 .0 in let ks = p .1 .1 .0 in let K = p .1 .1 .1 in let hk : c .before .before .before .before .before .before .before .before .before .before .before .before .before .before .before .before .before .before .wide .result < countAt 3 (a .words .now) = rw (c .before .before .before .before .before .before .before .before .before .before .before .before .before .before .before .before .before .before .wide .ensures .0) (q .0) in let l = (c .before .before .before .before .before .before .before .before .before .before .before .before .before .loop) in lands-at (a .offset) (srcOf (a .words .now) (a .n)) overrides (c .before .before .before .before .before .before .before .before .before .before .before .before .before .before .before .before .before .before .wide .result) (a .h .0) (c .before .before .before .before .before .before .before .before .before .before .before .before .before .before .before .before .before .before .wide .ensures .0) (turn-full (a .words .now) (a .tags .now) (a .n) src (a .offset) 3 (c .before .before .before .before .before .before .before .before .before .before .before .before .before .before .before .before .before .before .wide .result) (omega arith) hk (a .log .now) (a .logtags .now) (a .starts .now) (a .maps .now) (a .buckets .now) (a .ends) (q .1) K (importT (a .offset) (srcOf (a .words .now) (a .n)) (tabOf 3) (c .before .before .before .before .before .before .before .before .before .before .before .before .before .before .before .before .before .before .wide .result)) (refs (recAt (srcOf (a .words .now) (a .n)) (tabOf 3) (c .before .before .before .before .before .before .before .before .before .before .before .before .before .before .before .before .before .before .wide .result))) (ends-in (a .words .now) (a .tags .now) (a .n) src (a .offset) 3 (c .before .before .before .before .before .before .before .before .before .before .before .before .before .before .before .before .before .before .wide .result) (omega arith) hk (a .log .now) (a .logtags .now) (a .starts .now) (a .maps .now) (a .buckets .now) (a .ends) (q .1) K (c .before .before .before .before .before .before .before .before .before .before .before .before .before .before .before .before .if1 .left) (c .before .before .before .before .before .before .before .before .before .before .before .before .before .before .before .record-at .result) (c .before .before .before .before .before .before .before .before .before .before .before .before .before .before .record-end .result) (c .before .before .before .before .before .before .before .before .before .before .before .before .before .before .before .record-at .ensures) (c .before .before .before .before .before .before .before .before .before .before .before .before .before .before .record-end .ensures)) (c .before .before .before .before .before .before .before .before .before .before .before .before .before .before .before .record-at .result) (c .before .before .before .before .before .before .before .before .before .before .before .before .before .before .record-end .result) (c .before .before .before .before .before .before .before .before .before .before .before .before .before .before .before .record-at .ensures) (c .before .before .before .before .before .before .before .before .before .before .before .before .before .before .record-end .ensures) (l .log) (l .logtags) (l .starts) (l .maps) (l .buckets) (l .e) (l .i) (l .inv) (c .before .before .before .before .before .before .before .before .before .before .before .before .loop-test .taken) 0 (sym (c .before .before .before .before .before .before .before .if2 .taken) ∙ c .before .before .before .before .before .before .before .before .before .refers-to .ensures .0) (omega arith) (c .before .before .before .before .before .before .before .before .before .refers-to .result .number) (c .before .before .before .before .before .before .before .before .before .refers-to .ensures .1) _ _ _ _ _ _ (c .before .import-name .ensures) (c .if3 .taken))
 
--- src/lib.rt:464:5
 import-pipeline-override-loop-less : (t : ℕ) → import-pipeline-override-lts.Need-loop-less (
   wide-reads.Asked,
   wide-reads.Learnt,
@@ -2090,8 +2012,8 @@ import-pipeline-override-loop-less : (t : ℕ) → import-pipeline-override-lts.
   import-type-reads.Learnt,
   import-global-expression-below t,
   import-global-expression.Post,
-  settle-reads.Asked,
-  settle-reads.Learnt,
+  intern-reads.Asked,
+  intern-reads.Learnt,
 )
     (import-pipeline-override-at t)
     import-pipeline-override.Post
@@ -2100,7 +2022,6 @@ import-pipeline-override-loop-less : (t : ℕ) → import-pipeline-override-lts.
 unfolding tabOf
 import-pipeline-override-loop-less t c = let a = (c .before .before .before .before .before .before .before .before .before .before .before .before .before .before .before .before .before .before .before .args) in let p = c .before .before .before .before .before .before .before .before .before .before .before .before .before .before .before .before .before .before .before .pre .1 in let src = p .0 in let q = p .1 .0 in let ks = p .1 .1 .0 in let K = p .1 .1 .1 in let hk : c .before .before .before .before .before .before .before .before .before .before .before .before .before .before .before .before .before .before .wide .result < countAt 3 (a .words .now) = rw (c .before .before .before .before .before .before .before .before .before .before .before .before .before .before .before .before .before .before .wide .ensures .0) (q .0) in let l = (c .before .before .before .before .before .before .before .before .before .before .before .before .before .loop) in let z = c .before .before .before .before .before .before .before .before .before .before .before .before .loop-test .taken in omega arith
 
--- src/lib.rt:464:5
 import-pipeline-override-loop-again : (t : ℕ) → import-pipeline-override-lts.Need-loop-again (
   wide-reads.Asked,
   wide-reads.Learnt,
@@ -2116,17 +2037,16 @@ import-pipeline-override-loop-again : (t : ℕ) → import-pipeline-override-lts
   import-type-reads.Learnt,
   import-global-expression-below t,
   import-global-expression.Post,
-  settle-reads.Asked,
-  settle-reads.Learnt,
+  intern-reads.Asked,
+  intern-reads.Learnt,
 )
     (import-pipeline-override-at t)
     import-pipeline-override.Post
     import-pipeline-override-Inv-loop
     import-pipeline-override-μ-loop
 unfolding tabOf
-import-pipeline-override-loop-again t c = let a = (c .before .before .before .before .before .before .before .before .before .before .before .before .before .before .before .before .before .before .before .args) in let p = c .before .before .before .before .before .before .before .before .before .before .before .before .before .before .before .before .before .before .before .pre .1 in let src = p .0 in let q = p .1 .0 in let ks = p .1 .1 .0 in let K = p .1 .1 .1 in let hk : c .before .before .before .before .before .before .before .before .before .before .before .before .before .before .before .before .before .before .wide .result < countAt 3 (a .words .now) = rw (c .before .before .before .before .before .before .before .before .before .before .before .before .before .before .before .before .before .before .wide .ensures .0) (q .0) in let l = (c .before .before .before .before .before .before .before .before .before .before .before .before .before .loop) in turn-next (a .words .now) (a .tags .now) (a .n) src (a .offset) 3 (c .before .before .before .before .before .before .before .before .before .before .before .before .before .before .before .before .before .before .wide .result) (omega arith) hk (a .log .now) (a .classes .now) (a .starts .now) (a .maps .now) (a .marks .now) (a .ends) (q .1) K (importT (a .offset) (srcOf (a .words .now) (a .n)) (tabOf 3) (c .before .before .before .before .before .before .before .before .before .before .before .before .before .before .before .before .before .before .wide .result)) (refs (recAt (srcOf (a .words .now) (a .n)) (tabOf 3) (c .before .before .before .before .before .before .before .before .before .before .before .before .before .before .before .before .before .before .wide .result))) (ends-in (a .words .now) (a .tags .now) (a .n) src (a .offset) 3 (c .before .before .before .before .before .before .before .before .before .before .before .before .before .before .before .before .before .before .wide .result) (omega arith) hk (a .log .now) (a .classes .now) (a .starts .now) (a .maps .now) (a .marks .now) (a .ends) (q .1) K (c .before .before .before .before .before .before .before .before .before .before .before .before .before .before .before .before .if1 .left) (c .before .before .before .before .before .before .before .before .before .before .before .before .before .before .before .record-at .result) (c .before .before .before .before .before .before .before .before .before .before .before .before .before .before .record-end .result) (c .before .before .before .before .before .before .before .before .before .before .before .before .before .before .before .record-at .ensures) (c .before .before .before .before .before .before .before .before .before .before .before .before .before .before .record-end .ensures)) (c .before .before .before .before .before .before .before .before .before .before .before .before .before .before .before .record-at .result) (c .before .before .before .before .before .before .before .before .before .before .before .before .before .before .record-end .result) (c .before .before .before .before .before .before .before .before .before .before .before .before .before .before .before .record-at .ensures) (c .before .before .before .before .before .before .before .before .before .before .before .before .before .before .record-end .ensures) (l .log) (l .classes) (l .starts) (l .maps) (l .marks) (l .e) (l .i) (l .inv) (c .before .before .before .before .before .before .before .before .before .before .before .before .loop-test .taken) 0 (sym (c .before .before .before .before .before .before .before .if2 .taken) ∙ c .before .before .before .before .before .before .before .before .before .refers-to .ensures .0) (omega arith) (c .before .before .before .before .before .before .before .before .before .refers-to .result .number) (c .before .before .before .before .before .before .before .before .before .refers-to .ensures .1) _ _ _ _ _ _ (c .before .import-name .ensures) (c .if3 .left)
+import-pipeline-override-loop-again t c = let a = (c .before .before .before .before .before .before .before .before .before .before .before .before .before .before .before .before .before .before .before .args) in let p = c .before .before .before .before .before .before .before .before .before .before .before .before .before .before .before .before .before .before .before .pre .1 in let src = p .0 in let q = p .1 .0 in let ks = p .1 .1 .0 in let K = p .1 .1 .1 in let hk : c .before .before .before .before .before .before .before .before .before .before .before .before .before .before .before .before .before .before .wide .result < countAt 3 (a .words .now) = rw (c .before .before .before .before .before .before .before .before .before .before .before .before .before .before .before .before .before .before .wide .ensures .0) (q .0) in let l = (c .before .before .before .before .before .before .before .before .before .before .before .before .before .loop) in turn-next (a .words .now) (a .tags .now) (a .n) src (a .offset) 3 (c .before .before .before .before .before .before .before .before .before .before .before .before .before .before .before .before .before .before .wide .result) (omega arith) hk (a .log .now) (a .logtags .now) (a .starts .now) (a .maps .now) (a .buckets .now) (a .ends) (q .1) K (importT (a .offset) (srcOf (a .words .now) (a .n)) (tabOf 3) (c .before .before .before .before .before .before .before .before .before .before .before .before .before .before .before .before .before .before .wide .result)) (refs (recAt (srcOf (a .words .now) (a .n)) (tabOf 3) (c .before .before .before .before .before .before .before .before .before .before .before .before .before .before .before .before .before .before .wide .result))) (ends-in (a .words .now) (a .tags .now) (a .n) src (a .offset) 3 (c .before .before .before .before .before .before .before .before .before .before .before .before .before .before .before .before .before .before .wide .result) (omega arith) hk (a .log .now) (a .logtags .now) (a .starts .now) (a .maps .now) (a .buckets .now) (a .ends) (q .1) K (c .before .before .before .before .before .before .before .before .before .before .before .before .before .before .before .before .if1 .left) (c .before .before .before .before .before .before .before .before .before .before .before .before .before .before .before .record-at .result) (c .before .before .before .before .before .before .before .before .before .before .before .before .before .before .record-end .result) (c .before .before .before .before .before .before .before .before .before .before .before .before .before .before .before .record-at .ensures) (c .before .before .before .before .before .before .before .before .before .before .before .before .before .before .record-end .ensures)) (c .before .before .before .before .before .before .before .before .before .before .before .before .before .before .before .record-at .result) (c .before .before .before .before .before .before .before .before .before .before .before .before .before .before .record-end .result) (c .before .before .before .before .before .before .before .before .before .before .before .before .before .before .before .record-at .ensures) (c .before .before .before .before .before .before .before .before .before .before .before .before .before .before .record-end .ensures) (l .log) (l .logtags) (l .starts) (l .maps) (l .buckets) (l .e) (l .i) (l .inv) (c .before .before .before .before .before .before .before .before .before .before .before .before .loop-test .taken) 0 (sym (c .before .before .before .before .before .before .before .if2 .taken) ∙ c .before .before .before .before .before .before .before .before .before .refers-to .ensures .0) (omega arith) (c .before .before .before .before .before .before .before .before .before .refers-to .result .number) (c .before .before .before .before .before .before .before .before .before .refers-to .ensures .1) _ _ _ _ _ _ (c .before .import-name .ensures) (c .if3 .left)
 
--- src/lib.rt:487:13
 import-pipeline-override-import-type-requires :
     (t : ℕ) → import-pipeline-override-lts.Need-import-type-requires (
       wide-reads.Asked,
@@ -2143,17 +2063,16 @@ import-pipeline-override-import-type-requires :
       import-type-reads.Learnt,
       import-global-expression-below t,
       import-global-expression.Post,
-      settle-reads.Asked,
-      settle-reads.Learnt,
+      intern-reads.Asked,
+      intern-reads.Learnt,
     )
     (import-pipeline-override-at t)
     import-pipeline-override.Post
     import-pipeline-override-Inv-loop
     import-pipeline-override-μ-loop
 unfolding tabOf
-import-pipeline-override-import-type-requires t c κs = let a = (c .before .before .before .before .before .before .before .before .before .before .before .before .before .before .before .before .before .before .before .args) in let p = c .before .before .before .before .before .before .before .before .before .before .before .before .before .before .before .before .before .before .before .pre .1 in let src = p .0 in let q = p .1 .0 in let ks = p .1 .1 .0 in let K = p .1 .1 .1 in let hk : c .before .before .before .before .before .before .before .before .before .before .before .before .before .before .before .before .before .before .wide .result < countAt 3 (a .words .now) = rw (c .before .before .before .before .before .before .before .before .before .before .before .before .before .before .before .before .before .before .wide .ensures .0) (q .0) in let l = (c .before .before .before .before .before .before .before .before .before .before .before .before .before .loop) in (src, ((turn-number (a .words .now) (a .tags .now) (a .n) src (a .offset) 3 (c .before .before .before .before .before .before .before .before .before .before .before .before .before .before .before .before .before .before .wide .result) (omega arith) hk (a .log .now) (a .classes .now) (a .starts .now) (a .maps .now) (a .marks .now) (a .ends) (q .1) K (importT (a .offset) (srcOf (a .words .now) (a .n)) (tabOf 3) (c .before .before .before .before .before .before .before .before .before .before .before .before .before .before .before .before .before .before .wide .result)) (refs (recAt (srcOf (a .words .now) (a .n)) (tabOf 3) (c .before .before .before .before .before .before .before .before .before .before .before .before .before .before .before .before .before .before .wide .result))) (ends-in (a .words .now) (a .tags .now) (a .n) src (a .offset) 3 (c .before .before .before .before .before .before .before .before .before .before .before .before .before .before .before .before .before .before .wide .result) (omega arith) hk (a .log .now) (a .classes .now) (a .starts .now) (a .maps .now) (a .marks .now) (a .ends) (q .1) K (c .before .before .before .before .before .before .before .before .before .before .before .before .before .before .before .before .if1 .left) (c .before .before .before .before .before .before .before .before .before .before .before .before .before .before .before .record-at .result) (c .before .before .before .before .before .before .before .before .before .before .before .before .before .before .record-end .result) (c .before .before .before .before .before .before .before .before .before .before .before .before .before .before .before .record-at .ensures) (c .before .before .before .before .before .before .before .before .before .before .before .before .before .before .record-end .ensures)) (c .before .before .before .before .before .before .before .before .before .before .before .before .before .before .before .record-at .result) (c .before .before .before .before .before .before .before .before .before .before .before .before .before .before .record-end .result) (c .before .before .before .before .before .before .before .before .before .before .before .before .before .before .before .record-at .ensures) (c .before .before .before .before .before .before .before .before .before .before .before .before .before .before .record-end .ensures) (l .log) (l .classes) (l .starts) (l .maps) (l .marks) (l .e) (l .i) (l .inv) (c .before .before .before .before .before .before .before .before .before .before .before .before .loop-test .taken) 1 (sym (c .before .before .before .before .before .if4 .taken) ∙ c .before .before .before .before .before .before .before .before .before .refers-to .ensures .0) (omega arith) (c .before .before .before .before .before .before .before .before .before .refers-to .result .number) (c .before .before .before .before .before .before .before .before .before .refers-to .ensures .1), l .inv .going), (ks, l .inv .kept)))
+import-pipeline-override-import-type-requires t c κs = let a = (c .before .before .before .before .before .before .before .before .before .before .before .before .before .before .before .before .before .before .before .args) in let p = c .before .before .before .before .before .before .before .before .before .before .before .before .before .before .before .before .before .before .before .pre .1 in let src = p .0 in let q = p .1 .0 in let ks = p .1 .1 .0 in let K = p .1 .1 .1 in let hk : c .before .before .before .before .before .before .before .before .before .before .before .before .before .before .before .before .before .before .wide .result < countAt 3 (a .words .now) = rw (c .before .before .before .before .before .before .before .before .before .before .before .before .before .before .before .before .before .before .wide .ensures .0) (q .0) in let l = (c .before .before .before .before .before .before .before .before .before .before .before .before .before .loop) in (src, ((turn-number (a .words .now) (a .tags .now) (a .n) src (a .offset) 3 (c .before .before .before .before .before .before .before .before .before .before .before .before .before .before .before .before .before .before .wide .result) (omega arith) hk (a .log .now) (a .logtags .now) (a .starts .now) (a .maps .now) (a .buckets .now) (a .ends) (q .1) K (importT (a .offset) (srcOf (a .words .now) (a .n)) (tabOf 3) (c .before .before .before .before .before .before .before .before .before .before .before .before .before .before .before .before .before .before .wide .result)) (refs (recAt (srcOf (a .words .now) (a .n)) (tabOf 3) (c .before .before .before .before .before .before .before .before .before .before .before .before .before .before .before .before .before .before .wide .result))) (ends-in (a .words .now) (a .tags .now) (a .n) src (a .offset) 3 (c .before .before .before .before .before .before .before .before .before .before .before .before .before .before .before .before .before .before .wide .result) (omega arith) hk (a .log .now) (a .logtags .now) (a .starts .now) (a .maps .now) (a .buckets .now) (a .ends) (q .1) K (c .before .before .before .before .before .before .before .before .before .before .before .before .before .before .before .before .if1 .left) (c .before .before .before .before .before .before .before .before .before .before .before .before .before .before .before .record-at .result) (c .before .before .before .before .before .before .before .before .before .before .before .before .before .before .record-end .result) (c .before .before .before .before .before .before .before .before .before .before .before .before .before .before .before .record-at .ensures) (c .before .before .before .before .before .before .before .before .before .before .before .before .before .before .record-end .ensures)) (c .before .before .before .before .before .before .before .before .before .before .before .before .before .before .before .record-at .result) (c .before .before .before .before .before .before .before .before .before .before .before .before .before .before .record-end .result) (c .before .before .before .before .before .before .before .before .before .before .before .before .before .before .before .record-at .ensures) (c .before .before .before .before .before .before .before .before .before .before .before .before .before .before .record-end .ensures) (l .log) (l .logtags) (l .starts) (l .maps) (l .buckets) (l .e) (l .i) (l .inv) (c .before .before .before .before .before .before .before .before .before .before .before .before .loop-test .taken) 1 (sym (c .before .before .before .before .before .if4 .taken) ∙ c .before .before .before .before .before .before .before .before .before .refers-to .ensures .0) (omega arith) (c .before .before .before .before .before .before .before .before .before .refers-to .result .number) (c .before .before .before .before .before .before .before .before .before .refers-to .ensures .1), l .inv .going), (ks, l .inv .kept)))
 
--- src/lib.rt:502:17
 import-pipeline-override-returns-3 : (t : ℕ) → import-pipeline-override-lts.Need-returns-3 (
   wide-reads.Asked,
   wide-reads.Learnt,
@@ -2169,17 +2088,16 @@ import-pipeline-override-returns-3 : (t : ℕ) → import-pipeline-override-lts.
   import-type-reads.Learnt,
   import-global-expression-below t,
   import-global-expression.Post,
-  settle-reads.Asked,
-  settle-reads.Learnt,
+  intern-reads.Asked,
+  intern-reads.Learnt,
 )
     (import-pipeline-override-at t)
     import-pipeline-override.Post
     import-pipeline-override-Inv-loop
     import-pipeline-override-μ-loop
 unfolding tabOf
-import-pipeline-override-returns-3 t c = let a = (c .before .before .before .before .before .before .before .before .before .before .before .before .before .before .before .before .before .before .before .before .before .args) in let p = c .before .before .before .before .before .before .before .before .before .before .before .before .before .before .before .before .before .before .before .before .before .pre .1 in let src = p .0 in let q = p .1 .0 in let ks = p .1 .1 .0 in let K = p .1 .1 .1 in let hk : c .before .before .before .before .before .before .before .before .before .before .before .before .before .before .before .before .before .before .before .before .wide .result < countAt 3 (a .words .now) = rw (c .before .before .before .before .before .before .before .before .before .before .before .before .before .before .before .before .before .before .before .before .wide .ensures .0) (q .0) in let l = (c .before .before .before .before .before .before .before .before .before .before .before .before .before .before .before .loop) in lands-at (a .offset) (srcOf (a .words .now) (a .n)) overrides (c .before .before .before .before .before .before .before .before .before .before .before .before .before .before .before .before .before .before .before .before .wide .result) (a .h .0) (c .before .before .before .before .before .before .before .before .before .before .before .before .before .before .before .before .before .before .before .before .wide .ensures .0) (turn-full (a .words .now) (a .tags .now) (a .n) src (a .offset) 3 (c .before .before .before .before .before .before .before .before .before .before .before .before .before .before .before .before .before .before .before .before .wide .result) (omega arith) hk (a .log .now) (a .classes .now) (a .starts .now) (a .maps .now) (a .marks .now) (a .ends) (q .1) K (importT (a .offset) (srcOf (a .words .now) (a .n)) (tabOf 3) (c .before .before .before .before .before .before .before .before .before .before .before .before .before .before .before .before .before .before .before .before .wide .result)) (refs (recAt (srcOf (a .words .now) (a .n)) (tabOf 3) (c .before .before .before .before .before .before .before .before .before .before .before .before .before .before .before .before .before .before .before .before .wide .result))) (ends-in (a .words .now) (a .tags .now) (a .n) src (a .offset) 3 (c .before .before .before .before .before .before .before .before .before .before .before .before .before .before .before .before .before .before .before .before .wide .result) (omega arith) hk (a .log .now) (a .classes .now) (a .starts .now) (a .maps .now) (a .marks .now) (a .ends) (q .1) K (c .before .before .before .before .before .before .before .before .before .before .before .before .before .before .before .before .before .before .if1 .left) (c .before .before .before .before .before .before .before .before .before .before .before .before .before .before .before .before .before .record-at .result) (c .before .before .before .before .before .before .before .before .before .before .before .before .before .before .before .before .record-end .result) (c .before .before .before .before .before .before .before .before .before .before .before .before .before .before .before .before .before .record-at .ensures) (c .before .before .before .before .before .before .before .before .before .before .before .before .before .before .before .before .record-end .ensures)) (c .before .before .before .before .before .before .before .before .before .before .before .before .before .before .before .before .before .record-at .result) (c .before .before .before .before .before .before .before .before .before .before .before .before .before .before .before .before .record-end .result) (c .before .before .before .before .before .before .before .before .before .before .before .before .before .before .before .before .before .record-at .ensures) (c .before .before .before .before .before .before .before .before .before .before .before .before .before .before .before .before .record-end .ensures) (l .log) (l .classes) (l .starts) (l .maps) (l .marks) (l .e) (l .i) (l .inv) (c .before .before .before .before .before .before .before .before .before .before .before .before .before .before .loop-test .taken) 1 (sym (c .before .before .before .before .before .before .before .if4 .taken) ∙ c .before .before .before .before .before .before .before .before .before .before .before .refers-to .ensures .0) (omega arith) (c .before .before .before .before .before .before .before .before .before .before .before .refers-to .result .number) (c .before .before .before .before .before .before .before .before .before .before .before .refers-to .ensures .1) _ _ _ _ _ _ (c .before .import-type .ensures) (c .if5 .taken))
+import-pipeline-override-returns-3 t c = let a = (c .before .before .before .before .before .before .before .before .before .before .before .before .before .before .before .before .before .before .before .before .before .args) in let p = c .before .before .before .before .before .before .before .before .before .before .before .before .before .before .before .before .before .before .before .before .before .pre .1 in let src = p .0 in let q = p .1 .0 in let ks = p .1 .1 .0 in let K = p .1 .1 .1 in let hk : c .before .before .before .before .before .before .before .before .before .before .before .before .before .before .before .before .before .before .before .before .wide .result < countAt 3 (a .words .now) = rw (c .before .before .before .before .before .before .before .before .before .before .before .before .before .before .before .before .before .before .before .before .wide .ensures .0) (q .0) in let l = (c .before .before .before .before .before .before .before .before .before .before .before .before .before .before .before .loop) in lands-at (a .offset) (srcOf (a .words .now) (a .n)) overrides (c .before .before .before .before .before .before .before .before .before .before .before .before .before .before .before .before .before .before .before .before .wide .result) (a .h .0) (c .before .before .before .before .before .before .before .before .before .before .before .before .before .before .before .before .before .before .before .before .wide .ensures .0) (turn-full (a .words .now) (a .tags .now) (a .n) src (a .offset) 3 (c .before .before .before .before .before .before .before .before .before .before .before .before .before .before .before .before .before .before .before .before .wide .result) (omega arith) hk (a .log .now) (a .logtags .now) (a .starts .now) (a .maps .now) (a .buckets .now) (a .ends) (q .1) K (importT (a .offset) (srcOf (a .words .now) (a .n)) (tabOf 3) (c .before .before .before .before .before .before .before .before .before .before .before .before .before .before .before .before .before .before .before .before .wide .result)) (refs (recAt (srcOf (a .words .now) (a .n)) (tabOf 3) (c .before .before .before .before .before .before .before .before .before .before .before .before .before .before .before .before .before .before .before .before .wide .result))) (ends-in (a .words .now) (a .tags .now) (a .n) src (a .offset) 3 (c .before .before .before .before .before .before .before .before .before .before .before .before .before .before .before .before .before .before .before .before .wide .result) (omega arith) hk (a .log .now) (a .logtags .now) (a .starts .now) (a .maps .now) (a .buckets .now) (a .ends) (q .1) K (c .before .before .before .before .before .before .before .before .before .before .before .before .before .before .before .before .before .before .if1 .left) (c .before .before .before .before .before .before .before .before .before .before .before .before .before .before .before .before .before .record-at .result) (c .before .before .before .before .before .before .before .before .before .before .before .before .before .before .before .before .record-end .result) (c .before .before .before .before .before .before .before .before .before .before .before .before .before .before .before .before .before .record-at .ensures) (c .before .before .before .before .before .before .before .before .before .before .before .before .before .before .before .before .record-end .ensures)) (c .before .before .before .before .before .before .before .before .before .before .before .before .before .before .before .before .before .record-at .result) (c .before .before .before .before .before .before .before .before .before .before .before .before .before .before .before .before .record-end .result) (c .before .before .before .before .before .before .before .before .before .before .before .before .before .before .before .before .before .record-at .ensures) (c .before .before .before .before .before .before .before .before .before .before .before .before .before .before .before .before .record-end .ensures) (l .log) (l .logtags) (l .starts) (l .maps) (l .buckets) (l .e) (l .i) (l .inv) (c .before .before .before .before .before .before .before .before .before .before .before .before .before .before .loop-test .taken) 1 (sym (c .before .before .before .before .before .before .before .if4 .taken) ∙ c .before .before .before .before .before .before .before .before .before .before .before .refers-to .ensures .0) (omega arith) (c .before .before .before .before .before .before .before .before .before .before .before .refers-to .result .number) (c .before .before .before .before .before .before .before .before .before .before .before .refers-to .ensures .1) _ _ _ _ _ _ (c .before .import-type .ensures) (c .if5 .taken))
 
--- src/lib.rt:464:5
 import-pipeline-override-loop-less-2 : (t : ℕ) → import-pipeline-override-lts.Need-loop-less-2 (
   wide-reads.Asked,
   wide-reads.Learnt,
@@ -2195,8 +2113,8 @@ import-pipeline-override-loop-less-2 : (t : ℕ) → import-pipeline-override-lt
   import-type-reads.Learnt,
   import-global-expression-below t,
   import-global-expression.Post,
-  settle-reads.Asked,
-  settle-reads.Learnt,
+  intern-reads.Asked,
+  intern-reads.Learnt,
 )
     (import-pipeline-override-at t)
     import-pipeline-override.Post
@@ -2205,7 +2123,6 @@ import-pipeline-override-loop-less-2 : (t : ℕ) → import-pipeline-override-lt
 unfolding tabOf
 import-pipeline-override-loop-less-2 t c = let a = (c .before .before .before .before .before .before .before .before .before .before .before .before .before .before .before .before .before .before .before .before .before .args) in let p = c .before .before .before .before .before .before .before .before .before .before .before .before .before .before .before .before .before .before .before .before .before .pre .1 in let src = p .0 in let q = p .1 .0 in let ks = p .1 .1 .0 in let K = p .1 .1 .1 in let hk : c .before .before .before .before .before .before .before .before .before .before .before .before .before .before .before .before .before .before .before .before .wide .result < countAt 3 (a .words .now) = rw (c .before .before .before .before .before .before .before .before .before .before .before .before .before .before .before .before .before .before .before .before .wide .ensures .0) (q .0) in let l = (c .before .before .before .before .before .before .before .before .before .before .before .before .before .before .before .loop) in let z = c .before .before .before .before .before .before .before .before .before .before .before .before .before .before .loop-test .taken in omega arith
 
--- src/lib.rt:464:5
 import-pipeline-override-loop-again-2 : (t : ℕ) → import-pipeline-override-lts.Need-loop-again-2 (
   wide-reads.Asked,
   wide-reads.Learnt,
@@ -2221,17 +2138,16 @@ import-pipeline-override-loop-again-2 : (t : ℕ) → import-pipeline-override-l
   import-type-reads.Learnt,
   import-global-expression-below t,
   import-global-expression.Post,
-  settle-reads.Asked,
-  settle-reads.Learnt,
+  intern-reads.Asked,
+  intern-reads.Learnt,
 )
     (import-pipeline-override-at t)
     import-pipeline-override.Post
     import-pipeline-override-Inv-loop
     import-pipeline-override-μ-loop
 unfolding tabOf
-import-pipeline-override-loop-again-2 t c = let a = (c .before .before .before .before .before .before .before .before .before .before .before .before .before .before .before .before .before .before .before .before .before .args) in let p = c .before .before .before .before .before .before .before .before .before .before .before .before .before .before .before .before .before .before .before .before .before .pre .1 in let src = p .0 in let q = p .1 .0 in let ks = p .1 .1 .0 in let K = p .1 .1 .1 in let hk : c .before .before .before .before .before .before .before .before .before .before .before .before .before .before .before .before .before .before .before .before .wide .result < countAt 3 (a .words .now) = rw (c .before .before .before .before .before .before .before .before .before .before .before .before .before .before .before .before .before .before .before .before .wide .ensures .0) (q .0) in let l = (c .before .before .before .before .before .before .before .before .before .before .before .before .before .before .before .loop) in turn-next (a .words .now) (a .tags .now) (a .n) src (a .offset) 3 (c .before .before .before .before .before .before .before .before .before .before .before .before .before .before .before .before .before .before .before .before .wide .result) (omega arith) hk (a .log .now) (a .classes .now) (a .starts .now) (a .maps .now) (a .marks .now) (a .ends) (q .1) K (importT (a .offset) (srcOf (a .words .now) (a .n)) (tabOf 3) (c .before .before .before .before .before .before .before .before .before .before .before .before .before .before .before .before .before .before .before .before .wide .result)) (refs (recAt (srcOf (a .words .now) (a .n)) (tabOf 3) (c .before .before .before .before .before .before .before .before .before .before .before .before .before .before .before .before .before .before .before .before .wide .result))) (ends-in (a .words .now) (a .tags .now) (a .n) src (a .offset) 3 (c .before .before .before .before .before .before .before .before .before .before .before .before .before .before .before .before .before .before .before .before .wide .result) (omega arith) hk (a .log .now) (a .classes .now) (a .starts .now) (a .maps .now) (a .marks .now) (a .ends) (q .1) K (c .before .before .before .before .before .before .before .before .before .before .before .before .before .before .before .before .before .before .if1 .left) (c .before .before .before .before .before .before .before .before .before .before .before .before .before .before .before .before .before .record-at .result) (c .before .before .before .before .before .before .before .before .before .before .before .before .before .before .before .before .record-end .result) (c .before .before .before .before .before .before .before .before .before .before .before .before .before .before .before .before .before .record-at .ensures) (c .before .before .before .before .before .before .before .before .before .before .before .before .before .before .before .before .record-end .ensures)) (c .before .before .before .before .before .before .before .before .before .before .before .before .before .before .before .before .before .record-at .result) (c .before .before .before .before .before .before .before .before .before .before .before .before .before .before .before .before .record-end .result) (c .before .before .before .before .before .before .before .before .before .before .before .before .before .before .before .before .before .record-at .ensures) (c .before .before .before .before .before .before .before .before .before .before .before .before .before .before .before .before .record-end .ensures) (l .log) (l .classes) (l .starts) (l .maps) (l .marks) (l .e) (l .i) (l .inv) (c .before .before .before .before .before .before .before .before .before .before .before .before .before .before .loop-test .taken) 1 (sym (c .before .before .before .before .before .before .before .if4 .taken) ∙ c .before .before .before .before .before .before .before .before .before .before .before .refers-to .ensures .0) (omega arith) (c .before .before .before .before .before .before .before .before .before .before .before .refers-to .result .number) (c .before .before .before .before .before .before .before .before .before .before .before .refers-to .ensures .1) _ _ _ _ _ _ (c .before .import-type .ensures) (c .if5 .left)
+import-pipeline-override-loop-again-2 t c = let a = (c .before .before .before .before .before .before .before .before .before .before .before .before .before .before .before .before .before .before .before .before .before .args) in let p = c .before .before .before .before .before .before .before .before .before .before .before .before .before .before .before .before .before .before .before .before .before .pre .1 in let src = p .0 in let q = p .1 .0 in let ks = p .1 .1 .0 in let K = p .1 .1 .1 in let hk : c .before .before .before .before .before .before .before .before .before .before .before .before .before .before .before .before .before .before .before .before .wide .result < countAt 3 (a .words .now) = rw (c .before .before .before .before .before .before .before .before .before .before .before .before .before .before .before .before .before .before .before .before .wide .ensures .0) (q .0) in let l = (c .before .before .before .before .before .before .before .before .before .before .before .before .before .before .before .loop) in turn-next (a .words .now) (a .tags .now) (a .n) src (a .offset) 3 (c .before .before .before .before .before .before .before .before .before .before .before .before .before .before .before .before .before .before .before .before .wide .result) (omega arith) hk (a .log .now) (a .logtags .now) (a .starts .now) (a .maps .now) (a .buckets .now) (a .ends) (q .1) K (importT (a .offset) (srcOf (a .words .now) (a .n)) (tabOf 3) (c .before .before .before .before .before .before .before .before .before .before .before .before .before .before .before .before .before .before .before .before .wide .result)) (refs (recAt (srcOf (a .words .now) (a .n)) (tabOf 3) (c .before .before .before .before .before .before .before .before .before .before .before .before .before .before .before .before .before .before .before .before .wide .result))) (ends-in (a .words .now) (a .tags .now) (a .n) src (a .offset) 3 (c .before .before .before .before .before .before .before .before .before .before .before .before .before .before .before .before .before .before .before .before .wide .result) (omega arith) hk (a .log .now) (a .logtags .now) (a .starts .now) (a .maps .now) (a .buckets .now) (a .ends) (q .1) K (c .before .before .before .before .before .before .before .before .before .before .before .before .before .before .before .before .before .before .if1 .left) (c .before .before .before .before .before .before .before .before .before .before .before .before .before .before .before .before .before .record-at .result) (c .before .before .before .before .before .before .before .before .before .before .before .before .before .before .before .before .record-end .result) (c .before .before .before .before .before .before .before .before .before .before .before .before .before .before .before .before .before .record-at .ensures) (c .before .before .before .before .before .before .before .before .before .before .before .before .before .before .before .before .record-end .ensures)) (c .before .before .before .before .before .before .before .before .before .before .before .before .before .before .before .before .before .record-at .result) (c .before .before .before .before .before .before .before .before .before .before .before .before .before .before .before .before .record-end .result) (c .before .before .before .before .before .before .before .before .before .before .before .before .before .before .before .before .before .record-at .ensures) (c .before .before .before .before .before .before .before .before .before .before .before .before .before .before .before .before .record-end .ensures) (l .log) (l .logtags) (l .starts) (l .maps) (l .buckets) (l .e) (l .i) (l .inv) (c .before .before .before .before .before .before .before .before .before .before .before .before .before .before .loop-test .taken) 1 (sym (c .before .before .before .before .before .before .before .if4 .taken) ∙ c .before .before .before .before .before .before .before .before .before .before .before .refers-to .ensures .0) (omega arith) (c .before .before .before .before .before .before .before .before .before .before .before .refers-to .result .number) (c .before .before .before .before .before .before .before .before .before .before .before .refers-to .ensures .1) _ _ _ _ _ _ (c .before .import-type .ensures) (c .if5 .left)
 
--- src/lib.rt:505:13
 import-pipeline-override-import-global-expression-requires :
     (t : ℕ) → import-pipeline-override-lts.Need-import-global-expression-requires (
       wide-reads.Asked,
@@ -2248,17 +2164,16 @@ import-pipeline-override-import-global-expression-requires :
       import-type-reads.Learnt,
       import-global-expression-below t,
       import-global-expression.Post,
-      settle-reads.Asked,
-      settle-reads.Learnt,
+      intern-reads.Asked,
+      intern-reads.Learnt,
     )
     (import-pipeline-override-at t)
     import-pipeline-override.Post
     import-pipeline-override-Inv-loop
     import-pipeline-override-μ-loop
 unfolding tabOf
-import-pipeline-override-import-global-expression-requires t c κs = let a = (c .before .before .before .before .before .before .before .before .before .before .before .before .before .before .before .before .before .before .before .before .before .args) in let p = c .before .before .before .before .before .before .before .before .before .before .before .before .before .before .before .before .before .before .before .before .before .pre .1 in let src = p .0 in let q = p .1 .0 in let ks = p .1 .1 .0 in let K = p .1 .1 .1 in let hk : c .before .before .before .before .before .before .before .before .before .before .before .before .before .before .before .before .before .before .before .before .wide .result < countAt 3 (a .words .now) = rw (c .before .before .before .before .before .before .before .before .before .before .before .before .before .before .before .before .before .before .before .before .wide .ensures .0) (q .0) in let l = (c .before .before .before .before .before .before .before .before .before .before .before .before .before .before .before .loop) in let g = turn-falls (a .words .now) (a .tags .now) (a .n) src (a .offset) 3 (c .before .before .before .before .before .before .before .before .before .before .before .before .before .before .before .before .before .before .before .before .wide .result) (omega arith) hk (a .log .now) (a .classes .now) (a .starts .now) (a .maps .now) (a .marks .now) (a .ends) (q .1) K (importT (a .offset) (srcOf (a .words .now) (a .n)) (tabOf 3) (c .before .before .before .before .before .before .before .before .before .before .before .before .before .before .before .before .before .before .before .before .wide .result)) (refs (recAt (srcOf (a .words .now) (a .n)) (tabOf 3) (c .before .before .before .before .before .before .before .before .before .before .before .before .before .before .before .before .before .before .before .before .wide .result))) (ends-in (a .words .now) (a .tags .now) (a .n) src (a .offset) 3 (c .before .before .before .before .before .before .before .before .before .before .before .before .before .before .before .before .before .before .before .before .wide .result) (omega arith) hk (a .log .now) (a .classes .now) (a .starts .now) (a .maps .now) (a .marks .now) (a .ends) (q .1) K (c .before .before .before .before .before .before .before .before .before .before .before .before .before .before .before .before .before .before .if1 .left) (c .before .before .before .before .before .before .before .before .before .before .before .before .before .before .before .before .before .record-at .result) (c .before .before .before .before .before .before .before .before .before .before .before .before .before .before .before .before .record-end .result) (c .before .before .before .before .before .before .before .before .before .before .before .before .before .before .before .before .before .record-at .ensures) (c .before .before .before .before .before .before .before .before .before .before .before .before .before .before .before .before .record-end .ensures)) (c .before .before .before .before .before .before .before .before .before .before .before .before .before .before .before .before .before .record-at .result) (c .before .before .before .before .before .before .before .before .before .before .before .before .before .before .before .before .record-end .result) (c .before .before .before .before .before .before .before .before .before .before .before .before .before .before .before .before .before .record-at .ensures) (c .before .before .before .before .before .before .before .before .before .before .before .before .before .before .before .before .record-end .ensures) (l .log) (l .classes) (l .starts) (l .maps) (l .marks) (l .e) (l .i) (l .inv) (c .before .before .before .before .before .before .before .before .before .before .before .before .before .before .loop-test .taken) 5 (sym (c .before .before .before .before .before .if6 .taken) ∙ c .before .before .before .before .before .before .before .before .before .before .before .refers-to .ensures .0) (omega arith) (c .before .before .before .before .before .before .before .before .before .before .before .refers-to .result .number) (c .before .before .before .before .before .before .before .before .before .before .before .refers-to .ensures .1) in let z = c .before .before .before .before .before .before .before .before .before .before .before .before .before .before .before .before .before .before .before .before .before .pre .0 in (rw z at (rw (c .before .before .before .before .before .before .before .before .before .before .before .before .before .before .before .before .before .before .before .before .wide .ensures .0) at g), (src, ((turn-number (a .words .now) (a .tags .now) (a .n) src (a .offset) 3 (c .before .before .before .before .before .before .before .before .before .before .before .before .before .before .before .before .before .before .before .before .wide .result) (omega arith) hk (a .log .now) (a .classes .now) (a .starts .now) (a .maps .now) (a .marks .now) (a .ends) (q .1) K (importT (a .offset) (srcOf (a .words .now) (a .n)) (tabOf 3) (c .before .before .before .before .before .before .before .before .before .before .before .before .before .before .before .before .before .before .before .before .wide .result)) (refs (recAt (srcOf (a .words .now) (a .n)) (tabOf 3) (c .before .before .before .before .before .before .before .before .before .before .before .before .before .before .before .before .before .before .before .before .wide .result))) (ends-in (a .words .now) (a .tags .now) (a .n) src (a .offset) 3 (c .before .before .before .before .before .before .before .before .before .before .before .before .before .before .before .before .before .before .before .before .wide .result) (omega arith) hk (a .log .now) (a .classes .now) (a .starts .now) (a .maps .now) (a .marks .now) (a .ends) (q .1) K (c .before .before .before .before .before .before .before .before .before .before .before .before .before .before .before .before .before .before .if1 .left) (c .before .before .before .before .before .before .before .before .before .before .before .before .before .before .before .before .before .record-at .result) (c .before .before .before .before .before .before .before .before .before .before .before .before .before .before .before .before .record-end .result) (c .before .before .before .before .before .before .before .before .before .before .before .before .before .before .before .before .before .record-at .ensures) (c .before .before .before .before .before .before .before .before .before .before .before .before .before .before .before .before .record-end .ensures)) (c .before .before .before .before .before .before .before .before .before .before .before .before .before .before .before .before .before .record-at .result) (c .before .before .before .before .before .before .before .before .before .before .before .before .before .before .before .before .record-end .result) (c .before .before .before .before .before .before .before .before .before .before .before .before .before .before .before .before .before .record-at .ensures) (c .before .before .before .before .before .before .before .before .before .before .before .before .before .before .before .before .record-end .ensures) (l .log) (l .classes) (l .starts) (l .maps) (l .marks) (l .e) (l .i) (l .inv) (c .before .before .before .before .before .before .before .before .before .before .before .before .before .before .loop-test .taken) 5 (sym (c .before .before .before .before .before .if6 .taken) ∙ c .before .before .before .before .before .before .before .before .before .before .before .refers-to .ensures .0) (omega arith) (c .before .before .before .before .before .before .before .before .before .before .before .refers-to .result .number) (c .before .before .before .before .before .before .before .before .before .before .before .refers-to .ensures .1), l .inv .going), (ks, l .inv .kept))))
+import-pipeline-override-import-global-expression-requires t c κs = let a = (c .before .before .before .before .before .before .before .before .before .before .before .before .before .before .before .before .before .before .before .before .before .args) in let p = c .before .before .before .before .before .before .before .before .before .before .before .before .before .before .before .before .before .before .before .before .before .pre .1 in let src = p .0 in let q = p .1 .0 in let ks = p .1 .1 .0 in let K = p .1 .1 .1 in let hk : c .before .before .before .before .before .before .before .before .before .before .before .before .before .before .before .before .before .before .before .before .wide .result < countAt 3 (a .words .now) = rw (c .before .before .before .before .before .before .before .before .before .before .before .before .before .before .before .before .before .before .before .before .wide .ensures .0) (q .0) in let l = (c .before .before .before .before .before .before .before .before .before .before .before .before .before .before .before .loop) in let g = turn-falls (a .words .now) (a .tags .now) (a .n) src (a .offset) 3 (c .before .before .before .before .before .before .before .before .before .before .before .before .before .before .before .before .before .before .before .before .wide .result) (omega arith) hk (a .log .now) (a .logtags .now) (a .starts .now) (a .maps .now) (a .buckets .now) (a .ends) (q .1) K (importT (a .offset) (srcOf (a .words .now) (a .n)) (tabOf 3) (c .before .before .before .before .before .before .before .before .before .before .before .before .before .before .before .before .before .before .before .before .wide .result)) (refs (recAt (srcOf (a .words .now) (a .n)) (tabOf 3) (c .before .before .before .before .before .before .before .before .before .before .before .before .before .before .before .before .before .before .before .before .wide .result))) (ends-in (a .words .now) (a .tags .now) (a .n) src (a .offset) 3 (c .before .before .before .before .before .before .before .before .before .before .before .before .before .before .before .before .before .before .before .before .wide .result) (omega arith) hk (a .log .now) (a .logtags .now) (a .starts .now) (a .maps .now) (a .buckets .now) (a .ends) (q .1) K (c .before .before .before .before .before .before .before .before .before .before .before .before .before .before .before .before .before .before .if1 .left) (c .before .before .before .before .before .before .before .before .before .before .before .before .before .before .before .before .before .record-at .result) (c .before .before .before .before .before .before .before .before .before .before .before .before .before .before .before .before .record-end .result) (c .before .before .before .before .before .before .before .before .before .before .before .before .before .before .before .before .before .record-at .ensures) (c .before .before .before .before .before .before .before .before .before .before .before .before .before .before .before .before .record-end .ensures)) (c .before .before .before .before .before .before .before .before .before .before .before .before .before .before .before .before .before .record-at .result) (c .before .before .before .before .before .before .before .before .before .before .before .before .before .before .before .before .record-end .result) (c .before .before .before .before .before .before .before .before .before .before .before .before .before .before .before .before .before .record-at .ensures) (c .before .before .before .before .before .before .before .before .before .before .before .before .before .before .before .before .record-end .ensures) (l .log) (l .logtags) (l .starts) (l .maps) (l .buckets) (l .e) (l .i) (l .inv) (c .before .before .before .before .before .before .before .before .before .before .before .before .before .before .loop-test .taken) 5 (sym (c .before .before .before .before .before .if6 .taken) ∙ c .before .before .before .before .before .before .before .before .before .before .before .refers-to .ensures .0) (omega arith) (c .before .before .before .before .before .before .before .before .before .before .before .refers-to .result .number) (c .before .before .before .before .before .before .before .before .before .before .before .refers-to .ensures .1) in let z = c .before .before .before .before .before .before .before .before .before .before .before .before .before .before .before .before .before .before .before .before .before .pre .0 in (rw z at (rw (c .before .before .before .before .before .before .before .before .before .before .before .before .before .before .before .before .before .before .before .before .wide .ensures .0) at g), (src, ((turn-number (a .words .now) (a .tags .now) (a .n) src (a .offset) 3 (c .before .before .before .before .before .before .before .before .before .before .before .before .before .before .before .before .before .before .before .before .wide .result) (omega arith) hk (a .log .now) (a .logtags .now) (a .starts .now) (a .maps .now) (a .buckets .now) (a .ends) (q .1) K (importT (a .offset) (srcOf (a .words .now) (a .n)) (tabOf 3) (c .before .before .before .before .before .before .before .before .before .before .before .before .before .before .before .before .before .before .before .before .wide .result)) (refs (recAt (srcOf (a .words .now) (a .n)) (tabOf 3) (c .before .before .before .before .before .before .before .before .before .before .before .before .before .before .before .before .before .before .before .before .wide .result))) (ends-in (a .words .now) (a .tags .now) (a .n) src (a .offset) 3 (c .before .before .before .before .before .before .before .before .before .before .before .before .before .before .before .before .before .before .before .before .wide .result) (omega arith) hk (a .log .now) (a .logtags .now) (a .starts .now) (a .maps .now) (a .buckets .now) (a .ends) (q .1) K (c .before .before .before .before .before .before .before .before .before .before .before .before .before .before .before .before .before .before .if1 .left) (c .before .before .before .before .before .before .before .before .before .before .before .before .before .before .before .before .before .record-at .result) (c .before .before .before .before .before .before .before .before .before .before .before .before .before .before .before .before .record-end .result) (c .before .before .before .before .before .before .before .before .before .before .before .before .before .before .before .before .before .record-at .ensures) (c .before .before .before .before .before .before .before .before .before .before .before .before .before .before .before .before .record-end .ensures)) (c .before .before .before .before .before .before .before .before .before .before .before .before .before .before .before .before .before .record-at .result) (c .before .before .before .before .before .before .before .before .before .before .before .before .before .before .before .before .record-end .result) (c .before .before .before .before .before .before .before .before .before .before .before .before .before .before .before .before .before .record-at .ensures) (c .before .before .before .before .before .before .before .before .before .before .before .before .before .before .before .before .record-end .ensures) (l .log) (l .logtags) (l .starts) (l .maps) (l .buckets) (l .e) (l .i) (l .inv) (c .before .before .before .before .before .before .before .before .before .before .before .before .before .before .loop-test .taken) 5 (sym (c .before .before .before .before .before .if6 .taken) ∙ c .before .before .before .before .before .before .before .before .before .before .before .refers-to .ensures .0) (omega arith) (c .before .before .before .before .before .before .before .before .before .before .before .refers-to .result .number) (c .before .before .before .before .before .before .before .before .before .before .before .refers-to .ensures .1), l .inv .going), (ks, l .inv .kept))))
 
--- src/lib.rt:520:17
 import-pipeline-override-returns-4 : (t : ℕ) → import-pipeline-override-lts.Need-returns-4 (
   wide-reads.Asked,
   wide-reads.Learnt,
@@ -2274,17 +2189,16 @@ import-pipeline-override-returns-4 : (t : ℕ) → import-pipeline-override-lts.
   import-type-reads.Learnt,
   import-global-expression-below t,
   import-global-expression.Post,
-  settle-reads.Asked,
-  settle-reads.Learnt,
+  intern-reads.Asked,
+  intern-reads.Learnt,
 )
     (import-pipeline-override-at t)
     import-pipeline-override.Post
     import-pipeline-override-Inv-loop
     import-pipeline-override-μ-loop
 unfolding tabOf
-import-pipeline-override-returns-4 t c = let a = (c .before .before .before .before .before .before .before .before .before .before .before .before .before .before .before .before .before .before .before .before .before .before .before .args) in let p = c .before .before .before .before .before .before .before .before .before .before .before .before .before .before .before .before .before .before .before .before .before .before .before .pre .1 in let src = p .0 in let q = p .1 .0 in let ks = p .1 .1 .0 in let K = p .1 .1 .1 in let hk : c .before .before .before .before .before .before .before .before .before .before .before .before .before .before .before .before .before .before .before .before .before .before .wide .result < countAt 3 (a .words .now) = rw (c .before .before .before .before .before .before .before .before .before .before .before .before .before .before .before .before .before .before .before .before .before .before .wide .ensures .0) (q .0) in let l = (c .before .before .before .before .before .before .before .before .before .before .before .before .before .before .before .before .before .loop) in lands-at (a .offset) (srcOf (a .words .now) (a .n)) overrides (c .before .before .before .before .before .before .before .before .before .before .before .before .before .before .before .before .before .before .before .before .before .before .wide .result) (a .h .0) (c .before .before .before .before .before .before .before .before .before .before .before .before .before .before .before .before .before .before .before .before .before .before .wide .ensures .0) (turn-full (a .words .now) (a .tags .now) (a .n) src (a .offset) 3 (c .before .before .before .before .before .before .before .before .before .before .before .before .before .before .before .before .before .before .before .before .before .before .wide .result) (omega arith) hk (a .log .now) (a .classes .now) (a .starts .now) (a .maps .now) (a .marks .now) (a .ends) (q .1) K (importT (a .offset) (srcOf (a .words .now) (a .n)) (tabOf 3) (c .before .before .before .before .before .before .before .before .before .before .before .before .before .before .before .before .before .before .before .before .before .before .wide .result)) (refs (recAt (srcOf (a .words .now) (a .n)) (tabOf 3) (c .before .before .before .before .before .before .before .before .before .before .before .before .before .before .before .before .before .before .before .before .before .before .wide .result))) (ends-in (a .words .now) (a .tags .now) (a .n) src (a .offset) 3 (c .before .before .before .before .before .before .before .before .before .before .before .before .before .before .before .before .before .before .before .before .before .before .wide .result) (omega arith) hk (a .log .now) (a .classes .now) (a .starts .now) (a .maps .now) (a .marks .now) (a .ends) (q .1) K (c .before .before .before .before .before .before .before .before .before .before .before .before .before .before .before .before .before .before .before .before .if1 .left) (c .before .before .before .before .before .before .before .before .before .before .before .before .before .before .before .before .before .before .before .record-at .result) (c .before .before .before .before .before .before .before .before .before .before .before .before .before .before .before .before .before .before .record-end .result) (c .before .before .before .before .before .before .before .before .before .before .before .before .before .before .before .before .before .before .before .record-at .ensures) (c .before .before .before .before .before .before .before .before .before .before .before .before .before .before .before .before .before .before .record-end .ensures)) (c .before .before .before .before .before .before .before .before .before .before .before .before .before .before .before .before .before .before .before .record-at .result) (c .before .before .before .before .before .before .before .before .before .before .before .before .before .before .before .before .before .before .record-end .result) (c .before .before .before .before .before .before .before .before .before .before .before .before .before .before .before .before .before .before .before .record-at .ensures) (c .before .before .before .before .before .before .before .before .before .before .before .before .before .before .before .before .before .before .record-end .ensures) (l .log) (l .classes) (l .starts) (l .maps) (l .marks) (l .e) (l .i) (l .inv) (c .before .before .before .before .before .before .before .before .before .before .before .before .before .before .before .before .loop-test .taken) 5 (sym (c .before .before .before .before .before .before .before .if6 .taken) ∙ c .before .before .before .before .before .before .before .before .before .before .before .before .before .refers-to .ensures .0) (omega arith) (c .before .before .before .before .before .before .before .before .before .before .before .before .before .refers-to .result .number) (c .before .before .before .before .before .before .before .before .before .before .before .before .before .refers-to .ensures .1) _ _ _ _ _ _ (c .before .import-global-expression .ensures) (c .if7 .taken))
+import-pipeline-override-returns-4 t c = let a = (c .before .before .before .before .before .before .before .before .before .before .before .before .before .before .before .before .before .before .before .before .before .before .before .args) in let p = c .before .before .before .before .before .before .before .before .before .before .before .before .before .before .before .before .before .before .before .before .before .before .before .pre .1 in let src = p .0 in let q = p .1 .0 in let ks = p .1 .1 .0 in let K = p .1 .1 .1 in let hk : c .before .before .before .before .before .before .before .before .before .before .before .before .before .before .before .before .before .before .before .before .before .before .wide .result < countAt 3 (a .words .now) = rw (c .before .before .before .before .before .before .before .before .before .before .before .before .before .before .before .before .before .before .before .before .before .before .wide .ensures .0) (q .0) in let l = (c .before .before .before .before .before .before .before .before .before .before .before .before .before .before .before .before .before .loop) in lands-at (a .offset) (srcOf (a .words .now) (a .n)) overrides (c .before .before .before .before .before .before .before .before .before .before .before .before .before .before .before .before .before .before .before .before .before .before .wide .result) (a .h .0) (c .before .before .before .before .before .before .before .before .before .before .before .before .before .before .before .before .before .before .before .before .before .before .wide .ensures .0) (turn-full (a .words .now) (a .tags .now) (a .n) src (a .offset) 3 (c .before .before .before .before .before .before .before .before .before .before .before .before .before .before .before .before .before .before .before .before .before .before .wide .result) (omega arith) hk (a .log .now) (a .logtags .now) (a .starts .now) (a .maps .now) (a .buckets .now) (a .ends) (q .1) K (importT (a .offset) (srcOf (a .words .now) (a .n)) (tabOf 3) (c .before .before .before .before .before .before .before .before .before .before .before .before .before .before .before .before .before .before .before .before .before .before .wide .result)) (refs (recAt (srcOf (a .words .now) (a .n)) (tabOf 3) (c .before .before .before .before .before .before .before .before .before .before .before .before .before .before .before .before .before .before .before .before .before .before .wide .result))) (ends-in (a .words .now) (a .tags .now) (a .n) src (a .offset) 3 (c .before .before .before .before .before .before .before .before .before .before .before .before .before .before .before .before .before .before .before .before .before .before .wide .result) (omega arith) hk (a .log .now) (a .logtags .now) (a .starts .now) (a .maps .now) (a .buckets .now) (a .ends) (q .1) K (c .before .before .before .before .before .before .before .before .before .before .before .before .before .before .before .before .before .before .before .before .if1 .left) (c .before .before .before .before .before .before .before .before .before .before .before .before .before .before .before .before .before .before .before .record-at .result) (c .before .before .before .before .before .before .before .before .before .before .before .before .before .before .before .before .before .before .record-end .result) (c .before .before .before .before .before .before .before .before .before .before .before .before .before .before .before .before .before .before .before .record-at .ensures) (c .before .before .before .before .before .before .before .before .before .before .before .before .before .before .before .before .before .before .record-end .ensures)) (c .before .before .before .before .before .before .before .before .before .before .before .before .before .before .before .before .before .before .before .record-at .result) (c .before .before .before .before .before .before .before .before .before .before .before .before .before .before .before .before .before .before .record-end .result) (c .before .before .before .before .before .before .before .before .before .before .before .before .before .before .before .before .before .before .before .record-at .ensures) (c .before .before .before .before .before .before .before .before .before .before .before .before .before .before .before .before .before .before .record-end .ensures) (l .log) (l .logtags) (l .starts) (l .maps) (l .buckets) (l .e) (l .i) (l .inv) (c .before .before .before .before .before .before .before .before .before .before .before .before .before .before .before .before .loop-test .taken) 5 (sym (c .before .before .before .before .before .before .before .if6 .taken) ∙ c .before .before .before .before .before .before .before .before .before .before .before .before .before .refers-to .ensures .0) (omega arith) (c .before .before .before .before .before .before .before .before .before .before .before .before .before .refers-to .result .number) (c .before .before .before .before .before .before .before .before .before .before .before .before .before .refers-to .ensures .1) _ _ _ _ _ _ (c .before .import-global-expression .ensures) (c .if7 .taken))
 
--- src/lib.rt:464:5
 import-pipeline-override-loop-less-3 : (t : ℕ) → import-pipeline-override-lts.Need-loop-less-3 (
   wide-reads.Asked,
   wide-reads.Learnt,
@@ -2300,8 +2214,8 @@ import-pipeline-override-loop-less-3 : (t : ℕ) → import-pipeline-override-lt
   import-type-reads.Learnt,
   import-global-expression-below t,
   import-global-expression.Post,
-  settle-reads.Asked,
-  settle-reads.Learnt,
+  intern-reads.Asked,
+  intern-reads.Learnt,
 )
     (import-pipeline-override-at t)
     import-pipeline-override.Post
@@ -2310,7 +2224,6 @@ import-pipeline-override-loop-less-3 : (t : ℕ) → import-pipeline-override-lt
 unfolding tabOf
 import-pipeline-override-loop-less-3 t c = let a = (c .before .before .before .before .before .before .before .before .before .before .before .before .before .before .before .before .before .before .before .before .before .before .before .args) in let p = c .before .before .before .before .before .before .before .before .before .before .before .before .before .before .before .before .before .before .before .before .before .before .before .pre .1 in let src = p .0 in let q = p .1 .0 in let ks = p .1 .1 .0 in let K = p .1 .1 .1 in let hk : c .before .before .before .before .before .before .before .before .before .before .before .before .before .before .before .before .before .before .before .before .before .before .wide .result < countAt 3 (a .words .now) = rw (c .before .before .before .before .before .before .before .before .before .before .before .before .before .before .before .before .before .before .before .before .before .before .wide .ensures .0) (q .0) in let l = (c .before .before .before .before .before .before .before .before .before .before .before .before .before .before .before .before .before .loop) in let z = c .before .before .before .before .before .before .before .before .before .before .before .before .before .before .before .before .loop-test .taken in omega arith
 
--- src/lib.rt:464:5
 import-pipeline-override-loop-again-3 : (t : ℕ) → import-pipeline-override-lts.Need-loop-again-3 (
   wide-reads.Asked,
   wide-reads.Learnt,
@@ -2326,17 +2239,16 @@ import-pipeline-override-loop-again-3 : (t : ℕ) → import-pipeline-override-l
   import-type-reads.Learnt,
   import-global-expression-below t,
   import-global-expression.Post,
-  settle-reads.Asked,
-  settle-reads.Learnt,
+  intern-reads.Asked,
+  intern-reads.Learnt,
 )
     (import-pipeline-override-at t)
     import-pipeline-override.Post
     import-pipeline-override-Inv-loop
     import-pipeline-override-μ-loop
 unfolding tabOf
-import-pipeline-override-loop-again-3 t c = let a = (c .before .before .before .before .before .before .before .before .before .before .before .before .before .before .before .before .before .before .before .before .before .before .before .args) in let p = c .before .before .before .before .before .before .before .before .before .before .before .before .before .before .before .before .before .before .before .before .before .before .before .pre .1 in let src = p .0 in let q = p .1 .0 in let ks = p .1 .1 .0 in let K = p .1 .1 .1 in let hk : c .before .before .before .before .before .before .before .before .before .before .before .before .before .before .before .before .before .before .before .before .before .before .wide .result < countAt 3 (a .words .now) = rw (c .before .before .before .before .before .before .before .before .before .before .before .before .before .before .before .before .before .before .before .before .before .before .wide .ensures .0) (q .0) in let l = (c .before .before .before .before .before .before .before .before .before .before .before .before .before .before .before .before .before .loop) in turn-next (a .words .now) (a .tags .now) (a .n) src (a .offset) 3 (c .before .before .before .before .before .before .before .before .before .before .before .before .before .before .before .before .before .before .before .before .before .before .wide .result) (omega arith) hk (a .log .now) (a .classes .now) (a .starts .now) (a .maps .now) (a .marks .now) (a .ends) (q .1) K (importT (a .offset) (srcOf (a .words .now) (a .n)) (tabOf 3) (c .before .before .before .before .before .before .before .before .before .before .before .before .before .before .before .before .before .before .before .before .before .before .wide .result)) (refs (recAt (srcOf (a .words .now) (a .n)) (tabOf 3) (c .before .before .before .before .before .before .before .before .before .before .before .before .before .before .before .before .before .before .before .before .before .before .wide .result))) (ends-in (a .words .now) (a .tags .now) (a .n) src (a .offset) 3 (c .before .before .before .before .before .before .before .before .before .before .before .before .before .before .before .before .before .before .before .before .before .before .wide .result) (omega arith) hk (a .log .now) (a .classes .now) (a .starts .now) (a .maps .now) (a .marks .now) (a .ends) (q .1) K (c .before .before .before .before .before .before .before .before .before .before .before .before .before .before .before .before .before .before .before .before .if1 .left) (c .before .before .before .before .before .before .before .before .before .before .before .before .before .before .before .before .before .before .before .record-at .result) (c .before .before .before .before .before .before .before .before .before .before .before .before .before .before .before .before .before .before .record-end .result) (c .before .before .before .before .before .before .before .before .before .before .before .before .before .before .before .before .before .before .before .record-at .ensures) (c .before .before .before .before .before .before .before .before .before .before .before .before .before .before .before .before .before .before .record-end .ensures)) (c .before .before .before .before .before .before .before .before .before .before .before .before .before .before .before .before .before .before .before .record-at .result) (c .before .before .before .before .before .before .before .before .before .before .before .before .before .before .before .before .before .before .record-end .result) (c .before .before .before .before .before .before .before .before .before .before .before .before .before .before .before .before .before .before .before .record-at .ensures) (c .before .before .before .before .before .before .before .before .before .before .before .before .before .before .before .before .before .before .record-end .ensures) (l .log) (l .classes) (l .starts) (l .maps) (l .marks) (l .e) (l .i) (l .inv) (c .before .before .before .before .before .before .before .before .before .before .before .before .before .before .before .before .loop-test .taken) 5 (sym (c .before .before .before .before .before .before .before .if6 .taken) ∙ c .before .before .before .before .before .before .before .before .before .before .before .before .before .refers-to .ensures .0) (omega arith) (c .before .before .before .before .before .before .before .before .before .before .before .before .before .refers-to .result .number) (c .before .before .before .before .before .before .before .before .before .before .before .before .before .refers-to .ensures .1) _ _ _ _ _ _ (c .before .import-global-expression .ensures) (c .if7 .left)
+import-pipeline-override-loop-again-3 t c = let a = (c .before .before .before .before .before .before .before .before .before .before .before .before .before .before .before .before .before .before .before .before .before .before .before .args) in let p = c .before .before .before .before .before .before .before .before .before .before .before .before .before .before .before .before .before .before .before .before .before .before .before .pre .1 in let src = p .0 in let q = p .1 .0 in let ks = p .1 .1 .0 in let K = p .1 .1 .1 in let hk : c .before .before .before .before .before .before .before .before .before .before .before .before .before .before .before .before .before .before .before .before .before .before .wide .result < countAt 3 (a .words .now) = rw (c .before .before .before .before .before .before .before .before .before .before .before .before .before .before .before .before .before .before .before .before .before .before .wide .ensures .0) (q .0) in let l = (c .before .before .before .before .before .before .before .before .before .before .before .before .before .before .before .before .before .loop) in turn-next (a .words .now) (a .tags .now) (a .n) src (a .offset) 3 (c .before .before .before .before .before .before .before .before .before .before .before .before .before .before .before .before .before .before .before .before .before .before .wide .result) (omega arith) hk (a .log .now) (a .logtags .now) (a .starts .now) (a .maps .now) (a .buckets .now) (a .ends) (q .1) K (importT (a .offset) (srcOf (a .words .now) (a .n)) (tabOf 3) (c .before .before .before .before .before .before .before .before .before .before .before .before .before .before .before .before .before .before .before .before .before .before .wide .result)) (refs (recAt (srcOf (a .words .now) (a .n)) (tabOf 3) (c .before .before .before .before .before .before .before .before .before .before .before .before .before .before .before .before .before .before .before .before .before .before .wide .result))) (ends-in (a .words .now) (a .tags .now) (a .n) src (a .offset) 3 (c .before .before .before .before .before .before .before .before .before .before .before .before .before .before .before .before .before .before .before .before .before .before .wide .result) (omega arith) hk (a .log .now) (a .logtags .now) (a .starts .now) (a .maps .now) (a .buckets .now) (a .ends) (q .1) K (c .before .before .before .before .before .before .before .before .before .before .before .before .before .before .before .before .before .before .before .before .if1 .left) (c .before .before .before .before .before .before .before .before .before .before .before .before .before .before .before .before .before .before .before .record-at .result) (c .before .before .before .before .before .before .before .before .before .before .before .before .before .before .before .before .before .before .record-end .result) (c .before .before .before .before .before .before .before .before .before .before .before .before .before .before .before .before .before .before .before .record-at .ensures) (c .before .before .before .before .before .before .before .before .before .before .before .before .before .before .before .before .before .before .record-end .ensures)) (c .before .before .before .before .before .before .before .before .before .before .before .before .before .before .before .before .before .before .before .record-at .result) (c .before .before .before .before .before .before .before .before .before .before .before .before .before .before .before .before .before .before .record-end .result) (c .before .before .before .before .before .before .before .before .before .before .before .before .before .before .before .before .before .before .before .record-at .ensures) (c .before .before .before .before .before .before .before .before .before .before .before .before .before .before .before .before .before .before .record-end .ensures) (l .log) (l .logtags) (l .starts) (l .maps) (l .buckets) (l .e) (l .i) (l .inv) (c .before .before .before .before .before .before .before .before .before .before .before .before .before .before .before .before .loop-test .taken) 5 (sym (c .before .before .before .before .before .before .before .if6 .taken) ∙ c .before .before .before .before .before .before .before .before .before .before .before .before .before .refers-to .ensures .0) (omega arith) (c .before .before .before .before .before .before .before .before .before .before .before .before .before .refers-to .result .number) (c .before .before .before .before .before .before .before .before .before .before .before .before .before .refers-to .ensures .1) _ _ _ _ _ _ (c .before .import-global-expression .ensures) (c .if7 .left)
 
--- src/lib.rt:464:5
 import-pipeline-override-loop-less-4 : (t : ℕ) → import-pipeline-override-lts.Need-loop-less-4 (
   wide-reads.Asked,
   wide-reads.Learnt,
@@ -2352,8 +2264,8 @@ import-pipeline-override-loop-less-4 : (t : ℕ) → import-pipeline-override-lt
   import-type-reads.Learnt,
   import-global-expression-below t,
   import-global-expression.Post,
-  settle-reads.Asked,
-  settle-reads.Learnt,
+  intern-reads.Asked,
+  intern-reads.Learnt,
 )
     (import-pipeline-override-at t)
     import-pipeline-override.Post
@@ -2362,7 +2274,6 @@ import-pipeline-override-loop-less-4 : (t : ℕ) → import-pipeline-override-lt
 unfolding tabOf
 import-pipeline-override-loop-less-4 t c = let a = (c .before .before .before .before .before .before .before .before .before .before .before .before .before .before .before .before .args) in let p = c .before .before .before .before .before .before .before .before .before .before .before .before .before .before .before .before .pre .1 in let src = p .0 in let q = p .1 .0 in let ks = p .1 .1 .0 in let K = p .1 .1 .1 in let hk : c .before .before .before .before .before .before .before .before .before .before .before .before .before .before .before .wide .result < countAt 3 (a .words .now) = rw (c .before .before .before .before .before .before .before .before .before .before .before .before .before .before .before .wide .ensures .0) (q .0) in let l = (c .before .before .before .before .before .before .before .before .before .before .loop) in let z = c .before .before .before .before .before .before .before .before .before .loop-test .taken in omega arith
 
--- src/lib.rt:464:5
 import-pipeline-override-loop-again-4 : (t : ℕ) → import-pipeline-override-lts.Need-loop-again-4 (
   wide-reads.Asked,
   wide-reads.Learnt,
@@ -2378,19 +2289,18 @@ import-pipeline-override-loop-again-4 : (t : ℕ) → import-pipeline-override-l
   import-type-reads.Learnt,
   import-global-expression-below t,
   import-global-expression.Post,
-  settle-reads.Asked,
-  settle-reads.Learnt,
+  intern-reads.Asked,
+  intern-reads.Learnt,
 )
     (import-pipeline-override-at t)
     import-pipeline-override.Post
     import-pipeline-override-Inv-loop
     import-pipeline-override-μ-loop
 unfolding tabOf
-import-pipeline-override-loop-again-4 t c = let a = (c .before .before .before .before .before .before .before .before .before .before .before .before .before .before .before .before .args) in let p = c .before .before .before .before .before .before .before .before .before .before .before .before .before .before .before .before .pre .1 in let src = p .0 in let q = p .1 .0 in let ks = p .1 .1 .0 in let K = p .1 .1 .1 in let hk : c .before .before .before .before .before .before .before .before .before .before .before .before .before .before .before .wide .result < countAt 3 (a .words .now) = rw (c .before .before .before .before .before .before .before .before .before .before .before .before .before .before .before .wide .ensures .0) (q .0) in let l = (c .before .before .before .before .before .before .before .before .before .before .loop) in turn-skip (a .words .now) (a .tags .now) (a .n) src (a .offset) 3 (c .before .before .before .before .before .before .before .before .before .before .before .before .before .before .before .wide .result) (omega arith) hk (a .log .now) (a .classes .now) (a .starts .now) (a .maps .now) (a .marks .now) (a .ends) (q .1) K (importT (a .offset) (srcOf (a .words .now) (a .n)) (tabOf 3) (c .before .before .before .before .before .before .before .before .before .before .before .before .before .before .before .wide .result)) (refs (recAt (srcOf (a .words .now) (a .n)) (tabOf 3) (c .before .before .before .before .before .before .before .before .before .before .before .before .before .before .before .wide .result))) (ends-in (a .words .now) (a .tags .now) (a .n) src (a .offset) 3 (c .before .before .before .before .before .before .before .before .before .before .before .before .before .before .before .wide .result) (omega arith) hk (a .log .now) (a .classes .now) (a .starts .now) (a .maps .now) (a .marks .now) (a .ends) (q .1) K (c .before .before .before .before .before .before .before .before .before .before .before .before .before .if1 .left) (c .before .before .before .before .before .before .before .before .before .before .before .before .record-at .result) (c .before .before .before .before .before .before .before .before .before .before .before .record-end .result) (c .before .before .before .before .before .before .before .before .before .before .before .before .record-at .ensures) (c .before .before .before .before .before .before .before .before .before .before .before .record-end .ensures)) (c .before .before .before .before .before .before .before .before .before .before .before .before .record-at .result) (c .before .before .before .before .before .before .before .before .before .before .before .record-end .result) (c .before .before .before .before .before .before .before .before .before .before .before .before .record-at .ensures) (c .before .before .before .before .before .before .before .before .before .before .before .record-end .ensures) (l .log) (l .classes) (l .starts) (l .maps) (l .marks) (l .e) (l .i) (l .inv) (c .before .before .before .before .before .before .before .before .before .loop-test .taken) (c .before .before .before .before .before .before .refers-to .result .table) (c .before .before .before .before .before .before .refers-to .ensures .0) (past-override (c .before .before .before .before .before .before .refers-to .result .table) (turn-allowed (a .words .now) (a .tags .now) (a .n) src (a .offset) 3 (c .before .before .before .before .before .before .before .before .before .before .before .before .before .before .before .wide .result) (omega arith) hk (a .log .now) (a .classes .now) (a .starts .now) (a .maps .now) (a .marks .now) (a .ends) (q .1) K (importT (a .offset) (srcOf (a .words .now) (a .n)) (tabOf 3) (c .before .before .before .before .before .before .before .before .before .before .before .before .before .before .before .wide .result)) (refs (recAt (srcOf (a .words .now) (a .n)) (tabOf 3) (c .before .before .before .before .before .before .before .before .before .before .before .before .before .before .before .wide .result))) (ends-in (a .words .now) (a .tags .now) (a .n) src (a .offset) 3 (c .before .before .before .before .before .before .before .before .before .before .before .before .before .before .before .wide .result) (omega arith) hk (a .log .now) (a .classes .now) (a .starts .now) (a .maps .now) (a .marks .now) (a .ends) (q .1) K (c .before .before .before .before .before .before .before .before .before .before .before .before .before .if1 .left) (c .before .before .before .before .before .before .before .before .before .before .before .before .record-at .result) (c .before .before .before .before .before .before .before .before .before .before .before .record-end .result) (c .before .before .before .before .before .before .before .before .before .before .before .before .record-at .ensures) (c .before .before .before .before .before .before .before .before .before .before .before .record-end .ensures)) (c .before .before .before .before .before .before .before .before .before .before .before .before .record-at .result) (c .before .before .before .before .before .before .before .before .before .before .before .record-end .result) (c .before .before .before .before .before .before .before .before .before .before .before .before .record-at .ensures) (c .before .before .before .before .before .before .before .before .before .before .before .record-end .ensures) (l .log) (l .classes) (l .starts) (l .maps) (l .marks) (l .e) (l .i) (l .inv) (c .before .before .before .before .before .before .before .before .before .loop-test .taken) (c .before .before .before .before .before .before .refers-to .result .table) (c .before .before .before .before .before .before .refers-to .ensures .0)) (c .before .before .before .before .if2 .left) (c .before .before .if4 .left) (c .if6 .left))
+import-pipeline-override-loop-again-4 t c = let a = (c .before .before .before .before .before .before .before .before .before .before .before .before .before .before .before .before .args) in let p = c .before .before .before .before .before .before .before .before .before .before .before .before .before .before .before .before .pre .1 in let src = p .0 in let q = p .1 .0 in let ks = p .1 .1 .0 in let K = p .1 .1 .1 in let hk : c .before .before .before .before .before .before .before .before .before .before .before .before .before .before .before .wide .result < countAt 3 (a .words .now) = rw (c .before .before .before .before .before .before .before .before .before .before .before .before .before .before .before .wide .ensures .0) (q .0) in let l = (c .before .before .before .before .before .before .before .before .before .before .loop) in turn-skip (a .words .now) (a .tags .now) (a .n) src (a .offset) 3 (c .before .before .before .before .before .before .before .before .before .before .before .before .before .before .before .wide .result) (omega arith) hk (a .log .now) (a .logtags .now) (a .starts .now) (a .maps .now) (a .buckets .now) (a .ends) (q .1) K (importT (a .offset) (srcOf (a .words .now) (a .n)) (tabOf 3) (c .before .before .before .before .before .before .before .before .before .before .before .before .before .before .before .wide .result)) (refs (recAt (srcOf (a .words .now) (a .n)) (tabOf 3) (c .before .before .before .before .before .before .before .before .before .before .before .before .before .before .before .wide .result))) (ends-in (a .words .now) (a .tags .now) (a .n) src (a .offset) 3 (c .before .before .before .before .before .before .before .before .before .before .before .before .before .before .before .wide .result) (omega arith) hk (a .log .now) (a .logtags .now) (a .starts .now) (a .maps .now) (a .buckets .now) (a .ends) (q .1) K (c .before .before .before .before .before .before .before .before .before .before .before .before .before .if1 .left) (c .before .before .before .before .before .before .before .before .before .before .before .before .record-at .result) (c .before .before .before .before .before .before .before .before .before .before .before .record-end .result) (c .before .before .before .before .before .before .before .before .before .before .before .before .record-at .ensures) (c .before .before .before .before .before .before .before .before .before .before .before .record-end .ensures)) (c .before .before .before .before .before .before .before .before .before .before .before .before .record-at .result) (c .before .before .before .before .before .before .before .before .before .before .before .record-end .result) (c .before .before .before .before .before .before .before .before .before .before .before .before .record-at .ensures) (c .before .before .before .before .before .before .before .before .before .before .before .record-end .ensures) (l .log) (l .logtags) (l .starts) (l .maps) (l .buckets) (l .e) (l .i) (l .inv) (c .before .before .before .before .before .before .before .before .before .loop-test .taken) (c .before .before .before .before .before .before .refers-to .result .table) (c .before .before .before .before .before .before .refers-to .ensures .0) (past-override (c .before .before .before .before .before .before .refers-to .result .table) (turn-allowed (a .words .now) (a .tags .now) (a .n) src (a .offset) 3 (c .before .before .before .before .before .before .before .before .before .before .before .before .before .before .before .wide .result) (omega arith) hk (a .log .now) (a .logtags .now) (a .starts .now) (a .maps .now) (a .buckets .now) (a .ends) (q .1) K (importT (a .offset) (srcOf (a .words .now) (a .n)) (tabOf 3) (c .before .before .before .before .before .before .before .before .before .before .before .before .before .before .before .wide .result)) (refs (recAt (srcOf (a .words .now) (a .n)) (tabOf 3) (c .before .before .before .before .before .before .before .before .before .before .before .before .before .before .before .wide .result))) (ends-in (a .words .now) (a .tags .now) (a .n) src (a .offset) 3 (c .before .before .before .before .before .before .before .before .before .before .before .before .before .before .before .wide .result) (omega arith) hk (a .log .now) (a .logtags .now) (a .starts .now) (a .maps .now) (a .buckets .now) (a .ends) (q .1) K (c .before .before .before .before .before .before .before .before .before .before .before .before .before .if1 .left) (c .before .before .before .before .before .before .before .before .before .before .before .before .record-at .result) (c .before .before .before .before .before .before .before .before .before .before .before .record-end .result) (c .before .before .before .before .before .before .before .before .before .before .before .before .record-at .ensures) (c .before .before .before .before .before .before .before .before .before .before .before .record-end .ensures)) (c .before .before .before .before .before .before .before .before .before .before .before .before .record-at .result) (c .before .before .before .before .before .before .before .before .before .before .before .record-end .result) (c .before .before .before .before .before .before .before .before .before .before .before .before .record-at .ensures) (c .before .before .before .before .before .before .before .before .before .before .before .record-end .ensures) (l .log) (l .logtags) (l .starts) (l .maps) (l .buckets) (l .e) (l .i) (l .inv) (c .before .before .before .before .before .before .before .before .before .loop-test .taken) (c .before .before .before .before .before .before .refers-to .result .table) (c .before .before .before .before .before .before .refers-to .ensures .0)) (c .before .before .before .before .if2 .left) (c .before .before .if4 .left) (c .if6 .left))
 
--- src/lib.rt:524:5
 import-pipeline-override-settle-requires :
-    (t : ℕ) → import-pipeline-override-lts.Need-settle-requires (
+    (t : ℕ) → import-pipeline-override-lts.Need-intern-requires (
       wide-reads.Asked,
       wide-reads.Learnt,
       record-at-reads.Asked,
@@ -2405,17 +2315,16 @@ import-pipeline-override-settle-requires :
       import-type-reads.Learnt,
       import-global-expression-below t,
       import-global-expression.Post,
-      settle-reads.Asked,
-      settle-reads.Learnt,
+      intern-reads.Asked,
+      intern-reads.Learnt,
     )
     (import-pipeline-override-at t)
     import-pipeline-override.Post
     import-pipeline-override-Inv-loop
     import-pipeline-override-μ-loop
 unfolding tabOf
-import-pipeline-override-settle-requires t c κs = let a = (c .before .before .before .before .before .before .before .before .before .before .before .before .args) in let p = c .before .before .before .before .before .before .before .before .before .before .before .before .pre .1 in let src = p .0 in let q = p .1 .0 in let ks = p .1 .1 .0 in let K = p .1 .1 .1 in let hk : c .before .before .before .before .before .before .before .before .before .before .before .wide .result < countAt 3 (a .words .now) = rw (c .before .before .before .before .before .before .before .before .before .before .before .wide .ensures .0) (q .0) in let l = (c .before .before .before .before .before .before .loop) in (readable (a .words .now) (a .tags .now) (a .n) src 3 (c .before .before .before .before .before .before .before .before .before .before .before .wide .result) (omega arith) hk (c .before .before .before .before .before .before .before .before .record-at .result) (c .before .before .before .before .before .before .before .record-end .result) (c .before .before .before .before .before .before .before .before .record-at .ensures) (c .before .before .before .before .before .before .before .record-end .ensures) (a .kinds .now) ks, ((omega arith, hk, small-number (a .words .now) (a .tags .now) (a .n) src 3 (c .before .before .before .before .before .before .before .before .before .before .before .wide .result) (omega arith) hk, l .inv .going), (plain-name (a .words .now) (a .tags .now) (a .n) src 3 (c .before .before .before .before .before .before .before .before .before .before .before .wide .result) (omega arith) hk (c .before .before .before .before .before .before .before .before .record-at .result) (c .before .before .before .before .before .before .before .record-end .result) (c .before .before .before .before .before .before .before .before .record-at .ensures) (c .before .before .before .before .before .before .before .record-end .ensures), l .inv .kept)))
+import-pipeline-override-settle-requires t c κs = let a = (c .before .before .before .before .before .before .before .before .before .before .before .before .args) in let p = c .before .before .before .before .before .before .before .before .before .before .before .before .pre .1 in let src = p .0 in let q = p .1 .0 in let ks = p .1 .1 .0 in let K = p .1 .1 .1 in let hk : c .before .before .before .before .before .before .before .before .before .before .before .wide .result < countAt 3 (a .words .now) = rw (c .before .before .before .before .before .before .before .before .before .before .before .wide .ensures .0) (q .0) in let l = (c .before .before .before .before .before .before .loop) in (readable (a .words .now) (a .tags .now) (a .n) src 3 (c .before .before .before .before .before .before .before .before .before .before .before .wide .result) (omega arith) hk (c .before .before .before .before .before .before .before .before .record-at .result) (c .before .before .before .before .before .before .before .record-end .result) (c .before .before .before .before .before .before .before .before .record-at .ensures) (c .before .before .before .before .before .before .before .record-end .ensures) (a .targets .now) ks, ((omega arith, hk, small-number (a .words .now) (a .tags .now) (a .n) src 3 (c .before .before .before .before .before .before .before .before .before .before .before .wide .result) (omega arith) hk, l .inv .going), (plain-name (a .words .now) (a .tags .now) (a .n) src 3 (c .before .before .before .before .before .before .before .before .before .before .before .wide .result) (omega arith) hk (c .before .before .before .before .before .before .before .before .record-at .result) (c .before .before .before .before .before .before .before .record-end .result) (c .before .before .before .before .before .before .before .before .record-at .ensures) (c .before .before .before .before .before .before .before .record-end .ensures), l .inv .kept)))
 
--- src/lib.rt:436:1
 import-pipeline-override-returns-5 : (t : ℕ) → import-pipeline-override-lts.Need-returns-5 (
   wide-reads.Asked,
   wide-reads.Learnt,
@@ -2431,15 +2340,15 @@ import-pipeline-override-returns-5 : (t : ℕ) → import-pipeline-override-lts.
   import-type-reads.Learnt,
   import-global-expression-below t,
   import-global-expression.Post,
-  settle-reads.Asked,
-  settle-reads.Learnt,
+  intern-reads.Asked,
+  intern-reads.Learnt,
 )
     (import-pipeline-override-at t)
     import-pipeline-override.Post
     import-pipeline-override-Inv-loop
     import-pipeline-override-μ-loop
 unfolding tabOf
-import-pipeline-override-returns-5 t c = let a = (c .before .before .before .before .before .before .before .before .before .before .before .before .before .args) in let p = c .before .before .before .before .before .before .before .before .before .before .before .before .before .pre .1 in let src = p .0 in let q = p .1 .0 in let ks = p .1 .1 .0 in let K = p .1 .1 .1 in let hk : c .before .before .before .before .before .before .before .before .before .before .before .before .wide .result < countAt 3 (a .words .now) = rw (c .before .before .before .before .before .before .before .before .before .before .before .before .wide .ensures .0) (q .0) in let l = (c .before .before .before .before .before .before .before .loop) in lands-at (a .offset) (srcOf (a .words .now) (a .n)) overrides (c .before .before .before .before .before .before .before .before .before .before .before .before .wide .result) (a .h .0) (c .before .before .before .before .before .before .before .before .before .before .before .before .wide .ensures .0) (turn-settled (a .words .now) (a .tags .now) (a .n) src (a .offset) 3 (c .before .before .before .before .before .before .before .before .before .before .before .before .wide .result) (omega arith) hk (a .log .now) (a .classes .now) (a .starts .now) (a .maps .now) (a .marks .now) (a .ends) (q .1) K (c .before .before .before .before .before .before .before .before .before .before .if1 .left) (c .before .before .before .before .before .before .before .before .before .record-at .result) (c .before .before .before .before .before .before .before .before .record-end .result) (c .before .before .before .before .before .before .before .before .before .record-at .ensures) (c .before .before .before .before .before .before .before .before .record-end .ensures) (l .log) (l .classes) (l .starts) (l .maps) (l .marks) (l .e) (l .i) (l .inv) (c .before .before .before .before .before .before .loop-test .left) _ _ _ _ _ _ (c .settle .ensures))
+import-pipeline-override-returns-5 t c = let a = (c .before .before .before .before .before .before .before .before .before .before .before .before .before .args) in let p = c .before .before .before .before .before .before .before .before .before .before .before .before .before .pre .1 in let src = p .0 in let q = p .1 .0 in let ks = p .1 .1 .0 in let K = p .1 .1 .1 in let hk : c .before .before .before .before .before .before .before .before .before .before .before .before .wide .result < countAt 3 (a .words .now) = rw (c .before .before .before .before .before .before .before .before .before .before .before .before .wide .ensures .0) (q .0) in let l = (c .before .before .before .before .before .before .before .loop) in lands-at (a .offset) (srcOf (a .words .now) (a .n)) overrides (c .before .before .before .before .before .before .before .before .before .before .before .before .wide .result) (a .h .0) (c .before .before .before .before .before .before .before .before .before .before .before .before .wide .ensures .0) (turn-settled (a .words .now) (a .tags .now) (a .n) src (a .offset) 3 (c .before .before .before .before .before .before .before .before .before .before .before .before .wide .result) (omega arith) hk (a .log .now) (a .logtags .now) (a .starts .now) (a .maps .now) (a .buckets .now) (a .ends) (q .1) K (c .before .before .before .before .before .before .before .before .before .before .if1 .left) (c .before .before .before .before .before .before .before .before .before .record-at .result) (c .before .before .before .before .before .before .before .before .record-end .result) (c .before .before .before .before .before .before .before .before .before .record-at .ensures) (c .before .before .before .before .before .before .before .before .record-end .ensures) (l .log) (l .logtags) (l .starts) (l .maps) (l .buckets) (l .e) (l .i) (l .inv) (c .before .before .before .before .before .before .loop-test .left) _ _ _ _ _ _ (c .intern .ensures))
 
 pub +import-const+import-global-expression+import-pipeline-override-spec :
     {M : Type 1} → statement M
@@ -2463,8 +2372,8 @@ pub +import-const+import-global-expression+import-pipeline-override-spec :
       import-type-reads.Learnt,
       import-global-expression-below t,
       import-global-expression.Post,
-      settle-reads.Asked,
-      settle-reads.Learnt,
+      intern-reads.Asked,
+      intern-reads.Learnt,
     )
     (import-const-at t)
     import-const.Post
@@ -2516,8 +2425,8 @@ pub +import-const+import-global-expression+import-pipeline-override-spec :
       import-pipeline-override.Post,
       import-global-expression-below t,
       import-global-expression.Post,
-      settle-reads.Asked,
-      settle-reads.Learnt,
+      intern-reads.Asked,
+      intern-reads.Learnt,
     )
     (import-global-expression-at t)
     import-global-expression.Post
@@ -2571,8 +2480,8 @@ pub +import-const+import-global-expression+import-pipeline-override-spec :
       import-type-reads.Learnt,
       import-global-expression-below t,
       import-global-expression.Post,
-      settle-reads.Asked,
-      settle-reads.Learnt,
+      intern-reads.Asked,
+      intern-reads.Learnt,
     )
     (import-pipeline-override-at t)
     import-pipeline-override.Post

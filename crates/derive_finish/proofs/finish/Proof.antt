@@ -1,6 +1,5 @@
--- `derive_finish::finish` meets its contract. Assumes nothing.
 use borrow.Author.Needs.{needs}
-use Rattle.derive_finish.proofs.Ends.{derived, ended}
+use Rattle.derive_finish.proofs.Sizes.{derived, ended}
 use Rattle.derive_finish.proofs.finish.Statement.{statement}
 use Rattle.derive_finish.proofs.finish.Tie as tie
 use Rattle.derive_finish.proofs.finish.Reads as reads
@@ -19,7 +18,7 @@ finish-requires c κs =
     let st = c .before .before .before .before .before .before in
     let a = st .args in
     let k = st .pre .0 in
-    (rw (c .before .before .before .widened .ensures) (derived (a .log .now) (a .classes .now) (a .starts .now) (k .maps) (k .marks) (a .ends) (k .kept)), (k .kept .few-pairs, st .pre .1 .0, st .pre .1 .1))
+    (rw (c .before .before .before .widened .ensures) (derived (a .log .now) (a .logtags .now) (a .starts .now) (k .maps) (k .buckets) (a .ends) (k .kept)), (k .kept .few-pairs, st .pre .1 .0, st .pre .1 .1))
 
 same-length : tie.Need-same-length
 same-length c = search needs
@@ -29,7 +28,7 @@ returns c =
     let st = c .before .before .before .before .before .before .before .before .before in
     let a = st .args in
     let k = st .pre .0 in
-    ended (a .log .now) (a .classes .now) (a .starts .now) (k .maps) (k .marks) (a .ends) (k .kept) (a .special .now) (st .pre .1 .0) (rw (c .before .before .before .before .before .before .widened .ensures) at (c .before .before .finish .ensures))
+    ended (a .log .now) (a .logtags .now) (a .starts .now) (k .maps) (k .buckets) (a .ends) (k .kept) (a .special .now) (st .pre .1 .0) (rw (c .before .before .before .before .before .before .widened .ensures) at (c .before .before .finish .ensures))
 
 pub finish-spec : {M : Type 1} → statement M
 finish-spec = tie.close (tie.spec widened-requires cast-pairs finish-requires same-length returns)

@@ -1,6 +1,5 @@
--- `derive_finish::widened` meets its contract. Assumes nothing.
 use borrow.Author.Needs.{needs}
-use Rattle.derive_finish.proofs.Ends.{eight}
+use Rattle.derive_finish.proofs.Sizes.{eight}
 use Rattle.derive_finish.proofs.widened.Statement.{statement}
 use Rattle.derive_finish.proofs.widened.Tie as tie
 use Rattle.derive_finish.proofs.widened.Reads as reads

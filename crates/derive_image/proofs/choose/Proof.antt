@@ -13,51 +13,39 @@ Inv-loop row order n r₀ i₀ r i = Choosing row order n r i
 abbrev μ-loop : tie.MeasureT-loop
 μ-loop row order n r₀ i₀ r i = n - i
 
--- src/lib.rt:333:5
 loop-holds : tie.Need-loop-holds Inv-loop μ-loop
 loop-holds c = search (choosing-begin, needs)
 
--- src/lib.rt:335:9
 add-i : tie.Need-add-i Inv-loop μ-loop
 add-i c = search needs
 
--- src/lib.rt:336:25
 mul-wide : tie.Need-mul-wide Inv-loop μ-loop
 mul-wide c = search needs
 
--- src/lib.rt:336:25
 element-copy-out-wide : tie.Need-element-copy-out-wide Inv-loop μ-loop
 element-copy-out-wide c = search needs
 
--- src/lib.rt:336:20
 wide-requires : tie.Need-wide-requires Inv-loop μ-loop
 wide-requires c κs = search needs
 
--- src/lib.rt:336:16
 mul-r : tie.Need-mul-r Inv-loop μ-loop
 mul-r c = search needs
 
--- src/lib.rt:336:16
 element-copy-out-r : tie.Need-element-copy-out-r Inv-loop μ-loop
 element-copy-out-r c = search (choosing-in, needs)
 
--- src/lib.rt:336:9
 mul-r-2 : tie.Need-mul-r-2 Inv-loop μ-loop
 mul-r-2 c = search needs
 
--- src/lib.rt:336:9
 array-write-r : tie.Need-array-write-r Inv-loop μ-loop
 array-write-r c = search needs
 
--- src/lib.rt:333:5
 loop-less : tie.Need-loop-less Inv-loop μ-loop
 loop-less c = search needs
 
--- src/lib.rt:333:5
 loop-again : tie.Need-loop-again Inv-loop μ-loop
 loop-again c = search (choosing-next, needs)
 
--- src/lib.rt:326:1
 returns : tie.Need-returns Inv-loop μ-loop
 returns c = let st = c .before .before in let a = st .args in let l = c .before .loop in choosing-done (a .row .now) (a .order .now) (a .n) (l .r) (l .i) (l .inv) (c .loop-test .left)
 

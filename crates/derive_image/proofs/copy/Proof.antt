@@ -13,43 +13,33 @@ Inv-loop from n out₀ at i₀ out i = Moving from n out₀ at out i
 abbrev μ-loop : tie.MeasureT-loop
 μ-loop from n out₀ at i₀ out i = n - i
 
--- src/lib.rt:318:5
 loop-holds : tie.Need-loop-holds Inv-loop μ-loop
 loop-holds c = search (moving-begin, needs)
 
--- src/lib.rt:320:9
 add-i : tie.Need-add-i Inv-loop μ-loop
 add-i c = search needs
 
--- src/lib.rt:321:23
 mul-out : tie.Need-mul-out Inv-loop μ-loop
 mul-out c = search needs
 
--- src/lib.rt:321:23
 element-copy-out-out : tie.Need-element-copy-out-out Inv-loop μ-loop
 element-copy-out-out c = search needs
 
--- src/lib.rt:321:13
 add-out : tie.Need-add-out Inv-loop μ-loop
 add-out c = search needs
 
--- src/lib.rt:321:9
 mul-out-2 : tie.Need-mul-out-2 Inv-loop μ-loop
 mul-out-2 c = search needs
 
--- src/lib.rt:321:9
 element-write-out : tie.Need-element-write-out Inv-loop μ-loop
 element-write-out c = search needs
 
--- src/lib.rt:318:5
 loop-less : tie.Need-loop-less Inv-loop μ-loop
 loop-less c = search needs
 
--- src/lib.rt:318:5
 loop-again : tie.Need-loop-again Inv-loop μ-loop
 loop-again c = let st = c .before .before .before in let a = st .args in let p = st .pre in let l = c .before .before .loop in moving-next (a .from .now) (a .n) (a .out .now) (a .at) (l .out) (l .i) (l .inv) (omega (arith, p)) (c .before .loop-test .taken)
 
--- src/lib.rt:313:1
 returns : tie.Need-returns Inv-loop μ-loop
 returns c = search (moving-done, needs)
 

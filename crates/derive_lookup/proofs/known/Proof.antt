@@ -50,11 +50,11 @@ index-2-wide c = let a = c .before .before .before .before .before .before .befo
 wide-requires-2 : tie.Need-wide-requires-2
 wide-requires-2 c κs = search needs
 
-index-1-sought : tie.Need-index-1-sought
-index-1-sought c = search needs
+index-1-find-name-from : tie.Need-index-1-find-name-from
+index-1-find-name-from c = search needs
 
-sought-requires : tie.Need-sought-requires
-sought-requires c κs = let a = c .before .before .before .before .before .before .before .before .before .before .args in let p = c .before .before .before .before .before .before .before .before .before .before .pre in (name-reads (a .words .now) (a .tags .now) (a .n) (p .0) (p .1 .0) (a .f) (p .1 .1 .0) _ (c .before .before .before .before .before .before .before .before .before .record-at .ensures) _ (c .before .before .before .before .before .before .before .wide .ensures .0) _ _ (c .before .before .before .before .before .before .record-at2 .ensures) (c .before .before .before .before .before .record-end .ensures), p .1 .1 .1 .names)
+find-name-from-requires : tie.Need-find-name-from-requires
+find-name-from-requires c κs = let a = c .before .before .before .before .before .before .before .before .before .before .args in let p = c .before .before .before .before .before .before .before .before .before .before .pre in (name-reads (a .words .now) (a .tags .now) (a .n) (p .0) (p .1 .0) (a .f) (p .1 .1 .0) _ (c .before .before .before .before .before .before .before .before .before .record-at .ensures) _ (c .before .before .before .before .before .before .before .wide .ensures .0) _ _ (c .before .before .before .before .before .before .record-at2 .ensures) (c .before .before .before .before .before .record-end .ensures), p .1 .1 .1 .names)
 
 index-1-last : tie.Need-index-1-last
 index-1-last c = search needs
@@ -69,7 +69,7 @@ last-requires : tie.Need-last-requires
 last-requires c κs = search needs
 
 returns : tie.Need-returns
-returns c = let a = c .before .before .before .before .before .before .before .before .before .before .before .before .before .args in let p = c .before .before .before .before .before .before .before .before .before .before .before .before .before .pre in knows (a .words .now) (a .tags .now) (a .n) (p .0) (p .1 .0) (a .f) (p .1 .1 .0) _ (c .before .before .before .before .before .before .before .before .before .before .before .before .record-at .ensures) _ (c .before .before .before .before .before .before .before .before .before .before .wide .ensures .0) _ _ (c .before .before .before .before .before .before .before .before .before .record-at2 .ensures) (c .before .before .before .before .before .before .before .before .record-end .ensures) (a .log .now) (a .classes .now) (a .starts .now) (a .t8) _ _ (c .before .before .sought .ensures .0) (c .last .ensures)
+returns c = let a = c .before .before .before .before .before .before .before .before .before .before .before .before .before .args in let p = c .before .before .before .before .before .before .before .before .before .before .before .before .before .pre in knows (a .words .now) (a .tags .now) (a .n) (p .0) (p .1 .0) (a .f) (p .1 .1 .0) _ (c .before .before .before .before .before .before .before .before .before .before .before .before .record-at .ensures) _ (c .before .before .before .before .before .before .before .before .before .before .wide .ensures .0) _ _ (c .before .before .before .before .before .before .before .before .before .record-at2 .ensures) (c .before .before .before .before .before .before .before .before .record-end .ensures) (a .log .now) (a .logtags .now) (a .starts .now) (a .t8) _ _ (c .before .before .find-name-from .ensures .0) (c .last .ensures)
 
 pub known-spec : {M : Type 1} → statement M
 known-spec =
@@ -90,8 +90,8 @@ known-spec =
     index-1-wide
     index-2-wide
     wide-requires-2
-    index-1-sought
-    sought-requires
+    index-1-find-name-from
+    find-name-from-requires
     index-1-last
     add-last
     cast-last

@@ -5,13 +5,13 @@ use Rattle.derive_lookup.proofs.last.Statement.{statement}
 use Rattle.derive_lookup.proofs.last.Tie as tie
 
 abbrev Inv-loop : tie.InvT-loop
-Inv-loop log classes starts n w k₀ k = Left log classes starts n w k
+Inv-loop log logtags starts n w k₀ k = Left log logtags starts n w k
 
 abbrev μ-loop : tie.MeasureT-loop
-μ-loop log classes starts n w k₀ k = k
+μ-loop log logtags starts n w k₀ k = k
 
 loop-holds : tie.Need-loop-holds Inv-loop μ-loop
-loop-holds c = begin (c .args .log .now) (c .args .classes .now) (c .args .starts .now) (c .args .n) (c .args .w)
+loop-holds c = begin (c .args .log .now) (c .args .logtags .now) (c .args .starts .now) (c .args .n) (c .args .w)
 
 sub-k : tie.Need-sub-k Inv-loop μ-loop
 sub-k c = search needs
@@ -26,28 +26,28 @@ wide-requires : tie.Need-wide-requires Inv-loop μ-loop
 wide-requires c κs = search needs
 
 add-if1 : tie.Need-add-if1 Inv-loop μ-loop
-add-if1 c = let h = in-log (c .before .before .before .before .args .log .now) (c .before .before .before .before .args .classes .now) (c .before .before .before .before .args .starts .now) (c .before .before .before .before .args .n) (c .before .before .before .before .args .w) (c .before .before .before .before .pre) (c .before .before .before .loop .k) _ (c .before .before .before .loop .inv) (c .before .before .loop-test .taken) (c .wide .ensures .0) in omega arith
+add-if1 c = let h = in-log (c .before .before .before .before .args .log .now) (c .before .before .before .before .args .logtags .now) (c .before .before .before .before .args .starts .now) (c .before .before .before .before .args .n) (c .before .before .before .before .args .w) (c .before .before .before .before .pre) (c .before .before .before .loop .k) _ (c .before .before .before .loop .inv) (c .before .before .loop-test .taken) (c .wide .ensures .0) in omega arith
 
 mul-if1 : tie.Need-mul-if1 Inv-loop μ-loop
-mul-if1 c = let h = in-log (c .before .before .before .before .args .log .now) (c .before .before .before .before .args .classes .now) (c .before .before .before .before .args .starts .now) (c .before .before .before .before .args .n) (c .before .before .before .before .args .w) (c .before .before .before .before .pre) (c .before .before .before .loop .k) _ (c .before .before .before .loop .inv) (c .before .before .loop-test .taken) (c .wide .ensures .0) in omega arith
+mul-if1 c = let h = in-log (c .before .before .before .before .args .log .now) (c .before .before .before .before .args .logtags .now) (c .before .before .before .before .args .starts .now) (c .before .before .before .before .args .n) (c .before .before .before .before .args .w) (c .before .before .before .before .pre) (c .before .before .before .loop .k) _ (c .before .before .before .loop .inv) (c .before .before .loop-test .taken) (c .wide .ensures .0) in omega arith
 
 element-copy-out-if1 : tie.Need-element-copy-out-if1 Inv-loop μ-loop
-element-copy-out-if1 c = in-log (c .before .before .before .before .args .log .now) (c .before .before .before .before .args .classes .now) (c .before .before .before .before .args .starts .now) (c .before .before .before .before .args .n) (c .before .before .before .before .args .w) (c .before .before .before .before .pre) (c .before .before .before .loop .k) _ (c .before .before .before .loop .inv) (c .before .before .loop-test .taken) (c .wide .ensures .0)
+element-copy-out-if1 c = in-log (c .before .before .before .before .args .log .now) (c .before .before .before .before .args .logtags .now) (c .before .before .before .before .args .starts .now) (c .before .before .before .before .args .n) (c .before .before .before .before .args .w) (c .before .before .before .before .pre) (c .before .before .before .loop .k) _ (c .before .before .before .loop .inv) (c .before .before .loop-test .taken) (c .wide .ensures .0)
 
 cast-result : tie.Need-cast-result Inv-loop μ-loop
 cast-result c = let i = c .before .before .before .before .before .loop .inv in let h = c .before .before .before .before .before .before .pre in omega (arith, i .low, h .few)
 
 returns : tie.Need-returns Inv-loop μ-loop
-returns c = found (c .before .before .before .before .before .before .args .log .now) (c .before .before .before .before .before .before .args .classes .now) (c .before .before .before .before .before .before .args .starts .now) (c .before .before .before .before .before .before .args .n) (c .before .before .before .before .before .before .args .w) (c .before .before .before .before .before .before .pre) (c .before .before .before .before .before .loop .k) _ (c .before .before .before .before .before .loop .inv) (c .before .before .before .before .loop-test .taken) (c .before .before .wide .ensures .0) (c .if1 .taken)
+returns c = found (c .before .before .before .before .before .before .args .log .now) (c .before .before .before .before .before .before .args .logtags .now) (c .before .before .before .before .before .before .args .starts .now) (c .before .before .before .before .before .before .args .n) (c .before .before .before .before .before .before .args .w) (c .before .before .before .before .before .before .pre) (c .before .before .before .before .before .loop .k) _ (c .before .before .before .before .before .loop .inv) (c .before .before .before .before .loop-test .taken) (c .before .before .wide .ensures .0) (c .if1 .taken)
 
 loop-less : tie.Need-loop-less Inv-loop μ-loop
 loop-less c = search needs
 
 loop-again : tie.Need-loop-again Inv-loop μ-loop
-loop-again c = again (c .before .before .before .before .before .before .args .log .now) (c .before .before .before .before .before .before .args .classes .now) (c .before .before .before .before .before .before .args .starts .now) (c .before .before .before .before .before .before .args .n) (c .before .before .before .before .before .before .args .w) (c .before .before .before .before .before .before .pre) (c .before .before .before .before .before .loop .k) _ (c .before .before .before .before .before .loop .inv) (c .before .before .before .before .loop-test .taken) (c .before .before .wide .ensures .0) (c .if1 .left)
+loop-again c = again (c .before .before .before .before .before .before .args .log .now) (c .before .before .before .before .before .before .args .logtags .now) (c .before .before .before .before .before .before .args .starts .now) (c .before .before .before .before .before .before .args .n) (c .before .before .before .before .before .before .args .w) (c .before .before .before .before .before .before .pre) (c .before .before .before .before .before .loop .k) _ (c .before .before .before .before .before .loop .inv) (c .before .before .before .before .loop-test .taken) (c .before .before .wide .ensures .0) (c .if1 .left)
 
 returns-2 : tie.Need-returns-2 Inv-loop μ-loop
-returns-2 c = (none (c .before .before .args .log .now) (c .before .before .args .classes .now) (c .before .before .args .starts .now) (c .before .before .args .n) (c .before .before .args .w) (c .before .before .pre) (c .before .loop .k) (c .before .loop .inv) (λ h. omega (arith, c .loop-test .left)), omega arith)
+returns-2 c = (none (c .before .before .args .log .now) (c .before .before .args .logtags .now) (c .before .before .args .starts .now) (c .before .before .args .n) (c .before .before .args .w) (c .before .before .pre) (c .before .loop .k) (c .before .loop .inv) (λ h. omega (arith, c .loop-test .left)), omega arith)
 
 pub last-spec : {M : Type 1} → statement M
 last-spec =

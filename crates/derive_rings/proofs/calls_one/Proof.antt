@@ -1,4 +1,4 @@
--- `derive_rings::calls_one` meets its contract. The invariant: whether one is called from here on is whether one is called at all. Assumes nothing.
+-- `derive_rings::calls_one` meets its contract. The invariant: whether one is called from here on is whether one is called at all.
 use mathlib.Core.Path.{sym, _∙_}
 use Prim.Native.Nat.{_-_}
 use borrow.Author.Needs.{needs}

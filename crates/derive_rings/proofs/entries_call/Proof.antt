@@ -1,4 +1,4 @@
--- `derive_rings::entries_call` meets its contract. The invariant: whether one is called from this entry point on is whether one is called at all. Assumes nothing.
+-- `derive_rings::entries_call` meets its contract. The invariant: whether one is called from this entry point on is whether one is called at all.
 use Prim.Native.Nat.{_-_}
 use native.Mathlib.Omega.{arith}
 use borrow.Author.Needs.{needs}

@@ -1,4 +1,4 @@
--- `derive_rings::entries_lead` meets its contract. The invariant: whether one of unknown name is called from this entry point on is whether one is called at all. Assumes nothing.
+-- `derive_rings::entries_lead` meets its contract. The invariant: whether one of unknown name is called from this entry point on is whether one is called at all.
 use Prim.Native.Nat.{_-_}
 use native.Mathlib.Omega.{arith}
 use borrow.Author.Needs.{needs}
@@ -10,10 +10,10 @@ use Rattle.derive_rings.proofs.entries_lead.Statement.{statement}
 use Rattle.derive_rings.proofs.entries_lead.Tie as tie
 
 abbrev Inv-loop : tie.InvT-loop
-Inv-loop words tags n log classes starts maps ends entries j₀ j = Looking (modOf words n .entries) (unknownBy words n log classes starts ends) j
+Inv-loop words tags n log logtags starts maps ends entries j₀ j = Looking (modOf words n .entries) (unknownBy words n log logtags starts ends) j
 
 abbrev μ-loop : tie.MeasureT-loop
-μ-loop words tags n log classes starts maps ends entries j₀ j = entries - j
+μ-loop words tags n log logtags starts maps ends entries j₀ j = entries - j
 
 count-requires : tie.Need-count-requires Inv-loop μ-loop
 count-requires c κs = search needs

@@ -1,4 +1,3 @@
--- `derive_rollback::restore` meets its contract. Assumes nothing.
 use Rattle.derive_rollback.proofs.Over.{restored, not-restored}
 use Rattle.derive_rollback.proofs.restore.Statement.{statement}
 use Rattle.derive_rollback.proofs.restore.Tie as tie

@@ -1,4 +1,3 @@
--- `derive_rollback::save_maps` meets its contract. Assumes nothing.
 use Prim.Native.Nat.{_-_}
 use borrow.Author.Needs.{needs}
 use Rattle.model.specs.Module.{countAt}

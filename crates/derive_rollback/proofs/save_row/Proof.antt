@@ -1,4 +1,3 @@
--- `derive_rollback::save_row` meets its contract. Assumes nothing.
 use Prim.Native.Nat.{_-_}
 use borrow.Author.Needs.{needs}
 use Rattle.derive_rollback.specs.Taken.{Prefix}

@@ -1,4 +1,3 @@
--- `derive_rollback::save_starts` meets its contract. Assumes nothing.
 use mathlib.Core.Path.{refl}
 use Prim.Native.Nat.{_-_}
 use lib.ListN.{getD}

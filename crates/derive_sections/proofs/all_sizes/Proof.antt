@@ -8,54 +8,43 @@ use Rattle.derive_sections.proofs.all_sizes.Lts as lts
 use Rattle.derive_sections.proofs.table_size.Reads as table-size-reads
 
 abbrev Inv-loop : tie.InvT-loop
-Inv-loop log classes starts counts t₀ p₀ t p = Summing log classes starts counts t p
+Inv-loop log logtags starts counts t₀ p₀ t p = Summing log logtags starts counts t p
 
 abbrev μ-loop : tie.MeasureT-loop
-μ-loop log classes starts counts t₀ p₀ t p = 8 - t
+μ-loop log logtags starts counts t₀ p₀ t p = 8 - t
 
--- src/lib.rt:278:5
 loop-holds : tie.Need-loop-holds Inv-loop μ-loop
 loop-holds c = search (summing-begin, needs)
 
--- src/lib.rt:280:9
 add-t : tie.Need-add-t Inv-loop μ-loop
 add-t c = search needs
 
--- src/lib.rt:281:39
 mul-table-size : tie.Need-mul-table-size Inv-loop μ-loop
 mul-table-size c = search needs
 
--- src/lib.rt:281:39
 index-1-table-size : tie.Need-index-1-table-size Inv-loop μ-loop
 index-1-table-size c = search needs
 
--- src/lib.rt:281:51
 mul-table-size-2 : tie.Need-mul-table-size-2 Inv-loop μ-loop
 mul-table-size-2 c = search needs
 
--- src/lib.rt:281:51
 array-read-table-size : tie.Need-array-read-table-size Inv-loop μ-loop
 array-read-table-size c = search needs
 
--- src/lib.rt:281:14
 table-size-requires : tie.Need-table-size-requires Inv-loop μ-loop
 table-size-requires c κs = search (rows-row, needs)
 
--- src/lib.rt:281:9
 add-p : tie.Need-add-p Inv-loop μ-loop
 add-p c = search needs
 
--- src/lib.rt:278:5
 loop-less : tie.Need-loop-less Inv-loop μ-loop
 loop-less c = search needs
 
--- src/lib.rt:278:5
 loop-again : tie.Need-loop-again Inv-loop μ-loop
-loop-again c = let st = c .before .before .before .before in let a = st .args in let p = st .pre in let l = c .before .before .before .loop in let h = c .before .before .loop-test .taken in summing-next (a .log .now) (a .classes .now) (a .starts .now) (a .t4) p (l .t) (l .p) (l .inv) h _ (c .table-size .ensures)
+loop-again c = let st = c .before .before .before .before in let a = st .args in let p = st .pre in let l = c .before .before .before .loop in let h = c .before .before .loop-test .taken in summing-next (a .log .now) (a .logtags .now) (a .starts .now) (a .t4) p (l .t) (l .p) (l .inv) h _ (c .table-size .ensures)
 
--- src/lib.rt:267:1
 returns : tie.Need-returns Inv-loop μ-loop
-returns c = let st = c .before .before in let a = st .args in let p = st .pre in let l = c .before .loop in summing-done (a .log .now) (a .classes .now) (a .starts .now) (a .t4) p (l .t) (l .p) (l .inv) (c .loop-test .left)
+returns c = let st = c .before .before in let a = st .args in let p = st .pre in let l = c .before .loop in summing-done (a .log .now) (a .logtags .now) (a .starts .now) (a .t4) p (l .t) (l .p) (l .inv) (c .loop-test .left)
 
 pub all-sizes-spec : {M : Type 1} → statement M
 all-sizes-spec =

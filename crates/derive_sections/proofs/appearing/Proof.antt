@@ -8,48 +8,38 @@ use Rattle.derive_sections.proofs.appearing.Lts as lts
 use Rattle.derive_sections.proofs.note_table.Reads as note-table-reads
 
 abbrev Inv-loop : tie.InvT-loop
-Inv-loop log classes starts order₀ places₀ names counts t₀ k₀ order places t k = NotingT names log classes starts counts order places t k
+Inv-loop log logtags starts order₀ places₀ names counts t₀ k₀ order places t k = NotingT names log logtags starts counts order places t k
 
 abbrev μ-loop : tie.MeasureT-loop
-μ-loop log classes starts order₀ places₀ names counts t₀ k₀ order places t k = 8 - t
+μ-loop log logtags starts order₀ places₀ names counts t₀ k₀ order places t k = 8 - t
 
--- src/lib.rt:114:5
 loop-holds : tie.Need-loop-holds Inv-loop μ-loop
 loop-holds c = search (notingT-begin, needs)
 
--- src/lib.rt:116:9
 add-t : tie.Need-add-t Inv-loop μ-loop
 add-t c = search needs
 
--- src/lib.rt:117:38
 mul-note-table : tie.Need-mul-note-table Inv-loop μ-loop
 mul-note-table c = search needs
 
--- src/lib.rt:117:38
 index-1-note-table : tie.Need-index-1-note-table Inv-loop μ-loop
 index-1-note-table c = search needs
 
--- src/lib.rt:117:50
 mul-note-table-2 : tie.Need-mul-note-table-2 Inv-loop μ-loop
 mul-note-table-2 c = search needs
 
--- src/lib.rt:117:50
 array-read-note-table : tie.Need-array-read-note-table Inv-loop μ-loop
 array-read-note-table c = search needs
 
--- src/lib.rt:117:9
 note-table-requires : tie.Need-note-table-requires Inv-loop μ-loop
 note-table-requires c κs = search (notingT-row, needs)
 
--- src/lib.rt:114:5
 loop-less : tie.Need-loop-less Inv-loop μ-loop
 loop-less c = search needs
 
--- src/lib.rt:114:5
 loop-again : tie.Need-loop-again Inv-loop μ-loop
 loop-again c = search (notingT-next, needs)
 
--- src/lib.rt:99:1
 returns : tie.Need-returns Inv-loop μ-loop
 returns c = search (notingT-done, needs)
 

@@ -9,68 +9,53 @@ use Rattle.base_words.proofs.wide.Reads as wide-reads
 use Rattle.derive_sections.proofs.note_word.Reads as note-word-reads
 
 abbrev Inv-loop : tie.InvT-loop
-Inv-loop log classes order₀ places₀ names n s end i₀ k₀ order places i k = Noting names log classes order₀ n s end order places i k
+Inv-loop log logtags order₀ places₀ names n s end i₀ k₀ order places i k = Noting names log logtags order₀ n s end order places i k
 
 abbrev μ-loop : tie.MeasureT-loop
-μ-loop log classes order₀ places₀ names n s end i₀ k₀ order places i k = end - i
+μ-loop log logtags order₀ places₀ names n s end i₀ k₀ order places i k = end - i
 
--- src/lib.rt:62:15
 add-end : tie.Need-add-end Inv-loop μ-loop
 add-end c = search needs
 
--- src/lib.rt:62:28
 mul-wide : tie.Need-mul-wide Inv-loop μ-loop
 mul-wide c = search needs
 
--- src/lib.rt:62:28
 element-copy-out-wide : tie.Need-element-copy-out-wide Inv-loop μ-loop
 element-copy-out-wide c = search needs
 
--- src/lib.rt:62:23
 wide-requires : tie.Need-wide-requires Inv-loop μ-loop
 wide-requires c κs = search needs
 
--- src/lib.rt:62:15
 add-end-2 : tie.Need-add-end-2 Inv-loop μ-loop
 add-end-2 c = search needs
 
--- src/lib.rt:63:17
 add-i : tie.Need-add-i Inv-loop μ-loop
 add-i c = search needs
 
--- src/lib.rt:65:5
 loop-holds : tie.Need-loop-holds Inv-loop μ-loop
 loop-holds c = search (noting-begin, needs)
 
--- src/lib.rt:67:9
 add-i-2 : tie.Need-add-i-2 Inv-loop μ-loop
 add-i-2 c = search needs
 
--- src/lib.rt:68:48
 element-copy-out-note-word : tie.Need-element-copy-out-note-word Inv-loop μ-loop
 element-copy-out-note-word c = search needs
 
--- src/lib.rt:68:60
 mul-note-word : tie.Need-mul-note-word Inv-loop μ-loop
 mul-note-word c = search needs
 
--- src/lib.rt:68:60
 element-copy-out-note-word-2 : tie.Need-element-copy-out-note-word-2 Inv-loop μ-loop
 element-copy-out-note-word-2 c = search needs
 
--- src/lib.rt:68:9
 note-word-requires : tie.Need-note-word-requires Inv-loop μ-loop
 note-word-requires c κs = search (noting-low, needs)
 
--- src/lib.rt:65:5
 loop-less : tie.Need-loop-less Inv-loop μ-loop
 loop-less c = search needs
 
--- src/lib.rt:65:5
 loop-again : tie.Need-loop-again Inv-loop μ-loop
 loop-again c = search (noting-next, needs)
 
--- src/lib.rt:49:1
 returns : tie.Need-returns Inv-loop μ-loop
 returns c = search (noting-done, needs)
 

@@ -9,44 +9,35 @@ use Rattle.base_words.proofs.wide.Reads as wide-reads
 use Rattle.derive_sections.proofs.note_record.Reads as note-record-reads
 
 abbrev Inv-loop : tie.InvT-loop
-Inv-loop log classes row count order₀ places₀ names n i₀ k₀ order places i k = NotingR names log classes row order₀ count n order places i k
+Inv-loop log logtags row count order₀ places₀ names n i₀ k₀ order places i k = NotingR names log logtags row order₀ count n order places i k
 
 abbrev μ-loop : tie.MeasureT-loop
-μ-loop log classes row count order₀ places₀ names n i₀ k₀ order places i k = count - i
+μ-loop log logtags row count order₀ places₀ names n i₀ k₀ order places i k = count - i
 
--- src/lib.rt:90:5
 loop-holds : tie.Need-loop-holds Inv-loop μ-loop
 loop-holds c = search (notingR-begin, needs)
 
--- src/lib.rt:92:9
 add-i : tie.Need-add-i Inv-loop μ-loop
 add-i c = search needs
 
--- src/lib.rt:93:69
 mul-wide : tie.Need-mul-wide Inv-loop μ-loop
 mul-wide c = search needs
 
--- src/lib.rt:93:69
 element-copy-out-wide : tie.Need-element-copy-out-wide Inv-loop μ-loop
 element-copy-out-wide c = search needs
 
--- src/lib.rt:93:64
 wide-requires : tie.Need-wide-requires Inv-loop μ-loop
 wide-requires c κs = search needs
 
--- src/lib.rt:93:9
 note-record-requires : tie.Need-note-record-requires Inv-loop μ-loop
 note-record-requires c κs = search (notingR-rec, needs)
 
--- src/lib.rt:90:5
 loop-less : tie.Need-loop-less Inv-loop μ-loop
 loop-less c = search needs
 
--- src/lib.rt:90:5
 loop-again : tie.Need-loop-again Inv-loop μ-loop
 loop-again c = search (notingR-next, needs)
 
--- src/lib.rt:74:1
 returns : tie.Need-returns Inv-loop μ-loop
 returns c = search (notingR-done, needs)
 

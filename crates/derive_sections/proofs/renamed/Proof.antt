@@ -7,31 +7,24 @@ use Rattle.derive_sections.proofs.renamed.Reads as reads
 use Rattle.derive_sections.proofs.renamed.Lts as lts
 use Rattle.base_words.proofs.wide.Reads as wide-reads
 
--- src/lib.rt:128:9
 returns : tie.Need-returns
 returns c = search (renamed-plain, needs)
 
--- src/lib.rt:131:9
 returns-2 : tie.Need-returns-2
 returns-2 c = search (renamed-zero, needs)
 
--- src/lib.rt:133:17
 sub-wide : tie.Need-sub-wide
 sub-wide c = search needs
 
--- src/lib.rt:133:12
 wide-requires : tie.Need-wide-requires
 wide-requires c κs = search needs
 
--- src/lib.rt:133:5
 mul-result : tie.Need-mul-result
 mul-result c = search needs
 
--- src/lib.rt:133:5
 element-copy-out-result : tie.Need-element-copy-out-result
 element-copy-out-result c = search (renamed-low, needs)
 
--- src/lib.rt:123:1
 returns-3 : tie.Need-returns-3
 returns-3 c = search (renamed-name, needs)
 

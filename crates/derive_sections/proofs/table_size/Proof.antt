@@ -8,58 +8,46 @@ use Rattle.derive_sections.proofs.table_size.Lts as lts
 use Rattle.base_words.proofs.wide.Reads as wide-reads
 
 abbrev Inv-loop : tie.InvT-loop
-Inv-loop log classes row count i₀ o₀ i o = Adding log classes row count i o
+Inv-loop log logtags row count i₀ o₀ i o = Adding log logtags row count i o
 
 abbrev μ-loop : tie.MeasureT-loop
-μ-loop log classes row count i₀ o₀ i o = count - i
+μ-loop log logtags row count i₀ o₀ i o = count - i
 
--- src/lib.rt:234:5
 loop-holds : tie.Need-loop-holds Inv-loop μ-loop
 loop-holds c = search (adding-begin, needs)
 
--- src/lib.rt:236:9
 add-i : tie.Need-add-i Inv-loop μ-loop
 add-i c = search needs
 
--- src/lib.rt:237:28
 mul-wide : tie.Need-mul-wide Inv-loop μ-loop
 mul-wide c = search needs
 
--- src/lib.rt:237:28
 element-copy-out-wide : tie.Need-element-copy-out-wide Inv-loop μ-loop
 element-copy-out-wide c = search needs
 
--- src/lib.rt:237:23
 wide-requires : tie.Need-wide-requires Inv-loop μ-loop
 wide-requires c κs = search needs
 
--- src/lib.rt:237:19
 mul-wide-2 : tie.Need-mul-wide-2 Inv-loop μ-loop
 mul-wide-2 c = search needs
 
--- src/lib.rt:237:19
 element-copy-out-wide-2 : tie.Need-element-copy-out-wide-2 Inv-loop μ-loop
 element-copy-out-wide-2 c = search (row-in, needs)
 
--- src/lib.rt:237:14
 wide-requires-2 : tie.Need-wide-requires-2 Inv-loop μ-loop
 wide-requires-2 c κs = search needs
 
--- src/lib.rt:237:9
 add-o : tie.Need-add-o Inv-loop μ-loop
 add-o c = search needs
 
--- src/lib.rt:234:5
 loop-less : tie.Need-loop-less Inv-loop μ-loop
 loop-less c = search needs
 
--- src/lib.rt:234:5
 loop-again : tie.Need-loop-again Inv-loop μ-loop
 loop-again c = search (adding-next, needs)
 
--- src/lib.rt:228:1
 returns : tie.Need-returns Inv-loop μ-loop
-returns c = let st = c .before .before in let a = st .args in let p = st .pre in let l = c .before .loop in adding-done (a .log .now) (a .classes .now) (a .row .now) (a .count) p (l .i) (l .o) (l .inv) (c .loop-test .left)
+returns c = let st = c .before .before in let a = st .args in let p = st .pre in let l = c .before .loop in adding-done (a .log .now) (a .logtags .now) (a .row .now) (a .count) p (l .i) (l .o) (l .inv) (c .loop-test .left)
 
 pub table-size-spec : {M : Type 1} → statement M
 table-size-spec =

@@ -9,112 +9,86 @@ use Rattle.derive_sections.proofs.write_heads.Lts as lts
 use Rattle.derive_sections.proofs.table_size.Reads as table-size-reads
 
 abbrev Inv-loop : tie.InvT-loop
-Inv-loop log classes starts pairs out₀ counts t₀ p₀ out t p = Heading log classes starts counts pairs out₀ out t p
+Inv-loop log logtags starts pairs out₀ counts t₀ p₀ out t p = Heading log logtags starts counts pairs out₀ out t p
 
 abbrev μ-loop : tie.MeasureT-loop
-μ-loop log classes starts pairs out₀ counts t₀ p₀ out t p = 8 - t
+μ-loop log logtags starts pairs out₀ counts t₀ p₀ out t p = 8 - t
 
--- src/lib.rt:301:5
 loop-holds : tie.Need-loop-holds Inv-loop μ-loop
 loop-holds c = search (heading-begin, needs)
 
--- src/lib.rt:303:9
 add-t : tie.Need-add-t Inv-loop μ-loop
 add-t c = search needs
 
--- src/lib.rt:304:26
 mul-out : tie.Need-mul-out Inv-loop μ-loop
 mul-out c = search needs
 
--- src/lib.rt:304:26
 array-read-out : tie.Need-array-read-out Inv-loop μ-loop
 array-read-out c = search needs
 
--- src/lib.rt:304:26
 cast-out : tie.Need-cast-out Inv-loop μ-loop
-cast-out c = let st = c .before .before in let a = st .args in let p = st .pre in let h = rows-few (a .log .now) (a .classes .now) (a .starts .now) (a .t4) (p .0) (c .before .loop .t) (c .loop-test .taken) in omega arith
+cast-out c = let st = c .before .before in let a = st .args in let p = st .pre in let h = rows-few (a .log .now) (a .logtags .now) (a .starts .now) (a .t4) (p .0) (c .before .loop .t) (c .loop-test .taken) in omega arith
 
--- src/lib.rt:304:17
 mul-out-2 : tie.Need-mul-out-2 Inv-loop μ-loop
 mul-out-2 c = search needs
 
--- src/lib.rt:304:13
 add-out : tie.Need-add-out Inv-loop μ-loop
 add-out c = search needs
 
--- src/lib.rt:304:9
 mul-out-3 : tie.Need-mul-out-3 Inv-loop μ-loop
 mul-out-3 c = search needs
 
--- src/lib.rt:304:9
 element-write-out : tie.Need-element-write-out Inv-loop μ-loop
 element-write-out c = search needs
 
--- src/lib.rt:305:26
 cast-out-2 : tie.Need-cast-out-2 Inv-loop μ-loop
 cast-out-2 c = search needs
 
--- src/lib.rt:305:17
 mul-out-4 : tie.Need-mul-out-4 Inv-loop μ-loop
 mul-out-4 c = search needs
 
--- src/lib.rt:305:13
 add-out-2 : tie.Need-add-out-2 Inv-loop μ-loop
 add-out-2 c = search needs
 
--- src/lib.rt:305:9
 mul-out-5 : tie.Need-mul-out-5 Inv-loop μ-loop
 mul-out-5 c = search needs
 
--- src/lib.rt:305:9
 element-write-out-2 : tie.Need-element-write-out-2 Inv-loop μ-loop
 element-write-out-2 c = search needs
 
--- src/lib.rt:306:39
 mul-table-size : tie.Need-mul-table-size Inv-loop μ-loop
 mul-table-size c = search needs
 
--- src/lib.rt:306:39
 index-1-table-size : tie.Need-index-1-table-size Inv-loop μ-loop
 index-1-table-size c = search needs
 
--- src/lib.rt:306:51
 mul-table-size-2 : tie.Need-mul-table-size-2 Inv-loop μ-loop
 mul-table-size-2 c = search needs
 
--- src/lib.rt:306:51
 array-read-table-size : tie.Need-array-read-table-size Inv-loop μ-loop
 array-read-table-size c = search needs
 
--- src/lib.rt:306:14
 table-size-requires : tie.Need-table-size-requires Inv-loop μ-loop
 table-size-requires c κs = search (rows-row, needs)
 
--- src/lib.rt:306:9
 add-p : tie.Need-add-p Inv-loop μ-loop
 add-p c = search needs
 
--- src/lib.rt:301:5
 loop-less : tie.Need-loop-less Inv-loop μ-loop
 loop-less c = search needs
 
--- src/lib.rt:301:5
 loop-again : tie.Need-loop-again Inv-loop μ-loop
-loop-again c = let st = c .before .before .before .before in let a = st .args in let p = st .pre in let l = c .before .before .before .loop in let h = c .before .before .loop-test .taken in heading-next (a .log .now) (a .classes .now) (a .starts .now) (a .t4) (p .0) (a .pairs) (a .out .now) (l .out) (l .t) (l .p) (l .inv) h _ (c .table-size .ensures)
+loop-again c = let st = c .before .before .before .before in let a = st .args in let p = st .pre in let l = c .before .before .before .loop in let h = c .before .before .loop-test .taken in heading-next (a .log .now) (a .logtags .now) (a .starts .now) (a .t4) (p .0) (a .pairs) (a .out .now) (l .out) (l .t) (l .p) (l .inv) h _ (c .table-size .ensures)
 
--- src/lib.rt:308:5
 element-write-out-3 : tie.Need-element-write-out-3 Inv-loop μ-loop
 element-write-out-3 c = search needs
 
--- src/lib.rt:309:15
 cast-out-3 : tie.Need-cast-out-3 Inv-loop μ-loop
 cast-out-3 c = search needs
 
--- src/lib.rt:309:5
 element-write-out-4 : tie.Need-element-write-out-4 Inv-loop μ-loop
 element-write-out-4 c = search needs
 
--- src/lib.rt:287:1
 returns : tie.Need-returns Inv-loop μ-loop
 returns c = search (heading-done, needs)
 

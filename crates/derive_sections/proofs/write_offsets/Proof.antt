@@ -8,72 +8,56 @@ use Rattle.derive_sections.proofs.write_offsets.Lts as lts
 use Rattle.base_words.proofs.wide.Reads as wide-reads
 
 abbrev Inv-loop : tie.InvT-loop
-Inv-loop log classes row count out₀ at i₀ o₀ out i o = Offering log classes row count out₀ at out i o
+Inv-loop log logtags row count out₀ at i₀ o₀ out i o = Offering log logtags row count out₀ at out i o
 
 abbrev μ-loop : tie.MeasureT-loop
-μ-loop log classes row count out₀ at i₀ o₀ out i o = count - i
+μ-loop log logtags row count out₀ at i₀ o₀ out i o = count - i
 
--- src/lib.rt:177:5
 loop-holds : tie.Need-loop-holds Inv-loop μ-loop
 loop-holds c = search (offering-begin, needs)
 
--- src/lib.rt:179:9
 add-i : tie.Need-add-i Inv-loop μ-loop
 add-i c = search needs
 
--- src/lib.rt:180:23
 cast-out : tie.Need-cast-out Inv-loop μ-loop
 cast-out c = search needs
 
--- src/lib.rt:180:13
 add-out : tie.Need-add-out Inv-loop μ-loop
 add-out c = search needs
 
--- src/lib.rt:180:9
 mul-out : tie.Need-mul-out Inv-loop μ-loop
 mul-out c = search needs
 
--- src/lib.rt:180:9
 element-write-out : tie.Need-element-write-out Inv-loop μ-loop
 element-write-out c = search needs
 
--- src/lib.rt:181:28
 mul-wide : tie.Need-mul-wide Inv-loop μ-loop
 mul-wide c = search needs
 
--- src/lib.rt:181:28
 element-copy-out-wide : tie.Need-element-copy-out-wide Inv-loop μ-loop
 element-copy-out-wide c = search needs
 
--- src/lib.rt:181:23
 wide-requires : tie.Need-wide-requires Inv-loop μ-loop
 wide-requires c κs = search needs
 
--- src/lib.rt:181:19
 mul-wide-2 : tie.Need-mul-wide-2 Inv-loop μ-loop
 mul-wide-2 c = search needs
 
--- src/lib.rt:181:19
 element-copy-out-wide-2 : tie.Need-element-copy-out-wide-2 Inv-loop μ-loop
 element-copy-out-wide-2 c = search (row-in, needs)
 
--- src/lib.rt:181:14
 wide-requires-2 : tie.Need-wide-requires-2 Inv-loop μ-loop
 wide-requires-2 c κs = search needs
 
--- src/lib.rt:181:9
 add-o : tie.Need-add-o Inv-loop μ-loop
 add-o c = search needs
 
--- src/lib.rt:177:5
 loop-less : tie.Need-loop-less Inv-loop μ-loop
 loop-less c = search needs
 
--- src/lib.rt:177:5
 loop-again : tie.Need-loop-again Inv-loop μ-loop
 loop-again c = search (offering-next, needs)
 
--- src/lib.rt:163:1
 returns : tie.Need-returns Inv-loop μ-loop
 returns c = search (offering-done, needs)
 

@@ -9,46 +9,37 @@ use Rattle.base_words.proofs.wide.Reads as wide-reads
 use Rattle.derive_sections.proofs.write_record.Reads as write-record-reads
 
 abbrev Inv-loop : tie.InvT-loop
-Inv-loop log classes places row count out₀ at i₀ p₀ out i p = Joining log classes row count places out₀ at out i p
+Inv-loop log logtags places row count out₀ at i₀ p₀ out i p = Joining log logtags row count places out₀ at out i p
 
 abbrev μ-loop : tie.MeasureT-loop
-μ-loop log classes places row count out₀ at i₀ p₀ out i p = count - i
+μ-loop log logtags places row count out₀ at i₀ p₀ out i p = count - i
 
--- src/lib.rt:201:5
 loop-holds : tie.Need-loop-holds Inv-loop μ-loop
 loop-holds c = search (joining-begin, needs)
 
--- src/lib.rt:203:9
 add-i : tie.Need-add-i Inv-loop μ-loop
 add-i c = search needs
 
--- src/lib.rt:204:58
 mul-wide : tie.Need-mul-wide Inv-loop μ-loop
 mul-wide c = search needs
 
--- src/lib.rt:204:58
 element-copy-out-wide : tie.Need-element-copy-out-wide Inv-loop μ-loop
 element-copy-out-wide c = search needs
 
--- src/lib.rt:204:53
 wide-requires : tie.Need-wide-requires Inv-loop μ-loop
 wide-requires c κs = search needs
 
--- src/lib.rt:204:9
 write-record-requires : tie.Need-write-record-requires Inv-loop μ-loop
-write-record-requires c κs = let st = c .before .before .before .before .before in let a = st .args in let p = st .pre in let l = c .before .before .before .before .loop in let h = c .before .before .before .loop-test .taken in let e = c .wide .ensures .0 in (row-rec (a .log .now) (a .classes .now) (a .row .now) (a .count) (p .0) (l .i) _ h e, (joining-room (a .log .now) (a .classes .now) (a .row .now) (a .count) (p .0) (a .places .now) (a .out .now) (a .at) (p .1 .0) (l .out) (l .i) (l .p) (l .inv) h _ e, l .inv .long))
+write-record-requires c κs = let st = c .before .before .before .before .before in let a = st .args in let p = st .pre in let l = c .before .before .before .before .loop in let h = c .before .before .before .loop-test .taken in let e = c .wide .ensures .0 in (row-rec (a .log .now) (a .logtags .now) (a .row .now) (a .count) (p .0) (l .i) _ h e, (joining-room (a .log .now) (a .logtags .now) (a .row .now) (a .count) (p .0) (a .places .now) (a .out .now) (a .at) (p .1 .0) (l .out) (l .i) (l .p) (l .inv) h _ e, l .inv .long))
 
--- src/lib.rt:201:5
 loop-less : tie.Need-loop-less Inv-loop μ-loop
 loop-less c = search needs
 
--- src/lib.rt:201:5
 loop-again : tie.Need-loop-again Inv-loop μ-loop
-loop-again c = let st = c .before .before .before .before .before .before in let a = st .args in let p = st .pre in let l = c .before .before .before .before .before .loop in let h = c .before .before .before .before .loop-test .taken in joining-next (a .log .now) (a .classes .now) (a .row .now) (a .count) (p .0) (a .places .now) (a .out .now) (a .at) (p .1 .0) (l .out) (l .i) (l .p) (l .inv) h _ (c .before .wide .ensures .0) _ _ (c .write-record .ensures)
+loop-again c = let st = c .before .before .before .before .before .before in let a = st .args in let p = st .pre in let l = c .before .before .before .before .before .loop in let h = c .before .before .before .before .loop-test .taken in joining-next (a .log .now) (a .logtags .now) (a .row .now) (a .count) (p .0) (a .places .now) (a .out .now) (a .at) (p .1 .0) (l .out) (l .i) (l .p) (l .inv) h _ (c .before .wide .ensures .0) _ _ (c .write-record .ensures)
 
--- src/lib.rt:186:1
 returns : tie.Need-returns Inv-loop μ-loop
-returns c = let st = c .before .before in let a = st .args in let p = st .pre in let l = c .before .loop in joining-done (a .log .now) (a .classes .now) (a .row .now) (a .count) (p .0) (a .places .now) (a .out .now) (a .at) (p .1 .0) (l .out) (l .i) (l .p) (l .inv) (c .loop-test .left)
+returns c = let st = c .before .before in let a = st .args in let p = st .pre in let l = c .before .loop in joining-done (a .log .now) (a .logtags .now) (a .row .now) (a .count) (p .0) (a .places .now) (a .out .now) (a .at) (p .1 .0) (l .out) (l .i) (l .p) (l .inv) (c .loop-test .left)
 
 pub write-records-spec : {M : Type 1} → statement M
 write-records-spec =

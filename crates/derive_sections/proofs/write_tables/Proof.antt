@@ -8,50 +8,40 @@ use Rattle.derive_sections.proofs.write_tables.Lts as lts
 use Rattle.derive_sections.proofs.write_table.Reads as write-table-reads
 
 abbrev Inv-loop : tie.InvT-loop
-Inv-loop log classes places starts out₀ at counts t₀ p₀ out t p = Tabling log classes starts counts places out₀ at out t p
+Inv-loop log logtags places starts out₀ at counts t₀ p₀ out t p = Tabling log logtags starts counts places out₀ at out t p
 
 abbrev μ-loop : tie.MeasureT-loop
-μ-loop log classes places starts out₀ at counts t₀ p₀ out t p = 8 - t
+μ-loop log logtags places starts out₀ at counts t₀ p₀ out t p = 8 - t
 
--- src/lib.rt:258:5
 loop-holds : tie.Need-loop-holds Inv-loop μ-loop
 loop-holds c = search (tabling-begin, needs)
 
--- src/lib.rt:260:9
 add-t : tie.Need-add-t Inv-loop μ-loop
 add-t c = search needs
 
--- src/lib.rt:261:47
 mul-write-table : tie.Need-mul-write-table Inv-loop μ-loop
 mul-write-table c = search needs
 
--- src/lib.rt:261:47
 index-1-write-table : tie.Need-index-1-write-table Inv-loop μ-loop
 index-1-write-table c = search needs
 
--- src/lib.rt:261:59
 mul-write-table-2 : tie.Need-mul-write-table-2 Inv-loop μ-loop
 mul-write-table-2 c = search needs
 
--- src/lib.rt:261:59
 array-read-write-table : tie.Need-array-read-write-table Inv-loop μ-loop
 array-read-write-table c = search needs
 
--- src/lib.rt:261:9
 write-table-requires : tie.Need-write-table-requires Inv-loop μ-loop
-write-table-requires c κs = let st = c .before .before .before .before in let a = st .args in let p = st .pre in let l = c .before .before .before .loop in let h = c .before .before .loop-test .taken in (rows-row (a .log .now) (a .classes .now) (a .starts .now) (a .t5) (p .0) (l .t) h, (tabling-room (a .log .now) (a .classes .now) (a .starts .now) (a .t5) (p .0) (a .places .now) (a .out .now) (a .at) (p .1 .0) (l .out) (l .t) (l .p) (l .inv) h, l .inv .long))
+write-table-requires c κs = let st = c .before .before .before .before in let a = st .args in let p = st .pre in let l = c .before .before .before .loop in let h = c .before .before .loop-test .taken in (rows-row (a .log .now) (a .logtags .now) (a .starts .now) (a .t5) (p .0) (l .t) h, (tabling-room (a .log .now) (a .logtags .now) (a .starts .now) (a .t5) (p .0) (a .places .now) (a .out .now) (a .at) (p .1 .0) (l .out) (l .t) (l .p) (l .inv) h, l .inv .long))
 
--- src/lib.rt:258:5
 loop-less : tie.Need-loop-less Inv-loop μ-loop
 loop-less c = search needs
 
--- src/lib.rt:258:5
 loop-again : tie.Need-loop-again Inv-loop μ-loop
-loop-again c = let st = c .before .before .before .before .before in let a = st .args in let p = st .pre in let l = c .before .before .before .before .loop in let h = c .before .before .before .loop-test .taken in tabling-next (a .log .now) (a .classes .now) (a .starts .now) (a .t5) (p .0) (a .places .now) (a .out .now) (a .at) (p .1 .0) (l .out) (l .t) (l .p) (l .inv) h _ _ (c .write-table .ensures)
+loop-again c = let st = c .before .before .before .before .before in let a = st .args in let p = st .pre in let l = c .before .before .before .before .loop in let h = c .before .before .before .loop-test .taken in tabling-next (a .log .now) (a .logtags .now) (a .starts .now) (a .t5) (p .0) (a .places .now) (a .out .now) (a .at) (p .1 .0) (l .out) (l .t) (l .p) (l .inv) h _ _ (c .write-table .ensures)
 
--- src/lib.rt:243:1
 returns : tie.Need-returns Inv-loop μ-loop
-returns c = let st = c .before .before in let a = st .args in let p = st .pre in let l = c .before .loop in tabling-done (a .log .now) (a .classes .now) (a .starts .now) (a .t5) (p .0) (a .places .now) (a .out .now) (a .at) (p .1 .0) (l .out) (l .t) (l .p) (l .inv) (c .loop-test .left)
+returns c = let st = c .before .before in let a = st .args in let p = st .pre in let l = c .before .loop in tabling-done (a .log .now) (a .logtags .now) (a .starts .now) (a .t5) (p .0) (a .places .now) (a .out .now) (a .at) (p .1 .0) (l .out) (l .t) (l .p) (l .inv) (c .loop-test .left)
 
 pub write-tables-spec : {M : Type 1} → statement M
 write-tables-spec =

@@ -12,7 +12,7 @@ use Rattle.derive_types.proofs.import_type.Reads as import-type-reads
 use Rattle.base_words.proofs.wide.Reads as wide-reads
 
 returns : tie.Need-returns
-returns c = let a = c .before .args in let p = c .before .pre in let src = p .0 in let q = p .1 .0 in let ks = p .1 .1 .0 in let K = p .1 .1 .1 .0 in let P = p .1 .1 .1 .1 in ray-none (a .words .now) (a .tags .now) (a .n) src (a .offset) (a .log .now) (a .classes .now) (a .starts .now) (a .maps .now) (a .marks .now) (a .special .now) (a .ends) (q .2) K P (a .k) (a .w) (q .0) (q .1) (c .if1 .taken)
+returns c = let a = c .before .args in let p = c .before .pre in let src = p .0 in let q = p .1 .0 in let ks = p .1 .1 .0 in let K = p .1 .1 .1 .0 in let P = p .1 .1 .1 .1 in ray-none (a .words .now) (a .tags .now) (a .n) src (a .offset) (a .log .now) (a .logtags .now) (a .starts .now) (a .maps .now) (a .buckets .now) (a .special .now) (a .ends) (q .2) K P (a .k) (a .w) (q .0) (q .1) (c .if1 .taken)
 
 sub-h : tie.Need-sub-h
 sub-h c = search needs
@@ -36,13 +36,13 @@ index-2-maps : tie.Need-index-2-maps
 index-2-maps c = let a = c .before .before .before .before .args in let p = c .before .before .before .before .pre in let src = p .0 in let q = p .1 .0 in let ks = p .1 .1 .0 in let K = p .1 .1 .1 .0 in let P = p .1 .1 .1 .1 in let ne = c .before .before .before .if1 .left in let x = q .1 in let y = c .before .before .wide .ensures .0 in let hk : c .before .before .wide .result < countAt 1 (a .words .now) = omega arith in let z = small-number (a .words .now) (a .tags .now) (a .n) src 1 (c .before .before .wide .result) (omega arith) hk in omega arith
 
 returns-2 : tie.Need-returns-2
-returns-2 c = let a = c .before .before .before .before .args in let p = c .before .before .before .before .pre in let src = p .0 in let q = p .1 .0 in let ks = p .1 .1 .0 in let K = p .1 .1 .1 .0 in let P = p .1 .1 .1 .1 in ray-old (a .words .now) (a .tags .now) (a .n) src (a .offset) (a .log .now) (a .classes .now) (a .starts .now) (a .maps .now) (a .marks .now) (a .special .now) (a .ends) (q .2) K P (a .k) (a .w) (q .0) (q .1) (c .before .before .before .if1 .left) (c .before .before .wide .result) (c .before .before .wide .ensures .0) (c .if2 .taken)
+returns-2 c = let a = c .before .before .before .before .args in let p = c .before .before .before .before .pre in let src = p .0 in let q = p .1 .0 in let ks = p .1 .1 .0 in let K = p .1 .1 .1 .0 in let P = p .1 .1 .1 .1 in ray-old (a .words .now) (a .tags .now) (a .n) src (a .offset) (a .log .now) (a .logtags .now) (a .starts .now) (a .maps .now) (a .buckets .now) (a .special .now) (a .ends) (q .2) K P (a .k) (a .w) (q .0) (q .1) (c .before .before .before .if1 .left) (c .before .before .wide .result) (c .before .before .wide .ensures .0) (c .if2 .taken)
 
 import-type-requires : tie.Need-import-type-requires
 import-type-requires c κs = let a = c .before .before .before .before .before .before .before .before .before .args in let p = c .before .before .before .before .before .before .before .before .before .pre in let src = p .0 in let q = p .1 .0 in let ks = p .1 .1 .0 in let K = p .1 .1 .1 .0 in let P = p .1 .1 .1 .1 in let ne = c .before .before .before .before .before .before .before .before .if1 .left in let x = q .1 in (src, ((omega arith, q .2), (ks, K)))
 
 returns-3 : tie.Need-returns-3
-returns-3 c = let a = c .before .before .before .before .before .before .before .before .before .before .before .args in let p = c .before .before .before .before .before .before .before .before .before .before .before .pre in let src = p .0 in let q = p .1 .0 in let ks = p .1 .1 .0 in let K = p .1 .1 .1 .0 in let P = p .1 .1 .1 .1 in ray-full (a .words .now) (a .tags .now) (a .n) src (a .offset) (a .log .now) (a .classes .now) (a .starts .now) (a .maps .now) (a .marks .now) (a .special .now) (a .ends) (q .2) K P (a .k) (a .w) (q .0) (q .1) (c .before .before .before .before .before .before .before .before .before .before .if1 .left) (c .before .before .before .before .before .before .before .before .before .wide .result) (c .before .before .before .before .before .before .before .before .before .wide .ensures .0) (c .before .before .before .before .before .before .before .if2 .left) _ _ _ _ _ _ (c .before .import-type .ensures) (c .if3 .taken)
+returns-3 c = let a = c .before .before .before .before .before .before .before .before .before .before .before .args in let p = c .before .before .before .before .before .before .before .before .before .before .before .pre in let src = p .0 in let q = p .1 .0 in let ks = p .1 .1 .0 in let K = p .1 .1 .1 .0 in let P = p .1 .1 .1 .1 in ray-full (a .words .now) (a .tags .now) (a .n) src (a .offset) (a .log .now) (a .logtags .now) (a .starts .now) (a .maps .now) (a .buckets .now) (a .special .now) (a .ends) (q .2) K P (a .k) (a .w) (q .0) (q .1) (c .before .before .before .before .before .before .before .before .before .before .if1 .left) (c .before .before .before .before .before .before .before .before .before .wide .result) (c .before .before .before .before .before .before .before .before .before .wide .ensures .0) (c .before .before .before .before .before .before .before .if2 .left) _ _ _ _ _ _ (c .before .import-type .ensures) (c .if3 .taken)
 
 mul-special : tie.Need-mul-special
 mul-special c = search needs
@@ -60,7 +60,7 @@ element-write-special : tie.Need-element-write-special
 element-write-special c = search needs
 
 returns-4 : tie.Need-returns-4
-returns-4 c = let a = c .before .before .before .before .before .before .before .before .before .before .before .before .args in let p = c .before .before .before .before .before .before .before .before .before .before .before .before .pre in let src = p .0 in let q = p .1 .0 in let ks = p .1 .1 .0 in let K = p .1 .1 .1 .0 in let P = p .1 .1 .1 .1 in ray-new (a .words .now) (a .tags .now) (a .n) src (a .offset) (a .log .now) (a .classes .now) (a .starts .now) (a .maps .now) (a .marks .now) (a .special .now) (a .ends) (q .2) K P (a .k) (a .w) (q .0) (q .1) (c .before .before .before .before .before .before .before .before .before .before .before .if1 .left) (c .before .before .before .before .before .before .before .before .before .before .wide .result) (c .before .before .before .before .before .before .before .before .before .before .wide .ensures .0) (c .before .before .before .before .before .before .before .before .if2 .left) _ _ _ _ _ _ (c .before .before .import-type .ensures) (c .before .if3 .left)
+returns-4 c = let a = c .before .before .before .before .before .before .before .before .before .before .before .before .args in let p = c .before .before .before .before .before .before .before .before .before .before .before .before .pre in let src = p .0 in let q = p .1 .0 in let ks = p .1 .1 .0 in let K = p .1 .1 .1 .0 in let P = p .1 .1 .1 .1 in ray-new (a .words .now) (a .tags .now) (a .n) src (a .offset) (a .log .now) (a .logtags .now) (a .starts .now) (a .maps .now) (a .buckets .now) (a .special .now) (a .ends) (q .2) K P (a .k) (a .w) (q .0) (q .1) (c .before .before .before .before .before .before .before .before .before .before .before .if1 .left) (c .before .before .before .before .before .before .before .before .before .before .wide .result) (c .before .before .before .before .before .before .before .before .before .before .wide .ensures .0) (c .before .before .before .before .before .before .before .before .if2 .left) _ _ _ _ _ _ (c .before .before .import-type .ensures) (c .before .if3 .left)
 
 pub ray-spec : {M : Type 1} → statement M
 ray-spec =

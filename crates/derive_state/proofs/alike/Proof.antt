@@ -13,94 +13,73 @@ use Rattle.derive_state.proofs.carried.Reads as carried-reads
 use Rattle.base_words.proofs.wide.Reads as wide-reads
 
 abbrev Inv-loop : tie.InvT-loop
-Inv-loop words tags kinds log classes maps at end s i₀ p₀ i p = Comparing words tags log classes (wentR maps) at end s i p
+Inv-loop words tags targets log logtags maps at end s i₀ p₀ i p = Comparing words tags log logtags (wentR maps) at end s i p
 
 abbrev μ-loop : tie.MeasureT-loop
-μ-loop words tags kinds log classes maps at end s i₀ p₀ i p = end - i
+μ-loop words tags targets log logtags maps at end s i₀ p₀ i p = end - i
 
--- src/lib.rt:430:13
 mul-wide : tie.Need-mul-wide Inv-loop μ-loop
 mul-wide c = search needs
 
--- src/lib.rt:430:13
 element-copy-out-wide : tie.Need-element-copy-out-wide Inv-loop μ-loop
 element-copy-out-wide c = search needs
 
--- src/lib.rt:430:8
 wide-requires : tie.Need-wide-requires Inv-loop μ-loop
 wide-requires c κs = search needs
 
--- src/lib.rt:430:24
 sub-if1 : tie.Need-sub-if1 Inv-loop μ-loop
 sub-if1 c = search needs
 
--- src/lib.rt:431:9
 returns : tie.Need-returns Inv-loop μ-loop
-returns c = let a = (c .before .before .before .args) in let p = (c .before .before .before .pre) in compare-short (a .words .now) (a .tags .now) (a .log .now) (a .classes .now) (wentR (a .maps .now)) (a .at) (a .end) (a .s) (p .0 .stretch) (p .0 .small) (p .1 .0) (p .1 .1) (p .1 .2) _ (c .before .wide .ensures .0) (c .if1 .taken)
+returns c = let a = (c .before .before .before .args) in let p = (c .before .before .before .pre) in compare-short (a .words .now) (a .tags .now) (a .log .now) (a .logtags .now) (wentR (a .maps .now)) (a .at) (a .end) (a .s) (p .0 .stretch) (p .0 .small) (p .1 .0) (p .1 .1) (p .1 .2) _ (c .before .wide .ensures .0) (c .if1 .taken)
 
--- src/lib.rt:434:17
 add-p : tie.Need-add-p Inv-loop μ-loop
 add-p c = search needs
 
--- src/lib.rt:435:5
 loop-holds : tie.Need-loop-holds Inv-loop μ-loop
-loop-holds c = let a = (c .before .before .before .args) in let p = (c .before .before .before .pre) in compare-begin (a .words .now) (a .tags .now) (a .log .now) (a .classes .now) (wentR (a .maps .now)) (a .at) (a .end) (a .s) (p .0 .stretch) (p .0 .small) (p .1 .0) (p .1 .1) (p .1 .2) _ (c .before .wide .ensures .0) (c .if1 .left)
+loop-holds c = let a = (c .before .before .before .args) in let p = (c .before .before .before .pre) in compare-begin (a .words .now) (a .tags .now) (a .log .now) (a .logtags .now) (wentR (a .maps .now)) (a .at) (a .end) (a .s) (p .0 .stretch) (p .0 .small) (p .1 .0) (p .1 .1) (p .1 .2) _ (c .before .wide .ensures .0) (c .if1 .left)
 
--- src/lib.rt:438:9
 add-i : tie.Need-add-i Inv-loop μ-loop
 add-i c = search needs
 
--- src/lib.rt:439:9
 add-p-2 : tie.Need-add-p-2 Inv-loop μ-loop
-add-p-2 c = let a = (c .before .before .before .before .before .args) in let p = (c .before .before .before .before .before .pre) in let l = (c .before .loop) in let h = c .loop-test .taken in let q = compare-in (a .words .now) (a .tags .now) (a .log .now) (a .classes .now) (wentR (a .maps .now)) (a .at) (a .end) (a .s) (p .0 .stretch) (p .0 .small) (p .1 .0) (p .1 .1) (p .1 .2) (l .i) (l .p) (l .inv) h in omega arith
+add-p-2 c = let a = (c .before .before .before .before .before .args) in let p = (c .before .before .before .before .before .pre) in let l = (c .before .loop) in let h = c .loop-test .taken in let q = compare-in (a .words .now) (a .tags .now) (a .log .now) (a .logtags .now) (wentR (a .maps .now)) (a .at) (a .end) (a .s) (p .0 .stretch) (p .0 .small) (p .1 .0) (p .1 .1) (p .1 .2) (l .i) (l .p) (l .inv) h in omega arith
 
--- src/lib.rt:440:17
 element-copy-out-b : tie.Need-element-copy-out-b Inv-loop μ-loop
 element-copy-out-b c = search needs
 
--- src/lib.rt:441:41
 mul-carried : tie.Need-mul-carried Inv-loop μ-loop
 mul-carried c = search needs
 
--- src/lib.rt:441:41
 element-copy-out-carried : tie.Need-element-copy-out-carried Inv-loop μ-loop
 element-copy-out-carried c = search needs
 
--- src/lib.rt:441:13
 carried-requires : tie.Need-carried-requires Inv-loop μ-loop
-carried-requires c κs = let a = (c .before .before .before .before .before .before .before .args) in let p = (c .before .before .before .before .before .before .before .pre) in let l = (c .before .before .before .loop) in let h = c .before .before .loop-test .taken in (compare-small (a .words .now) (a .tags .now) (a .log .now) (a .classes .now) (wentR (a .maps .now)) (a .at) (a .end) (a .s) (p .0 .stretch) (p .0 .small) (p .1 .0) (p .1 .1) (p .1 .2) (l .i) (l .p) (l .inv) h, (p .1 .3, p .0 .kinds-are))
+carried-requires c κs = let a = (c .before .before .before .before .before .before .before .args) in let p = (c .before .before .before .before .before .before .before .pre) in let l = (c .before .before .before .loop) in let h = c .before .before .loop-test .taken in (compare-small (a .words .now) (a .tags .now) (a .log .now) (a .logtags .now) (wentR (a .maps .now)) (a .at) (a .end) (a .s) (p .0 .stretch) (p .0 .small) (p .1 .0) (p .1 .1) (p .1 .2) (l .i) (l .p) (l .inv) h, (p .1 .3, p .0 .targets-are))
 
--- src/lib.rt:442:24
 element-copy-out-alike-cell : tie.Need-element-copy-out-alike-cell Inv-loop μ-loop
-element-copy-out-alike-cell c = let a = (c .before .before .before .before .before .before .before .before .args) in let p = (c .before .before .before .before .before .before .before .before .pre) in let l = (c .before .before .before .before .loop) in let h = c .before .before .before .loop-test .taken in compare-in (a .words .now) (a .tags .now) (a .log .now) (a .classes .now) (wentR (a .maps .now)) (a .at) (a .end) (a .s) (p .0 .stretch) (p .0 .small) (p .1 .0) (p .1 .1) (p .1 .2) (l .i) (l .p) (l .inv) h
+element-copy-out-alike-cell c = let a = (c .before .before .before .before .before .before .before .before .args) in let p = (c .before .before .before .before .before .before .before .before .pre) in let l = (c .before .before .before .before .loop) in let h = c .before .before .before .loop-test .taken in compare-in (a .words .now) (a .tags .now) (a .log .now) (a .logtags .now) (wentR (a .maps .now)) (a .at) (a .end) (a .s) (p .0 .stretch) (p .0 .small) (p .1 .0) (p .1 .1) (p .1 .2) (l .i) (l .p) (l .inv) h
 
--- src/lib.rt:442:36
 mul-alike-cell : tie.Need-mul-alike-cell Inv-loop μ-loop
-mul-alike-cell c = let a = (c .before .before .before .before .before .before .before .before .before .args) in let p = (c .before .before .before .before .before .before .before .before .before .pre) in let l = (c .before .before .before .before .before .loop) in let h = c .before .before .before .before .loop-test .taken in let q = compare-in (a .words .now) (a .tags .now) (a .log .now) (a .classes .now) (wentR (a .maps .now)) (a .at) (a .end) (a .s) (p .0 .stretch) (p .0 .small) (p .1 .0) (p .1 .1) (p .1 .2) (l .i) (l .p) (l .inv) h in omega arith
+mul-alike-cell c = let a = (c .before .before .before .before .before .before .before .before .before .args) in let p = (c .before .before .before .before .before .before .before .before .before .pre) in let l = (c .before .before .before .before .before .loop) in let h = c .before .before .before .before .loop-test .taken in let q = compare-in (a .words .now) (a .tags .now) (a .log .now) (a .logtags .now) (wentR (a .maps .now)) (a .at) (a .end) (a .s) (p .0 .stretch) (p .0 .small) (p .1 .0) (p .1 .1) (p .1 .2) (l .i) (l .p) (l .inv) h in omega arith
 
--- src/lib.rt:442:36
 element-copy-out-alike-cell-2 : tie.Need-element-copy-out-alike-cell-2 Inv-loop μ-loop
-element-copy-out-alike-cell-2 c = let a = (c .before .before .before .before .before .before .before .before .before .args) in let p = (c .before .before .before .before .before .before .before .before .before .pre) in let l = (c .before .before .before .before .before .loop) in let h = c .before .before .before .before .loop-test .taken in compare-in (a .words .now) (a .tags .now) (a .log .now) (a .classes .now) (wentR (a .maps .now)) (a .at) (a .end) (a .s) (p .0 .stretch) (p .0 .small) (p .1 .0) (p .1 .1) (p .1 .2) (l .i) (l .p) (l .inv) h
+element-copy-out-alike-cell-2 c = let a = (c .before .before .before .before .before .before .before .before .before .args) in let p = (c .before .before .before .before .before .before .before .before .before .pre) in let l = (c .before .before .before .before .before .loop) in let h = c .before .before .before .before .loop-test .taken in compare-in (a .words .now) (a .tags .now) (a .log .now) (a .logtags .now) (wentR (a .maps .now)) (a .at) (a .end) (a .s) (p .0 .stretch) (p .0 .small) (p .1 .0) (p .1 .1) (p .1 .2) (l .i) (l .p) (l .inv) h
 
--- src/lib.rt:442:13
 alike-cell-requires : tie.Need-alike-cell-requires Inv-loop μ-loop
 alike-cell-requires c κs = search needs
 
--- src/lib.rt:443:13
 returns-2 : tie.Need-returns-2 Inv-loop μ-loop
-returns-2 c = let a = (c .before .before .before .before .before .before .before .before .before .before .before .before .args) in let p = (c .before .before .before .before .before .before .before .before .before .before .before .before .pre) in let l = (c .before .before .before .before .before .before .before .before .loop) in let h = c .before .before .before .before .before .before .before .loop-test .taken in compare-not (a .words .now) (a .tags .now) (a .log .now) (a .classes .now) (wentR (a .maps .now)) (a .at) (a .end) (a .s) (p .0 .stretch) (p .0 .small) (p .1 .0) (p .1 .1) (p .1 .2) (l .i) (l .p) (l .inv) h _ (c .before .before .before .before .carried .ensures) _ (c .before .alike-cell .ensures) (not-true _ (c .if2 .taken))
+returns-2 c = let a = (c .before .before .before .before .before .before .before .before .before .before .before .before .args) in let p = (c .before .before .before .before .before .before .before .before .before .before .before .before .pre) in let l = (c .before .before .before .before .before .before .before .before .loop) in let h = c .before .before .before .before .before .before .before .loop-test .taken in compare-not (a .words .now) (a .tags .now) (a .log .now) (a .logtags .now) (wentR (a .maps .now)) (a .at) (a .end) (a .s) (p .0 .stretch) (p .0 .small) (p .1 .0) (p .1 .1) (p .1 .2) (l .i) (l .p) (l .inv) h _ (c .before .before .before .before .carried .ensures) _ (c .before .alike-cell .ensures) (not-true _ (c .if2 .taken))
 
--- src/lib.rt:435:5
 loop-less : tie.Need-loop-less Inv-loop μ-loop
 loop-less c = search needs
 
--- src/lib.rt:435:5
 loop-again : tie.Need-loop-again Inv-loop μ-loop
-loop-again c = let a = (c .before .before .before .before .before .before .before .before .before .before .before .before .args) in let p = (c .before .before .before .before .before .before .before .before .before .before .before .before .pre) in let l = (c .before .before .before .before .before .before .before .before .loop) in let h = c .before .before .before .before .before .before .before .loop-test .taken in compare-next (a .words .now) (a .tags .now) (a .log .now) (a .classes .now) (wentR (a .maps .now)) (a .at) (a .end) (a .s) (p .0 .stretch) (p .0 .small) (p .1 .0) (p .1 .1) (p .1 .2) (l .i) (l .p) (l .inv) h _ (c .before .before .before .before .carried .ensures) _ (c .before .alike-cell .ensures) (not-false _ (c .if2 .left))
+loop-again c = let a = (c .before .before .before .before .before .before .before .before .before .before .before .before .args) in let p = (c .before .before .before .before .before .before .before .before .before .before .before .before .pre) in let l = (c .before .before .before .before .before .before .before .before .loop) in let h = c .before .before .before .before .before .before .before .loop-test .taken in compare-next (a .words .now) (a .tags .now) (a .log .now) (a .logtags .now) (wentR (a .maps .now)) (a .at) (a .end) (a .s) (p .0 .stretch) (p .0 .small) (p .1 .0) (p .1 .1) (p .1 .2) (l .i) (l .p) (l .inv) h _ (c .before .before .before .before .carried .ensures) _ (c .before .alike-cell .ensures) (not-false _ (c .if2 .left))
 
--- src/lib.rt:415:1
 returns-3 : tie.Need-returns-3 Inv-loop μ-loop
-returns-3 c = let a = (c .before .before .before .before .before .args) in let p = (c .before .before .before .before .before .pre) in let l = (c .before .loop) in compare-done (a .words .now) (a .tags .now) (a .log .now) (a .classes .now) (wentR (a .maps .now)) (a .at) (a .end) (a .s) (p .0 .stretch) (p .0 .small) (p .1 .0) (p .1 .1) (p .1 .2) (l .i) (l .p) (l .inv) (c .loop-test .left)
+returns-3 c = let a = (c .before .before .before .before .before .args) in let p = (c .before .before .before .before .before .pre) in let l = (c .before .loop) in compare-done (a .words .now) (a .tags .now) (a .log .now) (a .logtags .now) (wentR (a .maps .now)) (a .at) (a .end) (a .s) (p .0 .stretch) (p .0 .small) (p .1 .0) (p .1 .1) (p .1 .2) (l .i) (l .p) (l .inv) (c .loop-test .left)
 
 pub alike-spec : {M : Type 1} → statement M
 alike-spec =

@@ -6,19 +6,15 @@ use Rattle.derive_state.proofs.alike_cell.Tie as tie
 use Rattle.derive_state.proofs.alike_cell.Reads as reads
 use Rattle.derive_state.proofs.alike_cell.Lts as lts
 
--- src/lib.rt:403:9
 returns : tie.Need-returns
 returns c = search (alike-class, needs)
 
--- src/lib.rt:406:9
 returns-2 : tie.Need-returns-2
 returns-2 c = search (alike-word, needs)
 
--- src/lib.rt:409:9
 returns-3 : tie.Need-returns-3
 returns-3 c = search (alike-start, needs)
 
--- src/lib.rt:399:1
 returns-4 : tie.Need-returns-4
 returns-4 c = search (alike-upto, needs)
 

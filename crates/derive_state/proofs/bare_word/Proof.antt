@@ -6,15 +6,12 @@ use Rattle.derive_state.proofs.bare_word.Tie as tie
 use Rattle.derive_state.proofs.bare_word.Reads as reads
 use Rattle.derive_state.proofs.bare_word.Lts as lts
 
--- src/lib.rt:485:9
 returns : tie.Need-returns
 returns c = search (bare-low, needs)
 
--- src/lib.rt:488:9
 returns-2 : tie.Need-returns-2
 returns-2 c = search (bare-high, needs)
 
--- src/lib.rt:481:1
 returns-3 : tie.Need-returns-3
 returns-3 c = search (bare-span, needs)
 

@@ -12,54 +12,43 @@ use Rattle.derive_state.proofs.bare_word.Reads as bare-word-reads
 use Rattle.derive_state.proofs.carried.Reads as carried-reads
 
 abbrev Inv-loop : tie.InvT-loop
-Inv-loop words tags kinds maps at end t h₀ i₀ h i = Hashing words tags kinds (wentR maps) at end t h i
+Inv-loop words tags targets maps at end t h₀ i₀ h i = Hashing words tags targets (wentR maps) at end t h i
 
 abbrev μ-loop : tie.MeasureT-loop
-μ-loop words tags kinds maps at end t h₀ i₀ h i = end - i
+μ-loop words tags targets maps at end t h₀ i₀ h i = end - i
 
--- src/lib.rt:509:5
 loop-holds : tie.Need-loop-holds Inv-loop μ-loop
-loop-holds c = let a = (c .args) in let p = (c .pre) in hash-begin (a .words .now) (a .tags .now) (a .kinds .now) (wentR (a .maps .now)) (a .at) (a .end) (a .t) (p .0) (p .1 .0)
+loop-holds c = let a = (c .args) in let p = (c .pre) in hash-begin (a .words .now) (a .tags .now) (a .targets .now) (wentR (a .maps .now)) (a .at) (a .end) (a .t) (p .0) (p .1 .0)
 
--- src/lib.rt:511:9
 add-i : tie.Need-add-i Inv-loop μ-loop
 add-i c = search needs
 
--- src/lib.rt:512:17
 element-copy-out-s : tie.Need-element-copy-out-s Inv-loop μ-loop
 element-copy-out-s c = search needs
 
--- src/lib.rt:513:57
 mul-carried : tie.Need-mul-carried Inv-loop μ-loop
 mul-carried c = search needs
 
--- src/lib.rt:513:57
 element-copy-out-carried : tie.Need-element-copy-out-carried Inv-loop μ-loop
 element-copy-out-carried c = search needs
 
--- src/lib.rt:513:33
 carried-requires : tie.Need-carried-requires Inv-loop μ-loop
-carried-requires c κs = let a = (c .before .before .before .before .args) in let p = (c .before .before .before .before .pre) in let l = (c .before .before .before .loop) in let h = c .before .before .loop-test .taken in (hash-small (a .words .now) (a .tags .now) (a .kinds .now) (wentR (a .maps .now)) (a .at) (a .end) (a .t) (l .h) (l .i) (l .inv) h, (p .1 .1, p .0 .kinds-are))
+carried-requires c κs = let a = (c .before .before .before .before .args) in let p = (c .before .before .before .before .pre) in let l = (c .before .before .before .loop) in let h = c .before .before .loop-test .taken in (hash-small (a .words .now) (a .tags .now) (a .targets .now) (wentR (a .maps .now)) (a .at) (a .end) (a .t) (l .h) (l .i) (l .inv) h, (p .1 .1, p .0 .targets-are))
 
--- src/lib.rt:513:20
 bare-word-requires : tie.Need-bare-word-requires Inv-loop μ-loop
 bare-word-requires c κs = search needs
 
--- src/lib.rt:513:9
 mix-requires : tie.Need-mix-requires Inv-loop μ-loop
 mix-requires c κs = c .before .before .before .before .before .loop .inv .small
 
--- src/lib.rt:509:5
 loop-less : tie.Need-loop-less Inv-loop μ-loop
 loop-less c = search needs
 
--- src/lib.rt:509:5
 loop-again : tie.Need-loop-again Inv-loop μ-loop
-loop-again c = let a = (c .before .before .before .before .before .before .before .args) in let p = (c .before .before .before .before .before .before .before .pre) in let l = (c .before .before .before .before .before .before .loop) in let h = c .before .before .before .before .before .loop-test .taken in hash-next (a .words .now) (a .tags .now) (a .kinds .now) (wentR (a .maps .now)) (a .at) (a .end) (a .t) (l .h) (l .i) (l .inv) h _ (c .before .before .carried .ensures) _ (c .before .bare-word .ensures) _ (c .mix .ensures)
+loop-again c = let a = (c .before .before .before .before .before .before .before .args) in let p = (c .before .before .before .before .before .before .before .pre) in let l = (c .before .before .before .before .before .before .loop) in let h = c .before .before .before .before .before .loop-test .taken in hash-next (a .words .now) (a .tags .now) (a .targets .now) (wentR (a .maps .now)) (a .at) (a .end) (a .t) (l .h) (l .i) (l .inv) h _ (c .before .before .carried .ensures) _ (c .before .bare-word .ensures) _ (c .mix .ensures)
 
--- src/lib.rt:494:1
 returns : tie.Need-returns Inv-loop μ-loop
-returns c = let a = (c .before .before .args) in let p = (c .before .before .pre) in let l = (c .before .loop) in hash-done (a .words .now) (a .tags .now) (a .kinds .now) (wentR (a .maps .now)) (a .at) (a .end) (a .t) (l .h) (l .i) (l .inv) (c .loop-test .left)
+returns c = let a = (c .before .before .args) in let p = (c .before .before .pre) in let l = (c .before .loop) in hash-done (a .words .now) (a .tags .now) (a .targets .now) (wentR (a .maps .now)) (a .at) (a .end) (a .t) (l .h) (l .i) (l .inv) (c .loop-test .left)
 
 pub hash-spec : {M : Type 1} → statement M
 hash-spec =

@@ -7,23 +7,18 @@ use Rattle.derive_state.proofs.moved.Reads as reads
 use Rattle.derive_state.proofs.moved.Lts as lts
 use Rattle.std.proofs.num.wrapping_add_u32.Reads as wrapping-add-u32-reads
 
--- src/lib.rt:579:9
 returns : tie.Need-returns
 returns c = search (moved-low, needs)
 
--- src/lib.rt:582:9
 returns-2 : tie.Need-returns-2
 returns-2 c = search (moved-high, needs)
 
--- src/lib.rt:585:9
 returns-3 : tie.Need-returns-3
 returns-3 c = let a = (c .before .before .before .args) in let p = (c .before .before .before .pre) in moved-kept (a .s) (a .w) (a .offset) (a .u) (omega arith) (omega arith) (c .if3 .taken)
 
--- src/lib.rt:587:5
 wrapping-add-u32-requires : tie.Need-wrapping-add-u32-requires
 wrapping-add-u32-requires c κs = search needs
 
--- src/lib.rt:575:1
 returns-4 : tie.Need-returns-4
 returns-4 c = let a = (c .before .before .before .before .args) in let p = (c .before .before .before .before .pre) in moved-on (a .s) (a .w) (a .offset) (a .u) (omega arith) (omega arith) (c .before .if3 .left) _ (c .wrapping-add-u32 .ensures)
 

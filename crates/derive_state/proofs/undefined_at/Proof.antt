@@ -9,35 +9,27 @@ use Rattle.derive_state.proofs.undefined_at.Reads as reads
 use Rattle.derive_state.proofs.undefined_at.Lts as lts
 use Rattle.derive_state.proofs.carried.Reads as carried-reads
 
--- src/lib.rt:563:9
 returns : tie.Need-returns
 returns c = let a = (c .before .args) in let p = (c .before .pre) in undefined-other (a .s) (a .w) _ (a .u) (c .if1 .taken)
 
--- src/lib.rt:566:9
 returns-2 : tie.Need-returns-2
 returns-2 c = let a = (c .before .before .args) in let p = (c .before .before .pre) in undefined-no (a .s) (a .w) _ (a .u) (c .before .if1 .left) (c .if2 .taken)
 
--- src/lib.rt:569:37
 element-copy-out-carried : tie.Need-element-copy-out-carried
 element-copy-out-carried c = search needs
 
--- src/lib.rt:569:46
 mul-carried : tie.Need-mul-carried
 mul-carried c = search needs
 
--- src/lib.rt:569:46
 element-copy-out-carried-2 : tie.Need-element-copy-out-carried-2
 element-copy-out-carried-2 c = search needs
 
--- src/lib.rt:569:16
 carried-requires : tie.Need-carried-requires
-carried-requires c κs = let a = (c .before .before .before .before .before .args) in let p = (c .before .before .before .before .before .pre) in (all-here (a .tags .now) (a .words .now) (a .i) (a .end) (c .before .before .if3 .taken) (p .0 .stretch .in-tags) (p .0 .stretch .in-words) Small (p .0 .small), (p .1, p .0 .kinds-are))
+carried-requires c κs = let a = (c .before .before .before .before .before .args) in let p = (c .before .before .before .before .before .pre) in (all-here (a .tags .now) (a .words .now) (a .i) (a .end) (c .before .before .if3 .taken) (p .0 .stretch .in-tags) (p .0 .stretch .in-words) Small (p .0 .small), (p .1, p .0 .targets-are))
 
--- src/lib.rt:569:9
 returns-3 : tie.Need-returns-3
 returns-3 c = let a = (c .before .before .before .before .before .before .args) in let p = (c .before .before .before .before .before .before .pre) in undefined-next (a .s) (a .w) _ (a .u) (c .before .before .before .before .before .if1 .left) (c .before .before .before .before .if2 .left) _ (following-some (wentR (a .maps .now)) (a .tags .now) (a .words .now) (a .i) (a .end) (c .before .before .before .if3 .taken) (p .0 .stretch .in-tags) (p .0 .stretch .in-words) _ (c .carried .ensures))
 
--- src/lib.rt:547:1
 returns-4 : tie.Need-returns-4
 returns-4 c = let a = (c .before .before .before .args) in let p = (c .before .before .before .pre) in undefined-none (a .s) (a .w) _ (a .u) (c .before .before .if1 .left) (c .before .if2 .left) (following-none (wentR (a .maps .now)) (a .tags .now) (a .words .now) (a .i) (a .end) (c .if3 .left))
 

@@ -19,7 +19,7 @@ use Rattle.derive_types.proofs.import_type.Kinds as import-type-kinds
 use Rattle.derive_types.proofs.+import_type.Lts-import_type as import-type-lts
 use Rattle.derive_types.proofs.import_name.Reads as import-name-reads
 use Rattle.derive_types.proofs.refers_to.Reads as refers-to-reads
-use Rattle.derive_intern.proofs.settle.Reads as settle-reads
+use Rattle.derive_intern.proofs.intern.Reads as intern-reads
 use Rattle.base_views.proofs.record_at.Reads as record-at-reads
 use Rattle.base_views.proofs.record_end.Reads as record-end-reads
 use Rattle.base_words.proofs.wide.Reads as wide-reads
@@ -38,12 +38,11 @@ import-type-below t =
     and 8 import-type-kinds.ps (falls 8 import-type-kinds.ps _<_ μ-import-type t) import-type.Pre
 
 abbrev import-type-Inv-loop : import-type-lts.InvT-loop
-import-type-Inv-loop words tags kinds n log₀ classes₀ starts₀ maps₀ marks₀ offset k at end e₀ i₀ log classes starts maps marks e i = Turn words tags n offset 1 k (refs (recAt (srcOf words n) (tabOf 1) k)) log₀ classes₀ starts₀ maps₀ marks₀ e₀ end log classes starts maps marks e i
+import-type-Inv-loop words tags targets n log₀ logtags₀ starts₀ maps₀ buckets₀ offset k at end e₀ i₀ log logtags starts maps buckets e i = Turn words tags n offset 1 k (refs (recAt (srcOf words n) (tabOf 1) k)) log₀ logtags₀ starts₀ maps₀ buckets₀ e₀ end log logtags starts maps buckets e i
 
 abbrev import-type-μ-loop : import-type-lts.MeasureT-loop
-import-type-μ-loop words tags kinds n log₀ classes₀ starts₀ maps₀ marks₀ offset k at end e₀ i₀ log classes starts maps marks e i = end - i
+import-type-μ-loop words tags targets n log₀ logtags₀ starts₀ maps₀ buckets₀ offset k at end e₀ i₀ log logtags starts maps buckets e i = end - i
 
--- src/lib.rt:135:9
 import-type-wide-requires : (t : ℕ) → import-type-lts.Need-wide-requires (
   wide-reads.Asked,
   wide-reads.Learnt,
@@ -57,12 +56,11 @@ import-type-wide-requires : (t : ℕ) → import-type-lts.Need-wide-requires (
   import-name-reads.Learnt,
   import-type-below t,
   import-type.Post,
-  settle-reads.Asked,
-  settle-reads.Learnt,
+  intern-reads.Asked,
+  intern-reads.Learnt,
 ) (import-type-at t) import-type.Post import-type-Inv-loop import-type-μ-loop
 import-type-wide-requires t c κs = search needs
 
--- src/lib.rt:136:8
 import-type-mul-if1 : (t : ℕ) → import-type-lts.Need-mul-if1 (
   wide-reads.Asked,
   wide-reads.Learnt,
@@ -76,13 +74,12 @@ import-type-mul-if1 : (t : ℕ) → import-type-lts.Need-mul-if1 (
   import-name-reads.Learnt,
   import-type-below t,
   import-type.Post,
-  settle-reads.Asked,
-  settle-reads.Learnt,
+  intern-reads.Asked,
+  intern-reads.Learnt,
 ) (import-type-at t) import-type.Post import-type-Inv-loop import-type-μ-loop
 unfolding tabOf
 import-type-mul-if1 t c = let a = (c .before .args) in let p = c .before .pre .1 in let src = p .0 in let q = p .1 .0 in let ks = p .1 .1 .0 in let K = p .1 .1 .1 in let hk : c .wide .result < countAt 1 (a .words .now) = rw (c .wide .ensures .0) (q .0) in let z = small-number (a .words .now) (a .tags .now) (a .n) src 1 (c .wide .result) (omega arith) hk in omega arith
 
--- src/lib.rt:136:8
 import-type-index-1-if1 : (t : ℕ) → import-type-lts.Need-index-1-if1 (
   wide-reads.Asked,
   wide-reads.Learnt,
@@ -96,12 +93,11 @@ import-type-index-1-if1 : (t : ℕ) → import-type-lts.Need-index-1-if1 (
   import-name-reads.Learnt,
   import-type-below t,
   import-type.Post,
-  settle-reads.Asked,
-  settle-reads.Learnt,
+  intern-reads.Asked,
+  intern-reads.Learnt,
 ) (import-type-at t) import-type.Post import-type-Inv-loop import-type-μ-loop
 import-type-index-1-if1 t c = search needs
 
--- src/lib.rt:136:8
 import-type-index-2-if1 : (t : ℕ) → import-type-lts.Need-index-2-if1 (
   wide-reads.Asked,
   wide-reads.Learnt,
@@ -115,13 +111,12 @@ import-type-index-2-if1 : (t : ℕ) → import-type-lts.Need-index-2-if1 (
   import-name-reads.Learnt,
   import-type-below t,
   import-type.Post,
-  settle-reads.Asked,
-  settle-reads.Learnt,
+  intern-reads.Asked,
+  intern-reads.Learnt,
 ) (import-type-at t) import-type.Post import-type-Inv-loop import-type-μ-loop
 unfolding tabOf
 import-type-index-2-if1 t c = let a = (c .before .args) in let p = c .before .pre .1 in let src = p .0 in let q = p .1 .0 in let ks = p .1 .1 .0 in let K = p .1 .1 .1 in let hk : c .wide .result < countAt 1 (a .words .now) = rw (c .wide .ensures .0) (q .0) in let z = small-number (a .words .now) (a .tags .now) (a .n) src 1 (c .wide .result) (omega arith) hk in omega arith
 
--- src/lib.rt:137:9
 import-type-returns : (t : ℕ) → import-type-lts.Need-returns (
   wide-reads.Asked,
   wide-reads.Learnt,
@@ -135,13 +130,12 @@ import-type-returns : (t : ℕ) → import-type-lts.Need-returns (
   import-name-reads.Learnt,
   import-type-below t,
   import-type.Post,
-  settle-reads.Asked,
-  settle-reads.Learnt,
+  intern-reads.Asked,
+  intern-reads.Learnt,
 ) (import-type-at t) import-type.Post import-type-Inv-loop import-type-μ-loop
 unfolding tabOf
-import-type-returns t c = let a = (c .before .before .before .args) in let p = c .before .before .before .pre .1 in let src = p .0 in let q = p .1 .0 in let ks = p .1 .1 .0 in let K = p .1 .1 .1 in let hk : c .before .before .wide .result < countAt 1 (a .words .now) = rw (c .before .before .wide .ensures .0) (q .0) in lands-at (a .offset) (srcOf (a .words .now) (a .n)) types (c .before .before .wide .result) (a .h .0) (c .before .before .wide .ensures .0) (turn-known (a .words .now) (a .tags .now) (a .n) src (a .offset) 1 (c .before .before .wide .result) (omega arith) hk (a .log .now) (a .classes .now) (a .starts .now) (a .maps .now) (a .marks .now) (a .ends) (q .1) K (c .if1 .taken))
+import-type-returns t c = let a = (c .before .before .before .args) in let p = c .before .before .before .pre .1 in let src = p .0 in let q = p .1 .0 in let ks = p .1 .1 .0 in let K = p .1 .1 .1 in let hk : c .before .before .wide .result < countAt 1 (a .words .now) = rw (c .before .before .wide .ensures .0) (q .0) in lands-at (a .offset) (srcOf (a .words .now) (a .n)) types (c .before .before .wide .result) (a .h .0) (c .before .before .wide .ensures .0) (turn-known (a .words .now) (a .tags .now) (a .n) src (a .offset) 1 (c .before .before .wide .result) (omega arith) hk (a .log .now) (a .logtags .now) (a .starts .now) (a .maps .now) (a .buckets .now) (a .ends) (q .1) K (c .if1 .taken))
 
--- src/lib.rt:139:9
 import-type-record-at-requires : (t : ℕ) → import-type-lts.Need-record-at-requires (
   wide-reads.Asked,
   wide-reads.Learnt,
@@ -155,13 +149,12 @@ import-type-record-at-requires : (t : ℕ) → import-type-lts.Need-record-at-re
   import-name-reads.Learnt,
   import-type-below t,
   import-type.Post,
-  settle-reads.Asked,
-  settle-reads.Learnt,
+  intern-reads.Asked,
+  intern-reads.Learnt,
 ) (import-type-at t) import-type.Post import-type-Inv-loop import-type-μ-loop
 unfolding tabOf
 import-type-record-at-requires t c κs = let a = (c .before .before .before .args) in let p = c .before .before .before .pre .1 in let src = p .0 in let q = p .1 .0 in let ks = p .1 .1 .0 in let K = p .1 .1 .1 in let hk : c .before .before .wide .result < countAt 1 (a .words .now) = rw (c .before .before .wide .ensures .0) (q .0) in (tape (a .words .now) (a .tags .now) (a .n) src, (omega arith, hk))
 
--- src/lib.rt:140:9
 import-type-record-end-requires : (t : ℕ) → import-type-lts.Need-record-end-requires (
   wide-reads.Asked,
   wide-reads.Learnt,
@@ -175,13 +168,12 @@ import-type-record-end-requires : (t : ℕ) → import-type-lts.Need-record-end-
   import-name-reads.Learnt,
   import-type-below t,
   import-type.Post,
-  settle-reads.Asked,
-  settle-reads.Learnt,
+  intern-reads.Asked,
+  intern-reads.Learnt,
 ) (import-type-at t) import-type.Post import-type-Inv-loop import-type-μ-loop
 unfolding tabOf
 import-type-record-end-requires t c κs = let a = (c .before .before .before .before .args) in let p = c .before .before .before .before .pre .1 in let src = p .0 in let q = p .1 .0 in let ks = p .1 .1 .0 in let K = p .1 .1 .1 in let hk : c .before .before .before .wide .result < countAt 1 (a .words .now) = rw (c .before .before .before .wide .ensures .0) (q .0) in (tape (a .words .now) (a .tags .now) (a .n) src, (omega arith, hk))
 
--- src/lib.rt:143:5
 import-type-loop-holds : (t : ℕ) → import-type-lts.Need-loop-holds (
   wide-reads.Asked,
   wide-reads.Learnt,
@@ -195,13 +187,12 @@ import-type-loop-holds : (t : ℕ) → import-type-lts.Need-loop-holds (
   import-name-reads.Learnt,
   import-type-below t,
   import-type.Post,
-  settle-reads.Asked,
-  settle-reads.Learnt,
+  intern-reads.Asked,
+  intern-reads.Learnt,
 ) (import-type-at t) import-type.Post import-type-Inv-loop import-type-μ-loop
 unfolding tabOf
-import-type-loop-holds t c = let a = (c .before .before .before .before .before .args) in let p = c .before .before .before .before .before .pre .1 in let src = p .0 in let q = p .1 .0 in let ks = p .1 .1 .0 in let K = p .1 .1 .1 in let hk : c .before .before .before .before .wide .result < countAt 1 (a .words .now) = rw (c .before .before .before .before .wide .ensures .0) (q .0) in turn-first (a .words .now) (a .tags .now) (a .n) src (a .offset) 1 (c .before .before .before .before .wide .result) (omega arith) hk (a .log .now) (a .classes .now) (a .starts .now) (a .maps .now) (a .marks .now) (a .ends) (q .1) K (c .before .before .if1 .left) (c .before .record-at .result) (c .record-end .result) (c .before .record-at .ensures) (c .record-end .ensures)
+import-type-loop-holds t c = let a = (c .before .before .before .before .before .args) in let p = c .before .before .before .before .before .pre .1 in let src = p .0 in let q = p .1 .0 in let ks = p .1 .1 .0 in let K = p .1 .1 .1 in let hk : c .before .before .before .before .wide .result < countAt 1 (a .words .now) = rw (c .before .before .before .before .wide .ensures .0) (q .0) in turn-first (a .words .now) (a .tags .now) (a .n) src (a .offset) 1 (c .before .before .before .before .wide .result) (omega arith) hk (a .log .now) (a .logtags .now) (a .starts .now) (a .maps .now) (a .buckets .now) (a .ends) (q .1) K (c .before .before .if1 .left) (c .before .record-at .result) (c .record-end .result) (c .before .record-at .ensures) (c .record-end .ensures)
 
--- src/lib.rt:145:9
 import-type-add-i : (t : ℕ) → import-type-lts.Need-add-i (
   wide-reads.Asked,
   wide-reads.Learnt,
@@ -215,13 +206,12 @@ import-type-add-i : (t : ℕ) → import-type-lts.Need-add-i (
   import-name-reads.Learnt,
   import-type-below t,
   import-type.Post,
-  settle-reads.Asked,
-  settle-reads.Learnt,
+  intern-reads.Asked,
+  intern-reads.Learnt,
 ) (import-type-at t) import-type.Post import-type-Inv-loop import-type-μ-loop
 unfolding tabOf
-import-type-add-i t c = let a = (c .before .before .before .before .before .before .before .args) in let p = c .before .before .before .before .before .before .before .pre .1 in let src = p .0 in let q = p .1 .0 in let ks = p .1 .1 .0 in let K = p .1 .1 .1 in let hk : c .before .before .before .before .before .before .wide .result < countAt 1 (a .words .now) = rw (c .before .before .before .before .before .before .wide .ensures .0) (q .0) in let l = (c .before .loop) in let z = turn-in (a .words .now) (a .tags .now) (a .n) src (a .offset) 1 (c .before .before .before .before .before .before .wide .result) (omega arith) hk (a .log .now) (a .classes .now) (a .starts .now) (a .maps .now) (a .marks .now) (a .ends) (q .1) K (importT (a .offset) (srcOf (a .words .now) (a .n)) (tabOf 1) (c .before .before .before .before .before .before .wide .result)) (refs (recAt (srcOf (a .words .now) (a .n)) (tabOf 1) (c .before .before .before .before .before .before .wide .result))) (ends-in (a .words .now) (a .tags .now) (a .n) src (a .offset) 1 (c .before .before .before .before .before .before .wide .result) (omega arith) hk (a .log .now) (a .classes .now) (a .starts .now) (a .maps .now) (a .marks .now) (a .ends) (q .1) K (c .before .before .before .before .if1 .left) (c .before .before .before .record-at .result) (c .before .before .record-end .result) (c .before .before .before .record-at .ensures) (c .before .before .record-end .ensures)) (c .before .before .before .record-at .result) (c .before .before .record-end .result) (c .before .before .before .record-at .ensures) (c .before .before .record-end .ensures) (l .log) (l .classes) (l .starts) (l .maps) (l .marks) (l .e) (l .i) (l .inv) (c .loop-test .taken) in omega arith
+import-type-add-i t c = let a = (c .before .before .before .before .before .before .before .args) in let p = c .before .before .before .before .before .before .before .pre .1 in let src = p .0 in let q = p .1 .0 in let ks = p .1 .1 .0 in let K = p .1 .1 .1 in let hk : c .before .before .before .before .before .before .wide .result < countAt 1 (a .words .now) = rw (c .before .before .before .before .before .before .wide .ensures .0) (q .0) in let l = (c .before .loop) in let z = turn-in (a .words .now) (a .tags .now) (a .n) src (a .offset) 1 (c .before .before .before .before .before .before .wide .result) (omega arith) hk (a .log .now) (a .logtags .now) (a .starts .now) (a .maps .now) (a .buckets .now) (a .ends) (q .1) K (importT (a .offset) (srcOf (a .words .now) (a .n)) (tabOf 1) (c .before .before .before .before .before .before .wide .result)) (refs (recAt (srcOf (a .words .now) (a .n)) (tabOf 1) (c .before .before .before .before .before .before .wide .result))) (ends-in (a .words .now) (a .tags .now) (a .n) src (a .offset) 1 (c .before .before .before .before .before .before .wide .result) (omega arith) hk (a .log .now) (a .logtags .now) (a .starts .now) (a .maps .now) (a .buckets .now) (a .ends) (q .1) K (c .before .before .before .before .if1 .left) (c .before .before .before .record-at .result) (c .before .before .record-end .result) (c .before .before .before .record-at .ensures) (c .before .before .record-end .ensures)) (c .before .before .before .record-at .result) (c .before .before .record-end .result) (c .before .before .before .record-at .ensures) (c .before .before .record-end .ensures) (l .log) (l .logtags) (l .starts) (l .maps) (l .buckets) (l .e) (l .i) (l .inv) (c .loop-test .taken) in omega arith
 
--- src/lib.rt:146:34
 import-type-element-copy-out-refers-to : (t : ℕ) → import-type-lts.Need-element-copy-out-refers-to (
   wide-reads.Asked,
   wide-reads.Learnt,
@@ -235,13 +225,12 @@ import-type-element-copy-out-refers-to : (t : ℕ) → import-type-lts.Need-elem
   import-name-reads.Learnt,
   import-type-below t,
   import-type.Post,
-  settle-reads.Asked,
-  settle-reads.Learnt,
+  intern-reads.Asked,
+  intern-reads.Learnt,
 ) (import-type-at t) import-type.Post import-type-Inv-loop import-type-μ-loop
 unfolding tabOf
-import-type-element-copy-out-refers-to t c = let a = (c .before .before .before .before .before .before .before .args) in let p = c .before .before .before .before .before .before .before .pre .1 in let src = p .0 in let q = p .1 .0 in let ks = p .1 .1 .0 in let K = p .1 .1 .1 in let hk : c .before .before .before .before .before .before .wide .result < countAt 1 (a .words .now) = rw (c .before .before .before .before .before .before .wide .ensures .0) (q .0) in let l = (c .before .loop) in turn-in (a .words .now) (a .tags .now) (a .n) src (a .offset) 1 (c .before .before .before .before .before .before .wide .result) (omega arith) hk (a .log .now) (a .classes .now) (a .starts .now) (a .maps .now) (a .marks .now) (a .ends) (q .1) K (importT (a .offset) (srcOf (a .words .now) (a .n)) (tabOf 1) (c .before .before .before .before .before .before .wide .result)) (refs (recAt (srcOf (a .words .now) (a .n)) (tabOf 1) (c .before .before .before .before .before .before .wide .result))) (ends-in (a .words .now) (a .tags .now) (a .n) src (a .offset) 1 (c .before .before .before .before .before .before .wide .result) (omega arith) hk (a .log .now) (a .classes .now) (a .starts .now) (a .maps .now) (a .marks .now) (a .ends) (q .1) K (c .before .before .before .before .if1 .left) (c .before .before .before .record-at .result) (c .before .before .record-end .result) (c .before .before .before .record-at .ensures) (c .before .before .record-end .ensures)) (c .before .before .before .record-at .result) (c .before .before .record-end .result) (c .before .before .before .record-at .ensures) (c .before .before .record-end .ensures) (l .log) (l .classes) (l .starts) (l .maps) (l .marks) (l .e) (l .i) (l .inv) (c .loop-test .taken)
+import-type-element-copy-out-refers-to t c = let a = (c .before .before .before .before .before .before .before .args) in let p = c .before .before .before .before .before .before .before .pre .1 in let src = p .0 in let q = p .1 .0 in let ks = p .1 .1 .0 in let K = p .1 .1 .1 in let hk : c .before .before .before .before .before .before .wide .result < countAt 1 (a .words .now) = rw (c .before .before .before .before .before .before .wide .ensures .0) (q .0) in let l = (c .before .loop) in turn-in (a .words .now) (a .tags .now) (a .n) src (a .offset) 1 (c .before .before .before .before .before .before .wide .result) (omega arith) hk (a .log .now) (a .logtags .now) (a .starts .now) (a .maps .now) (a .buckets .now) (a .ends) (q .1) K (importT (a .offset) (srcOf (a .words .now) (a .n)) (tabOf 1) (c .before .before .before .before .before .before .wide .result)) (refs (recAt (srcOf (a .words .now) (a .n)) (tabOf 1) (c .before .before .before .before .before .before .wide .result))) (ends-in (a .words .now) (a .tags .now) (a .n) src (a .offset) 1 (c .before .before .before .before .before .before .wide .result) (omega arith) hk (a .log .now) (a .logtags .now) (a .starts .now) (a .maps .now) (a .buckets .now) (a .ends) (q .1) K (c .before .before .before .before .if1 .left) (c .before .before .before .record-at .result) (c .before .before .record-end .result) (c .before .before .before .record-at .ensures) (c .before .before .record-end .ensures)) (c .before .before .before .record-at .result) (c .before .before .record-end .result) (c .before .before .before .record-at .ensures) (c .before .before .record-end .ensures) (l .log) (l .logtags) (l .starts) (l .maps) (l .buckets) (l .e) (l .i) (l .inv) (c .loop-test .taken)
 
--- src/lib.rt:146:43
 import-type-mul-refers-to : (t : ℕ) → import-type-lts.Need-mul-refers-to (
   wide-reads.Asked,
   wide-reads.Learnt,
@@ -255,13 +244,12 @@ import-type-mul-refers-to : (t : ℕ) → import-type-lts.Need-mul-refers-to (
   import-name-reads.Learnt,
   import-type-below t,
   import-type.Post,
-  settle-reads.Asked,
-  settle-reads.Learnt,
+  intern-reads.Asked,
+  intern-reads.Learnt,
 ) (import-type-at t) import-type.Post import-type-Inv-loop import-type-μ-loop
 unfolding tabOf
-import-type-mul-refers-to t c = let a = (c .before .before .before .before .before .before .before .before .args) in let p = c .before .before .before .before .before .before .before .before .pre .1 in let src = p .0 in let q = p .1 .0 in let ks = p .1 .1 .0 in let K = p .1 .1 .1 in let hk : c .before .before .before .before .before .before .before .wide .result < countAt 1 (a .words .now) = rw (c .before .before .before .before .before .before .before .wide .ensures .0) (q .0) in let l = (c .before .before .loop) in let z = turn-in (a .words .now) (a .tags .now) (a .n) src (a .offset) 1 (c .before .before .before .before .before .before .before .wide .result) (omega arith) hk (a .log .now) (a .classes .now) (a .starts .now) (a .maps .now) (a .marks .now) (a .ends) (q .1) K (importT (a .offset) (srcOf (a .words .now) (a .n)) (tabOf 1) (c .before .before .before .before .before .before .before .wide .result)) (refs (recAt (srcOf (a .words .now) (a .n)) (tabOf 1) (c .before .before .before .before .before .before .before .wide .result))) (ends-in (a .words .now) (a .tags .now) (a .n) src (a .offset) 1 (c .before .before .before .before .before .before .before .wide .result) (omega arith) hk (a .log .now) (a .classes .now) (a .starts .now) (a .maps .now) (a .marks .now) (a .ends) (q .1) K (c .before .before .before .before .before .if1 .left) (c .before .before .before .before .record-at .result) (c .before .before .before .record-end .result) (c .before .before .before .before .record-at .ensures) (c .before .before .before .record-end .ensures)) (c .before .before .before .before .record-at .result) (c .before .before .before .record-end .result) (c .before .before .before .before .record-at .ensures) (c .before .before .before .record-end .ensures) (l .log) (l .classes) (l .starts) (l .maps) (l .marks) (l .e) (l .i) (l .inv) (c .before .loop-test .taken) in omega arith
+import-type-mul-refers-to t c = let a = (c .before .before .before .before .before .before .before .before .args) in let p = c .before .before .before .before .before .before .before .before .pre .1 in let src = p .0 in let q = p .1 .0 in let ks = p .1 .1 .0 in let K = p .1 .1 .1 in let hk : c .before .before .before .before .before .before .before .wide .result < countAt 1 (a .words .now) = rw (c .before .before .before .before .before .before .before .wide .ensures .0) (q .0) in let l = (c .before .before .loop) in let z = turn-in (a .words .now) (a .tags .now) (a .n) src (a .offset) 1 (c .before .before .before .before .before .before .before .wide .result) (omega arith) hk (a .log .now) (a .logtags .now) (a .starts .now) (a .maps .now) (a .buckets .now) (a .ends) (q .1) K (importT (a .offset) (srcOf (a .words .now) (a .n)) (tabOf 1) (c .before .before .before .before .before .before .before .wide .result)) (refs (recAt (srcOf (a .words .now) (a .n)) (tabOf 1) (c .before .before .before .before .before .before .before .wide .result))) (ends-in (a .words .now) (a .tags .now) (a .n) src (a .offset) 1 (c .before .before .before .before .before .before .before .wide .result) (omega arith) hk (a .log .now) (a .logtags .now) (a .starts .now) (a .maps .now) (a .buckets .now) (a .ends) (q .1) K (c .before .before .before .before .before .if1 .left) (c .before .before .before .before .record-at .result) (c .before .before .before .record-end .result) (c .before .before .before .before .record-at .ensures) (c .before .before .before .record-end .ensures)) (c .before .before .before .before .record-at .result) (c .before .before .before .record-end .result) (c .before .before .before .before .record-at .ensures) (c .before .before .before .record-end .ensures) (l .log) (l .logtags) (l .starts) (l .maps) (l .buckets) (l .e) (l .i) (l .inv) (c .before .loop-test .taken) in omega arith
 
--- src/lib.rt:146:43
 import-type-element-copy-out-refers-to-2 :
     (t : ℕ) → import-type-lts.Need-element-copy-out-refers-to-2 (
       wide-reads.Asked,
@@ -276,13 +264,12 @@ import-type-element-copy-out-refers-to-2 :
       import-name-reads.Learnt,
       import-type-below t,
       import-type.Post,
-      settle-reads.Asked,
-      settle-reads.Learnt,
+      intern-reads.Asked,
+      intern-reads.Learnt,
     ) (import-type-at t) import-type.Post import-type-Inv-loop import-type-μ-loop
 unfolding tabOf
-import-type-element-copy-out-refers-to-2 t c = let a = (c .before .before .before .before .before .before .before .before .args) in let p = c .before .before .before .before .before .before .before .before .pre .1 in let src = p .0 in let q = p .1 .0 in let ks = p .1 .1 .0 in let K = p .1 .1 .1 in let hk : c .before .before .before .before .before .before .before .wide .result < countAt 1 (a .words .now) = rw (c .before .before .before .before .before .before .before .wide .ensures .0) (q .0) in let l = (c .before .before .loop) in turn-in (a .words .now) (a .tags .now) (a .n) src (a .offset) 1 (c .before .before .before .before .before .before .before .wide .result) (omega arith) hk (a .log .now) (a .classes .now) (a .starts .now) (a .maps .now) (a .marks .now) (a .ends) (q .1) K (importT (a .offset) (srcOf (a .words .now) (a .n)) (tabOf 1) (c .before .before .before .before .before .before .before .wide .result)) (refs (recAt (srcOf (a .words .now) (a .n)) (tabOf 1) (c .before .before .before .before .before .before .before .wide .result))) (ends-in (a .words .now) (a .tags .now) (a .n) src (a .offset) 1 (c .before .before .before .before .before .before .before .wide .result) (omega arith) hk (a .log .now) (a .classes .now) (a .starts .now) (a .maps .now) (a .marks .now) (a .ends) (q .1) K (c .before .before .before .before .before .if1 .left) (c .before .before .before .before .record-at .result) (c .before .before .before .record-end .result) (c .before .before .before .before .record-at .ensures) (c .before .before .before .record-end .ensures)) (c .before .before .before .before .record-at .result) (c .before .before .before .record-end .result) (c .before .before .before .before .record-at .ensures) (c .before .before .before .record-end .ensures) (l .log) (l .classes) (l .starts) (l .maps) (l .marks) (l .e) (l .i) (l .inv) (c .before .loop-test .taken)
+import-type-element-copy-out-refers-to-2 t c = let a = (c .before .before .before .before .before .before .before .before .args) in let p = c .before .before .before .before .before .before .before .before .pre .1 in let src = p .0 in let q = p .1 .0 in let ks = p .1 .1 .0 in let K = p .1 .1 .1 in let hk : c .before .before .before .before .before .before .before .wide .result < countAt 1 (a .words .now) = rw (c .before .before .before .before .before .before .before .wide .ensures .0) (q .0) in let l = (c .before .before .loop) in turn-in (a .words .now) (a .tags .now) (a .n) src (a .offset) 1 (c .before .before .before .before .before .before .before .wide .result) (omega arith) hk (a .log .now) (a .logtags .now) (a .starts .now) (a .maps .now) (a .buckets .now) (a .ends) (q .1) K (importT (a .offset) (srcOf (a .words .now) (a .n)) (tabOf 1) (c .before .before .before .before .before .before .before .wide .result)) (refs (recAt (srcOf (a .words .now) (a .n)) (tabOf 1) (c .before .before .before .before .before .before .before .wide .result))) (ends-in (a .words .now) (a .tags .now) (a .n) src (a .offset) 1 (c .before .before .before .before .before .before .before .wide .result) (omega arith) hk (a .log .now) (a .logtags .now) (a .starts .now) (a .maps .now) (a .buckets .now) (a .ends) (q .1) K (c .before .before .before .before .before .if1 .left) (c .before .before .before .before .record-at .result) (c .before .before .before .record-end .result) (c .before .before .before .before .record-at .ensures) (c .before .before .before .record-end .ensures)) (c .before .before .before .before .record-at .result) (c .before .before .before .record-end .result) (c .before .before .before .before .record-at .ensures) (c .before .before .before .record-end .ensures) (l .log) (l .logtags) (l .starts) (l .maps) (l .buckets) (l .e) (l .i) (l .inv) (c .before .loop-test .taken)
 
--- src/lib.rt:146:13
 import-type-refers-to-requires : (t : ℕ) → import-type-lts.Need-refers-to-requires (
   wide-reads.Asked,
   wide-reads.Learnt,
@@ -296,13 +283,12 @@ import-type-refers-to-requires : (t : ℕ) → import-type-lts.Need-refers-to-re
   import-name-reads.Learnt,
   import-type-below t,
   import-type.Post,
-  settle-reads.Asked,
-  settle-reads.Learnt,
+  intern-reads.Asked,
+  intern-reads.Learnt,
 ) (import-type-at t) import-type.Post import-type-Inv-loop import-type-μ-loop
 unfolding tabOf
 import-type-refers-to-requires t c κs = let a = (c .before .before .before .before .before .before .before .before .before .args) in let p = c .before .before .before .before .before .before .before .before .before .pre .1 in let src = p .0 in let q = p .1 .0 in let ks = p .1 .1 .0 in let K = p .1 .1 .1 in ks
 
--- src/lib.rt:148:13
 import-type-import-name-requires : (t : ℕ) → import-type-lts.Need-import-name-requires (
   wide-reads.Asked,
   wide-reads.Learnt,
@@ -316,13 +302,12 @@ import-type-import-name-requires : (t : ℕ) → import-type-lts.Need-import-nam
   import-name-reads.Learnt,
   import-type-below t,
   import-type.Post,
-  settle-reads.Asked,
-  settle-reads.Learnt,
+  intern-reads.Asked,
+  intern-reads.Learnt,
 ) (import-type-at t) import-type.Post import-type-Inv-loop import-type-μ-loop
 unfolding tabOf
-import-type-import-name-requires t c κs = let a = (c .before .before .before .before .before .before .before .before .before .before .before .before .before .before .before .before .before .args) in let p = c .before .before .before .before .before .before .before .before .before .before .before .before .before .before .before .before .before .pre .1 in let src = p .0 in let q = p .1 .0 in let ks = p .1 .1 .0 in let K = p .1 .1 .1 in let hk : c .before .before .before .before .before .before .before .before .before .before .before .before .before .before .before .before .wide .result < countAt 1 (a .words .now) = rw (c .before .before .before .before .before .before .before .before .before .before .before .before .before .before .before .before .wide .ensures .0) (q .0) in let l = (c .before .before .before .before .before .before .before .before .before .before .before .loop) in (src, ((turn-number (a .words .now) (a .tags .now) (a .n) src (a .offset) 1 (c .before .before .before .before .before .before .before .before .before .before .before .before .before .before .before .before .wide .result) (omega arith) hk (a .log .now) (a .classes .now) (a .starts .now) (a .maps .now) (a .marks .now) (a .ends) (q .1) K (importT (a .offset) (srcOf (a .words .now) (a .n)) (tabOf 1) (c .before .before .before .before .before .before .before .before .before .before .before .before .before .before .before .before .wide .result)) (refs (recAt (srcOf (a .words .now) (a .n)) (tabOf 1) (c .before .before .before .before .before .before .before .before .before .before .before .before .before .before .before .before .wide .result))) (ends-in (a .words .now) (a .tags .now) (a .n) src (a .offset) 1 (c .before .before .before .before .before .before .before .before .before .before .before .before .before .before .before .before .wide .result) (omega arith) hk (a .log .now) (a .classes .now) (a .starts .now) (a .maps .now) (a .marks .now) (a .ends) (q .1) K (c .before .before .before .before .before .before .before .before .before .before .before .before .before .before .if1 .left) (c .before .before .before .before .before .before .before .before .before .before .before .before .before .record-at .result) (c .before .before .before .before .before .before .before .before .before .before .before .before .record-end .result) (c .before .before .before .before .before .before .before .before .before .before .before .before .before .record-at .ensures) (c .before .before .before .before .before .before .before .before .before .before .before .before .record-end .ensures)) (c .before .before .before .before .before .before .before .before .before .before .before .before .before .record-at .result) (c .before .before .before .before .before .before .before .before .before .before .before .before .record-end .result) (c .before .before .before .before .before .before .before .before .before .before .before .before .before .record-at .ensures) (c .before .before .before .before .before .before .before .before .before .before .before .before .record-end .ensures) (l .log) (l .classes) (l .starts) (l .maps) (l .marks) (l .e) (l .i) (l .inv) (c .before .before .before .before .before .before .before .before .before .before .loop-test .taken) 0 (sym (c .before .before .before .before .before .if2 .taken) ∙ c .before .before .before .before .before .before .before .refers-to .ensures .0) (omega arith) (c .before .before .before .before .before .before .before .refers-to .result .number) (c .before .before .before .before .before .before .before .refers-to .ensures .1), l .inv .going), (ks, l .inv .kept)))
+import-type-import-name-requires t c κs = let a = (c .before .before .before .before .before .before .before .before .before .before .before .before .before .before .before .before .before .args) in let p = c .before .before .before .before .before .before .before .before .before .before .before .before .before .before .before .before .before .pre .1 in let src = p .0 in let q = p .1 .0 in let ks = p .1 .1 .0 in let K = p .1 .1 .1 in let hk : c .before .before .before .before .before .before .before .before .before .before .before .before .before .before .before .before .wide .result < countAt 1 (a .words .now) = rw (c .before .before .before .before .before .before .before .before .before .before .before .before .before .before .before .before .wide .ensures .0) (q .0) in let l = (c .before .before .before .before .before .before .before .before .before .before .before .loop) in (src, ((turn-number (a .words .now) (a .tags .now) (a .n) src (a .offset) 1 (c .before .before .before .before .before .before .before .before .before .before .before .before .before .before .before .before .wide .result) (omega arith) hk (a .log .now) (a .logtags .now) (a .starts .now) (a .maps .now) (a .buckets .now) (a .ends) (q .1) K (importT (a .offset) (srcOf (a .words .now) (a .n)) (tabOf 1) (c .before .before .before .before .before .before .before .before .before .before .before .before .before .before .before .before .wide .result)) (refs (recAt (srcOf (a .words .now) (a .n)) (tabOf 1) (c .before .before .before .before .before .before .before .before .before .before .before .before .before .before .before .before .wide .result))) (ends-in (a .words .now) (a .tags .now) (a .n) src (a .offset) 1 (c .before .before .before .before .before .before .before .before .before .before .before .before .before .before .before .before .wide .result) (omega arith) hk (a .log .now) (a .logtags .now) (a .starts .now) (a .maps .now) (a .buckets .now) (a .ends) (q .1) K (c .before .before .before .before .before .before .before .before .before .before .before .before .before .before .if1 .left) (c .before .before .before .before .before .before .before .before .before .before .before .before .before .record-at .result) (c .before .before .before .before .before .before .before .before .before .before .before .before .record-end .result) (c .before .before .before .before .before .before .before .before .before .before .before .before .before .record-at .ensures) (c .before .before .before .before .before .before .before .before .before .before .before .before .record-end .ensures)) (c .before .before .before .before .before .before .before .before .before .before .before .before .before .record-at .result) (c .before .before .before .before .before .before .before .before .before .before .before .before .record-end .result) (c .before .before .before .before .before .before .before .before .before .before .before .before .before .record-at .ensures) (c .before .before .before .before .before .before .before .before .before .before .before .before .record-end .ensures) (l .log) (l .logtags) (l .starts) (l .maps) (l .buckets) (l .e) (l .i) (l .inv) (c .before .before .before .before .before .before .before .before .before .before .loop-test .taken) 0 (sym (c .before .before .before .before .before .if2 .taken) ∙ c .before .before .before .before .before .before .before .refers-to .ensures .0) (omega arith) (c .before .before .before .before .before .before .before .refers-to .result .number) (c .before .before .before .before .before .before .before .refers-to .ensures .1), l .inv .going), (ks, l .inv .kept)))
 
--- src/lib.rt:163:17
 import-type-returns-2 : (t : ℕ) → import-type-lts.Need-returns-2 (
   wide-reads.Asked,
   wide-reads.Learnt,
@@ -336,13 +321,12 @@ import-type-returns-2 : (t : ℕ) → import-type-lts.Need-returns-2 (
   import-name-reads.Learnt,
   import-type-below t,
   import-type.Post,
-  settle-reads.Asked,
-  settle-reads.Learnt,
+  intern-reads.Asked,
+  intern-reads.Learnt,
 ) (import-type-at t) import-type.Post import-type-Inv-loop import-type-μ-loop
 unfolding tabOf
-import-type-returns-2 t c = let a = (c .before .before .before .before .before .before .before .before .before .before .before .before .before .before .before .before .before .before .before .args) in let p = c .before .before .before .before .before .before .before .before .before .before .before .before .before .before .before .before .before .before .before .pre .1 in let src = p .0 in let q = p .1 .0 in let ks = p .1 .1 .0 in let K = p .1 .1 .1 in let hk : c .before .before .before .before .before .before .before .before .before .before .before .before .before .before .before .before .before .before .wide .result < countAt 1 (a .words .now) = rw (c .before .before .before .before .before .before .before .before .before .before .before .before .before .before .before .before .before .before .wide .ensures .0) (q .0) in let l = (c .before .before .before .before .before .before .before .before .before .before .before .before .before .loop) in lands-at (a .offset) (srcOf (a .words .now) (a .n)) types (c .before .before .before .before .before .before .before .before .before .before .before .before .before .before .before .before .before .before .wide .result) (a .h .0) (c .before .before .before .before .before .before .before .before .before .before .before .before .before .before .before .before .before .before .wide .ensures .0) (turn-full (a .words .now) (a .tags .now) (a .n) src (a .offset) 1 (c .before .before .before .before .before .before .before .before .before .before .before .before .before .before .before .before .before .before .wide .result) (omega arith) hk (a .log .now) (a .classes .now) (a .starts .now) (a .maps .now) (a .marks .now) (a .ends) (q .1) K (importT (a .offset) (srcOf (a .words .now) (a .n)) (tabOf 1) (c .before .before .before .before .before .before .before .before .before .before .before .before .before .before .before .before .before .before .wide .result)) (refs (recAt (srcOf (a .words .now) (a .n)) (tabOf 1) (c .before .before .before .before .before .before .before .before .before .before .before .before .before .before .before .before .before .before .wide .result))) (ends-in (a .words .now) (a .tags .now) (a .n) src (a .offset) 1 (c .before .before .before .before .before .before .before .before .before .before .before .before .before .before .before .before .before .before .wide .result) (omega arith) hk (a .log .now) (a .classes .now) (a .starts .now) (a .maps .now) (a .marks .now) (a .ends) (q .1) K (c .before .before .before .before .before .before .before .before .before .before .before .before .before .before .before .before .if1 .left) (c .before .before .before .before .before .before .before .before .before .before .before .before .before .before .before .record-at .result) (c .before .before .before .before .before .before .before .before .before .before .before .before .before .before .record-end .result) (c .before .before .before .before .before .before .before .before .before .before .before .before .before .before .before .record-at .ensures) (c .before .before .before .before .before .before .before .before .before .before .before .before .before .before .record-end .ensures)) (c .before .before .before .before .before .before .before .before .before .before .before .before .before .before .before .record-at .result) (c .before .before .before .before .before .before .before .before .before .before .before .before .before .before .record-end .result) (c .before .before .before .before .before .before .before .before .before .before .before .before .before .before .before .record-at .ensures) (c .before .before .before .before .before .before .before .before .before .before .before .before .before .before .record-end .ensures) (l .log) (l .classes) (l .starts) (l .maps) (l .marks) (l .e) (l .i) (l .inv) (c .before .before .before .before .before .before .before .before .before .before .before .before .loop-test .taken) 0 (sym (c .before .before .before .before .before .before .before .if2 .taken) ∙ c .before .before .before .before .before .before .before .before .before .refers-to .ensures .0) (omega arith) (c .before .before .before .before .before .before .before .before .before .refers-to .result .number) (c .before .before .before .before .before .before .before .before .before .refers-to .ensures .1) _ _ _ _ _ _ (c .before .import-name .ensures) (c .if3 .taken))
+import-type-returns-2 t c = let a = (c .before .before .before .before .before .before .before .before .before .before .before .before .before .before .before .before .before .before .before .args) in let p = c .before .before .before .before .before .before .before .before .before .before .before .before .before .before .before .before .before .before .before .pre .1 in let src = p .0 in let q = p .1 .0 in let ks = p .1 .1 .0 in let K = p .1 .1 .1 in let hk : c .before .before .before .before .before .before .before .before .before .before .before .before .before .before .before .before .before .before .wide .result < countAt 1 (a .words .now) = rw (c .before .before .before .before .before .before .before .before .before .before .before .before .before .before .before .before .before .before .wide .ensures .0) (q .0) in let l = (c .before .before .before .before .before .before .before .before .before .before .before .before .before .loop) in lands-at (a .offset) (srcOf (a .words .now) (a .n)) types (c .before .before .before .before .before .before .before .before .before .before .before .before .before .before .before .before .before .before .wide .result) (a .h .0) (c .before .before .before .before .before .before .before .before .before .before .before .before .before .before .before .before .before .before .wide .ensures .0) (turn-full (a .words .now) (a .tags .now) (a .n) src (a .offset) 1 (c .before .before .before .before .before .before .before .before .before .before .before .before .before .before .before .before .before .before .wide .result) (omega arith) hk (a .log .now) (a .logtags .now) (a .starts .now) (a .maps .now) (a .buckets .now) (a .ends) (q .1) K (importT (a .offset) (srcOf (a .words .now) (a .n)) (tabOf 1) (c .before .before .before .before .before .before .before .before .before .before .before .before .before .before .before .before .before .before .wide .result)) (refs (recAt (srcOf (a .words .now) (a .n)) (tabOf 1) (c .before .before .before .before .before .before .before .before .before .before .before .before .before .before .before .before .before .before .wide .result))) (ends-in (a .words .now) (a .tags .now) (a .n) src (a .offset) 1 (c .before .before .before .before .before .before .before .before .before .before .before .before .before .before .before .before .before .before .wide .result) (omega arith) hk (a .log .now) (a .logtags .now) (a .starts .now) (a .maps .now) (a .buckets .now) (a .ends) (q .1) K (c .before .before .before .before .before .before .before .before .before .before .before .before .before .before .before .before .if1 .left) (c .before .before .before .before .before .before .before .before .before .before .before .before .before .before .before .record-at .result) (c .before .before .before .before .before .before .before .before .before .before .before .before .before .before .record-end .result) (c .before .before .before .before .before .before .before .before .before .before .before .before .before .before .before .record-at .ensures) (c .before .before .before .before .before .before .before .before .before .before .before .before .before .before .record-end .ensures)) (c .before .before .before .before .before .before .before .before .before .before .before .before .before .before .before .record-at .result) (c .before .before .before .before .before .before .before .before .before .before .before .before .before .before .record-end .result) (c .before .before .before .before .before .before .before .before .before .before .before .before .before .before .before .record-at .ensures) (c .before .before .before .before .before .before .before .before .before .before .before .before .before .before .record-end .ensures) (l .log) (l .logtags) (l .starts) (l .maps) (l .buckets) (l .e) (l .i) (l .inv) (c .before .before .before .before .before .before .before .before .before .before .before .before .loop-test .taken) 0 (sym (c .before .before .before .before .before .before .before .if2 .taken) ∙ c .before .before .before .before .before .before .before .before .before .refers-to .ensures .0) (omega arith) (c .before .before .before .before .before .before .before .before .before .refers-to .result .number) (c .before .before .before .before .before .before .before .before .before .refers-to .ensures .1) _ _ _ _ _ _ (c .before .import-name .ensures) (c .if3 .taken))
 
--- src/lib.rt:143:5
 import-type-loop-less : (t : ℕ) → import-type-lts.Need-loop-less (
   wide-reads.Asked,
   wide-reads.Learnt,
@@ -356,13 +340,12 @@ import-type-loop-less : (t : ℕ) → import-type-lts.Need-loop-less (
   import-name-reads.Learnt,
   import-type-below t,
   import-type.Post,
-  settle-reads.Asked,
-  settle-reads.Learnt,
+  intern-reads.Asked,
+  intern-reads.Learnt,
 ) (import-type-at t) import-type.Post import-type-Inv-loop import-type-μ-loop
 unfolding tabOf
 import-type-loop-less t c = let a = (c .before .before .before .before .before .before .before .before .before .before .before .before .before .before .before .before .before .before .before .args) in let p = c .before .before .before .before .before .before .before .before .before .before .before .before .before .before .before .before .before .before .before .pre .1 in let src = p .0 in let q = p .1 .0 in let ks = p .1 .1 .0 in let K = p .1 .1 .1 in let hk : c .before .before .before .before .before .before .before .before .before .before .before .before .before .before .before .before .before .before .wide .result < countAt 1 (a .words .now) = rw (c .before .before .before .before .before .before .before .before .before .before .before .before .before .before .before .before .before .before .wide .ensures .0) (q .0) in let l = (c .before .before .before .before .before .before .before .before .before .before .before .before .before .loop) in let z = c .before .before .before .before .before .before .before .before .before .before .before .before .loop-test .taken in omega arith
 
--- src/lib.rt:143:5
 import-type-loop-again : (t : ℕ) → import-type-lts.Need-loop-again (
   wide-reads.Asked,
   wide-reads.Learnt,
@@ -376,13 +359,12 @@ import-type-loop-again : (t : ℕ) → import-type-lts.Need-loop-again (
   import-name-reads.Learnt,
   import-type-below t,
   import-type.Post,
-  settle-reads.Asked,
-  settle-reads.Learnt,
+  intern-reads.Asked,
+  intern-reads.Learnt,
 ) (import-type-at t) import-type.Post import-type-Inv-loop import-type-μ-loop
 unfolding tabOf
-import-type-loop-again t c = let a = (c .before .before .before .before .before .before .before .before .before .before .before .before .before .before .before .before .before .before .before .args) in let p = c .before .before .before .before .before .before .before .before .before .before .before .before .before .before .before .before .before .before .before .pre .1 in let src = p .0 in let q = p .1 .0 in let ks = p .1 .1 .0 in let K = p .1 .1 .1 in let hk : c .before .before .before .before .before .before .before .before .before .before .before .before .before .before .before .before .before .before .wide .result < countAt 1 (a .words .now) = rw (c .before .before .before .before .before .before .before .before .before .before .before .before .before .before .before .before .before .before .wide .ensures .0) (q .0) in let l = (c .before .before .before .before .before .before .before .before .before .before .before .before .before .loop) in turn-next (a .words .now) (a .tags .now) (a .n) src (a .offset) 1 (c .before .before .before .before .before .before .before .before .before .before .before .before .before .before .before .before .before .before .wide .result) (omega arith) hk (a .log .now) (a .classes .now) (a .starts .now) (a .maps .now) (a .marks .now) (a .ends) (q .1) K (importT (a .offset) (srcOf (a .words .now) (a .n)) (tabOf 1) (c .before .before .before .before .before .before .before .before .before .before .before .before .before .before .before .before .before .before .wide .result)) (refs (recAt (srcOf (a .words .now) (a .n)) (tabOf 1) (c .before .before .before .before .before .before .before .before .before .before .before .before .before .before .before .before .before .before .wide .result))) (ends-in (a .words .now) (a .tags .now) (a .n) src (a .offset) 1 (c .before .before .before .before .before .before .before .before .before .before .before .before .before .before .before .before .before .before .wide .result) (omega arith) hk (a .log .now) (a .classes .now) (a .starts .now) (a .maps .now) (a .marks .now) (a .ends) (q .1) K (c .before .before .before .before .before .before .before .before .before .before .before .before .before .before .before .before .if1 .left) (c .before .before .before .before .before .before .before .before .before .before .before .before .before .before .before .record-at .result) (c .before .before .before .before .before .before .before .before .before .before .before .before .before .before .record-end .result) (c .before .before .before .before .before .before .before .before .before .before .before .before .before .before .before .record-at .ensures) (c .before .before .before .before .before .before .before .before .before .before .before .before .before .before .record-end .ensures)) (c .before .before .before .before .before .before .before .before .before .before .before .before .before .before .before .record-at .result) (c .before .before .before .before .before .before .before .before .before .before .before .before .before .before .record-end .result) (c .before .before .before .before .before .before .before .before .before .before .before .before .before .before .before .record-at .ensures) (c .before .before .before .before .before .before .before .before .before .before .before .before .before .before .record-end .ensures) (l .log) (l .classes) (l .starts) (l .maps) (l .marks) (l .e) (l .i) (l .inv) (c .before .before .before .before .before .before .before .before .before .before .before .before .loop-test .taken) 0 (sym (c .before .before .before .before .before .before .before .if2 .taken) ∙ c .before .before .before .before .before .before .before .before .before .refers-to .ensures .0) (omega arith) (c .before .before .before .before .before .before .before .before .before .refers-to .result .number) (c .before .before .before .before .before .before .before .before .before .refers-to .ensures .1) _ _ _ _ _ _ (c .before .import-name .ensures) (c .if3 .left)
+import-type-loop-again t c = let a = (c .before .before .before .before .before .before .before .before .before .before .before .before .before .before .before .before .before .before .before .args) in let p = c .before .before .before .before .before .before .before .before .before .before .before .before .before .before .before .before .before .before .before .pre .1 in let src = p .0 in let q = p .1 .0 in let ks = p .1 .1 .0 in let K = p .1 .1 .1 in let hk : c .before .before .before .before .before .before .before .before .before .before .before .before .before .before .before .before .before .before .wide .result < countAt 1 (a .words .now) = rw (c .before .before .before .before .before .before .before .before .before .before .before .before .before .before .before .before .before .before .wide .ensures .0) (q .0) in let l = (c .before .before .before .before .before .before .before .before .before .before .before .before .before .loop) in turn-next (a .words .now) (a .tags .now) (a .n) src (a .offset) 1 (c .before .before .before .before .before .before .before .before .before .before .before .before .before .before .before .before .before .before .wide .result) (omega arith) hk (a .log .now) (a .logtags .now) (a .starts .now) (a .maps .now) (a .buckets .now) (a .ends) (q .1) K (importT (a .offset) (srcOf (a .words .now) (a .n)) (tabOf 1) (c .before .before .before .before .before .before .before .before .before .before .before .before .before .before .before .before .before .before .wide .result)) (refs (recAt (srcOf (a .words .now) (a .n)) (tabOf 1) (c .before .before .before .before .before .before .before .before .before .before .before .before .before .before .before .before .before .before .wide .result))) (ends-in (a .words .now) (a .tags .now) (a .n) src (a .offset) 1 (c .before .before .before .before .before .before .before .before .before .before .before .before .before .before .before .before .before .before .wide .result) (omega arith) hk (a .log .now) (a .logtags .now) (a .starts .now) (a .maps .now) (a .buckets .now) (a .ends) (q .1) K (c .before .before .before .before .before .before .before .before .before .before .before .before .before .before .before .before .if1 .left) (c .before .before .before .before .before .before .before .before .before .before .before .before .before .before .before .record-at .result) (c .before .before .before .before .before .before .before .before .before .before .before .before .before .before .record-end .result) (c .before .before .before .before .before .before .before .before .before .before .before .before .before .before .before .record-at .ensures) (c .before .before .before .before .before .before .before .before .before .before .before .before .before .before .record-end .ensures)) (c .before .before .before .before .before .before .before .before .before .before .before .before .before .before .before .record-at .result) (c .before .before .before .before .before .before .before .before .before .before .before .before .before .before .record-end .result) (c .before .before .before .before .before .before .before .before .before .before .before .before .before .before .before .record-at .ensures) (c .before .before .before .before .before .before .before .before .before .before .before .before .before .before .record-end .ensures) (l .log) (l .logtags) (l .starts) (l .maps) (l .buckets) (l .e) (l .i) (l .inv) (c .before .before .before .before .before .before .before .before .before .before .before .before .loop-test .taken) 0 (sym (c .before .before .before .before .before .before .before .if2 .taken) ∙ c .before .before .before .before .before .before .before .before .before .refers-to .ensures .0) (omega arith) (c .before .before .before .before .before .before .before .before .before .refers-to .result .number) (c .before .before .before .before .before .before .before .before .before .refers-to .ensures .1) _ _ _ _ _ _ (c .before .import-name .ensures) (c .if3 .left)
 
--- src/lib.rt:166:13
 import-type-import-type-requires : (t : ℕ) → import-type-lts.Need-import-type-requires (
   wide-reads.Asked,
   wide-reads.Learnt,
@@ -396,13 +378,12 @@ import-type-import-type-requires : (t : ℕ) → import-type-lts.Need-import-typ
   import-name-reads.Learnt,
   import-type-below t,
   import-type.Post,
-  settle-reads.Asked,
-  settle-reads.Learnt,
+  intern-reads.Asked,
+  intern-reads.Learnt,
 ) (import-type-at t) import-type.Post import-type-Inv-loop import-type-μ-loop
 unfolding tabOf
-import-type-import-type-requires t c κs = let a = (c .before .before .before .before .before .before .before .before .before .before .before .before .before .before .before .before .before .before .before .args) in let p = c .before .before .before .before .before .before .before .before .before .before .before .before .before .before .before .before .before .before .before .pre .1 in let src = p .0 in let q = p .1 .0 in let ks = p .1 .1 .0 in let K = p .1 .1 .1 in let hk : c .before .before .before .before .before .before .before .before .before .before .before .before .before .before .before .before .before .before .wide .result < countAt 1 (a .words .now) = rw (c .before .before .before .before .before .before .before .before .before .before .before .before .before .before .before .before .before .before .wide .ensures .0) (q .0) in let l = (c .before .before .before .before .before .before .before .before .before .before .before .before .before .loop) in let g = type-falls (srcOf (a .words .now) (a .n)) (c .before .before .before .before .before .before .before .before .before .refers-to .result .number) (c .before .before .before .before .before .before .before .before .before .before .before .before .before .before .before .before .before .before .wide .result) (turn-falls (a .words .now) (a .tags .now) (a .n) src (a .offset) 1 (c .before .before .before .before .before .before .before .before .before .before .before .before .before .before .before .before .before .before .wide .result) (omega arith) hk (a .log .now) (a .classes .now) (a .starts .now) (a .maps .now) (a .marks .now) (a .ends) (q .1) K (importT (a .offset) (srcOf (a .words .now) (a .n)) (tabOf 1) (c .before .before .before .before .before .before .before .before .before .before .before .before .before .before .before .before .before .before .wide .result)) (refs (recAt (srcOf (a .words .now) (a .n)) (tabOf 1) (c .before .before .before .before .before .before .before .before .before .before .before .before .before .before .before .before .before .before .wide .result))) (ends-in (a .words .now) (a .tags .now) (a .n) src (a .offset) 1 (c .before .before .before .before .before .before .before .before .before .before .before .before .before .before .before .before .before .before .wide .result) (omega arith) hk (a .log .now) (a .classes .now) (a .starts .now) (a .maps .now) (a .marks .now) (a .ends) (q .1) K (c .before .before .before .before .before .before .before .before .before .before .before .before .before .before .before .before .if1 .left) (c .before .before .before .before .before .before .before .before .before .before .before .before .before .before .before .record-at .result) (c .before .before .before .before .before .before .before .before .before .before .before .before .before .before .record-end .result) (c .before .before .before .before .before .before .before .before .before .before .before .before .before .before .before .record-at .ensures) (c .before .before .before .before .before .before .before .before .before .before .before .before .before .before .record-end .ensures)) (c .before .before .before .before .before .before .before .before .before .before .before .before .before .before .before .record-at .result) (c .before .before .before .before .before .before .before .before .before .before .before .before .before .before .record-end .result) (c .before .before .before .before .before .before .before .before .before .before .before .before .before .before .before .record-at .ensures) (c .before .before .before .before .before .before .before .before .before .before .before .before .before .before .record-end .ensures) (l .log) (l .classes) (l .starts) (l .maps) (l .marks) (l .e) (l .i) (l .inv) (c .before .before .before .before .before .before .before .before .before .before .before .before .loop-test .taken) 1 (sym (c .before .before .before .before .before .if4 .taken) ∙ c .before .before .before .before .before .before .before .before .before .refers-to .ensures .0) (omega arith) (c .before .before .before .before .before .before .before .before .before .refers-to .result .number) (c .before .before .before .before .before .before .before .before .before .refers-to .ensures .1)) in let z = c .before .before .before .before .before .before .before .before .before .before .before .before .before .before .before .before .before .before .before .pre .0 in let y = c .before .before .before .before .before .before .before .before .before .before .before .before .before .before .before .before .before .before .wide .ensures .0 in let x : c .before .before .before .before .before .before .before .before .before .refers-to .result .number < t = omega arith in (x, (src, ((turn-number (a .words .now) (a .tags .now) (a .n) src (a .offset) 1 (c .before .before .before .before .before .before .before .before .before .before .before .before .before .before .before .before .before .before .wide .result) (omega arith) hk (a .log .now) (a .classes .now) (a .starts .now) (a .maps .now) (a .marks .now) (a .ends) (q .1) K (importT (a .offset) (srcOf (a .words .now) (a .n)) (tabOf 1) (c .before .before .before .before .before .before .before .before .before .before .before .before .before .before .before .before .before .before .wide .result)) (refs (recAt (srcOf (a .words .now) (a .n)) (tabOf 1) (c .before .before .before .before .before .before .before .before .before .before .before .before .before .before .before .before .before .before .wide .result))) (ends-in (a .words .now) (a .tags .now) (a .n) src (a .offset) 1 (c .before .before .before .before .before .before .before .before .before .before .before .before .before .before .before .before .before .before .wide .result) (omega arith) hk (a .log .now) (a .classes .now) (a .starts .now) (a .maps .now) (a .marks .now) (a .ends) (q .1) K (c .before .before .before .before .before .before .before .before .before .before .before .before .before .before .before .before .if1 .left) (c .before .before .before .before .before .before .before .before .before .before .before .before .before .before .before .record-at .result) (c .before .before .before .before .before .before .before .before .before .before .before .before .before .before .record-end .result) (c .before .before .before .before .before .before .before .before .before .before .before .before .before .before .before .record-at .ensures) (c .before .before .before .before .before .before .before .before .before .before .before .before .before .before .record-end .ensures)) (c .before .before .before .before .before .before .before .before .before .before .before .before .before .before .before .record-at .result) (c .before .before .before .before .before .before .before .before .before .before .before .before .before .before .record-end .result) (c .before .before .before .before .before .before .before .before .before .before .before .before .before .before .before .record-at .ensures) (c .before .before .before .before .before .before .before .before .before .before .before .before .before .before .record-end .ensures) (l .log) (l .classes) (l .starts) (l .maps) (l .marks) (l .e) (l .i) (l .inv) (c .before .before .before .before .before .before .before .before .before .before .before .before .loop-test .taken) 1 (sym (c .before .before .before .before .before .if4 .taken) ∙ c .before .before .before .before .before .before .before .before .before .refers-to .ensures .0) (omega arith) (c .before .before .before .before .before .before .before .before .before .refers-to .result .number) (c .before .before .before .before .before .before .before .before .before .refers-to .ensures .1), l .inv .going), (ks, l .inv .kept))))
+import-type-import-type-requires t c κs = let a = (c .before .before .before .before .before .before .before .before .before .before .before .before .before .before .before .before .before .before .before .args) in let p = c .before .before .before .before .before .before .before .before .before .before .before .before .before .before .before .before .before .before .before .pre .1 in let src = p .0 in let q = p .1 .0 in let ks = p .1 .1 .0 in let K = p .1 .1 .1 in let hk : c .before .before .before .before .before .before .before .before .before .before .before .before .before .before .before .before .before .before .wide .result < countAt 1 (a .words .now) = rw (c .before .before .before .before .before .before .before .before .before .before .before .before .before .before .before .before .before .before .wide .ensures .0) (q .0) in let l = (c .before .before .before .before .before .before .before .before .before .before .before .before .before .loop) in let g = type-falls (srcOf (a .words .now) (a .n)) (c .before .before .before .before .before .before .before .before .before .refers-to .result .number) (c .before .before .before .before .before .before .before .before .before .before .before .before .before .before .before .before .before .before .wide .result) (turn-falls (a .words .now) (a .tags .now) (a .n) src (a .offset) 1 (c .before .before .before .before .before .before .before .before .before .before .before .before .before .before .before .before .before .before .wide .result) (omega arith) hk (a .log .now) (a .logtags .now) (a .starts .now) (a .maps .now) (a .buckets .now) (a .ends) (q .1) K (importT (a .offset) (srcOf (a .words .now) (a .n)) (tabOf 1) (c .before .before .before .before .before .before .before .before .before .before .before .before .before .before .before .before .before .before .wide .result)) (refs (recAt (srcOf (a .words .now) (a .n)) (tabOf 1) (c .before .before .before .before .before .before .before .before .before .before .before .before .before .before .before .before .before .before .wide .result))) (ends-in (a .words .now) (a .tags .now) (a .n) src (a .offset) 1 (c .before .before .before .before .before .before .before .before .before .before .before .before .before .before .before .before .before .before .wide .result) (omega arith) hk (a .log .now) (a .logtags .now) (a .starts .now) (a .maps .now) (a .buckets .now) (a .ends) (q .1) K (c .before .before .before .before .before .before .before .before .before .before .before .before .before .before .before .before .if1 .left) (c .before .before .before .before .before .before .before .before .before .before .before .before .before .before .before .record-at .result) (c .before .before .before .before .before .before .before .before .before .before .before .before .before .before .record-end .result) (c .before .before .before .before .before .before .before .before .before .before .before .before .before .before .before .record-at .ensures) (c .before .before .before .before .before .before .before .before .before .before .before .before .before .before .record-end .ensures)) (c .before .before .before .before .before .before .before .before .before .before .before .before .before .before .before .record-at .result) (c .before .before .before .before .before .before .before .before .before .before .before .before .before .before .record-end .result) (c .before .before .before .before .before .before .before .before .before .before .before .before .before .before .before .record-at .ensures) (c .before .before .before .before .before .before .before .before .before .before .before .before .before .before .record-end .ensures) (l .log) (l .logtags) (l .starts) (l .maps) (l .buckets) (l .e) (l .i) (l .inv) (c .before .before .before .before .before .before .before .before .before .before .before .before .loop-test .taken) 1 (sym (c .before .before .before .before .before .if4 .taken) ∙ c .before .before .before .before .before .before .before .before .before .refers-to .ensures .0) (omega arith) (c .before .before .before .before .before .before .before .before .before .refers-to .result .number) (c .before .before .before .before .before .before .before .before .before .refers-to .ensures .1)) in let z = c .before .before .before .before .before .before .before .before .before .before .before .before .before .before .before .before .before .before .before .pre .0 in let y = c .before .before .before .before .before .before .before .before .before .before .before .before .before .before .before .before .before .before .wide .ensures .0 in let x : c .before .before .before .before .before .before .before .before .before .refers-to .result .number < t = omega arith in (x, (src, ((turn-number (a .words .now) (a .tags .now) (a .n) src (a .offset) 1 (c .before .before .before .before .before .before .before .before .before .before .before .before .before .before .before .before .before .before .wide .result) (omega arith) hk (a .log .now) (a .logtags .now) (a .starts .now) (a .maps .now) (a .buckets .now) (a .ends) (q .1) K (importT (a .offset) (srcOf (a .words .now) (a .n)) (tabOf 1) (c .before .before .before .before .before .before .before .before .before .before .before .before .before .before .before .before .before .before .wide .result)) (refs (recAt (srcOf (a .words .now) (a .n)) (tabOf 1) (c .before .before .before .before .before .before .before .before .before .before .before .before .before .before .before .before .before .before .wide .result))) (ends-in (a .words .now) (a .tags .now) (a .n) src (a .offset) 1 (c .before .before .before .before .before .before .before .before .before .before .before .before .before .before .before .before .before .before .wide .result) (omega arith) hk (a .log .now) (a .logtags .now) (a .starts .now) (a .maps .now) (a .buckets .now) (a .ends) (q .1) K (c .before .before .before .before .before .before .before .before .before .before .before .before .before .before .before .before .if1 .left) (c .before .before .before .before .before .before .before .before .before .before .before .before .before .before .before .record-at .result) (c .before .before .before .before .before .before .before .before .before .before .before .before .before .before .record-end .result) (c .before .before .before .before .before .before .before .before .before .before .before .before .before .before .before .record-at .ensures) (c .before .before .before .before .before .before .before .before .before .before .before .before .before .before .record-end .ensures)) (c .before .before .before .before .before .before .before .before .before .before .before .before .before .before .before .record-at .result) (c .before .before .before .before .before .before .before .before .before .before .before .before .before .before .record-end .result) (c .before .before .before .before .before .before .before .before .before .before .before .before .before .before .before .record-at .ensures) (c .before .before .before .before .before .before .before .before .before .before .before .before .before .before .record-end .ensures) (l .log) (l .logtags) (l .starts) (l .maps) (l .buckets) (l .e) (l .i) (l .inv) (c .before .before .before .before .before .before .before .before .before .before .before .before .loop-test .taken) 1 (sym (c .before .before .before .before .before .if4 .taken) ∙ c .before .before .before .before .before .before .before .before .before .refers-to .ensures .0) (omega arith) (c .before .before .before .before .before .before .before .before .before .refers-to .result .number) (c .before .before .before .before .before .before .before .before .before .refers-to .ensures .1), l .inv .going), (ks, l .inv .kept))))
 
--- src/lib.rt:181:17
 import-type-returns-3 : (t : ℕ) → import-type-lts.Need-returns-3 (
   wide-reads.Asked,
   wide-reads.Learnt,
@@ -416,13 +397,12 @@ import-type-returns-3 : (t : ℕ) → import-type-lts.Need-returns-3 (
   import-name-reads.Learnt,
   import-type-below t,
   import-type.Post,
-  settle-reads.Asked,
-  settle-reads.Learnt,
+  intern-reads.Asked,
+  intern-reads.Learnt,
 ) (import-type-at t) import-type.Post import-type-Inv-loop import-type-μ-loop
 unfolding tabOf
-import-type-returns-3 t c = let a = (c .before .before .before .before .before .before .before .before .before .before .before .before .before .before .before .before .before .before .before .before .before .args) in let p = c .before .before .before .before .before .before .before .before .before .before .before .before .before .before .before .before .before .before .before .before .before .pre .1 in let src = p .0 in let q = p .1 .0 in let ks = p .1 .1 .0 in let K = p .1 .1 .1 in let hk : c .before .before .before .before .before .before .before .before .before .before .before .before .before .before .before .before .before .before .before .before .wide .result < countAt 1 (a .words .now) = rw (c .before .before .before .before .before .before .before .before .before .before .before .before .before .before .before .before .before .before .before .before .wide .ensures .0) (q .0) in let l = (c .before .before .before .before .before .before .before .before .before .before .before .before .before .before .before .loop) in lands-at (a .offset) (srcOf (a .words .now) (a .n)) types (c .before .before .before .before .before .before .before .before .before .before .before .before .before .before .before .before .before .before .before .before .wide .result) (a .h .0) (c .before .before .before .before .before .before .before .before .before .before .before .before .before .before .before .before .before .before .before .before .wide .ensures .0) (turn-full (a .words .now) (a .tags .now) (a .n) src (a .offset) 1 (c .before .before .before .before .before .before .before .before .before .before .before .before .before .before .before .before .before .before .before .before .wide .result) (omega arith) hk (a .log .now) (a .classes .now) (a .starts .now) (a .maps .now) (a .marks .now) (a .ends) (q .1) K (importT (a .offset) (srcOf (a .words .now) (a .n)) (tabOf 1) (c .before .before .before .before .before .before .before .before .before .before .before .before .before .before .before .before .before .before .before .before .wide .result)) (refs (recAt (srcOf (a .words .now) (a .n)) (tabOf 1) (c .before .before .before .before .before .before .before .before .before .before .before .before .before .before .before .before .before .before .before .before .wide .result))) (ends-in (a .words .now) (a .tags .now) (a .n) src (a .offset) 1 (c .before .before .before .before .before .before .before .before .before .before .before .before .before .before .before .before .before .before .before .before .wide .result) (omega arith) hk (a .log .now) (a .classes .now) (a .starts .now) (a .maps .now) (a .marks .now) (a .ends) (q .1) K (c .before .before .before .before .before .before .before .before .before .before .before .before .before .before .before .before .before .before .if1 .left) (c .before .before .before .before .before .before .before .before .before .before .before .before .before .before .before .before .before .record-at .result) (c .before .before .before .before .before .before .before .before .before .before .before .before .before .before .before .before .record-end .result) (c .before .before .before .before .before .before .before .before .before .before .before .before .before .before .before .before .before .record-at .ensures) (c .before .before .before .before .before .before .before .before .before .before .before .before .before .before .before .before .record-end .ensures)) (c .before .before .before .before .before .before .before .before .before .before .before .before .before .before .before .before .before .record-at .result) (c .before .before .before .before .before .before .before .before .before .before .before .before .before .before .before .before .record-end .result) (c .before .before .before .before .before .before .before .before .before .before .before .before .before .before .before .before .before .record-at .ensures) (c .before .before .before .before .before .before .before .before .before .before .before .before .before .before .before .before .record-end .ensures) (l .log) (l .classes) (l .starts) (l .maps) (l .marks) (l .e) (l .i) (l .inv) (c .before .before .before .before .before .before .before .before .before .before .before .before .before .before .loop-test .taken) 1 (sym (c .before .before .before .before .before .before .before .if4 .taken) ∙ c .before .before .before .before .before .before .before .before .before .before .before .refers-to .ensures .0) (omega arith) (c .before .before .before .before .before .before .before .before .before .before .before .refers-to .result .number) (c .before .before .before .before .before .before .before .before .before .before .before .refers-to .ensures .1) _ _ _ _ _ _ (c .before .import-type .ensures) (c .if5 .taken))
+import-type-returns-3 t c = let a = (c .before .before .before .before .before .before .before .before .before .before .before .before .before .before .before .before .before .before .before .before .before .args) in let p = c .before .before .before .before .before .before .before .before .before .before .before .before .before .before .before .before .before .before .before .before .before .pre .1 in let src = p .0 in let q = p .1 .0 in let ks = p .1 .1 .0 in let K = p .1 .1 .1 in let hk : c .before .before .before .before .before .before .before .before .before .before .before .before .before .before .before .before .before .before .before .before .wide .result < countAt 1 (a .words .now) = rw (c .before .before .before .before .before .before .before .before .before .before .before .before .before .before .before .before .before .before .before .before .wide .ensures .0) (q .0) in let l = (c .before .before .before .before .before .before .before .before .before .before .before .before .before .before .before .loop) in lands-at (a .offset) (srcOf (a .words .now) (a .n)) types (c .before .before .before .before .before .before .before .before .before .before .before .before .before .before .before .before .before .before .before .before .wide .result) (a .h .0) (c .before .before .before .before .before .before .before .before .before .before .before .before .before .before .before .before .before .before .before .before .wide .ensures .0) (turn-full (a .words .now) (a .tags .now) (a .n) src (a .offset) 1 (c .before .before .before .before .before .before .before .before .before .before .before .before .before .before .before .before .before .before .before .before .wide .result) (omega arith) hk (a .log .now) (a .logtags .now) (a .starts .now) (a .maps .now) (a .buckets .now) (a .ends) (q .1) K (importT (a .offset) (srcOf (a .words .now) (a .n)) (tabOf 1) (c .before .before .before .before .before .before .before .before .before .before .before .before .before .before .before .before .before .before .before .before .wide .result)) (refs (recAt (srcOf (a .words .now) (a .n)) (tabOf 1) (c .before .before .before .before .before .before .before .before .before .before .before .before .before .before .before .before .before .before .before .before .wide .result))) (ends-in (a .words .now) (a .tags .now) (a .n) src (a .offset) 1 (c .before .before .before .before .before .before .before .before .before .before .before .before .before .before .before .before .before .before .before .before .wide .result) (omega arith) hk (a .log .now) (a .logtags .now) (a .starts .now) (a .maps .now) (a .buckets .now) (a .ends) (q .1) K (c .before .before .before .before .before .before .before .before .before .before .before .before .before .before .before .before .before .before .if1 .left) (c .before .before .before .before .before .before .before .before .before .before .before .before .before .before .before .before .before .record-at .result) (c .before .before .before .before .before .before .before .before .before .before .before .before .before .before .before .before .record-end .result) (c .before .before .before .before .before .before .before .before .before .before .before .before .before .before .before .before .before .record-at .ensures) (c .before .before .before .before .before .before .before .before .before .before .before .before .before .before .before .before .record-end .ensures)) (c .before .before .before .before .before .before .before .before .before .before .before .before .before .before .before .before .before .record-at .result) (c .before .before .before .before .before .before .before .before .before .before .before .before .before .before .before .before .record-end .result) (c .before .before .before .before .before .before .before .before .before .before .before .before .before .before .before .before .before .record-at .ensures) (c .before .before .before .before .before .before .before .before .before .before .before .before .before .before .before .before .record-end .ensures) (l .log) (l .logtags) (l .starts) (l .maps) (l .buckets) (l .e) (l .i) (l .inv) (c .before .before .before .before .before .before .before .before .before .before .before .before .before .before .loop-test .taken) 1 (sym (c .before .before .before .before .before .before .before .if4 .taken) ∙ c .before .before .before .before .before .before .before .before .before .before .before .refers-to .ensures .0) (omega arith) (c .before .before .before .before .before .before .before .before .before .before .before .refers-to .result .number) (c .before .before .before .before .before .before .before .before .before .before .before .refers-to .ensures .1) _ _ _ _ _ _ (c .before .import-type .ensures) (c .if5 .taken))
 
--- src/lib.rt:143:5
 import-type-loop-less-2 : (t : ℕ) → import-type-lts.Need-loop-less-2 (
   wide-reads.Asked,
   wide-reads.Learnt,
@@ -436,13 +416,12 @@ import-type-loop-less-2 : (t : ℕ) → import-type-lts.Need-loop-less-2 (
   import-name-reads.Learnt,
   import-type-below t,
   import-type.Post,
-  settle-reads.Asked,
-  settle-reads.Learnt,
+  intern-reads.Asked,
+  intern-reads.Learnt,
 ) (import-type-at t) import-type.Post import-type-Inv-loop import-type-μ-loop
 unfolding tabOf
 import-type-loop-less-2 t c = let a = (c .before .before .before .before .before .before .before .before .before .before .before .before .before .before .before .before .before .before .before .before .before .args) in let p = c .before .before .before .before .before .before .before .before .before .before .before .before .before .before .before .before .before .before .before .before .before .pre .1 in let src = p .0 in let q = p .1 .0 in let ks = p .1 .1 .0 in let K = p .1 .1 .1 in let hk : c .before .before .before .before .before .before .before .before .before .before .before .before .before .before .before .before .before .before .before .before .wide .result < countAt 1 (a .words .now) = rw (c .before .before .before .before .before .before .before .before .before .before .before .before .before .before .before .before .before .before .before .before .wide .ensures .0) (q .0) in let l = (c .before .before .before .before .before .before .before .before .before .before .before .before .before .before .before .loop) in let z = c .before .before .before .before .before .before .before .before .before .before .before .before .before .before .loop-test .taken in omega arith
 
--- src/lib.rt:143:5
 import-type-loop-again-2 : (t : ℕ) → import-type-lts.Need-loop-again-2 (
   wide-reads.Asked,
   wide-reads.Learnt,
@@ -456,13 +435,12 @@ import-type-loop-again-2 : (t : ℕ) → import-type-lts.Need-loop-again-2 (
   import-name-reads.Learnt,
   import-type-below t,
   import-type.Post,
-  settle-reads.Asked,
-  settle-reads.Learnt,
+  intern-reads.Asked,
+  intern-reads.Learnt,
 ) (import-type-at t) import-type.Post import-type-Inv-loop import-type-μ-loop
 unfolding tabOf
-import-type-loop-again-2 t c = let a = (c .before .before .before .before .before .before .before .before .before .before .before .before .before .before .before .before .before .before .before .before .before .args) in let p = c .before .before .before .before .before .before .before .before .before .before .before .before .before .before .before .before .before .before .before .before .before .pre .1 in let src = p .0 in let q = p .1 .0 in let ks = p .1 .1 .0 in let K = p .1 .1 .1 in let hk : c .before .before .before .before .before .before .before .before .before .before .before .before .before .before .before .before .before .before .before .before .wide .result < countAt 1 (a .words .now) = rw (c .before .before .before .before .before .before .before .before .before .before .before .before .before .before .before .before .before .before .before .before .wide .ensures .0) (q .0) in let l = (c .before .before .before .before .before .before .before .before .before .before .before .before .before .before .before .loop) in turn-next (a .words .now) (a .tags .now) (a .n) src (a .offset) 1 (c .before .before .before .before .before .before .before .before .before .before .before .before .before .before .before .before .before .before .before .before .wide .result) (omega arith) hk (a .log .now) (a .classes .now) (a .starts .now) (a .maps .now) (a .marks .now) (a .ends) (q .1) K (importT (a .offset) (srcOf (a .words .now) (a .n)) (tabOf 1) (c .before .before .before .before .before .before .before .before .before .before .before .before .before .before .before .before .before .before .before .before .wide .result)) (refs (recAt (srcOf (a .words .now) (a .n)) (tabOf 1) (c .before .before .before .before .before .before .before .before .before .before .before .before .before .before .before .before .before .before .before .before .wide .result))) (ends-in (a .words .now) (a .tags .now) (a .n) src (a .offset) 1 (c .before .before .before .before .before .before .before .before .before .before .before .before .before .before .before .before .before .before .before .before .wide .result) (omega arith) hk (a .log .now) (a .classes .now) (a .starts .now) (a .maps .now) (a .marks .now) (a .ends) (q .1) K (c .before .before .before .before .before .before .before .before .before .before .before .before .before .before .before .before .before .before .if1 .left) (c .before .before .before .before .before .before .before .before .before .before .before .before .before .before .before .before .before .record-at .result) (c .before .before .before .before .before .before .before .before .before .before .before .before .before .before .before .before .record-end .result) (c .before .before .before .before .before .before .before .before .before .before .before .before .before .before .before .before .before .record-at .ensures) (c .before .before .before .before .before .before .before .before .before .before .before .before .before .before .before .before .record-end .ensures)) (c .before .before .before .before .before .before .before .before .before .before .before .before .before .before .before .before .before .record-at .result) (c .before .before .before .before .before .before .before .before .before .before .before .before .before .before .before .before .record-end .result) (c .before .before .before .before .before .before .before .before .before .before .before .before .before .before .before .before .before .record-at .ensures) (c .before .before .before .before .before .before .before .before .before .before .before .before .before .before .before .before .record-end .ensures) (l .log) (l .classes) (l .starts) (l .maps) (l .marks) (l .e) (l .i) (l .inv) (c .before .before .before .before .before .before .before .before .before .before .before .before .before .before .loop-test .taken) 1 (sym (c .before .before .before .before .before .before .before .if4 .taken) ∙ c .before .before .before .before .before .before .before .before .before .before .before .refers-to .ensures .0) (omega arith) (c .before .before .before .before .before .before .before .before .before .before .before .refers-to .result .number) (c .before .before .before .before .before .before .before .before .before .before .before .refers-to .ensures .1) _ _ _ _ _ _ (c .before .import-type .ensures) (c .if5 .left)
+import-type-loop-again-2 t c = let a = (c .before .before .before .before .before .before .before .before .before .before .before .before .before .before .before .before .before .before .before .before .before .args) in let p = c .before .before .before .before .before .before .before .before .before .before .before .before .before .before .before .before .before .before .before .before .before .pre .1 in let src = p .0 in let q = p .1 .0 in let ks = p .1 .1 .0 in let K = p .1 .1 .1 in let hk : c .before .before .before .before .before .before .before .before .before .before .before .before .before .before .before .before .before .before .before .before .wide .result < countAt 1 (a .words .now) = rw (c .before .before .before .before .before .before .before .before .before .before .before .before .before .before .before .before .before .before .before .before .wide .ensures .0) (q .0) in let l = (c .before .before .before .before .before .before .before .before .before .before .before .before .before .before .before .loop) in turn-next (a .words .now) (a .tags .now) (a .n) src (a .offset) 1 (c .before .before .before .before .before .before .before .before .before .before .before .before .before .before .before .before .before .before .before .before .wide .result) (omega arith) hk (a .log .now) (a .logtags .now) (a .starts .now) (a .maps .now) (a .buckets .now) (a .ends) (q .1) K (importT (a .offset) (srcOf (a .words .now) (a .n)) (tabOf 1) (c .before .before .before .before .before .before .before .before .before .before .before .before .before .before .before .before .before .before .before .before .wide .result)) (refs (recAt (srcOf (a .words .now) (a .n)) (tabOf 1) (c .before .before .before .before .before .before .before .before .before .before .before .before .before .before .before .before .before .before .before .before .wide .result))) (ends-in (a .words .now) (a .tags .now) (a .n) src (a .offset) 1 (c .before .before .before .before .before .before .before .before .before .before .before .before .before .before .before .before .before .before .before .before .wide .result) (omega arith) hk (a .log .now) (a .logtags .now) (a .starts .now) (a .maps .now) (a .buckets .now) (a .ends) (q .1) K (c .before .before .before .before .before .before .before .before .before .before .before .before .before .before .before .before .before .before .if1 .left) (c .before .before .before .before .before .before .before .before .before .before .before .before .before .before .before .before .before .record-at .result) (c .before .before .before .before .before .before .before .before .before .before .before .before .before .before .before .before .record-end .result) (c .before .before .before .before .before .before .before .before .before .before .before .before .before .before .before .before .before .record-at .ensures) (c .before .before .before .before .before .before .before .before .before .before .before .before .before .before .before .before .record-end .ensures)) (c .before .before .before .before .before .before .before .before .before .before .before .before .before .before .before .before .before .record-at .result) (c .before .before .before .before .before .before .before .before .before .before .before .before .before .before .before .before .record-end .result) (c .before .before .before .before .before .before .before .before .before .before .before .before .before .before .before .before .before .record-at .ensures) (c .before .before .before .before .before .before .before .before .before .before .before .before .before .before .before .before .record-end .ensures) (l .log) (l .logtags) (l .starts) (l .maps) (l .buckets) (l .e) (l .i) (l .inv) (c .before .before .before .before .before .before .before .before .before .before .before .before .before .before .loop-test .taken) 1 (sym (c .before .before .before .before .before .before .before .if4 .taken) ∙ c .before .before .before .before .before .before .before .before .before .before .before .refers-to .ensures .0) (omega arith) (c .before .before .before .before .before .before .before .before .before .before .before .refers-to .result .number) (c .before .before .before .before .before .before .before .before .before .before .before .refers-to .ensures .1) _ _ _ _ _ _ (c .before .import-type .ensures) (c .if5 .left)
 
--- src/lib.rt:143:5
 import-type-loop-less-3 : (t : ℕ) → import-type-lts.Need-loop-less-3 (
   wide-reads.Asked,
   wide-reads.Learnt,
@@ -476,13 +454,12 @@ import-type-loop-less-3 : (t : ℕ) → import-type-lts.Need-loop-less-3 (
   import-name-reads.Learnt,
   import-type-below t,
   import-type.Post,
-  settle-reads.Asked,
-  settle-reads.Learnt,
+  intern-reads.Asked,
+  intern-reads.Learnt,
 ) (import-type-at t) import-type.Post import-type-Inv-loop import-type-μ-loop
 unfolding tabOf
 import-type-loop-less-3 t c = let a = (c .before .before .before .before .before .before .before .before .before .before .before .before .before .before .args) in let p = c .before .before .before .before .before .before .before .before .before .before .before .before .before .before .pre .1 in let src = p .0 in let q = p .1 .0 in let ks = p .1 .1 .0 in let K = p .1 .1 .1 in let hk : c .before .before .before .before .before .before .before .before .before .before .before .before .before .wide .result < countAt 1 (a .words .now) = rw (c .before .before .before .before .before .before .before .before .before .before .before .before .before .wide .ensures .0) (q .0) in let l = (c .before .before .before .before .before .before .before .before .loop) in let z = c .before .before .before .before .before .before .before .loop-test .taken in omega arith
 
--- src/lib.rt:143:5
 import-type-loop-again-3 : (t : ℕ) → import-type-lts.Need-loop-again-3 (
   wide-reads.Asked,
   wide-reads.Learnt,
@@ -496,14 +473,13 @@ import-type-loop-again-3 : (t : ℕ) → import-type-lts.Need-loop-again-3 (
   import-name-reads.Learnt,
   import-type-below t,
   import-type.Post,
-  settle-reads.Asked,
-  settle-reads.Learnt,
+  intern-reads.Asked,
+  intern-reads.Learnt,
 ) (import-type-at t) import-type.Post import-type-Inv-loop import-type-μ-loop
 unfolding tabOf
-import-type-loop-again-3 t c = let a = (c .before .before .before .before .before .before .before .before .before .before .before .before .before .before .args) in let p = c .before .before .before .before .before .before .before .before .before .before .before .before .before .before .pre .1 in let src = p .0 in let q = p .1 .0 in let ks = p .1 .1 .0 in let K = p .1 .1 .1 in let hk : c .before .before .before .before .before .before .before .before .before .before .before .before .before .wide .result < countAt 1 (a .words .now) = rw (c .before .before .before .before .before .before .before .before .before .before .before .before .before .wide .ensures .0) (q .0) in let l = (c .before .before .before .before .before .before .before .before .loop) in turn-skip (a .words .now) (a .tags .now) (a .n) src (a .offset) 1 (c .before .before .before .before .before .before .before .before .before .before .before .before .before .wide .result) (omega arith) hk (a .log .now) (a .classes .now) (a .starts .now) (a .maps .now) (a .marks .now) (a .ends) (q .1) K (importT (a .offset) (srcOf (a .words .now) (a .n)) (tabOf 1) (c .before .before .before .before .before .before .before .before .before .before .before .before .before .wide .result)) (refs (recAt (srcOf (a .words .now) (a .n)) (tabOf 1) (c .before .before .before .before .before .before .before .before .before .before .before .before .before .wide .result))) (ends-in (a .words .now) (a .tags .now) (a .n) src (a .offset) 1 (c .before .before .before .before .before .before .before .before .before .before .before .before .before .wide .result) (omega arith) hk (a .log .now) (a .classes .now) (a .starts .now) (a .maps .now) (a .marks .now) (a .ends) (q .1) K (c .before .before .before .before .before .before .before .before .before .before .before .if1 .left) (c .before .before .before .before .before .before .before .before .before .before .record-at .result) (c .before .before .before .before .before .before .before .before .before .record-end .result) (c .before .before .before .before .before .before .before .before .before .before .record-at .ensures) (c .before .before .before .before .before .before .before .before .before .record-end .ensures)) (c .before .before .before .before .before .before .before .before .before .before .record-at .result) (c .before .before .before .before .before .before .before .before .before .record-end .result) (c .before .before .before .before .before .before .before .before .before .before .record-at .ensures) (c .before .before .before .before .before .before .before .before .before .record-end .ensures) (l .log) (l .classes) (l .starts) (l .maps) (l .marks) (l .e) (l .i) (l .inv) (c .before .before .before .before .before .before .before .loop-test .taken) (c .before .before .before .before .refers-to .result .table) (c .before .before .before .before .refers-to .ensures .0) (past-type (c .before .before .before .before .refers-to .result .table) (turn-allowed (a .words .now) (a .tags .now) (a .n) src (a .offset) 1 (c .before .before .before .before .before .before .before .before .before .before .before .before .before .wide .result) (omega arith) hk (a .log .now) (a .classes .now) (a .starts .now) (a .maps .now) (a .marks .now) (a .ends) (q .1) K (importT (a .offset) (srcOf (a .words .now) (a .n)) (tabOf 1) (c .before .before .before .before .before .before .before .before .before .before .before .before .before .wide .result)) (refs (recAt (srcOf (a .words .now) (a .n)) (tabOf 1) (c .before .before .before .before .before .before .before .before .before .before .before .before .before .wide .result))) (ends-in (a .words .now) (a .tags .now) (a .n) src (a .offset) 1 (c .before .before .before .before .before .before .before .before .before .before .before .before .before .wide .result) (omega arith) hk (a .log .now) (a .classes .now) (a .starts .now) (a .maps .now) (a .marks .now) (a .ends) (q .1) K (c .before .before .before .before .before .before .before .before .before .before .before .if1 .left) (c .before .before .before .before .before .before .before .before .before .before .record-at .result) (c .before .before .before .before .before .before .before .before .before .record-end .result) (c .before .before .before .before .before .before .before .before .before .before .record-at .ensures) (c .before .before .before .before .before .before .before .before .before .record-end .ensures)) (c .before .before .before .before .before .before .before .before .before .before .record-at .result) (c .before .before .before .before .before .before .before .before .before .record-end .result) (c .before .before .before .before .before .before .before .before .before .before .record-at .ensures) (c .before .before .before .before .before .before .before .before .before .record-end .ensures) (l .log) (l .classes) (l .starts) (l .maps) (l .marks) (l .e) (l .i) (l .inv) (c .before .before .before .before .before .before .before .loop-test .taken) (c .before .before .before .before .refers-to .result .table) (c .before .before .before .before .refers-to .ensures .0)) (c .before .before .if2 .left) (c .if4 .left))
+import-type-loop-again-3 t c = let a = (c .before .before .before .before .before .before .before .before .before .before .before .before .before .before .args) in let p = c .before .before .before .before .before .before .before .before .before .before .before .before .before .before .pre .1 in let src = p .0 in let q = p .1 .0 in let ks = p .1 .1 .0 in let K = p .1 .1 .1 in let hk : c .before .before .before .before .before .before .before .before .before .before .before .before .before .wide .result < countAt 1 (a .words .now) = rw (c .before .before .before .before .before .before .before .before .before .before .before .before .before .wide .ensures .0) (q .0) in let l = (c .before .before .before .before .before .before .before .before .loop) in turn-skip (a .words .now) (a .tags .now) (a .n) src (a .offset) 1 (c .before .before .before .before .before .before .before .before .before .before .before .before .before .wide .result) (omega arith) hk (a .log .now) (a .logtags .now) (a .starts .now) (a .maps .now) (a .buckets .now) (a .ends) (q .1) K (importT (a .offset) (srcOf (a .words .now) (a .n)) (tabOf 1) (c .before .before .before .before .before .before .before .before .before .before .before .before .before .wide .result)) (refs (recAt (srcOf (a .words .now) (a .n)) (tabOf 1) (c .before .before .before .before .before .before .before .before .before .before .before .before .before .wide .result))) (ends-in (a .words .now) (a .tags .now) (a .n) src (a .offset) 1 (c .before .before .before .before .before .before .before .before .before .before .before .before .before .wide .result) (omega arith) hk (a .log .now) (a .logtags .now) (a .starts .now) (a .maps .now) (a .buckets .now) (a .ends) (q .1) K (c .before .before .before .before .before .before .before .before .before .before .before .if1 .left) (c .before .before .before .before .before .before .before .before .before .before .record-at .result) (c .before .before .before .before .before .before .before .before .before .record-end .result) (c .before .before .before .before .before .before .before .before .before .before .record-at .ensures) (c .before .before .before .before .before .before .before .before .before .record-end .ensures)) (c .before .before .before .before .before .before .before .before .before .before .record-at .result) (c .before .before .before .before .before .before .before .before .before .record-end .result) (c .before .before .before .before .before .before .before .before .before .before .record-at .ensures) (c .before .before .before .before .before .before .before .before .before .record-end .ensures) (l .log) (l .logtags) (l .starts) (l .maps) (l .buckets) (l .e) (l .i) (l .inv) (c .before .before .before .before .before .before .before .loop-test .taken) (c .before .before .before .before .refers-to .result .table) (c .before .before .before .before .refers-to .ensures .0) (past-type (c .before .before .before .before .refers-to .result .table) (turn-allowed (a .words .now) (a .tags .now) (a .n) src (a .offset) 1 (c .before .before .before .before .before .before .before .before .before .before .before .before .before .wide .result) (omega arith) hk (a .log .now) (a .logtags .now) (a .starts .now) (a .maps .now) (a .buckets .now) (a .ends) (q .1) K (importT (a .offset) (srcOf (a .words .now) (a .n)) (tabOf 1) (c .before .before .before .before .before .before .before .before .before .before .before .before .before .wide .result)) (refs (recAt (srcOf (a .words .now) (a .n)) (tabOf 1) (c .before .before .before .before .before .before .before .before .before .before .before .before .before .wide .result))) (ends-in (a .words .now) (a .tags .now) (a .n) src (a .offset) 1 (c .before .before .before .before .before .before .before .before .before .before .before .before .before .wide .result) (omega arith) hk (a .log .now) (a .logtags .now) (a .starts .now) (a .maps .now) (a .buckets .now) (a .ends) (q .1) K (c .before .before .before .before .before .before .before .before .before .before .before .if1 .left) (c .before .before .before .before .before .before .before .before .before .before .record-at .result) (c .before .before .before .before .before .before .before .before .before .record-end .result) (c .before .before .before .before .before .before .before .before .before .before .record-at .ensures) (c .before .before .before .before .before .before .before .before .before .record-end .ensures)) (c .before .before .before .before .before .before .before .before .before .before .record-at .result) (c .before .before .before .before .before .before .before .before .before .record-end .result) (c .before .before .before .before .before .before .before .before .before .before .record-at .ensures) (c .before .before .before .before .before .before .before .before .before .record-end .ensures) (l .log) (l .logtags) (l .starts) (l .maps) (l .buckets) (l .e) (l .i) (l .inv) (c .before .before .before .before .before .before .before .loop-test .taken) (c .before .before .before .before .refers-to .result .table) (c .before .before .before .before .refers-to .ensures .0)) (c .before .before .if2 .left) (c .if4 .left))
 
--- src/lib.rt:185:5
-import-type-settle-requires : (t : ℕ) → import-type-lts.Need-settle-requires (
+import-type-settle-requires : (t : ℕ) → import-type-lts.Need-intern-requires (
   wide-reads.Asked,
   wide-reads.Learnt,
   record-at-reads.Asked,
@@ -516,13 +492,12 @@ import-type-settle-requires : (t : ℕ) → import-type-lts.Need-settle-requires
   import-name-reads.Learnt,
   import-type-below t,
   import-type.Post,
-  settle-reads.Asked,
-  settle-reads.Learnt,
+  intern-reads.Asked,
+  intern-reads.Learnt,
 ) (import-type-at t) import-type.Post import-type-Inv-loop import-type-μ-loop
 unfolding tabOf
-import-type-settle-requires t c κs = let a = (c .before .before .before .before .before .before .before .before .before .before .before .before .args) in let p = c .before .before .before .before .before .before .before .before .before .before .before .before .pre .1 in let src = p .0 in let q = p .1 .0 in let ks = p .1 .1 .0 in let K = p .1 .1 .1 in let hk : c .before .before .before .before .before .before .before .before .before .before .before .wide .result < countAt 1 (a .words .now) = rw (c .before .before .before .before .before .before .before .before .before .before .before .wide .ensures .0) (q .0) in let l = (c .before .before .before .before .before .before .loop) in (readable (a .words .now) (a .tags .now) (a .n) src 1 (c .before .before .before .before .before .before .before .before .before .before .before .wide .result) (omega arith) hk (c .before .before .before .before .before .before .before .before .record-at .result) (c .before .before .before .before .before .before .before .record-end .result) (c .before .before .before .before .before .before .before .before .record-at .ensures) (c .before .before .before .before .before .before .before .record-end .ensures) (a .kinds .now) ks, ((omega arith, hk, small-number (a .words .now) (a .tags .now) (a .n) src 1 (c .before .before .before .before .before .before .before .before .before .before .before .wide .result) (omega arith) hk, l .inv .going), (plain-name (a .words .now) (a .tags .now) (a .n) src 1 (c .before .before .before .before .before .before .before .before .before .before .before .wide .result) (omega arith) hk (c .before .before .before .before .before .before .before .before .record-at .result) (c .before .before .before .before .before .before .before .record-end .result) (c .before .before .before .before .before .before .before .before .record-at .ensures) (c .before .before .before .before .before .before .before .record-end .ensures), l .inv .kept)))
+import-type-settle-requires t c κs = let a = (c .before .before .before .before .before .before .before .before .before .before .before .before .args) in let p = c .before .before .before .before .before .before .before .before .before .before .before .before .pre .1 in let src = p .0 in let q = p .1 .0 in let ks = p .1 .1 .0 in let K = p .1 .1 .1 in let hk : c .before .before .before .before .before .before .before .before .before .before .before .wide .result < countAt 1 (a .words .now) = rw (c .before .before .before .before .before .before .before .before .before .before .before .wide .ensures .0) (q .0) in let l = (c .before .before .before .before .before .before .loop) in (readable (a .words .now) (a .tags .now) (a .n) src 1 (c .before .before .before .before .before .before .before .before .before .before .before .wide .result) (omega arith) hk (c .before .before .before .before .before .before .before .before .record-at .result) (c .before .before .before .before .before .before .before .record-end .result) (c .before .before .before .before .before .before .before .before .record-at .ensures) (c .before .before .before .before .before .before .before .record-end .ensures) (a .targets .now) ks, ((omega arith, hk, small-number (a .words .now) (a .tags .now) (a .n) src 1 (c .before .before .before .before .before .before .before .before .before .before .before .wide .result) (omega arith) hk, l .inv .going), (plain-name (a .words .now) (a .tags .now) (a .n) src 1 (c .before .before .before .before .before .before .before .before .before .before .before .wide .result) (omega arith) hk (c .before .before .before .before .before .before .before .before .record-at .result) (c .before .before .before .before .before .before .before .record-end .result) (c .before .before .before .before .before .before .before .before .record-at .ensures) (c .before .before .before .before .before .before .before .record-end .ensures), l .inv .kept)))
 
--- src/lib.rt:115:1
 import-type-returns-4 : (t : ℕ) → import-type-lts.Need-returns-4 (
   wide-reads.Asked,
   wide-reads.Learnt,
@@ -536,11 +511,11 @@ import-type-returns-4 : (t : ℕ) → import-type-lts.Need-returns-4 (
   import-name-reads.Learnt,
   import-type-below t,
   import-type.Post,
-  settle-reads.Asked,
-  settle-reads.Learnt,
+  intern-reads.Asked,
+  intern-reads.Learnt,
 ) (import-type-at t) import-type.Post import-type-Inv-loop import-type-μ-loop
 unfolding tabOf
-import-type-returns-4 t c = let a = (c .before .before .before .before .before .before .before .before .before .before .before .before .before .args) in let p = c .before .before .before .before .before .before .before .before .before .before .before .before .before .pre .1 in let src = p .0 in let q = p .1 .0 in let ks = p .1 .1 .0 in let K = p .1 .1 .1 in let hk : c .before .before .before .before .before .before .before .before .before .before .before .before .wide .result < countAt 1 (a .words .now) = rw (c .before .before .before .before .before .before .before .before .before .before .before .before .wide .ensures .0) (q .0) in let l = (c .before .before .before .before .before .before .before .loop) in lands-at (a .offset) (srcOf (a .words .now) (a .n)) types (c .before .before .before .before .before .before .before .before .before .before .before .before .wide .result) (a .h .0) (c .before .before .before .before .before .before .before .before .before .before .before .before .wide .ensures .0) (turn-settled (a .words .now) (a .tags .now) (a .n) src (a .offset) 1 (c .before .before .before .before .before .before .before .before .before .before .before .before .wide .result) (omega arith) hk (a .log .now) (a .classes .now) (a .starts .now) (a .maps .now) (a .marks .now) (a .ends) (q .1) K (c .before .before .before .before .before .before .before .before .before .before .if1 .left) (c .before .before .before .before .before .before .before .before .before .record-at .result) (c .before .before .before .before .before .before .before .before .record-end .result) (c .before .before .before .before .before .before .before .before .before .record-at .ensures) (c .before .before .before .before .before .before .before .before .record-end .ensures) (l .log) (l .classes) (l .starts) (l .maps) (l .marks) (l .e) (l .i) (l .inv) (c .before .before .before .before .before .before .loop-test .left) _ _ _ _ _ _ (c .settle .ensures))
+import-type-returns-4 t c = let a = (c .before .before .before .before .before .before .before .before .before .before .before .before .before .args) in let p = c .before .before .before .before .before .before .before .before .before .before .before .before .before .pre .1 in let src = p .0 in let q = p .1 .0 in let ks = p .1 .1 .0 in let K = p .1 .1 .1 in let hk : c .before .before .before .before .before .before .before .before .before .before .before .before .wide .result < countAt 1 (a .words .now) = rw (c .before .before .before .before .before .before .before .before .before .before .before .before .wide .ensures .0) (q .0) in let l = (c .before .before .before .before .before .before .before .loop) in lands-at (a .offset) (srcOf (a .words .now) (a .n)) types (c .before .before .before .before .before .before .before .before .before .before .before .before .wide .result) (a .h .0) (c .before .before .before .before .before .before .before .before .before .before .before .before .wide .ensures .0) (turn-settled (a .words .now) (a .tags .now) (a .n) src (a .offset) 1 (c .before .before .before .before .before .before .before .before .before .before .before .before .wide .result) (omega arith) hk (a .log .now) (a .logtags .now) (a .starts .now) (a .maps .now) (a .buckets .now) (a .ends) (q .1) K (c .before .before .before .before .before .before .before .before .before .before .if1 .left) (c .before .before .before .before .before .before .before .before .before .record-at .result) (c .before .before .before .before .before .before .before .before .record-end .result) (c .before .before .before .before .before .before .before .before .before .record-at .ensures) (c .before .before .before .before .before .before .before .before .record-end .ensures) (l .log) (l .logtags) (l .starts) (l .maps) (l .buckets) (l .e) (l .i) (l .inv) (c .before .before .before .before .before .before .loop-test .left) _ _ _ _ _ _ (c .intern .ensures))
 
 pub +import-type-spec : {M : Type 1} → statement M
 +import-type-spec = close μ-import-type λ t. import-type-lts.spec (
@@ -556,8 +531,8 @@ pub +import-type-spec : {M : Type 1} → statement M
   import-name-reads.Learnt,
   import-type-below t,
   import-type.Post,
-  settle-reads.Asked,
-  settle-reads.Learnt,
+  intern-reads.Asked,
+  intern-reads.Learnt,
 )
     (import-type-at t)
     import-type.Post

@@ -1,4 +1,3 @@
--- `function_builder::alike_cell` meets its contract. Assumes nothing.
 use mathlib.Core.Path.{sym, ap, _∙_}
 use lib.Dec.{eqb}
 use borrow.Author.Needs.{needs}

@@ -1,4 +1,4 @@
--- `append` meets its contract: there is no room for expression e, or `write` has put its cells on the top of the stack, and its place and its number are set behind that. Assumes nothing.
+-- `append` meets its contract: there is no room for expression e, or `write` has put its cells on the top of the stack, and its place and its number are set after that.
 use mathlib.Core.Path.{refl}
 use native.Mathlib.Omega.{arith}
 use borrow.Author.Needs.{needs}
@@ -27,8 +27,8 @@ element-copy-out-slot-2 c = search needs
 slot-requires-2 : tie.Need-slot-requires-2
 slot-requires-2 c κs = search needs
 
-cast-et : tie.Need-cast-et
-cast-et c = search needs
+cast-exprtop : tie.Need-cast-exprtop
+cast-exprtop c = search needs
 
 cast-made : tie.Need-cast-made
 cast-made c = search needs
@@ -43,14 +43,14 @@ sub-if1-2 c =
     let r = rises X h (c .before .before .before .before .slot .ensures .0) (c .before .before .slot2 .ensures .0) in
     omega arith
 
-refuse-requires : tie.Need-refuse-requires
-refuse-requires c κs = search needs
+mark-full-requires : tie.Need-mark-full-requires
+mark-full-requires c κs = search needs
 
 returns : tie.Need-returns
 returns c =
     let a = c .before .before .before .before .before .before .before .before .args in
     let p = c .before .before .before .before .before .before .before .before .pre in
-    append-full (a .words .now) (a .tags .now) (a .places .now) (a .n) (a .k) (p .1 .1 .1 .0) (a .log .now) (a .classes .now) (a .starts .now) (a .maps .now) (a .em .now) (a .stacks .now) (a .ends) (a .offset) (a .e1) (a .e) (p .1 .1 .1 .1 .0 .0) (p .1 .1 .1 .1 .0 .1) (p .1 .1 .1 .1 .1) (c .before .before .before .before .before .before .slot .result) (c .before .before .before .before .slot2 .result) (c .before .before .before .before .before .before .slot .ensures .0) (c .before .before .before .before .slot2 .ensures .0) _ (c .refuse .ensures) (c .before .if1 .taken)
+    append-full (a .words .now) (a .tags .now) (a .places .now) (a .n) (a .k) (p .1 .1 .1 .0) (a .log .now) (a .logtags .now) (a .starts .now) (a .maps .now) (a .exprmap .now) (a .stacks .now) (a .ends) (a .offset) (a .e1) (a .e) (p .1 .1 .1 .1 .0 .0) (p .1 .1 .1 .1 .0 .1) (p .1 .1 .1 .1 .1) (c .before .before .before .before .before .before .slot .result) (c .before .before .before .before .slot2 .result) (c .before .before .before .before .before .before .slot .ensures .0) (c .before .before .before .before .slot2 .ensures .0) _ (c .mark-full .ensures) (c .before .if1 .taken)
 
 write-requires : tie.Need-write-requires
 write-requires c κs =
@@ -82,27 +82,27 @@ index-2-stacks c =
     let r = room (p .1 .1 .1 .0) (p .1 .1 .1 .1 .0 .0) (c .before .before .before .before .before .before .before .before .slot .ensures .0) (c .before .before .before .before .before .before .slot2 .ensures .0) (p .1 .1 .1 .1 .1) (c .before .before .before .if1 .left) in
     omega arith
 
-add-em : tie.Need-add-em
-add-em c =
+add-exprmap : tie.Need-add-exprmap
+add-exprmap c =
     let p = c .before .before .before .before .before .before .before .before .before .before .pre in
     let r = room (p .1 .1 .1 .0) (p .1 .1 .1 .1 .0 .0) (c .before .before .before .before .before .before .before .before .slot .ensures .0) (c .before .before .before .before .before .before .slot2 .ensures .0) (p .1 .1 .1 .1 .1) (c .before .before .before .if1 .left) in
     omega arith
 
-cast-em : tie.Need-cast-em
-cast-em c =
+cast-exprmap : tie.Need-cast-exprmap
+cast-exprmap c =
     let p = c .before .before .before .before .before .before .before .before .before .before .pre in
     let r = room (p .1 .1 .1 .0) (p .1 .1 .1 .1 .0 .0) (c .before .before .before .before .before .before .before .before .slot .ensures .0) (c .before .before .before .before .before .before .slot2 .ensures .0) (p .1 .1 .1 .1 .1) (c .before .before .before .if1 .left) in
     omega arith
 
-mul-em : tie.Need-mul-em
-mul-em c =
+mul-exprmap : tie.Need-mul-exprmap
+mul-exprmap c =
     let p = c .before .before .before .before .before .before .before .before .before .before .pre in
     let h = p .1 .1 .1 .1 .0 .0 in
     let f = p .1 .1 .1 .1 .1 .few in
     omega (arith, h, f)
 
-element-write-em : tie.Need-element-write-em
-element-write-em c =
+element-write-exprmap : tie.Need-element-write-exprmap
+element-write-exprmap c =
     let p = c .before .before .before .before .before .before .before .before .before .before .pre in
     let h = p .1 .1 .1 .1 .0 .0 in
     let f = p .1 .1 .1 .1 .1 .few in
@@ -139,7 +139,7 @@ returns-2 : tie.Need-returns-2
 returns-2 c =
     let a = c .before .before .before .before .before .before .before .before .before .before .before .args in
     let p = c .before .before .before .before .before .before .before .before .before .before .before .pre in
-    append-done (a .words .now) (a .tags .now) (a .places .now) (a .n) (a .k) (p .1 .1 .1 .0) (a .log .now) (a .classes .now) (a .starts .now) (a .maps .now) (a .em .now) (a .stacks .now) (a .ends) (a .offset) (a .e1) (a .e) (p .1 .1 .1 .1 .0 .0) (p .1 .1 .1 .1 .0 .1) (p .1 .1 .1 .1 .1) (c .before .before .before .before .before .before .before .before .before .slot .result) (c .before .before .before .before .before .before .before .slot2 .result) (c .before .before .before .before .before .before .before .before .before .slot .ensures .0) (c .before .before .before .before .before .before .before .slot2 .ensures .0) (c .before .before .before .before .if1 .left) _ (c .before .write .ensures) _ refl
+    append-done (a .words .now) (a .tags .now) (a .places .now) (a .n) (a .k) (p .1 .1 .1 .0) (a .log .now) (a .logtags .now) (a .starts .now) (a .maps .now) (a .exprmap .now) (a .stacks .now) (a .ends) (a .offset) (a .e1) (a .e) (p .1 .1 .1 .1 .0 .0) (p .1 .1 .1 .1 .0 .1) (p .1 .1 .1 .1 .1) (c .before .before .before .before .before .before .before .before .before .slot .result) (c .before .before .before .before .before .before .before .slot2 .result) (c .before .before .before .before .before .before .before .before .before .slot .ensures .0) (c .before .before .before .before .before .before .before .slot2 .ensures .0) (c .before .before .before .before .if1 .left) _ (c .before .write .ensures) _ refl
 
 pub append-spec : {M : Type 1} → statement M
 append-spec =
@@ -152,11 +152,11 @@ append-spec =
     mul-slot-2
     element-copy-out-slot-2
     slot-requires-2
-    cast-et
+    cast-exprtop
     cast-made
     sub-if1
     sub-if1-2
-    refuse-requires
+    mark-full-requires
     returns
     write-requires
     cast-stacks
@@ -164,10 +164,10 @@ append-spec =
     mul-stacks
     index-1-stacks
     index-2-stacks
-    add-em
-    cast-em
-    mul-em
-    element-write-em
+    add-exprmap
+    cast-exprmap
+    mul-exprmap
+    element-write-exprmap
     sub-t22
     add-t26
     cast-t25

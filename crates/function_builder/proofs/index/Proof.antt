@@ -1,4 +1,4 @@
--- `function_builder::index` meets its contract. What is left to find, from place k on, is the whole. Assumes nothing.
+-- `function_builder::index` meets its contract. What is left to find, from place k on, is the whole.
 use Prim.Native.Nat.{_-_}
 use Rattle.intake_initialisers.proofs.Visiting.{Finding, places-begin, places-last-room, places-last, places-room, places-next, places-skip, places-done}
 use borrow.Author.Needs.{needs}

@@ -1,4 +1,3 @@
--- `function_builder::push` meets its contract. Assumes nothing.
 use mathlib.Core.Path.{refl, sym, _∙_}
 use mathlib.Core.Bool.{false≢true}
 use native.Mathlib.Omega.{arith}
@@ -6,14 +5,14 @@ use borrow.Author.Needs.{needs}
 use Rattle.function_builder.proofs.push.Statement.{statement}
 use Rattle.function_builder.proofs.push.Tie as tie
 
-cast-bt : tie.Need-cast-bt
-cast-bt c = search needs
+cast-bodytop : tie.Need-cast-bodytop
+cast-bodytop c = search needs
 
-refuse-requires : tie.Need-refuse-requires
-refuse-requires c κs = search needs
+mark-full-requires : tie.Need-mark-full-requires
+mark-full-requires c κs = search needs
 
 returns : tie.Need-returns
-returns c = record { over = λ q. c .before .if1 .taken; is = λ q. absurd (false≢true (sym q ∙ c .refuse .ensures)); ends = λ q. absurd (false≢true (sym q ∙ c .refuse .ensures)); room = λ q. absurd (false≢true (sym q ∙ c .refuse .ensures)) }
+returns c = record { over = λ q. c .before .if1 .taken; is = λ q. absurd (false≢true (sym q ∙ c .mark-full .ensures)); ends = λ q. absurd (false≢true (sym q ∙ c .mark-full .ensures)); room = λ q. absurd (false≢true (sym q ∙ c .mark-full .ensures)) }
 
 mul-stacks : tie.Need-mul-stacks
 mul-stacks c = search needs
@@ -37,8 +36,8 @@ pub push-spec : {M : Type 1} → statement M
 push-spec =
     tie.close
     (tie.spec
-    cast-bt
-    refuse-requires
+    cast-bodytop
+    mark-full-requires
     returns
     mul-stacks
     index-1-stacks

@@ -1,11 +1,11 @@
--- `unique` meets its contract: the cycle of calls {unique}. Expression e is mapped; or its words are passed one at a turn, a record of a table imported and an operand, whose number is lower, taken by `unique` itself; and then it is merged. The measure is the expression's number. Assumes nothing.
+-- `unique` meets its contract: the cycle of calls {unique}. Expression e is mapped; or its words are passed one at a turn, a record of a table imported and an operand, whose number is lower, taken by `unique` itself; and then it is merged. The measure is the expression's number.
 use mathlib.Core.Path.{refl, _∙_}
 use Prim.Native.Nat.{ℕ, _-_, _<_}
 use native.Mathlib.Omega.{arith}
 use borrow.Author.Needs.{needs}
 use borrow.Fn.Kinds.{In}
 use borrow.Fn.PlainCycle.{Measures, is, falls, and}
-use Rattle.model.specs.Bodies.{unique as uniqueE}
+use Rattle.model.specs.Bodies.{importInitialiser as uniqueE}
 use Rattle.theory_passes.specs.Light.{still}
 use Rattle.derive_state.specs.Source.{modOf}
 use Rattle.derive_lookup.proofs.Bears.{bearing}
@@ -49,11 +49,11 @@ claims t = (
 )
 
 abbrev unique-Inv-loop : unique-lts.InvT-loop
-unique-Inv-loop words tags kinds n places log₀ classes₀ starts₀ maps₀ marks₀ em₀ stacks₀ offset e1 k e end got₀ i₀ log classes starts maps marks em stacks got i =
-    Alongs words tags n k offset e i₀ end (uniqueE offset (modOf words n) still (exprsOf words tags places k)) log₀ classes₀ starts₀ maps₀ marks₀ em₀ stacks₀ e1 got₀ log classes starts maps marks em stacks got i
+unique-Inv-loop words tags targets n places log₀ logtags₀ starts₀ maps₀ buckets₀ exprmap₀ stacks₀ offset e1 k e end got₀ i₀ log logtags starts maps buckets exprmap stacks got i =
+    Alongs words tags n k offset e i₀ end (uniqueE offset (modOf words n) still (exprsOf words tags places k)) log₀ logtags₀ starts₀ maps₀ buckets₀ exprmap₀ stacks₀ e1 got₀ log logtags starts maps buckets exprmap stacks got i
 
 abbrev unique-μ-loop : unique-lts.MeasureT-loop
-unique-μ-loop words tags kinds n places log₀ classes₀ starts₀ maps₀ marks₀ em₀ stacks₀ offset e1 k e end got₀ i₀ log classes starts maps marks em stacks got i = end - i
+unique-μ-loop words tags targets n places log₀ logtags₀ starts₀ maps₀ buckets₀ exprmap₀ stacks₀ offset e1 k e end got₀ i₀ log logtags starts maps buckets exprmap stacks got i = end - i
 
 unique-mul-if1 : (t : ℕ) → unique-lts.Need-mul-if1 (claims t) (unique-at t) unique.Post unique-Inv-loop unique-μ-loop
 unique-mul-if1 t c = search needs
@@ -110,7 +110,7 @@ unique-element-copy-out-refers-to : (t : ℕ) → unique-lts.Need-element-copy-o
 unique-element-copy-out-refers-to t c = along-in (c .before .before .before .before .before .before .before .before .before .pre .1 .1 .1 .1 .0) (c .before .before .loop .inv) (c .before .loop-test .taken)
 
 unique-refers-to-requires : (t : ℕ) → unique-lts.Need-refers-to-requires (claims t) (unique-at t) unique.Post unique-Inv-loop unique-μ-loop
-unique-refers-to-requires t c κs = c .before .before .before .before .before .before .before .before .before .before .pre .1 .0 .kinds-are
+unique-refers-to-requires t c κs = c .before .before .before .before .before .before .before .before .before .before .pre .1 .0 .targets-are
 
 unique-import-record-requires : (t : ℕ) → unique-lts.Need-import-record-requires (claims t) (unique-at t) unique.Post unique-Inv-loop unique-μ-loop
 unique-import-record-requires t c κs =

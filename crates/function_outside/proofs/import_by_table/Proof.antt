@@ -1,4 +1,4 @@
--- A record of a table, by the code of the table: each branch lands one import. Assumes nothing.
+-- A record of a table, by the code of the table: each branch lands one import.
 use native.Mathlib.Omega.{arith}
 use mathlib.Core.Path.{ap}
 use Rattle.model.specs.Tables.{names, types, constants, overrides, globals, exprs}
@@ -16,63 +16,50 @@ use Rattle.derive_types.proofs.import_name.Reads as import-name-reads
 use Rattle.derive_constants.proofs.import_pipeline_override.Reads as import-pipeline-override-reads
 use Rattle.derive_types.proofs.import_type.Reads as import-type-reads
 
--- src/lib.rt:56:9
 import-name-requires : tie.Need-import-name-requires
-import-name-requires c κs = let p = (c .before .before .before .before .before .before .pre) in (p .0 .source, ((asked _ _ 0 _ (c .before .before .before .before .before .if1 .taken) (omega arith) (p .1 .0), p .1 .1 .0), (p .0 .kinds-are, p .1 .1 .1)))
+import-name-requires c κs = let p = (c .before .before .before .before .before .before .pre) in (p .0 .source, ((asked _ _ 0 _ (c .before .before .before .before .before .if1 .taken) (omega arith) (p .1 .0), p .1 .1 .0), (p .0 .targets-are, p .1 .1 .1)))
 
--- src/lib.rt:56:9
 returns : tie.Need-returns
 unfolding tabOf
 returns c = let a = (c .before .before .before .before .before .before .before .args) in let q = (c .before .before .before .before .before .before .if1 .taken) in lands-record (a .offset) (srcOf (a .words .now) (a .n)) (a .t) (a .h) names (omega arith) (ap tabOf q) (c .import-name .ensures)
 
--- src/lib.rt:72:9
 import-type-requires : tie.Need-import-type-requires
-import-type-requires c κs = let p = (c .before .before .before .before .before .before .before .pre) in (p .0 .source, ((asked _ _ 1 _ (c .before .before .before .before .before .if2 .taken) (omega arith) (p .1 .0), p .1 .1 .0), (p .0 .kinds-are, p .1 .1 .1)))
+import-type-requires c κs = let p = (c .before .before .before .before .before .before .before .pre) in (p .0 .source, ((asked _ _ 1 _ (c .before .before .before .before .before .if2 .taken) (omega arith) (p .1 .0), p .1 .1 .0), (p .0 .targets-are, p .1 .1 .1)))
 
--- src/lib.rt:72:9
 returns-2 : tie.Need-returns-2
 unfolding tabOf
 returns-2 c = let a = (c .before .before .before .before .before .before .before .before .args) in let q = (c .before .before .before .before .before .before .if2 .taken) in lands-record (a .offset) (srcOf (a .words .now) (a .n)) (a .t) (a .h) types (omega arith) (ap tabOf q) (c .import-type .ensures)
 
--- src/lib.rt:88:9
 import-const-requires : tie.Need-import-const-requires
-import-const-requires c κs = let p = (c .before .before .before .before .before .before .before .before .pre) in (p .0 .source, ((asked _ _ 2 _ (c .before .before .before .before .before .if3 .taken) (omega arith) (p .1 .0), p .1 .1 .0), (p .0 .kinds-are, p .1 .1 .1)))
+import-const-requires c κs = let p = (c .before .before .before .before .before .before .before .before .pre) in (p .0 .source, ((asked _ _ 2 _ (c .before .before .before .before .before .if3 .taken) (omega arith) (p .1 .0), p .1 .1 .0), (p .0 .targets-are, p .1 .1 .1)))
 
--- src/lib.rt:88:9
 returns-3 : tie.Need-returns-3
 unfolding tabOf
 returns-3 c = let a = (c .before .before .before .before .before .before .before .before .before .args) in let q = (c .before .before .before .before .before .before .if3 .taken) in lands-record (a .offset) (srcOf (a .words .now) (a .n)) (a .t) (a .h) constants (omega arith) (ap tabOf q) (c .import-const .ensures)
 
--- src/lib.rt:104:9
 import-pipeline-override-requires : tie.Need-import-pipeline-override-requires
-import-pipeline-override-requires c κs = let p = (c .before .before .before .before .before .before .before .before .before .pre) in (p .0 .source, ((asked _ _ 3 _ (c .before .before .before .before .before .if4 .taken) (omega arith) (p .1 .0), p .1 .1 .0), (p .0 .kinds-are, p .1 .1 .1)))
+import-pipeline-override-requires c κs = let p = (c .before .before .before .before .before .before .before .before .before .pre) in (p .0 .source, ((asked _ _ 3 _ (c .before .before .before .before .before .if4 .taken) (omega arith) (p .1 .0), p .1 .1 .0), (p .0 .targets-are, p .1 .1 .1)))
 
--- src/lib.rt:104:9
 returns-4 : tie.Need-returns-4
 unfolding tabOf
 returns-4 c = let a = (c .before .before .before .before .before .before .before .before .before .before .args) in let q = (c .before .before .before .before .before .before .if4 .taken) in lands-record (a .offset) (srcOf (a .words .now) (a .n)) (a .t) (a .h) overrides (omega arith) (ap tabOf q) (c .import-pipeline-override .ensures)
 
--- src/lib.rt:120:9
 import-global-requires : tie.Need-import-global-requires
-import-global-requires c κs = let p = (c .before .before .before .before .before .before .before .before .before .before .pre) in (p .0 .source, ((asked _ _ 4 _ (c .before .before .before .before .before .if5 .taken) (omega arith) (p .1 .0), p .1 .1 .0), (p .0 .kinds-are, p .1 .1 .1)))
+import-global-requires c κs = let p = (c .before .before .before .before .before .before .before .before .before .before .pre) in (p .0 .source, ((asked _ _ 4 _ (c .before .before .before .before .before .if5 .taken) (omega arith) (p .1 .0), p .1 .1 .0), (p .0 .targets-are, p .1 .1 .1)))
 
--- src/lib.rt:120:9
 returns-5 : tie.Need-returns-5
 unfolding tabOf
 returns-5 c = let a = (c .before .before .before .before .before .before .before .before .before .before .before .args) in let q = (c .before .before .before .before .before .before .if5 .taken) in lands-record (a .offset) (srcOf (a .words .now) (a .n)) (a .t) (a .h) globals (omega arith) (ap tabOf q) (c .import-global .ensures)
 
--- src/lib.rt:136:9
 import-global-expression-requires : tie.Need-import-global-expression-requires
-import-global-expression-requires c κs = let p = (c .before .before .before .before .before .before .before .before .before .before .before .pre) in (p .0 .source, ((asked _ _ 5 _ (c .before .before .before .before .before .if6 .taken) (omega arith) (p .1 .0), p .1 .1 .0), (p .0 .kinds-are, p .1 .1 .1)))
+import-global-expression-requires c κs = let p = (c .before .before .before .before .before .before .before .before .before .before .before .pre) in (p .0 .source, ((asked _ _ 5 _ (c .before .before .before .before .before .if6 .taken) (omega arith) (p .1 .0), p .1 .1 .0), (p .0 .targets-are, p .1 .1 .1)))
 
--- src/lib.rt:136:9
 returns-6 : tie.Need-returns-6
 unfolding tabOf
 returns-6 c = let a = (c .before .before .before .before .before .before .before .before .before .before .before .before .args) in let q = (c .before .before .before .before .before .before .if6 .taken) in lands-record (a .offset) (srcOf (a .words .now) (a .n)) (a .t) (a .h) exprs (omega arith) (ap tabOf q) (c .import-global-expression .ensures)
 
--- src/lib.rt:34:1
 returns-7 : tie.Need-returns-7
-returns-7 c = let a = (c .before .before .before .before .before .before .args) in let p = (c .before .before .before .before .before .before .pre) in lands-none (a .offset) (srcOf (a .words .now) (a .n)) (a .t) (a .h) (a .words .now) (a .log .now) (a .classes .now) (a .starts .now) (a .maps .now) (a .marks .now) (a .ends) (p .1 .1 .0) (p .1 .1 .1) (omega arith)
+returns-7 c = let a = (c .before .before .before .before .before .before .args) in let p = (c .before .before .before .before .before .before .pre) in lands-none (a .offset) (srcOf (a .words .now) (a .n)) (a .t) (a .h) (a .words .now) (a .log .now) (a .logtags .now) (a .starts .now) (a .maps .now) (a .buckets .now) (a .ends) (p .1 .1 .0) (p .1 .1 .1) (omega arith)
 
 pub import-by-table-spec : {M : Type 1} → statement M
 import-by-table-spec =

@@ -1,4 +1,4 @@
--- `function_outside::import_record` meets its contract: what is not missing is left as it is. Assumes nothing.
+-- `function_outside::import_record` meets its contract: what is not missing is left as it is.
 use borrow.Author.Needs.{needs}
 use borrow.Author.Tests.{not-true}
 use Rattle.derive_types.proofs.Sources.{small-number}

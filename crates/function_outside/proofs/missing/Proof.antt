@@ -1,4 +1,4 @@
--- `missing` meets its contract: a record of a table is missing exactly if it has no number. Assumes nothing.
+-- `missing` meets its contract: a record of a table is missing exactly if it has no number.
 use mathlib.Core.Path.{_≡_}
 use mathlib.Core.Bool.{false, false≢true}
 use Prim.Native.Nat.{ℕ, _<_}

@@ -1,4 +1,4 @@
--- `declare` meets its contract: at each turn the words that bring nothing are written, then one word has what it refers to, and is written. Assumes nothing.
+-- `declare` meets its contract: at each turn the words that import nothing are written, then one word has what it refers to, and is written.
 use Prim.Native.Nat.{_-_, _<_}
 use native.Mathlib.Omega.{arith}
 use borrow.Author.Needs.{needs}
@@ -13,37 +13,37 @@ use Rattle.function_passes.proofs.declare.Statement.{statement}
 use Rattle.function_passes.proofs.declare.Tie as tie
 
 abbrev Inv-loop : tie.InvT-loop
-Inv-loop words tags kinds n places log₀ classes₀ starts₀ maps₀ marks₀ em₀ stacks₀ offset e1 k at end e₀ i₀ u₀ log classes starts maps marks em stacks e i u =
-    Declaring words tags n k offset (unites offset words tags n places k) at end log₀ classes₀ starts₀ maps₀ marks₀ em₀ stacks₀ e1 e₀ e log classes starts maps marks em stacks i u
+Inv-loop words tags targets n places log₀ logtags₀ starts₀ maps₀ buckets₀ exprmap₀ stacks₀ offset e1 k at end e₀ i₀ u₀ log logtags starts maps buckets exprmap stacks e i u =
+    Declaring words tags n k offset (unites offset words tags n places k) at end log₀ logtags₀ starts₀ maps₀ buckets₀ exprmap₀ stacks₀ e1 e₀ e log logtags starts maps buckets exprmap stacks i u
 
 abbrev μ-loop : tie.MeasureT-loop
-μ-loop words tags kinds n places log₀ classes₀ starts₀ maps₀ marks₀ em₀ stacks₀ offset e1 k at end e₀ i₀ u₀ log classes starts maps marks em stacks e i u = end - i
+μ-loop words tags targets n places log₀ logtags₀ starts₀ maps₀ buckets₀ exprmap₀ stacks₀ offset e1 k at end e₀ i₀ u₀ log logtags starts maps buckets exprmap stacks e i u = end - i
 
 loop-holds : tie.Need-loop-holds Inv-loop μ-loop
 loop-holds c =
     let p = c .pre in declare-begin (p .1 .1 .1 .1 .0) (p .1 .1 .1 .1 .1) (p .1 .1 .1 .0) (p .1 .1 .0)
 
-cast-run : tie.Need-cast-run Inv-loop μ-loop
-cast-run c = search needs
+cast-copy-mapped-run : tie.Need-cast-copy-mapped-run Inv-loop μ-loop
+cast-copy-mapped-run c = search needs
 
-cast-run-2 : tie.Need-cast-run-2 Inv-loop μ-loop
-cast-run-2 c = search needs
+cast-copy-mapped-run-2 : tie.Need-cast-copy-mapped-run-2 Inv-loop μ-loop
+cast-copy-mapped-run-2 c = search needs
 
-run-requires : tie.Need-run-requires Inv-loop μ-loop
-run-requires c κs =
+copy-mapped-run-requires : tie.Need-copy-mapped-run-requires Inv-loop μ-loop
+copy-mapped-run-requires c κs =
     let p = c .before .before .before .before .before .before .before .pre in
     let D = c .before .before .before .before .before .before .loop .inv in
     let K = D .runs .kept (D .going) in
     let U = D .runs .under (D .going) in
-    (p .0 .kinds-are, (K .maps-six, (legible-all (p .1 .0 .few) (D .left .legible), U .stacks-are .high′, made-small U)))
+    (p .0 .targets-are, (K .maps-six, (legible-all (p .1 .0 .few) (D .left .legible), U .stacks-are .high′, made-small U)))
 
-sub-longer : tie.Need-sub-longer Inv-loop μ-loop
-sub-longer c =
-    let z = c .before .run .ensures .reach in omega arith
+sub-advance : tie.Need-sub-advance Inv-loop μ-loop
+sub-advance c =
+    let z = c .before .copy-mapped-run .ensures .reach in omega arith
 
-longer-requires : tie.Need-longer-requires Inv-loop μ-loop
-longer-requires c κs =
-    let R = c .before .run .ensures in
+advance-requires : tie.Need-advance-requires Inv-loop μ-loop
+advance-requires c κs =
+    let R = c .before .copy-mapped-run .ensures in
     let z = R .reach in
     let y = R .room in
     omega arith
@@ -54,7 +54,7 @@ returns c =
     let p = c .before .before .before .before .before .before .before .before .before .before .before .pre in
     let l = c .before .before .before .before .before .before .before .before .before .before .loop in
     let K = p .1 .1 .1 .1 .0 in
-    let D = declare-ran K (p .0 .source) (a .offset) (unites-idle (p .1 .0) (a .n) (a .offset)) (a .at) (a .end) (a .em .now) (a .stacks .now) (a .e1) (l .e) (l .log) (l .classes) (l .starts) (l .maps) (l .marks) (l .em) (l .inv) (c .before .before .before .run .ensures) (c .before .longer .ensures) in
+    let D = declare-ran K (p .0 .source) (a .offset) (unites-idle (p .1 .0) (a .n) (a .offset)) (a .at) (a .end) (a .exprmap .now) (a .stacks .now) (a .e1) (l .e) (l .log) (l .logtags) (l .starts) (l .maps) (l .buckets) (l .exprmap) (l .inv) (c .before .before .before .copy-mapped-run .ensures) (c .before .advance .ensures) in
     declare-done K D (let z = c .if1 .taken in omega arith)
 
 add-i : tie.Need-add-i Inv-loop μ-loop
@@ -63,35 +63,35 @@ add-i c =
     let p = c .before .before .before .before .before .before .before .before .before .before .before .pre in
     let l = c .before .before .before .before .before .before .before .before .before .before .loop in
     let K = p .1 .1 .1 .1 .0 in
-    let D = declare-ran K (p .0 .source) (a .offset) (unites-idle (p .1 .0) (a .n) (a .offset)) (a .at) (a .end) (a .em .now) (a .stacks .now) (a .e1) (l .e) (l .log) (l .classes) (l .starts) (l .maps) (l .marks) (l .em) (l .inv) (c .before .before .before .run .ensures) (c .before .longer .ensures) in
+    let D = declare-ran K (p .0 .source) (a .offset) (unites-idle (p .1 .0) (a .n) (a .offset)) (a .at) (a .end) (a .exprmap .now) (a .stacks .now) (a .e1) (l .e) (l .log) (l .logtags) (l .starts) (l .maps) (l .buckets) (l .exprmap) (l .inv) (c .before .before .before .copy-mapped-run .ensures) (c .before .advance .ensures) in
     let ne = c .if1 .left in
     let up = D .left .legible .stretch .rising in
-    let less : c .before .before .before .run .result .at < a .end = omega arith in
+    let less : c .before .before .before .copy-mapped-run .result .at < a .end = omega arith in
     let z = declare-in K D less in
     omega arith
 
-flag-requires : tie.Need-flag-requires Inv-loop μ-loop
-flag-requires c κs =
+span-undefined-requires : tie.Need-span-undefined-requires Inv-loop μ-loop
+span-undefined-requires c κs =
     let a = c .before .before .before .before .before .before .before .before .before .before .before .args in
     let p = c .before .before .before .before .before .before .before .before .before .before .before .pre in
     let l = c .before .before .before .before .before .before .before .before .before .before .loop in
     let K = p .1 .1 .1 .1 .0 in
-    let D = declare-ran K (p .0 .source) (a .offset) (unites-idle (p .1 .0) (a .n) (a .offset)) (a .at) (a .end) (a .em .now) (a .stacks .now) (a .e1) (l .e) (l .log) (l .classes) (l .starts) (l .maps) (l .marks) (l .em) (l .inv) (c .before .before .before .run .ensures) (c .before .longer .ensures) in
+    let D = declare-ran K (p .0 .source) (a .offset) (unites-idle (p .1 .0) (a .n) (a .offset)) (a .at) (a .end) (a .exprmap .now) (a .stacks .now) (a .e1) (l .e) (l .log) (l .logtags) (l .starts) (l .maps) (l .buckets) (l .exprmap) (l .inv) (c .before .before .before .copy-mapped-run .ensures) (c .before .advance .ensures) in
     let ne = c .if1 .left in
     let up = D .left .legible .stretch .rising in
-    let less : c .before .before .before .run .result .at < a .end = omega arith in
+    let less : c .before .before .before .copy-mapped-run .result .at < a .end = omega arith in
     (D .left .legible .stretch, less)
 
-unite-requires : tie.Need-unite-requires Inv-loop μ-loop
-unite-requires c κs =
+import-declaration-word-requires : tie.Need-import-declaration-word-requires Inv-loop μ-loop
+import-declaration-word-requires c κs =
     let a = c .before .before .before .before .before .before .before .before .before .before .before .before .before .before .before .before .before .before .before .args in
     let p = c .before .before .before .before .before .before .before .before .before .before .before .before .before .before .before .before .before .before .before .pre in
     let l = c .before .before .before .before .before .before .before .before .before .before .before .before .before .before .before .before .before .before .loop in
     let K = p .1 .1 .1 .1 .0 in
-    let D = declare-ran K (p .0 .source) (a .offset) (unites-idle (p .1 .0) (a .n) (a .offset)) (a .at) (a .end) (a .em .now) (a .stacks .now) (a .e1) (l .e) (l .log) (l .classes) (l .starts) (l .maps) (l .marks) (l .em) (l .inv) (c .before .before .before .before .before .before .before .before .before .before .before .run .ensures) (c .before .before .before .before .before .before .before .before .before .longer .ensures) in
+    let D = declare-ran K (p .0 .source) (a .offset) (unites-idle (p .1 .0) (a .n) (a .offset)) (a .at) (a .end) (a .exprmap .now) (a .stacks .now) (a .e1) (l .e) (l .log) (l .logtags) (l .starts) (l .maps) (l .buckets) (l .exprmap) (l .inv) (c .before .before .before .before .before .before .before .before .before .before .before .copy-mapped-run .ensures) (c .before .before .before .before .before .before .before .before .before .advance .ensures) in
     let ne = c .before .before .before .before .before .before .before .before .if1 .left in
     let up = D .left .legible .stretch .rising in
-    let less : c .before .before .before .before .before .before .before .before .before .before .before .run .result .at < a .end = omega arith in
+    let less : c .before .before .before .before .before .before .before .before .before .before .before .copy-mapped-run .result .at < a .end = omega arith in
     (p .0, (p .1 .0, ((declare-in K D less, declare-fits K D less), (D .going, (D .runs .kept (D .going), D .runs .under (D .going))))))
 
 returns-2 : tie.Need-returns-2 Inv-loop μ-loop
@@ -100,11 +100,11 @@ returns-2 c =
     let p = c .before .before .before .before .before .before .before .before .before .before .before .before .before .before .before .before .before .before .before .before .before .pre in
     let l = c .before .before .before .before .before .before .before .before .before .before .before .before .before .before .before .before .before .before .before .before .loop in
     let K = p .1 .1 .1 .1 .0 in
-    let D = declare-ran K (p .0 .source) (a .offset) (unites-idle (p .1 .0) (a .n) (a .offset)) (a .at) (a .end) (a .em .now) (a .stacks .now) (a .e1) (l .e) (l .log) (l .classes) (l .starts) (l .maps) (l .marks) (l .em) (l .inv) (c .before .before .before .before .before .before .before .before .before .before .before .before .before .run .ensures) (c .before .before .before .before .before .before .before .before .before .before .before .longer .ensures) in
+    let D = declare-ran K (p .0 .source) (a .offset) (unites-idle (p .1 .0) (a .n) (a .offset)) (a .at) (a .end) (a .exprmap .now) (a .stacks .now) (a .e1) (l .e) (l .log) (l .logtags) (l .starts) (l .maps) (l .buckets) (l .exprmap) (l .inv) (c .before .before .before .before .before .before .before .before .before .before .before .before .before .copy-mapped-run .ensures) (c .before .before .before .before .before .before .before .before .before .before .before .advance .ensures) in
     let ne = c .before .before .before .before .before .before .before .before .before .before .if1 .left in
     let up = D .left .legible .stretch .rising in
-    let less : c .before .before .before .before .before .before .before .before .before .before .before .before .before .run .result .at < a .end = omega arith in
-    declare-full K D less (c .before .before .before .before .before .before .before .before .before .flag .ensures) (c .before .unite .ensures) (c .if2 .taken) (unites-grow (a .offset) (a .words .now) (a .tags .now) (a .n) (a .places .now) (a .k))
+    let less : c .before .before .before .before .before .before .before .before .before .before .before .before .before .copy-mapped-run .result .at < a .end = omega arith in
+    declare-full K D less (c .before .before .before .before .before .before .before .before .before .span-undefined .ensures) (c .before .import-declaration-word .ensures) (c .if2 .taken) (unites-grow (a .offset) (a .words .now) (a .tags .now) (a .n) (a .places .now) (a .k))
 
 put-word-requires : tie.Need-put-word-requires Inv-loop μ-loop
 put-word-requires c κs =
@@ -112,11 +112,11 @@ put-word-requires c κs =
     let p = c .before .before .before .before .before .before .before .before .before .before .before .before .before .before .before .before .before .before .before .before .before .before .before .before .before .before .before .pre in
     let l = c .before .before .before .before .before .before .before .before .before .before .before .before .before .before .before .before .before .before .before .before .before .before .before .before .before .before .loop in
     let K = p .1 .1 .1 .1 .0 in
-    let D = declare-ran K (p .0 .source) (a .offset) (unites-idle (p .1 .0) (a .n) (a .offset)) (a .at) (a .end) (a .em .now) (a .stacks .now) (a .e1) (l .e) (l .log) (l .classes) (l .starts) (l .maps) (l .marks) (l .em) (l .inv) (c .before .before .before .before .before .before .before .before .before .before .before .before .before .before .before .before .before .before .before .run .ensures) (c .before .before .before .before .before .before .before .before .before .before .before .before .before .before .before .before .before .longer .ensures) in
+    let D = declare-ran K (p .0 .source) (a .offset) (unites-idle (p .1 .0) (a .n) (a .offset)) (a .at) (a .end) (a .exprmap .now) (a .stacks .now) (a .e1) (l .e) (l .log) (l .logtags) (l .starts) (l .maps) (l .buckets) (l .exprmap) (l .inv) (c .before .before .before .before .before .before .before .before .before .before .before .before .before .before .before .before .before .before .before .copy-mapped-run .ensures) (c .before .before .before .before .before .before .before .before .before .before .before .before .before .before .before .before .before .advance .ensures) in
     let ne = c .before .before .before .before .before .before .before .before .before .before .before .before .before .before .before .before .if1 .left in
     let up = D .left .legible .stretch .rising in
-    let less : c .before .before .before .before .before .before .before .before .before .before .before .before .before .before .before .before .before .before .before .run .result .at < a .end = omega arith in
-    let A = c .before .before .before .before .before .before .before .unite .ensures in
+    let less : c .before .before .before .before .before .before .before .before .before .before .before .before .before .before .before .before .before .before .before .copy-mapped-run .result .at < a .end = omega arith in
+    let A = c .before .before .before .before .before .before .before .import-declaration-word .ensures in
     let z = c .before .before .before .before .before .before .if2 .left in
     (p .0, (bearing (A .kept z), (A .kept z .maps-six, ((declare-in K D less, fits-all (a .words .now) _ _ (p .1 .0 .few) (declare-fits K D less)), A .under z .stacks-are))))
 
@@ -126,16 +126,16 @@ returns-3 c =
     let p = c .before .before .before .before .before .before .before .before .before .before .before .before .before .before .before .before .before .before .before .before .before .before .before .before .before .before .before .before .before .pre in
     let l = c .before .before .before .before .before .before .before .before .before .before .before .before .before .before .before .before .before .before .before .before .before .before .before .before .before .before .before .before .loop in
     let K = p .1 .1 .1 .1 .0 in
-    let D = declare-ran K (p .0 .source) (a .offset) (unites-idle (p .1 .0) (a .n) (a .offset)) (a .at) (a .end) (a .em .now) (a .stacks .now) (a .e1) (l .e) (l .log) (l .classes) (l .starts) (l .maps) (l .marks) (l .em) (l .inv) (c .before .before .before .before .before .before .before .before .before .before .before .before .before .before .before .before .before .before .before .before .before .run .ensures) (c .before .before .before .before .before .before .before .before .before .before .before .before .before .before .before .before .before .before .before .longer .ensures) in
+    let D = declare-ran K (p .0 .source) (a .offset) (unites-idle (p .1 .0) (a .n) (a .offset)) (a .at) (a .end) (a .exprmap .now) (a .stacks .now) (a .e1) (l .e) (l .log) (l .logtags) (l .starts) (l .maps) (l .buckets) (l .exprmap) (l .inv) (c .before .before .before .before .before .before .before .before .before .before .before .before .before .before .before .before .before .before .before .before .before .copy-mapped-run .ensures) (c .before .before .before .before .before .before .before .before .before .before .before .before .before .before .before .before .before .before .before .advance .ensures) in
     let ne = c .before .before .before .before .before .before .before .before .before .before .before .before .before .before .before .before .before .before .if1 .left in
     let up = D .left .legible .stretch .rising in
-    let less : c .before .before .before .before .before .before .before .before .before .before .before .before .before .before .before .before .before .before .before .before .before .run .result .at < a .end = omega arith in
-    declare-over K D less (c .before .before .before .before .before .before .before .before .before .before .before .before .before .before .before .before .before .flag .ensures) (c .before .before .before .before .before .before .before .before .before .unite .ensures) (c .before .before .before .before .before .before .before .before .if2 .left) (c .before .put-word .ensures) (c .if3 .taken) (unites-grow (a .offset) (a .words .now) (a .tags .now) (a .n) (a .places .now) (a .k))
+    let less : c .before .before .before .before .before .before .before .before .before .before .before .before .before .before .before .before .before .before .before .before .before .copy-mapped-run .result .at < a .end = omega arith in
+    declare-over K D less (c .before .before .before .before .before .before .before .before .before .before .before .before .before .before .before .before .before .span-undefined .ensures) (c .before .before .before .before .before .before .before .before .before .import-declaration-word .ensures) (c .before .before .before .before .before .before .before .before .if2 .left) (c .before .put-word .ensures) (c .if3 .taken) (unites-grow (a .offset) (a .words .now) (a .tags .now) (a .n) (a .places .now) (a .k))
 
 loop-less : tie.Need-loop-less Inv-loop μ-loop
 loop-less c =
     let h = c .before .before .before .before .before .before .before .before .before .before .before .before .before .before .before .before .before .before .before .before .before .before .before .before .before .before .before .loop-test .taken in
-    let z = c .before .before .before .before .before .before .before .before .before .before .before .before .before .before .before .before .before .before .before .before .before .run .ensures .reach in
+    let z = c .before .before .before .before .before .before .before .before .before .before .before .before .before .before .before .before .before .before .before .before .before .copy-mapped-run .ensures .reach in
     omega arith
 
 loop-again : tie.Need-loop-again Inv-loop μ-loop
@@ -144,11 +144,11 @@ loop-again c =
     let p = c .before .before .before .before .before .before .before .before .before .before .before .before .before .before .before .before .before .before .before .before .before .before .before .before .before .before .before .before .before .pre in
     let l = c .before .before .before .before .before .before .before .before .before .before .before .before .before .before .before .before .before .before .before .before .before .before .before .before .before .before .before .before .loop in
     let K = p .1 .1 .1 .1 .0 in
-    let D = declare-ran K (p .0 .source) (a .offset) (unites-idle (p .1 .0) (a .n) (a .offset)) (a .at) (a .end) (a .em .now) (a .stacks .now) (a .e1) (l .e) (l .log) (l .classes) (l .starts) (l .maps) (l .marks) (l .em) (l .inv) (c .before .before .before .before .before .before .before .before .before .before .before .before .before .before .before .before .before .before .before .before .before .run .ensures) (c .before .before .before .before .before .before .before .before .before .before .before .before .before .before .before .before .before .before .before .longer .ensures) in
+    let D = declare-ran K (p .0 .source) (a .offset) (unites-idle (p .1 .0) (a .n) (a .offset)) (a .at) (a .end) (a .exprmap .now) (a .stacks .now) (a .e1) (l .e) (l .log) (l .logtags) (l .starts) (l .maps) (l .buckets) (l .exprmap) (l .inv) (c .before .before .before .before .before .before .before .before .before .before .before .before .before .before .before .before .before .before .before .before .before .copy-mapped-run .ensures) (c .before .before .before .before .before .before .before .before .before .before .before .before .before .before .before .before .before .before .before .advance .ensures) in
     let ne = c .before .before .before .before .before .before .before .before .before .before .before .before .before .before .before .before .before .before .if1 .left in
     let up = D .left .legible .stretch .rising in
-    let less : c .before .before .before .before .before .before .before .before .before .before .before .before .before .before .before .before .before .before .before .before .before .run .result .at < a .end = omega arith in
-    declare-next K D less (c .before .before .before .before .before .before .before .before .before .before .before .before .before .before .before .before .before .flag .ensures) (c .before .before .before .before .before .before .before .before .before .unite .ensures) (c .before .before .before .before .before .before .before .before .if2 .left) (c .before .put-word .ensures) (c .if3 .left)
+    let less : c .before .before .before .before .before .before .before .before .before .before .before .before .before .before .before .before .before .before .before .before .before .copy-mapped-run .result .at < a .end = omega arith in
+    declare-next K D less (c .before .before .before .before .before .before .before .before .before .before .before .before .before .before .before .before .before .span-undefined .ensures) (c .before .before .before .before .before .before .before .before .before .import-declaration-word .ensures) (c .before .before .before .before .before .before .before .before .if2 .left) (c .before .put-word .ensures) (c .if3 .left)
 
 returns-4 : tie.Need-returns-4 Inv-loop μ-loop
 returns-4 c =
@@ -161,15 +161,15 @@ declare-spec =
     Inv-loop
     μ-loop
     loop-holds
-    cast-run
-    cast-run-2
-    run-requires
-    sub-longer
-    longer-requires
+    cast-copy-mapped-run
+    cast-copy-mapped-run-2
+    copy-mapped-run-requires
+    sub-advance
+    advance-requires
     returns
     add-i
-    flag-requires
-    unite-requires
+    span-undefined-requires
+    import-declaration-word-requires
     returns-2
     put-word-requires
     returns-3

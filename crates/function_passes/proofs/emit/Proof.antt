@@ -1,4 +1,4 @@
--- `emit` meets its contract: the first pass, the number of expressions made, the second pass. Assumes nothing.
+-- `emit` meets its contract: the first pass, the number of expressions made, the second pass.
 use native.Mathlib.Omega.{arith}
 use borrow.Author.Needs.{needs}
 use Rattle.derive_state.specs.Source.{modOf}

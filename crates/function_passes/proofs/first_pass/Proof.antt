@@ -1,4 +1,4 @@
--- `first_pass` meets its contract: one expression of the range at a turn. Assumes nothing.
+-- `first_pass` meets its contract: one expression of the range at a turn.
 use Prim.Native.Nat.{_-_}
 use native.Mathlib.Omega.{arith}
 use Rattle.function_passes.specs.Runs.{glances}
@@ -7,10 +7,10 @@ use Rattle.function_passes.proofs.first_pass.Statement.{statement}
 use Rattle.function_passes.proofs.first_pass.Tie as tie
 
 abbrev Inv-loop : tie.InvT-loop
-Inv-loop words tags kinds n places log₀ classes₀ starts₀ maps₀ marks₀ em₀ stacks₀ offset e1 k a b e₀ x₀ log classes starts maps marks em stacks e x = Ranging words k (glances offset words tags n places k) a b log₀ classes₀ starts₀ maps₀ marks₀ em₀ stacks₀ e1 e₀ e log classes starts maps marks em stacks x
+Inv-loop words tags targets n places log₀ logtags₀ starts₀ maps₀ buckets₀ exprmap₀ stacks₀ offset e1 k a b e₀ x₀ log logtags starts maps buckets exprmap stacks e x = Ranging words k (glances offset words tags n places k) a b log₀ logtags₀ starts₀ maps₀ buckets₀ exprmap₀ stacks₀ e1 e₀ e log logtags starts maps buckets exprmap stacks x
 
 abbrev μ-loop : tie.MeasureT-loop
-μ-loop words tags kinds n places log₀ classes₀ starts₀ maps₀ marks₀ em₀ stacks₀ offset e1 k a b e₀ x₀ log classes starts maps marks em stacks e x = b - x
+μ-loop words tags targets n places log₀ logtags₀ starts₀ maps₀ buckets₀ exprmap₀ stacks₀ offset e1 k a b e₀ x₀ log logtags starts maps buckets exprmap stacks e x = b - x
 
 loop-holds : tie.Need-loop-holds Inv-loop μ-loop
 loop-holds c = let p = c .pre in range-begin (p .1 .1 .1 .1 .0) (p .1 .1 .1 .1 .1) (p .1 .1 .1 .0)
@@ -23,8 +23,8 @@ add-x c =
     let h = c .loop-test .taken in
     omega arith
 
-glance-requires : tie.Need-glance-requires Inv-loop μ-loop
-glance-requires c κs =
+import-standing-requires : tie.Need-import-standing-requires Inv-loop μ-loop
+import-standing-requires c κs =
     let p = c .before .before .before .before .before .before .before .before .before .pre in
     let inv = c .before .before .before .before .before .before .before .before .loop .inv in
     let l = p .1 .1 .0 in
@@ -32,13 +32,13 @@ glance-requires c κs =
     (p .0, (p .1 .0, ((omega arith, inv .going), (inv .makes .kept (inv .going), inv .makes .under (inv .going)))))
 
 returns : tie.Need-returns Inv-loop μ-loop
-returns c = let a = c .before .before .before .before .before .before .before .before .before .before .before .args in range-full (c .before .before .before .before .before .before .before .before .before .before .before .pre .1 .1 .1 .1 .0) (c .before .before .before .before .before .before .before .before .before .before .loop .inv) (c .before .before .before .before .before .before .before .before .before .loop-test .taken) (c .before .glance .ensures) (c .if1 .taken) (glances-grow (a .offset) (a .words .now) (a .tags .now) (a .n) (a .places .now) (a .k))
+returns c = let a = c .before .before .before .before .before .before .before .before .before .before .before .args in range-full (c .before .before .before .before .before .before .before .before .before .before .before .pre .1 .1 .1 .1 .0) (c .before .before .before .before .before .before .before .before .before .before .loop .inv) (c .before .before .before .before .before .before .before .before .before .loop-test .taken) (c .before .import-standing .ensures) (c .if1 .taken) (glances-grow (a .offset) (a .words .now) (a .tags .now) (a .n) (a .places .now) (a .k))
 
 loop-less : tie.Need-loop-less Inv-loop μ-loop
 loop-less c = let h = c .before .before .before .before .before .before .before .before .before .loop-test .taken in omega arith
 
 loop-again : tie.Need-loop-again Inv-loop μ-loop
-loop-again c = range-more (c .before .before .before .before .before .before .before .before .before .before .before .pre .1 .1 .1 .1 .0) (c .before .before .before .before .before .before .before .before .before .before .loop .inv) (c .before .before .before .before .before .before .before .before .before .loop-test .taken) (c .before .glance .ensures) (c .if1 .left)
+loop-again c = range-more (c .before .before .before .before .before .before .before .before .before .before .before .pre .1 .1 .1 .1 .0) (c .before .before .before .before .before .before .before .before .before .before .loop .inv) (c .before .before .before .before .before .before .before .before .before .loop-test .taken) (c .before .import-standing .ensures) (c .if1 .left)
 
 returns-2 : tie.Need-returns-2 Inv-loop μ-loop
 returns-2 c = range-done (c .before .before .pre .1 .1 .1 .1 .0) (c .before .loop .inv) (c .loop-test .left)
@@ -51,7 +51,7 @@ first-pass-spec =
     μ-loop
     loop-holds
     add-x
-    glance-requires
+    import-standing-requires
     returns
     loop-less
     loop-again

@@ -1,4 +1,4 @@
--- `put_word` meets its contract: the word that is pushed is the one that was carried and moved. Assumes nothing.
+-- `put_word` meets its contract: the word that is pushed is the one that was carried and moved.
 use mathlib.Core.Path.{ap, _∙_}
 use Prim.Native.Nat.{ℕ}
 use lib.ListN.{getD}

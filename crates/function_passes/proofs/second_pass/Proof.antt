@@ -1,4 +1,4 @@
--- `second_pass` meets its contract: one expression of the range at a turn. Assumes nothing.
+-- `second_pass` meets its contract: one expression of the range at a turn.
 use Prim.Native.Nat.{_-_}
 use native.Mathlib.Omega.{arith}
 use Rattle.derive_lookup.proofs.Bears.{bearing}
@@ -7,10 +7,10 @@ use Rattle.function_passes.proofs.second_pass.Statement.{statement}
 use Rattle.function_passes.proofs.second_pass.Tie as tie
 
 abbrev Inv-loop : tie.InvT-loop
-Inv-loop words tags kinds n places log classes starts maps em₀ stacks₀ offset e1 k a b e₀ x₀ em stacks e x = Appending words tags n places k offset a b log classes starts maps em₀ stacks₀ e1 e₀ e em stacks x
+Inv-loop words tags targets n places log logtags starts maps exprmap₀ stacks₀ offset e1 k a b e₀ x₀ exprmap stacks e x = Appending words tags n places k offset a b log logtags starts maps exprmap₀ stacks₀ e1 e₀ e exprmap stacks x
 
 abbrev μ-loop : tie.MeasureT-loop
-μ-loop words tags kinds n places log classes starts maps em₀ stacks₀ offset e1 k a b e₀ x₀ em stacks e x = b - x
+μ-loop words tags targets n places log logtags starts maps exprmap₀ stacks₀ offset e1 k a b e₀ x₀ exprmap stacks e x = b - x
 
 loop-holds : tie.Need-loop-holds Inv-loop μ-loop
 loop-holds c = let p = c .pre in appending (p .1 .1 .1 .1 .1 .0) (p .1 .1 .1 .0) (p .1 .1 .1 .1 .1 .1)

@@ -1,4 +1,4 @@
--- `copy_classes` meets its contract: what is left to copy from here is the whole, and a class fits its byte. Assumes nothing.
+-- `copy_classes` meets its contract: what is left to copy from here is the whole, and a class fits its byte.
 use Prim.Native.Nat.{_+_, _-_}
 use native.Mathlib.Omega.{arith}
 use borrow.Author.Needs.{needs}
@@ -8,10 +8,10 @@ use Rattle.function_record.proofs.copy_classes.Statement.{statement}
 use Rattle.function_record.proofs.copy_classes.Tie as tie
 
 abbrev Inv-loop : tie.InvT-loop
-Inv-loop stacks a count classes₀ p i₀ classes i = Copying (row stacks 1) a count classes₀ p classes i
+Inv-loop stacks a count logtags₀ p i₀ logtags i = Copying (row stacks 1) a count logtags₀ p logtags i
 
 abbrev μ-loop : tie.MeasureT-loop
-μ-loop stacks a count classes₀ p i₀ classes i = count - i
+μ-loop stacks a count logtags₀ p i₀ logtags i = count - i
 
 loop-holds : tie.Need-loop-holds Inv-loop μ-loop
 loop-holds c = search (copying-begin, needs)
@@ -19,32 +19,32 @@ loop-holds c = search (copying-begin, needs)
 add-i : tie.Need-add-i Inv-loop μ-loop
 add-i c = search needs
 
-add-classes : tie.Need-add-classes Inv-loop μ-loop
-add-classes c = search needs
+add-logtags : tie.Need-add-logtags Inv-loop μ-loop
+add-logtags c = search needs
 
-mul-classes : tie.Need-mul-classes Inv-loop μ-loop
-mul-classes c = search needs
+mul-logtags : tie.Need-mul-logtags Inv-loop μ-loop
+mul-logtags c = search needs
 
-index-1-classes : tie.Need-index-1-classes Inv-loop μ-loop
-index-1-classes c = search needs
+index-1-logtags : tie.Need-index-1-logtags Inv-loop μ-loop
+index-1-logtags c = search needs
 
-index-2-classes : tie.Need-index-2-classes Inv-loop μ-loop
-index-2-classes c = search needs
+index-2-logtags : tie.Need-index-2-logtags Inv-loop μ-loop
+index-2-logtags c = search needs
 
-cast-classes : tie.Need-cast-classes Inv-loop μ-loop
-cast-classes c = let b = c .before .before in let s = b .before in let h = c .before .loop-test .taken in let r = s .pre .1 (s .args .a + b .loop .i) (omega arith) (omega arith) in search (r, needs)
+cast-logtags : tie.Need-cast-logtags Inv-loop μ-loop
+cast-logtags c = let b = c .before .before in let s = b .before in let h = c .before .loop-test .taken in let r = s .pre .1 (s .args .a + b .loop .i) (omega arith) (omega arith) in search (r, needs)
 
-add-classes-2 : tie.Need-add-classes-2 Inv-loop μ-loop
-add-classes-2 c = search needs
+add-logtags-2 : tie.Need-add-logtags-2 Inv-loop μ-loop
+add-logtags-2 c = search needs
 
-element-write-classes : tie.Need-element-write-classes Inv-loop μ-loop
-element-write-classes c = search needs
+element-write-logtags : tie.Need-element-write-logtags Inv-loop μ-loop
+element-write-logtags c = search needs
 
 loop-less : tie.Need-loop-less Inv-loop μ-loop
 loop-less c = search needs
 
 loop-again : tie.Need-loop-again Inv-loop μ-loop
-loop-again c = let b = c .before .before in let s = b .before in let x = s .args in copying-next (row (x .stacks .now) 1) (x .a) (x .count) (x .classes .now) (x .p) (b .loop .classes) (b .loop .i) (b .loop .inv) (omega (arith, s .pre)) (c .before .loop-test .taken)
+loop-again c = let b = c .before .before in let s = b .before in let x = s .args in copying-next (row (x .stacks .now) 1) (x .a) (x .count) (x .logtags .now) (x .p) (b .loop .logtags) (b .loop .i) (b .loop .inv) (omega (arith, s .pre)) (c .before .loop-test .taken)
 
 returns : tie.Need-returns Inv-loop μ-loop
 returns c = search (copying-done, needs)
@@ -57,13 +57,13 @@ copy-classes-spec =
     μ-loop
     loop-holds
     add-i
-    add-classes
-    mul-classes
-    index-1-classes
-    index-2-classes
-    cast-classes
-    add-classes-2
-    element-write-classes
+    add-logtags
+    mul-logtags
+    index-1-logtags
+    index-2-logtags
+    cast-logtags
+    add-logtags-2
+    element-write-logtags
     loop-less
     loop-again
     returns)

@@ -1,4 +1,4 @@
--- `copy_words` meets its contract: what is left to copy from here is the whole. Assumes nothing.
+-- `copy_words` meets its contract: what is left to copy from here is the whole.
 use Prim.Native.Nat.{_-_}
 use native.Mathlib.Omega.{arith}
 use borrow.Author.Needs.{needs}

@@ -1,4 +1,3 @@
--- `intake::take_in` meets its contract. Assumes nothing.
 use Rattle.intake.proofs.Tests.{size-fails, misfit-fails, strange-fails, tape-so, tested-so}
 use borrow.Author.Needs.{needs}
 use Rattle.intake.proofs.take_in.Statement.{statement}

@@ -1,4 +1,3 @@
--- `intake::test` meets its contract. Assumes nothing.
 use Rattle.intake.proofs.Tests.{number-fails, names-ready, scope-ready, order-fails, name-fails, scope-fails, all-pass}
 use borrow.Author.Needs.{needs}
 use Rattle.intake.proofs.test.Statement.{statement}

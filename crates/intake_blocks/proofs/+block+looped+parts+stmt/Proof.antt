@@ -1,4 +1,4 @@
--- `blocks::+block+looped+parts+stmt` meets its contract. Assumes nothing.
+-- `intake_blocks::+block+looped+parts+stmt` meets its contract.
 use mathlib.Core.Bool.{true}
 use mathlib.Core.List.{[]}
 use Prim.Native.Nat.{_*_, _+_, _-_, ℕ, _<_}

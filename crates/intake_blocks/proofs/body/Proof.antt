@@ -1,4 +1,3 @@
--- `intake_blocks::body` meets its contract. Assumes nothing.
 use Rattle.intake_blocks.proofs.Bodies.{body-is, body-long}
 use borrow.Author.Needs.{needs}
 use Rattle.intake_blocks.proofs.body.Statement.{statement}

@@ -1,4 +1,3 @@
--- `intake_blocks::clear` meets its contract. Assumes nothing.
 use native.Mathlib.Omega.{arith}
 use Prim.Native.Nat.{_-_, _≤_}
 use Rattle.intake_blocks.specs.Found.{Cleared}

@@ -1,4 +1,3 @@
--- `intake_blocks::found` meets its contract. Assumes nothing.
 use Rattle.intake_blocks.proofs.Answers.{told-fine, told-wrong}
 use borrow.Author.Needs.{needs}
 use Rattle.intake_blocks.proofs.found.Statement.{statement}

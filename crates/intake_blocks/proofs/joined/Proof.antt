@@ -1,4 +1,3 @@
--- `intake_blocks::joined` meets its contract. Assumes nothing.
 use Rattle.intake_blocks.proofs.Answers.{joined-cut, joined-rest}
 use borrow.Author.Needs.{needs}
 use Rattle.intake_blocks.proofs.joined.Statement.{statement}

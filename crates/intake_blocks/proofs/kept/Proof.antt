@@ -1,4 +1,3 @@
--- `intake_blocks::kept` meets its contract. Assumes nothing.
 use Rattle.intake_blocks.proofs.Answers.{kept-cut, kept-rest}
 use Rattle.intake_blocks.proofs.kept.Statement.{statement}
 use Rattle.intake_blocks.proofs.kept.Tie as tie

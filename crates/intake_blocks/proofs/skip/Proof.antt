@@ -1,4 +1,3 @@
--- `intake_blocks::skip` meets its contract. Assumes nothing.
 use Prim.Native.Nat.{_-_, _+_}
 use lib.ListN.{getD}
 use Rattle.intake_blocks.proofs.Answers.{Skipping, skip-begin, skip-in, skip-far, skip-next, skip-done}

@@ -1,4 +1,4 @@
--- `intake_distinct::mark` meets its contract: a mark that stands stays, the first of a place is the print, and after another print it is SEVERAL.
+-- `intake_distinct::mark` meets its contract: a mark that is there stays, the first of a place is the print, and after another print it is SEVERAL.
 use borrow.Author.Needs.{needs}
 use Rattle.intake_distinct.proofs.Places.{mark-own, mark-several, mark-first, mark-more}
 use Rattle.intake_distinct.proofs.mark.Statement.{statement}

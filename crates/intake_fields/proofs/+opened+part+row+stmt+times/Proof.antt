@@ -1,4 +1,4 @@
--- `fields::+opened+part+row+stmt+times` meets its contract. Assumes nothing.
+-- `intake_fields::+opened+part+row+stmt+times` meets its contract.
 use Prim.Native.Nat.{_*_, _+_, _-_}
 use native.Mathlib.Omega.{arith}
 use Rattle.intake_fields.proofs.Rows.{rows-few}

@@ -1,4 +1,3 @@
--- `intake_fields::brings` meets its contract. Assumes nothing.
 use Rattle.intake_fields.specs.Rows.{SIZE}
 use mathlib.Core.Path.{refl}
 use native.Mathlib.Omega.{arith}

@@ -1,4 +1,3 @@
--- `intake_fields::fill` meets its contract. Assumes nothing.
 use Prim.Native.Nat.{_-_}
 use Rattle.intake_fields.proofs.Walk.{Filling, fill-misfit, fill-begin, fill-next, fill-done}
 use borrow.Author.Needs.{needs}

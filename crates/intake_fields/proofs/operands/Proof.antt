@@ -1,4 +1,3 @@
--- `intake_fields::operands` meets its contract. Assumes nothing.
 use Rattle.intake_fields.proofs.Walk.{run-misfit, operands-walk}
 use borrow.Author.Needs.{needs}
 use Rattle.intake_fields.proofs.operands.Statement.{statement}

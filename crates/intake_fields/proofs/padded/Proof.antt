@@ -1,4 +1,3 @@
--- `intake_fields::padded` meets its contract. Assumes nothing.
 use Rattle.intake_fields.proofs.Walk.{run-misfit, pad-wrong, pad-right}
 use borrow.Author.Needs.{needs}
 use Rattle.intake_fields.proofs.padded.Statement.{statement}

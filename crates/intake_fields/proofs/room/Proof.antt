@@ -1,4 +1,3 @@
--- `intake_fields::room` meets its contract. Assumes nothing.
 use Rattle.intake_fields.proofs.Walk.{room-one, room-two, room-three}
 use borrow.Author.Needs.{needs}
 use Rattle.intake_fields.proofs.room.Statement.{statement}

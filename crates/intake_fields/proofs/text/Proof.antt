@@ -1,4 +1,3 @@
--- `intake_fields::text` meets its contract. Assumes nothing.
 use Rattle.intake_fields.proofs.Walk.{run-misfit, text-misfit, text-strange, text-done, text-padded, text-within}
 use borrow.Author.Needs.{needs}
 use Rattle.intake_fields.proofs.text.Statement.{statement}

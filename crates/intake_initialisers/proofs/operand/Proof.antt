@@ -1,4 +1,3 @@
--- `intake_initialisers::operand` meets its contract. Assumes nothing.
 use Rattle.intake_initialisers.proofs.Visiting.{operand-expr, operand-opt, operand-none}
 use borrow.Author.Needs.{needs}
 use Rattle.intake_initialisers.proofs.operand.Statement.{statement}

@@ -1,4 +1,3 @@
--- `intake_initialisers::places` meets its contract. Assumes nothing.
 use Prim.Native.Nat.{_-_}
 use Rattle.intake_initialisers.proofs.Visiting.{Finding, places-begin, places-last-room, places-last, places-room, places-next, places-skip, places-done}
 use borrow.Author.Needs.{needs}

@@ -1,4 +1,3 @@
--- `intake_initialisers::reach` meets its contract. Assumes nothing.
 use native.Mathlib.Omega.{arith}
 use Prim.Native.Nat.{_+_}
 use Rattle.intake_initialisers.specs.Marks.{blank}

@@ -1,4 +1,3 @@
--- `intake_initialisers::roots` meets its contract. Assumes nothing.
 use Prim.Native.Nat.{_-_}
 use Rattle.intake_initialisers.proofs.Visiting.{Rooting, roots-begin, roots-next, roots-done}
 use borrow.Author.Needs.{needs}

@@ -1,4 +1,3 @@
--- `intake_initialisers::spread` meets its contract. Assumes nothing.
 use Prim.Native.Nat.{_-_}
 use Rattle.intake_initialisers.proofs.Visiting.{Spreading, spread-begin, spread-next, spread-done}
 use borrow.Author.Needs.{needs}

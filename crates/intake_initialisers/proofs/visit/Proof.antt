@@ -1,4 +1,3 @@
--- `intake_initialisers::visit` meets its contract. Assumes nothing.
 use Rattle.intake_initialisers.proofs.Visiting.{visit-none, visit-out, visit-again, visit-room, visit-push}
 use borrow.Author.Needs.{needs}
 use Rattle.intake_initialisers.proofs.visit.Statement.{statement}

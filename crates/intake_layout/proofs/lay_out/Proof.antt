@@ -1,4 +1,3 @@
--- `intake_layout::lay_out` meets its contract. Assumes nothing.
 use Rattle.intake_layout.proofs.Laying.{size-short, size-long, size-edition, size-total, laid-out}
 use borrow.Author.Needs.{needs}
 use Rattle.intake_layout.proofs.lay_out.Statement.{statement}
@@ -31,8 +30,8 @@ returns-4 c = search (size-total, needs)
 load-requires : tie.Need-load-requires
 load-requires c κs = search needs
 
-lay-requires : tie.Need-lay-requires
-lay-requires c κs = search needs
+lay-out-words-requires : tie.Need-lay-out-words-requires
+lay-out-words-requires c κs = search needs
 
 returns-5 : tie.Need-returns-5
 returns-5 c = search (laid-out, needs)
@@ -50,5 +49,5 @@ lay-out-spec =
     mul-if4
     returns-4
     load-requires
-    lay-requires
+    lay-out-words-requires
     returns-5)

@@ -1,4 +1,3 @@
--- `intake_numbers::entries` meets its contract. Assumes nothing.
 use native.Mathlib.Omega.{arith}
 use Prim.Native.Nat.{_-_}
 use Rattle.intake_numbers.proofs.Framing.{InEntries, entries-begin, entries-in, entries-done, entries-framed, entries-over, entries-next, entries-small}

@@ -1,4 +1,3 @@
--- `intake_numbers::functions` meets its contract. Assumes nothing.
 use Prim.Native.Nat.{_-_}
 use Rattle.intake_numbers.proofs.Framing.{InFunctions, functions-begin, functions-in, functions-done, functions-framed, functions-over, functions-next}
 use borrow.Author.Needs.{needs}

@@ -1,4 +1,3 @@
--- `intake_numbers::kinds` meets its contract. Assumes nothing.
 use native.Mathlib.Omega.{arith}
 use Prim.Native.Nat.{_-_}
 use Rattle.intake_numbers.proofs.Tabling.{Kinding, kinds-begin, kinds-done, kinds-record, kinds-inside, kinds-over, kinds-next}

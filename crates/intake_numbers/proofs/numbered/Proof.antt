@@ -1,4 +1,3 @@
--- `intake_numbers::numbered` meets its contract. Assumes nothing.
 use mathlib.Core.Path.{refl}
 use Rattle.intake_ranges.specs.Ranges.{codes, upTo}
 use Rattle.intake_numbers.proofs.Framing.{numbered-tables, numbered-kinds, numbered-functions, numbered-entries}
@@ -6,39 +5,39 @@ use borrow.Author.Needs.{needs}
 use Rattle.intake_numbers.proofs.numbered.Statement.{statement}
 use Rattle.intake_numbers.proofs.numbered.Tie as tie
 
-outside-requires : tie.Need-outside-requires
+module-bounds-requires : tie.Need-module-bounds-requires
 unfolding codes upTo
-outside-requires c κs = refl
+module-bounds-requires c κs = refl
 
 tables-requires : tie.Need-tables-requires
 tables-requires c κs = search needs
 
 returns : tie.Need-returns
-returns c = numbered-tables _ _ _ _ (c .before .before .before .outside .ensures) _ (c .before .tables .ensures) (c .if1 .taken)
+returns c = numbered-tables _ _ _ _ (c .before .before .before .module-bounds .ensures) _ (c .before .tables .ensures) (c .if1 .taken)
 
 kinds-requires : tie.Need-kinds-requires
 kinds-requires c κs = search needs
 
 returns-2 : tie.Need-returns-2
-returns-2 c = numbered-kinds _ _ _ _ (c .before .before .before .before .before .outside .ensures) _ (c .before .before .before .tables .ensures) (c .before .before .if1 .left) _ (c .before .kinds .ensures) (c .if2 .taken)
+returns-2 c = numbered-kinds _ _ _ _ (c .before .before .before .before .before .module-bounds .ensures) _ (c .before .before .before .tables .ensures) (c .before .before .if1 .left) _ (c .before .kinds .ensures) (c .if2 .taken)
 
 functions-requires : tie.Need-functions-requires
 functions-requires c κs = search needs
 
 returns-3 : tie.Need-returns-3
-returns-3 c = numbered-functions _ _ _ _ (c .before .before .before .before .before .before .before .before .outside .ensures) _ (c .before .before .before .before .before .before .tables .ensures) (c .before .before .before .before .before .if1 .left) _ (c .before .before .before .before .kinds .ensures) (c .before .before .before .if2 .left) _ _ (c .before .functions .ensures) (c .if3 .taken)
+returns-3 c = numbered-functions _ _ _ _ (c .before .before .before .before .before .before .before .before .module-bounds .ensures) _ (c .before .before .before .before .before .before .tables .ensures) (c .before .before .before .before .before .if1 .left) _ (c .before .before .before .before .kinds .ensures) (c .before .before .before .if2 .left) _ _ (c .before .functions .ensures) (c .if3 .taken)
 
 entries-requires : tie.Need-entries-requires
 entries-requires c κs = search needs
 
 returns-4 : tie.Need-returns-4
-returns-4 c = numbered-entries _ _ _ _ (c .before .before .before .before .before .before .before .before .before .before .outside .ensures) _ (c .before .before .before .before .before .before .before .before .tables .ensures) (c .before .before .before .before .before .before .before .if1 .left) _ (c .before .before .before .before .before .before .kinds .ensures) (c .before .before .before .before .before .if2 .left) _ _ (c .before .before .before .functions .ensures) (c .before .before .if3 .left) _ _ (c .entries .ensures)
+returns-4 c = numbered-entries _ _ _ _ (c .before .before .before .before .before .before .before .before .before .before .module-bounds .ensures) _ (c .before .before .before .before .before .before .before .before .tables .ensures) (c .before .before .before .before .before .before .before .if1 .left) _ (c .before .before .before .before .before .before .kinds .ensures) (c .before .before .before .before .before .if2 .left) _ _ (c .before .before .before .functions .ensures) (c .before .before .if3 .left) _ _ (c .entries .ensures)
 
 pub numbered-spec : {M : Type 1} → statement M
 numbered-spec =
     tie.close
     (tie.spec
-    outside-requires
+    module-bounds-requires
     tables-requires
     returns
     kinds-requires

@@ -1,4 +1,3 @@
--- `intake_numbers::tables` meets its contract. Assumes nothing.
 use Rattle.intake_numbers.proofs.Tabling.{tape-long, tape-small, special-rising, tables-types, tables-constants, tables-overrides, tables-globals, tables-exprs, tables-special}
 use borrow.Author.Needs.{needs}
 use Rattle.intake_numbers.proofs.tables.Statement.{statement}
@@ -37,8 +36,8 @@ returns-5 c = search (tables-exprs, needs)
 offset-requires : tie.Need-offset-requires
 offset-requires c κs = search needs
 
-ranged-requires : tie.Need-ranged-requires
-ranged-requires c κs = search (tape-long, tape-small, special-rising, needs)
+in-range-requires : tie.Need-in-range-requires
+in-range-requires c κs = search (tape-long, tape-small, special-rising, needs)
 
 returns-6 : tie.Need-returns-6
 returns-6 c = search (tables-special, needs)
@@ -58,5 +57,5 @@ tables-spec =
     table-requires-5
     returns-5
     offset-requires
-    ranged-requires
+    in-range-requires
     returns-6)

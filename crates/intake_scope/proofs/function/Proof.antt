@@ -1,4 +1,3 @@
--- `intake_scope::function` meets its contract. Assumes nothing.
 use Rattle.intake_numbers.proofs.Framing.{function-inside}
 use Rattle.intake_scope.proofs.Whole.{stated-framed, stated-known, stated-scoped}
 use Rattle.intake_scope.proofs.function.Statement.{statement}

@@ -1,4 +1,3 @@
--- `intake_scope::in_scope` meets its contract. Assumes nothing.
 use borrow.Author.Tests.{not-false}
 use Rattle.intake_scope.proofs.Images.{image-functions, image-entries}
 use borrow.Author.Needs.{needs}

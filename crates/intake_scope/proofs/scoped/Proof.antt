@@ -1,4 +1,3 @@
--- `intake_scope::scoped` meets its contract. Assumes nothing.
 use Rattle.intake_initialisers.proofs.Reaching.{init-locals, init-exprs, init-after, init-end, init-count, init-room, init-few}
 use Rattle.intake_scope.proofs.Whole.{known-listed, known-few, known-reach, known-named, known-body, known-scoped, known-lent}
 use borrow.Author.Needs.{needs}

@@ -1,4 +1,3 @@
--- `intake_statements::emit` meets its contract. Assumes nothing.
 use native.Mathlib.Omega.{arith}
 use Prim.Native.Nat.{_-_}
 use Rattle.intake_statements.proofs.Scopes.{Emitting, emit-begin, emit-next, emit-wrong, emit-done}

@@ -1,4 +1,3 @@
--- `intake_statements::evaluated` meets its contract. Assumes nothing.
 use Rattle.intake_statements.proofs.Leaves.{start-in}
 use Rattle.intake_statements.proofs.Scopes.{reads-to, evaluated-kind, evaluated-twice, evaluated-initial, evaluated-reads, evaluated-fine}
 use borrow.Author.Needs.{needs}

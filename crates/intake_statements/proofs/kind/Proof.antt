@@ -1,4 +1,3 @@
--- `intake_statements::kind` meets its contract. Assumes nothing.
 use Rattle.intake_statements.proofs.Leaves.{kind-is}
 use borrow.Author.Needs.{needs}
 use Rattle.intake_statements.proofs.kind.Statement.{statement}

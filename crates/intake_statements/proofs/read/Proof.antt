@@ -1,4 +1,3 @@
--- `intake_statements::read` meets its contract. Assumes nothing.
 use Rattle.intake_statements.proofs.Leaves.{read-expr, read-none, read-some, read-other}
 use borrow.Author.Needs.{needs}
 use Rattle.intake_statements.proofs.read.Statement.{statement}

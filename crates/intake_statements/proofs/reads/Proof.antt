@@ -1,4 +1,3 @@
--- `intake_statements::reads` meets its contract. Assumes nothing.
 use Prim.Native.Nat.{_-_}
 use Rattle.intake_statements.specs.Lasts.{visibleAt}
 use Rattle.intake_statements.proofs.Leaves.{Reading, reads-begin, reads-wrong, reads-next, reads-done}

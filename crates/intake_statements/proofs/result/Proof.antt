@@ -1,4 +1,3 @@
--- `intake_statements::result` meets its contract. Assumes nothing.
 use native.Mathlib.Omega.{arith}
 use Rattle.intake_statements.proofs.Results.{result-in, result-none, result-out, result-unfit, result-twice, result-fine}
 use borrow.Author.Needs.{needs}

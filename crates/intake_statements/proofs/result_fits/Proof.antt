@@ -1,4 +1,3 @@
--- `intake_statements::result_fits` meets its contract. Assumes nothing.
 use Rattle.intake_statements.proofs.Leaves.{start-in}
 use Rattle.intake_statements.proofs.Results.{function-in, fits-call, fits-no-call, fits-load, fits-atomic}
 use borrow.Author.Needs.{needs}

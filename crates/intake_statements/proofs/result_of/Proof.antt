@@ -1,4 +1,3 @@
--- `intake_statements::result_of` meets its contract. Assumes nothing.
 use Prim.Native.Nat.{_-_}
 use Rattle.intake_statements.proofs.Leaves.{Looking, look-begin, look-result, look-optional, look-next, look-done}
 use borrow.Author.Needs.{needs}

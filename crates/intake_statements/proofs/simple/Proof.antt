@@ -1,4 +1,3 @@
--- `intake_statements::simple` meets its contract. Assumes nothing.
 use Rattle.intake_statements.proofs.Results.{simple-reads, simple-result}
 use borrow.Author.Needs.{needs}
 use Rattle.intake_statements.proofs.simple.Statement.{statement}

@@ -1,4 +1,3 @@
--- `intake_statements::visible` meets its contract. Assumes nothing.
 use Rattle.intake_statements.proofs.Leaves.{visible-out, visible-in, visible-kind, start-in}
 use borrow.Author.Needs.{needs}
 use Rattle.intake_statements.proofs.visible.Statement.{statement}

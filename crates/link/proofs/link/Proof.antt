@@ -1,8 +1,7 @@
--- `link::link` meets its contract. Assumes nothing.
 use Prim.Native.Nat.{ℕ}
 use lib.ListN.{length-replicate}
 use borrow.Author.Needs.{needs}
-use Rattle.session_operations.specs.Theorems.{zeros-spaces}
+use Rattle.derive_session.specs.Fresh.{zeros-spaces}
 use Rattle.link.proofs.link.Statement.{statement}
 use Rattle.link.proofs.link.Tie as tie
 

@@ -1,4 +1,3 @@
--- `link::link_in` meets its contract. Assumes nothing.
 use Prim.Native.Nat.{ℕ}
 use lib.ListN.{replicate, length-replicate}
 use borrow.Author.Needs.{needs}
@@ -24,38 +23,29 @@ order-of-requires c κs = let z = order-asks (c .before .before .before .before 
 enum-told : tie.Need-enum-told
 enum-told c = search needs
 
-link-by-requires : tie.Need-link-by-requires
-link-by-requires c κs = (by-asks (c .before .before .before .before .before .before .before .before .before .before .before .before .before .before .before .before .before .before .before .before .before .before .before .before .before .args .image .now) (c .before .before .before .before .before .before .before .before .before .before .before .before .before .before .before .before .before .before .before .before .take-in .last .1 .0) (c .before .before .before .before .before .before .before .before .before .before .before .before .before .before .before .before .before .before .before .before .take-in .last .1 .1 .0) (c .before .before .before .before .before .before .before .before .before .before .before .before .before .before .before .before .before .before .before .before .take-in .result) (c .before .before .before .before .before .before .before .before .before .before .before .before .before .before .before .before .before .before .before .before .take-in .ensures) (c .before .before .before .before .before .before .before .before .before .before .before .before .before .before .before .before .before .before .taken .given .0 .0) (search needs) (replicate 256 0) (c .before .before .before .before .before .before .before .before .before .before .before .before .order-of .last .1 .1 .1 .0) (c .before .before .before .before .before .before .before .before .before .before .before .before .order-of .result) (c .before .before .before .before .before .before .before .before .before .before .before .before .order-of .ensures) (c .before .before .before .before .before .before .before .before .before .before .enum-told .given .1) (length-replicate {A = ℕ} 256 0) (c .before .before .before .before .before .before .before .before .before .before .before .before .before .before .before .before .before .before .before .before .before .before .before .before .before .args .output .now) (c .before .before .before .before .before .before .before .before .before .before .before .before .before .before .before .before .if1 .left), c .before .before .before .before .before .before .before .before .before .before .before .before .before .before .before .before .before .before .before .before .before .before .before .before .before .pre .1)
+link-in-order-requires : tie.Need-link-in-order-requires
+link-in-order-requires c κs = (by-asks (c .before .before .before .before .before .before .before .before .before .before .before .before .before .before .before .before .before .before .before .before .before .before .before .before .before .args .image .now) (c .before .before .before .before .before .before .before .before .before .before .before .before .before .before .before .before .before .before .before .before .take-in .last .1 .0) (c .before .before .before .before .before .before .before .before .before .before .before .before .before .before .before .before .before .before .before .before .take-in .last .1 .1 .0) (c .before .before .before .before .before .before .before .before .before .before .before .before .before .before .before .before .before .before .before .before .take-in .result) (c .before .before .before .before .before .before .before .before .before .before .before .before .before .before .before .before .before .before .before .before .take-in .ensures) (c .before .before .before .before .before .before .before .before .before .before .before .before .before .before .before .before .before .before .taken .given .0 .0) (search needs) (replicate 256 0) (c .before .before .before .before .before .before .before .before .before .before .before .before .order-of .last .1 .1 .1 .0) (c .before .before .before .before .before .before .before .before .before .before .before .before .order-of .result) (c .before .before .before .before .before .before .before .before .before .before .before .before .order-of .ensures) (c .before .before .before .before .before .before .before .before .before .before .enum-told .given .1) (length-replicate {A = ℕ} 256 0) (c .before .before .before .before .before .before .before .before .before .before .before .before .before .before .before .before .before .before .before .before .before .before .before .before .before .args .output .now) (c .before .before .before .before .before .before .before .before .before .before .before .before .before .before .before .before .if1 .left), c .before .before .before .before .before .before .before .before .before .before .before .before .before .before .before .before .before .before .before .before .before .before .before .before .before .pre .1)
 
 same-length : tie.Need-same-length
 same-length c = search needs
 
 returns-2 : tie.Need-returns-2
-returns-2 c = by-tells (c .before .before .before .before .before .before .before .before .before .before .before .before .before .before .before .before .before .before .before .before .before .before .before .before .before .before .before .before .args .image .now) (c .before .before .before .before .before .before .before .before .before .before .before .before .before .before .before .before .before .before .before .before .before .before .before .take-in .last .1 .0) (c .before .before .before .before .before .before .before .before .before .before .before .before .before .before .before .before .before .before .before .before .before .before .before .take-in .last .1 .1 .0) (c .before .before .before .before .before .before .before .before .before .before .before .before .before .before .before .before .before .before .before .before .before .before .before .take-in .result) (c .before .before .before .before .before .before .before .before .before .before .before .before .before .before .before .before .before .before .before .before .before .before .before .take-in .ensures) (c .before .before .before .before .before .before .before .before .before .before .before .before .before .before .before .before .before .before .before .before .before .taken .given .0 .0) (search needs) (replicate 256 0) (c .before .before .before .before .before .before .before .before .before .before .before .before .before .before .before .order-of .last .1 .1 .1 .0) (c .before .before .before .before .before .before .before .before .before .before .before .before .before .before .before .order-of .result) (c .before .before .before .before .before .before .before .before .before .before .before .before .before .before .before .order-of .ensures) (c .before .before .before .before .before .before .before .before .before .before .before .before .before .enum-told .given .1) (c .before .before .before .before .before .before .before .before .before .before .before .before .before .before .before .before .before .before .before .before .before .before .before .before .before .before .before .before .args .output .now) (c .before .before .before .before .before .before .before .before .before .before .before .before .before .before .before .before .before .before .before .if1 .left) (c .before .before .link-by .result) (c .before .before .link-by .last .1 .1 .1 .1 .0) (c .before .before .link-by .ensures)
+returns-2 c = by-tells (c .before .before .before .before .before .before .before .before .before .before .before .before .before .before .before .before .before .before .before .before .before .before .before .before .before .before .before .before .args .image .now) (c .before .before .before .before .before .before .before .before .before .before .before .before .before .before .before .before .before .before .before .before .before .before .before .take-in .last .1 .0) (c .before .before .before .before .before .before .before .before .before .before .before .before .before .before .before .before .before .before .before .before .before .before .before .take-in .last .1 .1 .0) (c .before .before .before .before .before .before .before .before .before .before .before .before .before .before .before .before .before .before .before .before .before .before .before .take-in .result) (c .before .before .before .before .before .before .before .before .before .before .before .before .before .before .before .before .before .before .before .before .before .before .before .take-in .ensures) (c .before .before .before .before .before .before .before .before .before .before .before .before .before .before .before .before .before .before .before .before .before .taken .given .0 .0) (search needs) (replicate 256 0) (c .before .before .before .before .before .before .before .before .before .before .before .before .before .before .before .order-of .last .1 .1 .1 .0) (c .before .before .before .before .before .before .before .before .before .before .before .before .before .before .before .order-of .result) (c .before .before .before .before .before .before .before .before .before .before .before .before .before .before .before .order-of .ensures) (c .before .before .before .before .before .before .before .before .before .before .before .before .before .enum-told .given .1) (c .before .before .before .before .before .before .before .before .before .before .before .before .before .before .before .before .before .before .before .before .before .before .before .before .before .before .before .before .args .output .now) (c .before .before .before .before .before .before .before .before .before .before .before .before .before .before .before .before .before .before .before .if1 .left) (c .before .before .link-in-order .result) (c .before .before .link-in-order .last .1 .1 .1 .1 .0) (c .before .before .link-in-order .ensures)
 
 enum-known-found : tie.Need-enum-known-found
 enum-known-found c = search needs
 
-cast-result-2 : tie.Need-cast-result-2
-cast-result-2 c = search needs
-
-cast-result-3 : tie.Need-cast-result-3
-cast-result-3 c = search needs
-
-mul-result : tie.Need-mul-result
-mul-result c = search needs
-
-add-result : tie.Need-add-result
-add-result c = search needs
+pack-requires : tie.Need-pack-requires
+pack-requires c κs = search needs
 
 returns-3 : tie.Need-returns-3
-returns-3 c = ring-tells (c .before .before .before .before .before .before .before .before .before .before .before .before .before .before .before .before .args .image .now) (c .before .before .before .before .before .before .before .before .before .before .before .take-in .last .1 .0) (c .before .before .before .before .before .before .before .before .before .before .before .take-in .last .1 .1 .0) (c .before .before .before .before .before .before .before .before .before .before .before .take-in .result) (c .before .before .before .before .before .before .before .before .before .before .before .take-in .ensures) (c .before .before .before .before .before .before .before .before .before .taken .given .0 .0) (search needs) (replicate 256 0) (c .before .before .before .order-of .last .1 .1 .1 .0) (c .before .before .before .order-of .result) (c .before .before .before .order-of .ensures) (c .before .found .given .0 .0) (search needs) (c .before .before .before .before .before .before .before .before .before .before .before .before .before .before .before .before .args .output .now) (c .before .before .before .before .before .before .before .if1 .left)
+returns-3 c = ring-tells (c .before .before .before .before .before .before .before .before .before .before .before .before .before .before .before .before .before .args .image .now) (c .before .before .before .before .before .before .before .before .before .before .before .before .take-in .last .1 .0) (c .before .before .before .before .before .before .before .before .before .before .before .before .take-in .last .1 .1 .0) (c .before .before .before .before .before .before .before .before .before .before .before .before .take-in .result) (c .before .before .before .before .before .before .before .before .before .before .before .before .take-in .ensures) (c .before .before .before .before .before .before .before .before .before .before .taken .given .0 .0) (search needs) (replicate 256 0) (c .before .before .before .before .order-of .last .1 .1 .1 .0) (c .before .before .before .before .order-of .result) (c .before .before .before .before .order-of .ensures) (c .before .before .found .given .0 .0) (search needs) (c .before .before .before .before .before .before .before .before .before .before .before .before .before .before .before .before .before .args .output .now) (c .before .before .before .before .before .before .before .before .if1 .left) (c .pack .result) (c .pack .ensures)
 
 number-requires : tie.Need-number-requires
 number-requires c κs = search needs
 
-cast-result-4 : tie.Need-cast-result-4
-cast-result-4 c = search needs
+cast-result-2 : tie.Need-cast-result-2
+cast-result-2 c = search needs
 
 returns-4 : tie.Need-returns-4
 returns-4 c = search (intake-refuses, needs)
@@ -70,15 +60,12 @@ link-in-spec =
     returns
     order-of-requires
     enum-told
-    link-by-requires
+    link-in-order-requires
     same-length
     returns-2
     enum-known-found
-    cast-result-2
-    cast-result-3
-    mul-result
-    add-result
+    pack-requires
     returns-3
     number-requires
-    cast-result-4
+    cast-result-2
     returns-4)

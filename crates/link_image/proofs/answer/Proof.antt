@@ -1,4 +1,4 @@
--- `link_image::answer` meets its contract: the linked image is within the buffer. Assumes nothing.
+-- `link_image::answer` meets its contract: the linked image is within the buffer.
 use mathlib.Core.Path.{sym}
 use lib.Seq.{length-take-le}
 use borrow.Author.Needs.{needs}

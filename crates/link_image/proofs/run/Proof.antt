@@ -1,4 +1,4 @@
--- `link_image::run` meets its contract: the bytes read are within the buffer. Assumes nothing.
+-- `link_image::run` meets its contract: the bytes read are within the buffer.
 use mathlib.Core.Path.{sym}
 use lib.Seq.{length-take-le}
 use borrow.Author.Needs.{needs}

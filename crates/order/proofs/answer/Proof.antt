@@ -1,4 +1,4 @@
--- `order::answer` meets its contract: the text is within the buffer. Assumes nothing.
+-- `order::answer` meets its contract: the text is within the buffer.
 use mathlib.Core.Path.{sym}
 use lib.Seq.{length-take-le}
 use borrow.Author.Needs.{needs}

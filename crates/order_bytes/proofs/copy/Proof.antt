@@ -1,4 +1,3 @@
--- `order_bytes::copy` meets its contract. Assumes nothing.
 use Prim.Native.Nat.{_-_}
 use Rattle.order_bytes.proofs.Copying.{Copying, copy-begin, copy-full, copy-next, copy-done}
 use borrow.Author.Needs.{needs}

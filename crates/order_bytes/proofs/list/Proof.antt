@@ -1,4 +1,4 @@
--- `order_bytes::list` meets its contract. Assumes nothing.
+-- The order, listed: a full order is copied and counted, a ring is answered with its count.
 use Rattle.order_bytes.proofs.Images.{count-few, list-long, listed-all, listed-ring}
 use lib.ListN.{replicate, length-replicate}
 use Prim.Native.Nat.{ℕ}
@@ -18,29 +18,23 @@ count-requires c κs = search needs
 copy-requires : tie.Need-copy-requires
 copy-requires c κs = (list-long (c .before .before .before .before .before .before .before .before .args .words .now) (c .before .before .before .before .before .before .before .before .args .tags .now) (c .before .before .before .before .before .before .before .before .args .n) (c .before .before .before .before .before .before .before .before .pre .0) (replicate 256 0) (c .before .before .before .before .before .order-of .last .1 .1 .1 .0) (c .before .before .before .before .before .order-of .result) (c .before .before .before .before .before .order-of .ensures) (c .before .before .before .enum-told .given .1) (length-replicate {A = ℕ} 256 0), count-few (c .before .before .before .before .before .before .before .before .args .words .now) (c .before .before .before .before .before .before .before .before .args .tags .now) (c .before .before .before .before .before .before .before .before .args .n) (c .before .before .before .before .before .before .before .before .pre .0) (c .before .before .count .result) (c .before .before .count .ensures .0))
 
-mul-result : tie.Need-mul-result
-mul-result c = search needs
+cast-pack : tie.Need-cast-pack
+cast-pack c = search needs
+
+pack-requires : tie.Need-pack-requires
+pack-requires c κs = search needs
 
 enum-known-answer : tie.Need-enum-known-answer
 enum-known-answer c = search needs
 
-cast-result : tie.Need-cast-result
-cast-result c = search needs
-
-cast-result-2 : tie.Need-cast-result-2
-cast-result-2 c = search needs
-
-mul-result-2 : tie.Need-mul-result-2
-mul-result-2 c = search needs
-
-add-result : tie.Need-add-result
-add-result c = search needs
+pack-requires-2 : tie.Need-pack-requires-2
+pack-requires-2 c κs = search needs
 
 same-length : tie.Need-same-length
 same-length c = search needs
 
 returns : tie.Need-returns
-returns c = listed-all (c .before .before .before .before .before .before .before .before .before .before .before .args .words .now) (c .before .before .before .before .before .before .before .before .before .before .before .args .tags .now) (c .before .before .before .before .before .before .before .before .before .before .before .args .n) (c .before .before .before .before .before .before .before .before .before .before .before .pre .0) (replicate 256 0) (c .before .before .before .before .before .before .before .before .order-of .last .1 .1 .1 .0) (c .before .before .before .before .before .before .before .before .order-of .result) (c .before .before .before .before .before .before .before .before .order-of .ensures) (c .before .before .before .before .before .before .enum-told .given .1) (c .before .before .before .before .before .count .result) (c .before .before .before .before .before .count .ensures .0) (c .before .before .before .before .before .before .before .before .before .before .before .args .out .now) (c .before .before .copy .last .1 .1 .0) (c .before .before .copy .ensures)
+returns c = listed-all (c .before .before .before .before .before .before .before .before .before .before .before .before .args .words .now) (c .before .before .before .before .before .before .before .before .before .before .before .before .args .tags .now) (c .before .before .before .before .before .before .before .before .before .before .before .before .args .n) (c .before .before .before .before .before .before .before .before .before .before .before .before .pre .0) (replicate 256 0) (c .before .before .before .before .before .before .before .before .before .order-of .last .1 .1 .1 .0) (c .before .before .before .before .before .before .before .before .before .order-of .result) (c .before .before .before .before .before .before .before .before .before .order-of .ensures) (c .before .before .before .before .before .before .before .enum-told .given .1) (c .before .before .before .before .before .before .count .result) (c .before .before .before .before .before .before .count .ensures .0) (c .before .before .before .before .before .before .before .before .before .before .before .before .args .out .now) (c .before .before .before .copy .last .1 .1 .0) (c .before .before .before .copy .ensures) (c .pack .result) (c .pack .ensures)
 
 returns-2 : tie.Need-returns-2
 returns-2 c = search (listed-ring, needs)
@@ -53,12 +47,10 @@ list-spec =
     enum-told
     count-requires
     copy-requires
-    mul-result
+    cast-pack
+    pack-requires
     enum-known-answer
-    cast-result
-    cast-result-2
-    mul-result-2
-    add-result
+    pack-requires-2
     same-length
     returns
     returns-2)

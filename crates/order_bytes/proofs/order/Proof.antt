@@ -1,4 +1,3 @@
--- `order_bytes::order` meets its contract. Assumes nothing.
 use Rattle.order_bytes.proofs.Images.{intake-refuses, list-asks, list-tells}
 use borrow.Author.Needs.{needs}
 use Rattle.order_bytes.proofs.order.Statement.{statement}

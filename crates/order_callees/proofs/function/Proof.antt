@@ -1,4 +1,4 @@
--- `order_callees::function` meets its contract: the record's places are those between which it scans. Assumes nothing.
+-- `order_callees::function` meets its contract: the record's places are those between which it scans.
 use borrow.Author.Needs.{needs}
 use Rattle.order_callees.proofs.Whole.{asks, calls-these}
 use Rattle.order_callees.proofs.function.Statement.{statement}
@@ -10,11 +10,11 @@ start-of-requires c κs = search needs
 end-of-requires : tie.Need-end-of-requires
 end-of-requires c κs = search needs
 
-scan-requires : tie.Need-scan-requires
-scan-requires c κs = asks (c .before .before .before .pre .0) (c .before .before .before .pre .1 .0) (c .before .before .before .pre .1 .1) (c .before .before .start-of .ensures .0) (c .before .end-of .ensures .0)
+mark-callees-requires : tie.Need-mark-callees-requires
+mark-callees-requires c κs = asks (c .before .before .before .pre .0) (c .before .before .before .pre .1 .0) (c .before .before .before .pre .1 .1) (c .before .before .start-of .ensures .0) (c .before .end-of .ensures .0)
 
 returns : tie.Need-returns
-returns c = calls-these _ _ (c .before .before .before .start-of .ensures .0) (c .before .before .end-of .ensures .0) (c .scan .ensures)
+returns c = calls-these _ _ (c .before .before .before .start-of .ensures .0) (c .before .before .end-of .ensures .0) (c .mark-callees .ensures)
 
 pub function-spec : {M : Type 1} → statement M
-function-spec = tie.close (tie.spec start-of-requires end-of-requires scan-requires returns)
+function-spec = tie.close (tie.spec start-of-requires end-of-requires mark-callees-requires returns)

@@ -1,4 +1,4 @@
--- `order_lines::byte` meets its contract: byte k is byte k % 4 of word k / 4. Assumes nothing.
+-- `order_lines::byte` meets its contract: byte k is byte k % 4 of word k / 4.
 use native.Mathlib.Nat.{mod-lt, zero-lt-suc}
 use native.Mathlib.Omega.{arith}
 use Prim.Native.Nat.{ℕ, _%_, _<_}

@@ -1,4 +1,3 @@
--- `order_lines::head` meets its contract. Assumes nothing.
 use mathlib.Core.Path.{_∙_}
 use native.Mathlib.Omega.{arith}
 use Rattle.order_lines.proofs.Bytes.{puts-long}

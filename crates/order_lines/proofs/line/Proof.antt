@@ -1,4 +1,4 @@
--- `order_lines::line` meets its contract: its pieces are put one behind the other. Assumes nothing.
+-- `order_lines::line` meets its contract: its pieces are put one after the other.
 use Rattle.order_lines.proofs.Joining.{numbers-fit, name-room, last-fits, last-long, line-end}
 use borrow.Author.Needs.{needs}
 use Rattle.order_lines.proofs.line.Statement.{statement}

@@ -1,4 +1,3 @@
--- `order_lines::lines` meets its contract. Assumes nothing.
 use borrow.Author.Needs.{needs}
 use native.Mathlib.Omega.{arith}
 use Rattle.order_lines.proofs.Joining.{Going, lines-begin, line-asks, lines-again, lines-end}

@@ -1,4 +1,4 @@
--- `order_lines::name_of` meets its contract: the first word of a function is its name. Assumes nothing.
+-- `order_lines::name_of` meets its contract: the first word of a function is its name.
 use Rattle.order_lines.proofs.Joining.{word-some, slot-is, place-is}
 use native.Mathlib.Omega.{arith}
 use borrow.Author.Needs.{needs}

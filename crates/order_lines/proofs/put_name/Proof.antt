@@ -1,4 +1,4 @@
--- `order_lines::put_name` meets its contract. The invariant: what is left of the text, put too, is the whole. Assumes nothing.
+-- `order_lines::put_name` meets its contract. The invariant: what is left of the text, put too, is the whole.
 use native.Mathlib.Omega.{arith}
 use Prim.Native.Nat.{_-_}
 use borrow.Author.Needs.{needs}

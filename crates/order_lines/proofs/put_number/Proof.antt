@@ -1,4 +1,4 @@
--- `order_lines::put_number` meets its contract: one, two or three digits. Assumes nothing.
+-- `order_lines::put_number` meets its contract: one, two or three digits.
 use borrow.Author.Needs.{needs}
 use Rattle.order_lines.proofs.Bytes.{puts-one, puts-two, puts-three}
 use Rattle.order_lines.proofs.put_number.Statement.{statement}

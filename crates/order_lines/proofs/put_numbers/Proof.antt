@@ -1,4 +1,4 @@
--- `order_lines::put_numbers` meets its contract: four pieces, one behind the other. Assumes nothing.
+-- `order_lines::put_numbers` meets its contract: four pieces, one after the other.
 use mathlib.Core.Path.{_∙_}
 use native.Mathlib.Omega.{arith}
 use Rattle.order_lines.proofs.Bytes.{puts-long}

@@ -1,4 +1,4 @@
--- `order_lines::text` meets its contract: the first line, and the lines. Assumes nothing.
+-- `order_lines::text` meets its contract: the first line, and the lines.
 use Rattle.order_lines.proofs.Joining.{text-lines, text-end}
 use borrow.Author.Needs.{needs}
 use Rattle.order_lines.proofs.text.Statement.{statement}

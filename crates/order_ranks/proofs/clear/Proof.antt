@@ -1,4 +1,4 @@
--- `order_ranks::clear` meets its contract: words of 0 hold no mark. Assumes nothing.
+-- `order_ranks::clear` meets its contract: words of 0 hold no mark.
 use Rattle.order_ranks.proofs.Marks.{zeros-call-none}
 use Rattle.order_ranks.proofs.clear.Statement.{statement}
 use Rattle.order_ranks.proofs.clear.Tie as tie

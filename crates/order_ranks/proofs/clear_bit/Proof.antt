@@ -1,4 +1,4 @@
--- `order_ranks::clear_bit` meets its contract: a power of two has one bit. Assumes nothing.
+-- `order_ranks::clear_bit` meets its contract: a power of two has one bit.
 use Rattle.order_ranks.proofs.Bits.{xor-clears}
 use borrow.Author.Needs.{needs}
 use Rattle.order_ranks.proofs.clear_bit.Statement.{statement}

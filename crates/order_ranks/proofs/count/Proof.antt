@@ -1,4 +1,4 @@
--- `order_ranks::count` meets its contract: the four words' counts make the set's, and each is 64 at most. Assumes nothing.
+-- `order_ranks::count` meets its contract: the four words' counts make the set's, and each is 64 at most.
 use native.Mathlib.Omega.{arith}
 use Prim.Native.Nat.{_≤_}
 use mathlib.Core.List.{List}

@@ -1,4 +1,4 @@
--- `order_ranks::first` meets its contract. The invariant: the set has the marks below i. Assumes nothing.
+-- `order_ranks::first` meets its contract. The invariant: the set has the marks below i.
 use Prim.Native.Nat.{_-_}
 use borrow.Author.Needs.{needs}
 use Rattle.order_ranks.proofs.Begun.{Begun, begin, next, finish}

@@ -1,4 +1,4 @@
--- `order_ranks::has` meets its contract, which says the same. Assumes nothing.
+-- `order_ranks::has` meets its contract, which says the same.
 use mathlib.Core.Path.{refl}
 use Rattle.order_ranks.specs.Marks.{bit, holds}
 use borrow.Author.Needs.{needs}

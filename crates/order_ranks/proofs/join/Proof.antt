@@ -1,4 +1,4 @@
--- `order_ranks::join` meets its contract: one bit more in one word. Assumes nothing.
+-- `order_ranks::join` meets its contract: one bit more in one word.
 use Rattle.order_ranks.proofs.Marks.{puts}
 use mathlib.Core.Bool.{true}
 use borrow.Author.Needs.{needs}

@@ -1,4 +1,4 @@
--- `order_ranks::leave` meets its contract: one bit less in one word. Assumes nothing.
+-- `order_ranks::leave` meets its contract: one bit less in one word.
 use mathlib.Core.Bool.{false}
 use Rattle.order_ranks.specs.Marks.{holds}
 use Rattle.order_ranks.proofs.Marks.{puts, low-bit}

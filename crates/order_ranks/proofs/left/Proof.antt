@@ -1,4 +1,4 @@
--- `order_ranks::left` meets its contract. The invariant: the rounds of those that wait leave what is left of the whole. Assumes nothing.
+-- `order_ranks::left` meets its contract. The invariant: the rounds of those that wait leave what is left of the whole.
 use lib.ListN.{length}
 use Rattle.order_ranks.specs.Marks.{members}
 use Rattle.order_ranks.proofs.Leaving.{Leaving, begin, asks, again, less, finish}

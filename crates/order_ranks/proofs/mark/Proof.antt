@@ -1,4 +1,4 @@
--- `order_ranks::mark` meets its contract: one bit more in one word. Assumes nothing.
+-- `order_ranks::mark` meets its contract: one bit more in one word.
 use Rattle.order_ranks.proofs.Marks.{calls-too}
 use borrow.Author.Needs.{needs}
 use Rattle.order_ranks.proofs.mark.Statement.{statement}

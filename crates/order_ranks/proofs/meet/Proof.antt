@@ -1,4 +1,4 @@
--- `order_ranks::meet` meets its contract: a bit in common is a bit of `&`. Assumes nothing.
+-- `order_ranks::meet` meets its contract: a bit in common is a bit of `&`.
 use borrow.Author.Needs.{needs}
 use Rattle.order_ranks.proofs.Bits.{meet-is}
 use Rattle.order_ranks.proofs.meet.Statement.{statement}

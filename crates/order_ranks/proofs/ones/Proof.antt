@@ -1,4 +1,4 @@
--- `order_ranks::ones` meets its contract: the count of ones is the count of the bits that are set. Assumes nothing.
+-- `order_ranks::ones` meets its contract: the count of ones is the count of the bits that are set.
 use borrow.Author.Needs.{needs}
 use Rattle.order_ranks.proofs.Bits.{ones-are}
 use Rattle.order_ranks.proofs.ones.Statement.{statement}

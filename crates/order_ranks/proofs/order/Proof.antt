@@ -1,4 +1,4 @@
--- `order_ranks::order` meets its contract. The invariant: what the rounds of those that wait will write and leave is the whole. Assumes nothing.
+-- `order_ranks::order` meets its contract. The invariant: what the rounds of those that wait will write and leave is the whole.
 use Prim.Native.Nat.{_-_}
 use native.Mathlib.Omega.{arith}
 use borrow.Author.Needs.{needs}

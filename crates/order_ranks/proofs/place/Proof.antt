@@ -1,4 +1,4 @@
--- `order_ranks::place` meets its contract. The invariant: what is to be written from mark i on completes the round. Assumes nothing.
+-- `order_ranks::place` meets its contract. The invariant: what is to be written from mark i on completes the round.
 use mathlib.Core.Path.{sym, _∙_}
 use Prim.Native.Nat.{_-_}
 use native.Mathlib.Omega.{arith}

@@ -1,4 +1,4 @@
--- `order_ranks::set_bit` meets its contract: a power of two has one bit. Assumes nothing.
+-- `order_ranks::set_bit` meets its contract: a power of two has one bit.
 use Rattle.order_ranks.proofs.Bits.{or-sets}
 use borrow.Author.Needs.{needs}
 use Rattle.order_ranks.proofs.set_bit.Statement.{statement}

@@ -1,4 +1,4 @@
--- `order_ranks::waits` meets its contract. The invariant: no word passed has a bit in common. Assumes nothing.
+-- `order_ranks::waits` meets its contract. The invariant: no word passed has a bit in common.
 use mathlib.Core.Path.{_≡_, sym, _∙_}
 use mathlib.Core.Bool.{false}
 use Prim.Native.Nat.{ℕ, _+_, _-_, _≤_, _<_}

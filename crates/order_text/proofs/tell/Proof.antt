@@ -1,4 +1,4 @@
--- `order_text::tell` meets its contract: there is room for every order and for every ring. Assumes nothing.
+-- `order_text::tell` meets its contract: there is room for every order and for every ring.
 use lib.ListN.{length-replicate}
 use Prim.Native.Nat.{ℕ}
 use native.Mathlib.Omega.{arith}

@@ -1,4 +1,4 @@
--- `order_text::tell_of` meets its contract: what intake accepts has passed tests 3 and 5. Assumes nothing.
+-- `order_text::tell_of` meets its contract: what intake accepts has passed tests 3 and 5.
 use native.Mathlib.Omega.{arith}
 use Rattle.order_text.proofs.Orders.{held-tape, held-passed, accepted-says, refused-few, refused-says}
 use borrow.Author.Needs.{needs}

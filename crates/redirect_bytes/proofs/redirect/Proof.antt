@@ -1,5 +1,5 @@
--- `redirect_bytes::redirect` meets its contract. Assumes nothing.
-use Rattle.redirect_bytes.proofs.Images.{pack-asks, packs}
+-- The answer of redirect_function, as one number.
+use Rattle.redirect_bytes.proofs.Images.{number-asks, packs}
 use borrow.Author.Needs.{needs}
 use Rattle.redirect_bytes.proofs.redirect.Statement.{statement}
 use Rattle.redirect_bytes.proofs.redirect.Tie as tie
@@ -7,8 +7,8 @@ use Rattle.redirect_bytes.proofs.redirect.Tie as tie
 redirect-function-requires : tie.Need-redirect-function-requires
 redirect-function-requires c κs = search needs
 
-pack-requires : tie.Need-pack-requires
-pack-requires c κs = search (pack-asks, needs)
+number-requires : tie.Need-number-requires
+number-requires c κs = search (number-asks, needs)
 
 same-length : tie.Need-same-length
 same-length c = search needs
@@ -17,4 +17,4 @@ returns : tie.Need-returns
 returns c = search (packs, needs)
 
 pub redirect-spec : {M : Type 1} → statement M
-redirect-spec = tie.close (tie.spec redirect-function-requires pack-requires same-length returns)
+redirect-spec = tie.close (tie.spec redirect-function-requires number-requires same-length returns)

@@ -1,4 +1,3 @@
--- `redirect_bytes::redirect_function` meets its contract. Assumes nothing.
 use Rattle.redirect_bytes.proofs.Images.{intake-refuses, loaded-asks, loaded-tells}
 use borrow.Author.Needs.{needs}
 use Rattle.redirect_bytes.proofs.redirect_function.Statement.{statement}

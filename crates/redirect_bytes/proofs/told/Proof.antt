@@ -1,4 +1,3 @@
--- `redirect_bytes::told` meets its contract. Assumes nothing.
 use Rattle.redirect_bytes.proofs.Images.{told-done, told-outside, told-no-original, told-no-replacement, told-arguments, told-results}
 use borrow.Author.Needs.{needs}
 use Rattle.redirect_bytes.proofs.told.Statement.{statement}

@@ -1,4 +1,3 @@
--- `redirect_calls::is_named` meets its contract. Assumes nothing.
 use Rattle.redirect_calls.proofs.Leaves.{unnamed, is-name}
 use borrow.Author.Needs.{needs}
 use Rattle.redirect_calls.proofs.is_named.Statement.{statement}

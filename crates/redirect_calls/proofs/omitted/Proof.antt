@@ -1,4 +1,3 @@
--- `redirect_calls::omitted` meets its contract. Assumes nothing.
 use Prim.Native.Nat.{_-_}
 use lib.ListN.{length}
 use Rattle.redirect_calls.proofs.Leaves.{Omits, omits-begin, omits-yes, omits-next, omits-done}

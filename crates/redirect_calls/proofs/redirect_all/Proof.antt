@@ -1,4 +1,3 @@
--- `redirect_calls::redirect_all` meets its contract. Assumes nothing.
 use Rattle.redirect_calls.proofs.Turning.{all-turns, all-asks}
 use borrow.Author.Needs.{needs}
 use Rattle.redirect_calls.proofs.redirect_all.Statement.{statement}

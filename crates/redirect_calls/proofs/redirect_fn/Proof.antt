@@ -1,4 +1,3 @@
--- `redirect_calls::redirect_fn` meets its contract. Assumes nothing.
 use Prim.Native.Nat.{_-_}
 use Rattle.model.specs.Redirect.{redirecting}
 use Rattle.redirect_calls.proofs.Pass.{Left, begin, finish, next}

@@ -1,4 +1,3 @@
--- `redirect_calls::redirect_functions` meets its contract. Assumes nothing.
 use Prim.Native.Nat.{_-_}
 use Rattle.redirect_calls.proofs.Turning.{Turning, turning-begin, turning-asks, turning-next, turning-done}
 use borrow.Author.Needs.{needs}

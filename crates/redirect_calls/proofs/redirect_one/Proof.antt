@@ -1,4 +1,3 @@
--- `redirect_calls::redirect_one` meets its contract. Assumes nothing.
 use borrow.Author.Tests.{not-true, not-false}
 use native.Mathlib.Omega.{arith}
 use Rattle.redirect_calls.proofs.Places.{start-in}

@@ -1,4 +1,3 @@
--- `redirect_calls::redirect_word` meets its contract. Assumes nothing.
 use Rattle.redirect_calls.proofs.Leaves.{callee-is, callee-other, result-is, result-other, other-class}
 use borrow.Author.Needs.{needs}
 use Rattle.redirect_calls.proofs.redirect_word.Statement.{statement}

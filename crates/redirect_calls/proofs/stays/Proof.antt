@@ -1,4 +1,3 @@
--- `redirect_calls::stays` meets its contract. Assumes nothing.
 use Rattle.redirect_calls.proofs.Leaves.{stays-here, stays-omitted}
 use borrow.Author.Needs.{needs}
 use Rattle.redirect_calls.proofs.stays.Statement.{statement}

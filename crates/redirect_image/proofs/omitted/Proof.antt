@@ -1,4 +1,3 @@
--- `redirect_image::omitted` meets its contract. Assumes nothing.
 use mathlib.Core.Path.{_≡_}
 use lib.ListN.{length}
 use Prim.Native.Nat.{_-_, _≤_}

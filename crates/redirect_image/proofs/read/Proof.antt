@@ -1,4 +1,3 @@
--- `redirect_image::read` meets its contract. Assumes nothing.
 use Rattle.redirect_image.proofs.Numbers.{Reading, read-nothing, read-begin, read-next, read-done}
 use Prim.Native.Nat.{_-_}
 use lib.ListN.{length}

@@ -1,4 +1,3 @@
--- `redirect_image::step` meets its contract. Assumes nothing.
 use Rattle.redirect_image.proofs.Numbers.{too-low, too-high, too-large, next-is}
 use borrow.Author.Needs.{needs}
 use Rattle.redirect_image.proofs.step.Statement.{statement}

@@ -1,4 +1,3 @@
--- `redirect_words::all_below` meets its contract. Assumes nothing.
 use Prim.Native.Nat.{_-_}
 use lib.ListN.{length}
 use Rattle.redirect_words.proofs.Lists.{Below, below-begin, below-not, below-next, below-done}

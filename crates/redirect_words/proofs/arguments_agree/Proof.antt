@@ -1,4 +1,3 @@
--- `redirect_words::arguments_agree` meets its contract. Assumes nothing.
 use Prim.Native.Nat.{_-_}
 use Rattle.redirect_words.proofs.Finding.{Agreeing, agree-begin, lists-in, agree-short, in-a, in-b, agree-not, agree-next, agree-done}
 use borrow.Author.Needs.{needs}

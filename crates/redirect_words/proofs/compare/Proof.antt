@@ -1,4 +1,3 @@
--- `redirect_words::compare` meets its contract. Assumes nothing.
 use borrow.Author.Tests.{not-true, not-false}
 use mathlib.Core.Path.{refl}
 use Rattle.redirect_words.proofs.Finding.{differ-arguments, differ-results, differ-none}

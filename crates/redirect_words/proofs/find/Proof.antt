@@ -1,4 +1,3 @@
--- `redirect_words::find` meets its contract. Assumes nothing.
 use Prim.Native.Nat.{_-_}
 use mathlib.Core.Path.{refl}
 use Rattle.redirect_words.proofs.Finding.{Seeking, seek-begin, seek-in, seek-small, seek-at, seek-fits, seek-here, seek-on, seek-none}

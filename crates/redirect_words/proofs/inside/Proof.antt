@@ -1,4 +1,3 @@
--- `redirect_words::inside` meets its contract. Assumes nothing.
 use Rattle.redirect_words.proofs.Lists.{inside-first, inside-second, inside-rest}
 use borrow.Author.Needs.{needs}
 use Rattle.redirect_words.proofs.inside.Statement.{statement}

@@ -1,4 +1,3 @@
--- `redirect_words::redirect_loaded` meets its contract. Assumes nothing.
 use Rattle.redirect_words.proofs.Ending.{not-done, is-done}
 use Rattle.redirect_words.proofs.Storing.{store-asks, stays-stored, turned-stored}
 use borrow.Author.Needs.{needs}

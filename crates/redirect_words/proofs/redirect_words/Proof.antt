@@ -1,4 +1,3 @@
--- `redirect_words::redirect_words` meets its contract. Assumes nothing.
 use Rattle.redirect_words.proofs.Ending.{not-done, words-stay, words-turn}
 use borrow.Author.Needs.{needs}
 use Rattle.redirect_words.proofs.redirect_words.Statement.{statement}

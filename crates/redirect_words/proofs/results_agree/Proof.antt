@@ -1,4 +1,3 @@
--- `redirect_words::results_agree` meets its contract. Assumes nothing.
 use Rattle.redirect_words.proofs.Finding.{differ-presence, both-none, type-a, type-b, types-decide}
 use borrow.Author.Needs.{needs}
 use Rattle.redirect_words.proofs.results_agree.Statement.{statement}

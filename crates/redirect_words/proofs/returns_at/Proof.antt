@@ -1,4 +1,3 @@
--- `redirect_words::returns_at` meets its contract. Assumes nothing.
 use Rattle.model.specs.FunctionView.{returnsAt}
 use mathlib.Core.Path.{ap, _∙_}
 use Rattle.redirect_words.proofs.Finding.{lists-in}

@@ -1,4 +1,3 @@
--- `redirect_words::test` meets its contract. Assumes nothing.
 use borrow.Author.Tests.{not-true, not-false}
 use Rattle.redirect_words.proofs.Testing.{names-told, found-in, test-outside, test-original, test-replacement, test-compared}
 use borrow.Author.Needs.{needs}

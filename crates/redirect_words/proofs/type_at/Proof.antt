@@ -1,4 +1,3 @@
--- `redirect_words::type_at` meets its contract. Assumes nothing.
 use lib.ListN.{getD}
 use Prim.Native.Nat.{_+_}
 use mathlib.Core.Path.{ap}

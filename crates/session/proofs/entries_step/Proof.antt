@@ -12,47 +12,36 @@ use Rattle.session_functions.proofs.finish_with_entries.Reads as finish-with-en
 use Rattle.session.proofs.least.Reads as least-reads
 use Rattle.base_words.proofs.wide.Reads as wide-reads
 
--- src/lib.rt:193:22
 wide-requires : tie.Need-wide-requires
 wide-requires c κs = search needs
 
--- src/lib.rt:193:9
 least-requires : tie.Need-least-requires
 least-requires c κs = search needs
 
--- src/lib.rt:194:27
 wide-requires-2 : tie.Need-wide-requires-2
 wide-requires-2 c κs = search needs
 
--- src/lib.rt:194:38
 sub-least : tie.Need-sub-least
 sub-least c = search needs
 
--- src/lib.rt:194:21
 least-requires-2 : tie.Need-least-requires-2
 least-requires-2 c κs = search needs
 
--- src/lib.rt:194:14
 add-to : tie.Need-add-to
 add-to c = search needs
 
--- src/lib.rt:210:9
 sub-finish-with-entries : tie.Need-sub-finish-with-entries
 sub-finish-with-entries c = search needs
 
--- src/lib.rt:210:9
 part-finish-with-entries-start : tie.Need-part-finish-with-entries-start
 part-finish-with-entries-start c = search needs
 
--- src/lib.rt:210:9
 part-finish-with-entries-end : tie.Need-part-finish-with-entries-end
 part-finish-with-entries-end c = search needs
 
--- src/lib.rt:195:9
 finish-with-entries-requires : tie.Need-finish-with-entries-requires
 finish-with-entries-requires c κs = let st = c .before .before .before .before .before .before .before .before .before .before .before .before in (st .pre .0, st .pre .1)
 
--- src/lib.rt:215:16
 cast-t34 : tie.Need-cast-t34
 cast-t34 c =
     let st = c .before .before .before .before .before .before .before .before .before .before .before .before .before .before .before .before .before in
@@ -67,11 +56,9 @@ cast-t34 c =
     let h = entries-small (x .a) (x .b) l (f .result) (d .result) (f .result + d .result - f .result) hf hd (omega arith) _ _ _ _ _ (e .0) in
     omega (arith, h, w)
 
--- src/lib.rt:169:1
 same-length : tie.Need-same-length
 same-length c = search needs
 
--- src/lib.rt:169:1
 returns : tie.Need-returns
 returns c =
     let st = c .before .before .before .before .before .before .before .before .before .before .before .before .before .before .before .before .before in

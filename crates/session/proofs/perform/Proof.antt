@@ -1,93 +1,79 @@
 use borrow.Author.Needs.{needs}
 use native.Mathlib.Omega.{arith}
-use Rattle.session_operations.specs.Live.{sessionOf}
+use Rattle.derive_session.specs.Valid.{sessionOf}
 use Rattle.session.proofs.Saying.{clear-stepped, clear-live, span-stepped, required-stepped, stacks-low, by-number, by-first}
 use Rattle.session.proofs.perform.Statement.{statement}
 use Rattle.session.proofs.perform.Tie as tie
 use Rattle.session.proofs.perform.Reads as reads
 use Rattle.session.proofs.perform.Lts as lts
 use Rattle.session_operations.proofs.map_span.Reads as map-span-reads
-use Rattle.session_operations.proofs.required.Reads as required-reads
+use Rattle.session_operations.proofs.has_required_special_types.Reads as has-required-special-types-reads
 use Rattle.session.proofs.entries_step.Reads as entries-step-reads
 use Rattle.session.proofs.plain_step.Reads as plain-step-reads
 use Rattle.session.proofs.record_step.Reads as record-step-reads
 use Rattle.session.proofs.set_step.Reads as set-step-reads
 use Rattle.session.proofs.value_of.Reads as value-of-reads
 
--- src/lib.rt:251:9
 set-step-requires : tie.Need-set-step-requires
 set-step-requires c κs = search needs
 
--- src/lib.rt:251:9
 returns : tie.Need-returns
 returns c =
     let st = c .before .before .before .before .before .before .before .before .before .before .before .before .before in
     let a = st .args in
     let e = c .set-step .ensures in
-    (by-number (a .o .a) (a .o .b) (a .o .c) (a .sources .now) (a .output .now) (sessionOf (a .set) (a .n) (a .offset) (a .words .now) (a .log .now) (a .classes .now) (a .starts .now) (a .maps .now) (a .special .now) (a .ends)) (c .before .before .before .before .before .before .before .before .before .if1 .taken) (e .0 .is (a .output .now)), (e .1, stacks-low (st .pre .1) (e .1 .lowest)))
+    (by-number (a .o .a) (a .o .b) (a .o .c) (a .sources .now) (a .output .now) (sessionOf (a .set) (a .n) (a .offset) (a .words .now) (a .log .now) (a .logtags .now) (a .starts .now) (a .maps .now) (a .special .now) (a .ends)) (c .before .before .before .before .before .before .before .before .before .if1 .taken) (e .0 .is (a .output .now)), (e .1, stacks-low (st .pre .1) (e .1 .lowest)))
 
--- src/lib.rt:270:9
 returns-2 : tie.Need-returns-2
 returns-2 c =
     let st = c .before .before .before .before .before .before in
     let a = st .args in
-    (by-number (a .o .a) (a .o .b) (a .o .c) (a .sources .now) (a .output .now) (sessionOf (a .set) (a .n) (a .offset) (a .words .now) (a .log .now) (a .classes .now) (a .starts .now) (a .maps .now) (a .special .now) (a .ends)) (c .if2 .taken) (clear-stepped (a .set) (a .n) (a .offset) (a .words .now) (a .log .now) (a .classes .now) (a .starts .now) (a .maps .now) (a .special .now) (a .ends) (a .o .a) (a .o .b) (a .o .c) (a .sources .now) (a .output .now)), (clear-live (a .set) (a .n) (a .offset) (a .words .now) (a .log .now) (a .classes .now) (a .starts .now) (a .maps .now) (a .special .now) (a .ends) (a .o .a) (a .o .b) (a .o .c) (a .sources .now) (a .output .now) (a .tags .now) (a .kinds .now) (a .marks .now) (st .pre .0), st .pre .1))
+    (by-number (a .o .a) (a .o .b) (a .o .c) (a .sources .now) (a .output .now) (sessionOf (a .set) (a .n) (a .offset) (a .words .now) (a .log .now) (a .logtags .now) (a .starts .now) (a .maps .now) (a .special .now) (a .ends)) (c .if2 .taken) (clear-stepped (a .set) (a .n) (a .offset) (a .words .now) (a .log .now) (a .logtags .now) (a .starts .now) (a .maps .now) (a .special .now) (a .ends) (a .o .a) (a .o .b) (a .o .c) (a .sources .now) (a .output .now)), (clear-live (a .set) (a .n) (a .offset) (a .words .now) (a .log .now) (a .logtags .now) (a .starts .now) (a .maps .now) (a .special .now) (a .ends) (a .o .a) (a .o .b) (a .o .c) (a .sources .now) (a .output .now) (a .tags .now) (a .targets .now) (a .buckets .now) (st .pre .0), st .pre .1))
 
--- src/lib.rt:281:13
 map-span-requires : tie.Need-map-span-requires
 map-span-requires c κs = search needs
 
--- src/lib.rt:282:9
 returns-3 : tie.Need-returns-3
 returns-3 c =
     let st = c .before .before .before .before .before .before .before .before .before in
     let a = st .args in
-    (by-number (a .o .a) (a .o .b) (a .o .c) (a .sources .now) (a .output .now) (sessionOf (a .set) (a .n) (a .offset) (a .words .now) (a .log .now) (a .classes .now) (a .starts .now) (a .maps .now) (a .special .now) (a .ends)) (c .before .if3 .taken) (span-stepped (a .set) (a .n) (a .offset) (a .words .now) (a .log .now) (a .classes .now) (a .starts .now) (a .maps .now) (a .special .now) (a .ends) (a .o .a) (a .o .b) (a .o .c) (a .sources .now) (a .output .now) _ _ _ (c .map-span .ensures)), (st .pre .0, st .pre .1))
+    (by-number (a .o .a) (a .o .b) (a .o .c) (a .sources .now) (a .output .now) (sessionOf (a .set) (a .n) (a .offset) (a .words .now) (a .log .now) (a .logtags .now) (a .starts .now) (a .maps .now) (a .special .now) (a .ends)) (c .before .if3 .taken) (span-stepped (a .set) (a .n) (a .offset) (a .words .now) (a .log .now) (a .logtags .now) (a .starts .now) (a .maps .now) (a .special .now) (a .ends) (a .o .a) (a .o .b) (a .o .c) (a .sources .now) (a .output .now) _ _ _ (c .map-span .ensures)), (st .pre .0, st .pre .1))
 
--- src/lib.rt:293:13
-required-requires : tie.Need-required-requires
-required-requires c κs = search needs
+has-required-special-types-requires : tie.Need-has-required-special-types-requires
+has-required-special-types-requires c κs = search needs
 
--- src/lib.rt:294:9
 returns-4 : tie.Need-returns-4
 returns-4 c =
     let st = c .before .before .before .before .before .before .before .before .before .before .before .before in
     let a = st .args in
-    (by-number (a .o .a) (a .o .b) (a .o .c) (a .sources .now) (a .output .now) (sessionOf (a .set) (a .n) (a .offset) (a .words .now) (a .log .now) (a .classes .now) (a .starts .now) (a .maps .now) (a .special .now) (a .ends)) (c .before .before .if4 .taken) (required-stepped (a .set) (a .n) (a .offset) (a .words .now) (a .log .now) (a .classes .now) (a .starts .now) (a .maps .now) (a .special .now) (a .ends) (a .o .a) (a .o .b) (a .o .c) (a .sources .now) (a .output .now) _ (c .required .ensures)), (st .pre .0, st .pre .1))
+    (by-number (a .o .a) (a .o .b) (a .o .c) (a .sources .now) (a .output .now) (sessionOf (a .set) (a .n) (a .offset) (a .words .now) (a .log .now) (a .logtags .now) (a .starts .now) (a .maps .now) (a .special .now) (a .ends)) (c .before .before .if4 .taken) (required-stepped (a .set) (a .n) (a .offset) (a .words .now) (a .log .now) (a .logtags .now) (a .starts .now) (a .maps .now) (a .special .now) (a .ends) (a .o .a) (a .o .b) (a .o .c) (a .sources .now) (a .output .now) _ (c .has-required-special-types .ensures)), (st .pre .0, st .pre .1))
 
--- src/lib.rt:305:9
 plain-step-requires : tie.Need-plain-step-requires
 plain-step-requires c κs = search needs
 
--- src/lib.rt:305:9
 same-length : tie.Need-same-length
 same-length c = search needs
 
--- src/lib.rt:305:9
 returns-5 : tie.Need-returns-5
 returns-5 c =
     let st = c .before .before .before .before .before .before .before .before .before .before .before .before .before .before .before .before .before .before .before .before .before .before .before .before in
     let a = st .args in
     let e = c .before .before .plain-step .ensures in
-    (by-number (a .o .a) (a .o .b) (a .o .c) (a .sources .now) (a .output .now) (sessionOf (a .set) (a .n) (a .offset) (a .words .now) (a .log .now) (a .classes .now) (a .starts .now) (a .maps .now) (a .special .now) (a .ends)) (c .before .before .before .before .before .before .before .before .before .before .before .before .if5 .taken) (e .0 .is (a .sources .now)), (e .1, stacks-low (st .pre .1) (e .1 .lowest)))
+    (by-number (a .o .a) (a .o .b) (a .o .c) (a .sources .now) (a .output .now) (sessionOf (a .set) (a .n) (a .offset) (a .words .now) (a .log .now) (a .logtags .now) (a .starts .now) (a .maps .now) (a .special .now) (a .ends)) (c .before .before .before .before .before .before .before .before .before .before .before .before .if5 .taken) (e .0 .is (a .sources .now)), (e .1, stacks-low (st .pre .1) (e .1 .lowest)))
 
--- src/lib.rt:324:9
 entries-step-requires : tie.Need-entries-step-requires
 entries-step-requires c κs = search needs
 
--- src/lib.rt:324:9
 same-length-2 : tie.Need-same-length-2
 same-length-2 c = search needs
 
--- src/lib.rt:324:9
 returns-6 : tie.Need-returns-6
 returns-6 c =
     let st = c .before .before .before .before .before .before .before .before .before .before .before .before .before .before .before .before .before .before .before .before .before .before .before .before .before .before .before in
     let a = st .args in
     let e = c .before .before .entries-step .ensures in
-    (by-number (a .o .a) (a .o .b) (a .o .c) (a .sources .now) (a .output .now) (sessionOf (a .set) (a .n) (a .offset) (a .words .now) (a .log .now) (a .classes .now) (a .starts .now) (a .maps .now) (a .special .now) (a .ends)) (c .before .before .before .before .before .before .before .before .before .before .before .before .before .if6 .taken) (e .0 .is (a .sources .now)), (e .1 .0, e .1 .1))
+    (by-number (a .o .a) (a .o .b) (a .o .c) (a .sources .now) (a .output .now) (sessionOf (a .set) (a .n) (a .offset) (a .words .now) (a .log .now) (a .logtags .now) (a .starts .now) (a .maps .now) (a .special .now) (a .ends)) (c .before .before .before .before .before .before .before .before .before .before .before .before .before .if6 .taken) (e .0 .is (a .sources .now)), (e .1 .0, e .1 .1))
 
--- src/lib.rt:343:9
 record-step-requires : tie.Need-record-step-requires
 record-step-requires c κs =
     let st = c .before .before .before .before .before .before .before .before .before .before .before .before .before .before .before .before .before .before .before .before .before .before .before in
@@ -96,11 +82,9 @@ record-step-requires c κs =
     let r = c .before .before .before .before .before .before .before .before .before .before .before .before .before .before .before .if3 .left in
     ((omega (arith, p, q, r), c .before .before .before .before .before .before .before .before .before .before .before .before .before .if4 .left, c .before .before .before .before .before .before .before .before .before .before .before .if5 .left, c .before .before .before .before .before .before .before .before .before .if6 .left), (st .pre .0, st .pre .1))
 
--- src/lib.rt:363:16
 value-of-requires : tie.Need-value-of-requires
 value-of-requires c κs = search needs
 
--- src/lib.rt:225:1
 returns-7 : tie.Need-returns-7
 returns-7 c =
     let st = c .before .before .before .before .before .before .before .before .before .before .before .before .before .before .before .before .before .before .before .before .before .before .before .before .before .before in
@@ -117,7 +101,7 @@ perform-spec =
     returns-2
     map-span-requires
     returns-3
-    required-requires
+    has-required-special-types-requires
     returns-4
     plain-step-requires
     same-length

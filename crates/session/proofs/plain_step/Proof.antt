@@ -12,47 +12,36 @@ use Rattle.session_operations.proofs.finish_plain.Reads as finish-plain-reads
 use Rattle.session.proofs.least.Reads as least-reads
 use Rattle.base_words.proofs.wide.Reads as wide-reads
 
--- src/lib.rt:138:22
 wide-requires : tie.Need-wide-requires
 wide-requires c κs = search needs
 
--- src/lib.rt:138:9
 least-requires : tie.Need-least-requires
 least-requires c κs = search needs
 
--- src/lib.rt:139:27
 wide-requires-2 : tie.Need-wide-requires-2
 wide-requires-2 c κs = search needs
 
--- src/lib.rt:139:38
 sub-least : tie.Need-sub-least
 sub-least c = search needs
 
--- src/lib.rt:139:21
 least-requires-2 : tie.Need-least-requires-2
 least-requires-2 c κs = search needs
 
--- src/lib.rt:139:14
 add-to : tie.Need-add-to
 add-to c = search needs
 
--- src/lib.rt:154:9
 sub-finish-plain : tie.Need-sub-finish-plain
 sub-finish-plain c = search needs
 
--- src/lib.rt:154:9
 part-finish-plain-start : tie.Need-part-finish-plain-start
 part-finish-plain-start c = search needs
 
--- src/lib.rt:154:9
 part-finish-plain-end : tie.Need-part-finish-plain-end
 part-finish-plain-end c = search needs
 
--- src/lib.rt:140:9
 finish-plain-requires : tie.Need-finish-plain-requires
 finish-plain-requires c κs = search needs
 
--- src/lib.rt:159:16
 cast-t29 : tie.Need-cast-t29
 cast-t29 c =
     let st = c .before .before .before .before .before .before .before .before .before .before .before .before .before in
@@ -67,11 +56,9 @@ cast-t29 c =
     let h = plain-small (x .a) (x .b) l (f .result) (d .result) (f .result + d .result - f .result) hf hd (omega arith) _ _ _ _ _ (e .0) in
     omega (arith, h, w)
 
--- src/lib.rt:117:1
 same-length : tie.Need-same-length
 same-length c = search needs
 
--- src/lib.rt:117:1
 returns : tie.Need-returns
 returns c =
     let st = c .before .before .before .before .before .before .before .before .before .before .before .before .before in

@@ -13,37 +13,30 @@ use Rattle.session_operations.proofs.import.Reads as import-reads
 use Rattle.session_operations.proofs.rename_type.Reads as rename-type-reads
 use Rattle.base_words.proofs.wide.Reads as wide-reads
 
--- src/lib.rt:271:9
 import-requires : tie.Need-import-requires
 import-requires c κs = search needs
 
--- src/lib.rt:271:9
 returns : tie.Need-returns
 returns c =
     let st = c .before .before .before .before .before .before .before .before in
     let x = st .args .o in
     (type-recorded (x .operation) (x .a) (x .b) (x .c) _ _ _ _ (c .before .before .before .before .before .before .if1 .taken) (c .import .ensures .0), (c .import .ensures .1, stacks-low (st .pre .1 .1) (c .import .ensures .1 .lowest)))
 
--- src/lib.rt:290:9
 rename-type-requires : tie.Need-rename-type-requires
 rename-type-requires c κs = search needs
 
--- src/lib.rt:290:9
 returns-2 : tie.Need-returns-2
 returns-2 c =
     let st = c .before .before .before .before .before .before .before .before .before .before in
     let x = st .args .o in
     (rename-recorded (x .operation) (x .a) (x .b) (x .c) _ _ _ _ (c .before .before .before .before .before .before .if2 .taken) (c .rename-type .ensures .0), (c .rename-type .ensures .1, stacks-low (st .pre .1 .1) (c .rename-type .ensures .1 .lowest)))
 
--- src/lib.rt:323:13
 wide-requires : tie.Need-wide-requires
 wide-requires c κs = search needs
 
--- src/lib.rt:323:13
 sub-import : tie.Need-sub-import
 sub-import c = search needs
 
--- src/lib.rt:309:9
 import-requires-2 : tie.Need-import-requires-2
 import-requires-2 c κs =
     let st = c .before .before .before .before .before .before .before .before .before .before .before .before in
@@ -54,7 +47,6 @@ import-requires-2 c κs =
     let l = c .before .before .before .before .before .before .if3 .taken in
     ((omega arith, omega arith), st .pre .1 .0)
 
--- src/lib.rt:309:9
 returns-3 : tie.Need-returns-3
 returns-3 c =
     let st = c .before .before .before .before .before .before .before .before .before .before .before .before .before in
@@ -66,22 +58,18 @@ returns-3 c =
     let l = c .before .before .before .before .before .before .before .if3 .taken in
     (tables-recorded (x .operation) (x .a) (x .b) (x .c) _ _ _ _ _ (omega arith) l (ap (λ (n : ℕ). n - 3) w) (c .import2 .ensures .0), (c .import2 .ensures .1, stacks-low (st .pre .1 .1) (c .import2 .ensures .1 .lowest)))
 
--- src/lib.rt:328:9
 import-function-requires : tie.Need-import-function-requires
 import-function-requires c κs = let st = c .before .before .before .before .before .before .before .before .before .before .before .before .before .before in (st .pre .1 .0, st .pre .1 .1)
 
--- src/lib.rt:328:9
 returns-4 : tie.Need-returns-4
 returns-4 c =
     let st = c .before .before .before .before .before .before .before .before .before .before .before .before .before .before .before in
     let x = st .args .o in
     (function-recorded (x .operation) (x .a) (x .b) (x .c) _ _ _ _ (c .before .before .before .before .before .before .before .if4 .taken) (c .import-function .ensures .0), (c .import-function .ensures .1 .0, c .import-function .ensures .1 .1))
 
--- src/lib.rt:347:9
 map-function-handle-requires : tie.Need-map-function-handle-requires
 map-function-handle-requires c κs = let st = c .before .before .before .before .before .before .before .before .before .before .before .before .before .before .before .before in (st .pre .1 .0, st .pre .1 .1)
 
--- src/lib.rt:347:9
 returns-5 : tie.Need-returns-5
 returns-5 c =
     let st = c .before .before .before .before .before .before .before .before .before .before .before .before .before .before .before .before .before in
@@ -91,7 +79,6 @@ returns-5 c =
     let q = c .before .before .before .before .before .before .before .before .before .before .before .if3 .left in
     (handle-recorded (x .operation) (x .a) (x .b) (x .c) _ _ _ _ (omega arith) l (c .map-function-handle .ensures .0), (c .map-function-handle .ensures .1 .0, c .map-function-handle .ensures .1 .1))
 
--- src/lib.rt:246:1
 returns-6 : tie.Need-returns-6
 returns-6 c =
     let st = c .before .before .before .before .before .before .before .before .before .before in

@@ -1,6 +1,5 @@
--- `session::session` meets its contract. Assumes nothing.
 use borrow.Author.Needs.{needs}
-use Rattle.session_operations.specs.Theorems.{zeros, zeros-spaces}
+use Rattle.derive_session.specs.Fresh.{zeros, zeros-spaces}
 use Rattle.session.proofs.session.Statement.{statement}
 use Rattle.session.proofs.session.Tie as tie
 

@@ -1,4 +1,3 @@
--- `session::session_in` meets its contract. Assumes nothing.
 use Prim.Native.Nat.{_-_, _*_, _/_}
 use lib.ListN.{length}
 use native.Mathlib.Omega.{arith}
@@ -8,27 +7,27 @@ use Rattle.session.proofs.session_in.Statement.{statement}
 use Rattle.session.proofs.session_in.Tie as tie
 
 abbrev Inv-loop : tie.InvT-loop
-Inv-loop sources steps answers₀ output₀ words₀ tags₀ log₀ classes₀ starts₀ maps₀ marks₀ stacks₀ kinds special₀ ends₀ set₀ n₀ offset₀ first₀ count i₀ answers output words tags log classes starts maps marks stacks special ends set n offset first i =
-    Going sources steps answers₀ output₀ kinds count answers output words tags log classes starts maps marks special stacks ends set n offset first i
+Inv-loop sources steps answers₀ output₀ words₀ tags₀ log₀ logtags₀ starts₀ maps₀ buckets₀ stacks₀ targets special₀ ends₀ set₀ n₀ offset₀ first₀ count i₀ answers output words tags log logtags starts maps buckets stacks special ends set n offset first i =
+    Going sources steps answers₀ output₀ targets count answers output words tags log logtags starts maps buckets special stacks ends set n offset first i
 
 abbrev μ-loop : tie.MeasureT-loop
-μ-loop sources steps answers₀ output₀ words₀ tags₀ log₀ classes₀ starts₀ maps₀ marks₀ stacks₀ kinds special₀ ends₀ set₀ n₀ offset₀ first₀ count i₀ answers output words tags log classes starts maps marks stacks special ends set n offset first i =
+μ-loop sources steps answers₀ output₀ words₀ tags₀ log₀ logtags₀ starts₀ maps₀ buckets₀ stacks₀ targets special₀ ends₀ set₀ n₀ offset₀ first₀ count i₀ answers output words tags log logtags starts maps buckets stacks special ends set n offset first i =
     count - i
 
-forget-requires : tie.Need-forget-requires Inv-loop μ-loop
-forget-requires c κs = search needs
+clear-maps-requires : tie.Need-clear-maps-requires Inv-loop μ-loop
+clear-maps-requires c κs = search needs
 
-kinds-requires : tie.Need-kinds-requires Inv-loop μ-loop
-kinds-requires c κs = search needs
+targets-requires : tie.Need-targets-requires Inv-loop μ-loop
+targets-requires c κs = search needs
 
-nothing-requires : tie.Need-nothing-requires Inv-loop μ-loop
-nothing-requires c κs = search needs
+empty-requires : tie.Need-empty-requires Inv-loop μ-loop
+empty-requires c κs = search needs
 
 loop-holds : tie.Need-loop-holds Inv-loop μ-loop
 loop-holds c =
     let s = c .before .before .before .before .before .before .before .before .before in
     let a = s .args in
-    going-first (a .words .now) (a .tags .now) (a .log .now) (a .classes .now) (a .starts .now) (a .stacks .now) (c .before .kinds .result) (s .pre .0 .0) (s .pre .0 .1) (s .pre .1) (c .before .kinds .ensures) (a .sources .now) (a .steps .now) (a .answers .now) (a .output .now) (length (a .steps .now) / 4) _ (c .before .before .before .forget .ensures) _ (c .nothing .ensures) (omega arith) (omega arith)
+    going-first (a .words .now) (a .tags .now) (a .log .now) (a .logtags .now) (a .starts .now) (a .stacks .now) (c .before .targets .result) (s .pre .0 .0) (s .pre .0 .1) (s .pre .1) (c .before .targets .ensures) (a .sources .now) (a .steps .now) (a .answers .now) (a .output .now) (length (a .steps .now) / 4) _ (c .before .before .before .clear-maps .ensures) _ (c .empty .ensures) (omega arith) (omega arith)
 
 add-i : tie.Need-add-i Inv-loop μ-loop
 add-i c = search needs
@@ -141,9 +140,9 @@ session-in-spec =
     (tie.spec
     Inv-loop
     μ-loop
-    forget-requires
-    kinds-requires
-    nothing-requires
+    clear-maps-requires
+    targets-requires
+    empty-requires
     loop-holds
     add-i
     mul-t30

@@ -7,23 +7,18 @@ use Rattle.session.proofs.tell.Tie as tie
 use Rattle.session.proofs.tell.Reads as reads
 use Rattle.session.proofs.tell.Lts as lts
 
--- src/lib.rt:504:9
 mul-answers : tie.Need-mul-answers
 mul-answers c = search needs
 
--- src/lib.rt:504:9
 slice-write-answers : tie.Need-slice-write-answers
 slice-write-answers c = search needs
 
--- src/lib.rt:500:1
 same-length : tie.Need-same-length
 same-length c = search needs
 
--- src/lib.rt:500:1
 returns : tie.Need-returns
 returns c = search needs
 
--- src/lib.rt:500:1
 returns-2 : tie.Need-returns-2
 returns-2 c = let a = c .before .args in let h = c .if1 .left in sym (set-out (a .answers .now) (a .at) (a .w) (omega (arith, h)))
 

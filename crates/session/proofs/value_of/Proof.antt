@@ -4,11 +4,9 @@ use Rattle.session.proofs.value_of.Tie as tie
 use Rattle.session.proofs.value_of.Reads as reads
 use Rattle.session.proofs.value_of.Lts as lts
 
--- src/lib.rt:58:9
 returns : tie.Need-returns
 returns c = let a = c .before .args in value-there (a .refusal) (a .v) (c .if1 .taken)
 
--- src/lib.rt:54:1
 returns-2 : tie.Need-returns-2
 returns-2 c = let a = c .before .args in value-refused (a .refusal) (a .v) (c .if1 .left)
 

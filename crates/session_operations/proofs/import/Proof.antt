@@ -1,4 +1,3 @@
--- `session_operations::import` meets its contract. Assumes nothing.
 use borrow.Author.Needs.{needs}
 use Rattle.derive_state.specs.Refers.{tabOf}
 use Rattle.derive_types.proofs.Sources.{small-number}
@@ -9,14 +8,14 @@ use Rattle.session_operations.proofs.import.Reads as reads
 use Rattle.session_operations.proofs.import.Lts as lts
 use Rattle.session_operations.proofs.import_record.Reads as import-record-reads
 use Rattle.base_views.proofs.count.Reads as count-reads
-use Rattle.derive_rollback.proofs.handle.Reads as handle-reads
+use Rattle.derive_rollback.proofs.mapped_to.Reads as mapped-to-reads
 use Rattle.base_words.proofs.wide.Reads as wide-reads
 
 returns : tie.Need-returns
 returns c =
     let st = c .before in
     let a = st .args in
-    import-unset (a .n) (a .offset) (a .words .now) (a .tags .now) (a .kinds .now) (a .log .now) (a .classes .now) (a .starts .now) (a .maps .now) (a .marks .now) (a .special .now) (a .ends) (tabOf (a .t)) (a .h) (a .set) (st .pre .1) (c .if1 .taken)
+    import-unset (a .n) (a .offset) (a .words .now) (a .tags .now) (a .targets .now) (a .log .now) (a .logtags .now) (a .starts .now) (a .maps .now) (a .buckets .now) (a .special .now) (a .ends) (tabOf (a .t)) (a .h) (a .set) (st .pre .1) (c .if1 .taken)
 
 count-requires : tie.Need-count-requires
 count-requires c κs = search needs
@@ -28,31 +27,31 @@ returns-2 : tie.Need-returns-2
 returns-2 c =
     let st = c .before .before .before .before in
     let a = st .args in
-    import-none (a .n) (a .offset) (a .words .now) (a .tags .now) (a .kinds .now) (a .log .now) (a .classes .now) (a .starts .now) (a .maps .now) (a .marks .now) (a .special .now) (a .ends) (a .set) (st .pre .1) (c .before .before .before .if1 .left) (a .t) (a .h) (st .pre .0 .1) _ _ (c .before .before .count .ensures .0) (c .before .wide .ensures .0) (c .if2 .taken)
+    import-none (a .n) (a .offset) (a .words .now) (a .tags .now) (a .targets .now) (a .log .now) (a .logtags .now) (a .starts .now) (a .maps .now) (a .buckets .now) (a .special .now) (a .ends) (a .set) (st .pre .1) (c .before .before .before .if1 .left) (a .t) (a .h) (st .pre .0 .1) _ _ (c .before .before .count .ensures .0) (c .before .wide .ensures .0) (c .if2 .taken)
 
 import-record-requires : tie.Need-import-record-requires
 import-record-requires c κs =
     let st = c .before .before .before .before .before .before .before .before .before in
     let a = st .args in
-    (source-held (a .n) (a .offset) (a .words .now) (a .tags .now) (a .kinds .now) (a .log .now) (a .classes .now) (a .starts .now) (a .maps .now) (a .marks .now) (a .special .now) (a .ends) (a .set) (st .pre .1) (c .before .before .before .before .before .before .before .before .if1 .left), ((st .pre .0 .0, st .pre .0 .1, (below (c .before .before .before .before .before .before .before .count .ensures .0) (c .before .before .before .before .before .before .wide .ensures .0) (c .before .before .before .before .before .if2 .left)), st .pre .1 .going), (st .pre .1 .kinds-are, st .pre .1 .kept)))
+    (source-held (a .n) (a .offset) (a .words .now) (a .tags .now) (a .targets .now) (a .log .now) (a .logtags .now) (a .starts .now) (a .maps .now) (a .buckets .now) (a .special .now) (a .ends) (a .set) (st .pre .1) (c .before .before .before .before .before .before .before .before .if1 .left), ((st .pre .0 .0, st .pre .0 .1, (below (c .before .before .before .before .before .before .before .count .ensures .0) (c .before .before .before .before .before .before .wide .ensures .0) (c .before .before .before .before .before .if2 .left)), st .pre .1 .going), (st .pre .1 .targets-are, st .pre .1 .kept)))
 
 returns-3 : tie.Need-returns-3
 returns-3 c =
     let st = c .before .before .before .before .before .before .before .before .before .before .before in
     let a = st .args in
-    import-full (a .n) (a .offset) (a .words .now) (a .tags .now) (a .kinds .now) (a .log .now) (a .classes .now) (a .starts .now) (a .maps .now) (a .marks .now) (a .special .now) (a .ends) (a .t) (a .h) (st .pre .0 .0) (st .pre .0 .1) _ _ _ _ _ _ (a .set) (st .pre .1) (c .before .before .before .before .before .before .before .before .before .before .if1 .left) (below (c .before .before .before .before .before .before .before .before .before .count .ensures .0) (c .before .before .before .before .before .before .before .before .wide .ensures .0) (c .before .before .before .before .before .before .before .if2 .left)) (c .before .import-record .ensures) (c .if3 .taken)
+    import-full (a .n) (a .offset) (a .words .now) (a .tags .now) (a .targets .now) (a .log .now) (a .logtags .now) (a .starts .now) (a .maps .now) (a .buckets .now) (a .special .now) (a .ends) (a .t) (a .h) (st .pre .0 .0) (st .pre .0 .1) _ _ _ _ _ _ (a .set) (st .pre .1) (c .before .before .before .before .before .before .before .before .before .before .if1 .left) (below (c .before .before .before .before .before .before .before .before .before .count .ensures .0) (c .before .before .before .before .before .before .before .before .wide .ensures .0) (c .before .before .before .before .before .before .before .if2 .left)) (c .before .import-record .ensures) (c .if3 .taken)
 
-handle-requires : tie.Need-handle-requires
-handle-requires c κs =
+mapped-to-requires : tie.Need-mapped-to-requires
+mapped-to-requires c κs =
     let st = c .before .before .before .before .before .before .before .before .before .before .before .before in
     let a = st .args in
-    (st .pre .0 .1, small-number (a .words .now) (a .tags .now) (a .n) (source-held (a .n) (a .offset) (a .words .now) (a .tags .now) (a .kinds .now) (a .log .now) (a .classes .now) (a .starts .now) (a .maps .now) (a .marks .now) (a .special .now) (a .ends) (a .set) (st .pre .1) (c .before .before .before .before .before .before .before .before .before .before .before .if1 .left)) (a .t) (a .h) (st .pre .0 .1) (below (c .before .before .before .before .before .before .before .before .before .before .count .ensures .0) (c .before .before .before .before .before .before .before .before .before .wide .ensures .0) (c .before .before .before .before .before .before .before .before .if2 .left)))
+    (st .pre .0 .1, small-number (a .words .now) (a .tags .now) (a .n) (source-held (a .n) (a .offset) (a .words .now) (a .tags .now) (a .targets .now) (a .log .now) (a .logtags .now) (a .starts .now) (a .maps .now) (a .buckets .now) (a .special .now) (a .ends) (a .set) (st .pre .1) (c .before .before .before .before .before .before .before .before .before .before .before .if1 .left)) (a .t) (a .h) (st .pre .0 .1) (below (c .before .before .before .before .before .before .before .before .before .before .count .ensures .0) (c .before .before .before .before .before .before .before .before .before .wide .ensures .0) (c .before .before .before .before .before .before .before .before .if2 .left)))
 
 returns-4 : tie.Need-returns-4
 returns-4 c =
     let st = c .before .before .before .before .before .before .before .before .before .before .before .before .before in
     let a = st .args in
-    import-room (a .n) (a .offset) (a .words .now) (a .tags .now) (a .kinds .now) (a .log .now) (a .classes .now) (a .starts .now) (a .maps .now) (a .marks .now) (a .special .now) (a .ends) (a .t) (a .h) (st .pre .0 .0) (st .pre .0 .1) _ _ _ _ _ _ (a .set) (st .pre .1) (c .before .before .before .before .before .before .before .before .before .before .before .before .if1 .left) (below (c .before .before .before .before .before .before .before .before .before .before .before .count .ensures .0) (c .before .before .before .before .before .before .before .before .before .before .wide .ensures .0) (c .before .before .before .before .before .before .before .before .before .if2 .left)) (c .before .before .before .import-record .ensures) (c .before .before .if3 .left) _ (c .handle .ensures)
+    import-room (a .n) (a .offset) (a .words .now) (a .tags .now) (a .targets .now) (a .log .now) (a .logtags .now) (a .starts .now) (a .maps .now) (a .buckets .now) (a .special .now) (a .ends) (a .t) (a .h) (st .pre .0 .0) (st .pre .0 .1) _ _ _ _ _ _ (a .set) (st .pre .1) (c .before .before .before .before .before .before .before .before .before .before .before .before .if1 .left) (below (c .before .before .before .before .before .before .before .before .before .before .before .count .ensures .0) (c .before .before .before .before .before .before .before .before .before .before .wide .ensures .0) (c .before .before .before .before .before .before .before .before .before .if2 .left)) (c .before .before .before .import-record .ensures) (c .before .before .if3 .left) _ (c .mapped-to .ensures)
 
 pub import-spec : {M : Type 1} → statement M
 import-spec =
@@ -64,5 +63,5 @@ import-spec =
     returns-2
     import-record-requires
     returns-3
-    handle-requires
+    mapped-to-requires
     returns-4)

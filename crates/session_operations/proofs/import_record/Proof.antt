@@ -1,4 +1,3 @@
--- `session_operations::import_record` meets its contract. Assumes nothing.
 use Rattle.derive_state.specs.Refers.{tabOf}
 use Rattle.derive_state.specs.Source.{srcOf}
 use Rattle.session_operations.proofs.Importing.{in-table, of-table, fifth}

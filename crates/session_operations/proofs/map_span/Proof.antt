@@ -1,4 +1,3 @@
--- `session_operations::map_span` meets its contract. Assumes nothing.
 use mathlib.Core.Logic.{inl, inr, ⊎-elim}
 use borrow.Author.Needs.{needs}
 use Rattle.session_operations.proofs.Plain.{span-none, span-undefined, span-moved}

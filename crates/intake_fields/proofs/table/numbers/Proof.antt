@@ -1,4 +1,4 @@
--- `intake_fields::table::numbers` meets its contract: the numbers of the code are those of the model, by computation. Assumes nothing.
+-- `intake_fields::table::numbers` meets its contract: the numbers of the code are those of the model, by computation.
 use mathlib.Core.Path.{refl}
 use Rattle.intake_fields.specs.Rows.{SIZE}
 use Rattle.intake_fields.proofs.table.numbers.Statement.{statement}

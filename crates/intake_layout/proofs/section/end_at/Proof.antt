@@ -1,4 +1,3 @@
--- `intake_layout::section::end_at` meets its contract. Assumes nothing.
 use Rattle.intake_layout.proofs.Header.{end-at-last, end-at-next}
 use borrow.Author.Needs.{needs}
 use Rattle.intake_layout.proofs.section.end_at.Statement.{statement}

@@ -1,4 +1,3 @@
--- `intake_layout::section::end_of` meets its contract. Assumes nothing.
 use Rattle.intake_layout.proofs.Header.{end-of-some, end-of-none}
 use borrow.Author.Needs.{needs}
 use Rattle.intake_layout.proofs.section.end_of.Statement.{statement}

@@ -1,4 +1,3 @@
--- `intake_layout::section::limit` meets its contract. Assumes nothing.
 use Rattle.intake_layout.proofs.Header.{limit-six, limit-seven, limit-other}
 use borrow.Author.Needs.{needs}
 use Rattle.intake_layout.proofs.section.limit.Statement.{statement}

@@ -1,4 +1,3 @@
--- `intake_layout::section::record` meets its contract. Assumes nothing.
 use Rattle.intake_layout.proofs.Extents.{extent-start, extent-back, extent-past, record-fits, record-short, record-misfit, record-strange}
 use borrow.Author.Needs.{needs}
 use Rattle.intake_layout.proofs.section.record.Statement.{statement}

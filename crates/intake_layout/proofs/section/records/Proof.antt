@@ -1,4 +1,3 @@
--- `intake_layout::section::records` meets its contract. Assumes nothing.
 use Prim.Native.Nat.{_-_}
 use Rattle.intake_layout.proofs.Extents.{Recording, records-begin, records-bad, records-fits, records-strange, records-short, records-odd, records-done}
 use borrow.Author.Needs.{needs}

@@ -1,4 +1,3 @@
--- `intake_layout::section::section` meets its contract. Assumes nothing.
 use Rattle.intake_layout.proofs.Extents.{section-room, section-records, section-misfit, section-never}
 use borrow.Author.Needs.{needs}
 use Rattle.intake_layout.proofs.section.section.Statement.{statement}

@@ -1,4 +1,3 @@
--- `intake_layout::section::sections` meets its contract. Assumes nothing.
 use Rattle.intake_fields.specs.Rows.{SIZE}
 use native.Mathlib.Omega.{arith}
 use Prim.Native.Nat.{_-_}

@@ -1,4 +1,3 @@
--- `intake_layout::section::special` meets its contract. Assumes nothing.
 use Rattle.intake_fields.specs.Rows.{SIZE, RAYS-ROW, PAIR-ROW}
 use Rattle.intake_layout.proofs.Extents.{special-misfit, special-strange, special-within, special-fits, special-short, pairs-misfit, pairs-strange}
 use borrow.Author.Needs.{needs}

@@ -1,0 +1,12 @@
+pub mod Lists
+pub mod Claims
+pub mod Examples
+pub mod Rounds
+pub mod Ranks
+pub mod Ring
+pub mod Stages
+pub mod Times
+pub mod Theorems
+pub mod Same
+pub mod Cells
+pub mod Numbered
