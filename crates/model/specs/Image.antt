@@ -1,5 +1,5 @@
 -- WHAT THE EXPORTED FUNCTIONS MEAN, on any bytes: for each function of include/wuldgisp.h, in its order and under its name, what it answers and what the caller's memory holds afterwards.
--- All begin with intake. Document 01: "A refusal returns its number alone (12 adds its count); image, output, derived module, set source and maps stay."
+-- All begin with intake, but for a session, in which setting a source does. Document 01: "A refusal returns its number alone (12 adds its count); image, output, derived module, set source and maps stay."
 use mathlib.Core.Path.{_≡_}
 use mathlib.Core.List.{List, []}
 use Prim.Native.Nat.{ℕ, _+_, _*_, _%_, _<_}
