@@ -18,7 +18,7 @@ use Rattle.model.specs.Bodies.{appended, append, follow, entered, entryMade, en
 use Rattle.theory_finish.specs.Sessions.{Keeping, Setting, function-kept, follow-kept, enter-all-kept, sourced-kept}
 use Rattle.derive_state.specs.Held.{sizeR, wordsOf, Over, long, many, crowd, keys}
 use Rattle.derive_state.proofs.State.{sizeR-append}
-use Rattle.derive_types.proofs.Growth.{Grow, stay, then, over-grow, grow-T, grow-special, grow-ray, grow-pair, grow-force}
+use Rattle.derive_names.proofs.Growth.{Grow, stay, then, over-grow, grow-T, grow-special, grow-ray, grow-pair, grow-force}
 use Rattle.derive_limits.specs.Full.{Full, over, entries}
 
 -- ---- one function more

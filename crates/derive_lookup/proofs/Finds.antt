@@ -31,7 +31,7 @@ use Rattle.derive_state.specs.Flats.{functionOf}
 use Rattle.derive_state.specs.Source.{modOf, srcOf, Source}
 use Rattle.derive_state.specs.Held.{recAt, recsAt, recsOf, functionsOf, stOf, Readable}
 use Rattle.derive_state.specs.declared.Sizes.{Sizes}
-use Rattle.derive_types.proofs.Sources.{count-few, record-is, readable}
+use Rattle.derive_names.proofs.Sources.{count-few, record-is, readable}
 use Rattle.derive_lookup.specs.Bearing.{Knows}
 
 -- ---- every function has a name, and it is in the table

@@ -29,7 +29,7 @@ use Rattle.theory_order.specs.Same.{rounds-ext}
 use Rattle.derive_state.specs.Source.{modOf, Source}
 use Rattle.derive_state.specs.Held.{stOf}
 use Rattle.derive_state.specs.declared.Sizes.{Sizes}
-use Rattle.derive_types.proofs.Sources.{mod-is}
+use Rattle.derive_names.proofs.Sources.{mod-is}
 use Rattle.derive_lookup.specs.Bearing.{Knows}
 use Rattle.derive_rings.specs.Rings.{unknownBy, Unknowns, Stuck, Rings}
 use Rattle.derive_rings.proofs.Sieving.{Sieve, sieved, still-low}

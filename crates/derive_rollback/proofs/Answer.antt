@@ -6,8 +6,8 @@ use native.Mathlib.Omega.{arith}
 use Rattle.derive_state.specs.Refers.{tabOf}
 use Rattle.derive_state.specs.Held.{cell}
 use Rattle.derive_state.proofs.State.{code-tab}
-use Rattle.derive_types.proofs.Turns.{map-is}
-use Rattle.derive_rollback.specs.Taken.{Answers}
+use Rattle.derive_names.proofs.Turns.{map-is}
+use Rattle.derive_rollback.specs.Answered.{Answers}
 
 pub answers : (maps : List (List ℕ)) (t h i r : ℕ) → t < 6 → i ≡ h → r ≡ pred (cell maps t i) → Answers maps t h r
 answers maps t h i r ht hi hr = record {

@@ -1,4 +1,1 @@
-pub mod Saving
-pub mod Saved
-pub mod Over
 pub mod Answer

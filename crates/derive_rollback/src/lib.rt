@@ -1,15 +1,14 @@
-// The imports as operations of a session: where the result does not fit, nothing has changed. The starts and the maps that are in use are saved before, and
-// restored where it does not fit. What was written lies after the log's end, and a bucket that was set costs a search at most. What an import answers is the
-// number that the maps then have.
+// The imports as operations of a session: where the result does not fit, nothing has changed. What an import answers is the number that the maps then have.
 use base_handles::ConstantHandle;
 use base_handles::ExpressionHandle;
 use base_handles::GlobalHandle;
 use base_handles::OverrideHandle;
 use base_handles::TypeHandle;
-use base_views::count;
 use base_words::Tags;
 use base_words::Words;
 use base_words::wide;
+use derive_snapshot::restore;
+use derive_snapshot::save;
 use derive_state::Buckets;
 use derive_state::Log;
 use derive_state::LogTags;
@@ -18,87 +17,15 @@ use derive_state::Sizes;
 use derive_state::Starts;
 use derive_state::Targets;
 ghost use mathlib.Core.Path.{_≡_};
-ghost use mathlib.Core.Bool.{true, false};
-ghost use Prim.Native.Nat.{_≤_, _<_};
-ghost use lib.ListN.{length, getD};
+ghost use mathlib.Core.Bool.{false};
+ghost use Prim.Native.Nat.{_<_};
 ghost use Rattle.model.specs.Module.{countAt};
 ghost use Rattle.model.specs.Tables.{types, constants, overrides, globals, exprs};
 ghost use Rattle.model.specs.Imports.{importT, renamed};
 ghost use Rattle.derive_state.specs.Refers.{targetBytes};
 ghost use Rattle.derive_state.specs.Source.{srcOf, Source};
 ghost use Rattle.derive_state.specs.Held.{ValidArrays, Whole};
-ghost use Rattle.derive_rollback.specs.Taken.{Prefix, Prefixes, Saved, Restored, Answers};
-
-// Saves the first n words of a row.
-fn save_row(row: &[u32; 512], n: usize, to: &mut [u32; 512])
-    requires { ⌜ (length (now row) ≡ 512) × (length (now to) ≡ 512) × (n ≤ 512) ⌝ }
-    ensures { λ _. ⌜ Prefix n (now (row .entry)) (now (to .entry)) (now (to .exit)) ⌝ }
-{
-    let mut i = 0;
-    while i < n {
-        to[i] = row[i];
-        i += 1;
-    }
-}
-
-// Saves the starts of the derived records.
-fn save_starts(starts: &Starts, ends: Sizes, s: &mut [[u32; 512]; 8])
-    requires { ⌜ Prefixes 8 0 (λ t. getD (ends .counts) t 0) (now starts) (now s) ⌝ }
-    ensures { λ _. ⌜ Prefixes 8 8 (λ t. getD (ends .counts) t 0) (now (starts .entry)) (now (s .exit)) ⌝ }
-{
-    let mut i = 0;
-    while i < 8 {
-        let t = i;
-        i += 1;
-        save_row(&starts[t], ends.counts[t] as usize, &mut s[t]);
-    }
-}
-
-// Saves the maps of the numbers that the source has.
-fn save_maps(words: &Words, maps: &Maps, m: &mut [[u32; 512]; 6])
-    requires { ⌜ Prefixes 6 0 (λ t. countAt t (now words)) (now maps) (now m) ⌝ }
-    ensures { λ _. ⌜ Prefixes 6 6 (λ t. countAt t (now (words .entry))) (now (maps .entry)) (now (m .exit)) ⌝ }
-{
-    let mut i = 0;
-    while i < 6 {
-        let t = i;
-        i += 1;
-        save_row(&maps[t], count(words, t), &mut m[t]);
-    }
-}
-
-// Saves the part of starts and maps that is in use.
-pub fn save(
-    words: &Words,
-    starts: &Starts,
-    maps: &Maps,
-    ends: Sizes,
-    s: &mut [[u32; 512]; 8],
-    m: &mut [[u32; 512]; 6],
-)
-    requires { ⌜ Prefixes 8 0 (λ t. getD (ends .counts) t 0) (now starts) (now s) ⌝ }
-    requires { ⌜ Prefixes 6 0 (λ t. countAt t (now words)) (now maps) (now m) ⌝ }
-    ensures { λ _. ⌜ Saved (now (words .entry)) (now (starts .entry)) (now (maps .entry)) ends (now (s .exit)) (now (m .exit)) ⌝ }
-{
-    save_starts(starts, ends, s);
-    save_maps(words, maps, m);
-}
-
-// Restores starts and maps as they were saved, where something did not fit.
-pub fn restore(
-    starts: &mut Starts,
-    maps: &mut Maps,
-    s: &[[u32; 512]; 8],
-    m: &[[u32; 512]; 6],
-    full: bool,
-)
-    ensures { λ _. ⌜ Restored full (now (s .entry)) (now (m .entry)) (now (starts .entry)) (now (maps .entry)) (now (starts .exit)) (now (maps .exit)) ⌝ }
-{
-    if full {
-        *starts = *s;
-        *maps = *m;
-    }
-}
+ghost use Rattle.derive_rollback.specs.Answered.{Answers};
 
 // The derived number that number h of table t is mapped to.
 pub fn mapped_to(maps: &Maps, t: usize, h: u32) -> u32
@@ -306,7 +233,7 @@ pub fn import_global(
     let mut s = [[0u32; 512]; 8];
     let mut m = [[0u32; 512]; 6];
     save(words, starts, maps, ends, &mut s, &mut m);
-    let got = derive_constants::import_global(
+    let got = derive_globals::import_global(
         words,
         tags,
         targets,

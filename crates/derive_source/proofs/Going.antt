@@ -10,9 +10,9 @@ use Rattle.derive_state.specs.Held.{tableOf, stOf, sizeR, ValidArrays, Specials
 use Rattle.derive_state.specs.Marks.{Marks}
 use Rattle.derive_state.specs.declared.Sizes.{Sizes}
 use Rattle.derive_state.proofs.State.{same-refl, same-then, marks-refl, marks-then, table-stays}
-use Rattle.derive_types.proofs.Growth.{Grow, over-grow}
-use Rattle.derive_source.specs.Derives.{Aside, Derives}
-use Rattle.derive_source.proofs.Deriving.{aside-refl, aside-then, full-derives}
+use Rattle.derive_names.proofs.Growth.{Grow, over-grow}
+use Rattle.derive_special.specs.Derives.{Aside, Derives}
+use Rattle.derive_special.proofs.Deriving.{aside-refl, aside-then, full-derives}
 
 -- g is left of the whole, f
 pub record Going (words : List ℕ) (f g : Derived → Derived) (log₀ logtags₀ : List ℕ) (starts₀ maps₀ : List (List ℕ)) (buckets₀ special₀ : List ℕ) (e₀ : Sizes) (log logtags : List ℕ) (starts maps : List (List ℕ)) (buckets special : List ℕ) (e : Sizes) : Type 0 where

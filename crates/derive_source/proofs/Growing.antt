@@ -8,7 +8,7 @@ use Rattle.model.specs.Names.{field}
 use Rattle.model.specs.Tables.{types, Tables}
 use Rattle.model.specs.Imports.{Derived, importT}
 use Rattle.model.specs.Special.{rayTo, ray, rays, keyed, pairTo, pairs}
-use Rattle.derive_types.proofs.Growth.{Grow, stay, then, grow-T, grow-force, grow-ray, grow-pair}
+use Rattle.derive_names.proofs.Growth.{Grow, stay, then, grow-T, grow-force, grow-ray, grow-pair}
 
 grow-ray-to : (v k n o : ℕ) (T : Tables) (s : Derived) → Grow s (rayTo v k n o T s)
 unfolding rayTo

@@ -1,9 +1,5 @@
-pub mod Keys
 pub mod Reading
 pub mod Growing
-pub mod Words
-pub mod Deriving
-pub mod Steps
 pub mod Going
 pub mod Loops
 pub mod Setting

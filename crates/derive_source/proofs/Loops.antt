@@ -16,7 +16,7 @@ use Rattle.derive_state.specs.Flats.{pairsAt}
 use Rattle.derive_state.specs.Source.{modOf, srcOf, Source}
 use Rattle.derive_state.specs.Held.{stOf, ValidArrays, Specials}
 use Rattle.derive_state.specs.declared.Sizes.{Sizes}
-use Rattle.derive_source.specs.Derives.{pairOf, Derives}
+use Rattle.derive_special.specs.Derives.{pairOf, Derives}
 use Rattle.derive_source.proofs.Reading.{three, ray-word, ray-low, pairs-are, special-in, pair-low}
 use Rattle.derive_source.proofs.Growing.{grow-rays, grow-pairs}
 use Rattle.derive_source.proofs.Going.{Going, going-first, going-next, going-full, going-done}

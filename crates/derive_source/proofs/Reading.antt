@@ -27,7 +27,7 @@ use Rattle.theory_finish.specs.Sessions.{specials-in}
 use Rattle.derive_state.specs.Refers.{tabOf}
 use Rattle.derive_state.specs.Flats.{pairsAt}
 use Rattle.derive_state.specs.Source.{modOf, srcOf, Source}
-use Rattle.derive_types.proofs.Sources.{count-is}
+use Rattle.derive_names.proofs.Sources.{count-is}
 
 -- ---- cells laid out by their row are the row's classes and the words
 pair-long : {r : Cells} → Plainly (KEY ∷ TYPE ∷ []) r → length r ≡ 2

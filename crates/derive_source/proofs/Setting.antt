@@ -13,9 +13,10 @@ use Rattle.derive_state.specs.Held.{stOf, ValidArrays, Specials}
 use Rattle.derive_state.specs.declared.Sizes.{Sizes}
 use Rattle.derive_state.proofs.State.{tab-code, code-low, st-stays, kept-stays}
 use Rattle.derive_state.proofs.Fresh.{forgotten, kept-forgotten}
-use Rattle.derive_types.proofs.Sources.{count-is, few}
-use Rattle.derive_rollback.specs.Taken.{Restored}
-use Rattle.derive_source.specs.Derives.{Derives, Sourced, SourceSet, Replaced}
+use Rattle.derive_names.proofs.Sources.{count-is, few}
+use Rattle.derive_snapshot.specs.Snapshot.{Restored}
+use Rattle.derive_special.specs.Derives.{Derives}
+use Rattle.derive_source.specs.SourceSet.{Sourced, SourceSet, Replaced}
 use Rattle.derive_source.proofs.Growing.{grow-pairs}
 use Rattle.derive_source.proofs.Going.{Going, going-first, going-next, going-full, going-last}
 

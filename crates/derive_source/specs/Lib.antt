@@ -1,4 +1,4 @@
-pub mod Derives
+pub mod SourceSet
 pub mod Cleared
 pub mod Examples
 pub mod Theorems

@@ -20,7 +20,7 @@ use Rattle.derive_state.specs.declared.Sizes.{Sizes}
 use Rattle.derive_state.proofs.Laws.{none-held}
 use Rattle.derive_limits.specs.Reached.{Reached, sourced-at}
 use Rattle.derive_limits.specs.Theorems.{Exactly, exact-at, kept-full, kept-room, kept-not-over}
-use Rattle.derive_source.specs.Derives.{SourceSet}
+use Rattle.derive_source.specs.SourceSet.{SourceSet}
 
 -- the arrays hold the state, apart from the maps
 pub record Holding (s : Derived) (log logtags : List ℕ) (starts : List (List ℕ)) (special : List ℕ) (e : Sizes) : Type 0 where

@@ -1,5 +1,1 @@
-pub mod Steps
-pub mod Growth
-pub mod Sources
-pub mod Turns
 pub mod Renames

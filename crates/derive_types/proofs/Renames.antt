@@ -34,9 +34,9 @@ use Rattle.derive_state.specs.Flats.{specialOf}
 use Rattle.derive_state.specs.Held.{cell, recsOf, functionsOf, mapsOf, stOf, ValidArrays, Lands, Nameless, Readable, carriedBy}
 use Rattle.derive_state.specs.declared.Sizes.{Sizes}
 use Rattle.derive_state.proofs.State.{code-low, six-ext, same-refl, marks-refl}
-use Rattle.derive_types.proofs.Growth.{Grow, then, over-grow, grow-settle, grow-each, grow-T}
-use Rattle.derive_types.proofs.Sources.{wf, count-is, inside, stretch, record-is, record-lower, small-of}
-use Rattle.derive_types.proofs.Turns.{Turn, beside-refl, lands-then, map-is, lands-known, turn-done, carried-by, turn-last}
+use Rattle.derive_names.proofs.Growth.{Grow, then, over-grow, grow-settle, grow-each, grow-T}
+use Rattle.derive_names.proofs.Sources.{wf, count-is, inside, stretch, record-is, record-lower, small-of}
+use Rattle.derive_names.proofs.Turns.{Turn, beside-refl, lands-then, map-is, lands-known, turn-done, carried-by, turn-last}
 
 -- type k is taken for these cells, carried
 abbrev taken : ℕ → ℕ → Cells → Derived → Derived

@@ -13,7 +13,7 @@ use Rattle.model.specs.Bodies.{Builder, bring, appendExpr, internExpr}
 use Rattle.theory_passes.specs.Growth.{Growing, longer}
 use Rattle.theory_passes.specs.Light.{still}
 use Rattle.derive_state.specs.Held.{Over, long, many, crowd, keys}
-use Rattle.derive_types.proofs.Growth.{Grow, stay, then, over-grow, grow-T}
+use Rattle.derive_names.proofs.Growth.{Grow, stay, then, over-grow, grow-T}
 
 pub record GrowM (m m′ : Builder) : Type 0 where
   pub out-grows : Grow (m .out) (m′ .out)

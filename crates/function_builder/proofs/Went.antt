@@ -13,7 +13,7 @@ use Rattle.theory_records.specs.RecordLaws.{All, all-map, carry-same}
 use Rattle.derive_state.specs.Source.{modOf}
 use Rattle.derive_state.specs.Held.{stOf, carriedBy}
 use Rattle.derive_state.specs.declared.Sizes.{Sizes}
-use Rattle.derive_types.proofs.Turns.{map-is}
+use Rattle.derive_names.proofs.Turns.{map-is}
 use Rattle.function_references.specs.Fits.{Fits, FitN}
 use Rattle.function_builder.specs.Stacks.{wentOf, makingOf}
 

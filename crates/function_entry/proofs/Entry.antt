@@ -38,8 +38,8 @@ use Rattle.derive_state.specs.Marks.{Marks}
 use Rattle.derive_state.specs.declared.Sizes.{Sizes}
 use Rattle.derive_state.proofs.Passes.{length-between}
 use Rattle.derive_state.proofs.State.{six-ext, code-low, same-then, marks-refl, marks-then, tab-long, words-are, table-stays, Joins, table-more, table-same, kept-more}
-use Rattle.derive_types.proofs.Growth.{over-grow}
-use Rattle.derive_types.proofs.Turns.{map-is}
+use Rattle.derive_names.proofs.Growth.{over-grow}
+use Rattle.derive_names.proofs.Turns.{map-is}
 use Rattle.derive_lookup.specs.Bearing.{Bearing}
 use Rattle.derive_lookup.proofs.Bears.{bearing}
 use Rattle.function_references.specs.Fits.{Fits, FitN, Legible}
@@ -51,10 +51,11 @@ use Rattle.function_builder.proofs.Then.{kept-tops}
 use Rattle.function_outside.proofs.Passing.{grow-outward}
 use Rattle.function_parts.specs.Part.{Part, Indexed, entry, entry-there, entry-part, placesOf, indexed, k-few, body-here, order}
 use Rattle.function_parts.specs.Fitting.{head-is, head-fits, head-legible, legible-more}
-use Rattle.function_passes.specs.Runs.{Deep}
+use Rattle.function_words.specs.Runs.{Deep}
 use Rattle.function_nesting.specs.Nested.{walkedS, keptS, finalS, frontS, namesS, bodyS, cellsS, enteredS, entryCellsS, ReadyF}
 use Rattle.function_nesting.specs.Classes.{made-bytes, head-bytes}
-use Rattle.function_record.specs.Closed.{pairsIn, closing, Closes}
+use Rattle.function_names.specs.Named.{pairsIn}
+use Rattle.function_record.specs.Closed.{closing, Closes}
 use Rattle.function_localize.specs.Localized.{Nested, Localizes}
 use Rattle.function_localize.proofs.Starts.{part-function}
 use Rattle.function_localize.proofs.Closings.{between-at, closing-is, close-low, close-pairs as pairs-fill}

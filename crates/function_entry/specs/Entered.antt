@@ -16,7 +16,7 @@ use Rattle.derive_state.specs.Held.{tableOf, entriesOf, stOf, sizeR, Over, Vali
 use Rattle.derive_state.specs.Marks.{Marks}
 use Rattle.derive_state.specs.declared.Sizes.{Sizes}
 use Rattle.function_builder.specs.Stacks.{Stacks}
-use Rattle.function_passes.specs.Runs.{Deep}
+use Rattle.function_words.specs.Runs.{Deep}
 
 -- an entry point whose function and callees can be imported
 pub record NestedE (words : List ℕ) (n : ℕ) (log logtags : List ℕ) (starts maps : List (List ℕ)) (e : Sizes) (o room : ℕ) (E : Entry) : Type 0 where

@@ -7,6 +7,7 @@ use base_views::EXPRESSIONS;
 use base_words::Tags;
 use base_words::Words;
 use base_words::wide;
+use derive_names::refers_to;
 use derive_state::Buckets;
 use derive_state::ExprMap;
 use derive_state::Log;
@@ -17,20 +18,16 @@ use derive_state::Sizes;
 use derive_state::StackRows;
 use derive_state::Starts;
 use derive_state::Targets;
-use derive_types::refers_to;
 use function_builder::append;
-use function_builder::merge;
 use function_builder::slot;
 use function_outside::import_by_table;
 use function_outside::import_outside;
-use function_outside::import_record;
 use function_outside::missing;
 ghost use mathlib.Core.Path.{_≡_};
 ghost use mathlib.Core.Bool.{true, false};
 ghost use Prim.Native.Nat.{_<_};
 ghost use lib.ListN.{getD};
 ghost use Rattle.model.specs.Operands.{standingKind};
-ghost use Rattle.model.specs.Bodies.{importInitialiser as uniqueE};
 ghost use Rattle.theory_bodies.specs.Shallow.{need as needE, glance as glanceE};
 ghost use Rattle.theory_passes.specs.Light.{still};
 ghost use Rattle.derive_state.specs.Source.{modOf};
@@ -261,106 +258,4 @@ pub fn import_standing(
         }
     }
     got
-}
-
-// Imports expression e of an initialiser, with its operands, where it is not mapped.
-pub fn unique(
-    words: &Words,
-    tags: &Tags,
-    targets: &Targets,
-    n: usize,
-    places: &Places,
-    log: &mut Log,
-    logtags: &mut LogTags,
-    starts: &mut Starts,
-    maps: &mut Maps,
-    buckets: &mut Buckets,
-    exprmap: &mut ExprMap,
-    stacks: &mut StackRows,
-    ends: Sizes,
-    offset: u32,
-    e1: usize,
-    k: usize,
-    e: usize,
-) -> Sizes
-    requires { ⌜ Ground (now words) (now tags) (now targets) n ⌝ }
-    requires { ⌜ Expressions (now words) (now tags) (now places) k ⌝ }
-    requires { ⌜ (e < k) × (ends .full ≡ false) ⌝ }
-    requires { ⌜ ValidArrays (now log) (now logtags) (now starts) (now maps) (now buckets) ends ⌝ }
-    requires { ⌜ Under k (now exprmap) (now stacks) e1 ends ⌝ }
-    ensures { λ r. ⌜ Makes (now (words .entry)) k (uniqueE offset (modOf (now (words .entry)) n) still (exprsOf (now (words .entry)) (now (tags .entry)) (now (places .entry)) k) e) (now (log .entry)) (now (logtags .entry)) (now (starts .entry)) (now (maps .entry)) (now (buckets .entry)) (now (exprmap .entry)) (now (stacks .entry)) e1 ends r (now (log .exit)) (now (logtags .exit)) (now (starts .exit)) (now (maps .exit)) (now (buckets .exit)) (now (exprmap .exit)) (now (stacks .exit)) ⌝ }
-{
-    if exprmap[e] != 0 {
-        return ends;
-    }
-    let end = slot(places[e + 1]);
-    let mut got = ends;
-    let mut i = slot(places[e]);
-    while i < end {
-        let j = i;
-        i += 1;
-        let s = tags[j];
-        let r = refers_to(targets, s, words[j]);
-        if s < EXPR {
-            got = import_record(
-                words,
-                tags,
-                targets,
-                n,
-                log,
-                logtags,
-                starts,
-                maps,
-                buckets,
-                got,
-                offset,
-                r.table,
-                r.number,
-            );
-            if got.full {
-                return got;
-            }
-        } else if r.table == EXPRESSIONS {
-            got = unique(
-                words,
-                tags,
-                targets,
-                n,
-                places,
-                log,
-                logtags,
-                starts,
-                maps,
-                buckets,
-                exprmap,
-                stacks,
-                got,
-                offset,
-                e1,
-                k,
-                wide(r.number),
-            );
-            if got.full {
-                return got;
-            }
-        }
-    }
-    merge(
-        words,
-        tags,
-        targets,
-        n,
-        places,
-        log,
-        logtags,
-        starts,
-        maps,
-        exprmap,
-        stacks,
-        got,
-        offset,
-        e1,
-        k,
-        e,
-    )
 }

@@ -24,7 +24,8 @@ use Rattle.derive_state.proofs.State.{table-stays}
 use Rattle.function_references.specs.Fits.{Ground}
 use Rattle.function_builder.specs.Stacks.{Stacks}
 use Rattle.function_parts.specs.Part.{Part, Indexed, placesOf, function-part, order, long, small, k-few, body-here}
-use Rattle.function_record.specs.Closed.{pairsIn, closing, Closes}
+use Rattle.function_names.specs.Named.{pairsIn}
+use Rattle.function_record.specs.Closed.{closing, Closes}
 use Rattle.function_nesting.specs.Nested.{followS, appendS, Ready, ReadyF}
 use Rattle.function_localize.specs.Localized.{Nested, NestedF, Localizes, Nests}
 use Rattle.function_localize.proofs.Starts.{part-function}

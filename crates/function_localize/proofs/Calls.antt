@@ -19,8 +19,8 @@ use Rattle.function_builder.specs.Stacks.{wentOf, madeOf, makingOf, Under}
 use Rattle.function_builder.specs.Makes.{Pushed}
 use Rattle.function_builder.proofs.Stack.{made-low, made-same, under-same}
 use Rattle.function_builder.proofs.Then.{making-is}
-use Rattle.function_passes.specs.Runs.{Runs}
-use Rattle.function_passes.proofs.Running.{runs-push, runs-then}
+use Rattle.function_words.specs.Runs.{Runs}
+use Rattle.function_words.proofs.Running.{runs-push, runs-then}
 use Rattle.function_localize.specs.Localized.{Nests}
 
 module _ (words : List ℕ) (n k o e₁ : ℕ) (follow : ℕ → Derived → Derived) (p q : ℕ → Builder → Builder) (f : ℕ) (cs : Cells) (u : Bool) where

@@ -19,8 +19,8 @@ use Rattle.function_outside.proofs.Passing.{legible-here}
 use Rattle.function_builder.specs.Stacks.{wentBy}
 use Rattle.function_parts.specs.Part.{Part}
 use Rattle.function_runs.specs.Copied.{Quiet, becomes, flagOf, Ran}
-use Rattle.function_passes.specs.Runs.{needs, glances}
-use Rattle.function_passes.proofs.Calm.{long, long-none, run-turns, becomes-long, becomes-by, needs-idle, quiet-runs}
+use Rattle.function_words.specs.Runs.{needs, glances}
+use Rattle.function_words.proofs.Calm.{long, long-none, run-turns, becomes-long, becomes-by, needs-idle, quiet-runs}
 use Rattle.function_localize.proofs.Locals.{Going, other-runs, going-next}
 
 -- a Call names a function

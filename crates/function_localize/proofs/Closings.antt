@@ -23,7 +23,8 @@ use Rattle.derive_state.specs.Held.{row, stOf}
 use Rattle.derive_state.specs.declared.Sizes.{Sizes}
 use Rattle.derive_state.proofs.Passes.{length-between}
 use Rattle.function_parts.specs.Part.{Part, Indexed, front-is, front-run, body-is, body-run, order, long}
-use Rattle.function_record.specs.Closed.{pairsIn, nameCells, closing}
+use Rattle.function_names.specs.Named.{pairsIn}
+use Rattle.function_record.specs.Closed.{nameCells, closing}
 use Rattle.function_nesting.specs.Nested.{walkedS, keptS, frontS, namesS, bodyS, cellsS}
 use Rattle.function_nesting.specs.Classes.{made-bytes}
 use Rattle.function_localize.specs.Localized.{Localizes}

@@ -30,7 +30,7 @@ use Rattle.derive_state.specs.Source.{modOf}
 use Rattle.function_references.specs.Fits.{Fits, FitN, Legible}
 use Rattle.function_outside.proofs.Passing.{legible-next, legible-here}
 use Rattle.function_runs.proofs.Firsts.{first-some}
-use Rattle.function_passes.proofs.Words.{Lows, compares-lows}
+use Rattle.function_words.proofs.Words.{Lows, compares-lows}
 use Rattle.function_parts.specs.Part.{Part, Indexed, k-many, front-is, body-is}
 use Rattle.function_parts.specs.Fitting.{expr-fits, front-legible, body-legible}
 use Rattle.function_nesting.specs.Nested.{declaredS, walkedS}

@@ -21,13 +21,13 @@ use Rattle.derive_state.specs.Source.{modOf}
 use Rattle.derive_state.specs.Held.{row, tableOf, stOf, sizeR, Over, long, ValidArrays}
 use Rattle.derive_state.specs.declared.Sizes.{Sizes}
 use Rattle.derive_state.proofs.State.{same-then, marks-then}
-use Rattle.derive_types.proofs.Growth.{Grow}
+use Rattle.derive_names.proofs.Growth.{Grow}
 use Rattle.function_builder.specs.Stacks.{makingOf}
 use Rattle.function_builder.proofs.Stack.{made-many, made-flat}
 use Rattle.function_builder.proofs.Growth.{over-more}
 use Rattle.function_builder.proofs.Then.{kept-tops}
 use Rattle.function_parts.specs.Part.{Part, Indexed, body-is, order, long as lengths}
-use Rattle.function_record.specs.Closed.{pairsIn, namedRecords, namesOut, namesRows, pairsOf, Keeps, Renames}
+use Rattle.function_names.specs.Named.{pairsIn, namedRecords, namesOut, namesRows, pairsOf, Keeps, Renames}
 use Rattle.function_nesting.specs.Nested.{walkedS, keptS, finalS, frontS, namesS, bodyS, cellsS}
 use Rattle.function_localize.specs.Localized.{Localizes}
 use Rattle.function_localize.proofs.Ways.{slice-same, way-entries, Turn, cells-long, way-full, walked-is, body-is as body-words, body-top}

@@ -32,9 +32,9 @@ use Rattle.function_builder.proofs.Then.{kept-tops}
 use Rattle.function_parts.specs.Part.{Part, Indexed, indexed, order, long, k-few, body-is}
 use Rattle.function_parts.specs.Exprs.{finds-few}
 use Rattle.function_parts.specs.Body.{callee-in}
-use Rattle.function_passes.specs.Runs.{unites, needs, glances, Bodied, Runs}
-use Rattle.function_passes.proofs.Words.{fits-all}
-use Rattle.function_record.specs.Closed.{namedRecords, Keeps, Renames}
+use Rattle.function_words.specs.Runs.{unites, needs, glances, Bodied, Runs}
+use Rattle.function_words.proofs.Words.{fits-all}
+use Rattle.function_names.specs.Named.{namedRecords, Keeps, Renames}
 use Rattle.function_nesting.specs.Nested.{followS, Ready}
 use Rattle.function_nesting.specs.Growth.{follow-grows}
 use Rattle.function_localize.specs.Localized.{Nested, NestedAt, Localizes, Nests}

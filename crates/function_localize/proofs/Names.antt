@@ -19,7 +19,7 @@ use Rattle.theory_passes.specs.Pass.{arrive, named, rows}
 use Rattle.theory_passes.specs.Light.{still}
 use Rattle.function_parts.specs.Part.{Part, Indexed, named-many}
 use Rattle.function_parts.specs.Named.{named-at}
-use Rattle.function_record.specs.Closed.{pairWords, pairsIn, namedRecords, bare, idle, namesOut, namesRows}
+use Rattle.function_names.specs.Named.{pairWords, pairsIn, namedRecords, bare, idle, namesOut, namesRows}
 
 -- ---- pairs as words
 pub pairs-back : (ps : List (ℕ × ℕ)) → pairsIn (pairWords ps) ≡ ps

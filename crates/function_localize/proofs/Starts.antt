@@ -24,7 +24,7 @@ use Rattle.derive_state.specs.Flats.{functionOf}
 use Rattle.derive_state.specs.Source.{modOf}
 use Rattle.derive_state.specs.Held.{row, tableOf, stOf, sizeR, Over, ValidArrays}
 use Rattle.derive_state.specs.declared.Sizes.{Sizes}
-use Rattle.derive_types.proofs.Growth.{Grow}
+use Rattle.derive_names.proofs.Growth.{Grow}
 use Rattle.function_references.specs.Cuts.{cut, Rising}
 use Rattle.function_builder.specs.Stacks.{seatsOf, madeOf, makingOf, Stacks, Under}
 use Rattle.function_builder.proofs.Growth.{GrowM, growing-by, over-more}
@@ -34,7 +34,7 @@ use Rattle.function_parts.specs.Exprs.{exprs-are}
 use Rattle.function_parts.specs.Fitting.{front-legible, body-legible}
 use Rattle.function_parts.specs.Front.{front-declaring}
 use Rattle.function_parts.specs.Body.{emit-at}
-use Rattle.function_passes.specs.Runs.{unites, Declares, Runs}
+use Rattle.function_words.specs.Runs.{unites, Declares, Runs}
 use Rattle.function_nesting.specs.Nested.{declaredS, walkedS, finalS, frontS, bodyS, cellsS}
 use Rattle.function_nesting.specs.Single.{function-back}
 use Rattle.function_localize.specs.Localized.{Localizes}

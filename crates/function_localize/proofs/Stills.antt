@@ -27,8 +27,8 @@ use Rattle.function_outside.proofs.Cells.{arrive-own, arrive-none, arrive-other
 use Rattle.function_parts.specs.Part.{Part, Indexed}
 use Rattle.function_parts.specs.Exprs.{exprs-are}
 use Rattle.function_parts.specs.Body.{callee-class}
-use Rattle.function_passes.specs.Runs.{needs, glances, Runs}
-use Rattle.function_passes.proofs.Running.{runs-as}
+use Rattle.function_words.specs.Runs.{needs, glances, Runs}
+use Rattle.function_words.proofs.Running.{runs-as}
 
 module _ (o : ℕ) (M : Module) (follow : ℕ → Derived → Derived) (p q : ℕ → Builder → Builder) (s w : ℕ) (no : targetOf (target s) ≡ 7 → ⊥) where
   arrive-alike : (m : Builder) → arrive o M follow p q (target s) w m ≡ arrive o M still p q (target s) w m

@@ -28,13 +28,13 @@ use Rattle.derive_state.specs.Marks.{Marks}
 use Rattle.derive_state.specs.declared.Sizes.{Sizes}
 use Rattle.derive_state.proofs.Passes.{length-between}
 use Rattle.derive_state.proofs.State.{same-then, marks-then, table-stays}
-use Rattle.derive_types.proofs.Growth.{Grow, over-grow}
+use Rattle.derive_names.proofs.Growth.{Grow, over-grow}
 use Rattle.function_references.specs.Fits.{Legible}
 use Rattle.function_outside.proofs.Passing.{legible-next}
 use Rattle.function_builder.specs.Stacks.{makingOf, Under}
 use Rattle.function_builder.proofs.Stack.{slice-join, made-words}
 use Rattle.function_builder.proofs.Growth.{GrowM, growing-by, growing, over-more, over-growM}
-use Rattle.function_passes.specs.Runs.{Along, Deep, Runs}
+use Rattle.function_words.specs.Runs.{Along, Deep, Runs}
 use Rattle.function_nesting.specs.Nested.{declaredS, walkedS, keptS, finalS, frontS, namesS, bodyS, cellsS, ReadyFrom}
 use Rattle.function_localize.specs.Localized.{Localizes, Nests}
 use Rattle.function_localize.proofs.Calls.{called}

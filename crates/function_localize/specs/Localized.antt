@@ -17,7 +17,7 @@ use Rattle.derive_state.specs.Held.{row, tableOf, stOf, sizeR, Over, ValidArray
 use Rattle.derive_state.specs.Marks.{Marks}
 use Rattle.derive_state.specs.declared.Sizes.{Sizes}
 use Rattle.function_builder.specs.Stacks.{Stacks}
-use Rattle.function_passes.specs.Runs.{Along, Deep}
+use Rattle.function_words.specs.Runs.{Along, Deep}
 
 -- ---- a function of a source whose functions are in scope, with room for `room` functions in progress; each callee can be imported
 pub record Nested (words : List ℕ) (n : ℕ) (log logtags : List ℕ) (starts maps : List (List ℕ)) (e : Sizes) (o room : ℕ) (F : Function) : Type 0 where

@@ -20,7 +20,7 @@ use Rattle.theory_passes.specs.Light.{still, still-grow-front, still-grow-body}
 use Rattle.derive_state.specs.Flats.{functionOf}
 use Rattle.derive_state.specs.Held.{wordsOf}
 use Rattle.derive_state.proofs.State.{sizeR-append}
-use Rattle.derive_types.proofs.Growth.{Grow, stay, then, grow-T}
+use Rattle.derive_names.proofs.Growth.{Grow, stay, then, grow-T}
 use Rattle.function_nesting.specs.Nested.{declaredS, walkedS, keptS, finalS, cellsS, appendS, followS}
 
 -- ---- one function more

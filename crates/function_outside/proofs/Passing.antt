@@ -25,8 +25,8 @@ use Rattle.derive_state.specs.Marks.{Marks}
 use Rattle.derive_state.specs.declared.Sizes.{Sizes}
 use Rattle.derive_state.proofs.Passes.{all-here, all-next}
 use Rattle.derive_state.proofs.State.{same-refl, same-then, marks-refl, marks-then, table-stays}
-use Rattle.derive_types.proofs.Growth.{Grow, stay, then, over-grow, grow-T}
-use Rattle.derive_types.proofs.Turns.{beside-refl, beside-then}
+use Rattle.derive_names.proofs.Growth.{Grow, stay, then, over-grow, grow-T}
+use Rattle.derive_names.proofs.Turns.{beside-refl, beside-then}
 use Rattle.function_references.specs.Fits.{FitN, Legible, recordOf}
 use Rattle.function_outside.proofs.Cells.{outward-inner, outward-still, fit-table}
 

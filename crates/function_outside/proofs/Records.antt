@@ -15,7 +15,7 @@ use Rattle.derive_state.specs.Source.{Source, srcOf}
 use Rattle.derive_state.specs.Held.{cell, stOf, ValidArrays, Lands}
 use Rattle.derive_state.specs.declared.Sizes.{Sizes}
 use Rattle.derive_state.proofs.State.{same-refl, marks-refl}
-use Rattle.derive_types.proofs.Turns.{beside-refl, turn-known}
+use Rattle.derive_names.proofs.Turns.{beside-refl, turn-known}
 use Rattle.function_references.specs.Fits.{recordOf}
 use Rattle.function_outside.proofs.Cells.{record-none}
 

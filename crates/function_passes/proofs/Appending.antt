@@ -15,7 +15,7 @@ use Rattle.function_references.specs.Cuts.{exprsOf, Expressions}
 use Rattle.function_builder.specs.Stacks.{Under}
 use Rattle.function_builder.specs.Makes.{Makes, Lays}
 use Rattle.function_expressions.proofs.Needs.{need-idle}
-use Rattle.function_passes.specs.Runs.{needs, Drawn}
+use Rattle.function_words.specs.Runs.{needs, Drawn}
 use Rattle.function_passes.proofs.Drawn.{drawn-on, drawn-next, need-appends}
 use Rattle.function_passes.proofs.Ranges.{Ranging, range-begin, range-more, range-full, range-done, needs-grow}
 

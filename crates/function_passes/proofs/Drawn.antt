@@ -32,8 +32,8 @@ use Rattle.function_references.specs.Cuts.{exprsOf, Expressions}
 use Rattle.function_builder.specs.Stacks.{makingOf, Under}
 use Rattle.function_builder.specs.Makes.{Makes}
 use Rattle.function_builder.proofs.Then.{makes-then}
-use Rattle.function_passes.specs.Runs.{glances, Met, MetN, Drawn}
-use Rattle.function_passes.proofs.Running.{makes-idle}
+use Rattle.function_words.specs.Runs.{glances, Met, MetN, Drawn}
+use Rattle.function_words.proofs.Running.{makes-idle}
 
 -- ---- an import of a table's record: the maps keep their lengths, and what was mapped is
 record Spread (s s′ : Derived) : Type 0 where

@@ -1,9 +1,3 @@
-pub mod Running
-pub mod Words
 pub mod Drawn
 pub mod Ranges
 pub mod Appending
-pub mod Declaring
-pub mod Body
-pub mod Calm
-pub mod Declared

@@ -20,8 +20,8 @@ use Rattle.function_builder.specs.Stacks.{Under}
 use Rattle.function_builder.specs.Makes.{Makes, Pushed}
 use Rattle.function_builder.proofs.Growth.{GrowM, growing}
 use Rattle.function_builder.proofs.Then.{makes-then, makes-full}
-use Rattle.function_passes.specs.Runs.{needs, glances, Runs}
-use Rattle.function_passes.proofs.Running.{runs-of, runs-then, runs-full, runs-put, made-count, makes-as, makes-idle}
+use Rattle.function_words.specs.Runs.{needs, glances, Runs}
+use Rattle.function_words.proofs.Running.{runs-of, runs-then, runs-full, runs-put, made-count, makes-as, makes-idle}
 
 abbrev ranged : ℕ → ℕ → (ℕ → Builder → Builder) → Builder → Builder
 ranged a b h = eachE (inRange (record { from = a; to = b })) h

@@ -11,6 +11,7 @@ use base_views::EXPRESSIONS;
 use base_words::Tags;
 use base_words::Words;
 use base_words::wide;
+use derive_names::refers_to;
 use derive_state::Buckets;
 use derive_state::ExprMap;
 use derive_state::Log;
@@ -21,272 +22,33 @@ use derive_state::Sizes;
 use derive_state::StackRows;
 use derive_state::Starts;
 use derive_state::Targets;
-use derive_state::moved;
-use derive_types::refers_to;
 use function_builder::append;
-use function_builder::carried;
 use function_builder::push;
 use function_expressions::import_operand;
 use function_expressions::import_standing;
-use function_expressions::unique;
-use function_outside::import_by_table;
 use function_outside::import_record;
 use function_runs::atomic;
-use function_runs::copy_mapped_run;
-use function_runs::span_undefined;
+use function_words::put_word;
 ghost use mathlib.Core.Path.{_≡_};
 ghost use mathlib.Core.Bool.{false};
-ghost use mathlib.Core.List.{List, [], _∷_, map};
+ghost use mathlib.Core.List.{List, [], _∷_};
 ghost use Prim.Native.Nat.{ℕ, suc, _≤_, _<_, _+_};
 ghost use lib.ListN.{length, getD};
-ghost use Rattle.model.specs.Outcome.{word};
 ghost use Rattle.model.specs.Between.{between, Stretch};
 ghost use Rattle.model.specs.Operands.{optional};
-ghost use Rattle.model.specs.References.{target, refOf, through, moved as movedOf};
+ghost use Rattle.model.specs.References.{target, refOf};
 ghost use Rattle.model.specs.Scope.{inRange};
 ghost use Rattle.model.specs.Bodies.{Builder, comparesOf, eachE};
 ghost use Rattle.theory_records.specs.RecordLaws.{All};
-ghost use Rattle.theory_passes.specs.Pass.{arrive as arriveE, first, both, early, passed, wordOf, after, written};
+ghost use Rattle.theory_passes.specs.Pass.{arrive as arriveE, first, both, early, passed, wordOf};
 ghost use Rattle.theory_passes.specs.Light.{still};
 ghost use Rattle.derive_state.specs.Source.{modOf};
 ghost use Rattle.derive_state.specs.Held.{ValidArrays};
-ghost use Rattle.derive_lookup.specs.Bearing.{Bearing};
 ghost use Rattle.function_references.specs.Fits.{FitN, Ground, Legible};
 ghost use Rattle.function_references.specs.Cuts.{Expressions};
-ghost use Rattle.function_builder.specs.Stacks.{wentOf, Stacks, Under};
-ghost use Rattle.function_builder.specs.Makes.{Makes, Lays, Pushed};
-ghost use Rattle.function_passes.specs.Runs.{unites, needs, glances, Declares, Bodied, Drawn, Runs};
-
-// Pushes word i on the stack, carried through the maps and with its span moved.
-pub fn put_word(
-    words: &Words,
-    tags: &Tags,
-    targets: &Targets,
-    n: usize,
-    log: &Log,
-    logtags: &LogTags,
-    starts: &Starts,
-    maps: &Maps,
-    exprmap: &ExprMap,
-    stacks: &mut StackRows,
-    ends: Sizes,
-    offset: u32,
-    i: usize,
-    u: bool,
-) -> Sizes
-    requires { ⌜ Ground (now words) (now tags) (now targets) n ⌝ }
-    requires { ⌜ Bearing (now log) (now logtags) (now starts) ends ⌝ }
-    requires { ⌜ length (now maps) ≡ 6 ⌝ }
-    requires { ⌜ (i < 16384) × (All (FitN (now words) 1024) (refOf (target (getD (now tags) i 0)) (getD (now words) i 0) [])) ⌝ }
-    requires { ⌜ Stacks (now stacks) ends ⌝ }
-    ensures { λ r. ⌜ Pushed (movedOf (target (getD (now (tags .entry)) i 0)) (through (wentOf (now (words .entry)) n (now (log .entry)) (now (logtags .entry)) (now (starts .entry)) (now (maps .entry)) ends (now (exprmap .entry))) (getD (now (tags .entry)) i 0) (getD (now (words .entry)) i 0)) offset u) (now (stacks .entry)) ends r (now (stacks .exit)) ⌝ }
-{
-    let s = tags[i];
-    let w = carried(
-        words,
-        tags,
-        targets,
-        n,
-        log,
-        logtags,
-        starts,
-        maps,
-        exprmap,
-        ends,
-        s,
-        words[i],
-    );
-    push(stacks, ends, moved(s, w, offset, u))
-}
-
-// So many words more on the stack of words.
-pub fn advance(e: Sizes, n: usize) -> Sizes
-    requires { ⌜ e .bodytop + n ≤ 16384 ⌝ }
-    ensures { λ r. ⌜ r ≡ record { full = false; loglen = e .loglen; counts = e .counts; pairs = e .pairs; exprtop = e .exprtop; bodytop = e .bodytop + n; made = e .made } ⌝ }
-{
-    let c = e.counts;
-    Sizes {
-        full: false,
-        loglen: e.loglen,
-        counts: c,
-        pairs: e.pairs,
-        exprtop: e.exprtop,
-        bodytop: (e.bodytop as usize + n) as u16,
-        made: e.made,
-    }
-}
-
-// Imports what word i of declarations refers to: an expression of an initialiser, or a record of a table.
-fn import_declaration_word(
-    words: &Words,
-    tags: &Tags,
-    targets: &Targets,
-    n: usize,
-    places: &Places,
-    log: &mut Log,
-    logtags: &mut LogTags,
-    starts: &mut Starts,
-    maps: &mut Maps,
-    buckets: &mut Buckets,
-    exprmap: &mut ExprMap,
-    stacks: &mut StackRows,
-    ends: Sizes,
-    offset: u32,
-    e1: usize,
-    k: usize,
-    i: usize,
-) -> Sizes
-    requires { ⌜ Ground (now words) (now tags) (now targets) n ⌝ }
-    requires { ⌜ Expressions (now words) (now tags) (now places) k ⌝ }
-    requires { ⌜ (i < 16384) × (All (FitN (now words) k) (refOf (target (getD (now tags) i 0)) (getD (now words) i 0) [])) ⌝ }
-    requires { ⌜ ends .full ≡ false ⌝ }
-    requires { ⌜ ValidArrays (now log) (now logtags) (now starts) (now maps) (now buckets) ends ⌝ }
-    requires { ⌜ Under k (now exprmap) (now stacks) e1 ends ⌝ }
-    ensures { λ r. ⌜ Makes (now (words .entry)) k (arriveE offset (modOf (now (words .entry)) n) still (unites offset (now (words .entry)) (now (tags .entry)) n (now (places .entry)) k) (unites offset (now (words .entry)) (now (tags .entry)) n (now (places .entry)) k) (target (getD (now (tags .entry)) i 0)) (getD (now (words .entry)) i 0)) (now (log .entry)) (now (logtags .entry)) (now (starts .entry)) (now (maps .entry)) (now (buckets .entry)) (now (exprmap .entry)) (now (stacks .entry)) e1 ends r (now (log .exit)) (now (logtags .exit)) (now (starts .exit)) (now (maps .exit)) (now (buckets .exit)) (now (exprmap .exit)) (now (stacks .exit)) ⌝ }
-{
-    let s = tags[i];
-    let r = refers_to(targets, s, words[i]);
-    if s < EXPR {
-        return import_by_table(
-            words,
-            tags,
-            targets,
-            n,
-            log,
-            logtags,
-            starts,
-            maps,
-            buckets,
-            ends,
-            offset,
-            r.table,
-            r.number,
-        );
-    }
-    if r.table != EXPRESSIONS {
-        return ends;
-    }
-    unique(
-        words,
-        tags,
-        targets,
-        n,
-        places,
-        log,
-        logtags,
-        starts,
-        maps,
-        buckets,
-        exprmap,
-        stacks,
-        ends,
-        offset,
-        e1,
-        k,
-        wide(r.number),
-    )
-}
-
-// Imports and writes the declarations, from `at` to `end`.
-pub fn declare(
-    words: &Words,
-    tags: &Tags,
-    targets: &Targets,
-    n: usize,
-    places: &Places,
-    log: &mut Log,
-    logtags: &mut LogTags,
-    starts: &mut Starts,
-    maps: &mut Maps,
-    buckets: &mut Buckets,
-    exprmap: &mut ExprMap,
-    stacks: &mut StackRows,
-    ends: Sizes,
-    offset: u32,
-    e1: usize,
-    k: usize,
-    at: usize,
-    end: usize,
-) -> Sizes
-    requires { ⌜ Ground (now words) (now tags) (now targets) n ⌝ }
-    requires { ⌜ Expressions (now words) (now tags) (now places) k ⌝ }
-    requires { ⌜ Declares (now words) (now tags) k at end ⌝ }
-    requires { ⌜ ends .full ≡ false ⌝ }
-    requires { ⌜ ValidArrays (now log) (now logtags) (now starts) (now maps) (now buckets) ends ⌝ }
-    requires { ⌜ Under k (now exprmap) (now stacks) e1 ends ⌝ }
-    ensures { λ r. ⌜ Runs (now (words .entry)) k (after offset (modOf (now (words .entry)) n) still (unites offset (now (words .entry)) (now (tags .entry)) n (now (places .entry)) k) (unites offset (now (words .entry)) (now (tags .entry)) n (now (places .entry)) k) (between (now (tags .entry)) (now (words .entry)) (at) end)) (λ (m : Builder). map word (written offset (modOf (now (words .entry)) n) still (unites offset (now (words .entry)) (now (tags .entry)) n (now (places .entry)) k) (unites offset (now (words .entry)) (now (tags .entry)) n (now (places .entry)) k) (between (now (tags .entry)) (now (words .entry)) (at) end) false m)) (now (log .entry)) (now (logtags .entry)) (now (starts .entry)) (now (maps .entry)) (now (buckets .entry)) (now (exprmap .entry)) (now (stacks .entry)) e1 ends r (now (log .exit)) (now (logtags .exit)) (now (starts .exit)) (now (maps .exit)) (now (buckets .exit)) (now (exprmap .exit)) (now (stacks .exit)) ⌝ }
-{
-    let mut e = ends;
-    let mut i = at;
-    let mut u = false;
-    while i < end {
-        let r = copy_mapped_run(
-            words,
-            tags,
-            targets,
-            maps,
-            exprmap,
-            stacks,
-            e.made as usize,
-            e.bodytop as usize,
-            offset,
-            i,
-            end,
-            u,
-        );
-        e = advance(e, r.at - i);
-        i = r.at;
-        u = r.undefined;
-        if i == end {
-            return e;
-        }
-        let j = i;
-        i += 1;
-        u = span_undefined(words, tags, j, end, u);
-        e = import_declaration_word(
-            words,
-            tags,
-            targets,
-            n,
-            places,
-            log,
-            logtags,
-            starts,
-            maps,
-            buckets,
-            exprmap,
-            stacks,
-            e,
-            offset,
-            e1,
-            k,
-            j,
-        );
-        if e.full {
-            return e;
-        }
-        e = put_word(
-            words,
-            tags,
-            targets,
-            n,
-            log,
-            logtags,
-            starts,
-            maps,
-            exprmap,
-            stacks,
-            e,
-            offset,
-            j,
-            u,
-        );
-        if e.full {
-            return e;
-        }
-    }
-    e
-}
+ghost use Rattle.function_builder.specs.Stacks.{Under};
+ghost use Rattle.function_builder.specs.Makes.{Makes, Lays};
+ghost use Rattle.function_words.specs.Runs.{needs, glances, Bodied, Drawn, Runs};
 
 // Imports what word i of a body refers to: an expression of the function, or a record of a table.
 fn import_body_word(

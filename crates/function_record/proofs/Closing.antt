@@ -15,7 +15,8 @@ use Rattle.derive_state.specs.Held.{row, put, Written}
 use Rattle.derive_state.specs.declared.Sizes.{Sizes}
 use Rattle.derive_state.proofs.State.{same-or, same-refl, wrote-same, wrote-log, wrote-tags, wrote-head, wrote-rec}
 use Rattle.function_builder.specs.Stacks.{Stacks}
-use Rattle.function_record.specs.Closed.{pairsIn, nameCells, namedClasses, closing, Closes}
+use Rattle.function_names.specs.Named.{pairsIn}
+use Rattle.function_record.specs.Closed.{nameCells, namedClasses, closing, Closes}
 
 -- ---- contiguous writes
 sets-then : (xs l : List ℕ) (i : ℕ) (ys : List ℕ) → sets (sets l i xs) (i + length xs) ys ≡ sets l i (xs ++ ys)

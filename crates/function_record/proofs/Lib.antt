@@ -1,4 +1,2 @@
 pub mod Copying
 pub mod Closing
-pub mod Naming
-pub mod Keeping

@@ -24,13 +24,13 @@ use Rattle.intake.specs.Taken.{numberOf, Accepts, Takes}
 use Rattle.intake.specs.declared.Taken.{Taken}
 use Rattle.intake.specs.declared.Taken.the-variants.{Accepted}
 use Rattle.intake.proofs.Refusals.{NotFirst, refused-by}
-use Rattle.derive_types.proofs.Sources.{mod-is, source-of}
+use Rattle.derive_names.proofs.Sources.{mod-is, source-of}
 use Rattle.order_bytes.proofs.Images.{list-long, list-asks}
 use Rattle.theory_link.specs.Demand.{Linking}
 use Rattle.theory_link.specs.OnBytes.{whole-words, not-taken, too-short}
 use Rattle.derive_state.specs.Source.{modOf}
 use Rattle.model.specs.Image.{wuldgisp-link, LinkEnsures}
-use Rattle.link.specs.Appends.{Linkable, LinksBy}
+use Rattle.link_words.specs.Appends.{Linkable, LinksBy}
 
 -- what linking is, where its answer and its output are known
 links-as : (image output₀ : List ℕ) (x : Linked) → linkImage image output₀ .0 ≡ x → (r : ℕ) (output : List ℕ) → r ≡ linkAnswer x → output ≡ outputAfter x output₀ → LinkEnsures r output₀ output image

@@ -1,4 +1,1 @@
-pub mod Fresh
-pub mod Appending
-pub mod ByOrder
 pub mod Images

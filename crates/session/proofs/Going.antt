@@ -11,7 +11,8 @@ use Rattle.function_builder.specs.Stacks.{Stacks}
 use Rattle.derive_session.specs.Valid.{sessionOf, ValidSession}
 use Rattle.model.specs.Image.{ScratchLengths, SessionEnsures}
 use Rattle.derive_session.specs.Fresh.{Nothing, unmapped, Empty, starts-new, valid-new, zeros}
-use Rattle.session.specs.Sessions.{saying, Stepped, orElse, numbered}
+use Rattle.session_steps.specs.Stepped.{saying, Stepped}
+use Rattle.session.specs.Sessions.{orElse, numbered}
 use Rattle.session.proofs.Running.{Left, left-start, left-end, left-next}
 
 -- between the steps

@@ -1,4 +1,2 @@
-pub mod Saying
-pub mod Parts
 pub mod Running
 pub mod Going

@@ -10,7 +10,8 @@ use Rattle.model.specs.Session.{Session, new}
 use Rattle.model.specs.Steps.{Said, Operation, operations, sets-source, clears-source, maps-span, types, renames, constants, overrides, globals, expressions, functions, new-functions, handles, required, finishes, finishes-entries, unknown, perform, part, run, answersOf, outputOf, firstRefused, session}
 use Rattle.model.specs.Image.{wuldgisp-session, SessionEnsures}
 use Rattle.model.specs.Refusals.{packed}
-use Rattle.session.specs.Sessions.{saying, Stepped, orElse, numbered}
+use Rattle.session_steps.specs.Stepped.{saying, Stepped}
+use Rattle.session.specs.Sessions.{orElse, numbered}
 
 -- ---- the first refusal
 pub first-stays : (x y : ℕ) → (x ≡ 0 → ⊥) → x ≡ orElse x y

@@ -18,11 +18,11 @@ use Rattle.model.specs.Bodies.{known, append, follow}
 use Rattle.model.specs.Refusals.{NUMBER-GIVEN, NO-SOURCE, FULL, UNKNOWN-RING}
 use Rattle.model.specs.Session.{Source, Session, Answer, answered, refused, after, withSource, unlessFull, meetsRing, importFunction, mapFunctionHandle}
 use Rattle.theory_sessions.specs.Operating.{does, functions, handles}
-use Rattle.derive_types.proofs.Growth.{Grow}
+use Rattle.derive_names.proofs.Growth.{Grow}
 use Rattle.derive_limits.specs.Growing.{function-grows, follow-grows}
 use Rattle.derive_limits.specs.Reached.{Reached, At, Public, does-reached, function-at, handle-at}
 use Rattle.derive_limits.specs.Theorems.{exact-at, kept-full, kept-room, kept-not-over}
-use Rattle.derive_source.proofs.Deriving.{specials-more}
+use Rattle.derive_special.proofs.Deriving.{specials-more}
 use Rattle.derive_state.specs.Refers.{tabOf}
 use Rattle.derive_state.specs.Flats.{functionOf}
 use Rattle.derive_state.specs.Source.{modOf}

@@ -10,8 +10,8 @@ use Rattle.derive_state.specs.declared.Sizes.{Sizes}
 use Rattle.derive_state.proofs.State.{st-stays, kept-stays}
 use Rattle.derive_state.proofs.Fresh.{rows-at}
 use Rattle.function_builder.specs.Stacks.{Stacks}
-use Rattle.derive_rollback.specs.Taken.{Saved, Restored}
-use Rattle.derive_rollback.proofs.Saved.{st-saved, kept-saved}
+use Rattle.derive_snapshot.specs.Snapshot.{Saved, Restored}
+use Rattle.derive_snapshot.proofs.Saved.{st-saved, kept-saved}
 use Rattle.function_localize.specs.Localized.{Nests}
 use Rattle.session_functions.specs.Brought.{Brings}
 

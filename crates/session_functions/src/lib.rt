@@ -14,8 +14,8 @@ use derive_lookup::known;
 use derive_rings::entries_ring;
 use derive_rings::follow_rings;
 use derive_rings::import_rings;
-use derive_rollback::restore;
-use derive_rollback::save;
+use derive_snapshot::restore;
+use derive_snapshot::save;
 use derive_state::Buckets;
 use derive_state::Log;
 use derive_state::LogTags;
@@ -30,8 +30,8 @@ use derive_state::empty;
 use function_entry::enter_all;
 use function_localize::append;
 use function_localize::follow;
+use session_operations::Answer;
 use session_operations::Finished;
-use session_operations::Said;
 ghost use mathlib.Core.Path.{_≡_};
 ghost use mathlib.Core.Bool.{true, false};
 ghost use mathlib.Core.List.{[], _∷_};
@@ -189,7 +189,7 @@ pub fn import_function(
     set: bool,
     offset: u32,
     f: u32,
-) -> Said
+) -> Answer
     requires { ⌜ ValidSession set n offset (now words) (now tags) (now targets) (now log) (now logtags) (now starts) (now maps) (now buckets) (now special) ends ⌝ }
     requires { ⌜ Stacks (now stacks) ends ⌝ }
     ensures { λ r. ⌜ OperationEnsures {A = ℕ} (importFunction f) (sessionOf set n offset (now (words .entry)) (now (log .entry)) (now (logtags .entry)) (now (starts .entry)) (now (maps .entry)) (now (special .entry)) ends) (r .refusal) (r .value) (sessionOf set n offset (now (words .entry)) (now (log .exit)) (now (logtags .exit)) (now (starts .exit)) (now (maps .exit)) (now (special .entry)) (r .ends)) ⌝ }
@@ -197,7 +197,7 @@ pub fn import_function(
     ensures { λ r. ⌜ Stacks (now (stacks .exit)) (r .ends) ⌝ }
 {
     if !set {
-        return Said {
+        return Answer {
             refusal: NO_SOURCE,
             value: 0,
             ends: ends,
@@ -205,14 +205,14 @@ pub fn import_function(
     }
     let room = count(words, FUNCTIONS);
     if room <= wide(f) {
-        return Said {
+        return Answer {
             refusal: NUMBER_GIVEN,
             value: 0,
             ends: ends,
         };
     }
     if import_rings(words, tags, n, log, logtags, starts, maps, ends, wide(f)) {
-        return Said {
+        return Answer {
             refusal: UNKNOWN_RING,
             value: 0,
             ends: ends,
@@ -236,14 +236,14 @@ pub fn import_function(
         room,
     );
     if got.full {
-        return Said {
+        return Answer {
             refusal: FULL,
             value: 0,
             ends: ends,
         };
     }
     let v = number_before(got.counts[FUNCTIONS] as u32);
-    Said {
+    Answer {
         refusal: 0,
         value: v,
         ends: got,
@@ -267,7 +267,7 @@ pub fn map_function_handle(
     set: bool,
     offset: u32,
     f: u32,
-) -> Said
+) -> Answer
     requires { ⌜ ValidSession set n offset (now words) (now tags) (now targets) (now log) (now logtags) (now starts) (now maps) (now buckets) (now special) ends ⌝ }
     requires { ⌜ Stacks (now stacks) ends ⌝ }
     ensures { λ r. ⌜ OperationEnsures {A = ℕ} (mapFunctionHandle f) (sessionOf set n offset (now (words .entry)) (now (log .entry)) (now (logtags .entry)) (now (starts .entry)) (now (maps .entry)) (now (special .entry)) ends) (r .refusal) (r .value) (sessionOf set n offset (now (words .entry)) (now (log .exit)) (now (logtags .exit)) (now (starts .exit)) (now (maps .exit)) (now (special .entry)) (r .ends)) ⌝ }
@@ -275,7 +275,7 @@ pub fn map_function_handle(
     ensures { λ r. ⌜ Stacks (now (stacks .exit)) (r .ends) ⌝ }
 {
     if !set {
-        return Said {
+        return Answer {
             refusal: NO_SOURCE,
             value: 0,
             ends: ends,
@@ -283,14 +283,14 @@ pub fn map_function_handle(
     }
     let room = count(words, FUNCTIONS);
     if room <= wide(f) {
-        return Said {
+        return Answer {
             refusal: NUMBER_GIVEN,
             value: 0,
             ends: ends,
         };
     }
     if follow_rings(words, tags, n, log, logtags, starts, maps, ends, wide(f)) {
-        return Said {
+        return Answer {
             refusal: UNKNOWN_RING,
             value: 0,
             ends: ends,
@@ -314,14 +314,14 @@ pub fn map_function_handle(
         room,
     );
     if got.full {
-        return Said {
+        return Answer {
             refusal: FULL,
             value: 0,
             ends: ends,
         };
     }
     let v = number_before(known(words, tags, n, log, logtags, starts, maps, got, wide(f)));
-    Said {
+    Answer {
         refusal: 0,
         value: v,
         ends: got,

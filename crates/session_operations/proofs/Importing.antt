@@ -23,10 +23,10 @@ use Rattle.derive_state.specs.Held.{stOf, ValidArrays, Whole}
 use Rattle.derive_state.specs.declared.Sizes.{Sizes}
 use Rattle.derive_state.proofs.State.{tab-long}
 use Rattle.derive_state.proofs.Laws.{none-held}
-use Rattle.derive_types.proofs.Sources.{count-is}
-use Rattle.derive_types.proofs.Growth.{Grow, grow-T}
-use Rattle.derive_rollback.specs.Taken.{Answers}
-use Rattle.derive_source.proofs.Deriving.{specials-more}
+use Rattle.derive_names.proofs.Sources.{count-is}
+use Rattle.derive_names.proofs.Growth.{Grow, grow-T}
+use Rattle.derive_rollback.specs.Answered.{Answers}
+use Rattle.derive_special.proofs.Deriving.{specials-more}
 use Rattle.derive_session.specs.Valid.{sessionOf, ValidSession}
 use Rattle.session_operations.specs.Operations.{OperationEnsures}
 use Rattle.session_operations.proofs.Plain.{refuses, answers}

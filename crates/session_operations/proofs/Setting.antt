@@ -25,8 +25,8 @@ use Rattle.intake.proofs.Refusals.{NotFirst, refused-by}
 use Rattle.derive_state.specs.Source.{modOf, Source}
 use Rattle.derive_state.specs.Held.{stOf}
 use Rattle.derive_state.specs.declared.Sizes.{Sizes}
-use Rattle.derive_types.proofs.Sources.{mod-is, source-of}
-use Rattle.derive_source.specs.Derives.{SourceSet}
+use Rattle.derive_names.proofs.Sources.{mod-is, source-of}
+use Rattle.derive_source.specs.SourceSet.{SourceSet}
 use Rattle.derive_source.specs.Theorems.{Holding, holding-set, holding-cleared, set-full, set-room}
 use Rattle.derive_session.specs.Valid.{sessionOf, ValidSession}
 use Rattle.session_operations.specs.Operations.{OperationEnsures}

@@ -47,7 +47,7 @@ ghost use Rattle.derive_session.specs.Valid.{sessionOf, ValidSession};
 ghost use Rattle.session_operations.specs.Operations.{OperationEnsures, Spans, Requires, Finishes};
 
 // What an operation answers: its refusal, 0 for none; a value; and the sizes of the derived module after it.
-pub struct Said {
+pub struct Answer {
     pub refusal: u32,
     pub value: u32,
     pub ends: Sizes,
@@ -172,21 +172,21 @@ pub fn import(
     offset: u32,
     t: usize,
     h: u32,
-) -> Said
+) -> Answer
     requires { ⌜ (1 ≤ t) × (t < 6) ⌝ }
     requires { ⌜ ValidSession set n offset (now words) (now tags) (now targets) (now log) (now logtags) (now starts) (now maps) (now buckets) (now special) ends ⌝ }
     ensures { λ r. ⌜ OperationEnsures {A = ℕ} (importing (tabOf t) h) (sessionOf set n offset (now (words .entry)) (now (log .entry)) (now (logtags .entry)) (now (starts .entry)) (now (maps .entry)) (now (special .entry)) ends) (r .refusal) (r .value) (sessionOf set n offset (now (words .entry)) (now (log .exit)) (now (logtags .exit)) (now (starts .exit)) (now (maps .exit)) (now (special .entry)) (r .ends)) ⌝ }
     ensures { λ r. ⌜ ValidSession set n offset (now (words .entry)) (now (tags .entry)) (now (targets .entry)) (now (log .exit)) (now (logtags .exit)) (now (starts .exit)) (now (maps .exit)) (now (buckets .exit)) (now (special .entry)) (r .ends) ⌝ }
 {
     if !set {
-        return Said {
+        return Answer {
             refusal: NO_SOURCE,
             value: 0,
             ends: ends,
         };
     }
     if count(words, t) <= wide(h) {
-        return Said {
+        return Answer {
             refusal: NUMBER_GIVEN,
             value: 0,
             ends: ends,
@@ -208,14 +208,14 @@ pub fn import(
         h,
     );
     if imported.full {
-        return Said {
+        return Answer {
             refusal: FULL,
             value: 0,
             ends: ends,
         };
     }
     let v = mapped_to(maps, t, h);
-    Said {
+    Answer {
         refusal: 0,
         value: v,
         ends: imported,
@@ -239,27 +239,27 @@ pub fn rename_type(
     offset: u32,
     h: u32,
     name: u32,
-) -> Said
+) -> Answer
     requires { ⌜ ValidSession set n offset (now words) (now tags) (now targets) (now log) (now logtags) (now starts) (now maps) (now buckets) (now special) ends ⌝ }
     ensures { λ r. ⌜ OperationEnsures {A = ℕ} (renameType h name) (sessionOf set n offset (now (words .entry)) (now (log .entry)) (now (logtags .entry)) (now (starts .entry)) (now (maps .entry)) (now (special .entry)) ends) (r .refusal) (r .value) (sessionOf set n offset (now (words .entry)) (now (log .exit)) (now (logtags .exit)) (now (starts .exit)) (now (maps .exit)) (now (special .entry)) (r .ends)) ⌝ }
     ensures { λ r. ⌜ ValidSession set n offset (now (words .entry)) (now (tags .entry)) (now (targets .entry)) (now (log .exit)) (now (logtags .exit)) (now (starts .exit)) (now (maps .exit)) (now (buckets .exit)) (now (special .entry)) (r .ends) ⌝ }
 {
     if !set {
-        return Said {
+        return Answer {
             refusal: NO_SOURCE,
             value: 0,
             ends: ends,
         };
     }
     if count(words, TYPES) <= wide(h) {
-        return Said {
+        return Answer {
             refusal: NUMBER_GIVEN,
             value: 0,
             ends: ends,
         };
     }
     if count(words, NAMES) <= wide(name) {
-        return Said {
+        return Answer {
             refusal: NUMBER_GIVEN,
             value: 0,
             ends: ends,
@@ -281,14 +281,14 @@ pub fn rename_type(
         name,
     );
     if renamed.full {
-        return Said {
+        return Answer {
             refusal: FULL,
             value: 0,
             ends: ends,
         };
     }
     let v = mapped_to(maps, TYPES, h);
-    Said {
+    Answer {
         refusal: 0,
         value: v,
         ends: renamed,

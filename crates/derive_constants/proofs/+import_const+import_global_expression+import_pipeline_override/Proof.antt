@@ -9,9 +9,9 @@ use Rattle.model.specs.Imports.{importT}
 use Rattle.derive_state.specs.Refers.{tabOf}
 use Rattle.derive_state.specs.Source.{srcOf}
 use Rattle.theory_records.specs.Well.{rank}
-use Rattle.derive_types.proofs.Sources.{tape, small-number, readable, plain-name}
-use Rattle.derive_types.proofs.Steps.{past-const, past-override, past-expr}
-use Rattle.derive_types.proofs.Turns.{Turn, turn-known, turn-first, turn-in, turn-number, turn-full, turn-next, turn-skip, turn-allowed, turn-settled, ends-in, lands-at, turn-falls}
+use Rattle.derive_names.proofs.Sources.{tape, small-number, readable, plain-name}
+use Rattle.derive_names.proofs.Steps.{past-const, past-override, past-expr}
+use Rattle.derive_names.proofs.Turns.{Turn, turn-known, turn-first, turn-in, turn-number, turn-full, turn-next, turn-skip, turn-allowed, turn-settled, ends-in, lands-at, turn-falls}
 use Prim.Native.Nat.{ℕ, _<_}
 use borrow.Fn.Kinds.{In}
 use borrow.Fn.PlainCycle.{Measures, is, falls, and}
@@ -24,9 +24,9 @@ use Rattle.derive_constants.proofs.+import_const+import_global_expressi
 use Rattle.derive_constants.proofs.import_pipeline_override.Reads as import-pipeline-override
 use Rattle.derive_constants.proofs.import_pipeline_override.Kinds as import-pipeline-override-kinds
 use Rattle.derive_constants.proofs.+import_const+import_global_expression+import_pipeline_override.Lts-import_pipeline_override as import-pipeline-override-lts
-use Rattle.derive_types.proofs.import_name.Reads as import-name-reads
+use Rattle.derive_names.proofs.import_name.Reads as import-name-reads
 use Rattle.derive_types.proofs.import_type.Reads as import-type-reads
-use Rattle.derive_types.proofs.refers_to.Reads as refers-to-reads
+use Rattle.derive_names.proofs.refers_to.Reads as refers-to-reads
 use Rattle.derive_intern.proofs.intern.Reads as intern-reads
 use Rattle.base_views.proofs.record_at.Reads as record-at-reads
 use Rattle.base_views.proofs.record_end.Reads as record-end-reads

@@ -1,5 +1,5 @@
 use native.Mathlib.Omega.{arith}
-use Rattle.derive_types.proofs.Sources.{tape}
+use Rattle.derive_names.proofs.Sources.{tape}
 use Rattle.derive_lookup.proofs.Finds.{head-in, some-name, name-in, name-few, name-reads, knows}
 use borrow.Author.Needs.{needs}
 use Rattle.derive_lookup.proofs.known.Statement.{statement}

@@ -1,6 +1,6 @@
 use native.Mathlib.Omega.{arith}
 use borrow.Author.Needs.{needs}
-use Rattle.derive_types.proofs.Sources.{tape}
+use Rattle.derive_names.proofs.Sources.{tape}
 use Rattle.derive_rings.specs.Rings.{unknownBy}
 use Rattle.derive_rings.proofs.Asking.{calls-any, function-scannable}
 use Rattle.derive_rings.proofs.calls_unknown_name.Statement.{statement}

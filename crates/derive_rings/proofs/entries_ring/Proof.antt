@@ -1,4 +1,4 @@
-use Rattle.derive_types.proofs.Sources.{tape}
+use Rattle.derive_names.proofs.Sources.{tape}
 use Rattle.derive_rings.proofs.Wholes.{entries-not, callees-known, rings-any}
 use borrow.Author.Needs.{needs}
 use borrow.Author.Tests.{not-true}

@@ -1,5 +1,5 @@
 use native.Mathlib.Omega.{arith}
-use Rattle.derive_types.proofs.Sources.{tape}
+use Rattle.derive_names.proofs.Sources.{tape}
 use Rattle.derive_rings.proofs.Wholes.{is-known, known-free, leads-not, callees-known, few, rings-one}
 use borrow.Author.Needs.{needs}
 use borrow.Author.Tests.{not-true}

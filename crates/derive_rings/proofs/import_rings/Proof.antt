@@ -1,5 +1,5 @@
 use native.Mathlib.Omega.{arith}
-use Rattle.derive_types.proofs.Sources.{tape}
+use Rattle.derive_names.proofs.Sources.{tape}
 use Rattle.derive_rings.proofs.Wholes.{calls-not, callees-known, few, rings-itself, rings-callees}
 use borrow.Author.Needs.{needs}
 use borrow.Author.Tests.{not-true}

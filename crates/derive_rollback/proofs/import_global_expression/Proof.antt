@@ -1,6 +1,6 @@
 use borrow.Author.Needs.{needs}
-use Rattle.derive_rollback.proofs.Over.{whole-of}
-use Rattle.derive_rollback.proofs.Saving.{save-begin}
+use Rattle.derive_snapshot.proofs.Over.{whole-of}
+use Rattle.derive_snapshot.proofs.Saving.{save-begin}
 use Rattle.derive_rollback.proofs.import_global_expression.Statement.{statement}
 use Rattle.derive_rollback.proofs.import_global_expression.Tie as tie
 use Rattle.derive_rollback.proofs.import_global_expression.Reads as reads

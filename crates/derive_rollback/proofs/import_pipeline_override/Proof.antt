@@ -1,6 +1,6 @@
 use borrow.Author.Needs.{needs}
-use Rattle.derive_rollback.proofs.Over.{whole-of}
-use Rattle.derive_rollback.proofs.Saving.{save-begin}
+use Rattle.derive_snapshot.proofs.Over.{whole-of}
+use Rattle.derive_snapshot.proofs.Saving.{save-begin}
 use Rattle.derive_rollback.proofs.import_pipeline_override.Statement.{statement}
 use Rattle.derive_rollback.proofs.import_pipeline_override.Tie as tie
 use Rattle.derive_rollback.proofs.import_pipeline_override.Reads as reads

@@ -6,7 +6,7 @@ use Rattle.derive_source.proofs.pairs.Statement.{statement}
 use Rattle.derive_source.proofs.pairs.Tie as tie
 use Rattle.derive_source.proofs.pairs.Reads as reads
 use Rattle.derive_source.proofs.pairs.Lts as lts
-use Rattle.derive_source.proofs.pair.Reads as pair-reads
+use Rattle.derive_special.proofs.pair.Reads as pair-reads
 use Rattle.base_views.proofs.count.Reads as count-reads
 use Rattle.base_views.proofs.pair_at.Reads as pair-at-reads
 

@@ -6,7 +6,7 @@ use Rattle.derive_source.proofs.rays.Statement.{statement}
 use Rattle.derive_source.proofs.rays.Tie as tie
 use Rattle.derive_source.proofs.rays.Reads as reads
 use Rattle.derive_source.proofs.rays.Lts as lts
-use Rattle.derive_source.proofs.ray.Reads as ray-reads
+use Rattle.derive_special.proofs.ray.Reads as ray-reads
 use Rattle.base_views.proofs.offset.Reads as offset-reads
 
 abbrev Inv-loop : tie.InvT-loop

@@ -7,7 +7,7 @@ use Rattle.derive_source.proofs.set_source.Reads as reads
 use Rattle.derive_source.proofs.set_source.Lts as lts
 use Rattle.derive_source.proofs.replace.Reads as replace-reads
 use Rattle.derive_source.proofs.source_types.Reads as source-types-reads
-use Rattle.derive_rollback.proofs.restore.Reads as restore-reads
+use Rattle.derive_snapshot.proofs.restore.Reads as restore-reads
 
 source-types-requires : tie.Need-source-types-requires
 source-types-requires c κs = let a = c .before .before .before .before .before .before .before .before .before .args in let p = c .before .before .before .before .before .before .before .before .before .pre in let src = p .0 in let q = p .1 .0 in let ks = p .1 .1 .0 in let K = p .1 .1 .1 .0 in let P = p .1 .1 .1 .1 in (src, (q, (ks, (kept-forgotten (a .log .now) (a .logtags .now) (a .starts .now) (a .maps .now) (a .buckets .now) (a .ends) K, P))))

@@ -8,17 +8,17 @@ use Rattle.model.specs.References.{refs}
 use Rattle.model.specs.Imports.{importT}
 use Rattle.derive_state.specs.Refers.{tabOf}
 use Rattle.derive_state.specs.Source.{srcOf}
-use Rattle.derive_types.proofs.Sources.{tape, small-number, readable, plain-name}
-use Rattle.derive_types.proofs.Steps.{past-type}
-use Rattle.derive_types.proofs.Turns.{Turn, turn-known, turn-first, turn-in, turn-number, turn-full, turn-next, turn-skip, turn-allowed, turn-settled, ends-in, lands-at, turn-falls, type-falls}
+use Rattle.derive_names.proofs.Sources.{tape, small-number, readable, plain-name}
+use Rattle.derive_names.proofs.Steps.{past-type}
+use Rattle.derive_names.proofs.Turns.{Turn, turn-known, turn-first, turn-in, turn-number, turn-full, turn-next, turn-skip, turn-allowed, turn-settled, ends-in, lands-at, turn-falls, type-falls}
 use Prim.Native.Nat.{ℕ, _<_}
 use borrow.Fn.Kinds.{In}
 use borrow.Fn.PlainCycle.{Measures, is, falls, and}
 use Rattle.derive_types.proofs.import_type.Reads as import-type
 use Rattle.derive_types.proofs.import_type.Kinds as import-type-kinds
 use Rattle.derive_types.proofs.+import_type.Lts-import_type as import-type-lts
-use Rattle.derive_types.proofs.import_name.Reads as import-name-reads
-use Rattle.derive_types.proofs.refers_to.Reads as refers-to-reads
+use Rattle.derive_names.proofs.import_name.Reads as import-name-reads
+use Rattle.derive_names.proofs.refers_to.Reads as refers-to-reads
 use Rattle.derive_intern.proofs.intern.Reads as intern-reads
 use Rattle.base_views.proofs.record_at.Reads as record-at-reads
 use Rattle.base_views.proofs.record_end.Reads as record-end-reads

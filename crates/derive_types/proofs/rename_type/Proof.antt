@@ -13,17 +13,17 @@ use Prim.Native.Nat.{_<_, suc}
 use Rattle.model.specs.View.{recordAt, recordEnd}
 use Rattle.model.specs.Between.{between}
 use Rattle.derive_state.specs.Held.{stOf}
-use Rattle.derive_types.proofs.Sources.{tape, small-number, count-few}
-use Rattle.derive_types.proofs.Steps.{past-type}
-use Rattle.derive_types.proofs.Turns.{Turn, turn-in, turn-number, turn-full, turn-next, turn-skip, turn-allowed}
+use Rattle.derive_names.proofs.Sources.{tape, small-number, count-few}
+use Rattle.derive_names.proofs.Steps.{past-type}
+use Rattle.derive_names.proofs.Turns.{Turn, turn-in, turn-number, turn-full, turn-next, turn-skip, turn-allowed}
 use Rattle.derive_types.proofs.Renames.{G, next-word, rename-ends, rename-known, rename-full, rename-first, rename-then, rename-settled, renames-at, view-readable, view-count}
 use Rattle.derive_types.proofs.rename_type.Statement.{statement}
 use Rattle.derive_types.proofs.rename_type.Tie as tie
 use Rattle.derive_types.proofs.rename_type.Reads as reads
 use Rattle.derive_types.proofs.rename_type.Lts as lts
-use Rattle.derive_types.proofs.import_name.Reads as import-name-reads
+use Rattle.derive_names.proofs.import_name.Reads as import-name-reads
 use Rattle.derive_types.proofs.import_type.Reads as import-type-reads
-use Rattle.derive_types.proofs.refers_to.Reads as refers-to-reads
+use Rattle.derive_names.proofs.refers_to.Reads as refers-to-reads
 use Rattle.derive_intern.proofs.intern.Reads as intern-reads
 use Rattle.base_views.proofs.record_at.Reads as record-at-reads
 use Rattle.base_views.proofs.record_end.Reads as record-end-reads

@@ -7,7 +7,7 @@ use Rattle.theory_bodies.specs.Shallow.{peek}
 use Rattle.theory_passes.specs.Light.{still}
 use Rattle.derive_state.specs.Source.{modOf}
 use Rattle.function_references.specs.Cuts.{exprsOf}
-use Rattle.derive_types.proofs.Sources.{small-number}
+use Rattle.derive_names.proofs.Sources.{small-number}
 use Rattle.function_outside.proofs.Records.{lands-mapped}
 use Rattle.function_expressions.proofs.Needs.{cells-legible, first-in, glance-idle}
 use Rattle.function_expressions.proofs.Alongs.{Alongs, along-begin, along-kept, along-under, along-in, along-number, along-record, along-none, along-next, operand-in, operand-idle, operand-done, glance-full, glance-done}

@@ -6,11 +6,11 @@ use Prim.Native.Nat.{_+_, _*_, _-_}
 use native.Mathlib.Omega.{arith}
 use borrow.Author.Needs.{needs}
 use Rattle.derive_lookup.proofs.Bears.{bearing}
-use Rattle.derive_types.proofs.Sources.{tape}
+use Rattle.derive_names.proofs.Sources.{tape}
 use Rattle.function_parts.specs.Exprs.{expressions}
 use Rattle.function_parts.specs.Part.{k-few}
-use Rattle.function_passes.proofs.Running.{made-small}
-use Rattle.function_passes.proofs.Calm.{legible-all}
+use Rattle.function_words.proofs.Running.{made-small}
+use Rattle.function_words.proofs.Calm.{legible-all}
 use Rattle.function_localize.proofs.Calms.{going-run}
 use Rattle.function_localize.proofs.Starts.{declares}
 use Rattle.function_localize.proofs.Locals.{Onward, runs-at, runs-from, going-at, exprs-in, index-in, count-in, reading, named-in, begun-kept, begun-under, declare-none, going-start, word-in, word-fits, word-bodied, callee-low, callee-ready, callee-full, callee-runs, other-runs, going-full, going-next, keep-in, keep-long, keep-exprs, keep-low, names-full, names-in, names-words, names-good, names-whole}
@@ -29,17 +29,17 @@ use Rattle.function_localize.proofs.localize.Reads as localize
 use Rattle.function_localize.proofs.localize.Kinds as localize-kinds
 use Rattle.function_localize.proofs.+append+follow+localize.Lts-localize as localize-lts
 use Rattle.function_record.proofs.append_record.Reads as append-record-reads
-use Rattle.function_record.proofs.import_names.Reads as import-names-reads
-use Rattle.function_record.proofs.keep_names.Reads as keep-names-reads
+use Rattle.function_names.proofs.import_names.Reads as import-names-reads
+use Rattle.function_names.proofs.keep_names.Reads as keep-names-reads
 use Rattle.derive_lookup.proofs.known.Reads as known-reads
 use Rattle.function_localize.proofs.no_expressions.Reads as no-expressions-reads
 use Rattle.function_localize.proofs.index_expressions.Reads as index-expressions-reads
 use Rattle.function_builder.proofs.slot.Reads as slot-reads
-use Rattle.function_passes.proofs.declare.Reads as declare-reads
+use Rattle.function_declarations.proofs.declare.Reads as declare-reads
 use Rattle.function_runs.proofs.span_undefined.Reads as span-undefined-reads
-use Rattle.function_passes.proofs.advance.Reads as advance-reads
+use Rattle.function_words.proofs.advance.Reads as advance-reads
 use Rattle.function_passes.proofs.import_word.Reads as import-word-reads
-use Rattle.function_passes.proofs.put_word.Reads as put-word-reads
+use Rattle.function_words.proofs.put_word.Reads as put-word-reads
 use Rattle.function_runs.proofs.copy_mapped_run.Reads as copy-mapped-run-reads
 use Rattle.base_views.proofs.body_at.Reads as body-at-reads
 use Rattle.base_views.proofs.expressions_at.Reads as expressions-at-reads

@@ -10,9 +10,9 @@ use Rattle.function_outside.proofs.import_by_table.Tie as tie
 use Rattle.function_outside.proofs.import_by_table.Reads as reads
 use Rattle.function_outside.proofs.import_by_table.Lts as lts
 use Rattle.derive_constants.proofs.import_const.Reads as import-const-reads
-use Rattle.derive_constants.proofs.import_global.Reads as import-global-reads
+use Rattle.derive_globals.proofs.import_global.Reads as import-global-reads
 use Rattle.derive_constants.proofs.import_global_expression.Reads as import-global-expression-reads
-use Rattle.derive_types.proofs.import_name.Reads as import-name-reads
+use Rattle.derive_names.proofs.import_name.Reads as import-name-reads
 use Rattle.derive_constants.proofs.import_pipeline_override.Reads as import-pipeline-override-reads
 use Rattle.derive_types.proofs.import_type.Reads as import-type-reads
 

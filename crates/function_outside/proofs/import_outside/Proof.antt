@@ -3,7 +3,7 @@ use native.Mathlib.Omega.{arith}
 use Prim.Native.Nat.{_-_}
 use mathlib.Core.Path.{refl}
 use lib.ListN.{getD}
-use Rattle.derive_types.proofs.Sources.{small-number}
+use Rattle.derive_names.proofs.Sources.{small-number}
 use Rattle.function_outside.proofs.Records.{lands-mapped}
 use Rattle.function_outside.proofs.Passing.{Passing, pass-first, pass-in, pass-skip, pass-number, pass-full, pass-next, pass-done}
 use Rattle.function_outside.proofs.import_outside.Statement.{statement}

@@ -1,7 +1,7 @@
 -- `function_outside::import_record` meets its contract: what is not missing is left as it is.
 use borrow.Author.Needs.{needs}
 use borrow.Author.Tests.{not-true}
-use Rattle.derive_types.proofs.Sources.{small-number}
+use Rattle.derive_names.proofs.Sources.{small-number}
 use Rattle.function_outside.proofs.Records.{lands-mapped}
 use Rattle.function_outside.proofs.import_record.Statement.{statement}
 use Rattle.function_outside.proofs.import_record.Tie as tie

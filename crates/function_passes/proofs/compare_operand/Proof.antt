@@ -1,7 +1,7 @@
 -- `compare_operand` meets its contract: the words that are left compare what all of them do.
 use Prim.Native.Nat.{_-_}
 use native.Mathlib.Omega.{arith}
-use Rattle.function_passes.proofs.Words.{Comparing, compare-begin, compare-next, compare-last, compare-some, compare-other, compare-done}
+use Rattle.function_words.proofs.Words.{Comparing, compare-begin, compare-next, compare-last, compare-some, compare-other, compare-done}
 use Rattle.function_passes.proofs.compare_operand.Statement.{statement}
 use Rattle.function_passes.proofs.compare_operand.Tie as tie
 

@@ -2,8 +2,8 @@
 use native.Mathlib.Omega.{arith}
 use borrow.Author.Needs.{needs}
 use Rattle.derive_state.specs.Source.{modOf}
-use Rattle.function_passes.specs.Runs.{needs as needsE, glances}
-use Rattle.function_passes.proofs.Running.{made-small}
+use Rattle.function_words.specs.Runs.{needs as needsE, glances}
+use Rattle.function_words.proofs.Running.{made-small}
 use Rattle.function_passes.proofs.Drawn.{drawn-first}
 use Rattle.function_passes.proofs.Ranges.{needs-grow, emit-stop, emit-put, emit-over, emit-done}
 use Rattle.function_passes.proofs.emit.Statement.{statement}

@@ -1,7 +1,7 @@
 -- `first_pass` meets its contract: one expression of the range at a turn.
 use Prim.Native.Nat.{_-_}
 use native.Mathlib.Omega.{arith}
-use Rattle.function_passes.specs.Runs.{glances}
+use Rattle.function_words.specs.Runs.{glances}
 use Rattle.function_passes.proofs.Ranges.{Ranging, range-begin, range-more, range-full, range-done, glances-grow}
 use Rattle.function_passes.proofs.first_pass.Statement.{statement}
 use Rattle.function_passes.proofs.first_pass.Tie as tie

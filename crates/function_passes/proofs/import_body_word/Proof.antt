@@ -1,8 +1,8 @@
 -- `import_body_word` meets its contract: a word of a body refers to a record of a table, to an expression of the function, or to nothing.
 use lib.ListN.{getD}
 use borrow.Author.Needs.{needs}
-use Rattle.function_passes.specs.Runs.{needs as needsE, glances}
-use Rattle.function_passes.proofs.Words.{record-low, expression-low, brings-record, brings-nothing, brings-expression}
+use Rattle.function_words.specs.Runs.{needs as needsE, glances}
+use Rattle.function_words.proofs.Words.{record-low, expression-low, brings-record, brings-nothing, brings-expression}
 use Rattle.function_passes.proofs.import_body_word.Statement.{statement}
 use Rattle.function_passes.proofs.import_body_word.Tie as tie
 

@@ -11,9 +11,9 @@ use Rattle.theory_passes.specs.Cases.{early-other}
 use Rattle.theory_passes.specs.Light.{still}
 use Rattle.derive_state.specs.Source.{modOf}
 use Rattle.function_outside.proofs.Passing.{legible-next}
-use Rattle.function_passes.specs.Runs.{needs as needsE, glances}
-use Rattle.function_passes.proofs.Running.{makes-as, makes-idle}
-use Rattle.function_passes.proofs.Words.{compared-as, compare-low, early-none, early-one}
+use Rattle.function_words.specs.Runs.{needs as needsE, glances}
+use Rattle.function_words.proofs.Running.{makes-as, makes-idle}
+use Rattle.function_words.proofs.Words.{compared-as, compare-low, early-none, early-one}
 use Rattle.function_passes.proofs.import_compare.Statement.{statement}
 use Rattle.function_passes.proofs.import_compare.Tie as tie
 

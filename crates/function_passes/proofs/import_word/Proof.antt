@@ -5,10 +5,10 @@ use borrow.Author.Needs.{needs}
 use Rattle.model.specs.References.{target}
 use Rattle.derive_lookup.proofs.Bears.{bearing}
 use Rattle.function_outside.proofs.Passing.{legible-here}
-use Rattle.function_passes.specs.Runs.{needs as needsE, glances}
-use Rattle.function_passes.proofs.Running.{made-small}
-use Rattle.function_passes.proofs.Words.{fits-all}
-use Rattle.function_passes.proofs.Body.{range-in, range-low, pass-from, pass-to, kind-stop, kind-put, plain-stop, plain-put}
+use Rattle.function_words.specs.Runs.{needs as needsE, glances}
+use Rattle.function_words.proofs.Running.{made-small}
+use Rattle.function_words.proofs.Words.{fits-all}
+use Rattle.function_words.proofs.Body.{range-in, range-low, pass-from, pass-to, kind-stop, kind-put, plain-stop, plain-put}
 use Rattle.function_passes.proofs.import_word.Statement.{statement}
 use Rattle.function_passes.proofs.import_word.Tie as tie
 

@@ -7,8 +7,8 @@ use Rattle.session_functions.proofs.follow_or_undo.Reads as reads
 use Rattle.session_functions.proofs.follow_or_undo.Lts as lts
 use Rattle.session_functions.proofs.empty_stacks.Reads as empty-stacks-reads
 use Rattle.function_localize.proofs.follow.Reads as follow-reads
-use Rattle.derive_rollback.proofs.Saving.{save-begin}
-use Rattle.derive_rollback.proofs.restore.Reads as restore-reads
+use Rattle.derive_snapshot.proofs.Saving.{save-begin}
+use Rattle.derive_snapshot.proofs.restore.Reads as restore-reads
 
 save-requires : tie.Need-save-requires
 save-requires c κs = let a = c .before .before .before .before .args in let L = c .before .before .before .before .pre .0 in save-begin (a .words .now) (a .tags .now) (a .n) (Sources.ground (a .n) (a .offset) (a .words .now) (a .tags .now) (a .targets .now) (a .log .now) (a .logtags .now) (a .starts .now) (a .maps .now) (a .buckets .now) (a .special .now) (a .ends) L .source) (a .log .now) (a .logtags .now) (a .starts .now) (a .maps .now) (a .buckets .now) (a .ends) (L .kept)

@@ -1,6 +1,6 @@
 use borrow.Author.Needs.{needs}
 use Rattle.derive_state.specs.Refers.{tabOf}
-use Rattle.derive_types.proofs.Sources.{small-number}
+use Rattle.derive_names.proofs.Sources.{small-number}
 use Rattle.session_operations.proofs.Importing.{below, source-held, import-unset, import-none, import-full, import-room}
 use Rattle.session_operations.proofs.import.Statement.{statement}
 use Rattle.session_operations.proofs.import.Tie as tie

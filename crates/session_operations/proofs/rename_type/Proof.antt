@@ -1,6 +1,6 @@
 use borrow.Author.Needs.{needs}
 use native.Mathlib.Omega.{arith}
-use Rattle.derive_types.proofs.Sources.{small-number}
+use Rattle.derive_names.proofs.Sources.{small-number}
 use Rattle.session_operations.proofs.Importing.{below, source-held, rename-unset, rename-none, rename-no-name, rename-full, rename-room}
 use Rattle.session_operations.proofs.rename_type.Statement.{statement}
 use Rattle.session_operations.proofs.rename_type.Tie as tie

@@ -1,0 +1,4 @@
+pub mod Steps
+pub mod Growth
+pub mod Sources
+pub mod Turns

@@ -1,0 +1,3 @@
+pub mod Saving
+pub mod Saved
+pub mod Over

@@ -1,0 +1,4 @@
+pub mod Keys
+pub mod Words
+pub mod Deriving
+pub mod Steps
