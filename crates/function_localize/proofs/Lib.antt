@@ -11,3 +11,4 @@ pub mod Few
 pub mod Locals
 pub mod Appending
 pub mod Calms
+pub mod Sums

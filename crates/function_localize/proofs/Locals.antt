@@ -82,6 +82,9 @@ module _ {words tags : List ℕ} {n s end : ℕ} (p : Part words tags n s end (f
   pub exprs-in : expressionsAt s words < 16384
   exprs-in = omega (arith, order p (indexed words tags s end))
 
+  pub exprs-low : {ea : ℕ} {places : List ℕ} {k named body : ℕ} → Indexed words tags s end ea places k named body → ea < 16384
+  exprs-low x = rw (x .ea-is) exprs-in
+
   pub index-in : {ea : ℕ} → ea ≡ expressionsAt s words → (length tags ≡ 16384) × (ea + 1 ≤ end) × (end ≤ 16384) × (length (finds (ea + 1) (slice (ea + 1) end tags)) ≤ 1025)
   index-in ha = let a = order p (indexed words tags s end) in (long p .tags-long, omega (arith, a), a .in-words, rw ha (finds-few p (indexed words tags s end)))
 

@@ -44,7 +44,7 @@ ghost use Rattle.derive_state.specs.Flats.{functionOf};
 ghost use Rattle.derive_state.specs.Source.{modOf};
 ghost use Rattle.derive_state.specs.Held.{ValidArrays};
 ghost use Rattle.function_references.specs.Fits.{Ground};
-ghost use Rattle.function_parts.specs.Part.{Part};
+ghost use Rattle.function_parts.specs.Part.{Part, Indexed};
 ghost use Rattle.function_builder.specs.Stacks.{Stacks};
 ghost use Rattle.function_localize.specs.Localized.{Nested, NestedF, NestedAt, Localizes, Nests};
 
@@ -71,6 +71,39 @@ fn index_expressions(tags: &Tags, at: usize, end: usize, places: &mut Places)
 {
     *places = [0; 1025];
     index(tags, at, end, places);
+}
+
+// Where the parts of a function are: its expressions, after their count; its named expressions; its body.
+struct Parts {
+    exprs: usize,
+    count: usize,
+    named: usize,
+    body: usize,
+}
+
+// Where the parts of the function from s to `end` are; `places` has where each expression starts.
+fn index_parts(
+    words: &Words,
+    tags: &Tags,
+    n: usize,
+    s: usize,
+    end: usize,
+    places: &mut Places,
+) -> Parts
+    requires { ⌜ Part (now words) (now tags) n s end (functionOf (between (now tags) (now words) s end)) ⌝ }
+    ensures { λ r. ⌜ Indexed (now (words .entry)) (now (tags .entry)) s end (r .exprs) (now (places .exit)) (r .count) (r .named) (r .body) ⌝ }
+{
+    let exprs = expressions_at(words, s);
+    let count = wide(words[exprs]);
+    index_expressions(tags, exprs + 1, end, places);
+    let named = slot(places[count]);
+    let body = named + 1 + 2 * wide(words[named]);
+    Parts {
+        exprs: exprs,
+        count: count,
+        named: named,
+        body: body,
+    }
 }
 
 // Puts the function from s to `end` whole on the stacks, with room for `room` functions in progress.
@@ -100,12 +133,11 @@ pub fn localize(
     ensures { λ r. ⌜ Localizes (now (words .entry)) n offset (Ready offset (modOf (now (words .entry)) n) room) (followS offset (modOf (now (words .entry)) n) room) (functionOf (between (now (tags .entry)) (now (words .entry)) s end)) (now (log .entry)) (now (logtags .entry)) (now (starts .entry)) (now (maps .entry)) (now (buckets .entry)) (now (stacks .entry)) ends r (now (log .exit)) (now (logtags .exit)) (now (starts .exit)) (now (maps .exit)) (now (buckets .exit)) (now (stacks .exit)) ⌝ }
 {
     let e1 = ends.exprtop as usize;
-    let exprs = expressions_at(words, s);
-    let k = wide(words[exprs]);
     let mut exprmap = [0u16; 1024];
-    index_expressions(tags, exprs + 1, end, places);
-    let named = slot(places[k]);
-    let body = named + 1 + 2 * wide(words[named]);
+    let at = index_parts(words, tags, n, s, end, places);
+    let exprs = at.exprs;
+    let k = at.count;
+    let named = at.named;
     let mut e = declare(
         words,
         tags,
@@ -129,7 +161,7 @@ pub fn localize(
     if e.full {
         return e;
     }
-    let mut i = body;
+    let mut i = at.body;
     let mut u = false;
     while i < end {
         let r = copy_mapped_run(

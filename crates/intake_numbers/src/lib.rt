@@ -22,7 +22,7 @@ use base_views::record_end;
 use base_words::Tags;
 use base_words::Words;
 use intake_initialisers::initialised;
-use intake_ranges::CODES;
+use intake_ranges::code_bounds;
 use intake_ranges::function_bounds;
 use intake_ranges::function_in_range;
 use intake_ranges::in_range;
@@ -150,7 +150,7 @@ pub fn numbered(words: &Words, tags: &Tags, n: usize) -> bool
     requires { ⌜ Tape (now words) (now tags) n ⌝ }
     ensures { λ r. ⌜ Says r (now (words .entry)) (now (tags .entry)) n numberedOf ⌝ }
 {
-    let mut t = CODES;
+    let mut t = code_bounds();
     module_bounds(&mut t, words);
     if !tables(words, tags, n, &t) {
         return false;

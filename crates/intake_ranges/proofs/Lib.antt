@@ -1,1 +1,2 @@
 pub mod Ranging
+pub mod Codes

@@ -76,288 +76,88 @@ times-at t = and 3 times-kinds.ps (is 3 times-kinds.ps μ-times t) times.Pre
 abbrev times-below : ℕ → In 3 times-kinds.ps
 times-below t = and 3 times-kinds.ps (falls 3 times-kinds.ps _<_ μ-times t) times.Pre
 
-opened-returns : (t : ℕ) → opened-lts.Need-returns (
-  narrow-reads.Asked,
-  narrow-reads.Learnt,
-  brings-reads.Asked,
-  brings-reads.Learnt,
-  times-below t,
-  times.Post,
-) (opened-at t) opened.Post
+abbrev opened-claims : ℕ → opened-lts.Claims
+opened-claims t = (narrow-reads.Asked, narrow-reads.Learnt, brings-reads.Asked, brings-reads.Learnt, times-below t, times.Post)
+
+opened-returns : (t : ℕ) → opened-lts.Need-returns (opened-claims t) (opened-at t) opened.Post
 opened-returns t c = search (opened-short, needs)
 
-opened-narrow-requires : (t : ℕ) → opened-lts.Need-narrow-requires (
-  narrow-reads.Asked,
-  narrow-reads.Learnt,
-  brings-reads.Asked,
-  brings-reads.Learnt,
-  times-below t,
-  times.Post,
-) (opened-at t) opened.Post
+opened-narrow-requires : (t : ℕ) → opened-lts.Need-narrow-requires (opened-claims t) (opened-at t) opened.Post
 opened-narrow-requires t c κs = search needs
 
-opened-element-write-tags : (t : ℕ) → opened-lts.Need-element-write-tags (
-  narrow-reads.Asked,
-  narrow-reads.Learnt,
-  brings-reads.Asked,
-  brings-reads.Learnt,
-  times-below t,
-  times.Post,
-) (opened-at t) opened.Post
+opened-element-write-tags : (t : ℕ) → opened-lts.Need-element-write-tags (opened-claims t) (opened-at t) opened.Post
 opened-element-write-tags t c = search needs
 
-opened-mul-w : (t : ℕ) → opened-lts.Need-mul-w (
-  narrow-reads.Asked,
-  narrow-reads.Learnt,
-  brings-reads.Asked,
-  brings-reads.Learnt,
-  times-below t,
-  times.Post,
-) (opened-at t) opened.Post
+opened-mul-w : (t : ℕ) → opened-lts.Need-mul-w (opened-claims t) (opened-at t) opened.Post
 opened-mul-w t c = search needs
 
-opened-element-copy-out-w : (t : ℕ) → opened-lts.Need-element-copy-out-w (
-  narrow-reads.Asked,
-  narrow-reads.Learnt,
-  brings-reads.Asked,
-  brings-reads.Learnt,
-  times-below t,
-  times.Post,
-) (opened-at t) opened.Post
+opened-element-copy-out-w : (t : ℕ) → opened-lts.Need-element-copy-out-w (opened-claims t) (opened-at t) opened.Post
 opened-element-copy-out-w t c = search needs
 
-opened-brings-requires : (t : ℕ) → opened-lts.Need-brings-requires (
-  narrow-reads.Asked,
-  narrow-reads.Learnt,
-  brings-reads.Asked,
-  brings-reads.Learnt,
-  times-below t,
-  times.Post,
-) (opened-at t) opened.Post
+opened-brings-requires : (t : ℕ) → opened-lts.Need-brings-requires (opened-claims t) (opened-at t) opened.Post
 opened-brings-requires t c κs = search needs
 
-opened-enum-known-more : (t : ℕ) → opened-lts.Need-enum-known-more (
-  narrow-reads.Asked,
-  narrow-reads.Learnt,
-  brings-reads.Asked,
-  brings-reads.Learnt,
-  times-below t,
-  times.Post,
-) (opened-at t) opened.Post
+opened-enum-known-more : (t : ℕ) → opened-lts.Need-enum-known-more (opened-claims t) (opened-at t) opened.Post
 opened-enum-known-more t c = search needs
 
-opened-add-times : (t : ℕ) → opened-lts.Need-add-times (
-  narrow-reads.Asked,
-  narrow-reads.Learnt,
-  brings-reads.Asked,
-  brings-reads.Learnt,
-  times-below t,
-  times.Post,
-) (opened-at t) opened.Post
+opened-add-times : (t : ℕ) → opened-lts.Need-add-times (opened-claims t) (opened-at t) opened.Post
 opened-add-times t c = search needs
 
-opened-times-requires : (t : ℕ) → opened-lts.Need-times-requires (
-  narrow-reads.Asked,
-  narrow-reads.Learnt,
-  brings-reads.Asked,
-  brings-reads.Learnt,
-  times-below t,
-  times.Post,
-) (opened-at t) opened.Post
+opened-times-requires : (t : ℕ) → opened-lts.Need-times-requires (opened-claims t) (opened-at t) opened.Post
 opened-times-requires t c κs = (search needs, (search needs, (search needs, (search needs, (search needs, search (opened-in, needs))))))
 
-opened-enum-told : (t : ℕ) → opened-lts.Need-enum-told (
-  narrow-reads.Asked,
-  narrow-reads.Learnt,
-  brings-reads.Asked,
-  brings-reads.Learnt,
-  times-below t,
-  times.Post,
-) (opened-at t) opened.Post
+opened-enum-told : (t : ℕ) → opened-lts.Need-enum-told (opened-claims t) (opened-at t) opened.Post
 opened-enum-told t c = search needs
 
-opened-enum-told-2 : (t : ℕ) → opened-lts.Need-enum-told-2 (
-  narrow-reads.Asked,
-  narrow-reads.Learnt,
-  brings-reads.Asked,
-  brings-reads.Learnt,
-  times-below t,
-  times.Post,
-) (opened-at t) opened.Post
+opened-enum-told-2 : (t : ℕ) → opened-lts.Need-enum-told-2 (opened-claims t) (opened-at t) opened.Post
 opened-enum-told-2 t c = search needs
 
-opened-returns-2 : (t : ℕ) → opened-lts.Need-returns-2 (
-  narrow-reads.Asked,
-  narrow-reads.Learnt,
-  brings-reads.Asked,
-  brings-reads.Learnt,
-  times-below t,
-  times.Post,
-) (opened-at t) opened.Post
+opened-returns-2 : (t : ℕ) → opened-lts.Need-returns-2 (opened-claims t) (opened-at t) opened.Post
 opened-returns-2 t c = search (opened-rows, needs)
 
-opened-returns-3 : (t : ℕ) → opened-lts.Need-returns-3 (
-  narrow-reads.Asked,
-  narrow-reads.Learnt,
-  brings-reads.Asked,
-  brings-reads.Learnt,
-  times-below t,
-  times.Post,
-) (opened-at t) opened.Post
+opened-returns-3 : (t : ℕ) → opened-lts.Need-returns-3 (opened-claims t) (opened-at t) opened.Post
 opened-returns-3 t c = search (opened-over, needs)
 
-opened-returns-4 : (t : ℕ) → opened-lts.Need-returns-4 (
-  narrow-reads.Asked,
-  narrow-reads.Learnt,
-  brings-reads.Asked,
-  brings-reads.Learnt,
-  times-below t,
-  times.Post,
-) (opened-at t) opened.Post
+opened-returns-4 : (t : ℕ) → opened-lts.Need-returns-4 (opened-claims t) (opened-at t) opened.Post
 opened-returns-4 t c = search (opened-unknown, needs)
 
-part-text-requires : (t : ℕ) → part-lts.Need-text-requires (
-  text-reads.Asked,
-  text-reads.Learnt,
-  operands-reads.Asked,
-  operands-reads.Learnt,
-  stmt-below t,
-  stmt.Post,
-  opened-below t,
-  opened.Post,
-) (part-at t) part.Post
+abbrev part-claims : ℕ → part-lts.Claims
+part-claims t = (text-reads.Asked, text-reads.Learnt, operands-reads.Asked, operands-reads.Learnt, stmt-below t, stmt.Post, opened-below t, opened.Post)
+
+part-text-requires : (t : ℕ) → part-lts.Need-text-requires (part-claims t) (part-at t) part.Post
 part-text-requires t c κs = search needs
 
-part-returns : (t : ℕ) → part-lts.Need-returns (
-  text-reads.Asked,
-  text-reads.Learnt,
-  operands-reads.Asked,
-  operands-reads.Learnt,
-  stmt-below t,
-  stmt.Post,
-  opened-below t,
-  opened.Post,
-) (part-at t) part.Post
+part-returns : (t : ℕ) → part-lts.Need-returns (part-claims t) (part-at t) part.Post
 part-returns t c = search (part-text, needs)
 
-part-operands-requires : (t : ℕ) → part-lts.Need-operands-requires (
-  text-reads.Asked,
-  text-reads.Learnt,
-  operands-reads.Asked,
-  operands-reads.Learnt,
-  stmt-below t,
-  stmt.Post,
-  opened-below t,
-  opened.Post,
-) (part-at t) part.Post
+part-operands-requires : (t : ℕ) → part-lts.Need-operands-requires (part-claims t) (part-at t) part.Post
 part-operands-requires t c κs = search needs
 
-part-returns-2 : (t : ℕ) → part-lts.Need-returns-2 (
-  text-reads.Asked,
-  text-reads.Learnt,
-  operands-reads.Asked,
-  operands-reads.Learnt,
-  stmt-below t,
-  stmt.Post,
-  opened-below t,
-  opened.Post,
-) (part-at t) part.Post
+part-returns-2 : (t : ℕ) → part-lts.Need-returns-2 (part-claims t) (part-at t) part.Post
 part-returns-2 t c = search (part-operands, needs)
 
-part-stmt-requires : (t : ℕ) → part-lts.Need-stmt-requires (
-  text-reads.Asked,
-  text-reads.Learnt,
-  operands-reads.Asked,
-  operands-reads.Learnt,
-  stmt-below t,
-  stmt.Post,
-  opened-below t,
-  opened.Post,
-) (part-at t) part.Post
+part-stmt-requires : (t : ℕ) → part-lts.Need-stmt-requires (part-claims t) (part-at t) part.Post
 part-stmt-requires t c κs = search needs
 
-part-returns-3 : (t : ℕ) → part-lts.Need-returns-3 (
-  text-reads.Asked,
-  text-reads.Learnt,
-  operands-reads.Asked,
-  operands-reads.Learnt,
-  stmt-below t,
-  stmt.Post,
-  opened-below t,
-  opened.Post,
-) (part-at t) part.Post
+part-returns-3 : (t : ℕ) → part-lts.Need-returns-3 (part-claims t) (part-at t) part.Post
 part-returns-3 t c = search (part-stmt, needs)
 
-part-returns-4 : (t : ℕ) → part-lts.Need-returns-4 (
-  text-reads.Asked,
-  text-reads.Learnt,
-  operands-reads.Asked,
-  operands-reads.Learnt,
-  stmt-below t,
-  stmt.Post,
-  opened-below t,
-  opened.Post,
-) (part-at t) part.Post
+part-returns-4 : (t : ℕ) → part-lts.Need-returns-4 (part-claims t) (part-at t) part.Post
 part-returns-4 t c = search (part-deep, needs)
 
-part-sub-opened : (t : ℕ) → part-lts.Need-sub-opened (
-  text-reads.Asked,
-  text-reads.Learnt,
-  operands-reads.Asked,
-  operands-reads.Learnt,
-  stmt-below t,
-  stmt.Post,
-  opened-below t,
-  opened.Post,
-) (part-at t) part.Post
+part-sub-opened : (t : ℕ) → part-lts.Need-sub-opened (part-claims t) (part-at t) part.Post
 part-sub-opened t c = search needs
 
-part-opened-requires : (t : ℕ) → part-lts.Need-opened-requires (
-  text-reads.Asked,
-  text-reads.Learnt,
-  operands-reads.Asked,
-  operands-reads.Learnt,
-  stmt-below t,
-  stmt.Post,
-  opened-below t,
-  opened.Post,
-) (part-at t) part.Post
+part-opened-requires : (t : ℕ) → part-lts.Need-opened-requires (part-claims t) (part-at t) part.Post
 part-opened-requires t c κs = (search needs, (search needs, (search needs, (search needs, (search needs, (search needs, search needs))))))
 
-part-returns-5 : (t : ℕ) → part-lts.Need-returns-5 (
-  text-reads.Asked,
-  text-reads.Learnt,
-  operands-reads.Asked,
-  operands-reads.Learnt,
-  stmt-below t,
-  stmt.Post,
-  opened-below t,
-  opened.Post,
-) (part-at t) part.Post
+part-returns-5 : (t : ℕ) → part-lts.Need-returns-5 (part-claims t) (part-at t) part.Post
 part-returns-5 t c = search (part-block, needs)
 
-part-opened-requires-2 : (t : ℕ) → part-lts.Need-opened-requires-2 (
-  text-reads.Asked,
-  text-reads.Learnt,
-  operands-reads.Asked,
-  operands-reads.Learnt,
-  stmt-below t,
-  stmt.Post,
-  opened-below t,
-  opened.Post,
-) (part-at t) part.Post
+part-opened-requires-2 : (t : ℕ) → part-lts.Need-opened-requires-2 (part-claims t) (part-at t) part.Post
 part-opened-requires-2 t c κs = (search needs, (search needs, (search needs, (search needs, (search needs, (search needs, search needs))))))
 
-part-returns-6 : (t : ℕ) → part-lts.Need-returns-6 (
-  text-reads.Asked,
-  text-reads.Learnt,
-  operands-reads.Asked,
-  operands-reads.Learnt,
-  stmt-below t,
-  stmt.Post,
-  opened-below t,
-  opened.Post,
-) (part-at t) part.Post
+part-returns-6 : (t : ℕ) → part-lts.Need-returns-6 (part-claims t) (part-at t) part.Post
 part-returns-6 t c = search (part-other, needs)
 
 abbrev row-Inv-loop : row-lts.InvT-loop
@@ -366,280 +166,116 @@ row-Inv-loop words tags₀ table at end pc left i₀ p₀ tags i p = Rowing word
 abbrev row-μ-loop : row-lts.MeasureT-loop
 row-μ-loop words tags₀ table at end pc left i₀ p₀ tags i p = ROWS - p
 
-row-loop-holds : (t : ℕ) → row-lts.Need-loop-holds (
-  narrow-reads.Asked,
-  narrow-reads.Learnt,
-  part-below t,
-  part.Post,
-) (row-at t) row.Post row-Inv-loop row-μ-loop
+abbrev row-claims : ℕ → row-lts.Claims
+row-claims t = (narrow-reads.Asked, narrow-reads.Learnt, part-below t, part.Post)
+
+row-loop-holds : (t : ℕ) → row-lts.Need-loop-holds (row-claims t) (row-at t) row.Post row-Inv-loop row-μ-loop
 row-loop-holds t c = search (row-begin, needs)
 
-row-mul-s : (t : ℕ) → row-lts.Need-mul-s (
-  narrow-reads.Asked,
-  narrow-reads.Learnt,
-  part-below t,
-  part.Post,
-) (row-at t) row.Post row-Inv-loop row-μ-loop
+row-mul-s : (t : ℕ) → row-lts.Need-mul-s (row-claims t) (row-at t) row.Post row-Inv-loop row-μ-loop
 row-mul-s t c = let h = rows-few in search needs
 
-row-element-copy-out-s : (t : ℕ) → row-lts.Need-element-copy-out-s (
-  narrow-reads.Asked,
-  narrow-reads.Learnt,
-  part-below t,
-  part.Post,
-) (row-at t) row.Post row-Inv-loop row-μ-loop
+row-element-copy-out-s : (t : ℕ) → row-lts.Need-element-copy-out-s (row-claims t) (row-at t) row.Post row-Inv-loop row-μ-loop
 row-element-copy-out-s t c = let h = rows-few in let y = c .loop .inv .in-rows in omega arith
 
-row-returns : (t : ℕ) → row-lts.Need-returns (
-  narrow-reads.Asked,
-  narrow-reads.Learnt,
-  part-below t,
-  part.Post,
-) (row-at t) row.Post row-Inv-loop row-μ-loop
+row-returns : (t : ℕ) → row-lts.Need-returns (row-claims t) (row-at t) row.Post row-Inv-loop row-μ-loop
 row-returns t c = search (row-done, needs)
 
-row-add-p : (t : ℕ) → row-lts.Need-add-p (
-  narrow-reads.Asked,
-  narrow-reads.Learnt,
-  part-below t,
-  part.Post,
-) (row-at t) row.Post row-Inv-loop row-μ-loop
+row-add-p : (t : ℕ) → row-lts.Need-add-p (row-claims t) (row-at t) row.Post row-Inv-loop row-μ-loop
 row-add-p t c = let h = rows-few in search needs
 
-row-returns-2 : (t : ℕ) → row-lts.Need-returns-2 (
-  narrow-reads.Asked,
-  narrow-reads.Learnt,
-  part-below t,
-  part.Post,
-) (row-at t) row.Post row-Inv-loop row-μ-loop
+row-returns-2 : (t : ℕ) → row-lts.Need-returns-2 (row-claims t) (row-at t) row.Post row-Inv-loop row-μ-loop
 row-returns-2 t c = search (row-short, needs)
 
-row-add-i : (t : ℕ) → row-lts.Need-add-i (
-  narrow-reads.Asked,
-  narrow-reads.Learnt,
-  part-below t,
-  part.Post,
-) (row-at t) row.Post row-Inv-loop row-μ-loop
+row-add-i : (t : ℕ) → row-lts.Need-add-i (row-claims t) (row-at t) row.Post row-Inv-loop row-μ-loop
 row-add-i t c = search needs
 
-row-narrow-requires : (t : ℕ) → row-lts.Need-narrow-requires (
-  narrow-reads.Asked,
-  narrow-reads.Learnt,
-  part-below t,
-  part.Post,
-) (row-at t) row.Post row-Inv-loop row-μ-loop
+row-narrow-requires : (t : ℕ) → row-lts.Need-narrow-requires (row-claims t) (row-at t) row.Post row-Inv-loop row-μ-loop
 row-narrow-requires t c κs = search (row-symbol, needs)
 
-row-element-write-tags : (t : ℕ) → row-lts.Need-element-write-tags (
-  narrow-reads.Asked,
-  narrow-reads.Learnt,
-  part-below t,
-  part.Post,
-) (row-at t) row.Post row-Inv-loop row-μ-loop
+row-element-write-tags : (t : ℕ) → row-lts.Need-element-write-tags (row-claims t) (row-at t) row.Post row-Inv-loop row-μ-loop
 row-element-write-tags t c = search needs
 
-row-loop-less : (t : ℕ) → row-lts.Need-loop-less (
-  narrow-reads.Asked,
-  narrow-reads.Learnt,
-  part-below t,
-  part.Post,
-) (row-at t) row.Post row-Inv-loop row-μ-loop
+row-loop-less : (t : ℕ) → row-lts.Need-loop-less (row-claims t) (row-at t) row.Post row-Inv-loop row-μ-loop
 row-loop-less t c = search needs
 
-row-loop-again : (t : ℕ) → row-lts.Need-loop-again (
-  narrow-reads.Asked,
-  narrow-reads.Learnt,
-  part-below t,
-  part.Post,
-) (row-at t) row.Post row-Inv-loop row-μ-loop
+row-loop-again : (t : ℕ) → row-lts.Need-loop-again (row-claims t) (row-at t) row.Post row-Inv-loop row-μ-loop
 row-loop-again t c = search (row-plain, needs)
 
-row-part-requires : (t : ℕ) → row-lts.Need-part-requires (
-  narrow-reads.Asked,
-  narrow-reads.Learnt,
-  part-below t,
-  part.Post,
-) (row-at t) row.Post row-Inv-loop row-μ-loop
+row-part-requires : (t : ℕ) → row-lts.Need-part-requires (row-claims t) (row-at t) row.Post row-Inv-loop row-μ-loop
 row-part-requires t c κs = (search needs, (search needs, (search needs, (search needs, (search needs, search (row-large, row-symbol, needs))))))
 
-row-enum-known-r : (t : ℕ) → row-lts.Need-enum-known-r (
-  narrow-reads.Asked,
-  narrow-reads.Learnt,
-  part-below t,
-  part.Post,
-) (row-at t) row.Post row-Inv-loop row-μ-loop
+row-enum-known-r : (t : ℕ) → row-lts.Need-enum-known-r (row-claims t) (row-at t) row.Post row-Inv-loop row-μ-loop
 row-enum-known-r t c = search needs
 
-row-loop-less-2 : (t : ℕ) → row-lts.Need-loop-less-2 (
-  narrow-reads.Asked,
-  narrow-reads.Learnt,
-  part-below t,
-  part.Post,
-) (row-at t) row.Post row-Inv-loop row-μ-loop
+row-loop-less-2 : (t : ℕ) → row-lts.Need-loop-less-2 (row-claims t) (row-at t) row.Post row-Inv-loop row-μ-loop
 row-loop-less-2 t c = search needs
 
-row-loop-again-2 : (t : ℕ) → row-lts.Need-loop-again-2 (
-  narrow-reads.Asked,
-  narrow-reads.Learnt,
-  part-below t,
-  part.Post,
-) (row-at t) row.Post row-Inv-loop row-μ-loop
+row-loop-again-2 : (t : ℕ) → row-lts.Need-loop-again-2 (row-claims t) (row-at t) row.Post row-Inv-loop row-μ-loop
 row-loop-again-2 t c = search (row-again, needs)
 
-row-enum-told : (t : ℕ) → row-lts.Need-enum-told (
-  narrow-reads.Asked,
-  narrow-reads.Learnt,
-  part-below t,
-  part.Post,
-) (row-at t) row.Post row-Inv-loop row-μ-loop
+row-enum-told : (t : ℕ) → row-lts.Need-enum-told (row-claims t) (row-at t) row.Post row-Inv-loop row-μ-loop
 row-enum-told t c = search needs
 
-row-returns-3 : (t : ℕ) → row-lts.Need-returns-3 (
-  narrow-reads.Asked,
-  narrow-reads.Learnt,
-  part-below t,
-  part.Post,
-) (row-at t) row.Post row-Inv-loop row-μ-loop
+row-returns-3 : (t : ℕ) → row-lts.Need-returns-3 (row-claims t) (row-at t) row.Post row-Inv-loop row-μ-loop
 row-returns-3 t c = search (row-misfit, needs)
 
-row-enum-told-2 : (t : ℕ) → row-lts.Need-enum-told-2 (
-  narrow-reads.Asked,
-  narrow-reads.Learnt,
-  part-below t,
-  part.Post,
-) (row-at t) row.Post row-Inv-loop row-μ-loop
+row-enum-told-2 : (t : ℕ) → row-lts.Need-enum-told-2 (row-claims t) (row-at t) row.Post row-Inv-loop row-μ-loop
 row-enum-told-2 t c = search needs
 
-row-returns-4 : (t : ℕ) → row-lts.Need-returns-4 (
-  narrow-reads.Asked,
-  narrow-reads.Learnt,
-  part-below t,
-  part.Post,
-) (row-at t) row.Post row-Inv-loop row-μ-loop
+row-returns-4 : (t : ℕ) → row-lts.Need-returns-4 (row-claims t) (row-at t) row.Post row-Inv-loop row-μ-loop
 row-returns-4 t c = search (row-strange, needs)
 
-stmt-returns : (t : ℕ) → stmt-lts.Need-returns (
-  wide-reads.Asked,
-  wide-reads.Learnt,
-  row-below t,
-  row.Post,
-) (stmt-at t) stmt.Post
+abbrev stmt-claims : ℕ → stmt-lts.Claims
+stmt-claims t = (wide-reads.Asked, wide-reads.Learnt, row-below t, row.Post)
+
+stmt-returns : (t : ℕ) → stmt-lts.Need-returns (stmt-claims t) (stmt-at t) stmt.Post
 stmt-returns t c = search (stmt-short, needs)
 
-stmt-element-write-tags : (t : ℕ) → stmt-lts.Need-element-write-tags (
-  wide-reads.Asked,
-  wide-reads.Learnt,
-  row-below t,
-  row.Post,
-) (stmt-at t) stmt.Post
+stmt-element-write-tags : (t : ℕ) → stmt-lts.Need-element-write-tags (stmt-claims t) (stmt-at t) stmt.Post
 stmt-element-write-tags t c = search needs
 
-stmt-mul-wide : (t : ℕ) → stmt-lts.Need-mul-wide (
-  wide-reads.Asked,
-  wide-reads.Learnt,
-  row-below t,
-  row.Post,
-) (stmt-at t) stmt.Post
+stmt-mul-wide : (t : ℕ) → stmt-lts.Need-mul-wide (stmt-claims t) (stmt-at t) stmt.Post
 stmt-mul-wide t c = search needs
 
-stmt-element-copy-out-wide : (t : ℕ) → stmt-lts.Need-element-copy-out-wide (
-  wide-reads.Asked,
-  wide-reads.Learnt,
-  row-below t,
-  row.Post,
-) (stmt-at t) stmt.Post
+stmt-element-copy-out-wide : (t : ℕ) → stmt-lts.Need-element-copy-out-wide (stmt-claims t) (stmt-at t) stmt.Post
 stmt-element-copy-out-wide t c = search needs
 
-stmt-wide-requires : (t : ℕ) → stmt-lts.Need-wide-requires (
-  wide-reads.Asked,
-  wide-reads.Learnt,
-  row-below t,
-  row.Post,
-) (stmt-at t) stmt.Post
+stmt-wide-requires : (t : ℕ) → stmt-lts.Need-wide-requires (stmt-claims t) (stmt-at t) stmt.Post
 stmt-wide-requires t c κs = search needs
 
-stmt-add-row : (t : ℕ) → stmt-lts.Need-add-row (
-  wide-reads.Asked,
-  wide-reads.Learnt,
-  row-below t,
-  row.Post,
-) (stmt-at t) stmt.Post
+stmt-add-row : (t : ℕ) → stmt-lts.Need-add-row (stmt-claims t) (stmt-at t) stmt.Post
 stmt-add-row t c = search needs
 
-stmt-row-requires : (t : ℕ) → stmt-lts.Need-row-requires (
-  wide-reads.Asked,
-  wide-reads.Learnt,
-  row-below t,
-  row.Post,
-) (stmt-at t) stmt.Post
+stmt-row-requires : (t : ℕ) → stmt-lts.Need-row-requires (stmt-claims t) (stmt-at t) stmt.Post
 unfolding SIZE KIND-ROW
 stmt-row-requires t c κs = (search needs, (search needs, (search needs, (search needs, (search needs, search needs)))))
 
-stmt-enum-known-r : (t : ℕ) → stmt-lts.Need-enum-known-r (
-  wide-reads.Asked,
-  wide-reads.Learnt,
-  row-below t,
-  row.Post,
-) (stmt-at t) stmt.Post
+stmt-enum-known-r : (t : ℕ) → stmt-lts.Need-enum-known-r (stmt-claims t) (stmt-at t) stmt.Post
 stmt-enum-known-r t c = search needs
 
-stmt-add-if2 : (t : ℕ) → stmt-lts.Need-add-if2 (
-  wide-reads.Asked,
-  wide-reads.Learnt,
-  row-below t,
-  row.Post,
-) (stmt-at t) stmt.Post
+stmt-add-if2 : (t : ℕ) → stmt-lts.Need-add-if2 (stmt-claims t) (stmt-at t) stmt.Post
 stmt-add-if2 t c = search needs
 
-stmt-returns-2 : (t : ℕ) → stmt-lts.Need-returns-2 (
-  wide-reads.Asked,
-  wide-reads.Learnt,
-  row-below t,
-  row.Post,
-) (stmt-at t) stmt.Post
+stmt-returns-2 : (t : ℕ) → stmt-lts.Need-returns-2 (stmt-claims t) (stmt-at t) stmt.Post
 unfolding SIZE KIND-ROW
 stmt-returns-2 t c = search (stmt-next, needs)
 
-stmt-enum-told : (t : ℕ) → stmt-lts.Need-enum-told (
-  wide-reads.Asked,
-  wide-reads.Learnt,
-  row-below t,
-  row.Post,
-) (stmt-at t) stmt.Post
+stmt-enum-told : (t : ℕ) → stmt-lts.Need-enum-told (stmt-claims t) (stmt-at t) stmt.Post
 stmt-enum-told t c = search needs
 
-stmt-enum-told-2 : (t : ℕ) → stmt-lts.Need-enum-told-2 (
-  wide-reads.Asked,
-  wide-reads.Learnt,
-  row-below t,
-  row.Post,
-) (stmt-at t) stmt.Post
+stmt-enum-told-2 : (t : ℕ) → stmt-lts.Need-enum-told-2 (stmt-claims t) (stmt-at t) stmt.Post
 stmt-enum-told-2 t c = search needs
 
-stmt-returns-3 : (t : ℕ) → stmt-lts.Need-returns-3 (
-  wide-reads.Asked,
-  wide-reads.Learnt,
-  row-below t,
-  row.Post,
-) (stmt-at t) stmt.Post
+stmt-returns-3 : (t : ℕ) → stmt-lts.Need-returns-3 (stmt-claims t) (stmt-at t) stmt.Post
 unfolding SIZE KIND-ROW
 stmt-returns-3 t c = search (stmt-wrong, needs)
 
-stmt-returns-4 : (t : ℕ) → stmt-lts.Need-returns-4 (
-  wide-reads.Asked,
-  wide-reads.Learnt,
-  row-below t,
-  row.Post,
-) (stmt-at t) stmt.Post
+stmt-returns-4 : (t : ℕ) → stmt-lts.Need-returns-4 (stmt-claims t) (stmt-at t) stmt.Post
 unfolding SIZE KIND-ROW
 stmt-returns-4 t c = search (stmt-misfit, needs)
 
-stmt-returns-5 : (t : ℕ) → stmt-lts.Need-returns-5 (
-  wide-reads.Asked,
-  wide-reads.Learnt,
-  row-below t,
-  row.Post,
-) (stmt-at t) stmt.Post
+stmt-returns-5 : (t : ℕ) → stmt-lts.Need-returns-5 (stmt-claims t) (stmt-at t) stmt.Post
 unfolding SIZE KIND-ROW
 stmt-returns-5 t c = search (stmt-strange, needs)
 
@@ -761,14 +397,7 @@ times-returns-3 t c = search (times-done, needs)
 
 pub +opened+part+row+stmt+times-spec : {M : Type 1} → statement M
 +opened+part+row+stmt+times-spec =
-    close μ-opened μ-part μ-row μ-stmt μ-times (λ t. opened-lts.spec (
-      narrow-reads.Asked,
-      narrow-reads.Learnt,
-      brings-reads.Asked,
-      brings-reads.Learnt,
-      times-below t,
-      times.Post,
-    )
+    close μ-opened μ-part μ-row μ-stmt μ-times (λ t. opened-lts.spec (opened-claims t)
     (opened-at t)
     opened.Post
     (opened-returns t)
@@ -785,16 +414,7 @@ pub +opened+part+row+stmt+times-spec : {M : Type 1} → statement M
     (opened-returns-2 t)
     (opened-returns-3 t)
     (opened-returns-4 t))
-    (λ t. part-lts.spec (
-      text-reads.Asked,
-      text-reads.Learnt,
-      operands-reads.Asked,
-      operands-reads.Learnt,
-      stmt-below t,
-      stmt.Post,
-      opened-below t,
-      opened.Post,
-    )
+    (λ t. part-lts.spec (part-claims t)
     (part-at t)
     part.Post
     (part-text-requires t)

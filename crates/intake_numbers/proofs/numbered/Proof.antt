@@ -1,13 +1,13 @@
-use mathlib.Core.Path.{refl}
-use Rattle.intake_ranges.specs.Ranges.{codes, upTo}
 use Rattle.intake_numbers.proofs.Framing.{numbered-tables, numbered-kinds, numbered-functions, numbered-entries}
 use borrow.Author.Needs.{needs}
 use Rattle.intake_numbers.proofs.numbered.Statement.{statement}
 use Rattle.intake_numbers.proofs.numbered.Tie as tie
 
+code-bounds-requires : tie.Need-code-bounds-requires
+code-bounds-requires c κs = search needs
+
 module-bounds-requires : tie.Need-module-bounds-requires
-unfolding codes upTo
-module-bounds-requires c κs = refl
+module-bounds-requires c κs = search needs
 
 tables-requires : tie.Need-tables-requires
 tables-requires c κs = search needs
@@ -37,6 +37,7 @@ pub numbered-spec : {M : Type 1} → statement M
 numbered-spec =
     tie.close
     (tie.spec
+    code-bounds-requires
     module-bounds-requires
     tables-requires
     returns
