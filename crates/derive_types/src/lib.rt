@@ -1,6 +1,5 @@
-// The imports of derive.rs, of names and types: a record with all that it refers to. What a record refers to comes first, in field order; then the record is
-// carried through the maps, and interned among the records of its table. A number that is mapped already is not imported again. The import of a type calls
-// itself on the types of lower numbers that it refers to.
+// The import of a type, as derive.rs has it: what it refers to comes first, in field order; then the record is carried through the maps, and interned among the
+// types. A number that is mapped already is not imported again. The import calls itself on the types of lower numbers that a type refers to.
 use base_handles::TypeHandle;
 use base_views::NAMES;
 use base_views::TYPES;

@@ -1,6 +1,5 @@
 // The expressions of a function that is imported. A word of the body imports its expression unless it is mapped: first what the expression refers to outside the
-// function, then itself, once. An Emit's first pass imports, of each expression of its range, what it refers to outside and the standing operands. The
-// expressions of initialisers are imported with their operands, and merge.
+// function, then itself, once. An Emit's first pass imports, of each expression of its range, what it refers to outside and the standing operands.
 use base_classes::EXPR;
 use base_kinds::stands;
 use base_views::EXPRESSIONS;

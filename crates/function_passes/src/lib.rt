@@ -1,6 +1,6 @@
-// Passes over the words of a function: each word is written at once on the stack of words, by the maps as they are at its turn. What a word needs of those after
-// it is read ahead: of a span's start whether the span is undefined, of an Emit's start its end, of an atomic statement what it compares. Words that import
-// nothing are written in runs.
+// Passes over the words of a function's body: each word is written at once on the stack of words, by the maps as they are at its turn. What a word needs of
+// those after it is read ahead: of a span's start whether the span is undefined, of an Emit's start its end, of an atomic statement what it compares. Words that
+// import nothing are written in runs.
 use base_classes::ATOMIC;
 use base_classes::EXPR;
 use base_classes::FROM;
