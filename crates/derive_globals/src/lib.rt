@@ -32,7 +32,7 @@ ghost use Rattle.model.specs.Tables.{globals};
 ghost use Rattle.model.specs.Imports.{importT};
 ghost use Rattle.derive_state.specs.Refers.{targetBytes};
 ghost use Rattle.derive_state.specs.Source.{srcOf, Source};
-ghost use Rattle.derive_state.specs.Held.{ValidArrays, Lands};
+ghost use Rattle.derive_state.specs.Held.{ValidArrays, ImportEnsures};
 
 // Imports global h: its name, its type, and its init if it has one, then the global.
 pub fn import_global(
@@ -53,7 +53,7 @@ pub fn import_global(
     requires { ⌜ ((h .0) < countAt 4 (now words)) × (ends .full ≡ false) ⌝ }
     requires { ⌜ now targets ≡ targetBytes ⌝ }
     requires { ⌜ ValidArrays (now log) (now logtags) (now starts) (now maps) (now buckets) ends ⌝ }
-    ensures { λ r. ⌜ Lands (now (words .entry)) (importT offset (srcOf (now (words .entry)) n) globals (h .0)) (now (log .entry)) (now (logtags .entry)) (now (starts .entry)) (now (maps .entry)) (now (buckets .entry)) ends r (now (log .exit)) (now (logtags .exit)) (now (starts .exit)) (now (maps .exit)) (now (buckets .exit)) ⌝ }
+    ensures { λ r. ⌜ ImportEnsures (now (words .entry)) (importT offset (srcOf (now (words .entry)) n) globals (h .0)) (now (log .entry)) (now (logtags .entry)) (now (starts .entry)) (now (maps .entry)) (now (buckets .entry)) ends r (now (log .exit)) (now (logtags .exit)) (now (starts .exit)) (now (maps .exit)) (now (buckets .exit)) ⌝ }
 {
     let k = wide(h.0);
     if maps[GLOBALS][k] != 0 {

@@ -14,7 +14,7 @@ use Rattle.model.specs.Outcome.{Cell, Cells}
 use Rattle.model.specs.Finish.{namesIn}
 use Rattle.derive_sections.specs.Flat.{firstsT, sizes, heads, tables, total, imageWords, newName, ordered, finishedWords}
 use Rattle.derive_state.specs.Held.{recsAt}
-use Rattle.derive_sections.specs.Rows.{tabsOf, Row, Rows, Noted, named}
+use Rattle.derive_sections.specs.Rows.{tabsOf, Row, Rows, AppearingEnsures, named}
 use Rattle.derive_image.specs.Held.{ValidTables, Finishes}
 use Rattle.derive_image.proofs.Whole.{map-at, wide-rec, wide-row, rec-at, tabs-ordered, ordered-tables, length-tables, length-heads, length-tabs}
 
@@ -50,7 +50,7 @@ module _ (log logtags : List ℕ) (starts : List (List ℕ)) (counts : List ℕ)
   abbrev Ns : List ℕ
   Ns = firstsT (tabsOf log logtags (drop 1 starts) (drop 1 counts)) []
 
-  module _ (order places : List ℕ) (n : ℕ) (v : Noted (getD counts 0 0) Ns order places n) where
+  module _ (order places : List ℕ) (n : ℕ) (v : AppearingEnsures (getD counts 0 0) Ns order places n) where
     pub order-low : (j : ℕ) → j < n → getD order j 0 < 512
     order-low j h = let z = v .inside j h in let y = names-few in omega arith
 

@@ -28,7 +28,7 @@ ghost use Rattle.model.specs.References.{shift, indexOf, alike as alikeOf};
 ghost use Rattle.model.specs.Imports.{intern as settled};
 ghost use Rattle.derive_state.specs.Refers.{tabOf, wentR};
 ghost use Rattle.derive_state.specs.Marks.{MARKS, placeR, Left};
-ghost use Rattle.derive_state.specs.Held.{row, cell, recAt, recsAt, ValidArrays, Lands, Readable, Nameless, carriedBy};
+ghost use Rattle.derive_state.specs.Held.{row, cell, recAt, recsAt, ValidArrays, ImportEnsures, Readable, Nameless, carriedBy};
 
 // Whether the record at s is what the source's words from `at` to `end` become, ignoring spans: the same as `alike`, but the last word is compared first, since
 // records that are not equal mostly differ there.
@@ -184,7 +184,7 @@ pub fn intern(
     requires { ⌜ (t < 6) × (k < countAt t (now words)) × (k < 512) × (ends .full ≡ false) ⌝ }
     requires { ⌜ (t ≡ 0 → Nameless (between (now tags) (now words) at end)) ⌝ }
     requires { ⌜ ValidArrays (now log) (now logtags) (now starts) (now maps) (now buckets) ends ⌝ }
-    ensures { λ r. ⌜ Lands (now (words .entry)) (settled (tabOf t) k (shift (carriedBy (wentR (now (maps .entry))) (now (tags .entry)) (now (words .entry)) at end) offset false)) (now (log .entry)) (now (logtags .entry)) (now (starts .entry)) (now (maps .entry)) (now (buckets .entry)) ends r (now (log .exit)) (now (logtags .exit)) (now (starts .exit)) (now (maps .exit)) (now (buckets .exit)) ⌝ }
+    ensures { λ r. ⌜ ImportEnsures (now (words .entry)) (settled (tabOf t) k (shift (carriedBy (wentR (now (maps .entry))) (now (tags .entry)) (now (words .entry)) at end) offset false)) (now (log .entry)) (now (logtags .entry)) (now (starts .entry)) (now (maps .entry)) (now (buckets .entry)) ends r (now (log .exit)) (now (logtags .exit)) (now (starts .exit)) (now (maps .exit)) (now (buckets .exit)) ⌝ }
 {
     let n = ends.counts[t] as usize;
     let loglen = ends.loglen as usize;

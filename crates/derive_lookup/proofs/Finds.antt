@@ -32,7 +32,7 @@ use Rattle.derive_state.specs.Source.{modOf, srcOf, Source}
 use Rattle.derive_state.specs.Held.{recAt, recsAt, recsOf, functionsOf, stOf, Readable}
 use Rattle.derive_state.specs.declared.Sizes.{Sizes}
 use Rattle.derive_names.proofs.Sources.{count-few, record-is, readable}
-use Rattle.derive_lookup.specs.Bearing.{Knows}
+use Rattle.derive_lookup.specs.Bearing.{KnownEnsures}
 
 -- ---- every function has a name, and it is in the table
 not-zero : (x : ℕ) → not (eqb x 0) ≡ true → 0 < x
@@ -98,7 +98,7 @@ module _ (words tags : List ℕ) (n : ℕ) (src : Source words tags n) (five : n
         module _ (log logtags : List ℕ) (starts : List (List ℕ)) (e : Sizes) where
           pub knows : (d r : ℕ) → d ≡ indexOf (recsAt log logtags (take (getD (e .counts) 0 0) (getD starts 0 []))) (between tags words from to)
               → (r ≡ lastOf (map functionOf (recsAt log logtags (take (getD (e .counts) 6 0) (getD starts 6 [])))) 0 0 (d + 1)) × (r ≤ getD (e .counts) 6 0)
-              → Knows words n log logtags starts e f r
+              → KnownEnsures words n log logtags starts e f r
           unfolding known stOf recsOf functionsOf six at codeT
           knows d r hd hr = record {
             is = λ maps special. hr .0 ∙ ap (lastOf (map functionOf (recsAt log logtags (take (getD (e .counts) 6 0) (getD starts 6 [])))) 0 0) (add-one d ∙ ap suc (hd ∙ ap (indexOf (recsAt log logtags (take (getD (e .counts) 0 0) (getD starts 0 [])))) name-text));

@@ -40,6 +40,6 @@ pub record Bearing (log logtags : List ℕ) (starts : List (List ℕ)) (e : Size
   pub functions : Heads log logtags (getD starts 6 []) (getD (e .counts) 6 0)
 
 -- the derived function that has the name of the source's function f: its number plus 1, or 0. Neither maps nor special types have a say in it
-pub record Knows (words : List ℕ) (n : ℕ) (log logtags : List ℕ) (starts : List (List ℕ)) (e : Sizes) (f r : ℕ) : Type 0 where
+pub record KnownEnsures (words : List ℕ) (n : ℕ) (log logtags : List ℕ) (starts : List (List ℕ)) (e : Sizes) (f r : ℕ) : Type 0 where
   pub is : (maps : List (List ℕ)) (special : List ℕ) → r ≡ known (modOf words n) (stOf words log logtags starts maps special e) f
   pub low : r ≤ getD (e .counts) 6 0

@@ -28,7 +28,7 @@ ghost use Rattle.derive_state.specs.Flats.{functionOf};
 ghost use Rattle.derive_state.specs.Source.{modOf, Source};
 ghost use Rattle.derive_state.specs.Refers.{targetBytes};
 ghost use Rattle.derive_state.specs.Held.{recAt, recsAt, Readable};
-ghost use Rattle.derive_lookup.specs.Bearing.{Names, Went, Heads, Bearing, Knows};
+ghost use Rattle.derive_lookup.specs.Bearing.{Names, Went, Heads, Bearing, KnownEnsures};
 
 // Whether the record at s equals the source's words from `at` to `end`.
 fn equals_name(
@@ -169,7 +169,7 @@ pub fn known(
     requires { ⌜ named (modOf (now words) n) ≡ true ⌝ }
     requires { ⌜ f < countAt 6 (now words) ⌝ }
     requires { ⌜ Bearing (now log) (now logtags) (now starts) ends ⌝ }
-    ensures { λ r. ⌜ Knows (now (words .entry)) n (now (log .entry)) (now (logtags .entry)) (now (starts .entry)) ends f r ⌝ }
+    ensures { λ r. ⌜ KnownEnsures (now (words .entry)) n (now (log .entry)) (now (logtags .entry)) (now (starts .entry)) ends f r ⌝ }
 {
     let s = record_at(words, tags, n, FUNCTIONS, f);
     let k = wide(words[s]) - 1;

@@ -26,7 +26,7 @@ use Rattle.theory_records.specs.Trace.{import-is, once-is}
 use Rattle.theory_image.specs.Betweens.{between-none, between-next}
 use Rattle.derive_state.specs.Refers.{codeP, tabOf, wentR, Small}
 use Rattle.derive_state.specs.Source.{srcOf, Source, refersTo, numberOf}
-use Rattle.derive_state.specs.Held.{row, cell, tableOf, mapsOf, stOf, sizeR, Over, ValidArrays, Same, Beside, Lands, carriedBy}
+use Rattle.derive_state.specs.Held.{row, cell, tableOf, mapsOf, stOf, sizeR, Over, ValidArrays, Same, Beside, ImportEnsures, carriedBy}
 use Rattle.derive_state.specs.Marks.{Marks}
 use Rattle.derive_state.specs.declared.Sizes.{Sizes}
 use Rattle.derive_state.proofs.Passes.{all-here, all-next}
@@ -49,15 +49,15 @@ beside-then a b c e f g x y = record {
 
 -- the same number, found another way
 pub lands-at : {words log₀ logtags₀ : List ℕ} {starts₀ maps₀ : List (List ℕ)} {buckets₀ : List ℕ} {e r : Sizes} {log logtags : List ℕ} {starts maps : List (List ℕ)} {buckets : List ℕ} (o : ℕ) (T : Tables) (t : Tab) (k m : ℕ) → k ≡ m
-    → Lands words (importT o T t k) log₀ logtags₀ starts₀ maps₀ buckets₀ e r log logtags starts maps buckets → Lands words (importT o T t m) log₀ logtags₀ starts₀ maps₀ buckets₀ e r log logtags starts maps buckets
+    → ImportEnsures words (importT o T t k) log₀ logtags₀ starts₀ maps₀ buckets₀ e r log logtags starts maps buckets → ImportEnsures words (importT o T t m) log₀ logtags₀ starts₀ maps₀ buckets₀ e r log logtags starts maps buckets
 lands-at o T t k m q L = rw (← q) L
 
 -- one operation after another
 pub lands-then : (words log₀ logtags₀ : List ℕ) (starts₀ maps₀ : List (List ℕ)) (buckets₀ : List ℕ) (e₀ : Sizes) → ValidArrays log₀ logtags₀ starts₀ maps₀ buckets₀ e₀
-    → (f : Derived → Derived) (e₁ : Sizes) (log₁ logtags₁ : List ℕ) (starts₁ maps₁ : List (List ℕ)) (buckets₁ : List ℕ) → Lands words f log₀ logtags₀ starts₀ maps₀ buckets₀ e₀ e₁ log₁ logtags₁ starts₁ maps₁ buckets₁ → e₁ .full ≡ false
-    → (g : Derived → Derived) (r : Sizes) (log logtags : List ℕ) (starts maps : List (List ℕ)) (buckets : List ℕ) → Lands words g log₁ logtags₁ starts₁ maps₁ buckets₁ e₁ r log logtags starts maps buckets
+    → (f : Derived → Derived) (e₁ : Sizes) (log₁ logtags₁ : List ℕ) (starts₁ maps₁ : List (List ℕ)) (buckets₁ : List ℕ) → ImportEnsures words f log₀ logtags₀ starts₀ maps₀ buckets₀ e₀ e₁ log₁ logtags₁ starts₁ maps₁ buckets₁ → e₁ .full ≡ false
+    → (g : Derived → Derived) (r : Sizes) (log logtags : List ℕ) (starts maps : List (List ℕ)) (buckets : List ℕ) → ImportEnsures words g log₁ logtags₁ starts₁ maps₁ buckets₁ e₁ r log logtags starts maps buckets
     → (F : Derived → Derived) → ((special : List ℕ) → F (stOf words log₀ logtags₀ starts₀ maps₀ special e₀) ≡ g (f (stOf words log₀ logtags₀ starts₀ maps₀ special e₀)))
-    → Lands words F log₀ logtags₀ starts₀ maps₀ buckets₀ e₀ r log logtags starts maps buckets
+    → ImportEnsures words F log₀ logtags₀ starts₀ maps₀ buckets₀ e₀ r log logtags starts maps buckets
 lands-then words log₀ logtags₀ starts₀ maps₀ buckets₀ e₀ K₀ f e₁ log₁ logtags₁ starts₁ maps₁ buckets₁ L q g r log logtags starts maps buckets M F is = record {
   over = λ z special. rw (is special, L .is q special, ← entries) (M .over z special);
   is = λ z special. is special ∙ ap g (L .is q special) ∙ M .is z special;
@@ -118,7 +118,7 @@ module _ (words tags : List ℕ) (n : ℕ) (src : Source words tags n) (o t k : 
   here special = map-is words log₀ logtags₀ starts₀ maps₀ special e₀ (tabOf t) k (rw (code-tab t ht) hk) ∙ rw (code-tab t ht)
 
   -- what is mapped already stays
-  pub lands-known : (f : Derived → Derived) → ((special : List ℕ) → f (S₀ special) ≡ S₀ special) → Lands words f log₀ logtags₀ starts₀ maps₀ buckets₀ e₀ e₀ log₀ logtags₀ starts₀ maps₀ buckets₀
+  pub lands-known : (f : Derived → Derived) → ((special : List ℕ) → f (S₀ special) ≡ S₀ special) → ImportEnsures words f log₀ logtags₀ starts₀ maps₀ buckets₀ e₀ e₀ log₀ logtags₀ starts₀ maps₀ buckets₀
   lands-known f idle = record {
     over = λ q. absurd (false≢true (sym nf ∙ q));
     is = λ q special. idle special;
@@ -131,7 +131,7 @@ module _ (words tags : List ℕ) (n : ℕ) (src : Source words tags n) (o t k : 
     marks-stay = marks-refl buckets₀ (K₀ .marks-long);
   }
 
-  pub turn-known : (cell maps₀ t k ≡ 0 → ⊥) → Lands words (importT o T (tabOf t) k) log₀ logtags₀ starts₀ maps₀ buckets₀ e₀ e₀ log₀ logtags₀ starts₀ maps₀ buckets₀
+  pub turn-known : (cell maps₀ t k ≡ 0 → ⊥) → ImportEnsures words (importT o T (tabOf t) k) log₀ logtags₀ starts₀ maps₀ buckets₀ e₀ e₀ log₀ logtags₀ starts₀ maps₀ buckets₀
   turn-known ne = lands-known (importT o T (tabOf t) k) idle
     where
       idle : (special : List ℕ) → importT o T (tabOf t) k (S₀ special) ≡ S₀ special
@@ -195,11 +195,11 @@ module _ (words tags : List ℕ) (n : ℕ) (src : Source words tags n) (o t k : 
             pub turn-falls : rank T (tabOf u) m < rank T (tabOf t) k
             turn-falls = found .1
 
-            module _ (r : Sizes) (log′ logtags′ : List ℕ) (starts′ maps′ : List (List ℕ)) (buckets′ : List ℕ) (L : Lands words (importT o T (tabOf u) m) log logtags starts maps buckets e r log′ logtags′ starts′ maps′ buckets′) where
+            module _ (r : Sizes) (log′ logtags′ : List ℕ) (starts′ maps′ : List (List ℕ)) (buckets′ : List ℕ) (L : ImportEnsures words (importT o T (tabOf u) m) log logtags starts maps buckets e r log′ logtags′ starts′ maps′ buckets′) where
               went : (special : List ℕ) → importT o T (tabOf u) m (S special) ≡ cond (ltb u 6) (importT o T (tabOf u) (numberOf (target (getD tags i 0)) (getD words i 0)) (S special)) (S special)
               went special = rw (lt-ltb u 6 lt, hm)
 
-              pub turn-full : r .full ≡ true → Lands words f log₀ logtags₀ starts₀ maps₀ buckets₀ e₀ r log′ logtags′ starts′ maps′ buckets′
+              pub turn-full : r .full ≡ true → ImportEnsures words f log₀ logtags₀ starts₀ maps₀ buckets₀ e₀ r log′ logtags′ starts′ maps′ buckets′
               turn-full q = record {
                 over = λ z special. rw (← entries-stay)
                     (over-grow _
@@ -245,8 +245,8 @@ module _ (words tags : List ℕ) (n : ℕ) (src : Source words tags n) (o t k : 
       carried-by special cs low = carry-same (mappedToT (S special)) (wentR maps) cs (all-map (refs cs) (λ j l. sym (went-at special (j .place) (j .num) (l .0))) low)
 
       pub turn-last : (c : Cells) → ((special : List ℕ) → f (S₀ special) ≡ intern (tabOf t) k c (S special)) → (r : Sizes) (log′ logtags′ : List ℕ) (starts′ maps′ : List (List ℕ)) (buckets′ : List ℕ)
-          → Lands words (intern (tabOf t) k c) log logtags starts maps buckets e r log′ logtags′ starts′ maps′ buckets′
-          → Lands words f log₀ logtags₀ starts₀ maps₀ buckets₀ e₀ r log′ logtags′ starts′ maps′ buckets′
+          → ImportEnsures words (intern (tabOf t) k c) log logtags starts maps buckets e r log′ logtags′ starts′ maps′ buckets′
+          → ImportEnsures words f log₀ logtags₀ starts₀ maps₀ buckets₀ e₀ r log′ logtags′ starts′ maps′ buckets′
       turn-last c eq r log′ logtags′ starts′ maps′ buckets′ L = record {
         over = λ q special. rw (eq special, ← entries-stay) (L .over q special);
         is = λ q special. eq special ∙ L .is q special;
@@ -290,14 +290,14 @@ module _ (words tags : List ℕ) (n : ℕ) (src : Source words tags n) (o t k : 
           ∙ rw (← turn-done (importT o T (tabOf t) k) J ends-in begin end hb he log logtags starts maps buckets e i inv h special, record-is words tags n src t k ht hk begin end hb he, carried-by (importT o T (tabOf t) k) J ends-in begin end hb he log logtags starts maps buckets e i inv special (recAt T (tabOf t) k) (falls T (wf words tags n src) (tabOf t) k (inside words tags n src t k ht hk))) refl
 
       pub turn-settled : (r : Sizes) (log′ logtags′ : List ℕ) (starts′ maps′ : List (List ℕ)) (buckets′ : List ℕ)
-          → Lands words (intern (tabOf t) k (shift (carriedBy (wentR maps) tags words begin end) o false)) log logtags starts maps buckets e r log′ logtags′ starts′ maps′ buckets′
-          → Lands words (importT o T (tabOf t) k) log₀ logtags₀ starts₀ maps₀ buckets₀ e₀ r log′ logtags′ starts′ maps′ buckets′
+          → ImportEnsures words (intern (tabOf t) k (shift (carriedBy (wentR maps) tags words begin end) o false)) log logtags starts maps buckets e r log′ logtags′ starts′ maps′ buckets′
+          → ImportEnsures words (importT o T (tabOf t) k) log₀ logtags₀ starts₀ maps₀ buckets₀ e₀ r log′ logtags′ starts′ maps′ buckets′
       turn-settled = turn-last (importT o T (tabOf t) k) J ends-in begin end hb he log logtags starts maps buckets e i inv (shift (carriedBy (wentR maps) tags words begin end) o false) settled
 
     -- a name refers to nothing
     pub name-settled : t ≡ 0 → (r : Sizes) (log′ logtags′ : List ℕ) (starts′ maps′ : List (List ℕ)) (buckets′ : List ℕ)
-        → Lands words (intern (tabOf t) k (shift (carriedBy (wentR maps₀) tags words begin end) o false)) log₀ logtags₀ starts₀ maps₀ buckets₀ e₀ r log′ logtags′ starts′ maps′ buckets′
-        → Lands words (importT o T (tabOf t) k) log₀ logtags₀ starts₀ maps₀ buckets₀ e₀ r log′ logtags′ starts′ maps′ buckets′
+        → ImportEnsures words (intern (tabOf t) k (shift (carriedBy (wentR maps₀) tags words begin end) o false)) log₀ logtags₀ starts₀ maps₀ buckets₀ e₀ r log′ logtags′ starts′ maps′ buckets′
+        → ImportEnsures words (importT o T (tabOf t) k) log₀ logtags₀ starts₀ maps₀ buckets₀ e₀ r log′ logtags′ starts′ maps′ buckets′
     unfolding refs
     name-settled e r log′ logtags′ starts′ maps′ buckets′ L = turn-settled log₀ logtags₀ starts₀ maps₀ buckets₀ e₀ end last-turn (le-refl _) r log′ logtags′ starts′ maps′ buckets′ L
       where

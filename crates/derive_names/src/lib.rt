@@ -27,7 +27,7 @@ ghost use Rattle.model.specs.Tables.{names};
 ghost use Rattle.model.specs.Imports.{importT};
 ghost use Rattle.derive_state.specs.Refers.{targetBytes};
 ghost use Rattle.derive_state.specs.Source.{srcOf, Source, refersTo, numberOf};
-ghost use Rattle.derive_state.specs.Held.{ValidArrays, Lands};
+ghost use Rattle.derive_state.specs.Held.{ValidArrays, ImportEnsures};
 
 // What a word refers to: the number of a table, or NOTHING, and a number in that table.
 pub struct Reference {
@@ -84,7 +84,7 @@ pub fn import_name(
     requires { ⌜ (h < countAt 0 (now words)) × (ends .full ≡ false) ⌝ }
     requires { ⌜ now targets ≡ targetBytes ⌝ }
     requires { ⌜ ValidArrays (now log) (now logtags) (now starts) (now maps) (now buckets) ends ⌝ }
-    ensures { λ r. ⌜ Lands (now (words .entry)) (importT offset (srcOf (now (words .entry)) n) names h) (now (log .entry)) (now (logtags .entry)) (now (starts .entry)) (now (maps .entry)) (now (buckets .entry)) ends r (now (log .exit)) (now (logtags .exit)) (now (starts .exit)) (now (maps .exit)) (now (buckets .exit)) ⌝ }
+    ensures { λ r. ⌜ ImportEnsures (now (words .entry)) (importT offset (srcOf (now (words .entry)) n) names h) (now (log .entry)) (now (logtags .entry)) (now (starts .entry)) (now (maps .entry)) (now (buckets .entry)) ends r (now (log .exit)) (now (logtags .exit)) (now (starts .exit)) (now (maps .exit)) (now (buckets .exit)) ⌝ }
 {
     let k = wide(h);
     if maps[NAMES][k] != 0 {

@@ -30,8 +30,8 @@ use Rattle.derive_state.specs.Source.{modOf, Source}
 use Rattle.derive_state.specs.Held.{stOf}
 use Rattle.derive_state.specs.declared.Sizes.{Sizes}
 use Rattle.derive_names.proofs.Sources.{mod-is}
-use Rattle.derive_lookup.specs.Bearing.{Knows}
-use Rattle.derive_rings.specs.Rings.{unknownBy, Unknowns, Stuck, Rings}
+use Rattle.derive_lookup.specs.Bearing.{KnownEnsures}
+use Rattle.derive_rings.specs.Rings.{unknownBy, Unknowns, Stuck, RingsEnsures}
 use Rattle.derive_rings.proofs.Sieving.{Sieve, sieved, still-low}
 use Rattle.derive_rings.proofs.Meeting.{left-meet, waiting-few, left-has, left-calls}
 use Rattle.derive_rings.proofs.Asking.{isOf, holds-is}
@@ -59,7 +59,7 @@ module _ (words : List ℕ) (n : ℕ) (log logtags : List ℕ) (starts : List (L
   unfolding unknown known stOf
   same-unknown maps special f = refl
 
-  module _ (f r : ℕ) (k : Knows words n log logtags starts e f r) where
+  module _ (f r : ℕ) (k : KnownEnsures words n log logtags starts e f r) where
     pub is-known : (r ≡ 0 → ⊥) → isUnknown f ≡ false
     unfolding unknown
     is-known h = ne-eqb _ 0 (λ q. h (k .is [] [] ∙ q))
@@ -114,17 +114,17 @@ module _ (words : List ℕ) (n : ℕ) (log logtags : List ℕ) (starts : List (L
     abbrev Free : List ℕ → Type 0
     Free js = (maps : List (List ℕ)) (special : List ℕ) (i : ℕ) → In i js → In i (stuck (modOf words n) (stOf words log logtags starts maps special e)) → ⊥
 
-    free-not : (js : List ℕ) → Free js → Rings js words n log logtags starts e false
+    free-not : (js : List ℕ) → Free js → RingsEnsures js words n log logtags starts e false
     free-not js h = record { is = λ maps special. none-of tags src maps special js (h maps special) }
 
     known-all : (js : List ℕ) → any js isUnknown ≡ false → Free js
     known-all js h maps special i m k = false≢true (sym h ∙ in-any isUnknown m (stuck-unknown tags src maps special i k))
 
-    pub entries-not : (js : List ℕ) (b : Bool) → b ≡ any js isUnknown → b ≡ false → Rings js words n log logtags starts e false
+    pub entries-not : (js : List ℕ) (b : Bool) → b ≡ any js isUnknown → b ≡ false → RingsEnsures js words n log logtags starts e false
     entries-not js b hb t = free-not js (known-all js (sym hb ∙ t))
 
     module _ (f : ℕ) (hf : f < countAt 6 words) where
-      pub known-free : isUnknown f ≡ false → Rings (f ∷ []) words n log logtags starts e false
+      pub known-free : isUnknown f ≡ false → RingsEnsures (f ∷ []) words n log logtags starts e false
       known-free h = free-not (f ∷ []) (known-all (f ∷ []) (unfold any in rw h refl))
 
       module _ (b : Bool) (hb : b ≡ any (callees (function (modOf words n) f)) isUnknown) (no : b ≡ false) where
@@ -132,10 +132,10 @@ module _ (words : List ℕ) (n : ℕ) (log logtags : List ℕ) (starts : List (L
         free-itself js h maps special i here k = false≢true (sym no ∙ hb ∙ stuck-leads tags src maps special f hf k)
         free-itself js h maps special i (later m) k = h maps special i m k
 
-        pub leads-not : Rings (f ∷ []) words n log logtags starts e false
+        pub leads-not : RingsEnsures (f ∷ []) words n log logtags starts e false
         leads-not = free-not (f ∷ []) (free-itself [] (known-all [] (unfold any in refl)))
 
-        pub calls-not : Rings (f ∷ callees (function (modOf words n) f)) words n log logtags starts e false
+        pub calls-not : RingsEnsures (f ∷ callees (function (modOf words n) f)) words n log logtags starts e false
         calls-not = free-not (f ∷ callees (function (modOf words n) f)) (free-itself (callees (function (modOf words n) f)) (known-all (callees (function (modOf words n) f)) (sym hb ∙ no)))
 
   module _ (tags : List ℕ) (src : Source words tags n) (cs : List ℕ) (g : Gathered words tags n cs) where
@@ -179,7 +179,7 @@ module _ (words : List ℕ) (n : ℕ) (log logtags : List ℕ) (starts : List (L
 
     -- ---- what meets them
     module _ (set : List ℕ) (s : Stuck words n log logtags starts e set) where
-      pub rings-any : (js : List ℕ) (r : Bool) → r ≡ any js (isOf set) → Rings js words n log logtags starts e r
+      pub rings-any : (js : List ℕ) (r : Bool) → r ≡ any js (isOf set) → RingsEnsures js words n log logtags starts e r
       unfolding meetsRing
       rings-any js r h = record { is = λ maps special. h ∙ ap (λ (x : List ℕ). any js (λ i. any x (eqb i))) (s .is maps special) }
 
@@ -191,10 +191,10 @@ module _ (words : List ℕ) (n : ℕ) (log logtags : List ℕ) (starts : List (L
         one true = refl
         one false = refl
 
-        pub rings-one : (r : Bool) → r ≡ holds set f → Rings (f ∷ []) words n log logtags starts e r
+        pub rings-one : (r : Bool) → r ≡ holds set f → RingsEnsures (f ∷ []) words n log logtags starts e r
         rings-one r h = rings-any (f ∷ []) r (unfold any in h ∙ holds-is set f low ∙ one (isOf set f))
 
-        pub rings-itself : (r : Bool) → r ≡ holds set f → r ≡ true → Rings (f ∷ callees (function (modOf words n) f)) words n log logtags starts e true
+        pub rings-itself : (r : Bool) → r ≡ holds set f → r ≡ true → RingsEnsures (f ∷ callees (function (modOf words n) f)) words n log logtags starts e true
         rings-itself r h t = rings-any (f ∷ callees (function (modOf words n) f)) true (unfold any in rw (sym (holds-is set f low) ∙ sym h ∙ t))
 
         abbrev F : Function
@@ -218,5 +218,5 @@ module _ (words : List ℕ) (n : ℕ) (log logtags : List ℕ) (starts : List (L
             let b = any-in (eqb (a .0)) (members set) (a .2) in
             in-any (marked cs f) (b .1) (called (b .0) (members-in set (b .0) (b .1) .0) ∙ in-any (λ k. eqb (b .0) k) (a .1) (eq-eqb (b .0) (a .0) (sym (eqb-true (a .0) (b .0) (b .2))))))
 
-        pub rings-callees : (b r : Bool) → b ≡ holds set f → b ≡ false → r ≡ any (members set) (marked cs f) → Rings (f ∷ callees (function (modOf words n) f)) words n log logtags starts e r
+        pub rings-callees : (b r : Bool) → b ≡ holds set f → b ≡ false → r ≡ any (members set) (marked cs f) → RingsEnsures (f ∷ callees (function (modOf words n) f)) words n log logtags starts e r
         rings-callees b r h t q = rings-any (f ∷ callees (function (modOf words n) f)) r (unfold any in rw (sym (holds-is set f low) ∙ sym h ∙ t) (q ∙ swap))

@@ -32,7 +32,7 @@ pub record Stuck (words : List ℕ) (n : ℕ) (log logtags : List ℕ) (starts :
   pub is : (maps : List (List ℕ)) (special : List ℕ) → members set ≡ stuck (modOf words n) (stOf words log logtags starts maps special e)
 
 -- whether one of js is among them
-pub record Rings (js : List ℕ) (words : List ℕ) (n : ℕ) (log logtags : List ℕ) (starts : List (List ℕ)) (e : Sizes) (r : Bool) : Type 0 where
+pub record RingsEnsures (js : List ℕ) (words : List ℕ) (n : ℕ) (log logtags : List ℕ) (starts : List (List ℕ)) (e : Sizes) (r : Bool) : Type 0 where
   pub is : (maps : List (List ℕ)) (special : List ℕ) → r ≡ meetsRing js (modOf words n) (stOf words log logtags starts maps special e)
 
 -- words and tags are arrays, and what is called between two places is among the first m functions

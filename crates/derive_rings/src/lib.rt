@@ -42,7 +42,7 @@ ghost use Rattle.order_ranks.specs.Marks.{members, Below};
 ghost use Rattle.order_callees.specs.Gathering.{picked, Gathered};
 ghost use Rattle.derive_state.specs.Source.{modOf, Source};
 ghost use Rattle.derive_lookup.specs.Bearing.{Bearing};
-ghost use Rattle.derive_rings.specs.Rings.{unknownBy, Unknowns, Stuck, Rings, Scannable};
+ghost use Rattle.derive_rings.specs.Rings.{unknownBy, Unknowns, Stuck, RingsEnsures, Scannable};
 
 // Those of a set whose names are unknown.
 fn unknown(
@@ -211,7 +211,7 @@ pub fn import_rings(
     requires { ⌜ named (modOf (now words) n) ≡ true ⌝ }
     requires { ⌜ Bearing (now log) (now logtags) (now starts) ends ⌝ }
     requires { ⌜ f < countAt 6 (now words) ⌝ }
-    ensures { λ r. ⌜ Rings (f ∷ calleesOf (function (modOf (now (words .entry)) n) f)) (now (words .entry)) n (now (log .entry)) (now (logtags .entry)) (now (starts .entry)) ends r ⌝ }
+    ensures { λ r. ⌜ RingsEnsures (f ∷ calleesOf (function (modOf (now (words .entry)) n) f)) (now (words .entry)) n (now (log .entry)) (now (logtags .entry)) (now (starts .entry)) ends r ⌝ }
 {
     if !calls_unknown_name(words, tags, n, log, logtags, starts, maps, ends, f) {
         return false;
@@ -241,7 +241,7 @@ pub fn follow_rings(
     requires { ⌜ named (modOf (now words) n) ≡ true ⌝ }
     requires { ⌜ Bearing (now log) (now logtags) (now starts) ends ⌝ }
     requires { ⌜ f < countAt 6 (now words) ⌝ }
-    ensures { λ r. ⌜ Rings (f ∷ []) (now (words .entry)) n (now (log .entry)) (now (logtags .entry)) (now (starts .entry)) ends r ⌝ }
+    ensures { λ r. ⌜ RingsEnsures (f ∷ []) (now (words .entry)) n (now (log .entry)) (now (logtags .entry)) (now (starts .entry)) ends r ⌝ }
 {
     if known(words, tags, n, log, logtags, starts, maps, ends, f) != 0 {
         return false;
@@ -299,7 +299,7 @@ pub fn entries_ring(
     requires { ⌜ Source (now words) (now tags) n ⌝ }
     requires { ⌜ named (modOf (now words) n) ≡ true ⌝ }
     requires { ⌜ Bearing (now log) (now logtags) (now starts) ends ⌝ }
-    ensures { λ r. ⌜ Rings (calleesOfAll (modOf (now (words .entry)) n .entries)) (now (words .entry)) n (now (log .entry)) (now (logtags .entry)) (now (starts .entry)) ends r ⌝ }
+    ensures { λ r. ⌜ RingsEnsures (calleesOfAll (modOf (now (words .entry)) n .entries)) (now (words .entry)) n (now (log .entry)) (now (logtags .entry)) (now (starts .entry)) ends r ⌝ }
 {
     if !entries_lead(words, tags, n, log, logtags, starts, maps, ends) {
         return false;

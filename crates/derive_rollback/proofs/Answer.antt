@@ -7,9 +7,9 @@ use Rattle.derive_state.specs.Refers.{tabOf}
 use Rattle.derive_state.specs.Held.{cell}
 use Rattle.derive_state.proofs.State.{code-tab}
 use Rattle.derive_names.proofs.Turns.{map-is}
-use Rattle.derive_rollback.specs.Answered.{Answers}
+use Rattle.derive_rollback.specs.Answered.{MappedToEnsures}
 
-pub answers : (maps : List (List ℕ)) (t h i r : ℕ) → t < 6 → i ≡ h → r ≡ pred (cell maps t i) → Answers maps t h r
+pub answers : (maps : List (List ℕ)) (t h i r : ℕ) → t < 6 → i ≡ h → r ≡ pred (cell maps t i) → MappedToEnsures maps t h r
 answers maps t h i r ht hi hr = record {
   is = λ words log logtags starts special e l.
       let m = map-is words log logtags starts maps special e (tabOf t) h (rw (code-tab t ht) l) in

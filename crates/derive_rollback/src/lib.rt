@@ -24,13 +24,13 @@ ghost use Rattle.model.specs.Tables.{types, constants, overrides, globals, expr
 ghost use Rattle.model.specs.Imports.{importT, renamed};
 ghost use Rattle.derive_state.specs.Refers.{targetBytes};
 ghost use Rattle.derive_state.specs.Source.{srcOf, Source};
-ghost use Rattle.derive_state.specs.Held.{ValidArrays, Whole};
-ghost use Rattle.derive_rollback.specs.Answered.{Answers};
+ghost use Rattle.derive_state.specs.Held.{ValidArrays, ImportOrUndoEnsures};
+ghost use Rattle.derive_rollback.specs.Answered.{MappedToEnsures};
 
 // The derived number that number h of table t is mapped to.
 pub fn mapped_to(maps: &Maps, t: usize, h: u32) -> u32
     requires { ⌜ (t < 6) × (h < 512) ⌝ }
-    ensures { λ r. ⌜ Answers (now (maps .entry)) t h r ⌝ }
+    ensures { λ r. ⌜ MappedToEnsures (now (maps .entry)) t h r ⌝ }
 {
     let v = maps[t][wide(h)];
     if v == 0 {
@@ -58,7 +58,7 @@ pub fn import_type(
     requires { ⌜ (h .0 < countAt 1 (now words)) × (ends .full ≡ false) ⌝ }
     requires { ⌜ now targets ≡ targetBytes ⌝ }
     requires { ⌜ ValidArrays (now log) (now logtags) (now starts) (now maps) (now buckets) ends ⌝ }
-    ensures { λ r. ⌜ Whole (now (words .entry)) (importT offset (srcOf (now (words .entry)) n) types (h .0)) (now (log .entry)) (now (logtags .entry)) (now (starts .entry)) (now (maps .entry)) ends r (now (log .exit)) (now (logtags .exit)) (now (starts .exit)) (now (maps .exit)) (now (buckets .exit)) ⌝ }
+    ensures { λ r. ⌜ ImportOrUndoEnsures (now (words .entry)) (importT offset (srcOf (now (words .entry)) n) types (h .0)) (now (log .entry)) (now (logtags .entry)) (now (starts .entry)) (now (maps .entry)) ends r (now (log .exit)) (now (logtags .exit)) (now (starts .exit)) (now (maps .exit)) (now (buckets .exit)) ⌝ }
 {
     let mut s = [[0u32; 512]; 8];
     let mut m = [[0u32; 512]; 6];
@@ -101,7 +101,7 @@ pub fn rename_type(
     requires { ⌜ (h .0 < countAt 1 (now words)) × (name < countAt 0 (now words)) × (ends .full ≡ false) ⌝ }
     requires { ⌜ now targets ≡ targetBytes ⌝ }
     requires { ⌜ ValidArrays (now log) (now logtags) (now starts) (now maps) (now buckets) ends ⌝ }
-    ensures { λ r. ⌜ Whole (now (words .entry)) (importT offset (renamed (srcOf (now (words .entry)) n) (h .0) name) types (h .0)) (now (log .entry)) (now (logtags .entry)) (now (starts .entry)) (now (maps .entry)) ends r (now (log .exit)) (now (logtags .exit)) (now (starts .exit)) (now (maps .exit)) (now (buckets .exit)) ⌝ }
+    ensures { λ r. ⌜ ImportOrUndoEnsures (now (words .entry)) (importT offset (renamed (srcOf (now (words .entry)) n) (h .0) name) types (h .0)) (now (log .entry)) (now (logtags .entry)) (now (starts .entry)) (now (maps .entry)) ends r (now (log .exit)) (now (logtags .exit)) (now (starts .exit)) (now (maps .exit)) (now (buckets .exit)) ⌝ }
 {
     let mut s = [[0u32; 512]; 8];
     let mut m = [[0u32; 512]; 6];
@@ -144,7 +144,7 @@ pub fn import_const(
     requires { ⌜ (h .0 < countAt 2 (now words)) × (ends .full ≡ false) ⌝ }
     requires { ⌜ now targets ≡ targetBytes ⌝ }
     requires { ⌜ ValidArrays (now log) (now logtags) (now starts) (now maps) (now buckets) ends ⌝ }
-    ensures { λ r. ⌜ Whole (now (words .entry)) (importT offset (srcOf (now (words .entry)) n) constants (h .0)) (now (log .entry)) (now (logtags .entry)) (now (starts .entry)) (now (maps .entry)) ends r (now (log .exit)) (now (logtags .exit)) (now (starts .exit)) (now (maps .exit)) (now (buckets .exit)) ⌝ }
+    ensures { λ r. ⌜ ImportOrUndoEnsures (now (words .entry)) (importT offset (srcOf (now (words .entry)) n) constants (h .0)) (now (log .entry)) (now (logtags .entry)) (now (starts .entry)) (now (maps .entry)) ends r (now (log .exit)) (now (logtags .exit)) (now (starts .exit)) (now (maps .exit)) (now (buckets .exit)) ⌝ }
 {
     let mut s = [[0u32; 512]; 8];
     let mut m = [[0u32; 512]; 6];
@@ -186,7 +186,7 @@ pub fn import_pipeline_override(
     requires { ⌜ (h .0 < countAt 3 (now words)) × (ends .full ≡ false) ⌝ }
     requires { ⌜ now targets ≡ targetBytes ⌝ }
     requires { ⌜ ValidArrays (now log) (now logtags) (now starts) (now maps) (now buckets) ends ⌝ }
-    ensures { λ r. ⌜ Whole (now (words .entry)) (importT offset (srcOf (now (words .entry)) n) overrides (h .0)) (now (log .entry)) (now (logtags .entry)) (now (starts .entry)) (now (maps .entry)) ends r (now (log .exit)) (now (logtags .exit)) (now (starts .exit)) (now (maps .exit)) (now (buckets .exit)) ⌝ }
+    ensures { λ r. ⌜ ImportOrUndoEnsures (now (words .entry)) (importT offset (srcOf (now (words .entry)) n) overrides (h .0)) (now (log .entry)) (now (logtags .entry)) (now (starts .entry)) (now (maps .entry)) ends r (now (log .exit)) (now (logtags .exit)) (now (starts .exit)) (now (maps .exit)) (now (buckets .exit)) ⌝ }
 {
     let mut s = [[0u32; 512]; 8];
     let mut m = [[0u32; 512]; 6];
@@ -228,7 +228,7 @@ pub fn import_global(
     requires { ⌜ (h .0 < countAt 4 (now words)) × (ends .full ≡ false) ⌝ }
     requires { ⌜ now targets ≡ targetBytes ⌝ }
     requires { ⌜ ValidArrays (now log) (now logtags) (now starts) (now maps) (now buckets) ends ⌝ }
-    ensures { λ r. ⌜ Whole (now (words .entry)) (importT offset (srcOf (now (words .entry)) n) globals (h .0)) (now (log .entry)) (now (logtags .entry)) (now (starts .entry)) (now (maps .entry)) ends r (now (log .exit)) (now (logtags .exit)) (now (starts .exit)) (now (maps .exit)) (now (buckets .exit)) ⌝ }
+    ensures { λ r. ⌜ ImportOrUndoEnsures (now (words .entry)) (importT offset (srcOf (now (words .entry)) n) globals (h .0)) (now (log .entry)) (now (logtags .entry)) (now (starts .entry)) (now (maps .entry)) ends r (now (log .exit)) (now (logtags .exit)) (now (starts .exit)) (now (maps .exit)) (now (buckets .exit)) ⌝ }
 {
     let mut s = [[0u32; 512]; 8];
     let mut m = [[0u32; 512]; 6];
@@ -270,7 +270,7 @@ pub fn import_global_expression(
     requires { ⌜ (h .0 < countAt 5 (now words)) × (ends .full ≡ false) ⌝ }
     requires { ⌜ now targets ≡ targetBytes ⌝ }
     requires { ⌜ ValidArrays (now log) (now logtags) (now starts) (now maps) (now buckets) ends ⌝ }
-    ensures { λ r. ⌜ Whole (now (words .entry)) (importT offset (srcOf (now (words .entry)) n) exprs (h .0)) (now (log .entry)) (now (logtags .entry)) (now (starts .entry)) (now (maps .entry)) ends r (now (log .exit)) (now (logtags .exit)) (now (starts .exit)) (now (maps .exit)) (now (buckets .exit)) ⌝ }
+    ensures { λ r. ⌜ ImportOrUndoEnsures (now (words .entry)) (importT offset (srcOf (now (words .entry)) n) exprs (h .0)) (now (log .entry)) (now (logtags .entry)) (now (starts .entry)) (now (maps .entry)) ends r (now (log .exit)) (now (logtags .exit)) (now (starts .exit)) (now (maps .exit)) (now (buckets .exit)) ⌝ }
 {
     let mut s = [[0u32; 512]; 8];
     let mut m = [[0u32; 512]; 6];

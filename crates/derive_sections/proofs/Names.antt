@@ -14,7 +14,7 @@ use Rattle.model.specs.Outcome.{Cell, Cells}
 use Rattle.model.specs.Table.{NAME}
 use Rattle.model.specs.Finish.{namesIn, firsts, keepN}
 use Rattle.theory_finish.specs.Firsts.{either}
-use Rattle.derive_sections.specs.Rows.{up, placeOf, nonzero, Noted}
+use Rattle.derive_sections.specs.Rows.{up, placeOf, nonzero, AppearingEnsures}
 
 up-zero : (x : ℕ) → up x ≡ 0 → x ≡ 0
 unfolding up
@@ -62,22 +62,22 @@ unfolding nonzero
 none zero = refl
 none (suc n) = none n
 
-pub noted-none : (names : ℕ) → names ≤ 512 → Noted names [] (replicate 512 0) (replicate 512 0) 0
+pub noted-none : (names : ℕ) → names ≤ 512 → AppearingEnsures names [] (replicate 512 0) (replicate 512 0) 0
 unfolding placeOf
 noted-none names h = record { names-few = h; order-long = length-replicate {A = ℕ} 512 0; places-long = length-replicate {A = ℕ} 512 0; few = omega arith; is = refl; filled = none 512; agree = zeros 512; inside = λ j l. absurd (omega arith) }
 
 -- ---- one name
-pub noted-self : {names : ℕ} {ns order places : List ℕ} {n : ℕ} → Noted names ns order places n → Noted names (take n order) order places n
+pub noted-self : {names : ℕ} {ns order places : List ℕ} {n : ℕ} → AppearingEnsures names ns order places n → AppearingEnsures names (take n order) order places n
 noted-self v = rw (v .is) v
 
-module _ (names : ℕ) (order places : List ℕ) (n m : ℕ) (v : Noted names (take n order) order places n) where
-  pub note-same : (getD places m 0 ≡ 0 → ⊥) → Noted names (keepN (take n order) m) order places n
+module _ (names : ℕ) (order places : List ℕ) (n m : ℕ) (v : AppearingEnsures names (take n order) order places n) where
+  pub note-same : (getD places m 0 ≡ 0 → ⊥) → AppearingEnsures names (keepN (take n order) m) order places n
   note-same h = rw (keep-there (take n order) m λ z. h (v .agree m ∙ z)) v
 
   pub note-room : m < names → getD places m 0 ≡ 0 → n < 512
   note-room h e = let a = nonzero-set places m 0 (omega (arith, v .places-long, v .names-few)) e in let b = nonzero-le (set places m 1) in omega (arith, v .filled, v .places-long, length-set places m 1)
 
-  pub note-new : m < names → getD places m 0 ≡ 0 → Noted names (keepN (take n order) m) (set order n m) (set places m (n + 1)) (n + 1)
+  pub note-new : m < names → getD places m 0 ≡ 0 → AppearingEnsures names (keepN (take n order) m) (set order n m) (set places m (n + 1)) (n + 1)
   note-new h e =
       let room = note-room h e in
       let low : m < length places = omega (arith, v .places-long, v .names-few) in
@@ -115,20 +115,20 @@ names-one s (suc w) e h = let z : w ≡ suc w - 1 = omega arith in rw (namesIn, 
 
 module _ (names : ℕ) (order places : List ℕ) (n s w : ℕ) where
   abbrev After : List ℕ → List ℕ → ℕ → Type 0
-  After order₁ places₁ n₁ = Noted names (firsts (namesIn ((s, w) ∷ [])) (take n order)) order₁ places₁ n₁
+  After order₁ places₁ n₁ = AppearingEnsures names (firsts (namesIn ((s, w) ∷ [])) (take n order)) order₁ places₁ n₁
 
-  pub word-plain : Noted names (take n order) order places n → (s ≡ NAME → ⊥) → After order places n
+  pub word-plain : AppearingEnsures names (take n order) order places n → (s ≡ NAME → ⊥) → After order places n
   unfolding firsts
   word-plain v h = rw (names-none s w h) v
 
-  pub word-zero : Noted names (take n order) order places n → w ≡ 0 → After order places n
+  pub word-zero : AppearingEnsures names (take n order) order places n → w ≡ 0 → After order places n
   unfolding firsts
   word-zero v h = rw (names-zero s w h) v
 
   pub word-low : (s ≡ NAME → w ≤ names) → s ≡ NAME → (w ≡ 0 → ⊥) → (m : ℕ) → m ≡ w - 1 → m < names
   word-low f e h m q = let g = f e in omega arith
 
-  pub word-name : s ≡ NAME → (w ≡ 0 → ⊥) → (m : ℕ) → m ≡ w - 1 → (order₁ places₁ : List ℕ) (n₁ : ℕ) → Noted names (keepN (take n order) m) order₁ places₁ n₁ → After order₁ places₁ n₁
+  pub word-name : s ≡ NAME → (w ≡ 0 → ⊥) → (m : ℕ) → m ≡ w - 1 → (order₁ places₁ : List ℕ) (n₁ : ℕ) → AppearingEnsures names (keepN (take n order) m) order₁ places₁ n₁ → After order₁ places₁ n₁
   unfolding firsts
   word-name e h m q order₁ places₁ n₁ v = rw (names-one s w e h, ← q) v
 

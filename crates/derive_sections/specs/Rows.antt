@@ -51,7 +51,7 @@ nonzero [] = 0
 nonzero (zero ∷ xs) = nonzero xs
 nonzero (suc x ∷ xs) = suc (nonzero xs)
 
-pub record Noted (names : ℕ) (ns order places : List ℕ) (n : ℕ) : Type 0 where
+pub record AppearingEnsures (names : ℕ) (ns order places : List ℕ) (n : ℕ) : Type 0 where
   pub names-few : names ≤ 512
   pub order-long : length order ≡ 512
   pub places-long : length places ≡ 512

@@ -15,12 +15,12 @@ ghost use Rattle.model.specs.Table.{NAME};
 ghost use Rattle.model.specs.Finish.{namesIn, firsts, keepN};
 ghost use Rattle.derive_state.specs.Held.{recAt, recsAt};
 ghost use Rattle.derive_sections.specs.Flat.{firstsR, firstsT, lengths, tableSize, offsets, joined, tableWords, sizes, heads, tables};
-ghost use Rattle.derive_sections.specs.Rows.{tabsOf, Rec, Row, Rows, Noted, named};
+ghost use Rattle.derive_sections.specs.Rows.{tabsOf, Rec, Row, Rows, AppearingEnsures, named};
 
 // Notes one name: after the n that were met, unless it is among them.
 fn note(order: &mut [u32; 512], places: &mut [u32; 512], names: usize, n: usize, m: usize) -> usize
-    requires { ⌜ (m < names) × Noted names (take n (now order)) (now order) (now places) n ⌝ }
-    ensures { λ r. ⌜ Noted names (keepN (take n (now (order .entry))) m) (now (order .exit)) (now (places .exit)) r ⌝ }
+    requires { ⌜ (m < names) × AppearingEnsures names (take n (now order)) (now order) (now places) n ⌝ }
+    ensures { λ r. ⌜ AppearingEnsures names (keepN (take n (now (order .entry))) m) (now (order .exit)) (now (places .exit)) r ⌝ }
 {
     if places[m] != 0 {
         return n;
@@ -40,8 +40,8 @@ fn note_word(
     w: u32,
 ) -> usize
     requires { ⌜ (s ≡ NAME → w ≤ names) ⌝ }
-    requires { ⌜ Noted names (take n (now order)) (now order) (now places) n ⌝ }
-    ensures { λ r. ⌜ Noted names (firsts (namesIn ((s, w) ∷ [])) (take n (now (order .entry)))) (now (order .exit)) (now (places .exit)) r ⌝ }
+    requires { ⌜ AppearingEnsures names (take n (now order)) (now order) (now places) n ⌝ }
+    ensures { λ r. ⌜ AppearingEnsures names (firsts (namesIn ((s, w) ∷ [])) (take n (now (order .entry)))) (now (order .exit)) (now (places .exit)) r ⌝ }
 {
     if s != NAME {
         return n;
@@ -63,8 +63,8 @@ fn note_record(
     s: usize,
 ) -> usize
     requires { ⌜ Rec names (now log) (now logtags) s ⌝ }
-    requires { ⌜ Noted names (take n (now order)) (now order) (now places) n ⌝ }
-    ensures { λ r. ⌜ Noted names (firsts (namesIn (recAt (now (log .entry)) (now (logtags .entry)) s)) (take n (now (order .entry)))) (now (order .exit)) (now (places .exit)) r ⌝ }
+    requires { ⌜ AppearingEnsures names (take n (now order)) (now order) (now places) n ⌝ }
+    ensures { λ r. ⌜ AppearingEnsures names (firsts (namesIn (recAt (now (log .entry)) (now (logtags .entry)) s)) (take n (now (order .entry)))) (now (order .exit)) (now (places .exit)) r ⌝ }
 {
     let end = s + 1 + wide(log[s]);
     let mut i = s + 1;
@@ -89,8 +89,8 @@ fn note_table(
     n: usize,
 ) -> usize
     requires { ⌜ Row names (now log) (now logtags) (now row) count ⌝ }
-    requires { ⌜ Noted names (take n (now order)) (now order) (now places) n ⌝ }
-    ensures { λ r. ⌜ Noted names (firstsR (recsAt (now (log .entry)) (now (logtags .entry)) (take count (now (row .entry)))) (take n (now (order .entry)))) (now (order .exit)) (now (places .exit)) r ⌝ }
+    requires { ⌜ AppearingEnsures names (take n (now order)) (now order) (now places) n ⌝ }
+    ensures { λ r. ⌜ AppearingEnsures names (firstsR (recsAt (now (log .entry)) (now (logtags .entry)) (take count (now (row .entry)))) (take n (now (order .entry)))) (now (order .exit)) (now (places .exit)) r ⌝ }
 {
     let mut i = 0;
     let mut k = n;
@@ -113,8 +113,8 @@ pub fn appearing(
     names: usize,
 ) -> usize
     requires { ⌜ Rows names (now log) (now logtags) (now starts) counts ⌝ }
-    requires { ⌜ Noted names [] (now order) (now places) 0 ⌝ }
-    ensures { λ r. ⌜ Noted names (firstsT (tabsOf (now (log .entry)) (now (logtags .entry)) (drop 1 (now (starts .entry))) (drop 1 counts)) []) (now (order .exit)) (now (places .exit)) r ⌝ }
+    requires { ⌜ AppearingEnsures names [] (now order) (now places) 0 ⌝ }
+    ensures { λ r. ⌜ AppearingEnsures names (firstsT (tabsOf (now (log .entry)) (now (logtags .entry)) (drop 1 (now (starts .entry))) (drop 1 counts)) []) (now (order .exit)) (now (places .exit)) r ⌝ }
 {
     let mut t = 1;
     let mut k = 0;

@@ -10,9 +10,9 @@ use Rattle.derive_state.specs.Flats.{functionOf, specialOf}
 use Rattle.derive_state.specs.Held.{row, cell, recsAt, tableOf, recsOf, functionsOf, entriesOf, mapsOf, stOf, sizeR, sizesOf, ValidArrays}
 use Rattle.derive_state.specs.declared.Sizes.{Sizes}
 use Rattle.derive_state.proofs.State.{code-low}
-use Rattle.derive_snapshot.specs.Snapshot.{Saved}
+use Rattle.derive_snapshot.specs.Snapshot.{SaveEnsures}
 
-module _ (words log logtags : List ℕ) (starts maps : List (List ℕ)) (e : Sizes) (s m : List (List ℕ)) (S : Saved words starts maps e s m) where
+module _ (words log logtags : List ℕ) (starts maps : List (List ℕ)) (e : Sizes) (s m : List (List ℕ)) (S : SaveEnsures words starts maps e s m) where
   table-saved : (t : ℕ) → t < 8 → tableOf log logtags s (e .counts) t ≡ tableOf log logtags starts (e .counts) t
   table-saved t h = ap (recsAt log logtags) (S .of-starts .same t h)
 

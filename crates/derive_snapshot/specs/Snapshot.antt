@@ -24,11 +24,11 @@ pub record Prefixes (n t : ℕ) (c : ℕ → ℕ) (from to : List (List ℕ)) : 
   pub low : (u k : ℕ) → u < n → cell to u k ≤ cell from u k
 
 -- s and m have the starts of the records that are there, and the maps of the numbers that the source has
-pub record Saved (words : List ℕ) (starts maps : List (List ℕ)) (e : Sizes) (s m : List (List ℕ)) : Type 0 where
+pub record SaveEnsures (words : List ℕ) (starts maps : List (List ℕ)) (e : Sizes) (s m : List (List ℕ)) : Type 0 where
   pub of-starts : Prefixes 8 8 (λ t. getD (e .counts) t 0) starts s
   pub of-maps : Prefixes 6 6 (λ t. countAt t words) maps m
 
 -- as they were saved, starts₀ and maps₀, where something did not fit; else as they were made, s and m
-pub record Restored (full : Bool) (starts₀ maps₀ s m starts maps : List (List ℕ)) : Type 0 where
+pub record RestoreEnsures (full : Bool) (starts₀ maps₀ s m starts maps : List (List ℕ)) : Type 0 where
   pub stays : full ≡ true → (starts ≡ starts₀) × (maps ≡ maps₀)
   pub taken : full ≡ false → (starts ≡ s) × (maps ≡ m)

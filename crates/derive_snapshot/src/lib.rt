@@ -9,7 +9,7 @@ ghost use mathlib.Core.Path.{_≡_};
 ghost use Prim.Native.Nat.{_≤_, _<_};
 ghost use lib.ListN.{length, getD};
 ghost use Rattle.model.specs.Module.{countAt};
-ghost use Rattle.derive_snapshot.specs.Snapshot.{Prefix, Prefixes, Saved, Restored};
+ghost use Rattle.derive_snapshot.specs.Snapshot.{Prefix, Prefixes, SaveEnsures, RestoreEnsures};
 
 // Saves the first n words of a row.
 fn save_row(row: &[u32; 512], n: usize, to: &mut [u32; 512])
@@ -60,7 +60,7 @@ pub fn save(
 )
     requires { ⌜ Prefixes 8 0 (λ t. getD (ends .counts) t 0) (now starts) (now s) ⌝ }
     requires { ⌜ Prefixes 6 0 (λ t. countAt t (now words)) (now maps) (now m) ⌝ }
-    ensures { λ _. ⌜ Saved (now (words .entry)) (now (starts .entry)) (now (maps .entry)) ends (now (s .exit)) (now (m .exit)) ⌝ }
+    ensures { λ _. ⌜ SaveEnsures (now (words .entry)) (now (starts .entry)) (now (maps .entry)) ends (now (s .exit)) (now (m .exit)) ⌝ }
 {
     save_starts(starts, ends, s);
     save_maps(words, maps, m);
@@ -74,7 +74,7 @@ pub fn restore(
     m: &[[u32; 512]; 6],
     full: bool,
 )
-    ensures { λ _. ⌜ Restored full (now (s .entry)) (now (m .entry)) (now (starts .entry)) (now (maps .entry)) (now (starts .exit)) (now (maps .exit)) ⌝ }
+    ensures { λ _. ⌜ RestoreEnsures full (now (s .entry)) (now (m .entry)) (now (starts .entry)) (now (maps .entry)) (now (starts .exit)) (now (maps .exit)) ⌝ }
 {
     if full {
         *starts = *s;

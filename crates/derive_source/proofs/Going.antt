@@ -11,7 +11,7 @@ use Rattle.derive_state.specs.Marks.{Marks}
 use Rattle.derive_state.specs.declared.Sizes.{Sizes}
 use Rattle.derive_state.proofs.State.{same-refl, same-then, marks-refl, marks-then, table-stays}
 use Rattle.derive_names.proofs.Growth.{Grow, over-grow}
-use Rattle.derive_special.specs.Derives.{Aside, Derives}
+use Rattle.derive_special.specs.Derives.{Aside, SpecialEnsures}
 use Rattle.derive_special.proofs.Deriving.{aside-refl, aside-then, full-derives}
 
 -- g is left of the whole, f
@@ -36,7 +36,7 @@ module _ (words : List ℕ) (f : Derived → Derived) (log₀ logtags₀ : List 
         (ap sizeR (table-stays log₀ logtags₀ log logtags starts₀ maps₀ buckets₀ buckets e₀ K₀ (inv .below) (inv .kept .log-long) (inv .kept .tags-long) (inv .marks-stay) 7 (omega arith)))
 
     -- nothing is left
-    pub going-done : g (stOf words log logtags starts maps special e) ≡ stOf words log logtags starts maps special e → Derives words f log₀ logtags₀ starts₀ maps₀ buckets₀ special₀ e₀ e log logtags starts maps buckets special
+    pub going-done : g (stOf words log logtags starts maps special e) ≡ stOf words log logtags starts maps special e → SpecialEnsures words f log₀ logtags₀ starts₀ maps₀ buckets₀ special₀ e₀ e log logtags starts maps buckets special
     going-done q = record {
       over = λ z. absurd (false≢true (sym (inv .going) ∙ z));
       is = λ z. sym (inv .same) ∙ q;
@@ -50,9 +50,9 @@ module _ (words : List ℕ) (f : Derived → Derived) (log₀ logtags₀ : List 
       marks-stay = inv .marks-stay;
     }
 
-    module _ (h : Derived → Derived) (r : Sizes) (log′ logtags′ : List ℕ) (starts′ maps′ : List (List ℕ)) (buckets′ special′ : List ℕ) (D : Derives words h log logtags starts maps buckets special e r log′ logtags′ starts′ maps′ buckets′ special′) where
+    module _ (h : Derived → Derived) (r : Sizes) (log′ logtags′ : List ℕ) (starts′ maps′ : List (List ℕ)) (buckets′ special′ : List ℕ) (D : SpecialEnsures words h log logtags starts maps buckets special e r log′ logtags′ starts′ maps′ buckets′ special′) where
       -- the last step
-      pub going-last : (g (stOf words log logtags starts maps special e) ≡ h (stOf words log logtags starts maps special e)) → Derives words f log₀ logtags₀ starts₀ maps₀ buckets₀ special₀ e₀ r log′ logtags′ starts′ maps′ buckets′ special′
+      pub going-last : (g (stOf words log logtags starts maps special e) ≡ h (stOf words log logtags starts maps special e)) → SpecialEnsures words f log₀ logtags₀ starts₀ maps₀ buckets₀ special₀ e₀ r log′ logtags′ starts′ maps′ buckets′ special′
       going-last q = record {
         over = λ z. rw (← inv .same, q, ← entries) (D .over z);
         is = λ z. sym (inv .same) ∙ q ∙ D .is z;
@@ -80,7 +80,7 @@ module _ (words : List ℕ) (f : Derived → Derived) (log₀ logtags₀ : List 
         }
 
         -- what is too large already stays too large
-        pub going-full : ((s : Derived) → Grow s (g′ s)) → r .full ≡ true → Derives words f log₀ logtags₀ starts₀ maps₀ buckets₀ special₀ e₀ r log′ logtags′ starts′ maps′ buckets′ special′
+        pub going-full : ((s : Derived) → Grow s (g′ s)) → r .full ≡ true → SpecialEnsures words f log₀ logtags₀ starts₀ maps₀ buckets₀ special₀ e₀ r log′ logtags′ starts′ maps′ buckets′ special′
         going-full grow q =
             full-derives words log₀ logtags₀ starts₀ maps₀ buckets₀ special₀ e₀ f r log′ logtags′ starts′ maps′ buckets′ special′ q
             (rw (← inv .same, cut, ← entries) (over-grow _ (grow (h (stOf words log logtags starts maps special e))) (D .over q)))

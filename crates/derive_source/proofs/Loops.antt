@@ -16,7 +16,7 @@ use Rattle.derive_state.specs.Flats.{pairsAt}
 use Rattle.derive_state.specs.Source.{modOf, srcOf, Source}
 use Rattle.derive_state.specs.Held.{stOf, ValidArrays, Specials}
 use Rattle.derive_state.specs.declared.Sizes.{Sizes}
-use Rattle.derive_special.specs.Derives.{pairOf, Derives}
+use Rattle.derive_special.specs.Derives.{pairOf, SpecialEnsures}
 use Rattle.derive_source.proofs.Reading.{three, ray-word, ray-low, pairs-are, special-in, pair-low}
 use Rattle.derive_source.proofs.Growing.{grow-rays, grow-pairs}
 use Rattle.derive_source.proofs.Going.{Going, going-first, going-next, going-full, going-done}
@@ -41,7 +41,7 @@ module _ (words tags : List ℕ) (n : ℕ) (src : Source words tags n) (o : ℕ)
   rays-first = record { low = omega arith; turn = going-first words (rays R 0 o T) log₀ logtags₀ starts₀ maps₀ buckets₀ special₀ e₀ nf K₀ P₀ }
 
   module _ (log logtags : List ℕ) (starts maps : List (List ℕ)) (buckets special : List ℕ) (e : Sizes) (k : ℕ) (inv : Raying words n o log₀ logtags₀ starts₀ maps₀ buckets₀ special₀ e₀ log logtags starts maps buckets special e k) where
-    pub rays-done : 3 ≤ k → Derives words (rays (modOf words n .special .rays) 0 o (srcOf words n)) log₀ logtags₀ starts₀ maps₀ buckets₀ special₀ e₀ e log logtags starts maps buckets special
+    pub rays-done : 3 ≤ k → SpecialEnsures words (rays (modOf words n .special .rays) 0 o (srcOf words n)) log₀ logtags₀ starts₀ maps₀ buckets₀ special₀ e₀ e log logtags starts maps buckets special
     unfolding rays
     rays-done h = going-done words (rays R 0 o T) log₀ logtags₀ starts₀ maps₀ buckets₀ special₀ e₀ nf K₀ P₀ (rays (drop k R) k o T) log logtags starts maps buckets special e (inv .turn) none
       where
@@ -63,8 +63,8 @@ module _ (words tags : List ℕ) (n : ℕ) (src : Source words tags n) (o : ℕ)
           ap (λ (cs : Cells). rays cs k o T (stOf words log logtags starts maps special e)) (drop-cons R k (0, 0) (omega arith))
           ∙ ap (λ (w : ℕ). rays (drop (suc k) R) (suc k) o T (ray w k o T (stOf words log logtags starts maps special e))) (sym a)
 
-      module _ (r : Sizes) (log′ logtags′ : List ℕ) (starts′ maps′ : List (List ℕ)) (buckets′ special′ : List ℕ) (D : Derives words (ray (getD words (at + k) 0) k o (srcOf words n)) log logtags starts maps buckets special e r log′ logtags′ starts′ maps′ buckets′ special′) where
-        pub rays-full : r .full ≡ true → Derives words (rays (modOf words n .special .rays) 0 o (srcOf words n)) log₀ logtags₀ starts₀ maps₀ buckets₀ special₀ e₀ r log′ logtags′ starts′ maps′ buckets′ special′
+      module _ (r : Sizes) (log′ logtags′ : List ℕ) (starts′ maps′ : List (List ℕ)) (buckets′ special′ : List ℕ) (D : SpecialEnsures words (ray (getD words (at + k) 0) k o (srcOf words n)) log logtags starts maps buckets special e r log′ logtags′ starts′ maps′ buckets′ special′) where
+        pub rays-full : r .full ≡ true → SpecialEnsures words (rays (modOf words n .special .rays) 0 o (srcOf words n)) log₀ logtags₀ starts₀ maps₀ buckets₀ special₀ e₀ r log′ logtags′ starts′ maps′ buckets′ special′
         rays-full q =
             going-full words (rays R 0 o T) log₀ logtags₀ starts₀ maps₀ buckets₀ special₀ e₀ nf K₀ P₀ (rays (drop k R) k o T) log logtags starts maps buckets special e (inv .turn) (ray (getD words (at + k) 0) k o T) r log′ logtags′ starts′ maps′ buckets′ special′ D
             (rays (drop (suc k) R) (suc k) o T) cut (grow-rays (drop (suc k) R) (suc k) o T) q
@@ -92,7 +92,7 @@ module _ (words tags : List ℕ) (n : ℕ) (src : Source words tags n) (o : ℕ)
     abbrev left : ℕ → List Cells
     left j = pairsAt words (offsetAt 8 words + 3 + 2 * j) (countAt 8 words - j)
 
-    pub pairs-done : countAt 8 words ≤ i → Derives words (pairs (modOf words n .special .pairs) o (srcOf words n)) log₀ logtags₀ starts₀ maps₀ buckets₀ special₀ e₀ e log logtags starts maps buckets special
+    pub pairs-done : countAt 8 words ≤ i → SpecialEnsures words (pairs (modOf words n .special .pairs) o (srcOf words n)) log₀ logtags₀ starts₀ maps₀ buckets₀ special₀ e₀ e log logtags starts maps buckets special
     unfolding pairs pairsAt
     pairs-done h =
         let z : countAt 8 words - i ≡ 0 = omega arith in
@@ -113,8 +113,8 @@ module _ (words tags : List ℕ) (n : ℕ) (src : Source words tags n) (o : ℕ)
           let c : 1 + (offsetAt 8 words + 3 + 2 * i) ≡ offsetAt 8 words + 3 + 2 * i + 1 = omega arith in
           rw (hat, z, b, c)
 
-      module _ (r : Sizes) (log′ logtags′ : List ℕ) (starts′ maps′ : List (List ℕ)) (buckets′ special′ : List ℕ) (D : Derives words (pairOf (getD words at 0) (getD words (at + 1) 0) o (srcOf words n)) log logtags starts maps buckets special e r log′ logtags′ starts′ maps′ buckets′ special′) where
-        pub pairs-full : r .full ≡ true → Derives words (pairs (modOf words n .special .pairs) o (srcOf words n)) log₀ logtags₀ starts₀ maps₀ buckets₀ special₀ e₀ r log′ logtags′ starts′ maps′ buckets′ special′
+      module _ (r : Sizes) (log′ logtags′ : List ℕ) (starts′ maps′ : List (List ℕ)) (buckets′ special′ : List ℕ) (D : SpecialEnsures words (pairOf (getD words at 0) (getD words (at + 1) 0) o (srcOf words n)) log logtags starts maps buckets special e r log′ logtags′ starts′ maps′ buckets′ special′) where
+        pub pairs-full : r .full ≡ true → SpecialEnsures words (pairs (modOf words n .special .pairs) o (srcOf words n)) log₀ logtags₀ starts₀ maps₀ buckets₀ special₀ e₀ r log′ logtags′ starts′ maps′ buckets′ special′
         pairs-full q =
             going-full words (pairs Q o T) log₀ logtags₀ starts₀ maps₀ buckets₀ special₀ e₀ nf K₀ P₀ (pairs (left i) o T) log logtags starts maps buckets special e (inv .turn) (pairOf (getD words at 0) (getD words (at + 1) 0) o T) r log′ logtags′ starts′ maps′ buckets′ special′ D
             (pairs (left (suc i)) o T) cut-pair (grow-pairs (left (suc i)) o T) q

@@ -20,7 +20,7 @@ use Rattle.derive_state.specs.declared.Sizes.{Sizes}
 use Rattle.derive_state.proofs.Laws.{none-held}
 use Rattle.derive_limits.specs.Reached.{Reached, sourced-at}
 use Rattle.derive_limits.specs.Theorems.{Exactly, exact-at, kept-full, kept-room, kept-not-over}
-use Rattle.derive_source.specs.SourceSet.{SourceSet}
+use Rattle.derive_source.specs.SourceSet.{SetSourceEnsures}
 
 -- the arrays hold the state, apart from the maps
 pub record Holding (s : Derived) (log logtags : List ℕ) (starts : List (List ℕ)) (special : List ℕ) (e : Sizes) : Type 0 where
@@ -38,7 +38,7 @@ module _ (words log logtags : List ℕ) (starts maps : List (List ℕ)) (special
   holding-cleared = record { holds = λ m words′ maps′. refl }
 
 module _ {s : Session} (reach : Reached s) {words : List ℕ} {n o : ℕ} (well : WellFormed (modOf words n)) (passes : Passes (modOf words n)) {log₀ logtags₀ : List ℕ} {starts₀ maps₀ : List (List ℕ)} {special₀ : List ℕ} {e r : Sizes} {log logtags : List ℕ} {starts maps : List (List ℕ)} {buckets special : List ℕ}
-    (h : Holding (s .state) log₀ logtags₀ starts₀ special₀ e) (no-entries : getD (e .counts) 7 0 ≡ 0) (d : SourceSet words n o log₀ logtags₀ starts₀ maps₀ special₀ e r log logtags starts maps buckets special) where
+    (h : Holding (s .state) log₀ logtags₀ starts₀ special₀ e) (no-entries : getD (e .counts) 7 0 ≡ 0) (d : SetSourceEnsures words n o log₀ logtags₀ starts₀ maps₀ special₀ e r log logtags starts maps buckets special) where
   abbrev x : Source
   x = record { image = modOf words n; offset = o }
 

@@ -26,8 +26,8 @@ ghost use Rattle.model.specs.Special.{rays as raysOf, pairs as pairsOf};
 ghost use Rattle.derive_state.specs.Refers.{targetBytes};
 ghost use Rattle.derive_state.specs.Source.{modOf, srcOf, Source};
 ghost use Rattle.derive_state.specs.Held.{ValidArrays, Specials};
-ghost use Rattle.derive_special.specs.Derives.{Derives};
-ghost use Rattle.derive_source.specs.SourceSet.{Sourced, SourceSet, Replaced};
+ghost use Rattle.derive_special.specs.Derives.{SpecialEnsures};
+ghost use Rattle.derive_source.specs.SourceSet.{SourceTypesEnsures, SetSourceEnsures, Replaced};
 
 // Derives the three optional types.
 fn rays(
@@ -49,7 +49,7 @@ fn rays(
     requires { ⌜ now targets ≡ targetBytes ⌝ }
     requires { ⌜ ValidArrays (now log) (now logtags) (now starts) (now maps) (now buckets) ends ⌝ }
     requires { ⌜ Specials (now special) ends ⌝ }
-    ensures { λ r. ⌜ Derives (now (words .entry)) (raysOf (modOf (now (words .entry)) n .special .rays) 0 offset (srcOf (now (words .entry)) n)) (now (log .entry)) (now (logtags .entry)) (now (starts .entry)) (now (maps .entry)) (now (buckets .entry)) (now (special .entry)) ends r (now (log .exit)) (now (logtags .exit)) (now (starts .exit)) (now (maps .exit)) (now (buckets .exit)) (now (special .exit)) ⌝ }
+    ensures { λ r. ⌜ SpecialEnsures (now (words .entry)) (raysOf (modOf (now (words .entry)) n .special .rays) 0 offset (srcOf (now (words .entry)) n)) (now (log .entry)) (now (logtags .entry)) (now (starts .entry)) (now (maps .entry)) (now (buckets .entry)) (now (special .entry)) ends r (now (log .exit)) (now (logtags .exit)) (now (starts .exit)) (now (maps .exit)) (now (buckets .exit)) (now (special .exit)) ⌝ }
 {
     let at = base_views::offset(words, SPECIAL);
     let mut e = ends;
@@ -100,7 +100,7 @@ fn pairs(
     requires { ⌜ now targets ≡ targetBytes ⌝ }
     requires { ⌜ ValidArrays (now log) (now logtags) (now starts) (now maps) (now buckets) ends ⌝ }
     requires { ⌜ Specials (now special) ends ⌝ }
-    ensures { λ r. ⌜ Derives (now (words .entry)) (pairsOf (modOf (now (words .entry)) n .special .pairs) offset (srcOf (now (words .entry)) n)) (now (log .entry)) (now (logtags .entry)) (now (starts .entry)) (now (maps .entry)) (now (buckets .entry)) (now (special .entry)) ends r (now (log .exit)) (now (logtags .exit)) (now (starts .exit)) (now (maps .exit)) (now (buckets .exit)) (now (special .exit)) ⌝ }
+    ensures { λ r. ⌜ SpecialEnsures (now (words .entry)) (pairsOf (modOf (now (words .entry)) n .special .pairs) offset (srcOf (now (words .entry)) n)) (now (log .entry)) (now (logtags .entry)) (now (starts .entry)) (now (maps .entry)) (now (buckets .entry)) (now (special .entry)) ends r (now (log .exit)) (now (logtags .exit)) (now (starts .exit)) (now (maps .exit)) (now (buckets .exit)) (now (special .exit)) ⌝ }
 {
     let c = count(words, SPECIAL);
     let mut e = ends;
@@ -151,7 +151,7 @@ pub fn source_types(
     requires { ⌜ now targets ≡ targetBytes ⌝ }
     requires { ⌜ ValidArrays (now log) (now logtags) (now starts) (replicate 6 (replicate 512 0)) (now buckets) ends ⌝ }
     requires { ⌜ Specials (now special) ends ⌝ }
-    ensures { λ r. ⌜ Sourced (now (words .entry)) n offset (now (log .entry)) (now (logtags .entry)) (now (starts .entry)) (now (buckets .entry)) (now (special .entry)) ends r (now (log .exit)) (now (logtags .exit)) (now (starts .exit)) (now (maps .exit)) (now (buckets .exit)) (now (special .exit)) ⌝ }
+    ensures { λ r. ⌜ SourceTypesEnsures (now (words .entry)) n offset (now (log .entry)) (now (logtags .entry)) (now (starts .entry)) (now (buckets .entry)) (now (special .entry)) ends r (now (log .exit)) (now (logtags .exit)) (now (starts .exit)) (now (maps .exit)) (now (buckets .exit)) (now (special .exit)) ⌝ }
 {
     clear_maps(maps);
     let e = rays(
@@ -216,7 +216,7 @@ pub fn set_source(
     requires { ⌜ now targets ≡ targetBytes ⌝ }
     requires { ⌜ ValidArrays (now log) (now logtags) (now starts) (now maps) (now buckets) ends ⌝ }
     requires { ⌜ Specials (now special) ends ⌝ }
-    ensures { λ r. ⌜ SourceSet (now (words .entry)) n offset (now (log .entry)) (now (logtags .entry)) (now (starts .entry)) (now (maps .entry)) (now (special .entry)) ends r (now (log .exit)) (now (logtags .exit)) (now (starts .exit)) (now (maps .exit)) (now (buckets .exit)) (now (special .exit)) ⌝ }
+    ensures { λ r. ⌜ SetSourceEnsures (now (words .entry)) n offset (now (log .entry)) (now (logtags .entry)) (now (starts .entry)) (now (maps .entry)) (now (special .entry)) ends r (now (log .exit)) (now (logtags .exit)) (now (starts .exit)) (now (maps .exit)) (now (buckets .exit)) (now (special .exit)) ⌝ }
 {
     let s = *starts;
     let m = *maps;

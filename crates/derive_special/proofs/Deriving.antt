@@ -19,13 +19,13 @@ use Rattle.theory_records.specs.Trace.{Sized, import-trace}
 use Rattle.derive_state.specs.Refers.{tabOf}
 use Rattle.derive_state.specs.Flats.{pairsAt, specialOf}
 use Rattle.derive_state.specs.Source.{srcOf, Source}
-use Rattle.derive_state.specs.Held.{cell, put, tableOf, mapsOf, stOf, sizeR, wordsOf, Over, long, keys, ValidArrays, Specials, Same, Beside, Lands}
+use Rattle.derive_state.specs.Held.{cell, put, tableOf, mapsOf, stOf, sizeR, wordsOf, Over, long, keys, ValidArrays, Specials, Same, Beside, ImportEnsures}
 use Rattle.derive_state.specs.Marks.{Marks}
 use Rattle.derive_state.specs.declared.Sizes.{Sizes}
 use Rattle.derive_state.proofs.State.{tab-code, code-low, same-or, same-refl, marks-refl, pairs-long, tab-long, words-are, table-stays, kept-point}
 use Rattle.derive_names.proofs.Sources.{wf, count-is, count-few, inside, small-number}
 use Rattle.derive_names.proofs.Growth.{Grow, over-grow, grow-T}
-use Rattle.derive_special.specs.Derives.{Aside, Derives}
+use Rattle.derive_special.specs.Derives.{Aside, SpecialEnsures}
 use Rattle.derive_special.proofs.Words.{with-pair, force-is, type-map, put-ray-is, put-pair-is, kept-paired}
 
 -- ---- what is beside the tables
@@ -72,7 +72,7 @@ specials-pair special e key v S h l r er =
 
 -- where it is full
 pub full-derives : (words log₀ logtags₀ : List ℕ) (starts₀ maps₀ : List (List ℕ)) (buckets₀ special₀ : List ℕ) (e₀ : Sizes) (f : Derived → Derived) (r : Sizes) (log logtags : List ℕ) (starts maps : List (List ℕ)) (buckets special : List ℕ) → r .full ≡ true → Over (sizeR (tableOf log₀ logtags₀ starts₀ (e₀ .counts) 7)) (f (stOf words log₀ logtags₀ starts₀ maps₀ special₀ e₀))
-    → Same (e₀ .loglen) log₀ logtags₀ log logtags → length log ≡ 16384 → length logtags ≡ 16384 → Marks buckets₀ buckets → Derives words f log₀ logtags₀ starts₀ maps₀ buckets₀ special₀ e₀ r log logtags starts maps buckets special
+    → Same (e₀ .loglen) log₀ logtags₀ log logtags → length log ≡ 16384 → length logtags ≡ 16384 → Marks buckets₀ buckets → SpecialEnsures words f log₀ logtags₀ starts₀ maps₀ buckets₀ special₀ e₀ r log logtags starts maps buckets special
 full-derives words log₀ logtags₀ starts₀ maps₀ buckets₀ special₀ e₀ f r log logtags starts maps buckets special q x s a b m = record {
   over = λ z. x;
   is = λ z. absurd (false≢true (sym z ∙ q));
@@ -95,7 +95,7 @@ module _ (words tags : List ℕ) (n : ℕ) (src : Source words tags n) (o : ℕ)
   S₀ = stOf words log₀ logtags₀ starts₀ maps₀ special₀ e₀
 
   -- nothing but the maps changes
-  pub maps-derive : (f : Derived → Derived) (maps : List (List ℕ)) → f S₀ ≡ stOf words log₀ logtags₀ starts₀ maps special₀ e₀ → ValidArrays log₀ logtags₀ starts₀ maps buckets₀ e₀ → Derives words f log₀ logtags₀ starts₀ maps₀ buckets₀ special₀ e₀ e₀ log₀ logtags₀ starts₀ maps buckets₀ special₀
+  pub maps-derive : (f : Derived → Derived) (maps : List (List ℕ)) → f S₀ ≡ stOf words log₀ logtags₀ starts₀ maps special₀ e₀ → ValidArrays log₀ logtags₀ starts₀ maps buckets₀ e₀ → SpecialEnsures words f log₀ logtags₀ starts₀ maps₀ buckets₀ special₀ e₀ e₀ log₀ logtags₀ starts₀ maps buckets₀ special₀
   maps-derive f maps q K = record {
     over = λ z. absurd (false≢true (sym nf ∙ z));
     is = λ z. q;
@@ -110,7 +110,7 @@ module _ (words tags : List ℕ) (n : ℕ) (src : Source words tags n) (o : ℕ)
   }
 
   -- a type that is mapped to the derived one, v - 1
-  pub force-derives : (f : Derived → Derived) (h v : ℕ) → h < countAt 1 words → v ≤ getD (e₀ .counts) 1 0 → f S₀ ≡ force h v S₀ → Derives words f log₀ logtags₀ starts₀ maps₀ buckets₀ special₀ e₀ e₀ log₀ logtags₀ starts₀ (put maps₀ 1 h v) buckets₀ special₀
+  pub force-derives : (f : Derived → Derived) (h v : ℕ) → h < countAt 1 words → v ≤ getD (e₀ .counts) 1 0 → f S₀ ≡ force h v S₀ → SpecialEnsures words f log₀ logtags₀ starts₀ maps₀ buckets₀ special₀ e₀ e₀ log₀ logtags₀ starts₀ (put maps₀ 1 h v) buckets₀ special₀
   force-derives f h v hh hv q =
       maps-derive f (put maps₀ 1 h v) (q ∙ force-is words log₀ logtags₀ starts₀ maps₀ special₀ e₀ h hh v (K₀ .maps-six))
       (kept-point log₀ logtags₀ starts₀ maps₀ buckets₀ e₀ K₀ 1 h v (omega arith) (small-number words tags n src 1 h (omega arith) hh) hv)
@@ -130,12 +130,12 @@ module _ (words tags : List ℕ) (n : ℕ) (src : Source words tags n) (o : ℕ)
   types-many special {log} {logtags} {starts} {maps} {buckets} {e} K = tab-long log logtags starts maps buckets e K 1 (omega arith)
 
   -- ---- type h is imported
-  module _ (h : ℕ) (hh : h < countAt 1 words) (r : Sizes) (log logtags : List ℕ) (starts maps : List (List ℕ)) (buckets : List ℕ) (L : Lands words (importT o (srcOf words n) types h) log₀ logtags₀ starts₀ maps₀ buckets₀ e₀ r log logtags starts maps buckets) where
+  module _ (h : ℕ) (hh : h < countAt 1 words) (r : Sizes) (log logtags : List ℕ) (starts maps : List (List ℕ)) (buckets : List ℕ) (L : ImportEnsures words (importT o (srcOf words n) types h) log₀ logtags₀ starts₀ maps₀ buckets₀ e₀ r log logtags starts maps buckets) where
     abbrev S : Derived
     S = stOf words log logtags starts maps special₀ r
 
     -- it does not fit
-    pub import-full : (f : Derived → Derived) → Grow (importT o (srcOf words n) types h S₀) (f S₀) → r .full ≡ true → Derives words f log₀ logtags₀ starts₀ maps₀ buckets₀ special₀ e₀ r log logtags starts maps buckets special₀
+    pub import-full : (f : Derived → Derived) → Grow (importT o (srcOf words n) types h S₀) (f S₀) → r .full ≡ true → SpecialEnsures words f log₀ logtags₀ starts₀ maps₀ buckets₀ special₀ e₀ r log logtags starts maps buckets special₀
     import-full f g q = full-derives words log₀ logtags₀ starts₀ maps₀ buckets₀ special₀ e₀ f r log logtags starts maps buckets special₀ q (over-grow _ g (L .over q special₀)) (L .below) (L .log-long) (L .tags-long) (L .marks-stay)
 
     module _ (q : r .full ≡ false) where
@@ -160,7 +160,7 @@ module _ (words tags : List ℕ) (n : ℕ) (src : Source words tags n) (o : ℕ)
       import-low = L .kept q .mapped 1 h (omega arith)
 
       -- it is the one derived for place k
-      pub put-derives : (f : Derived → Derived) (k : ℕ) → k < 3 → f S₀ ≡ putRay k h (importT o (srcOf words n) types h S₀) → Derives words f log₀ logtags₀ starts₀ maps₀ buckets₀ special₀ e₀ r log logtags starts maps buckets (set special₀ k (cell maps 1 h))
+      pub put-derives : (f : Derived → Derived) (k : ℕ) → k < 3 → f S₀ ≡ putRay k h (importT o (srcOf words n) types h S₀) → SpecialEnsures words f log₀ logtags₀ starts₀ maps₀ buckets₀ special₀ e₀ r log logtags starts maps buckets (set special₀ k (cell maps 1 h))
       put-derives f k hk is = record {
         over = λ z. absurd (false≢true (sym q ∙ z));
         is = λ z. is ∙ ap (putRay k h) (L .is q special₀) ∙ put-ray-is words log logtags starts maps special₀ r h hh k hk (P₀ .special-long);
@@ -189,7 +189,7 @@ module _ (words tags : List ℕ) (n : ℕ) (src : Source words tags n) (o : ℕ)
         key-long = length-append (pairsAt special₀ 3 (r .pairs)) _ ∙ rw (pairs-long special₀ (r .pairs) 3) (omega arith)
 
         -- there are 512 keys
-        pub key-many : r .pairs ≡ 512 → (r′ : Sizes) → r′ .full ≡ true → Derives words f log₀ logtags₀ starts₀ maps₀ buckets₀ special₀ e₀ r′ log logtags starts maps buckets special₀
+        pub key-many : r .pairs ≡ 512 → (r′ : Sizes) → r′ .full ≡ true → SpecialEnsures words f log₀ logtags₀ starts₀ maps₀ buckets₀ special₀ e₀ r′ log logtags starts maps buckets special₀
         key-many p r′ q′ = let k = key-long in full-derives words log₀ logtags₀ starts₀ maps₀ buckets₀ special₀ e₀ f r′ log logtags starts maps buckets special₀ q′ (keys (rw at-end (omega arith))) (L .below) (L .log-long) (L .tags-long) (L .marks-stay)
 
         -- the image has no room
@@ -197,7 +197,7 @@ module _ (words tags : List ℕ) (n : ℕ) (src : Source words tags n) (o : ℕ)
         unfolding wordsOf putPair withSpecial
         key-words = let l = length-append (S .special .pairs) (((KEY, key) ∷ (TYPE, pred (mapAt (S .maps) types h)) ∷ []) ∷ []) in omega arith
 
-        pub key-left : (room : ℕ) → room + (23 + 2 * r .pairs + r .loglen) ≡ 16384 → room < 2 → (r′ : Sizes) → r′ .full ≡ true → Derives words f log₀ logtags₀ starts₀ maps₀ buckets₀ special₀ e₀ r′ log logtags starts maps buckets special₀
+        pub key-left : (room : ℕ) → room + (23 + 2 * r .pairs + r .loglen) ≡ 16384 → room < 2 → (r′ : Sizes) → r′ .full ≡ true → SpecialEnsures words f log₀ logtags₀ starts₀ maps₀ buckets₀ special₀ e₀ r′ log logtags starts maps buckets special₀
         key-left room hr lt r′ q′ =
             let w = words-are log logtags starts maps buckets r (L .kept q) words special₀ in
             let k = key-words in
@@ -207,7 +207,7 @@ module _ (words tags : List ℕ) (n : ℕ) (src : Source words tags n) (o : ℕ)
         -- a pair more
         pub key-derives : (r .pairs ≡ 512 → ⊥) → (room : ℕ) → room + (23 + 2 * r .pairs + r .loglen) ≡ 16384 → 2 ≤ room
             → (r′ : Sizes) → r′ ≡ record { full = false; loglen = r .loglen; counts = r .counts; pairs = r .pairs + 1; exprtop = r .exprtop; bodytop = r .bodytop; made = r .made }
-            → Derives words f log₀ logtags₀ starts₀ maps₀ buckets₀ special₀ e₀ r′ log logtags starts maps buckets (with-pair special₀ (r .pairs) key (cell maps 1 h - 1))
+            → SpecialEnsures words f log₀ logtags₀ starts₀ maps₀ buckets₀ special₀ e₀ r′ log logtags starts maps buckets (with-pair special₀ (r .pairs) key (cell maps 1 h - 1))
         key-derives ne room hr le r′ er =
             let few = L .kept q .few-pairs in
             let m = import-mapped in

@@ -22,7 +22,7 @@ pub record Aside (starts starts′ : List (List ℕ)) (e r : Sizes) : Type 0 whe
   pub tops-same : (r .exprtop ≡ e .exprtop) × (r .bodytop ≡ e .bodytop) × (r .made ≡ e .made)
 
 -- the arrays now hold f of the state that they held, special types included, or that is too large; what the log held is there
-pub record Derives (words : List ℕ) (f : Derived → Derived) (log₀ logtags₀ : List ℕ) (starts₀ maps₀ : List (List ℕ)) (buckets₀ special₀ : List ℕ) (e : Sizes) (r : Sizes) (log logtags : List ℕ) (starts maps : List (List ℕ)) (buckets special : List ℕ) : Type 0 where
+pub record SpecialEnsures (words : List ℕ) (f : Derived → Derived) (log₀ logtags₀ : List ℕ) (starts₀ maps₀ : List (List ℕ)) (buckets₀ special₀ : List ℕ) (e : Sizes) (r : Sizes) (log logtags : List ℕ) (starts maps : List (List ℕ)) (buckets special : List ℕ) : Type 0 where
   pub over : r .full ≡ true → Over (sizeR (tableOf log₀ logtags₀ starts₀ (e .counts) 7)) (f (stOf words log₀ logtags₀ starts₀ maps₀ special₀ e))
   pub is : r .full ≡ false → f (stOf words log₀ logtags₀ starts₀ maps₀ special₀ e) ≡ stOf words log logtags starts maps special r
   pub kept : r .full ≡ false → ValidArrays log logtags starts maps buckets r

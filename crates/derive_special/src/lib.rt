@@ -25,7 +25,7 @@ ghost use Rattle.derive_state.specs.Refers.{targetBytes};
 ghost use Rattle.derive_state.specs.Flats.{pairsAt};
 ghost use Rattle.derive_state.specs.Source.{srcOf, Source};
 ghost use Rattle.derive_state.specs.Held.{ValidArrays, Specials};
-ghost use Rattle.derive_special.specs.Derives.{pairOf, Derives};
+ghost use Rattle.derive_special.specs.Derives.{pairOf, SpecialEnsures};
 
 // The type derived for a key among n pairs: 0 for none, else its number plus 1.
 fn derived(special: &Special, n: usize, key: u32) -> usize
@@ -82,7 +82,7 @@ pub fn ray(
     requires { ⌜ now targets ≡ targetBytes ⌝ }
     requires { ⌜ ValidArrays (now log) (now logtags) (now starts) (now maps) (now buckets) ends ⌝ }
     requires { ⌜ Specials (now special) ends ⌝ }
-    ensures { λ r. ⌜ Derives (now (words .entry)) (rayOf w k offset (srcOf (now (words .entry)) n)) (now (log .entry)) (now (logtags .entry)) (now (starts .entry)) (now (maps .entry)) (now (buckets .entry)) (now (special .entry)) ends r (now (log .exit)) (now (logtags .exit)) (now (starts .exit)) (now (maps .exit)) (now (buckets .exit)) (now (special .exit)) ⌝ }
+    ensures { λ r. ⌜ SpecialEnsures (now (words .entry)) (rayOf w k offset (srcOf (now (words .entry)) n)) (now (log .entry)) (now (logtags .entry)) (now (starts .entry)) (now (maps .entry)) (now (buckets .entry)) (now (special .entry)) ends r (now (log .exit)) (now (logtags .exit)) (now (starts .exit)) (now (maps .exit)) (now (buckets .exit)) (now (special .exit)) ⌝ }
 {
     if w == 0 {
         return ends;
@@ -137,7 +137,7 @@ pub fn pair(
     requires { ⌜ now targets ≡ targetBytes ⌝ }
     requires { ⌜ ValidArrays (now log) (now logtags) (now starts) (now maps) (now buckets) ends ⌝ }
     requires { ⌜ Specials (now special) ends ⌝ }
-    ensures { λ r. ⌜ Derives (now (words .entry)) (pairOf key (h .0) offset (srcOf (now (words .entry)) n)) (now (log .entry)) (now (logtags .entry)) (now (starts .entry)) (now (maps .entry)) (now (buckets .entry)) (now (special .entry)) ends r (now (log .exit)) (now (logtags .exit)) (now (starts .exit)) (now (maps .exit)) (now (buckets .exit)) (now (special .exit)) ⌝ }
+    ensures { λ r. ⌜ SpecialEnsures (now (words .entry)) (pairOf key (h .0) offset (srcOf (now (words .entry)) n)) (now (log .entry)) (now (logtags .entry)) (now (starts .entry)) (now (maps .entry)) (now (buckets .entry)) (now (special .entry)) ends r (now (log .exit)) (now (logtags .exit)) (now (starts .exit)) (now (maps .exit)) (now (buckets .exit)) (now (special .exit)) ⌝ }
 {
     let i = wide(h.0);
     let v = derived(special, ends.pairs as usize, key);

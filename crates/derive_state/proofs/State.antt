@@ -31,7 +31,7 @@ use Rattle.theory_image.specs.Quiet.{each-map}
 use Rattle.derive_state.specs.Refers.{codeP, tabOf, wentR}
 use Rattle.derive_state.specs.Flats.{functionOf, entryOf, pairsAt, specialOf}
 use Rattle.derive_state.specs.Marks.{MARKS, SEVERAL, hashR, placeR, Shows, alone, several, Marked, Marks, Left}
-use Rattle.derive_state.specs.Held.{row, cell, put, recAt, recsAt, tableOf, recsOf, functionsOf, entriesOf, mapsOf, stOf, sizeR, sizeS, sizesOf, wordsOf, Over, long, many, Named, Nameless, Apart, ValidArrays, Same, Beside, Lands, Written, carriedBy}
+use Rattle.derive_state.specs.Held.{row, cell, put, recAt, recsAt, tableOf, recsOf, functionsOf, entriesOf, mapsOf, stOf, sizeR, sizeS, sizesOf, wordsOf, Over, long, many, Named, Nameless, Apart, ValidArrays, Same, Beside, ImportEnsures, Written, carriedBy}
 use Rattle.derive_state.specs.declared.Sizes.{Sizes}
 use Rattle.derive_state.proofs.Passes.{length-between}
 
@@ -735,7 +735,7 @@ module _ (words tags₀ log logtags : List ℕ) (starts maps : List (List ℕ)) 
   same-beside : Beside starts starts e e
   same-beside = record { functions-same = (refl, refl); entries-same = (refl, refl); pairs-same = refl; tops-same = (refl, refl, refl) }
 
-  pub settle-old : j < getD (e .counts) t 0 → Lands words (intern (tabOf t) k C) log logtags starts maps buckets e e log logtags starts (put maps t k (j + 1)) buckets
+  pub settle-old : j < getD (e .counts) t 0 → ImportEnsures words (intern (tabOf t) k C) log logtags starts maps buckets e e log logtags starts (put maps t k (j + 1)) buckets
   unfolding intern stOf
   settle-old h =
       let l = tab-long log logtags starts maps buckets e K t ht in
@@ -760,10 +760,10 @@ module _ (words tags₀ log logtags : List ℕ) (starts maps : List (List ℕ)) 
     new-is : interned (at (tabOf t) (recsOf log logtags starts (e .counts))) C ≡ at (tabOf t) (recsOf log logtags starts (e .counts)) ++ (C ∷ [])
     new-is = let l = tab-long log logtags starts maps buckets e K t ht in let s = seat-is in merged-new (at (tabOf t) (recsOf log logtags starts (e .counts))) C (omega arith)
 
-    full-lands : (r : Sizes) → r .full ≡ true → ((special : List ℕ) → Over (sizeR (tableOf log logtags starts (e .counts) 7)) (intern (tabOf t) k C (S special))) → Lands words (intern (tabOf t) k C) log logtags starts maps buckets e r log logtags starts maps buckets
+    full-lands : (r : Sizes) → r .full ≡ true → ((special : List ℕ) → Over (sizeR (tableOf log logtags starts (e .counts) 7)) (intern (tabOf t) k C (S special))) → ImportEnsures words (intern (tabOf t) k C) log logtags starts maps buckets e r log logtags starts maps buckets
     full-lands r q x = record { over = λ _. x; is = λ z. absurd (false≢true (sym z ∙ q)); kept = λ z. absurd (false≢true (sym z ∙ q)); beside = λ z. absurd (false≢true (sym z ∙ q)); more = λ z. absurd (false≢true (sym z ∙ q)); below = same-refl (e .loglen) log logtags; log-long = K .log-long; tags-long = K .tags-long; marks-stay = marks-refl buckets (K .marks-long) }
 
-    pub settle-many : getD (e .counts) t 0 ≡ 512 → (r : Sizes) → r .full ≡ true → Lands words (intern (tabOf t) k C) log logtags starts maps buckets e r log logtags starts maps buckets
+    pub settle-many : getD (e .counts) t 0 ≡ 512 → (r : Sizes) → r .full ≡ true → ImportEnsures words (intern (tabOf t) k C) log logtags starts maps buckets e r log logtags starts maps buckets
     unfolding intern stOf count
     settle-many q r f =
         let l = tab-long log logtags starts maps buckets e K t ht in
@@ -771,7 +771,7 @@ module _ (words tags₀ log logtags : List ℕ) (starts maps : List (List ℕ)) 
         (λ special. many (tabOf t)
         (rw (at-same (tabOf t) (interned (at (tabOf t) (recsOf log logtags starts (e .counts))) C) (recsOf log logtags starts (e .counts)), new-is, length-append (at (tabOf t) (recsOf log logtags starts (e .counts))) (C ∷ [])) (omega arith)))
 
-    pub settle-long : (room : ℕ) → room + (23 + 2 * e .pairs + e .loglen) ≡ 16384 → room < 1 + (end - at₀) → (r : Sizes) → r .full ≡ true → Lands words (intern (tabOf t) k C) log logtags starts maps buckets e r log logtags starts maps buckets
+    pub settle-long : (room : ℕ) → room + (23 + 2 * e .pairs + e .loglen) ≡ 16384 → room < 1 + (end - at₀) → (r : Sizes) → r .full ≡ true → ImportEnsures words (intern (tabOf t) k C) log logtags starts maps buckets e r log logtags starts maps buckets
     unfolding intern stOf wordsOf
     settle-long room hr q r f =
         let c = c-long in
@@ -826,7 +826,7 @@ module _ (words tags₀ log logtags : List ℕ) (starts maps : List (List ℕ)) 
       }
 
       pub settle-new : (r : Sizes) → r ≡ record { full = false; loglen = e .loglen + (1 + (end - at₀)); counts = set (e .counts) t (getD (e .counts) t 0 + 1); pairs = e .pairs; exprtop = e .exprtop; bodytop = e .bodytop; made = e .made }
-          → Lands words (intern (tabOf t) k C) log logtags starts maps buckets e r log′ logtags′ (put starts t (getD (e .counts) t 0) (e .loglen)) (put maps t k (getD (e .counts) t 0 + 1)) buckets′
+          → ImportEnsures words (intern (tabOf t) k C) log logtags starts maps buckets e r log′ logtags′ (put starts t (getD (e .counts) t 0) (e .loglen)) (put maps t k (getD (e .counts) t 0 + 1)) buckets′
       unfolding intern stOf functionsOf
       settle-new r er =
           let c = c-long in

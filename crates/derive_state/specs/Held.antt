@@ -158,7 +158,7 @@ pub record Beside (starts starts′ : List (List ℕ)) (e r : Sizes) : Type 0 wh
   pub tops-same : (r .exprtop ≡ e .exprtop) × (r .bodytop ≡ e .bodytop) × (r .made ≡ e .made)
 
 -- the arrays now hold f of the state that they held, or that is too large; what the log held is there
-pub record Lands (words : List ℕ) (f : Derived → Derived) (log₀ logtags₀ : List ℕ) (starts₀ maps₀ : List (List ℕ)) (buckets₀ : List ℕ) (e : Sizes) (r : Sizes) (log logtags : List ℕ) (starts maps : List (List ℕ)) (buckets : List ℕ) : Type 0 where
+pub record ImportEnsures (words : List ℕ) (f : Derived → Derived) (log₀ logtags₀ : List ℕ) (starts₀ maps₀ : List (List ℕ)) (buckets₀ : List ℕ) (e : Sizes) (r : Sizes) (log logtags : List ℕ) (starts maps : List (List ℕ)) (buckets : List ℕ) : Type 0 where
   pub over : r .full ≡ true → (special : List ℕ) → Over (sizeR (tableOf log₀ logtags₀ starts₀ (e .counts) 7)) (f (stOf words log₀ logtags₀ starts₀ maps₀ special e))
   pub is : r .full ≡ false → (special : List ℕ) → f (stOf words log₀ logtags₀ starts₀ maps₀ special e) ≡ stOf words log logtags starts maps special r
   pub kept : r .full ≡ false → ValidArrays log logtags starts maps buckets r
@@ -170,7 +170,7 @@ pub record Lands (words : List ℕ) (f : Derived → Derived) (log₀ logtags₀
   pub marks-stay : Marks buckets₀ buckets
 
 -- the same, but where it is full the state is as it was
-pub record Whole (words : List ℕ) (f : Derived → Derived) (log₀ logtags₀ : List ℕ) (starts₀ maps₀ : List (List ℕ)) (e : Sizes) (r : Sizes) (log logtags : List ℕ) (starts maps : List (List ℕ)) (buckets : List ℕ) : Type 0 where
+pub record ImportOrUndoEnsures (words : List ℕ) (f : Derived → Derived) (log₀ logtags₀ : List ℕ) (starts₀ maps₀ : List (List ℕ)) (e : Sizes) (r : Sizes) (log logtags : List ℕ) (starts maps : List (List ℕ)) (buckets : List ℕ) : Type 0 where
   pub over : r .full ≡ true → (special : List ℕ) → Over (sizeR (tableOf log₀ logtags₀ starts₀ (e .counts) 7)) (f (stOf words log₀ logtags₀ starts₀ maps₀ special e))
   pub stays : r .full ≡ true → ((special : List ℕ) → stOf words log logtags starts maps special e ≡ stOf words log₀ logtags₀ starts₀ maps₀ special e) × ValidArrays log logtags starts maps buckets e
   pub is : r .full ≡ false → ((special : List ℕ) → f (stOf words log₀ logtags₀ starts₀ maps₀ special e) ≡ stOf words log logtags starts maps special r) × ValidArrays log logtags starts maps buckets r

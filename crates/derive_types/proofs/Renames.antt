@@ -31,7 +31,7 @@ use Rattle.theory_image.specs.Betweens.{between-next, between-none}
 use Rattle.derive_state.specs.Refers.{tabOf, wentR, Small, targetBytes}
 use Rattle.derive_state.specs.Source.{modOf, srcOf, Source}
 use Rattle.derive_state.specs.Flats.{specialOf}
-use Rattle.derive_state.specs.Held.{cell, recsOf, functionsOf, mapsOf, stOf, ValidArrays, Lands, Nameless, Readable, carriedBy}
+use Rattle.derive_state.specs.Held.{cell, recsOf, functionsOf, mapsOf, stOf, ValidArrays, ImportEnsures, Nameless, Readable, carriedBy}
 use Rattle.derive_state.specs.declared.Sizes.{Sizes}
 use Rattle.derive_state.proofs.State.{code-low, six-ext, same-refl, marks-refl}
 use Rattle.derive_names.proofs.Growth.{Grow, then, over-grow, grow-settle, grow-each, grow-T}
@@ -168,7 +168,7 @@ st-view words view log logtags starts maps special e h =
     (six-ext _ _ (λ u. at-six u (λ t. take (countAt (codeT t) view) (getD maps (codeT t) [])) ∙ rw (h (codeT u) (code-low u)) (sym (at-six u (λ t. take (countAt (codeT t) words) (getD maps (codeT t) []))))))
 
 pub lands-view : (words view : List ℕ) (f : Derived → Derived) (log₀ logtags₀ : List ℕ) (starts₀ maps₀ : List (List ℕ)) (buckets₀ : List ℕ) (e r : Sizes) (log logtags : List ℕ) (starts maps : List (List ℕ)) (buckets : List ℕ) → ((t : ℕ) → t < 6 → countAt t view ≡ countAt t words)
-    → Lands view f log₀ logtags₀ starts₀ maps₀ buckets₀ e r log logtags starts maps buckets → Lands words f log₀ logtags₀ starts₀ maps₀ buckets₀ e r log logtags starts maps buckets
+    → ImportEnsures view f log₀ logtags₀ starts₀ maps₀ buckets₀ e r log logtags starts maps buckets → ImportEnsures words f log₀ logtags₀ starts₀ maps₀ buckets₀ e r log logtags starts maps buckets
 lands-view words view f log₀ logtags₀ starts₀ maps₀ buckets₀ e r log logtags starts maps buckets h L = record {
   over = λ q special. rw (← st-view words view log₀ logtags₀ starts₀ maps₀ special e h) (L .over q special);
   is = λ q special. rw (← st-view words view log₀ logtags₀ starts₀ maps₀ special e h, ← st-view words view log logtags starts maps special r h) (L .is q special);
@@ -305,8 +305,8 @@ module _ (words tags : List ℕ) (n : ℕ) (src : Source words tags n) (o k : �
             rw (← turn-done words tags n src o 1 k (omega arith) hk log₁ logtags₁ starts₁ maps₁ buckets₁ e₁ nf K₁ G (refs rest) (λ sp. rename-ends (stOf words log₁ logtags₁ starts₁ maps₁ sp e₁)) begin end hb he log logtags starts maps buckets e i inv h special, view-is, carried-by words tags n src o 1 k (omega arith) hk log₁ logtags₁ starts₁ maps₁ buckets₁ e₁ nf K₁ G (refs rest) (λ sp. rename-ends (stOf words log₁ logtags₁ starts₁ maps₁ sp e₁)) begin end hb he log logtags starts maps buckets e i inv special (rename name (recAt T types k)) (rw (← view-is) low-view)) refl
 
         pub rename-settled : (r : Sizes) (log′ logtags′ : List ℕ) (starts′ maps′ : List (List ℕ)) (buckets′ : List ℕ)
-            → Lands (set words begin (name + 1)) (intern types k (shift (carriedBy (wentR maps) tags (set words begin (name + 1)) begin end) o false)) log logtags starts maps buckets e r log′ logtags′ starts′ maps′ buckets′
-            → Lands words G log₁ logtags₁ starts₁ maps₁ buckets₁ e₁ r log′ logtags′ starts′ maps′ buckets′
+            → ImportEnsures (set words begin (name + 1)) (intern types k (shift (carriedBy (wentR maps) tags (set words begin (name + 1)) begin end) o false)) log logtags starts maps buckets e r log′ logtags′ starts′ maps′ buckets′
+            → ImportEnsures words G log₁ logtags₁ starts₁ maps₁ buckets₁ e₁ r log′ logtags′ starts′ maps′ buckets′
         unfolding tabOf
         rename-settled r log′ logtags′ starts′ maps′ buckets′ L =
             turn-last words tags n src o 1 k (omega arith) hk log₁ logtags₁ starts₁ maps₁ buckets₁ e₁ nf K₁ G (refs rest) (λ sp. rename-ends (stOf words log₁ logtags₁ starts₁ maps₁ sp e₁)) begin end hb he log logtags starts maps buckets e i inv (shift (carriedBy (wentR maps) tags (set words begin (name + 1)) begin end) o false) settled r log′ logtags′ starts′ maps′ buckets′
@@ -325,15 +325,15 @@ module _ (words tags : List ℕ) (n : ℕ) (src : Source words tags n) (o k : �
       unfolding foldRefs stepT
       is-new special = renamed-is T k name o ok hk′ hn′ (getD words begin 0) rest rec (S₀ special) ∙ rw (map-here special) refl
 
-      pub rename-known : (cell maps₀ 1 k ≡ 0 → ⊥) → Lands words F log₀ logtags₀ starts₀ maps₀ buckets₀ e₀ e₀ log₀ logtags₀ starts₀ maps₀ buckets₀
+      pub rename-known : (cell maps₀ 1 k ≡ 0 → ⊥) → ImportEnsures words F log₀ logtags₀ starts₀ maps₀ buckets₀ e₀ e₀ log₀ logtags₀ starts₀ maps₀ buckets₀
       rename-known ne = lands-known words tags n src o 1 k (omega arith) hk log₀ logtags₀ starts₀ maps₀ buckets₀ e₀ nf K₀ F (λ special. is-new special ∙ once-is o T (λ r. r ≡ S₀ special) (cell maps₀ 1 k) _ (S₀ special) (λ z. absurd (ne z)) (λ g. refl))
 
-      module _ (new : cell maps₀ 1 k ≡ 0) (e₁ : Sizes) (log₁ logtags₁ : List ℕ) (starts₁ maps₁ : List (List ℕ)) (buckets₁ : List ℕ) (L : Lands words (importT o T names name) log₀ logtags₀ starts₀ maps₀ buckets₀ e₀ e₁ log₁ logtags₁ starts₁ maps₁ buckets₁) where
+      module _ (new : cell maps₀ 1 k ≡ 0) (e₁ : Sizes) (log₁ logtags₁ : List ℕ) (starts₁ maps₁ : List (List ℕ)) (buckets₁ : List ℕ) (L : ImportEnsures words (importT o T names name) log₀ logtags₀ starts₀ maps₀ buckets₀ e₀ e₁ log₁ logtags₁ starts₁ maps₁ buckets₁) where
         begins : (special : List ℕ) → F (S₀ special) ≡ G (importT o T names name (S₀ special))
         unfolding unlessMapped
         begins special = is-new special ∙ rw new refl
 
-        pub rename-full : e₁ .full ≡ true → Lands words F log₀ logtags₀ starts₀ maps₀ buckets₀ e₀ e₁ log₁ logtags₁ starts₁ maps₁ buckets₁
+        pub rename-full : e₁ .full ≡ true → ImportEnsures words F log₀ logtags₀ starts₀ maps₀ buckets₀ e₀ e₁ log₁ logtags₁ starts₁ maps₁ buckets₁
         rename-full q = record {
           over = λ z special. rw (begins special) (over-grow _ (then (grow-each (importT o T) (grow-T o T) (refs rest) (importT o T names name (S₀ special))) (rename-ends (importT o T names name (S₀ special)))) (L .over q special));
           is = λ z. absurd (false≢true (sym z ∙ q));
@@ -346,10 +346,10 @@ module _ (words tags : List ℕ) (n : ℕ) (src : Source words tags n) (o k : �
           marks-stay = L .marks-stay;
         }
 
-        pub rename-then : e₁ .full ≡ false → (r : Sizes) (log logtags : List ℕ) (starts maps : List (List ℕ)) (buckets : List ℕ) → Lands words G log₁ logtags₁ starts₁ maps₁ buckets₁ e₁ r log logtags starts maps buckets → Lands words F log₀ logtags₀ starts₀ maps₀ buckets₀ e₀ r log logtags starts maps buckets
+        pub rename-then : e₁ .full ≡ false → (r : Sizes) (log logtags : List ℕ) (starts maps : List (List ℕ)) (buckets : List ℕ) → ImportEnsures words G log₁ logtags₁ starts₁ maps₁ buckets₁ e₁ r log logtags starts maps buckets → ImportEnsures words F log₀ logtags₀ starts₀ maps₀ buckets₀ e₀ r log logtags starts maps buckets
         rename-then q r log logtags starts maps buckets M = lands-then words log₀ logtags₀ starts₀ maps₀ buckets₀ e₀ K₀ (importT o T names name) e₁ log₁ logtags₁ starts₁ maps₁ buckets₁ L q G r log logtags starts maps buckets M F begins
 
 -- the same number, found another way
 pub renames-at : {words log₀ logtags₀ : List ℕ} {starts₀ maps₀ : List (List ℕ)} {buckets₀ : List ℕ} {e r : Sizes} {log logtags : List ℕ} {starts maps : List (List ℕ)} {buckets : List ℕ} (o : ℕ) (T : Tables) (name k m : ℕ) → k ≡ m
-    → Lands words (importT o (renamed T k name) types k) log₀ logtags₀ starts₀ maps₀ buckets₀ e r log logtags starts maps buckets → Lands words (importT o (renamed T m name) types m) log₀ logtags₀ starts₀ maps₀ buckets₀ e r log logtags starts maps buckets
+    → ImportEnsures words (importT o (renamed T k name) types k) log₀ logtags₀ starts₀ maps₀ buckets₀ e r log logtags starts maps buckets → ImportEnsures words (importT o (renamed T m name) types m) log₀ logtags₀ starts₀ maps₀ buckets₀ e r log logtags starts maps buckets
 renames-at o T name k m q L = rw (← q) L

@@ -19,7 +19,7 @@ use Rattle.derive_state.specs.Held.{stOf}
 use Rattle.derive_state.specs.declared.Sizes.{Sizes}
 use Rattle.derive_state.proofs.Classes.{span-of, place-top, kind-small}
 use Rattle.derive_state.proofs.State.{code-low}
-use Rattle.derive_lookup.specs.Bearing.{Knows}
+use Rattle.derive_lookup.specs.Bearing.{KnownEnsures}
 use Rattle.function_references.specs.Fits.{Fits, FitN}
 use Rattle.function_builder.specs.Stacks.{wentBy, wentOf}
 
@@ -255,7 +255,7 @@ module _ (words : List ℕ) (n : ℕ) (log logtags : List ℕ) (starts maps : Li
     pub carries-known : u ≡ 7 → (f : ℕ) → f ≡ w → f < countAt 6 words
     carries-known q f q′ = rw q′ (named-in (target s) w (sym (is .0) ∙ q) fit)
 
-    pub carries-named : u ≡ 7 → (f : ℕ) → f ≡ w → (v : ℕ) → Knows words n log logtags starts e f v → (r : ℕ) → r ≡ pred v → r ≡ through U s w
+    pub carries-named : u ≡ 7 → (f : ℕ) → f ≡ w → (v : ℕ) → KnownEnsures words n log logtags starts e f v → (r : ℕ) → r ≡ pred v → r ≡ through U s w
     unfolding through
     carries-named q f q′ v k r hr = hr ∙ ap pred (k .is [] []) ∙ rw q′ (named-W (target s) w (sym (is .0) ∙ q))
 

@@ -10,7 +10,7 @@ use Rattle.model.specs.Outcome.{Cells}
 use Rattle.model.specs.Tree.{flatAll}
 use Rattle.model.specs.Imports.{Derived}
 use Rattle.model.specs.Bodies.{Builder, bring}
-use Rattle.derive_state.specs.Held.{tableOf, sizeR, Over, ValidArrays, Beside, Lands}
+use Rattle.derive_state.specs.Held.{tableOf, sizeR, Over, ValidArrays, Beside, ImportEnsures}
 use Rattle.derive_state.specs.declared.Sizes.{Sizes}
 use Rattle.derive_state.proofs.State.{same-refl, same-then, marks-refl, marks-then, table-stays}
 use Rattle.function_builder.specs.Stacks.{madeOf, makingOf, Stacks, Under}
@@ -147,7 +147,7 @@ module _ (words : List ℕ) (k e₁ : ℕ) (log₀ logtags₀ : List ℕ) (start
       marks-stay = marks-refl buckets₀ (K₀ .marks-long);
     }
 
-    pub makes-lift : (f : Derived → Derived) (r : Sizes) (log logtags : List ℕ) (starts maps : List (List ℕ)) (buckets : List ℕ) → Lands words f log₀ logtags₀ starts₀ maps₀ buckets₀ e₀ r log logtags starts maps buckets
+    pub makes-lift : (f : Derived → Derived) (r : Sizes) (log logtags : List ℕ) (starts maps : List (List ℕ)) (buckets : List ℕ) → ImportEnsures words f log₀ logtags₀ starts₀ maps₀ buckets₀ e₀ r log logtags starts maps buckets
         → Makes words k (bring f) log₀ logtags₀ starts₀ maps₀ buckets₀ exprmap₀ stacks₀ e₁ e₀ r log logtags starts maps buckets exprmap₀ stacks₀
     unfolding bring makingOf
     makes-lift f r log logtags starts maps buckets L = record {

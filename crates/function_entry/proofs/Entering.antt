@@ -33,9 +33,9 @@ use Rattle.derive_state.proofs.State.{same-refl, same-then, marks-refl, marks-t
 use Rattle.derive_state.proofs.Laws.{none-held}
 use Rattle.function_parts.specs.Part.{entry}
 use Rattle.function_builder.specs.Stacks.{Stacks}
-use Rattle.function_entry.specs.Entered.{NestedE, Enters}
+use Rattle.function_entry.specs.Entered.{NestedE, EnterEnsures}
 use Rattle.derive_session.specs.Valid.{ValidSession}
-use Rattle.function_entry.specs.Entered.{EntersAll}
+use Rattle.function_entry.specs.Entered.{EnterAllEnsures}
 use Rattle.function_entry.proofs.Sources as Sources
 
 -- before entry i, from state s₀ on
@@ -87,7 +87,7 @@ module _ (n o : ℕ) (words tags targets log₀ logtags₀ : List ℕ) (starts�
     s = stOf words log logtags starts maps special e
 
     -- after the last
-    pub turn-done : countAt 7 words ≤ i → EntersAll words n o special log₀ logtags₀ starts₀ maps₀ buckets₀ e₀ e log logtags starts maps buckets stacks
+    pub turn-done : countAt 7 words ≤ i → EnterAllEnsures words n o special log₀ logtags₀ starts₀ maps₀ buckets₀ e₀ e log logtags starts maps buckets stacks
     unfolding enterAll entriesMade
     turn-done h =
         let d : drop i (modOf words n .entries) ≡ [] = drop-of-length-le (modOf words n .entries) {i = i} (omega (arith, entries-there)) in
@@ -126,7 +126,7 @@ module _ (n o : ℕ) (words tags targets log₀ logtags₀ : List ℕ) (starts�
       nested-entry room k = record { special = special; made = rw k (made-here .0) }
 
       module _ (room : ℕ) (k : room ≡ countAt 6 words) (r : Sizes) (log′ logtags′ : List ℕ) (starts′ maps′ : List (List ℕ)) (buckets′ : List ℕ) (stacks′ : List (List ℕ))
-          (N : Enters words n o (Ready o (modOf words n) room) (followS o (modOf words n) room) E log logtags starts maps buckets stacks e r log′ logtags′ starts′ maps′ buckets′ stacks′) where
+          (N : EnterEnsures words n o (Ready o (modOf words n) room) (followS o (modOf words n) room) E log logtags starts maps buckets stacks e r log′ logtags′ starts′ maps′ buckets′ stacks′) where
         abbrev cells : Cells
         cells = entryCellsS o (modOf words n) (followS o (modOf words n) room) E s
 
@@ -161,7 +161,7 @@ module _ (n o : ℕ) (words tags targets log₀ logtags₀ : List ℕ) (starts�
         unfolding entriesOf
         held-long = omega (arith, length-append (entriesOf log logtags starts (e .counts)) (entryOf cells ∷ []), length-map (tableOf log logtags starts (e .counts) 7) entryOf, table-long log logtags starts maps buckets e (T .kept) 7 (omega arith))
 
-        pub turn-full : r .full ≡ true → EntersAll words n o special log₀ logtags₀ starts₀ maps₀ buckets₀ e₀ r log′ logtags′ starts′ maps′ buckets′ stacks′
+        pub turn-full : r .full ≡ true → EnterAllEnsures words n o special log₀ logtags₀ starts₀ maps₀ buckets₀ e₀ r log′ logtags′ starts′ maps′ buckets′ stacks′
         turn-full f = record {
           over = λ q. subst (λ (t : Derived). Full t (entriesMade (modOf words n .entries) o (modOf words n) s₀)) state-rest
               (subst (λ (es : List Entry). Full (enterAll rest o (modOf words n) out) es) entries-rest

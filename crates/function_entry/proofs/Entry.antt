@@ -33,7 +33,7 @@ use Rattle.theory_passes.specs.Light.{still}
 use Rattle.derive_state.specs.Refers.{tabOf}
 use Rattle.derive_state.specs.Flats.{functionOf, entryOf}
 use Rattle.derive_state.specs.Source.{modOf, Source}
-use Rattle.derive_state.specs.Held.{row, tableOf, recsOf, functionsOf, stOf, sizeR, Over, long, Named, ValidArrays, Same, Lands, carriedBy}
+use Rattle.derive_state.specs.Held.{row, tableOf, recsOf, functionsOf, stOf, sizeR, Over, long, Named, ValidArrays, Same, ImportEnsures, carriedBy}
 use Rattle.derive_state.specs.Marks.{Marks}
 use Rattle.derive_state.specs.declared.Sizes.{Sizes}
 use Rattle.derive_state.proofs.Passes.{length-between}
@@ -55,12 +55,12 @@ use Rattle.function_words.specs.Runs.{Deep}
 use Rattle.function_nesting.specs.Nested.{walkedS, keptS, finalS, frontS, namesS, bodyS, cellsS, enteredS, entryCellsS, ReadyF}
 use Rattle.function_nesting.specs.Classes.{made-bytes, head-bytes}
 use Rattle.function_names.specs.Named.{pairsIn}
-use Rattle.function_record.specs.Closed.{closing, Closes}
-use Rattle.function_localize.specs.Localized.{Nested, Localizes}
+use Rattle.function_record.specs.Closed.{closing, AppendRecordEnsures}
+use Rattle.function_localize.specs.Localized.{Nested, LocalizeEnsures}
 use Rattle.function_localize.proofs.Starts.{part-function}
 use Rattle.function_localize.proofs.Closings.{between-at, closing-is, close-low, close-pairs as pairs-fill}
 use Rattle.function_localize.proofs.Few.{made-few}
-use Rattle.function_entry.specs.Entered.{NestedE, Enters}
+use Rattle.function_entry.specs.Entered.{NestedE, EnterEnsures}
 
 -- ---- entry point j of the source
 module _ {words tags : List ℕ} {n : ℕ} (src : Source words tags n) (scopes : inScope (modOf words n) ≡ true) (j : ℕ) (there : j < countAt 7 words) (at s end : ℕ) (at-is : at ≡ recordAt 7 j words) (s-is : s ≡ recordAt 7 j words + ENTRY-HEAD) (end-is : end ≡ recordEnd 7 j words) where
@@ -110,7 +110,7 @@ module _ {words tags : List ℕ} {n : ℕ} (src : Source words tags n) (scopes :
 
   -- ---- its function on the stacks
   module _ (o : ℕ) (ready : ℕ → Derived → Type 0) (follow : ℕ → Derived → Derived) (log₀ logtags₀ : List ℕ) (starts₀ maps₀ : List (List ℕ)) (buckets₀ : List ℕ) (stacks₀ : List (List ℕ)) (e : Sizes) (K₀ : ValidArrays log₀ logtags₀ starts₀ maps₀ buckets₀ e)
-      (got : Sizes) (log₁ logtags₁ : List ℕ) (starts₁ maps₁ : List (List ℕ)) (buckets₁ : List ℕ) (stacks₁ : List (List ℕ)) (L₀ : Localizes words n o ready follow (functionOf (between tags words s end)) log₀ logtags₀ starts₀ maps₀ buckets₀ stacks₀ e got log₁ logtags₁ starts₁ maps₁ buckets₁ stacks₁) where
+      (got : Sizes) (log₁ logtags₁ : List ℕ) (starts₁ maps₁ : List (List ℕ)) (buckets₁ : List ℕ) (stacks₁ : List (List ℕ)) (L₀ : LocalizeEnsures words n o ready follow (functionOf (between tags words s end)) log₀ logtags₀ starts₀ maps₀ buckets₀ stacks₀ e got log₁ logtags₁ starts₁ maps₁ buckets₁ stacks₁) where
     abbrev S₀ : List ℕ → Derived
     S₀ special = stOf words log₀ logtags₀ starts₀ maps₀ special e
 
@@ -120,7 +120,7 @@ module _ {words tags : List ℕ} {n : ℕ} (src : Source words tags n) (scopes :
     abbrev rest : List ℕ → ℕ
     rest special = size₀ + suc (e .exprtop + e .bodytop + length (entryCellsS o M follow E (S₀ special)))
 
-    L : Localizes words n o ready follow F log₀ logtags₀ starts₀ maps₀ buckets₀ stacks₀ e got log₁ logtags₁ starts₁ maps₁ buckets₁ stacks₁
+    L : LocalizeEnsures words n o ready follow F log₀ logtags₀ starts₀ maps₀ buckets₀ stacks₀ e got log₁ logtags₁ starts₁ maps₁ buckets₁ stacks₁
     L = rw function-is at L₀
 
     cells-more : (special : List ℕ) → length (entryCellsS o M follow E (S₀ special)) ≡ (s - at) + length (cellsS o M follow F (S₀ special))
@@ -136,7 +136,7 @@ module _ {words tags : List ℕ} {n : ℕ} (src : Source words tags n) (scopes :
     full : (r : Sizes) (log logtags : List ℕ) (starts maps : List (List ℕ)) (buckets : List ℕ) (stacks : List (List ℕ)) → r .full ≡ true
         → ((special : List ℕ) → ReadyF o M ready follow F (S₀ special) → Over (rest special) (enteredS o M follow E (S₀ special) .out) ⊎ (16 ≤ getD (e .counts) 7 0))
         → Same (e .loglen) log₀ logtags₀ log logtags → length log ≡ 16384 → length logtags ≡ 16384 → Marks buckets₀ buckets
-        → Enters words n o ready follow E log₀ logtags₀ starts₀ maps₀ buckets₀ stacks₀ e r log logtags starts maps buckets stacks
+        → EnterEnsures words n o ready follow E log₀ logtags₀ starts₀ maps₀ buckets₀ stacks₀ e r log logtags starts maps buckets stacks
     full r log logtags starts maps buckets stacks z v b l l′ m = record {
       over = λ _. v;
       is = λ y. absurd (false≢true (sym y ∙ z));
@@ -154,7 +154,7 @@ module _ {words tags : List ℕ} {n : ℕ} (src : Source words tags n) (scopes :
       marks-stay = m;
     }
 
-    pub function-full : got .full ≡ true → Enters words n o ready follow E log₀ logtags₀ starts₀ maps₀ buckets₀ stacks₀ e got log₁ logtags₁ starts₁ maps₁ buckets₁ stacks₁
+    pub function-full : got .full ≡ true → EnterEnsures words n o ready follow E log₀ logtags₀ starts₀ maps₀ buckets₀ stacks₀ e got log₁ logtags₁ starts₁ maps₁ buckets₁ stacks₁
     unfolding enteredS ReadyF
     function-full z = full got log₁ logtags₁ starts₁ maps₁ buckets₁ stacks₁ z over (L .below) (L .log-long) (L .tags-long) (L .marks-stay)
       where
@@ -162,7 +162,7 @@ module _ {words tags : List ℕ} {n : ℕ} (src : Source words tags n) (scopes :
         over special h = let c = cells-more special in inl (over-more _ _ (omega arith) (over-grow _ (grow-outward o M (E .head) (finalS o M follow F (S₀ special) .out)) (L .over z special (h .1))))
 
     -- ---- what its head refers to
-    module _ (z : got .full ≡ false) (led : Sizes) (log₂ logtags₂ : List ℕ) (starts₂ maps₂ : List (List ℕ)) (buckets₂ : List ℕ) (O : Lands words (outward o M still (between tags words at s)) log₁ logtags₁ starts₁ maps₁ buckets₁ got led log₂ logtags₂ starts₂ maps₂ buckets₂) where
+    module _ (z : got .full ≡ false) (led : Sizes) (log₂ logtags₂ : List ℕ) (starts₂ maps₂ : List (List ℕ)) (buckets₂ : List ℕ) (O : ImportEnsures words (outward o M still (between tags words at s)) log₁ logtags₁ starts₁ maps₁ buckets₁ got led log₂ logtags₂ starts₂ maps₂ buckets₂) where
       led-is : (special : List ℕ) → enteredS o M follow E (S₀ special) .out ≡ outward o M still (between tags words at s) (stOf words log₁ logtags₁ starts₁ maps₁ special got)
       unfolding enteredS
       led-is special = ap₂ (outward o M still) head-words (L .is z special)
@@ -178,7 +178,7 @@ module _ {words tags : List ℕ} {n : ℕ} (src : Source words tags n) (scopes :
       marks-stay₂ : Marks buckets₀ buckets₂
       marks-stay₂ = marks-then buckets₀ buckets₁ buckets₂ (L .marks-stay) (O .marks-stay)
 
-      pub head-full : led .full ≡ true → Enters words n o ready follow E log₀ logtags₀ starts₀ maps₀ buckets₀ stacks₀ e led log₂ logtags₂ starts₂ maps₂ buckets₂ stacks₁
+      pub head-full : led .full ≡ true → EnterEnsures words n o ready follow E log₀ logtags₀ starts₀ maps₀ buckets₀ stacks₀ e led log₂ logtags₂ starts₂ maps₂ buckets₂ stacks₁
       head-full y = full led log₂ logtags₂ starts₂ maps₂ buckets₂ stacks₁ y (λ special h. let a = ap sizeR entries₁ in inl (rw (led-is special) (over-more _ _ (omega arith) (O .over y special)))) below₂ (O .log-long) (O .tags-long) marks-stay₂
 
       module _ (y : led .full ≡ false) where
@@ -229,7 +229,7 @@ module _ {words tags : List ℕ} {n : ℕ} (src : Source words tags n) (scopes :
             let d = bodyS o M follow F (S₀ special) in
             omega (arith, length-append (a ++ b ++ c) d, length-append (a ++ b) c, length-append a b)
 
-        pub write-full : 16384 - led .exprtop < s - at → (r : Sizes) → r .full ≡ true → Enters words n o ready follow E log₀ logtags₀ starts₀ maps₀ buckets₀ stacks₀ e r log₂ logtags₂ starts₂ maps₂ buckets₂ stacks₁
+        pub write-full : 16384 - led .exprtop < s - at → (r : Sizes) → r .full ≡ true → EnterEnsures words n o ready follow E log₀ logtags₀ starts₀ maps₀ buckets₀ stacks₀ e r log₂ logtags₂ starts₂ maps₂ buckets₂ stacks₁
         write-full q r f =
             full r log₂ logtags₂ starts₂ maps₂ buckets₂ stacks₁ f
             (λ special h. let a = made-long special in let b = cells-many special in let c = cells-more special in inl (long (omega arith)))
@@ -360,7 +360,7 @@ module _ {words tags : List ℕ} {n : ℕ} (src : Source words tags n) (scopes :
             abbrev c : Cells
             c = between (row stacks₂ 1) (row stacks₂ 0) (led .exprtop) (led .exprtop + (s - at)) ++ closing tags stacks₂ e led s ea body end
 
-            module _ (r : Sizes) (log₃ logtags₃ : List ℕ) (starts₃ : List (List ℕ)) (X : Closes c 16 7 e led log₂ logtags₂ starts₂ r log₃ logtags₃ starts₃) where
+            module _ (r : Sizes) (log₃ logtags₃ : List ℕ) (starts₃ : List (List ℕ)) (X : AppendRecordEnsures c 16 7 e led log₂ logtags₂ starts₂ r log₃ logtags₃ starts₃) where
               K₂ : ValidArrays log₂ logtags₂ starts₂ maps₂ buckets₂ led
               K₂ = O .kept y
 
@@ -431,7 +431,7 @@ module _ {words tags : List ℕ} {n : ℕ} (src : Source words tags n) (scopes :
                       (kept-tops (kept-more log₂ logtags₂ log₃ logtags₃ starts₂ maps₂ buckets₂ buckets₂ led K₂ (X .below) (X .log-long) (X .tags-long) marks-same 7 (omega arith) c (X .is x) (X .size x) (X .room x .1) low joins) r used-is counts-are pairs-is)
 
               pub entry-done : (special : List ℕ) → flatEntry (entryOf (entryCellsS o M follow E (S₀ special))) ≡ entryCellsS o M follow E (S₀ special) → Named (count (enteredS o M follow E (S₀ special) .out .recs) names) (entryCellsS o M follow E (S₀ special))
-                  → Enters words n o ready follow E log₀ logtags₀ starts₀ maps₀ buckets₀ stacks₀ e r log₃ logtags₃ starts₃ maps₂ buckets₂ stacks₂
+                  → EnterEnsures words n o ready follow E log₀ logtags₀ starts₀ maps₀ buckets₀ stacks₀ e r log₃ logtags₃ starts₃ maps₂ buckets₂ stacks₂
               entry-done special reads named = record {
                 over = λ x special h. over x special;
                 is = λ x special. entered-is special ∙ sym (state-same x special);

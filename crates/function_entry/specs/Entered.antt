@@ -24,7 +24,7 @@ pub record NestedE (words : List ℕ) (n : ℕ) (log logtags : List ℕ) (starts
   pub made : EntryMade o (modOf words n) room E (stOf words log logtags starts maps special e)
 
 -- it is imported, or, where the records of its functions can be read, that is too large: too many words with its record, or 16 are there; with what waits on the stacks, which are as they were
-pub record Enters (words : List ℕ) (n o : ℕ) (ready : ℕ → Derived → Type 0) (follow : ℕ → Derived → Derived) (E : Entry) (log₀ logtags₀ : List ℕ) (starts₀ maps₀ : List (List ℕ)) (buckets₀ : List ℕ) (stacks₀ : List (List ℕ)) (e : Sizes)
+pub record EnterEnsures (words : List ℕ) (n o : ℕ) (ready : ℕ → Derived → Type 0) (follow : ℕ → Derived → Derived) (E : Entry) (log₀ logtags₀ : List ℕ) (starts₀ maps₀ : List (List ℕ)) (buckets₀ : List ℕ) (stacks₀ : List (List ℕ)) (e : Sizes)
     (r : Sizes) (log logtags : List ℕ) (starts maps : List (List ℕ)) (buckets : List ℕ) (stacks : List (List ℕ)) : Type 0 where
   pub over : r .full ≡ true → (special : List ℕ) → ReadyF o (modOf words n) ready follow (E .function) (stOf words log₀ logtags₀ starts₀ maps₀ special e)
       → Over (sizeR (tableOf log₀ logtags₀ starts₀ (e .counts) 7) + suc (e .exprtop + e .bodytop + length (entryCellsS o (modOf words n) follow E (stOf words log₀ logtags₀ starts₀ maps₀ special e)))) (enteredS o (modOf words n) follow E (stOf words log₀ logtags₀ starts₀ maps₀ special e) .out)
@@ -44,7 +44,7 @@ pub record Enters (words : List ℕ) (n o : ℕ) (ready : ℕ → Derived → Ty
   pub marks-stay : Marks buckets₀ buckets
 
 -- all entry points of the source of the first n words, with the offset o; what the log held is there
-pub record EntersAll (words : List ℕ) (n o : ℕ) (special log₀ logtags₀ : List ℕ) (starts₀ maps₀ : List (List ℕ)) (buckets₀ : List ℕ) (e : Sizes) (r : Sizes) (log logtags : List ℕ) (starts maps : List (List ℕ)) (buckets : List ℕ) (stacks : List (List ℕ)) : Type 0 where
+pub record EnterAllEnsures (words : List ℕ) (n o : ℕ) (special log₀ logtags₀ : List ℕ) (starts₀ maps₀ : List (List ℕ)) (buckets₀ : List ℕ) (e : Sizes) (r : Sizes) (log logtags : List ℕ) (starts maps : List (List ℕ)) (buckets : List ℕ) (stacks : List (List ℕ)) : Type 0 where
   pub over : r .full ≡ true → Full (enterAll (modOf words n .entries) o (modOf words n) (stOf words log₀ logtags₀ starts₀ maps₀ special e)) (entriesMade (modOf words n .entries) o (modOf words n) (stOf words log₀ logtags₀ starts₀ maps₀ special e))
   pub is : r .full ≡ false → stOf words log logtags starts maps special r ≡ enterAll (modOf words n .entries) o (modOf words n) (stOf words log₀ logtags₀ starts₀ maps₀ special e)
   pub entries : r .full ≡ false → entriesOf log logtags starts (r .counts) ≡ entriesMade (modOf words n .entries) o (modOf words n) (stOf words log₀ logtags₀ starts₀ maps₀ special e)

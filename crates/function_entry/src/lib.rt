@@ -36,7 +36,7 @@ ghost use Rattle.function_parts.specs.Part.{entry};
 ghost use Rattle.function_builder.specs.Stacks.{Stacks};
 ghost use Rattle.model.specs.Session.{meetsRing, calleesOf};
 ghost use Rattle.derive_session.specs.Valid.{ValidSession};
-ghost use Rattle.function_entry.specs.Entered.{NestedE, Enters, EntersAll};
+ghost use Rattle.function_entry.specs.Entered.{NestedE, EnterEnsures, EnterAllEnsures};
 
 // Imports entry point j, with room for `room` functions in progress.
 pub fn enter(
@@ -60,7 +60,7 @@ pub fn enter(
     requires { ⌜ NestedE (now words) n (now log) (now logtags) (now starts) (now maps) ends offset room (entry (modOf (now words) n) j) ⌝ }
     requires { ⌜ (ends .full ≡ false) × (Stacks (now stacks) ends) ⌝ }
     requires { ⌜ ValidArrays (now log) (now logtags) (now starts) (now maps) (now buckets) ends ⌝ }
-    ensures { λ r. ⌜ Enters (now (words .entry)) n offset (Ready offset (modOf (now (words .entry)) n) room) (followS offset (modOf (now (words .entry)) n) room) (entry (modOf (now (words .entry)) n) j) (now (log .entry)) (now (logtags .entry)) (now (starts .entry)) (now (maps .entry)) (now (buckets .entry)) (now (stacks .entry)) ends r (now (log .exit)) (now (logtags .exit)) (now (starts .exit)) (now (maps .exit)) (now (buckets .exit)) (now (stacks .exit)) ⌝ }
+    ensures { λ r. ⌜ EnterEnsures (now (words .entry)) n offset (Ready offset (modOf (now (words .entry)) n) room) (followS offset (modOf (now (words .entry)) n) room) (entry (modOf (now (words .entry)) n) j) (now (log .entry)) (now (logtags .entry)) (now (starts .entry)) (now (maps .entry)) (now (buckets .entry)) (now (stacks .entry)) ends r (now (log .exit)) (now (logtags .exit)) (now (starts .exit)) (now (maps .exit)) (now (buckets .exit)) (now (stacks .exit)) ⌝ }
 {
     let at = record_at(words, tags, n, ENTRIES, j);
     let s = entry_function(words, tags, n, j);
@@ -165,7 +165,7 @@ pub fn enter_all(
     requires { ⌜ ValidSession true n offset (now words) (now tags) (now targets) (now log) (now logtags) (now starts) (now maps) (now buckets) (now special) ends ⌝ }
     requires { ⌜ Stacks (now stacks) ends ⌝ }
     requires { ⌜ meetsRing (calleesOf (modOf (now words) n .entries)) (modOf (now words) n) (stOf (now words) (now log) (now logtags) (now starts) (now maps) (now special) ends) ≡ false ⌝ }
-    ensures { λ r. ⌜ EntersAll (now (words .entry)) n offset (now (special .entry)) (now (log .entry)) (now (logtags .entry)) (now (starts .entry)) (now (maps .entry)) (now (buckets .entry)) ends r (now (log .exit)) (now (logtags .exit)) (now (starts .exit)) (now (maps .exit)) (now (buckets .exit)) (now (stacks .exit)) ⌝ }
+    ensures { λ r. ⌜ EnterAllEnsures (now (words .entry)) n offset (now (special .entry)) (now (log .entry)) (now (logtags .entry)) (now (starts .entry)) (now (maps .entry)) (now (buckets .entry)) ends r (now (log .exit)) (now (logtags .exit)) (now (starts .exit)) (now (maps .exit)) (now (buckets .exit)) (now (stacks .exit)) ⌝ }
 {
     let all = count(words, ENTRIES);
     let room = count(words, FUNCTIONS);

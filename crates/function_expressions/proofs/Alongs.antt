@@ -21,7 +21,7 @@ use Rattle.theory_passes.specs.Growth.{grow-all, grow-arrive, grow-peek, grow-u
 use Rattle.theory_passes.specs.Light.{still}
 use Rattle.theory_image.specs.Betweens.{between-none, between-next}
 use Rattle.derive_state.specs.Source.{modOf, srcOf, refersTo, numberOf}
-use Rattle.derive_state.specs.Held.{ValidArrays, Lands}
+use Rattle.derive_state.specs.Held.{ValidArrays, ImportEnsures}
 use Rattle.derive_state.specs.declared.Sizes.{Sizes}
 use Rattle.function_references.specs.Fits.{Legible, recordOf}
 use Rattle.function_outside.proofs.Cells.{arrive-own, arrive-none, arrive-still, fit-own, fit-table}
@@ -117,7 +117,7 @@ module _ {words tags : List ℕ} {n k o b at end : ℕ} {h : ℕ → Builder →
         pub along-number : s < EXPR → t < 6 → j < countAt t words
         along-number low l = rw (ht, hj) (fit-table words b s (getD words i 0) low (rw ht at l) (rw hs (legible-here (inv .left) less)) .0)
 
-        pub along-record : s < EXPR → {r : Sizes} {log′ logtags′ : List ℕ} {starts′ maps′ : List (List ℕ)} {buckets′ : List ℕ} → Lands words (recordOf o (srcOf words n) t j) log logtags starts maps buckets e r log′ logtags′ starts′ maps′ buckets′ → Turned r log′ logtags′ starts′ maps′ buckets′ exprmap stacks
+        pub along-record : s < EXPR → {r : Sizes} {log′ logtags′ : List ℕ} {starts′ maps′ : List (List ℕ)} {buckets′ : List ℕ} → ImportEnsures words (recordOf o (srcOf words n) t j) log logtags starts maps buckets e r log′ logtags′ starts′ maps′ buckets′ → Turned r log′ logtags′ starts′ maps′ buckets′ exprmap stacks
         unfolding srcOf
         along-record low {r} {log′} {logtags′} {starts′} {maps′} {buckets′} L =
             turn (bring (recordOf o (srcOf words n) t j)) brings r log′ logtags′ starts′ maps′ buckets′ exprmap stacks

@@ -22,7 +22,7 @@ use Rattle.theory_passes.specs.Operands.{Lower, outward, need-mapped, need-new,
 use Rattle.theory_passes.specs.Light.{still}
 use Rattle.theory_image.specs.Betweens.{between-next}
 use Rattle.derive_state.specs.Source.{modOf}
-use Rattle.derive_state.specs.Held.{ValidArrays, Lands}
+use Rattle.derive_state.specs.Held.{ValidArrays, ImportEnsures}
 use Rattle.derive_state.specs.declared.Sizes.{Sizes}
 use Rattle.function_references.specs.Fits.{Fits, Legible}
 use Rattle.function_references.specs.Cuts.{exprsOf, Expressions}
@@ -132,7 +132,7 @@ module _ {words tags places : List ℕ} {k : ℕ} (X : Expressions words tags pl
         ∙ ap (λ (cs : Cells). internExpr o M still xs e (along o M still (importInitialiser o M still xs) (importInitialiser o M still xs) cs (m special))) (cells-are X h ha he)
 
     -- what it refers to outside has come
-    module _ {r : Sizes} {log logtags : List ℕ} {starts maps : List (List ℕ)} {buckets : List ℕ} (L : Lands words (outward o M still (between tags words at end)) log₀ logtags₀ starts₀ maps₀ buckets₀ d r log logtags starts maps buckets) where
+    module _ {r : Sizes} {log logtags : List ℕ} {starts maps : List (List ℕ)} {buckets : List ℕ} (L : ImportEnsures words (outward o M still (between tags words at end)) log₀ logtags₀ starts₀ maps₀ buckets₀ d r log logtags starts maps buckets) where
       pub brought : Makes words k (bring (outward o M still (between tags words at end))) log₀ logtags₀ starts₀ maps₀ buckets₀ exprmap₀ stacks₀ e₁ d r log logtags starts maps buckets exprmap₀ stacks₀
       brought = makes-lift words k e₁ log₀ logtags₀ starts₀ maps₀ buckets₀ exprmap₀ stacks₀ d K U (outward o M still (between tags words at end)) r log logtags starts maps buckets L
 

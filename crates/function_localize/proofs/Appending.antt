@@ -25,9 +25,9 @@ use Rattle.function_references.specs.Fits.{Ground}
 use Rattle.function_builder.specs.Stacks.{Stacks}
 use Rattle.function_parts.specs.Part.{Part, Indexed, placesOf, function-part, order, long, small, k-few, body-here}
 use Rattle.function_names.specs.Named.{pairsIn}
-use Rattle.function_record.specs.Closed.{closing, Closes}
+use Rattle.function_record.specs.Closed.{closing, AppendRecordEnsures}
 use Rattle.function_nesting.specs.Nested.{followS, appendS, Ready, ReadyF}
-use Rattle.function_localize.specs.Localized.{Nested, NestedF, Localizes, Nests}
+use Rattle.function_localize.specs.Localized.{Nested, NestedF, LocalizeEnsures, ImportFunctionEnsures}
 use Rattle.function_localize.proofs.Starts.{part-function}
 use Rattle.function_localize.proofs.Closings.{closing-is, close-low, close-pairs, close-bytes}
 use Rattle.function_localize.proofs.Appends.{append-full, append-close}
@@ -71,8 +71,8 @@ module _ {words tags targets : List ℕ} {n : ℕ} (G : Ground words tags target
     x = record { ea-is = ha; places-are = refl; k-is = refl; named-is = refl; body-is = hb .same (own .stands) ∙ sym (body-here own first) }
 
     module _ {o : ℕ} (room : ℕ) {log₀ logtags₀ : List ℕ} {starts₀ maps₀ : List (List ℕ)} {buckets₀ : List ℕ} {stacks₀ : List (List ℕ)} {e₀ : Sizes} (K₀ : ValidArrays log₀ logtags₀ starts₀ maps₀ buckets₀ e₀) {r : Sizes} {log logtags : List ℕ} {starts maps : List (List ℕ)} {buckets : List ℕ} {stacks : List (List ℕ)}
-        (L₀ : Localizes words n o (Ready o (modOf words n) room) (followS o (modOf words n) room) (functionOf (between tags words s end)) log₀ logtags₀ starts₀ maps₀ buckets₀ stacks₀ e₀ r log logtags starts maps buckets stacks) (z : r .full ≡ false) where
-      L : Localizes words n o (Ready o (modOf words n) room) (followS o (modOf words n) room) (functionAt (modOf words n) f) log₀ logtags₀ starts₀ maps₀ buckets₀ stacks₀ e₀ r log logtags starts maps buckets stacks
+        (L₀ : LocalizeEnsures words n o (Ready o (modOf words n) room) (followS o (modOf words n) room) (functionOf (between tags words s end)) log₀ logtags₀ starts₀ maps₀ buckets₀ stacks₀ e₀ r log logtags starts maps buckets stacks) (z : r .full ≡ false) where
+      L : LocalizeEnsures words n o (Ready o (modOf words n) room) (followS o (modOf words n) room) (functionAt (modOf words n) f) log₀ logtags₀ starts₀ maps₀ buckets₀ stacks₀ e₀ r log logtags starts maps buckets stacks
       L = rw read-as at L₀
 
       pub close-order : (s ≤ ea) × (ea ≤ body) × (body ≤ end) × (end ≤ 16384) × (length tags ≡ 16384)
@@ -107,13 +107,13 @@ module _ {words tags targets : List ℕ} {n : ℕ} (G : Ground words tags target
       no-head = ap (λ (c : Cells). c ++ closing tags stacks e₀ r s ea body end) (between-none (row stacks 1) (row stacks 0) (r .exprtop) (r .exprtop + 0) (omega arith))
 
       pub append-done : NestedF words n log₀ logtags₀ starts₀ maps₀ e₀ o room (functionAt (modOf words n) f) → {r₂ : Sizes} {log₂ logtags₂ : List ℕ} {starts₂ : List (List ℕ)}
-          → Closes (between (row stacks 1) (row stacks 0) (r .exprtop) (r .exprtop + 0) ++ closing tags stacks e₀ r s ea body end) 256 6 e₀ r log logtags starts r₂ log₂ logtags₂ starts₂
-          → Nests words (ReadyF o (modOf words n) (Ready o (modOf words n) room) (followS o (modOf words n) room) (functionAt (modOf words n) f)) (appendS o (modOf words n) (followS o (modOf words n) room) f) log₀ logtags₀ starts₀ maps₀ buckets₀ stacks₀ e₀ r₂ log₂ logtags₂ starts₂ maps buckets stacks
+          → AppendRecordEnsures (between (row stacks 1) (row stacks 0) (r .exprtop) (r .exprtop + 0) ++ closing tags stacks e₀ r s ea body end) 256 6 e₀ r log logtags starts r₂ log₂ logtags₂ starts₂
+          → ImportFunctionEnsures words (ReadyF o (modOf words n) (Ready o (modOf words n) room) (followS o (modOf words n) room) (functionAt (modOf words n) f)) (appendS o (modOf words n) (followS o (modOf words n) room) f) log₀ logtags₀ starts₀ maps₀ buckets₀ stacks₀ e₀ r₂ log₂ logtags₂ starts₂ maps buckets stacks
       append-done N {r₂} {log₂} {logtags₂} {starts₂} B =
           append-close words n o _ _ f log₀ logtags₀ starts₀ maps₀ buckets₀ stacks₀ e₀ r log logtags starts maps buckets stacks L z (closing tags stacks e₀ r s ea body end) (closing-is own x o _ _ log₀ logtags₀ starts₀ maps₀ buckets₀ stacks₀ e₀ r log logtags starts maps buckets stacks L z) entries (N .special) (N .ready) r₂ log₂ logtags₂ starts₂ (rw no-head at B)
 
   -- it does not fit
   pub append-none : {o : ℕ} (room : ℕ) {log₀ logtags₀ : List ℕ} {starts₀ maps₀ : List (List ℕ)} {buckets₀ : List ℕ} {stacks₀ : List (List ℕ)} {e₀ r : Sizes} {log logtags : List ℕ} {starts maps : List (List ℕ)} {buckets : List ℕ} {stacks : List (List ℕ)}
-      → Localizes words n o (Ready o (modOf words n) room) (followS o (modOf words n) room) (functionOf (between tags words s end)) log₀ logtags₀ starts₀ maps₀ buckets₀ stacks₀ e₀ r log logtags starts maps buckets stacks → r .full ≡ true
-      → Nests words (ReadyF o (modOf words n) (Ready o (modOf words n) room) (followS o (modOf words n) room) (functionAt (modOf words n) f)) (appendS o (modOf words n) (followS o (modOf words n) room) f) log₀ logtags₀ starts₀ maps₀ buckets₀ stacks₀ e₀ r log logtags starts maps buckets stacks
+      → LocalizeEnsures words n o (Ready o (modOf words n) room) (followS o (modOf words n) room) (functionOf (between tags words s end)) log₀ logtags₀ starts₀ maps₀ buckets₀ stacks₀ e₀ r log logtags starts maps buckets stacks → r .full ≡ true
+      → ImportFunctionEnsures words (ReadyF o (modOf words n) (Ready o (modOf words n) room) (followS o (modOf words n) room) (functionAt (modOf words n) f)) (appendS o (modOf words n) (followS o (modOf words n) room) f) log₀ logtags₀ starts₀ maps₀ buckets₀ stacks₀ e₀ r log logtags starts maps buckets stacks
   append-none room L₀ z = append-full words n _ (Ready _ (modOf words n) room) (followS _ (modOf words n) room) f _ _ _ _ _ _ _ _ _ _ _ _ _ _ (rw read-as at L₀) z

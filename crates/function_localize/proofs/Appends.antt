@@ -24,10 +24,10 @@ use Rattle.derive_state.specs.declared.Sizes.{Sizes}
 use Rattle.derive_state.proofs.State.{Joins, code-low, six-ext, row-other, tab-long, table-long, table-more, table-same, words-are, kept-more, same-then, marks-refl}
 use Rattle.function_builder.proofs.Growth.{over-more}
 use Rattle.function_builder.proofs.Then.{kept-tops}
-use Rattle.function_record.specs.Closed.{Closes}
+use Rattle.function_record.specs.Closed.{AppendRecordEnsures}
 use Rattle.function_nesting.specs.Nested.{declaredS, finalS, cellsS, appendS, Reads, ReadyFrom, ReadyF}
 use Rattle.function_nesting.specs.Growth.{appended-words}
-use Rattle.function_localize.specs.Localized.{Localizes, Nests}
+use Rattle.function_localize.specs.Localized.{LocalizeEnsures, ImportFunctionEnsures}
 
 -- ---- what is too large without its record is too large with it
 over-appended : (f : Function) (c : Cells) (rest : ℕ) (s : Derived) → flat f ≡ c → Over (rest + length c) s → Over rest (appended f s)
@@ -39,7 +39,7 @@ over-appended f c rest s e (keys h) = keys h
 
 module _ (words : List ℕ) (n o : ℕ) (ready : ℕ → Derived → Type 0) (follow : ℕ → Derived → Derived) (f : ℕ) (log₀ logtags₀ : List ℕ) (starts₀ maps₀ : List (List ℕ)) (buckets₀ : List ℕ) (stacks₀ : List (List ℕ)) (e₀ : Sizes)
     (r : Sizes) (log logtags : List ℕ) (starts maps : List (List ℕ)) (buckets : List ℕ) (stacks : List (List ℕ))
-    (L : Localizes words n o ready follow (functionAt (modOf words n) f) log₀ logtags₀ starts₀ maps₀ buckets₀ stacks₀ e₀ r log logtags starts maps buckets stacks) where
+    (L : LocalizeEnsures words n o ready follow (functionAt (modOf words n) f) log₀ logtags₀ starts₀ maps₀ buckets₀ stacks₀ e₀ r log logtags starts maps buckets stacks) where
   abbrev F : Function
   F = functionAt (modOf words n) f
 
@@ -61,7 +61,7 @@ module _ (words : List ℕ) (n o : ℕ) (ready : ℕ → Derived → Type 0) (fo
   can-follow special y = y .1
 
   -- the function does not fit on the stacks
-  pub append-full : r .full ≡ true → Nests words Readies (appendS o (modOf words n) follow f) log₀ logtags₀ starts₀ maps₀ buckets₀ stacks₀ e₀ r log logtags starts maps buckets stacks
+  pub append-full : r .full ≡ true → ImportFunctionEnsures words Readies (appendS o (modOf words n) follow f) log₀ logtags₀ starts₀ maps₀ buckets₀ stacks₀ e₀ r log logtags starts maps buckets stacks
   unfolding appendS
   append-full z = record {
     over = λ _ special y. over-appended _ (cellsS o (modOf words n) follow F (S₀ special)) _ _ (can-read special y .whole) (over-more _ _ (omega arith) (L .over z special (can-follow special y)));
@@ -79,7 +79,7 @@ module _ (words : List ℕ) (n o : ℕ) (ready : ℕ → Derived → Type 0) (fo
   }
 
   module _ (z : r .full ≡ false) (C : Cells) (is : (special : List ℕ) → C ≡ cellsS o (modOf words n) follow F (S₀ special)) (entries : sizeR (tableOf log logtags starts (r .counts) 7) ≡ size₀) (special₀ : List ℕ) (y₀ : Readies (S₀ special₀))
-      (r₂ : Sizes) (log₂ logtags₂ : List ℕ) (starts₂ : List (List ℕ)) (B : Closes C 256 6 e₀ r log logtags starts r₂ log₂ logtags₂ starts₂) where
+      (r₂ : Sizes) (log₂ logtags₂ : List ℕ) (starts₂ : List (List ℕ)) (B : AppendRecordEnsures C 256 6 e₀ r log logtags starts r₂ log₂ logtags₂ starts₂) where
     K : ValidArrays log logtags starts maps buckets r
     K = L .kept z
 
@@ -155,7 +155,7 @@ module _ (words : List ℕ) (n o : ℕ) (ready : ℕ → Derived → Type 0) (fo
           parts {M} a b c i = record { recs = a i; maps = M; functions = b i; special = c i }
 
     -- one function more
-    pub append-close : Nests words Readies (appendS o (modOf words n) follow f) log₀ logtags₀ starts₀ maps₀ buckets₀ stacks₀ e₀ r₂ log₂ logtags₂ starts₂ maps buckets stacks
+    pub append-close : ImportFunctionEnsures words Readies (appendS o (modOf words n) follow f) log₀ logtags₀ starts₀ maps₀ buckets₀ stacks₀ e₀ r₂ log₂ logtags₂ starts₂ maps buckets stacks
     append-close = record {
       over = λ y special _. over y special;
       is = λ y special. app-is special ∙ st-is y special;

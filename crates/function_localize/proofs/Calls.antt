@@ -21,7 +21,7 @@ use Rattle.function_builder.proofs.Stack.{made-low, made-same, under-same}
 use Rattle.function_builder.proofs.Then.{making-is}
 use Rattle.function_words.specs.Runs.{Runs}
 use Rattle.function_words.proofs.Running.{runs-push, runs-then}
-use Rattle.function_localize.specs.Localized.{Nests}
+use Rattle.function_localize.specs.Localized.{ImportFunctionEnsures}
 
 module _ (words : List ℕ) (n k o e₁ : ℕ) (follow : ℕ → Derived → Derived) (p q : ℕ → Builder → Builder) (f : ℕ) (cs : Cells) (u : Bool) where
   -- the pass at its word
@@ -44,7 +44,7 @@ module _ (words : List ℕ) (n k o e₁ : ℕ) (follow : ℕ → Derived → Der
   word-is m = refl
 
   module _ (log₀ logtags₀ : List ℕ) (starts₀ maps₀ : List (List ℕ)) (buckets₀ exprmap : List ℕ) (stacks₀ : List (List ℕ)) (e₀ : Sizes) (U₀ : Under k exprmap stacks₀ e₁ e₀) (K₀ : ValidArrays log₀ logtags₀ starts₀ maps₀ buckets₀ e₀)
-      (d : Sizes) (log logtags : List ℕ) (starts maps : List (List ℕ)) (buckets : List ℕ) (stacks : List (List ℕ)) (ready : Derived → Type 0) (N : Nests words ready (follow f) log₀ logtags₀ starts₀ maps₀ buckets₀ stacks₀ e₀ d log logtags starts maps buckets stacks) (z : d .full ≡ false) where
+      (d : Sizes) (log logtags : List ℕ) (starts maps : List (List ℕ)) (buckets : List ℕ) (stacks : List (List ℕ)) (ready : Derived → Type 0) (N : ImportFunctionEnsures words ready (follow f) log₀ logtags₀ starts₀ maps₀ buckets₀ stacks₀ e₀ d log logtags starts maps buckets stacks) (z : d .full ≡ false) where
     abbrev m₀ : List ℕ → Builder
     m₀ special = makingOf words k log₀ logtags₀ starts₀ maps₀ special e₀ exprmap stacks₀ e₁
 

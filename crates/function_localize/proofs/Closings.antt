@@ -27,7 +27,7 @@ use Rattle.function_names.specs.Named.{pairsIn}
 use Rattle.function_record.specs.Closed.{nameCells, closing}
 use Rattle.function_nesting.specs.Nested.{walkedS, keptS, frontS, namesS, bodyS, cellsS}
 use Rattle.function_nesting.specs.Classes.{made-bytes}
-use Rattle.function_localize.specs.Localized.{Localizes}
+use Rattle.function_localize.specs.Localized.{LocalizeEnsures}
 use Rattle.function_localize.proofs.Names.{rows-long}
 
 -- ---- classes stay
@@ -62,7 +62,7 @@ join-four p q r s i = p i ++ q i ++ r i ++ s i
 
 module _ {words tags : List ℕ} {n s end : ℕ} {F : Function} (p : Part words tags n s end F) {ea : ℕ} {places : List ℕ} {k named body : ℕ} (x : Indexed words tags s end ea places k named body)
     (o : ℕ) (ready : ℕ → Derived → Type 0) (follow : ℕ → Derived → Derived) (log₀ logtags₀ : List ℕ) (starts₀ maps₀ : List (List ℕ)) (buckets₀ : List ℕ) (stacks₀ : List (List ℕ)) (e₀ : Sizes)
-    (r : Sizes) (log logtags : List ℕ) (starts maps : List (List ℕ)) (buckets : List ℕ) (stacks : List (List ℕ)) (L : Localizes words n o ready follow F log₀ logtags₀ starts₀ maps₀ buckets₀ stacks₀ e₀ r log logtags starts maps buckets stacks) (z : r .full ≡ false) where
+    (r : Sizes) (log logtags : List ℕ) (starts maps : List (List ℕ)) (buckets : List ℕ) (stacks : List (List ℕ)) (L : LocalizeEnsures words n o ready follow F log₀ logtags₀ starts₀ maps₀ buckets₀ stacks₀ e₀ r log logtags starts maps buckets stacks) (z : r .full ≡ false) where
   abbrev S₀ : List ℕ → Derived
   S₀ special = stOf words log₀ logtags₀ starts₀ maps₀ special e₀
 

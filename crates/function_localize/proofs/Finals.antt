@@ -27,9 +27,9 @@ use Rattle.function_builder.proofs.Stack.{made-many, made-flat}
 use Rattle.function_builder.proofs.Growth.{over-more}
 use Rattle.function_builder.proofs.Then.{kept-tops}
 use Rattle.function_parts.specs.Part.{Part, Indexed, body-is, order, long as lengths}
-use Rattle.function_names.specs.Named.{pairsIn, namedRecords, namesOut, namesRows, pairsOf, Keeps, Renames}
+use Rattle.function_names.specs.Named.{pairsIn, namedRecords, namesOut, namesRows, pairsOf, KeepNamesEnsures, ImportNamesEnsures}
 use Rattle.function_nesting.specs.Nested.{walkedS, keptS, finalS, frontS, namesS, bodyS, cellsS}
-use Rattle.function_localize.specs.Localized.{Localizes}
+use Rattle.function_localize.specs.Localized.{LocalizeEnsures}
 use Rattle.function_localize.proofs.Ways.{slice-same, way-entries, Turn, cells-long, way-full, walked-is, body-is as body-words, body-top}
 use Rattle.function_localize.proofs.Names.{pairs-back, named-records, kept-low, named-is, rows-is, rows-long}
 
@@ -95,8 +95,8 @@ module _ {words tags : List ℕ} {n s end : ℕ} {F : Function} (p : Part words 
   pub keep-words : (named < 16384) × (named + 2 * getD words named 0 < 16384) × (length words ≡ 16384)
   keep-words = let a = order p x in let b = x .body-is in (omega (arith, a), omega (arith, a), lengths p .words-long)
 
-  module _ (r₁ : Sizes) (stacks₁ : List (List ℕ)) (W : Keeps ps stacks e r₁ stacks₁) where
-    pub keep-full : r₁ .full ≡ true → Localizes words n o ready follow F log₀ logtags₀ starts₀ maps₀ buckets₀ stacks₀ e₀ r₁ log logtags starts maps buckets stacks₁
+  module _ (r₁ : Sizes) (stacks₁ : List (List ℕ)) (W : KeepNamesEnsures ps stacks e r₁ stacks₁) where
+    pub keep-full : r₁ .full ≡ true → LocalizeEnsures words n o ready follow F log₀ logtags₀ starts₀ maps₀ buckets₀ stacks₀ e₀ r₁ log logtags starts maps buckets stacks₁
     keep-full z = way-full words tags n o follow calls ready F k body end low hw ht (body-is p x) log₀ logtags₀ starts₀ maps₀ buckets₀ stacks₀ e₀ K₀ log logtags starts maps buckets stacks₁ r₁ z
         (λ special _. let a = W .over z in let b = top in let c = cells (S₀ special) in let d = names-many special in long (omega arith))
         (T .way .below) (T .way .kept .log-long) (T .way .kept .tags-long) (T .way .marks-stay)
@@ -137,7 +137,7 @@ module _ {words tags : List ℕ} {n s end : ℕ} {F : Function} (p : Part words 
       unfolding stOf
       st-same special = rw (counts-same, pairs-same) refl
 
-      module _ (r : Sizes) (log′ logtags′ : List ℕ) (starts′ maps′ : List (List ℕ)) (buckets′ : List ℕ) (stacks′ : List (List ℕ)) (N : Renames words n o (e .bodytop) log logtags starts maps buckets stacks₁ r₁ r log′ logtags′ starts′ maps′ buckets′ stacks′) where
+      module _ (r : Sizes) (log′ logtags′ : List ℕ) (starts′ maps′ : List (List ℕ)) (buckets′ : List ℕ) (stacks′ : List (List ℕ)) (N : ImportNamesEnsures words n o (e .bodytop) log logtags starts maps buckets stacks₁ r₁ r log′ logtags′ starts′ maps′ buckets′ stacks′) where
         out-is : (special : List ℕ) → namesOut o (modOf words n) (pairsOf stacks₁ (e .bodytop) r₁) (stOf words log logtags starts maps special r₁) ≡ finalS o (modOf words n) follow F (S₀ special) .out
         out-is special = ap₂ (namesOut o (modOf words n)) pairs-are (st-same special) ∙ sym (final-out special)
 
@@ -183,7 +183,7 @@ module _ {words tags : List ℕ} {n s end : ℕ} {F : Function} (p : Part words 
               (N .rows-are y special ∙ ap (map word) (ap₂ (namesRows o (modOf words n)) pairs-are (st-same special) ∙ sym (names-are special)))
 
         -- the function is whole
-        pub names-done : Localizes words n o ready follow F log₀ logtags₀ starts₀ maps₀ buckets₀ stacks₀ e₀ r log′ logtags′ starts′ maps′ buckets′ stacks′
+        pub names-done : LocalizeEnsures words n o ready follow F log₀ logtags₀ starts₀ maps₀ buckets₀ stacks₀ e₀ r log′ logtags′ starts′ maps′ buckets′ stacks′
         names-done = record {
           over = λ y special _. over y special;
           is = λ y special. sym (out-is special) ∙ N .lands .is y special;

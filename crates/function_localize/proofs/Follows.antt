@@ -14,10 +14,10 @@ use Rattle.derive_state.specs.Source.{modOf}
 use Rattle.derive_state.specs.Held.{stOf, ValidArrays}
 use Rattle.derive_state.specs.declared.Sizes.{Sizes}
 use Rattle.derive_state.proofs.State.{same-refl, marks-refl}
-use Rattle.derive_lookup.specs.Bearing.{Knows}
+use Rattle.derive_lookup.specs.Bearing.{KnownEnsures}
 use Rattle.function_builder.specs.Stacks.{Stacks}
 use Rattle.function_nesting.specs.Nested.{appendS, followS, ReadyF, Ready}
-use Rattle.function_localize.specs.Localized.{NestedF, NestedAt, Nests}
+use Rattle.function_localize.specs.Localized.{NestedF, NestedAt, ImportFunctionEnsures}
 
 -- ---- as the definition has it
 module _ (o : ℕ) (M : Module) (f : ℕ) (s : Derived) where
@@ -42,7 +42,7 @@ module _ (words : List ℕ) (n o f : ℕ) (log logtags : List ℕ) (starts maps 
 
   -- nothing is done
   nests-none : (ready : Derived → Type 0) (g : Derived → Derived) → ((special : List ℕ) → g (stOf words log logtags starts maps special e) ≡ stOf words log logtags starts maps special e) → e .full ≡ false → Stacks stacks e → ValidArrays log logtags starts maps buckets e
-      → Nests words ready g log logtags starts maps buckets stacks e e log logtags starts maps buckets stacks
+      → ImportFunctionEnsures words ready g log logtags starts maps buckets stacks e e log logtags starts maps buckets stacks
   nests-none ready g is nf S K = record {
     over = λ z. absurd (false≢true (sym nf ∙ z));
     is = λ z special. is special;
@@ -60,12 +60,12 @@ module _ (words : List ℕ) (n o f : ℕ) (log logtags : List ℕ) (starts maps 
 
   module _ (room : ℕ) where
     -- no room
-    pub follow-none : room ≡ 0 → e .full ≡ false → Stacks stacks e → ValidArrays log logtags starts maps buckets e → Nests words (Ready o (modOf words n) room f) (followS o (modOf words n) room f) log logtags starts maps buckets stacks e e log logtags starts maps buckets stacks
+    pub follow-none : room ≡ 0 → e .full ≡ false → Stacks stacks e → ValidArrays log logtags starts maps buckets e → ImportFunctionEnsures words (Ready o (modOf words n) room f) (followS o (modOf words n) room f) log logtags starts maps buckets stacks e e log logtags starts maps buckets stacks
     follow-none q nf S K = nests-none _ _ (λ special. rw q (unfold followS in refl)) nf S K
 
-    module _ (some : room ≡ 0 → ⊥) (v : ℕ) (W : Knows words n log logtags starts e f v) where
+    module _ (some : room ≡ 0 → ⊥) (v : ℕ) (W : KnownEnsures words n log logtags starts e f v) where
       -- its name is known
-      pub follow-old : (v ≡ 0 → ⊥) → e .full ≡ false → Stacks stacks e → ValidArrays log logtags starts maps buckets e → Nests words (Ready o (modOf words n) room f) (followS o (modOf words n) room f) log logtags starts maps buckets stacks e e log logtags starts maps buckets stacks
+      pub follow-old : (v ≡ 0 → ⊥) → e .full ≡ false → Stacks stacks e → ValidArrays log logtags starts maps buckets e → ImportFunctionEnsures words (Ready o (modOf words n) room f) (followS o (modOf words n) room f) log logtags starts maps buckets stacks e e log logtags starts maps buckets stacks
       follow-old ne nf S K = nests-none _ _ (λ special. follow-known o M f (stOf words log logtags starts maps special e) room some (λ q. ne (W .is maps special ∙ q))) nf S K
 
       module _ (z : v ≡ 0) where
@@ -77,8 +77,8 @@ module _ (words : List ℕ) (n o f : ℕ) (log logtags : List ℕ) (starts maps 
 
         -- it is appended
         pub follow-append : {r : Sizes} {log′ logtags′ : List ℕ} {starts′ maps′ : List (List ℕ)} {buckets′ : List ℕ} {stacks′ : List (List ℕ)}
-            → Nests words (ReadyF o (modOf words n) (Ready o (modOf words n) (room - 1)) (followS o (modOf words n) (room - 1)) (functionAt (modOf words n) f)) (appendS o (modOf words n) (followS o (modOf words n) (room - 1)) f) log logtags starts maps buckets stacks e r log′ logtags′ starts′ maps′ buckets′ stacks′
-            → Nests words (Ready o (modOf words n) room f) (followS o (modOf words n) room f) log logtags starts maps buckets stacks e r log′ logtags′ starts′ maps′ buckets′ stacks′
+            → ImportFunctionEnsures words (ReadyF o (modOf words n) (Ready o (modOf words n) (room - 1)) (followS o (modOf words n) (room - 1)) (functionAt (modOf words n) f)) (appendS o (modOf words n) (followS o (modOf words n) (room - 1)) f) log logtags starts maps buckets stacks e r log′ logtags′ starts′ maps′ buckets′ stacks′
+            → ImportFunctionEnsures words (Ready o (modOf words n) room f) (followS o (modOf words n) room f) log logtags starts maps buckets stacks e r log′ logtags′ starts′ maps′ buckets′ stacks′
         follow-append A = record {
           over = λ y special g. let s = stOf words log logtags starts maps special e in rw (follow-new o M f s room some (unknown special)) (A .over y special (ready-new o M f s room some (unknown special) g));
           is = λ y special. follow-new o M f (stOf words log logtags starts maps special e) room some (unknown special) ∙ A .is y special;

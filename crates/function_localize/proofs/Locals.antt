@@ -34,10 +34,10 @@ use Rattle.function_parts.specs.Exprs.{finds-few}
 use Rattle.function_parts.specs.Body.{callee-in}
 use Rattle.function_words.specs.Runs.{unites, needs, glances, Bodied, Runs}
 use Rattle.function_words.proofs.Words.{fits-all}
-use Rattle.function_names.specs.Named.{namedRecords, Keeps, Renames}
+use Rattle.function_names.specs.Named.{namedRecords, KeepNamesEnsures, ImportNamesEnsures}
 use Rattle.function_nesting.specs.Nested.{followS, Ready}
 use Rattle.function_nesting.specs.Growth.{follow-grows}
-use Rattle.function_localize.specs.Localized.{Nested, NestedAt, Localizes, Nests}
+use Rattle.function_localize.specs.Localized.{Nested, NestedAt, LocalizeEnsures, ImportFunctionEnsures}
 use Rattle.function_localize.proofs.Calls.{call-put}
 use Rattle.function_localize.proofs.Ways.{Turn, turn-callee, call-full, turn-full, turn-next}
 use Rattle.function_localize.proofs.Starts.{begun, start-under, ranges, declare-full, turn-start}
@@ -112,7 +112,7 @@ module _ {words tags : List ℕ} {n s end : ℕ} (p : Part words tags n s end (f
     module _ {o : ℕ} (room : ℕ) {b : Sizes} (q : b ≡ begun e₀) {stacks₀ : List (List ℕ)} {r : Sizes} {log logtags : List ℕ} {starts maps : List (List ℕ)} {buckets exprmap : List ℕ} {stacks : List (List ℕ)}
         (R : Runs words k (after o (modOf words n) still (unites o words tags n places k) (unites o words tags n places k) (between tags words s ea)) (λ (m : Builder). map word (written o (modOf words n) still (unites o words tags n places k) (unites o words tags n places k) (between tags words s ea) false m))
         log₀ logtags₀ starts₀ maps₀ buckets₀ (replicate 1024 0) stacks₀ (e₀ .exprtop) b r log logtags starts maps buckets exprmap stacks) where
-      pub declare-none : r .full ≡ true → Localizes words n o (Ready o (modOf words n) room) (followS o (modOf words n) room) (functionOf (between tags words s end)) log₀ logtags₀ starts₀ maps₀ buckets₀ stacks₀ e₀ r log logtags starts maps buckets stacks
+      pub declare-none : r .full ≡ true → LocalizeEnsures words n o (Ready o (modOf words n) room) (followS o (modOf words n) room) (functionOf (between tags words s end)) log₀ logtags₀ starts₀ maps₀ buckets₀ stacks₀ e₀ r log logtags starts maps buckets stacks
       declare-none z = declare-full p x o (followS o (modOf words n) room) (follow-grows o (modOf words n) room) (Ready o (modOf words n) room) log₀ logtags₀ starts₀ maps₀ buckets₀ stacks₀ e₀ K₀ r log logtags starts maps buckets exprmap stacks (rw q at R) z
 
       pub going-start : r .full ≡ false → Going words tags n o room s end ea places k named body log₀ logtags₀ starts₀ maps₀ buckets₀ stacks₀ e₀ log logtags starts maps buckets exprmap stacks r body false
@@ -162,8 +162,8 @@ module _ {words tags : List ℕ} {n s end : ℕ} (p : Part words tags n s end (f
         }
 
         module _ {d : Sizes} {log′ logtags′ : List ℕ} {starts′ maps′ : List (List ℕ)} {buckets′ : List ℕ} {stacks′ : List (List ℕ)}
-            (N : Nests words (Ready o (modOf words n) room f) (followS o (modOf words n) room f) log logtags starts maps buckets stacks e d log′ logtags′ starts′ maps′ buckets′ stacks′) where
-          pub callee-full : d .full ≡ true → Localizes words n o (Ready o (modOf words n) room) (followS o (modOf words n) room) (functionOf (between tags words s end)) log₀ logtags₀ starts₀ maps₀ buckets₀ stacks₀ e₀ d log′ logtags′ starts′ maps′ buckets′ stacks′
+            (N : ImportFunctionEnsures words (Ready o (modOf words n) room f) (followS o (modOf words n) room f) log logtags starts maps buckets stacks e d log′ logtags′ starts′ maps′ buckets′ stacks′) where
+          pub callee-full : d .full ≡ true → LocalizeEnsures words n o (Ready o (modOf words n) room) (followS o (modOf words n) room) (functionOf (between tags words s end)) log₀ logtags₀ starts₀ maps₀ buckets₀ stacks₀ e₀ d log′ logtags′ starts′ maps′ buckets′ stacks′
           callee-full z = call-full words tags n o (followS o (modOf words n) room) (follow-grows o (modOf words n) room) (Ready o (modOf words n) room) F k body end low hw ht (body-is p x) log₀ logtags₀ starts₀ maps₀ buckets₀ stacks₀ e₀ K₀ log logtags starts maps buckets exprmap stacks e i u T h q d log′ logtags′ starts′ maps′ buckets′ stacks′ (rw hf at N) z
 
           pub callee-runs : d .full ≡ false → (v : Bool) {r : Sizes} {stacks″ : List (List ℕ)} → Pushed (moved (target (getD tags i 0)) (through (wentOf words n log′ logtags′ starts′ maps′ d exprmap) (getD tags i 0) (getD words i 0)) o v) stacks′ d r stacks″
@@ -179,7 +179,7 @@ module _ {words tags : List ℕ} {n s end : ℕ} (p : Part words tags n s end (f
       -- written, or full
       module _ {v : Bool} (hv : v ≡ undefinedAt (target (getD tags i 0)) (getD words i 0) (firstWord (between tags words (suc i) end)) u) {r : Sizes} {log′ logtags′ : List ℕ} {starts′ maps′ : List (List ℕ)} {buckets′ exprmap′ : List ℕ} {stacks′ : List (List ℕ)}
           (R : Runs words k (passed o (modOf words n) (followS o (modOf words n) room) (need o (modOf words n) still (functionOf (between tags words s end) .exprs)) (glance o (modOf words n) still (functionOf (between tags words s end) .exprs)) (getD tags i 0, getD words i 0) (between tags words (suc i) end)) (λ (m : Builder). wordOf o (modOf words n) (followS o (modOf words n) room) (need o (modOf words n) still (functionOf (between tags words s end) .exprs)) (glance o (modOf words n) still (functionOf (between tags words s end) .exprs)) (getD tags i 0, getD words i 0) (between tags words (suc i) end) v m ∷ []) log logtags starts maps buckets exprmap stacks (e₀ .exprtop) e r log′ logtags′ starts′ maps′ buckets′ exprmap′ stacks′) where
-        pub going-full : r .full ≡ true → Localizes words n o (Ready o (modOf words n) room) (followS o (modOf words n) room) (functionOf (between tags words s end)) log₀ logtags₀ starts₀ maps₀ buckets₀ stacks₀ e₀ r log′ logtags′ starts′ maps′ buckets′ stacks′
+        pub going-full : r .full ≡ true → LocalizeEnsures words n o (Ready o (modOf words n) room) (followS o (modOf words n) room) (functionOf (between tags words s end)) log₀ logtags₀ starts₀ maps₀ buckets₀ stacks₀ e₀ r log′ logtags′ starts′ maps′ buckets′ stacks′
         going-full z = turn-full words tags n o (followS o (modOf words n) room) (follow-grows o (modOf words n) room) (Ready o (modOf words n) room) F k body end low hw ht (body-is p x) log₀ logtags₀ starts₀ maps₀ buckets₀ stacks₀ e₀ K₀ log logtags starts maps buckets exprmap stacks e i u T h r log′ logtags′ starts′ maps′ buckets′ exprmap′ stacks′ (rw hv at R) z
 
         pub going-next : r .full ≡ false → Going words tags n o room s end ea places k named body log₀ logtags₀ starts₀ maps₀ buckets₀ stacks₀ e₀ log′ logtags′ starts′ maps′ buckets′ exprmap′ stacks′ r (i + 1) v
@@ -211,8 +211,8 @@ module _ {words tags : List ℕ} {n s end : ℕ} (p : Part words tags n s end (f
       pub keep-low : (y : ℕ) → getD exprmap y 0 ≤ 1024
       keep-low y = let a = T .way .under .within y in let b = made-low in omega arith
 
-      module _ {r₁ : Sizes} {stacks₁ : List (List ℕ)} (W : Keeps (keepNames (namedRecords words (named + 1) (getD words named 0)) (take k exprmap) []) stacks e r₁ stacks₁) where
-        pub names-full : r₁ .full ≡ true → Localizes words n o (Ready o (modOf words n) room) (followS o (modOf words n) room) (functionOf (between tags words s end)) log₀ logtags₀ starts₀ maps₀ buckets₀ stacks₀ e₀ r₁ log logtags starts maps buckets stacks₁
+      module _ {r₁ : Sizes} {stacks₁ : List (List ℕ)} (W : KeepNamesEnsures (keepNames (namedRecords words (named + 1) (getD words named 0)) (take k exprmap) []) stacks e r₁ stacks₁) where
+        pub names-full : r₁ .full ≡ true → LocalizeEnsures words n o (Ready o (modOf words n) room) (followS o (modOf words n) room) (functionOf (between tags words s end)) log₀ logtags₀ starts₀ maps₀ buckets₀ stacks₀ e₀ r₁ log logtags starts maps buckets stacks₁
         names-full z = keep-full p x o (followS o (modOf words n) room) (follow-grows o (modOf words n) room) (Ready o (modOf words n) room) log₀ logtags₀ starts₀ maps₀ buckets₀ stacks₀ e₀ K₀ log logtags starts maps buckets exprmap stacks e i u T done r₁ stacks₁ W z
 
         module _ (z : r₁ .full ≡ false) where
@@ -225,6 +225,6 @@ module _ {words tags : List ℕ} {n s end : ℕ} (p : Part words tags n s end (f
           pub names-good : ValidArrays log logtags starts maps buckets r₁
           names-good = names-kept p x o (followS o (modOf words n) room) (follow-grows o (modOf words n) room) (Ready o (modOf words n) room) log₀ logtags₀ starts₀ maps₀ buckets₀ stacks₀ e₀ K₀ log logtags starts maps buckets exprmap stacks e i u T done r₁ stacks₁ W z
 
-          pub names-whole : {r : Sizes} {log′ logtags′ : List ℕ} {starts′ maps′ : List (List ℕ)} {buckets′ : List ℕ} {stacks′ : List (List ℕ)} → Renames words n o (e .bodytop) log logtags starts maps buckets stacks₁ r₁ r log′ logtags′ starts′ maps′ buckets′ stacks′
-              → Localizes words n o (Ready o (modOf words n) room) (followS o (modOf words n) room) (functionOf (between tags words s end)) log₀ logtags₀ starts₀ maps₀ buckets₀ stacks₀ e₀ r log′ logtags′ starts′ maps′ buckets′ stacks′
+          pub names-whole : {r : Sizes} {log′ logtags′ : List ℕ} {starts′ maps′ : List (List ℕ)} {buckets′ : List ℕ} {stacks′ : List (List ℕ)} → ImportNamesEnsures words n o (e .bodytop) log logtags starts maps buckets stacks₁ r₁ r log′ logtags′ starts′ maps′ buckets′ stacks′
+              → LocalizeEnsures words n o (Ready o (modOf words n) room) (followS o (modOf words n) room) (functionOf (between tags words s end)) log₀ logtags₀ starts₀ maps₀ buckets₀ stacks₀ e₀ r log′ logtags′ starts′ maps′ buckets′ stacks′
           names-whole {r} {log′} {logtags′} {starts′} {maps′} {buckets′} {stacks′} N = names-done p x o (followS o (modOf words n) room) (follow-grows o (modOf words n) room) (Ready o (modOf words n) room) log₀ logtags₀ starts₀ maps₀ buckets₀ stacks₀ e₀ K₀ log logtags starts maps buckets exprmap stacks e i u T done r₁ stacks₁ W z r log′ logtags′ starts′ maps′ buckets′ stacks′ N

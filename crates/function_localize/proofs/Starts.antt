@@ -37,7 +37,7 @@ use Rattle.function_parts.specs.Body.{emit-at}
 use Rattle.function_words.specs.Runs.{unites, Declares, Runs}
 use Rattle.function_nesting.specs.Nested.{declaredS, walkedS, finalS, frontS, bodyS, cellsS}
 use Rattle.function_nesting.specs.Single.{function-back}
-use Rattle.function_localize.specs.Localized.{Localizes}
+use Rattle.function_localize.specs.Localized.{LocalizeEnsures}
 use Rattle.function_localize.proofs.Ways.{Turn, front-long, walked-over, way-full}
 
 -- ---- the record of a function's words is read as the function
@@ -115,7 +115,7 @@ module _ {words tags : List ℕ} {n s end : ℕ} {F : Function} (p : Part words 
     low : body ≤ end
     low = let a = order p x .to-end in omega arith
 
-    pub declare-full : r .full ≡ true → Localizes words n o ready follow F log₀ logtags₀ starts₀ maps₀ buckets₀ stacks₀ e₀ r log logtags starts maps buckets stacks
+    pub declare-full : r .full ≡ true → LocalizeEnsures words n o ready follow F log₀ logtags₀ starts₀ maps₀ buckets₀ stacks₀ e₀ r log logtags starts maps buckets stacks
     declare-full z = way-full words tags n o follow calls ready F k body end low hw ht (body-is p x) log₀ logtags₀ starts₀ maps₀ buckets₀ stacks₀ e₀ K₀ log logtags starts maps buckets stacks r z (λ special b. over special) (R .below) (R .log-long) (R .tags-long) (R .marks-stay)
       where
         over : (special : List ℕ) → Over (sizeR (tableOf log₀ logtags₀ starts₀ (e₀ .counts) 7) + (e₀ .exprtop + e₀ .bodytop + length (cellsS o (modOf words n) follow F (S₀ special)))) (finalS o (modOf words n) follow F (S₀ special) .out)

@@ -36,7 +36,7 @@ use Rattle.function_builder.proofs.Stack.{slice-join, made-words}
 use Rattle.function_builder.proofs.Growth.{GrowM, growing-by, growing, over-more, over-growM}
 use Rattle.function_words.specs.Runs.{Along, Deep, Runs}
 use Rattle.function_nesting.specs.Nested.{declaredS, walkedS, keptS, finalS, frontS, namesS, bodyS, cellsS, ReadyFrom}
-use Rattle.function_localize.specs.Localized.{Localizes, Nests}
+use Rattle.function_localize.specs.Localized.{LocalizeEnsures, ImportFunctionEnsures}
 use Rattle.function_localize.proofs.Calls.{called}
 
 -- ---- stretches
@@ -155,7 +155,7 @@ module _ (words tags : List ℕ) (n o : ℕ) (follow : ℕ → Derived → Deriv
   pub way-full : (log logtags : List ℕ) (starts maps : List (List ℕ)) (buckets : List ℕ) (stacks : List (List ℕ)) (r : Sizes) → r .full ≡ true
       → ((special : List ℕ) → Begins special → Over (size₀ + (e₀ .exprtop + e₀ .bodytop + length (cellsS o (modOf words n) follow F (S₀ special)))) (finalS o (modOf words n) follow F (S₀ special) .out))
       → Same (e₀ .loglen) log₀ logtags₀ log logtags → length log ≡ 16384 → length logtags ≡ 16384 → Marks buckets₀ buckets
-      → Localizes words n o ready follow F log₀ logtags₀ starts₀ maps₀ buckets₀ stacks₀ e₀ r log logtags starts maps buckets stacks
+      → LocalizeEnsures words n o ready follow F log₀ logtags₀ starts₀ maps₀ buckets₀ stacks₀ e₀ r log logtags starts maps buckets stacks
   way-full log logtags starts maps buckets stacks r z v s l l′ m = record {
     over = λ _. v;
     is = λ y. absurd (false≢true (sym y ∙ z));
@@ -217,8 +217,8 @@ module _ (words tags : List ℕ) (n o : ℕ) (follow : ℕ → Derived → Deriv
 
       -- the callee does not fit
       pub call-full : getD tags i 0 ≡ CALLEE → (d : Sizes) (log′ logtags′ : List ℕ) (starts′ maps′ : List (List ℕ)) (buckets′ : List ℕ) (stacks′ : List (List ℕ))
-          → Nests words (ready (getD words i 0)) (follow (getD words i 0)) log logtags starts maps buckets stacks e d log′ logtags′ starts′ maps′ buckets′ stacks′
-          → d .full ≡ true → Localizes words n o ready follow F log₀ logtags₀ starts₀ maps₀ buckets₀ stacks₀ e₀ d log′ logtags′ starts′ maps′ buckets′ stacks′
+          → ImportFunctionEnsures words (ready (getD words i 0)) (follow (getD words i 0)) log logtags starts maps buckets stacks e d log′ logtags′ starts′ maps′ buckets′ stacks′
+          → d .full ≡ true → LocalizeEnsures words n o ready follow F log₀ logtags₀ starts₀ maps₀ buckets₀ stacks₀ e₀ d log′ logtags′ starts′ maps′ buckets′ stacks′
       unfolding makingOf
       call-full q d log′ logtags′ starts′ maps′ buckets′ stacks′ N z =
           way-full log′ logtags′ starts′ maps′ buckets′ stacks′ d z over (same-then (e₀ .loglen) (e .loglen) log₀ logtags₀ log logtags log′ logtags′ (T .way .more) (T .way .below) (N .below)) (N .log-long) (N .tags-long) (marks-then buckets₀ buckets buckets′ (T .way .marks-stay) (N .marks-stay))
@@ -235,7 +235,7 @@ module _ (words tags : List ℕ) (n o : ℕ) (follow : ℕ → Derived → Deriv
 
       module _ (r : Sizes) (log′ logtags′ : List ℕ) (starts′ maps′ : List (List ℕ)) (buckets′ exprmap′ : List ℕ) (stacks′ : List (List ℕ))
           (R : Runs words k (passed o (modOf words n) follow P Q c cs) (λ (m : Builder). wordOf o (modOf words n) follow P Q c cs v m ∷ []) log logtags starts maps buckets exprmap stacks (e₀ .exprtop) e r log′ logtags′ starts′ maps′ buckets′ exprmap′ stacks′) where
-        pub turn-full : r .full ≡ true → Localizes words n o ready follow F log₀ logtags₀ starts₀ maps₀ buckets₀ stacks₀ e₀ r log′ logtags′ starts′ maps′ buckets′ stacks′
+        pub turn-full : r .full ≡ true → LocalizeEnsures words n o ready follow F log₀ logtags₀ starts₀ maps₀ buckets₀ stacks₀ e₀ r log′ logtags′ starts′ maps′ buckets′ stacks′
         turn-full z =
             way-full log′ logtags′ starts′ maps′ buckets′ stacks′ r z (λ special b. over special) (same-then (e₀ .loglen) (e .loglen) log₀ logtags₀ log logtags log′ logtags′ (T .way .more) (T .way .below) (R .below)) (R .log-long) (R .tags-long) (marks-then buckets₀ buckets buckets′ (T .way .marks-stay) (R .marks-stay))
           where

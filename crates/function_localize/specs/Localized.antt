@@ -36,7 +36,7 @@ pub record NestedAt (words : List ℕ) (n : ℕ) (log logtags : List ℕ) (start
   pub ready : Ready o (modOf words n) room f (stOf words log logtags starts maps special e)
 
 -- ---- whole on the stacks: F's declarations, its body and its names, and its expressions; the tables are those after it. It is too large in each state where each callee can be imported (`ready`)
-pub record Localizes (words : List ℕ) (n o : ℕ) (ready : ℕ → Derived → Type 0) (follow : ℕ → Derived → Derived) (F : Function) (log₀ logtags₀ : List ℕ) (starts₀ maps₀ : List (List ℕ)) (buckets₀ : List ℕ) (stacks₀ : List (List ℕ)) (e : Sizes)
+pub record LocalizeEnsures (words : List ℕ) (n o : ℕ) (ready : ℕ → Derived → Type 0) (follow : ℕ → Derived → Derived) (F : Function) (log₀ logtags₀ : List ℕ) (starts₀ maps₀ : List (List ℕ)) (buckets₀ : List ℕ) (stacks₀ : List (List ℕ)) (e : Sizes)
     (r : Sizes) (log logtags : List ℕ) (starts maps : List (List ℕ)) (buckets : List ℕ) (stacks : List (List ℕ)) : Type 0 where
   pub over : r .full ≡ true → (special : List ℕ) → ReadyFrom o (modOf words n) ready follow F (flatBlock (F .body)) (declaredS o (modOf words n) follow F (stOf words log₀ logtags₀ starts₀ maps₀ special e))
       → Over (sizeR (tableOf log₀ logtags₀ starts₀ (e .counts) 7) + (e .exprtop + e .bodytop + length (cellsS o (modOf words n) follow F (stOf words log₀ logtags₀ starts₀ maps₀ special e)))) (finalS o (modOf words n) follow F (stOf words log₀ logtags₀ starts₀ maps₀ special e) .out)
@@ -59,7 +59,7 @@ pub record Localizes (words : List ℕ) (n o : ℕ) (ready : ℕ → Derived →
   pub marks-stay : Marks buckets₀ buckets
 
 -- ---- imported: the arrays now hold f of the state that they held, or that is too large where the records on the way can be read (`ready`), with what waits on the stacks; these are as they were
-pub record Nests (words : List ℕ) (ready : Derived → Type 0) (f : Derived → Derived) (log₀ logtags₀ : List ℕ) (starts₀ maps₀ : List (List ℕ)) (buckets₀ : List ℕ) (stacks₀ : List (List ℕ)) (e : Sizes)
+pub record ImportFunctionEnsures (words : List ℕ) (ready : Derived → Type 0) (f : Derived → Derived) (log₀ logtags₀ : List ℕ) (starts₀ maps₀ : List (List ℕ)) (buckets₀ : List ℕ) (stacks₀ : List (List ℕ)) (e : Sizes)
     (r : Sizes) (log logtags : List ℕ) (starts maps : List (List ℕ)) (buckets : List ℕ) (stacks : List (List ℕ)) : Type 0 where
   pub over : r .full ≡ true → (special : List ℕ) → ready (stOf words log₀ logtags₀ starts₀ maps₀ special e) → Over (sizeR (tableOf log₀ logtags₀ starts₀ (e .counts) 7) + (e .exprtop + e .bodytop)) (f (stOf words log₀ logtags₀ starts₀ maps₀ special e))
   pub is : r .full ≡ false → (special : List ℕ) → f (stOf words log₀ logtags₀ starts₀ maps₀ special e) ≡ stOf words log logtags starts maps special r

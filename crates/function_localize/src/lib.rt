@@ -46,7 +46,7 @@ ghost use Rattle.derive_state.specs.Held.{ValidArrays};
 ghost use Rattle.function_references.specs.Fits.{Ground};
 ghost use Rattle.function_parts.specs.Part.{Part, Indexed};
 ghost use Rattle.function_builder.specs.Stacks.{Stacks};
-ghost use Rattle.function_localize.specs.Localized.{Nested, NestedF, NestedAt, Localizes, Nests};
+ghost use Rattle.function_localize.specs.Localized.{Nested, NestedF, NestedAt, LocalizeEnsures, ImportFunctionEnsures};
 
 // The sizes with no expressions made yet.
 fn no_expressions(e: Sizes) -> Sizes
@@ -130,7 +130,7 @@ pub fn localize(
     requires { ⌜ Nested (now words) n (now log) (now logtags) (now starts) (now maps) ends offset room (functionOf (between (now tags) (now words) s end)) ⌝ }
     requires { ⌜ (ends .full ≡ false) × (Stacks (now stacks) ends) ⌝ }
     requires { ⌜ ValidArrays (now log) (now logtags) (now starts) (now maps) (now buckets) ends ⌝ }
-    ensures { λ r. ⌜ Localizes (now (words .entry)) n offset (Ready offset (modOf (now (words .entry)) n) room) (followS offset (modOf (now (words .entry)) n) room) (functionOf (between (now (tags .entry)) (now (words .entry)) s end)) (now (log .entry)) (now (logtags .entry)) (now (starts .entry)) (now (maps .entry)) (now (buckets .entry)) (now (stacks .entry)) ends r (now (log .exit)) (now (logtags .exit)) (now (starts .exit)) (now (maps .exit)) (now (buckets .exit)) (now (stacks .exit)) ⌝ }
+    ensures { λ r. ⌜ LocalizeEnsures (now (words .entry)) n offset (Ready offset (modOf (now (words .entry)) n) room) (followS offset (modOf (now (words .entry)) n) room) (functionOf (between (now (tags .entry)) (now (words .entry)) s end)) (now (log .entry)) (now (logtags .entry)) (now (starts .entry)) (now (maps .entry)) (now (buckets .entry)) (now (stacks .entry)) ends r (now (log .exit)) (now (logtags .exit)) (now (starts .exit)) (now (maps .exit)) (now (buckets .exit)) (now (stacks .exit)) ⌝ }
 {
     let e1 = ends.exprtop as usize;
     let mut exprmap = [0u16; 1024];
@@ -297,7 +297,7 @@ pub fn append(
     requires { ⌜ NestedF (now words) n (now log) (now logtags) (now starts) (now maps) ends offset room (function (modOf (now words) n) f) ⌝ }
     requires { ⌜ (ends .full ≡ false) × (Stacks (now stacks) ends) ⌝ }
     requires { ⌜ ValidArrays (now log) (now logtags) (now starts) (now maps) (now buckets) ends ⌝ }
-    ensures { λ r. ⌜ Nests (now (words .entry)) (ReadyF offset (modOf (now (words .entry)) n) (Ready offset (modOf (now (words .entry)) n) room) (followS offset (modOf (now (words .entry)) n) room) (function (modOf (now (words .entry)) n) f)) (appendS offset (modOf (now (words .entry)) n) (followS offset (modOf (now (words .entry)) n) room) f) (now (log .entry)) (now (logtags .entry)) (now (starts .entry)) (now (maps .entry)) (now (buckets .entry)) (now (stacks .entry)) ends r (now (log .exit)) (now (logtags .exit)) (now (starts .exit)) (now (maps .exit)) (now (buckets .exit)) (now (stacks .exit)) ⌝ }
+    ensures { λ r. ⌜ ImportFunctionEnsures (now (words .entry)) (ReadyF offset (modOf (now (words .entry)) n) (Ready offset (modOf (now (words .entry)) n) room) (followS offset (modOf (now (words .entry)) n) room) (function (modOf (now (words .entry)) n) f)) (appendS offset (modOf (now (words .entry)) n) (followS offset (modOf (now (words .entry)) n) room) f) (now (log .entry)) (now (logtags .entry)) (now (starts .entry)) (now (maps .entry)) (now (buckets .entry)) (now (stacks .entry)) ends r (now (log .exit)) (now (logtags .exit)) (now (starts .exit)) (now (maps .exit)) (now (buckets .exit)) (now (stacks .exit)) ⌝ }
 {
     let s = record_at(words, tags, n, FUNCTIONS, f);
     let end = record_end(words, tags, n, FUNCTIONS, f);
@@ -370,7 +370,7 @@ pub fn follow(
     requires { ⌜ ValidArrays (now log) (now logtags) (now starts) (now maps) (now buckets) ends ⌝ }
     requires { ⌜ (length (now tags) ≡ 16384) × (at ≤ end) × (end ≤ 16384) × (length (finds at (slice at end (now tags))) ≤ 1025) ⌝ }
     requires { ⌜ now places ≡ sets (replicate 1025 0) 0 (finds at (slice at end (now tags))) ⌝ }
-    ensures { λ r. ⌜ Nests (now (words .entry)) (Ready offset (modOf (now (words .entry)) n) room f) (followS offset (modOf (now (words .entry)) n) room f) (now (log .entry)) (now (logtags .entry)) (now (starts .entry)) (now (maps .entry)) (now (buckets .entry)) (now (stacks .entry)) ends r (now (log .exit)) (now (logtags .exit)) (now (starts .exit)) (now (maps .exit)) (now (buckets .exit)) (now (stacks .exit)) ⌝ }
+    ensures { λ r. ⌜ ImportFunctionEnsures (now (words .entry)) (Ready offset (modOf (now (words .entry)) n) room f) (followS offset (modOf (now (words .entry)) n) room f) (now (log .entry)) (now (logtags .entry)) (now (starts .entry)) (now (maps .entry)) (now (buckets .entry)) (now (stacks .entry)) ends r (now (log .exit)) (now (logtags .exit)) (now (starts .exit)) (now (maps .exit)) (now (buckets .exit)) (now (stacks .exit)) ⌝ }
     ensures { λ r. ⌜ (r .full ≡ false → now (places .exit) ≡ sets (replicate 1025 0) 0 (finds at (slice at end (now (tags .entry))))) ⌝ }
 {
     if room == 0 {

@@ -22,7 +22,7 @@ use Rattle.derive_state.specs.declared.Sizes.{Sizes}
 use Rattle.derive_state.proofs.State.{same-or, row-other, put-row}
 use Rattle.function_builder.specs.Stacks.{Stacks}
 use Rattle.function_builder.specs.Makes.{Pushed}
-use Rattle.function_names.specs.Named.{pairWords, namedRecords, Keeps}
+use Rattle.function_names.specs.Named.{pairWords, namedRecords, KeepNamesEnsures}
 
 -- ---- where an expression's pair is
 unfoldable pub up : ℕ → ℕ
@@ -275,7 +275,7 @@ module _ (words exprmap : List ℕ) (k at : ℕ) (stacks₀ : List (List ℕ)) (
           seat-none : seatOf (inv .ps) (v - 1) ≡ 0
           seat-none = seat ∙ new
 
-          pub keep-full : 16382 < e .bodytop → (r : Sizes) → r .full ≡ true → Keeps whole stacks₀ e₀ r stacks
+          pub keep-full : 16382 < e .bodytop → (r : Sizes) → r .full ≡ true → KeepNamesEnsures whole stacks₀ e₀ r stacks
           keep-full over r q = record {
             over = λ z. let t = top in let a = keep-more (namedRecords words (at + 1 + 2 * (i + 1)) (getD words at 0 - (i + 1))) (take k exprmap) (inv .ps ++ ((v - 1, w) ∷ [])) in let b = length-append (inv .ps) ((v - 1, w) ∷ []) in let d = rw (named (inv .ps ++ ((v - 1, w) ∷ [])) (sym (put-new (inv .ps) (v - 1) w seat-none))) at a in omega arith;
             is = λ z. absurd (false≢true (sym z ∙ q));
@@ -341,7 +341,7 @@ module _ (words exprmap : List ℕ) (k at : ℕ) (stacks₀ : List (List ℕ)) (
                       (λ (ne : x ≡ v - 1 → ⊥). getD-set-other seats (v - 1) x s 0 ne ∙ inv .agree x h ∙ sym (seat-other (inv .ps) (v - 1) w x (λ q. ne (sym q))))
                       (same-or x (v - 1))
 
-    pub keep-done : getD words at 0 ≤ i → Keeps whole stacks₀ e₀ e stacks
+    pub keep-done : getD words at 0 ≤ i → KeepNamesEnsures whole stacks₀ e₀ e stacks
     unfolding namedRecords keepNames
     keep-done h = record {
       over = λ q. absurd (false≢true (sym (ap (λ (x : Sizes). x .full) (inv .ends)) ∙ q));

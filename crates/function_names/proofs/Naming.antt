@@ -19,14 +19,14 @@ use Rattle.theory_passes.specs.Pass.{arrive, named, rows}
 use Rattle.theory_passes.specs.Light.{still}
 use Rattle.theory_image.specs.Betweens.{slice-none}
 use Rattle.derive_state.specs.Source.{modOf, srcOf, Source}
-use Rattle.derive_state.specs.Held.{row, cell, put, tableOf, stOf, sizeR, ValidArrays, Same, Beside, Lands}
+use Rattle.derive_state.specs.Held.{row, cell, put, tableOf, stOf, sizeR, ValidArrays, Same, Beside, ImportEnsures}
 use Rattle.derive_state.specs.Marks.{Marks}
 use Rattle.derive_state.specs.declared.Sizes.{Sizes}
 use Rattle.derive_state.proofs.State.{same-refl, same-then, marks-refl, marks-then, table-stays, row-other, put-row}
 use Rattle.derive_names.proofs.Growth.{Grow, stay, then, over-grow, grow-T}
 use Rattle.derive_names.proofs.Turns.{beside-refl, beside-then, map-is}
 use Rattle.function_builder.specs.Stacks.{Stacks}
-use Rattle.function_names.specs.Named.{pairsIn, pairsOf, bare, idle, namesOut, namesRows, Renames}
+use Rattle.function_names.specs.Named.{pairsIn, pairsOf, bare, idle, namesOut, namesRows, ImportNamesEnsures}
 
 -- ---- one name: 0 for none
 module _ (o : ℕ) (M : Module) where
@@ -223,8 +223,8 @@ module _ (words : List ℕ) (n o b : ℕ) (log₀ logtags₀ : List ℕ) (starts
         unfolding srcOf nameIn
         brought special = rw is-suc refl
 
-        module _ (r : Sizes) (log′ logtags′ : List ℕ) (starts′ maps′ : List (List ℕ)) (buckets′ : List ℕ) (L : Lands words (importT o (srcOf words n) names v) log logtags starts maps buckets e r log′ logtags′ starts′ maps′ buckets′) where
-          pub name-full : r .full ≡ true → Renames words n o b log₀ logtags₀ starts₀ maps₀ buckets₀ stacks₀ e₀ r log′ logtags′ starts′ maps′ buckets′ stacks
+        module _ (r : Sizes) (log′ logtags′ : List ℕ) (starts′ maps′ : List (List ℕ)) (buckets′ : List ℕ) (L : ImportEnsures words (importT o (srcOf words n) names v) log logtags starts maps buckets e r log′ logtags′ starts′ maps′ buckets′) where
+          pub name-full : r .full ≡ true → ImportNamesEnsures words n o b log₀ logtags₀ starts₀ maps₀ buckets₀ stacks₀ e₀ r log′ logtags′ starts′ maps′ buckets′ stacks
           name-full q = record {
             lands = record {
               over = λ z special. rw (← entries-stay, ← same-next (put stacks 3 (suc i) 0) 0 refl special (importT o (srcOf words n) names v (S special)) (brought special)) (over-grow _ (grow-names o M (pairsIn (slice (suc (suc i)) (e₀ .bodytop) (row (put stacks 3 (suc i) 0) 3))) (importT o (srcOf words n) names v (S special))) (L .over q special));
@@ -262,7 +262,7 @@ module _ (words : List ℕ) (n o b : ℕ) (log₀ logtags₀ : List ℕ) (starts
             done = λ special. done-next stacks′ (cell maps′ 0 v) put-is special (stOf words log′ logtags′ starts′ maps′ special r) (sym (L .is q special) ∙ brought special) (rw is-suc (sym (map-is words log′ logtags′ starts′ maps′ special r names v name-number)));
           })
 
-    pub name-done : e₀ .bodytop ≤ i → Renames words n o b log₀ logtags₀ starts₀ maps₀ buckets₀ stacks₀ e₀ e log logtags starts maps buckets stacks
+    pub name-done : e₀ .bodytop ≤ i → ImportNamesEnsures words n o b log₀ logtags₀ starts₀ maps₀ buckets₀ stacks₀ e₀ e log logtags starts maps buckets stacks
     unfolding namesOut named namesRows rows pairsIn
     name-done h = record {
       lands = record {

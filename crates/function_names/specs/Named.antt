@@ -13,7 +13,7 @@ use Rattle.model.specs.Bodies.{Builder}
 use Rattle.theory_passes.specs.Pass.{named, rows}
 use Rattle.theory_passes.specs.Light.{still}
 use Rattle.derive_state.specs.Source.{modOf}
-use Rattle.derive_state.specs.Held.{row, stOf, Lands}
+use Rattle.derive_state.specs.Held.{row, stOf, ImportEnsures}
 use Rattle.derive_state.specs.declared.Sizes.{Sizes}
 use Rattle.function_builder.specs.Stacks.{Stacks}
 
@@ -33,7 +33,7 @@ namedRecords words at zero = []
 namedRecords words at (suc n) = ((NAMED-EXPR, getD words at 0) ∷ (NAME, getD words (suc at) 0) ∷ []) ∷ namedRecords words (suc (suc at)) n
 
 -- pairs pushed after what is there
-pub record Keeps (ps : List (ℕ × ℕ)) (stacks₀ : List (List ℕ)) (e r : Sizes) (stacks : List (List ℕ)) : Type 0 where
+pub record KeepNamesEnsures (ps : List (ℕ × ℕ)) (stacks₀ : List (List ℕ)) (e r : Sizes) (stacks : List (List ℕ)) : Type 0 where
   pub over : r .full ≡ true → 16384 < e .bodytop + 2 * length ps
   pub is : r .full ≡ false → slice (e .bodytop) (r .bodytop) (row stacks 3) ≡ pairWords ps
   pub ends : r .full ≡ false → r ≡ record { full = false; loglen = e .loglen; counts = e .counts; pairs = e .pairs; exprtop = e .exprtop; bodytop = e .bodytop + 2 * length ps; made = e .made }
@@ -58,9 +58,9 @@ namesRows o M ps s = rows o M still idle idle ps (bare s)
 unfoldable pub pairsOf : List (List ℕ) → ℕ → Sizes → List (ℕ × ℕ)
 pairsOf stacks b e = pairsIn (slice b (e .bodytop) (row stacks 3))
 
-pub record Renames (words : List ℕ) (n o b : ℕ) (log₀ logtags₀ : List ℕ) (starts₀ maps₀ : List (List ℕ)) (buckets₀ : List ℕ) (stacks₀ : List (List ℕ)) (e : Sizes)
+pub record ImportNamesEnsures (words : List ℕ) (n o b : ℕ) (log₀ logtags₀ : List ℕ) (starts₀ maps₀ : List (List ℕ)) (buckets₀ : List ℕ) (stacks₀ : List (List ℕ)) (e : Sizes)
     (r : Sizes) (log logtags : List ℕ) (starts maps : List (List ℕ)) (buckets : List ℕ) (stacks : List (List ℕ)) : Type 0 where
-  pub lands : Lands words (namesOut o (modOf words n) (pairsOf stacks₀ b e)) log₀ logtags₀ starts₀ maps₀ buckets₀ e r log logtags starts maps buckets
+  pub lands : ImportEnsures words (namesOut o (modOf words n) (pairsOf stacks₀ b e)) log₀ logtags₀ starts₀ maps₀ buckets₀ e r log logtags starts maps buckets
   pub rows-are : r .full ≡ false → (special : List ℕ) → slice b (e .bodytop) (row stacks 3) ≡ map word (namesRows o (modOf words n) (pairsOf stacks₀ b e) (stOf words log₀ logtags₀ starts₀ maps₀ special e))
   pub below : r .full ≡ false → take b (row stacks 3) ≡ take b (row stacks₀ 3)
   pub expressions : (t : ℕ) → t < 3 → row stacks t ≡ row stacks₀ t

@@ -26,7 +26,7 @@ ghost use Rattle.model.specs.Bodies.{keepNames};
 ghost use Rattle.derive_state.specs.Held.{row, ValidArrays};
 ghost use Rattle.function_references.specs.Fits.{Ground};
 ghost use Rattle.function_builder.specs.Stacks.{Stacks};
-ghost use Rattle.function_names.specs.Named.{namedRecords, Keeps, Renames};
+ghost use Rattle.function_names.specs.Named.{namedRecords, KeepNamesEnsures, ImportNamesEnsures};
 
 // The named expressions that stay, of those whose count is word `at`, each with its name's word in the source: the last name counts, in the first's place.
 // `seats` is scratch memory that the caller provides: nothing is required of it before or promised after.
@@ -44,7 +44,7 @@ pub fn keep_names(
     requires { ⌜ ((i : ℕ) → i < getD (now words) at 0 → getD (now words) (at + 1 + 2 * i) 0 < k) ⌝ }
     requires { ⌜ ((x : ℕ) → getD (now exprmap) x 0 ≤ 1024) ⌝ }
     requires { ⌜ Stacks (now stacks) ends ⌝ }
-    ensures { λ r. ⌜ Keeps (keepNames (namedRecords (now (words .entry)) (at + 1) (getD (now (words .entry)) at 0)) (take k (now (exprmap .entry))) []) (now (stacks .entry)) ends r (now (stacks .exit)) ⌝ }
+    ensures { λ r. ⌜ KeepNamesEnsures (keepNames (namedRecords (now (words .entry)) (at + 1) (getD (now (words .entry)) at 0)) (take k (now (exprmap .entry))) []) (now (stacks .entry)) ends r (now (stacks .exit)) ⌝ }
 {
     *seats = [0; 1025];
     let b = ends.bodytop as usize;
@@ -93,7 +93,7 @@ pub fn import_names(
     requires { ⌜ ((i : ℕ) → b + 2 * i < ends .bodytop → (suc (b + 2 * i) < ends .bodytop) × (getD (row (now stacks) 3) (suc (b + 2 * i)) 0 ≤ countAt 0 (now words))) ⌝ }
     requires { ⌜ Stacks (now stacks) ends ⌝ }
     requires { ⌜ ValidArrays (now log) (now logtags) (now starts) (now maps) (now buckets) ends ⌝ }
-    ensures { λ r. ⌜ Renames (now (words .entry)) n offset b (now (log .entry)) (now (logtags .entry)) (now (starts .entry)) (now (maps .entry)) (now (buckets .entry)) (now (stacks .entry)) ends r (now (log .exit)) (now (logtags .exit)) (now (starts .exit)) (now (maps .exit)) (now (buckets .exit)) (now (stacks .exit)) ⌝ }
+    ensures { λ r. ⌜ ImportNamesEnsures (now (words .entry)) n offset b (now (log .entry)) (now (logtags .entry)) (now (starts .entry)) (now (maps .entry)) (now (buckets .entry)) (now (stacks .entry)) ends r (now (log .exit)) (now (logtags .exit)) (now (starts .exit)) (now (maps .exit)) (now (buckets .exit)) (now (stacks .exit)) ⌝ }
 {
     let mut e = ends;
     let mut i = b;

@@ -32,7 +32,7 @@ use Rattle.theory_passes.specs.Passage.{arrive-each}
 use Rattle.theory_passes.specs.Light.{still}
 use Rattle.function_nesting.specs.Nested.{ReadyFrom}
 
--- ---- references of one cell, and of those behind it
+-- ---- references of one cell, and of those after it
 
 -- ---- the functions that the cells of a body name are its callees
 module _ (Q : ℕ → Type 0) where

@@ -20,7 +20,7 @@ use Rattle.theory_passes.specs.Operands.{outward1, outward}
 use Rattle.theory_passes.specs.Light.{still}
 use Rattle.theory_image.specs.Betweens.{between-none, between-next}
 use Rattle.derive_state.specs.Source.{modOf, srcOf, refersTo, numberOf}
-use Rattle.derive_state.specs.Held.{tableOf, stOf, sizeR, ValidArrays, Same, Beside, Lands}
+use Rattle.derive_state.specs.Held.{tableOf, stOf, sizeR, ValidArrays, Same, Beside, ImportEnsures}
 use Rattle.derive_state.specs.Marks.{Marks}
 use Rattle.derive_state.specs.declared.Sizes.{Sizes}
 use Rattle.derive_state.proofs.Passes.{all-here, all-next}
@@ -136,8 +136,8 @@ module _ (words tags : List ℕ) (n o at end : ℕ) (log₀ logtags₀ : List �
         unfolding srcOf
         brought special = rw (ht, hh, ← hs) (sym (outward-still o M s (getD words i 0) (S special) low))
 
-        module _ (r : Sizes) (log′ logtags′ : List ℕ) (starts′ maps′ : List (List ℕ)) (buckets′ : List ℕ) (L : Lands words (recordOf o (srcOf words n) t h) log logtags starts maps buckets e r log′ logtags′ starts′ maps′ buckets′) where
-          pub pass-full : r .full ≡ true → Lands words (outward o M still (between tags words at end)) log₀ logtags₀ starts₀ maps₀ buckets₀ e₀ r log′ logtags′ starts′ maps′ buckets′
+        module _ (r : Sizes) (log′ logtags′ : List ℕ) (starts′ maps′ : List (List ℕ)) (buckets′ : List ℕ) (L : ImportEnsures words (recordOf o (srcOf words n) t h) log logtags starts maps buckets e r log′ logtags′ starts′ maps′ buckets′) where
+          pub pass-full : r .full ≡ true → ImportEnsures words (outward o M still (between tags words at end)) log₀ logtags₀ starts₀ maps₀ buckets₀ e₀ r log′ logtags′ starts′ maps′ buckets′
           pass-full q = record {
             over = λ z special. rw (← entries-stay, ← cut special (recordOf o (srcOf words n) t h (S special)) (brought special)) (over-grow _ (grow-outward o M (between tags words (suc i) end) (recordOf o (srcOf words n) t h (S special))) (L .over q special));
             is = λ z. absurd (false≢true (sym z ∙ q));
@@ -162,7 +162,7 @@ module _ (words tags : List ℕ) (n o at end : ℕ) (log₀ logtags₀ : List �
             same = λ special. cut special (stOf words log′ logtags′ starts′ maps′ special r) (sym (L .is q special) ∙ brought special);
           })
 
-    pub pass-done : end ≤ i → Lands words (outward o M still (between tags words at end)) log₀ logtags₀ starts₀ maps₀ buckets₀ e₀ e log logtags starts maps buckets
+    pub pass-done : end ≤ i → ImportEnsures words (outward o M still (between tags words at end)) log₀ logtags₀ starts₀ maps₀ buckets₀ e₀ e log logtags starts maps buckets
     unfolding outward
     pass-done h = record {
       over = λ q. absurd (false≢true (sym (inv .going) ∙ q));

@@ -36,7 +36,7 @@ ghost use Rattle.model.specs.Between.{between};
 ghost use Rattle.theory_passes.specs.Operands.{outward};
 ghost use Rattle.theory_passes.specs.Light.{still};
 ghost use Rattle.derive_state.specs.Source.{modOf, srcOf};
-ghost use Rattle.derive_state.specs.Held.{cell, ValidArrays, Lands};
+ghost use Rattle.derive_state.specs.Held.{cell, ValidArrays, ImportEnsures};
 ghost use Rattle.function_references.specs.Fits.{Ground, Legible, recordOf};
 
 // Imports record h of table t, by the import that the table has; nothing where t is no table.
@@ -59,7 +59,7 @@ pub fn import_by_table(
     requires { ⌜ (t < 6 → h < countAt t (now words)) ⌝ }
     requires { ⌜ ends .full ≡ false ⌝ }
     requires { ⌜ ValidArrays (now log) (now logtags) (now starts) (now maps) (now buckets) ends ⌝ }
-    ensures { λ r. ⌜ Lands (now (words .entry)) (recordOf offset (srcOf (now (words .entry)) n) t h) (now (log .entry)) (now (logtags .entry)) (now (starts .entry)) (now (maps .entry)) (now (buckets .entry)) ends r (now (log .exit)) (now (logtags .exit)) (now (starts .exit)) (now (maps .exit)) (now (buckets .exit)) ⌝ }
+    ensures { λ r. ⌜ ImportEnsures (now (words .entry)) (recordOf offset (srcOf (now (words .entry)) n) t h) (now (log .entry)) (now (logtags .entry)) (now (starts .entry)) (now (maps .entry)) (now (buckets .entry)) ends r (now (log .exit)) (now (logtags .exit)) (now (starts .exit)) (now (maps .exit)) (now (buckets .exit)) ⌝ }
 {
     if t == NAMES {
         return import_name(
@@ -192,7 +192,7 @@ pub fn import_record(
     requires { ⌜ (t < 6 → h < countAt t (now words)) ⌝ }
     requires { ⌜ ends .full ≡ false ⌝ }
     requires { ⌜ ValidArrays (now log) (now logtags) (now starts) (now maps) (now buckets) ends ⌝ }
-    ensures { λ r. ⌜ Lands (now (words .entry)) (recordOf offset (srcOf (now (words .entry)) n) t h) (now (log .entry)) (now (logtags .entry)) (now (starts .entry)) (now (maps .entry)) (now (buckets .entry)) ends r (now (log .exit)) (now (logtags .exit)) (now (starts .exit)) (now (maps .exit)) (now (buckets .exit)) ⌝ }
+    ensures { λ r. ⌜ ImportEnsures (now (words .entry)) (recordOf offset (srcOf (now (words .entry)) n) t h) (now (log .entry)) (now (logtags .entry)) (now (starts .entry)) (now (maps .entry)) (now (buckets .entry)) ends r (now (log .exit)) (now (logtags .exit)) (now (starts .exit)) (now (maps .exit)) (now (buckets .exit)) ⌝ }
 {
     if !missing(maps, t, h) {
         return ends;
@@ -234,7 +234,7 @@ pub fn import_outside(
     requires { ⌜ Legible (now words) (now tags) 1024 at end ⌝ }
     requires { ⌜ ends .full ≡ false ⌝ }
     requires { ⌜ ValidArrays (now log) (now logtags) (now starts) (now maps) (now buckets) ends ⌝ }
-    ensures { λ r. ⌜ Lands (now (words .entry)) (outward offset (modOf (now (words .entry)) n) still (between (now (tags .entry)) (now (words .entry)) at end)) (now (log .entry)) (now (logtags .entry)) (now (starts .entry)) (now (maps .entry)) (now (buckets .entry)) ends r (now (log .exit)) (now (logtags .exit)) (now (starts .exit)) (now (maps .exit)) (now (buckets .exit)) ⌝ }
+    ensures { λ r. ⌜ ImportEnsures (now (words .entry)) (outward offset (modOf (now (words .entry)) n) still (between (now (tags .entry)) (now (words .entry)) at end)) (now (log .entry)) (now (logtags .entry)) (now (starts .entry)) (now (maps .entry)) (now (buckets .entry)) ends r (now (log .exit)) (now (logtags .exit)) (now (starts .exit)) (now (maps .exit)) (now (buckets .exit)) ⌝ }
 {
     let mut e = ends;
     let mut i = at;

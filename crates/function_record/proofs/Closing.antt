@@ -16,7 +16,7 @@ use Rattle.derive_state.specs.declared.Sizes.{Sizes}
 use Rattle.derive_state.proofs.State.{same-or, same-refl, wrote-same, wrote-log, wrote-tags, wrote-head, wrote-rec}
 use Rattle.function_builder.specs.Stacks.{Stacks}
 use Rattle.function_names.specs.Named.{pairsIn}
-use Rattle.function_record.specs.Closed.{nameCells, namedClasses, closing, Closes}
+use Rattle.function_record.specs.Closed.{nameCells, namedClasses, closing, AppendRecordEnsures}
 
 -- ---- contiguous writes
 sets-then : (xs l : List ℕ) (i : ℕ) (ys : List ℕ) → sets (sets l i xs) (i + length xs) ys ≡ sets l i (xs ++ ys)
@@ -308,7 +308,7 @@ module _ (tags : List ℕ) (stacks : List (List ℕ)) (before e : Sizes) (s expr
       end-is : e .loglen + 1 + sizeOf before e s exprs body end head ≡ e .loglen + suc (length (whole tags stacks before e s exprs body end head))
       end-is = rw size-is (omega arith)
 
-      pub closes : Closes (whole tags stacks before e s exprs body end head) limit t before e log₀ logtags₀ starts₀ (record { full = false; loglen = e .loglen + 1 + sizeOf before e s exprs body end head; counts = set (e .counts) t (getD (e .counts) t 0 + 1); pairs = e .pairs; exprtop = before .exprtop; bodytop = before .bodytop; made = before .made }) l₈ k₈ (put starts₀ t (getD (e .counts) t 0) (e .loglen))
+      pub closes : AppendRecordEnsures (whole tags stacks before e s exprs body end head) limit t before e log₀ logtags₀ starts₀ (record { full = false; loglen = e .loglen + 1 + sizeOf before e s exprs body end head; counts = set (e .counts) t (getD (e .counts) t 0 + 1); pairs = e .pairs; exprtop = before .exprtop; bodytop = before .bodytop; made = before .made }) l₈ k₈ (put starts₀ t (getD (e .counts) t 0) (e .loglen))
       closes = record {
         over = λ q. absurd (false≢true q);
         is = λ q. wrote-rec log₀ logtags₀ l₈ k₈ (e .loglen) (whole tags stacks before e s exprs body end head) hl hk inside (sizeOf before e s exprs body end head) (sym size-is) written;
@@ -323,7 +323,7 @@ module _ (tags : List ℕ) (stacks : List (List ℕ)) (before e : Sizes) (s expr
 
   -- no room
   module _ (log₀ logtags₀ : List ℕ) (starts₀ : List (List ℕ)) (limit t : ℕ) (R : Sizes) (full : R .full ≡ true) (hl : length log₀ ≡ 16384) (hk : length logtags₀ ≡ 16384) where
-    refused : (getD (e .counts) t 0 ≡ limit) ⊎ (16384 < 23 + 2 * e .pairs + (e .loglen + suc (length (whole tags stacks before e s exprs body end head)))) → Closes (whole tags stacks before e s exprs body end head) limit t before e log₀ logtags₀ starts₀ R log₀ logtags₀ starts₀
+    refused : (getD (e .counts) t 0 ≡ limit) ⊎ (16384 < 23 + 2 * e .pairs + (e .loglen + suc (length (whole tags stacks before e s exprs body end head)))) → AppendRecordEnsures (whole tags stacks before e s exprs body end head) limit t before e log₀ logtags₀ starts₀ R log₀ logtags₀ starts₀
     refused o = record {
       over = λ q. o;
       is = λ q. absurd (false≢true (sym q ∙ full));
@@ -336,8 +336,8 @@ module _ (tags : List ℕ) (stacks : List (List ℕ)) (before e : Sizes) (s expr
       ends = λ q. absurd (false≢true (sym q ∙ full));
     }
 
-    pub many : getD (e .counts) t 0 ≡ limit → Closes (whole tags stacks before e s exprs body end head) limit t before e log₀ logtags₀ starts₀ R log₀ logtags₀ starts₀
+    pub many : getD (e .counts) t 0 ≡ limit → AppendRecordEnsures (whole tags stacks before e s exprs body end head) limit t before e log₀ logtags₀ starts₀ R log₀ logtags₀ starts₀
     many h = refused (inl h)
 
-    pub long : (r : ℕ) → r + (23 + 2 * e .pairs + e .loglen) ≡ 16384 → r < 1 + sizeOf before e s exprs body end head → Closes (whole tags stacks before e s exprs body end head) limit t before e log₀ logtags₀ starts₀ R log₀ logtags₀ starts₀
+    pub long : (r : ℕ) → r + (23 + 2 * e .pairs + e .loglen) ≡ 16384 → r < 1 + sizeOf before e s exprs body end head → AppendRecordEnsures (whole tags stacks before e s exprs body end head) limit t before e log₀ logtags₀ starts₀ R log₀ logtags₀ starts₀
     long r left h = refused (inr (rw size-is (omega arith)))

@@ -33,7 +33,7 @@ closing logtags stacks before e s exprs body end =
     ++ ((NAMED, length (pairsIn (slice t (e .bodytop) (row stacks 3)))) ∷ nameCells (slice t (e .bodytop) (row stacks 3)))
     ++ beside (slice body end logtags) (slice f t (row stacks 3))
 
-pub record Closes (c : Cells) (limit t : ℕ) (before e : Sizes) (log₀ logtags₀ : List ℕ) (starts₀ : List (List ℕ)) (r : Sizes) (log logtags : List ℕ) (starts : List (List ℕ)) : Type 0 where
+pub record AppendRecordEnsures (c : Cells) (limit t : ℕ) (before e : Sizes) (log₀ logtags₀ : List ℕ) (starts₀ : List (List ℕ)) (r : Sizes) (log logtags : List ℕ) (starts : List (List ℕ)) : Type 0 where
   pub over : r .full ≡ true → (getD (e .counts) t 0 ≡ limit) ⊎ (16384 < 23 + 2 * e .pairs + (e .loglen + suc (length c)))
   pub is : r .full ≡ false → recAt log logtags (e .loglen) ≡ c
   pub size : r .full ≡ false → getD log (e .loglen) 0 ≡ length c

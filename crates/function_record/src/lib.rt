@@ -24,7 +24,7 @@ ghost use Rattle.model.specs.Between.{between};
 ghost use Rattle.derive_state.specs.Held.{row};
 ghost use Rattle.function_builder.specs.Stacks.{Stacks};
 ghost use Rattle.function_names.specs.Named.{pairsIn};
-ghost use Rattle.function_record.specs.Closed.{namedClasses, closing, Closes};
+ghost use Rattle.function_record.specs.Closed.{namedClasses, closing, AppendRecordEnsures};
 
 // Copies `count` words of the row t of the stacks, from a on, to the log from p on.
 fn copy_words(stacks: &StackRows, t: usize, a: usize, count: usize, log: &mut Log, p: usize)
@@ -158,7 +158,7 @@ pub fn append_record(
     requires { ⌜ (length (pairsIn (slice (before .bodytop + ((exprs - s) + (end - body))) (ends .bodytop) (row (now stacks) 3))) * 2 + (before .bodytop + ((exprs - s) + (end - body))) ≡ ends .bodytop) ⌝ }
     requires { ⌜ ((i : ℕ) → before .exprtop ≤ i → i < ends .exprtop + head → getD (row (now stacks) 1) i 0 < 256) ⌝ }
     requires { ⌜ (23 + 2 * ends .pairs + ends .loglen ≤ 16384) × (length (now log) ≡ 16384) × (length (now logtags) ≡ 16384) × (length (now starts) ≡ 8) × (length (row (now starts) t) ≡ 512) × (length (ends .counts) ≡ 8) ⌝ }
-    ensures { λ r. ⌜ Closes (between (row (now (stacks .entry)) 1) (row (now (stacks .entry)) 0) (ends .exprtop) (ends .exprtop + head) ++ closing (now (tags .entry)) (now (stacks .entry)) before ends s exprs body end) limit t before ends (now (log .entry)) (now (logtags .entry)) (now (starts .entry)) r (now (log .exit)) (now (logtags .exit)) (now (starts .exit)) ⌝ }
+    ensures { λ r. ⌜ AppendRecordEnsures (between (row (now (stacks .entry)) 1) (row (now (stacks .entry)) 0) (ends .exprtop) (ends .exprtop + head) ++ closing (now (tags .entry)) (now (stacks .entry)) before ends s exprs body end) limit t before ends (now (log .entry)) (now (logtags .entry)) (now (starts .entry)) r (now (log .exit)) (now (logtags .exit)) (now (starts .exit)) ⌝ }
 {
     let front = exprs - s;
     let tail = end - body;

@@ -13,7 +13,7 @@ use Rattle.model.specs.References.{firstWord}
 use Rattle.theory_passes.specs.Pass.{atomicKind}
 use Rattle.theory_image.specs.Betweens.{between-none, between-next}
 
--- ---- the word behind
+-- ---- the word after
 pub first-some : (tags words : List ℕ) (i end : ℕ) → i + 1 < end → end ≤ length tags → end ≤ length words → getD words (i + 1) 0 ≡ firstWord (between tags words (suc i) end)
 unfolding firstWord
 first-some tags words i end h t w = rw (add-one i, between-next tags words (suc i) end (omega arith) t w)

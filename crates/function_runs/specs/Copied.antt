@@ -25,7 +25,7 @@ pub record Quiet (maps : List (List ℕ)) (exprmap : List ℕ) (s w : ℕ) : Typ
 unfoldable pub becomes : (Place → ℕ → ℕ) → ℕ → ℕ → ℕ → ℕ → Bool → ℕ
 becomes W made o s w u = elim (eqb s TO) [ true ↦ made | false ↦ moved (target s) (through W s w) o u ]
 
--- whether the span last met is undefined behind word i, and behind d words from i on
+-- whether the span last met is undefined after word i, and after d words from i on
 abbrev pub flagOf : List ℕ → List ℕ → ℕ → ℕ → Bool → Bool
 flagOf words tags end i u = undefinedAt (target (getD tags i 0)) (getD words i 0) (firstWord (between tags words (suc i) end)) u
 
@@ -33,13 +33,13 @@ unfoldable pub flagged : List ℕ → List ℕ → ℕ → ℕ → ℕ → Bool 
 flagged words tags end zero i u = u
 flagged words tags end (suc d) i u = flagged words tags end d (suc i) (flagOf words tags end i u)
 
--- the stacks once d words from i on are written, at p and behind it
+-- the stacks once d words from i on are written, from p on
 module _ (words tags : List ℕ) (W : Place → ℕ → ℕ) (made o end : ℕ) where
   unfoldable pub ran : ℕ → ℕ → ℕ → Bool → List (List ℕ) → List (List ℕ)
   ran zero i p u stacks = stacks
   ran (suc d) i p u stacks = ran d (suc i) (suc p) (flagOf words tags end i u) (put stacks 3 p (becomes W made o (getD tags i 0) (getD words i 0) (flagOf words tags end i u)))
 
--- so many words from `at` on were written, and none of them brings anything
+-- `count` words from `at` on were written, and none of them needs an import
 pub record Ran (words tags : List ℕ) (maps : List (List ℕ)) (exprmap : List ℕ) (W : Place → ℕ → ℕ) (made o at end bodytop : ℕ) (u : Bool) (stacks₀ : List (List ℕ)) (r : ℕ) (v : Bool) (stacks : List (List ℕ)) : Type 0 where
   pub count : ℕ
   pub reach : r ≡ at + count

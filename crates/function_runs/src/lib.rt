@@ -60,7 +60,7 @@ pub fn atomic(k: u32) -> bool
     k == base_kinds::IMAGE_ATOMIC
 }
 
-// Whether the word w of the class s brings nothing: it names no function, starts no Emit and no atomic statement, and what it refers to is mapped.
+// Whether the word w of the class s needs no import: it names no function, starts no Emit and no atomic statement, and what it refers to is mapped.
 fn is_mapped_word(targets: &Targets, maps: &Maps, exprmap: &ExprMap, s: u8, w: u32) -> bool
     requires { ⌜ now targets ≡ targetBytes ⌝ }
     requires { ⌜ (s < EXPR′ → refersTo (target s) w < 6 → numberOf (target s) w < 512) × (EXPR′ ≤ s → refersTo (target s) w ≡ 5 → numberOf (target s) w < 1024) ⌝ }
@@ -123,8 +123,7 @@ pub struct Reach {
     pub undefined: bool,
 }
 
-// The words from `at` on, written from place `bt` of the stack on, one behind the other, as long as they bring nothing and there is room. Most words bring
-// nothing, and the ends of the tables need not go along with each of them.
+// Copies the words from `at` on to the stack of words, from `bodytop` on, as long as they need no import and there is room.
 pub fn copy_mapped_run(
     words: &Words,
     tags: &Tags,

@@ -19,7 +19,7 @@ use Rattle.theory_passes.specs.Cases.{early-other}
 use Rattle.theory_passes.specs.Light.{still}
 use Rattle.derive_state.specs.Refers.{targetOf, tabOf}
 use Rattle.derive_state.specs.Source.{modOf, srcOf, Source, refersTo, numberOf}
-use Rattle.derive_state.specs.Held.{put, stOf, ValidArrays, Lands}
+use Rattle.derive_state.specs.Held.{put, stOf, ValidArrays, ImportEnsures}
 use Rattle.derive_state.specs.declared.Sizes.{Sizes}
 use Rattle.derive_names.proofs.Turns.{turn-known}
 use Rattle.function_references.specs.Fits.{FitN, Legible, recordOf}
@@ -133,7 +133,7 @@ module _ {words tags : List ℕ} {n : ℕ} (src : Source words tags n) {k : ℕ}
   pub quiet-arrives : Makes words k (arrive o (modOf words n) still p q (target s) w) log logtags starts maps buckets exprmap stacks e₁ e e log logtags starts maps buckets exprmap stacks
   quiet-arrives = by (ltb s EXPR) refl
     where
-      row : s < EXPR → (b : Bool) → ltb t 6 ≡ b → Lands words (recordOf o (srcOf words n) t h) log logtags starts maps buckets e e log logtags starts maps buckets
+      row : s < EXPR → (b : Bool) → ltb t 6 ≡ b → ImportEnsures words (recordOf o (srcOf words n) t h) log logtags starts maps buckets e e log logtags starts maps buckets
       row l true z = lands-record o (srcOf words n) t h {words = words} (tabOf t) (ltb-true t 6 z) refl (turn-known words tags n src o t h (ltb-true t 6 z) (fit-table words k s w l (ltb-true t 6 z) fits .0) log logtags starts maps buckets e nf K (Q .outside l (ltb-true t 6 z)))
       row l false z = lands-none o (srcOf words n) t h words log logtags starts maps buckets e nf K (ltb-false t 6 z)
 

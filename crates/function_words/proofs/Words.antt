@@ -22,7 +22,7 @@ use Rattle.theory_passes.specs.Cases.{early-atomic}
 use Rattle.theory_passes.specs.Light.{still}
 use Rattle.theory_image.specs.Betweens.{between-none, between-next}
 use Rattle.derive_state.specs.Source.{modOf, srcOf, refersTo, numberOf}
-use Rattle.derive_state.specs.Held.{ValidArrays, Lands}
+use Rattle.derive_state.specs.Held.{ValidArrays, ImportEnsures}
 use Rattle.derive_state.specs.declared.Sizes.{Sizes}
 use Rattle.function_references.specs.Fits.{Fits, FitN, recordOf}
 use Rattle.function_outside.proofs.Cells.{arrive-still, arrive-own, arrive-none, fit-own, fit-table}
@@ -173,7 +173,7 @@ module _ (words : List ℕ) (n k o : ℕ) (p q : ℕ → Builder → Builder) (s
   expression-low fits l z e is = rw (is, hh) (fit-own words k s w l (sym ht ∙ z) fits)
 
   module _ {log₀ logtags₀ : List ℕ} {starts₀ maps₀ : List (List ℕ)} {buckets₀ : List ℕ} {e₀ : Sizes} (K₀ : ValidArrays log₀ logtags₀ starts₀ maps₀ buckets₀ e₀) {exprmap₀ : List ℕ} {stacks₀ : List (List ℕ)} {e₁ : ℕ} (U₀ : Under k exprmap₀ stacks₀ e₁ e₀) where
-    pub brings-record : s < EXPR → {r : Sizes} {log logtags : List ℕ} {starts maps : List (List ℕ)} {buckets : List ℕ} → Lands words (recordOf o (srcOf words n) t h) log₀ logtags₀ starts₀ maps₀ buckets₀ e₀ r log logtags starts maps buckets
+    pub brings-record : s < EXPR → {r : Sizes} {log logtags : List ℕ} {starts maps : List (List ℕ)} {buckets : List ℕ} → ImportEnsures words (recordOf o (srcOf words n) t h) log₀ logtags₀ starts₀ maps₀ buckets₀ e₀ r log logtags starts maps buckets
         → Makes words k brings log₀ logtags₀ starts₀ maps₀ buckets₀ exprmap₀ stacks₀ e₁ e₀ r log logtags starts maps buckets exprmap₀ stacks₀
     unfolding srcOf
     brings-record l {r} {log} {logtags} {starts} {maps} {buckets} L =

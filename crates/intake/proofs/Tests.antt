@@ -15,14 +15,14 @@ use Rattle.model.specs.Lower.{lower}
 use Rattle.model.specs.Names.{named, Numbered}
 use Rattle.model.specs.Scope.{inScope}
 use Rattle.model.specs.Intake.{tested, verdict, intakeOf, Passes}
-use Rattle.intake_numbers.specs.Passes.{Says}
+use Rattle.intake_numbers.specs.Passes.{TestEnsures}
 use Rattle.intake_scope.specs.Functions.{InRange}
-use Rattle.intake_layout.specs.Layout.{Lays, size, misfit, unknown, shows, held, layoutOf}
+use Rattle.intake_layout.specs.Layout.{LayOutEnsures, size, misfit, unknown, shows, held, layoutOf}
 use Rattle.intake_layout.specs.declared.Layout.{Layout}
 use Rattle.intake_layout.specs.declared.Layout.the-variants.{Fits, Size as LaidSize, Misfit as LaidMisfit, Strange}
 use Rattle.intake_layout.proofs.Held.{HoldsImage, holds}
 use Rattle.model.specs.Image.{wuldgisp-intake, IntakeEnsures}
-use Rattle.intake.specs.Taken.{numberOf, Tested, Takes}
+use Rattle.intake.specs.Taken.{numberOf, Tested, TakeInEnsures}
 use Rattle.intake.specs.declared.Taken.{Taken}
 use Rattle.intake.specs.declared.Taken.the-variants.{Accepted, Size, Layout as TakenLayout, Range, Reference, Names, Scope}
 use Rattle.intake.proofs.Few.{numbers-few}
@@ -35,7 +35,7 @@ module _ (words tags : List ℕ) (n : ℕ) where
   refused : (r : Taken) → ((k : ℕ) → r ≡ Accepted k → k ≡ n) → ((m : Module) → Taped words tags n m → numberOf r ≡ tested m) → Tested r words tags n
   refused r f g = record { same = g; many = f }
 
-  module _ (b₃ : Bool) (t₃ : Says b₃ words tags n numbered) where
+  module _ (b₃ : Bool) (t₃ : TestEnsures b₃ words tags n numbered) where
     pub number-fails : not b₃ ≡ true → Tested Range words tags n
     unfolding tested
     number-fails e = record { same = λ m t. rw (tested, sym (t₃ .same m t) ∙ not-true b₃ e); many = λ k q. let z : _≡_ {A = ℕ} 0 1 = cc in absurd (omega arith) }
@@ -74,7 +74,7 @@ module _ (words tags : List ℕ) (n : ℕ) where
               third : (m : Module) → Taped words tags n m → named m ≡ true
               third m t = sym (t₅ m t) ∙ not-false b₅ y₅
 
-              module _ (b₆ : Bool) (t₆ : Says b₆ words tags n inScope) where
+              module _ (b₆ : Bool) (t₆ : TestEnsures b₆ words tags n inScope) where
                 pub scope-fails : not b₆ ≡ true → Tested Scope words tags n
                 unfolding tested
                 scope-fails e = record { same = λ m t. rw (tested, first m t, second m t, third m t, sym (t₆ .same m t) ∙ not-true b₆ e); many = λ k q. let z : _≡_ {A = ℕ} 0 1 = cc in absurd (omega arith) }
@@ -96,8 +96,8 @@ passes m h = go (numbered m) refl (lower m) refl (named m) refl (inScope m) refl
     go false a b e c f d g h = absurd (omega arith)
 
 -- ---- from bytes
-module _ (bytes words tags words₁ tags₁ : List ℕ) (words-long : length words ≡ 16384) (tags-long : length tags ≡ 16384) (r : Layout) (got : Lays r words₁ tags₁ bytes words tags) where
-  none : (q : Taken) → ((k : ℕ) → q ≡ Accepted k → ⊥) → numberOf q ≡ intakeOf (length bytes) (wordsOf bytes) → Takes q words₁ tags₁ bytes
+module _ (bytes words tags words₁ tags₁ : List ℕ) (words-long : length words ≡ 16384) (tags-long : length tags ≡ 16384) (r : Layout) (got : LayOutEnsures r words₁ tags₁ bytes words tags) where
+  none : (q : Taken) → ((k : ℕ) → q ≡ Accepted k → ⊥) → numberOf q ≡ intakeOf (length bytes) (wordsOf bytes) → TakeInEnsures q words₁ tags₁ bytes
   none q f e = record { same = e; held = λ n g. absurd (f n g) }
 
   of-size : (b : Bool) → sized (length bytes) (wordsOf bytes) ≡ b → shows r words₁ tags₁ ≡ elim b [ true ↦ held (wordsOf bytes) words tags (read (wordsOf bytes)) | false ↦ size ] → r ≡ LaidSize → 1 ≡ intakeOf (length bytes) (wordsOf bytes)
@@ -110,7 +110,7 @@ module _ (bytes words tags words₁ tags₁ : List ℕ) (words-long : length wor
       not-held strange q = let z : _≡_ {A = ℕ} 0 1 = cc in omega arith
   of-size false s g e = rw (intakeOf, s)
 
-  pub size-fails : r ≡ LaidSize → Takes Size words₁ tags₁ bytes
+  pub size-fails : r ≡ LaidSize → TakeInEnsures Size words₁ tags₁ bytes
   unfolding layoutOf
   size-fails e = none Size (λ k q. let z : _≡_ {A = ℕ} 0 1 = cc in omega arith) (of-size (sized (length bytes) (wordsOf bytes)) refl (got .same) e)
 
@@ -124,7 +124,7 @@ module _ (bytes words tags words₁ tags₁ : List ℕ) (words-long : length wor
       go strange q = let z : _≡_ {A = ℕ} 0 1 = cc in absurd (omega arith)
   of-misfit false s g e = let k : misfit ≡ size = rw e at g in let z : _≡_ {A = ℕ} 0 1 = cc in absurd (omega arith)
 
-  pub misfit-fails : r ≡ LaidMisfit → Takes TakenLayout words₁ tags₁ bytes
+  pub misfit-fails : r ≡ LaidMisfit → TakeInEnsures TakenLayout words₁ tags₁ bytes
   unfolding layoutOf
   misfit-fails e = none TakenLayout (λ k q. let z : _≡_ {A = ℕ} 0 1 = cc in omega arith) (of-misfit (sized (length bytes) (wordsOf bytes)) refl (got .same) e)
 
@@ -138,7 +138,7 @@ module _ (bytes words tags words₁ tags₁ : List ℕ) (words-long : length wor
       go strange q = refl
   of-strange false s g e = let k : unknown ≡ size = rw e at g in let z : _≡_ {A = ℕ} 0 1 = cc in absurd (omega arith)
 
-  pub strange-fails : r ≡ Strange → Takes Range words₁ tags₁ bytes
+  pub strange-fails : r ≡ Strange → TakeInEnsures Range words₁ tags₁ bytes
   unfolding layoutOf
   strange-fails e = none Range (λ k q. let z : _≡_ {A = ℕ} 0 1 = cc in omega arith) (of-strange (sized (length bytes) (wordsOf bytes)) refl (got .same) e)
 
@@ -149,7 +149,7 @@ module _ (bytes words tags words₁ tags₁ : List ℕ) (words-long : length wor
     pub tape-so : Tape words₁ tags₁ n
     tape-so = record { holds = held-so .module-of; taped = held-so .taped }
 
-    pub tested-so : (q : Taken) → Tested q words₁ tags₁ n → Takes q words₁ tags₁ bytes
+    pub tested-so : (q : Taken) → Tested q words₁ tags₁ n → TakeInEnsures q words₁ tags₁ bytes
     unfolding intakeOf verdict
     tested-so q t =
         let m = held-so .module-of in
@@ -166,6 +166,6 @@ module _ (bytes words tags words₁ tags₁ : List ℕ) (words-long : length wor
           };
         }
 
-pub answer-so : (bytes words tags : List ℕ) (q : Taken) (r : ℕ) → Takes q words tags bytes → r ≡ numberOf q → IntakeEnsures r bytes
+pub answer-so : (bytes words tags : List ℕ) (q : Taken) (r : ℕ) → TakeInEnsures q words tags bytes → r ≡ numberOf q → IntakeEnsures r bytes
 unfolding wuldgisp-intake
 answer-so bytes words tags q r t e = record { answer = e ∙ t .same }

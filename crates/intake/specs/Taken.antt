@@ -38,6 +38,6 @@ pub record Accepts (bytes words tags : List ℕ) (n : ℕ) : Type 0 where
   pub passes : Passes holds
 
 -- intake's promise
-pub record Takes (r : Taken) (words tags bytes : List ℕ) : Type 0 where
+pub record TakeInEnsures (r : Taken) (words tags bytes : List ℕ) : Type 0 where
   pub same : numberOf r ≡ intakeOf (length bytes) (wordsOf bytes)
   pub held : (n : ℕ) → r ≡ Accepted n → Accepts bytes words tags n

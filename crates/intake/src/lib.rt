@@ -6,7 +6,7 @@ ghost use mathlib.Core.Path.{_≡_};
 ghost use lib.ListN.{length};
 ghost use Rattle.model.specs.Taped.{Tape};
 ghost use Rattle.model.specs.Image.{IntakeEnsures};
-ghost use Rattle.intake.specs.Taken.{numberOf, Tested, Takes};
+ghost use Rattle.intake.specs.Taken.{numberOf, Tested, TakeInEnsures};
 
 // The answer: the image is accepted, with its count of words; or the test that failed, by document 01's numbers 1 to 6.
 pub enum Taken {
@@ -43,7 +43,7 @@ fn test(words: &Words, tags: &Tags, n: usize) -> Taken
 pub fn take_in(image: &[u8], words: &mut Words, tags: &mut Tags) -> Taken
     requires { ⌜ length (now words) ≡ 16384 ⌝ }
     requires { ⌜ length (now tags) ≡ 16384 ⌝ }
-    ensures { λ r. ⌜ Takes r (now (words .exit)) (now (tags .exit)) (now (image .entry)) ⌝ }
+    ensures { λ r. ⌜ TakeInEnsures r (now (words .exit)) (now (tags .exit)) (now (image .entry)) ⌝ }
 {
     let r = intake_layout::lay_out(image, words, tags);
     match r {

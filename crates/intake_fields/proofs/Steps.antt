@@ -14,7 +14,7 @@ use Rattle.model.specs.Outcome.{Cells, class, Outcome, fits, misfit, unknown, m
 use Rattle.model.specs.Table.{Row, PAD, LENGTH, STMT-KIND, run}
 use Rattle.intake_fields.specs.Parts.{join, times, check, statementOf, readB, piece, pieces, Brings, rows, over, nothing, bringsOf, brought, opening}
 use Rattle.intake_fields.specs.Rows.{ROWS, numbers, SIZE, KIND-ROW, row, rowAt, MoreIs}
-use Rattle.intake_fields.specs.Walks.{next, refused, strange, seen, final, Walks}
+use Rattle.intake_fields.specs.Walks.{next, refused, strange, seen, final, RowEnsures}
 use Rattle.intake_fields.specs.declared.Walked.{Walked}
 use Rattle.intake_fields.specs.declared.Walked.the-variants.{Next, Misfit, Strange}
 use Rattle.intake_fields.specs.declared.More.{More}
@@ -48,7 +48,7 @@ final-brought tags i end s w over f = refl
 final-brought tags i end s w nothing f = refl
 
 module _ (words tags : List ℕ) (i end s left : ℕ) where
-  pub opened-short : end ≤ i → Walks Misfit tags tags i end (opening left s (slice i end words))
+  pub opened-short : end ≤ i → RowEnsures Misfit tags tags i end (opening left s (slice i end words))
   unfolding opening seen final
   opened-short h = record { same = sym (ap (final tags i end) (eat-none words i end _ h)) }
 
@@ -57,11 +57,11 @@ module _ (words tags : List ℕ) (i end s left : ℕ) where
     unfolding opening
     inside = ap (final tags i end) (eat-some words i end _ h enough) ∙ final-brought tags i end s (getD words i 0) (bringsOf s (getD words i 0)) _
 
-    pub opened-over : m ≡ Over → Walks Misfit (set tags i c) tags i end (opening left s (slice i end words))
+    pub opened-over : m ≡ Over → RowEnsures Misfit (set tags i c) tags i end (opening left s (slice i end words))
     unfolding seen final brought
     opened-over e = let k : bringsOf s (getD words i 0) ≡ over = rw e at more in record { same = sym (inside ∙ ap (λ q. final (set tags i s) (i + 1) end (brought q λ n r. times n (pieces left r) (slice (i + 1) end words))) k) }
 
-    pub opened-unknown : m ≡ Unknown → Walks Strange (set tags i c) tags i end (opening left s (slice i end words))
+    pub opened-unknown : m ≡ Unknown → RowEnsures Strange (set tags i c) tags i end (opening left s (slice i end words))
     unfolding seen final brought
     opened-unknown e = let k : bringsOf s (getD words i 0) ≡ nothing = rw e at more in record { same = sym (inside ∙ ap (λ q. final (set tags i s) (i + 1) end (brought q λ n r. times n (pieces left r) (slice (i + 1) end words))) k) }
 
@@ -72,7 +72,7 @@ module _ (words tags : List ℕ) (i end s left : ℕ) where
       pub opened-in : pc < ROWS
       opened-in = got-rows .0
 
-      pub opened-rows : (r : Walked) (tags₁ : List ℕ) → Walks r tags₁ (set tags i c) (i + 1) end (times n (pieces left (rowAt pc)) (slice (i + 1) end words)) → Walks r tags₁ tags i end (opening left s (slice i end words))
+      pub opened-rows : (r : Walked) (tags₁ : List ℕ) → RowEnsures r tags₁ (set tags i c) (i + 1) end (times n (pieces left (rowAt pc)) (slice (i + 1) end words)) → RowEnsures r tags₁ tags i end (opening left s (slice i end words))
       unfolding brought
       opened-rows r tags₁ got = record { same = (rw is-c at (got .same)) ∙ sym (inside ∙ ap (λ q. final (set tags i s) (i + 1) end (brought q λ n r. times n (pieces left r) (slice (i + 1) end words))) (got-rows .1)) }
 
@@ -90,11 +90,11 @@ unfolding check
 check-no w cs rest e = rw (check, ne-eqb w (suc (length cs)) e)
 
 module _ (words tags : List ℕ) (i end left : ℕ) where
-  pub stmt-short : end ≤ i → Walks Misfit tags tags i end (statementOf (readB left) (slice i end words))
+  pub stmt-short : end ≤ i → RowEnsures Misfit tags tags i end (statementOf (readB left) (slice i end words))
   unfolding statementOf seen final
   stmt-short h = record { same = sym (ap (final tags i end) (eat-none words i end _ h)) }
 
-  module _ (h : i < end) (enough : end ≤ length words) (r : Walked) (tags₁ : List ℕ) (got : Walks r tags₁ (set tags i 124) (i + 1) end (pieces left (rowAt KIND-ROW) (slice (i + 1) end words))) where
+  module _ (h : i < end) (enough : end ≤ length words) (r : Walked) (tags₁ : List ℕ) (got : RowEnsures r tags₁ (set tags i 124) (i + 1) end (pieces left (rowAt KIND-ROW) (slice (i + 1) end words))) where
     inner : Outcome Cells
     inner = pieces left (STMT-KIND ∷ []) (slice (i + 1) end words)
 
@@ -115,7 +115,7 @@ module _ (words tags : List ℕ) (i end left : ℕ) where
     stopped misfit e g = refl
     stopped unknown e g = let k : refused ≡ strange = rw e at g in let z : _≡_ {A = ℕ} 0 1 = cc in absurd (omega arith)
 
-    pub stmt-misfit : r ≡ Misfit → Walks Misfit tags₁ tags i end (statementOf (readB left) (slice i end words))
+    pub stmt-misfit : r ≡ Misfit → RowEnsures Misfit tags₁ tags i end (statementOf (readB left) (slice i end words))
     unfolding seen
     stmt-misfit e = record { same = stopped inner e got-same ∙ sym head }
 
@@ -125,7 +125,7 @@ module _ (words tags : List ℕ) (i end left : ℕ) where
     lost unknown e g = refl
     lost misfit e g = let k : strange ≡ refused = rw e at g in let z : _≡_ {A = ℕ} 0 1 = cc in absurd (omega arith)
 
-    pub stmt-strange : r ≡ Strange → Walks Strange tags₁ tags i end (statementOf (readB left) (slice i end words))
+    pub stmt-strange : r ≡ Strange → RowEnsures Strange tags₁ tags i end (statementOf (readB left) (slice i end words))
     unfolding seen
     stmt-strange e = record { same = lost inner e got-same ∙ sym head }
 
@@ -134,41 +134,41 @@ module _ (words tags : List ℕ) (i end left : ℕ) where
       unfolding seen inner
       took = taken words (set tags i 124) (i + 1) end enough (omega arith) inner (reads-pieces left (STMT-KIND ∷ []) (slice (i + 1) end words)) tags₁ k (rw e at got-same)
 
-      pub stmt-next : (n : ℕ) → n ≡ getD words i 0 → i + n ≡ k → Walks (Next k) tags₁ tags i end (statementOf (readB left) (slice i end words))
+      pub stmt-next : (n : ℕ) → n ≡ getD words i 0 → i + n ≡ k → RowEnsures (Next k) tags₁ tags i end (statementOf (readB left) (slice i end words))
       unfolding seen final
       stmt-next n is l = good took
         where
           ended-at : (cs : Cells) → end - length (slice k end words) ≡ k → tags₁ ≡ sets (set tags i 124) (i + 1) (map class cs) → final tags i end (fits ((LENGTH, getD words i 0) ∷ cs) (slice k end words)) ≡ seen (Next k) tags₁
           ended-at cs z t = ap (λ x. next x (sets (set tags i 124) (suc i) (map class cs))) z ∙ ap (next k) (sym (rw (add-one i) at t))
 
-          good : Taken words (set tags i 124) (i + 1) end tags₁ k inner → Walks (Next k) tags₁ tags i end (statementOf (readB left) (slice i end words))
+          good : Taken words (set tags i 124) (i + 1) end tags₁ k inner → RowEnsures (Next k) tags₁ tags i end (statementOf (readB left) (slice i end words))
           good t =
               let w : getD words i 0 ≡ suc (length (t .cells)) = omega (arith, t .at, is, l) in
               let z : end - length (slice k end words) ≡ k = omega (arith, length-slice k end words enough, t .end-at) in
               record { same = sym (head ∙ ap (λ q. final tags i end (check (getD words i 0) q)) (t .is) ∙ ap (final tags i end) (check-yes _ (t .cells) (slice k end words) w) ∙ ended-at (t .cells) z (t .tagged)) }
 
-      pub stmt-wrong : (n : ℕ) → n ≡ getD words i 0 → (i + n ≡ k → ⊥) → Walks Misfit tags₁ tags i end (statementOf (readB left) (slice i end words))
+      pub stmt-wrong : (n : ℕ) → n ≡ getD words i 0 → (i + n ≡ k → ⊥) → RowEnsures Misfit tags₁ tags i end (statementOf (readB left) (slice i end words))
       unfolding seen final
       stmt-wrong n is l = bad took
         where
-          bad : Taken words (set tags i 124) (i + 1) end tags₁ k inner → Walks Misfit tags₁ tags i end (statementOf (readB left) (slice i end words))
+          bad : Taken words (set tags i 124) (i + 1) end tags₁ k inner → RowEnsures Misfit tags₁ tags i end (statementOf (readB left) (slice i end words))
           bad t = record { same = sym (head ∙ ap (λ q. final tags i end (check (getD words i 0) q)) (t .is) ∙ ap (final tags i end) (check-no _ (t .cells) (slice k end words) (λ w. l (omega (arith, t .at, is, w))))) }
 
 -- ---- a piece
 module _ (words tags : List ℕ) (i end s left : ℕ) (r : Walked) (tags₁ : List ℕ) where
-  as-piece : (o : Outcome Cells) → piece left s (slice i end words) ≡ o → Walks r tags₁ tags i end o → Walks r tags₁ tags i end (piece left s (slice i end words))
+  as-piece : (o : Outcome Cells) → piece left s (slice i end words) ≡ o → RowEnsures r tags₁ tags i end o → RowEnsures r tags₁ tags i end (piece left s (slice i end words))
   as-piece o e got = told (piece left s (slice i end words)) o e got
 
-  pub part-text : s ≡ 108 → Walks r tags₁ tags i end (run (slice i end words) (108 ∷ [])) → Walks r tags₁ tags i end (piece left s (slice i end words))
+  pub part-text : s ≡ 108 → RowEnsures r tags₁ tags i end (run (slice i end words) (108 ∷ [])) → RowEnsures r tags₁ tags i end (piece left s (slice i end words))
   part-text e got = as-piece _ (rw e (piece-field left 108 (slice i end words) (omega arith))) got
 
-  pub part-operands : s ≡ 109 → Walks r tags₁ tags i end (run (slice i end words) (109 ∷ [])) → Walks r tags₁ tags i end (piece left s (slice i end words))
+  pub part-operands : s ≡ 109 → RowEnsures r tags₁ tags i end (run (slice i end words) (109 ∷ [])) → RowEnsures r tags₁ tags i end (piece left s (slice i end words))
   part-operands e got = as-piece _ (rw e (piece-field left 109 (slice i end words) (omega arith))) got
 
-  pub part-stmt : s ≡ 124 → Walks r tags₁ tags i end (statementOf (readB left) (slice i end words)) → Walks r tags₁ tags i end (piece left s (slice i end words))
+  pub part-stmt : s ≡ 124 → RowEnsures r tags₁ tags i end (statementOf (readB left) (slice i end words)) → RowEnsures r tags₁ tags i end (piece left s (slice i end words))
   part-stmt e got = as-piece _ (rw e (piece-length left (slice i end words))) got
 
-  pub part-block : s ≡ 122 → (left ≡ 0 → ⊥) → Walks r tags₁ tags i end (opening (left - 1) s (slice i end words)) → Walks r tags₁ tags i end (piece left s (slice i end words))
+  pub part-block : s ≡ 122 → (left ≡ 0 → ⊥) → RowEnsures r tags₁ tags i end (opening (left - 1) s (slice i end words)) → RowEnsures r tags₁ tags i end (piece left s (slice i end words))
   part-block e n got =
       let m : left ≡ suc (left - 1) = omega arith in
       as-piece _ (rw e (ap (λ d. piece d 122 (slice i end words)) m ∙ piece-block (left - 1) (slice i end words))) got
@@ -185,10 +185,10 @@ module _ (words tags : List ℕ) (i end s left : ℕ) (r : Walked) (tags₁ : Li
       go false a false b true c = let e : s ≡ 123 = is s 123 c in rw e (piece-cases left ws)
       go false a false b false c = let e : s ≡ 125 = omega (arith, above s 122 b, isnt s 123 c) in rw e (piece-stmt-kind left ws)
 
-  pub part-other : (s ≡ 108 → ⊥) → (s ≡ 109 → ⊥) → (s ≡ 124 → ⊥) → (s ≡ 122 → ⊥) → 108 ≤ s → s < 126 → Walks r tags₁ tags i end (opening left s (slice i end words)) → Walks r tags₁ tags i end (piece left s (slice i end words))
+  pub part-other : (s ≡ 108 → ⊥) → (s ≡ 109 → ⊥) → (s ≡ 124 → ⊥) → (s ≡ 122 → ⊥) → 108 ≤ s → s < 126 → RowEnsures r tags₁ tags i end (opening left s (slice i end words)) → RowEnsures r tags₁ tags i end (piece left s (slice i end words))
   part-other n₁ n₂ n₃ n₄ low high got = as-piece _ (other n₁ n₂ n₃ n₄ low high) got
 
-pub part-deep : (words tags : List ℕ) (i end s left : ℕ) → s ≡ 122 → left ≡ 0 → Walks Misfit tags tags i end (piece left s (slice i end words))
+pub part-deep : (words tags : List ℕ) (i end s left : ℕ) → s ≡ 122 → left ≡ 0 → RowEnsures Misfit tags tags i end (piece left s (slice i end words))
 unfolding seen final
 part-deep words tags i end s left e z = told (piece left s (slice i end words)) misfit (rw (e, z) (piece-block-none (slice i end words))) (record { same = refl })
 
@@ -204,7 +204,7 @@ module _ (words tags₀ t : List ℕ) (table : t ≡ numbers) (at end pc left : 
   row-begin h k = record { in-rows = k; from = le-refl at; within = h; same = refl }
 
   module _ (enough : end ≤ length words) (tags : List ℕ) (i p : ℕ) (inv : Rowing words tags₀ at end pc left tags i p) where
-    pub row-done : getD t p 0 ≡ 0 → Walks (Next i) tags tags₀ at end (pieces left (rowAt pc) (slice at end words))
+    pub row-done : getD t p 0 ≡ 0 → RowEnsures (Next i) tags tags₀ at end (pieces left (rowAt pc) (slice at end words))
     unfolding seen final pieces
     row-done z =
         let k : end - length (slice i end words) ≡ i = omega (arith, length-slice i end words enough, inv .within) in
@@ -228,7 +228,7 @@ module _ (words tags₀ t : List ℕ) (table : t ≡ numbers) (at end pc left : 
       plain-piece : getD t p 0 < 105 → (ws : List ℕ) → piece left (getD t p 0) ws ≡ run ws (getD t p 0 ∷ [])
       plain-piece l ws = piece-field left (getD t p 0) ws (omega arith)
 
-      pub row-short : getD t p 0 < 105 → end ≤ i → Walks Misfit tags tags₀ at end (pieces left (rowAt pc) (slice at end words))
+      pub row-short : getD t p 0 < 105 → end ≤ i → RowEnsures Misfit tags tags₀ at end (pieces left (rowAt pc) (slice at end words))
       unfolding seen final join
       row-short l h = record { same = sym (ap (λ o. final tags i end (join o (pieces left (rowAt (p + 1))))) (plain-piece l (slice i end words) ∙ run-short words i end (getD t p 0) [] h)) ∙ opened }
 
@@ -244,15 +244,15 @@ module _ (words tags₀ t : List ℕ) (table : t ≡ numbers) (at end pc left : 
           one-word : (s : ℕ) → s < 105 → run (slice i end words) (s ∷ []) ≡ fits ((s, getD words i 0) ∷ []) (slice (i + 1) end words)
           one-word s l = one-word-is words i end s h enough l
 
-      module _ (r : Walked) (tags₁ : List ℕ) (got : Walks r tags₁ tags i end (piece left (getD t p 0) (slice i end words))) where
+      module _ (r : Walked) (tags₁ : List ℕ) (got : RowEnsures r tags₁ tags i end (piece left (getD t p 0) (slice i end words))) where
         rdp : Reads (slice i end words) (piece left (getD t p 0) (slice i end words))
         rdp = reads-piece left (getD t p 0) (slice i end words)
 
-        pub row-misfit : r ≡ Misfit → Walks Misfit tags₁ tags₀ at end (pieces left (rowAt pc) (slice at end words))
+        pub row-misfit : r ≡ Misfit → RowEnsures Misfit tags₁ tags₀ at end (pieces left (rowAt pc) (slice at end words))
         unfolding seen
         row-misfit e = record { same = sym (chain-misfit words tags i end enough (inv .within) _ rdp r tags₁ got (pieces left (rowAt (p + 1))) e) ∙ opened }
 
-        pub row-strange : r ≡ Strange → Walks Strange tags₁ tags₀ at end (pieces left (rowAt pc) (slice at end words))
+        pub row-strange : r ≡ Strange → RowEnsures Strange tags₁ tags₀ at end (pieces left (rowAt pc) (slice at end words))
         unfolding seen
         row-strange e = record { same = sym (chain-strange words tags i end enough (inv .within) _ rdp r tags₁ got (pieces left (rowAt (p + 1))) e) ∙ opened }
 
@@ -275,14 +275,14 @@ module _ (words tags₀ : List ℕ) (at count end pc left : ℕ) where
   times-begin h = record { from = le-refl at; within = h; same = refl }
 
   module _ (enough : end ≤ length words) (tags : List ℕ) (i n : ℕ) (inv : Timing words tags₀ at count end pc left tags i n) where
-    pub times-done : n ≤ 0 → Walks (Next i) tags tags₀ at end (times count (pieces left (rowAt pc)) (slice at end words))
+    pub times-done : n ≤ 0 → RowEnsures (Next i) tags tags₀ at end (times count (pieces left (rowAt pc)) (slice at end words))
     unfolding seen final times
     times-done h =
         let z : n ≡ 0 = omega arith in
         let k : end - length (slice i end words) ≡ i = omega (arith, length-slice i end words enough, inv .within) in
         record { same = sym (ap (λ x. next x tags) k) ∙ rw z at (inv .same) }
 
-    module _ (h : 0 < n) (r : Walked) (tags₁ : List ℕ) (got : Walks r tags₁ tags i end (pieces left (rowAt pc) (slice i end words))) where
+    module _ (h : 0 < n) (r : Walked) (tags₁ : List ℕ) (got : RowEnsures r tags₁ tags i end (pieces left (rowAt pc) (slice i end words))) where
       split : final tags i end (times n (pieces left (rowAt pc)) (slice i end words)) ≡ final tags i end (join (pieces left (rowAt pc) (slice i end words)) (times (n - 1) (pieces left (rowAt pc))))
       unfolding times
       split = let e : n ≡ suc (n - 1) = omega arith in ap (λ m. final tags i end (times m (pieces left (rowAt pc)) (slice i end words))) e
@@ -290,11 +290,11 @@ module _ (words tags₀ : List ℕ) (at count end pc left : ℕ) where
       rd : Reads (slice i end words) (pieces left (rowAt pc) (slice i end words))
       rd = reads-pieces left (rowAt pc) (slice i end words)
 
-      pub times-misfit : r ≡ Misfit → Walks Misfit tags₁ tags₀ at end (times count (pieces left (rowAt pc)) (slice at end words))
+      pub times-misfit : r ≡ Misfit → RowEnsures Misfit tags₁ tags₀ at end (times count (pieces left (rowAt pc)) (slice at end words))
       unfolding seen
       times-misfit e = record { same = sym (split ∙ chain-misfit words tags i end enough (inv .within) _ rd r tags₁ got (times (n - 1) (pieces left (rowAt pc))) e) ∙ inv .same }
 
-      pub times-strange : r ≡ Strange → Walks Strange tags₁ tags₀ at end (times count (pieces left (rowAt pc)) (slice at end words))
+      pub times-strange : r ≡ Strange → RowEnsures Strange tags₁ tags₀ at end (times count (pieces left (rowAt pc)) (slice at end words))
       unfolding seen
       times-strange e = record { same = sym (split ∙ chain-strange words tags i end enough (inv .within) _ rd r tags₁ got (times (n - 1) (pieces left (rowAt pc))) e) ∙ inv .same }
 

@@ -16,7 +16,7 @@ use Rattle.model.specs.Outcome.{Cells, class, word, Outcome, fits, misfit, unkn
 use Rattle.model.specs.Table.{Row, WORD, EXPR, PAD, TEXT, OPERANDS, brings, over, repeat, text, more, follow, run}
 use Rattle.theory_image.specs.Betweens.{slice-none}
 use Rattle.intake_fields.specs.Parts.{Reader, join}
-use Rattle.intake_fields.specs.Walks.{Final, next, refused, strange, seen, final, Walks, filled, Fills}
+use Rattle.intake_fields.specs.Walks.{Final, next, refused, strange, seen, final, RowEnsures, filled, Fills}
 use Rattle.intake_fields.specs.declared.Walked.{Walked}
 use Rattle.intake_fields.specs.declared.Walked.the-variants.{Next, Misfit, Strange}
 use Rattle.intake_fields.proofs.Flat.{run-none, run-append, plain-more}
@@ -99,7 +99,7 @@ module _ (words tags : List ℕ) (i end : ℕ) (enough : end ≤ length words) (
   taken misfit rd tags₁ n g = let z : _≡_ {A = ℕ} 0 1 = cc in absurd (omega arith)
   taken unknown rd tags₁ n g = let z : _≡_ {A = ℕ} 0 1 = cc in absurd (omega arith)
 
-  module _ (o : Outcome Cells) (rd : Reads (slice i end words) o) (r : Walked) (tags₁ : List ℕ) (got : Walks r tags₁ tags i end o) (p : Reader) where
+  module _ (o : Outcome Cells) (rd : Reads (slice i end words) o) (r : Walked) (tags₁ : List ℕ) (got : RowEnsures r tags₁ tags i end o) (p : Reader) where
     pub chain-misfit : r ≡ Misfit → final tags i end (join o p) ≡ refused
     unfolding seen final join
     chain-misfit e = go o (rw e at (got .same))
@@ -152,7 +152,7 @@ module _ (words : List ℕ) (i end : ℕ) where
   run-some s ss h k = rw (slice-cons i end words 0 h k, add-one i)
 
 -- the same outcome, otherwise said
-pub told : {r : Walked} {tags₁ tags : List ℕ} {i end : ℕ} (o p : Outcome Cells) → o ≡ p → Walks r tags₁ tags i end p → Walks r tags₁ tags i end o
+pub told : {r : Walked} {tags₁ tags : List ℕ} {i end : ℕ} (o p : Outcome Cells) → o ≡ p → RowEnsures r tags₁ tags i end p → RowEnsures r tags₁ tags i end o
 told {r} {tags₁} {tags} {i} {end} o p e w = record { same = w .same ∙ ap (final tags i end) (sym e) }
 
 -- ---- n words of one class
@@ -183,12 +183,12 @@ run-fill (suc n) words end c enough plain tags i h = go (leb end i) refl (λ tag
         ∙ ih (set tags i c) (i + 1) (omega arith)
         ∙ filled-suc tags i end c n
 
-fill-walks : (words tags : List ℕ) (i end c n : ℕ) → end ≤ length words → c < PAD → i ≤ end → (r : Walked) (tags₁ : List ℕ) → Fills r tags₁ tags i end c n → Walks r tags₁ tags i end (run (slice i end words) (replicate n c))
+fill-walks : (words tags : List ℕ) (i end c n : ℕ) → end ≤ length words → c < PAD → i ≤ end → (r : Walked) (tags₁ : List ℕ) → Fills r tags₁ tags i end c n → RowEnsures r tags₁ tags i end (run (slice i end words) (replicate n c))
 fill-walks words tags i end c n enough plain h r tags₁ got = record { same = got .same ∙ sym (run-fill n words end c enough plain tags i h) }
 
 -- ---- one word, and the fields that follow because of it
 module _ (words tags : List ℕ) (i end s : ℕ) where
-  pub run-misfit : end ≤ i → Walks Misfit tags tags i end (run (slice i end words) (s ∷ []))
+  pub run-misfit : end ≤ i → RowEnsures Misfit tags tags i end (run (slice i end words) (s ∷ []))
   unfolding seen final
   run-misfit h = record { same = rw (run-short words i end s [] h) }
 
@@ -208,13 +208,13 @@ pad-more k w h l =
     rw (more, le-ltb (104 + k) PAD (omega arith), lt-ltb (104 + k) TEXT (omega arith), e)
 
 module _ (words tags : List ℕ) (i end k : ℕ) (low : 0 < k) (high : k < 4) (h : i < end) (enough : end ≤ length words) (c most : ℕ) (is-c : c ≡ 104 + k) (is : most ≡ 256 ^ k) where
-  pub pad-wrong : most ≤ getD words i 0 → Walks Misfit (set tags i c) tags i end (run (slice i end words) ((104 + k) ∷ []))
+  pub pad-wrong : most ≤ getD words i 0 → RowEnsures Misfit (set tags i c) tags i end (run (slice i end words) ((104 + k) ∷ []))
   unfolding seen final follow
   pad-wrong g =
       let e : more (104 + k) (getD words i 0) ≡ over = pad-more k (getD words i 0) low high ∙ rw (le-ltb (getD words i 0) (256 ^ k) (rw is at g)) in
       record { same = sym (run-opens words tags i end (104 + k) h enough ∙ ap (λ m. final (set tags i (104 + k)) (i + 1) end (follow m [] (run (slice (i + 1) end words)))) e) }
 
-  pub pad-right : getD words i 0 < most → Walks (Next (i + 1)) (set tags i c) tags i end (run (slice i end words) ((104 + k) ∷ []))
+  pub pad-right : getD words i 0 < most → RowEnsures (Next (i + 1)) (set tags i c) tags i end (run (slice i end words) ((104 + k) ∷ []))
   unfolding seen final
   pad-right g =
       let e : more (104 + k) (getD words i 0) ≡ brings [] = pad-more k (getD words i 0) low high ∙ rw (lt-ltb (getD words i 0) (256 ^ k) (rw is at g)) in
@@ -231,7 +231,7 @@ operands-bring : (w : ℕ) → more OPERANDS w ≡ brings (replicate w EXPR)
 unfolding more
 operands-bring w = ap brings (repeat-one w EXPR)
 
-pub operands-walk : (words tags : List ℕ) (i end : ℕ) → i < end → end ≤ length words → (r : Walked) (tags₁ : List ℕ) → Fills r tags₁ (set tags i 109) (i + 1) end 93 (getD words i 0) → Walks r tags₁ tags i end (run (slice i end words) (109 ∷ []))
+pub operands-walk : (words tags : List ℕ) (i end : ℕ) → i < end → end ≤ length words → (r : Walked) (tags₁ : List ℕ) → Fills r tags₁ (set tags i 109) (i + 1) end 93 (getD words i 0) → RowEnsures r tags₁ tags i end (run (slice i end words) (109 ∷ []))
 operands-walk words tags i end h enough r tags₁ got = record {
   same = got .same ∙ sym (run-brings words tags i end 109 h enough (replicate (getD words i 0) 93) (operands-bring (getD words i 0)) ∙ run-fill (getD words i 0) words end 93 enough (omega arith) (set tags i 109) (i + 1) (omega arith));
 }
@@ -260,15 +260,15 @@ module _ (words tags : List ℕ) (i end : ℕ) (h : i < end) (enough : end ≤ l
   unfolding b
   whole = run-brings words tags i end 108 h enough _ (text-more (getD words i 0)) ∙ ap (final (set tags i 108) (i + 1) end) (run-append (slice (i + 1) end words) (replicate (b / 4) 80) (tail b))
 
-  bytes : Walks r tags₁ (set tags i 108) (i + 1) end (run (slice (i + 1) end words) (replicate (b / 4) 80))
+  bytes : RowEnsures r tags₁ (set tags i 108) (i + 1) end (run (slice (i + 1) end words) (replicate (b / 4) 80))
   unfolding b
   bytes = fill-walks words (set tags i 108) (i + 1) end 80 (b / 4) enough (omega arith) (omega arith) r tags₁ got
 
-  pub text-misfit : r ≡ Misfit → Walks Misfit tags₁ tags i end (run (slice i end words) (108 ∷ []))
+  pub text-misfit : r ≡ Misfit → RowEnsures Misfit tags₁ tags i end (run (slice i end words) (108 ∷ []))
   unfolding seen
   text-misfit e = record { same = sym (whole ∙ chain-misfit words (set tags i 108) (i + 1) end enough (omega arith) _ (reads-run _ _) r tags₁ bytes (λ ws. run ws (tail b)) e) }
 
-  pub text-strange : r ≡ Strange → Walks Strange tags₁ tags i end (run (slice i end words) (108 ∷ []))
+  pub text-strange : r ≡ Strange → RowEnsures Strange tags₁ tags i end (run (slice i end words) (108 ∷ []))
   unfolding seen
   text-strange e = record { same = sym (whole ∙ chain-strange words (set tags i 108) (i + 1) end enough (omega arith) _ (reads-run _ _) r tags₁ bytes (λ ws. run ws (tail b)) e) }
 
@@ -279,13 +279,13 @@ module _ (words tags : List ℕ) (i end : ℕ) (h : i < end) (enough : end ≤ l
     pub text-within : n ≤ end
     text-within = then-tail .within
 
-    pub text-done : getD words i 0 % 4 ≡ 0 → Walks (Next n) tags₁ tags i end (run (slice i end words) (108 ∷ []))
+    pub text-done : getD words i 0 % 4 ≡ 0 → RowEnsures (Next n) tags₁ tags i end (run (slice i end words) (108 ∷ []))
     unfolding seen final b
     text-done z =
         let k : end - length (slice n end words) ≡ n = omega (arith, length-slice n end words enough, then-tail .within) in
         record { same = sym (whole ∙ then-tail .same ∙ ap (λ l. final tags₁ n end (run (slice n end words) l)) (tail-none b z) ∙ ap (final tags₁ n end) (run-none (slice n end words)) ∙ ap (λ x. next x tags₁) k) }
 
-    pub text-padded : (getD words i 0 % 4 ≡ 0 → ⊥) → (q : Walked) (tags₂ : List ℕ) → Walks q tags₂ tags₁ n end (run (slice n end words) ((104 + getD words i 0 % 4) ∷ [])) → Walks q tags₂ tags i end (run (slice i end words) (108 ∷ []))
+    pub text-padded : (getD words i 0 % 4 ≡ 0 → ⊥) → (q : Walked) (tags₂ : List ℕ) → RowEnsures q tags₂ tags₁ n end (run (slice n end words) ((104 + getD words i 0 % 4) ∷ [])) → RowEnsures q tags₂ tags i end (run (slice i end words) (108 ∷ []))
     unfolding b
     text-padded z q tags₂ w = record { same = w .same ∙ sym (whole ∙ then-tail .same ∙ ap (λ l. final tags₁ n end (run (slice n end words) l)) (tail-some b z)) }
 

@@ -26,7 +26,7 @@ final tags i end (fits cs rest) = next (end - length rest) (sets tags i (map cla
 final tags i end misfit = refused
 final tags i end unknown = strange
 
-pub record Walks (r : Walked) (tags₁ tags : List ℕ) (i end : ℕ) (o : Outcome Cells) : Type 0 where
+pub record RowEnsures (r : Walked) (tags₁ tags : List ℕ) (i end : ℕ) (o : Outcome Cells) : Type 0 where
   pub same : seen r tags₁ ≡ final tags i end o
 
 unfoldable pub filled : List ℕ → ℕ → ℕ → ℕ → ℕ → Final

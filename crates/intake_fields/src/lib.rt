@@ -15,7 +15,7 @@ ghost use lib.Seq.{slice};
 ghost use Rattle.model.specs.Table.{run};
 ghost use Rattle.intake_fields.specs.Parts.{readB, statementOf, piece, pieces, times as timesOf, opening};
 ghost use Rattle.intake_fields.specs.Rows.{ROWS, numbers, rowAt, MoreIs};
-ghost use Rattle.intake_fields.specs.Walks.{Walks, Fills};
+ghost use Rattle.intake_fields.specs.Walks.{RowEnsures, Fills};
 
 // Classes as the table has them.
 const MEMBERS: usize = base_classes::MEMBERS as usize;
@@ -114,7 +114,7 @@ fn padded(words: &Words, tags: &mut Tags, at: usize, end: usize, k: u32) -> Walk
     requires { ⌜ end ≤ length (now words) ⌝ }
     requires { ⌜ end ≤ 16384 ⌝ }
     requires { ⌜ (0 < k) × (k < 4) ⌝ }
-    ensures { λ r. ⌜ Walks r (now (tags .exit)) (now (tags .entry)) at end (run (slice at end (now (words .entry))) ((104 + k) ∷ [])) ⌝ }
+    ensures { λ r. ⌜ RowEnsures r (now (tags .exit)) (now (tags .entry)) at end (run (slice at end (now (words .entry))) ((104 + k) ∷ [])) ⌝ }
 {
     if end <= at {
         return Walked::Misfit;
@@ -133,7 +133,7 @@ fn text(words: &Words, tags: &mut Tags, at: usize, end: usize) -> Walked
     requires { ⌜ at ≤ end ⌝ }
     requires { ⌜ end ≤ length (now words) ⌝ }
     requires { ⌜ end ≤ 16384 ⌝ }
-    ensures { λ r. ⌜ Walks r (now (tags .exit)) (now (tags .entry)) at end (run (slice at end (now (words .entry))) (108 ∷ [])) ⌝ }
+    ensures { λ r. ⌜ RowEnsures r (now (tags .exit)) (now (tags .entry)) at end (run (slice at end (now (words .entry))) (108 ∷ [])) ⌝ }
 {
     if end <= at {
         return Walked::Misfit;
@@ -159,7 +159,7 @@ fn operands(words: &Words, tags: &mut Tags, at: usize, end: usize) -> Walked
     requires { ⌜ at ≤ end ⌝ }
     requires { ⌜ end ≤ length (now words) ⌝ }
     requires { ⌜ end ≤ 16384 ⌝ }
-    ensures { λ r. ⌜ Walks r (now (tags .exit)) (now (tags .entry)) at end (run (slice at end (now (words .entry))) (109 ∷ [])) ⌝ }
+    ensures { λ r. ⌜ RowEnsures r (now (tags .exit)) (now (tags .entry)) at end (run (slice at end (now (words .entry))) (109 ∷ [])) ⌝ }
 {
     if end <= at {
         return Walked::Misfit;
@@ -215,7 +215,7 @@ fn opened(
     requires { ⌜ now table ≡ numbers ⌝ }
     requires { ⌜ (110 ≤ s) × (s < 126) ⌝ }
     requires { ⌜ (s ≡ 124 → ⊥) ⌝ }
-    ensures { λ r. ⌜ Walks r (now (tags .exit)) (now (tags .entry)) at end (opening left s (slice at end (now (words .entry)))) ⌝ }
+    ensures { λ r. ⌜ RowEnsures r (now (tags .exit)) (now (tags .entry)) at end (opening left s (slice at end (now (words .entry)))) ⌝ }
 {
     if end <= at {
         return Walked::Misfit;
@@ -243,7 +243,7 @@ fn stmt(
     requires { ⌜ end ≤ length (now words) ⌝ }
     requires { ⌜ end ≤ 16384 ⌝ }
     requires { ⌜ now table ≡ numbers ⌝ }
-    ensures { λ r. ⌜ Walks r (now (tags .exit)) (now (tags .entry)) at end (statementOf (readB left) (slice at end (now (words .entry)))) ⌝ }
+    ensures { λ r. ⌜ RowEnsures r (now (tags .exit)) (now (tags .entry)) at end (statementOf (readB left) (slice at end (now (words .entry)))) ⌝ }
 {
     if end <= at {
         return Walked::Misfit;
@@ -278,7 +278,7 @@ fn part(
     requires { ⌜ end ≤ 16384 ⌝ }
     requires { ⌜ now table ≡ numbers ⌝ }
     requires { ⌜ (108 ≤ s) × (s < 126) ⌝ }
-    ensures { λ r. ⌜ Walks r (now (tags .exit)) (now (tags .entry)) at end (piece left s (slice at end (now (words .entry)))) ⌝ }
+    ensures { λ r. ⌜ RowEnsures r (now (tags .exit)) (now (tags .entry)) at end (piece left s (slice at end (now (words .entry)))) ⌝ }
 {
     if s == TEXT {
         return text(words, tags, at, end);
@@ -313,7 +313,7 @@ pub fn row(
     requires { ⌜ end ≤ 16384 ⌝ }
     requires { ⌜ now table ≡ numbers ⌝ }
     requires { ⌜ pc < ROWS ⌝ }
-    ensures { λ r. ⌜ Walks r (now (tags .exit)) (now (tags .entry)) at end (pieces left (rowAt pc) (slice at end (now (words .entry)))) ⌝ }
+    ensures { λ r. ⌜ RowEnsures r (now (tags .exit)) (now (tags .entry)) at end (pieces left (rowAt pc) (slice at end (now (words .entry)))) ⌝ }
 {
     let mut i = at;
     let mut p = pc;
@@ -363,7 +363,7 @@ pub fn times(
     requires { ⌜ end ≤ 16384 ⌝ }
     requires { ⌜ now table ≡ numbers ⌝ }
     requires { ⌜ pc < ROWS ⌝ }
-    ensures { λ r. ⌜ Walks r (now (tags .exit)) (now (tags .entry)) at end (timesOf count (pieces left (rowAt pc)) (slice at end (now (words .entry)))) ⌝ }
+    ensures { λ r. ⌜ RowEnsures r (now (tags .exit)) (now (tags .entry)) at end (timesOf count (pieces left (rowAt pc)) (slice at end (now (words .entry)))) ⌝ }
 {
     let mut n = count;
     let mut i = at;

@@ -18,7 +18,7 @@ use Rattle.model.specs.Tree.{flatAll, DEPTH}
 use Rattle.model.specs.Module.{next, records, table, raysRow, pairRow}
 use Rattle.intake_fields.specs.Parts.{Reader, join, times, pieces}
 use Rattle.intake_fields.specs.Rows.{SIZE, RAYS-ROW, PAIR-ROW, row, rowAt}
-use Rattle.intake_fields.specs.Walks.{Final, next as next-final, refused as refused-final, strange as strange-final, seen, final, Walks, filled, Fills}
+use Rattle.intake_fields.specs.Walks.{Final, next as next-final, refused as refused-final, strange as strange-final, seen, final, RowEnsures, filled, Fills}
 use Rattle.intake_layout.specs.Extents.{Classes, done, refused, odd, shown, ending, Covers, after, classes, extent, recordsLeft, tableClasses, tabled, specialOf, special}
 use Rattle.intake_fields.specs.declared.Walked.{Walked}
 use Rattle.intake_fields.specs.declared.Walked.the-variants.{Next, Misfit, Strange as WalkedStrange}
@@ -28,13 +28,13 @@ use Rattle.intake_fields.proofs.Reading.{Reads, reads, Reading, reads-pieces, r
 use Rattle.intake_fields.proofs.Walk.{Onto, Taken, taken, chain-misfit, chain-strange, chain-next}
 
 -- ---- outcomes that a walk shows
-pub is-misfit : (tags : List ℕ) (i end : ℕ) (r : Walked) (tags₁ : List ℕ) (o : Outcome Cells) → Walks r tags₁ tags i end o → r ≡ Misfit → o ≡ misfit
+pub is-misfit : (tags : List ℕ) (i end : ℕ) (r : Walked) (tags₁ : List ℕ) (o : Outcome Cells) → RowEnsures r tags₁ tags i end o → r ≡ Misfit → o ≡ misfit
 unfolding seen final
 is-misfit tags i end r tags₁ (fits cs ws) w e = let k : refused-final ≡ next-final _ _ = rw e at (w .same) in let z : _≡_ {A = ℕ} 0 1 = cc in absurd (omega arith)
 is-misfit tags i end r tags₁ misfit w e = refl
 is-misfit tags i end r tags₁ unknown w e = let k : refused-final ≡ strange-final = rw e at (w .same) in let z : _≡_ {A = ℕ} 0 1 = cc in absurd (omega arith)
 
-pub is-unknown : (tags : List ℕ) (i end : ℕ) (r : Walked) (tags₁ : List ℕ) (o : Outcome Cells) → Walks r tags₁ tags i end o → r ≡ WalkedStrange → o ≡ unknown
+pub is-unknown : (tags : List ℕ) (i end : ℕ) (r : Walked) (tags₁ : List ℕ) (o : Outcome Cells) → RowEnsures r tags₁ tags i end o → r ≡ WalkedStrange → o ≡ unknown
 unfolding seen final
 is-unknown tags i end r tags₁ (fits cs ws) w e = let k : strange-final ≡ next-final _ _ = rw e at (w .same) in let z : _≡_ {A = ℕ} 0 1 = cc in absurd (omega arith)
 is-unknown tags i end r tags₁ misfit w e = let k : strange-final ≡ refused-final = rw e at (w .same) in let z : _≡_ {A = ℕ} 0 1 = cc in absurd (omega arith)
@@ -46,7 +46,7 @@ exact-more a [] h = absurd (omega arith)
 exact-more a (w ∷ ws) h = refl
 
 -- ---- a walk over the whole of an extent
-module _ (words tags : List ℕ) (at end : ℕ) (enough : end ≤ length words) (h : at ≤ end) (o : Outcome Cells) (rd : Reads (slice at end words) o) (r : Walked) (tags₁ : List ℕ) (got : Walks r tags₁ tags at end o) where
+module _ (words tags : List ℕ) (at end : ℕ) (enough : end ≤ length words) (h : at ≤ end) (o : Outcome Cells) (rd : Reads (slice at end words) o) (r : Walked) (tags₁ : List ℕ) (got : RowEnsures r tags₁ tags at end o) where
   took : (i : ℕ) → r ≡ Next i → Taken words tags at end tags₁ i o
   unfolding seen
   took i e = taken words tags at end enough h o rd tags₁ i (rw e at (got .same))
@@ -114,7 +114,7 @@ module _ (p : Reader) (words tags : List ℕ) (start at end stop : ℕ) where
     unfolding extent
     extent-is = rw (extent, eq-eqb start at e, le-leb at end h, le-leb end stop k) (ap (λ ws. mapL classes (exact (p ws))) (slice-front words at end stop h k))
 
-module _ (words tags : List ℕ) (start at end stop pc : ℕ) (enough : stop ≤ length words) (e : start ≡ at) (h : at ≤ end) (k : end ≤ stop) (r : Walked) (tags₁ : List ℕ) (got : Walks r tags₁ tags at end (pieces 32 (rowAt pc) (slice at end words))) where
+module _ (words tags : List ℕ) (start at end stop pc : ℕ) (enough : stop ≤ length words) (e : start ≡ at) (h : at ≤ end) (k : end ≤ stop) (r : Walked) (tags₁ : List ℕ) (got : RowEnsures r tags₁ tags at end (pieces 32 (rowAt pc) (slice at end words))) where
   p : Reader
   p = pieces 32 (rowAt pc)
 
@@ -421,7 +421,7 @@ pair-row : rowAt PAIR-ROW ≡ pairRow
 unfolding rowAt row SIZE PAIR-ROW
 pair-row = refl
 
-module _ (words tags : List ℕ) (base stop count : ℕ) (enough : stop ≤ length words) (h : base ≤ stop) (r : Walked) (tags₁ : List ℕ) (got : Walks r tags₁ tags base stop (pieces 32 (rowAt RAYS-ROW) (slice base stop words))) where
+module _ (words tags : List ℕ) (base stop count : ℕ) (enough : stop ≤ length words) (h : base ≤ stop) (r : Walked) (tags₁ : List ℕ) (got : RowEnsures r tags₁ tags base stop (pieces 32 (rowAt RAYS-ROW) (slice base stop words))) where
   pairs : Reader
   pairs = times count (pieces DEPTH pairRow)
 
@@ -457,8 +457,8 @@ module _ (words tags : List ℕ) (base stop count : ℕ) (enough : stop ≤ leng
     pub special-within : i ≤ stop
     special-within = onward .within
 
-    module _ (q : Walked) (tags₂ : List ℕ) (then : Walks q tags₂ tags₁ i stop (times count (pieces 32 (rowAt PAIR-ROW)) (slice i stop words))) where
-      whole-special : Walks q tags₂ tags base stop all
+    module _ (q : Walked) (tags₂ : List ℕ) (then : RowEnsures q tags₂ tags₁ i stop (times count (pieces 32 (rowAt PAIR-ROW)) (slice i stop words))) where
+      whole-special : RowEnsures q tags₂ tags base stop all
       unfolding pairs
       whole-special = record { same = (rw pair-row at (then .same)) ∙ sym (ap (final tags base stop) is-all ∙ onward .same) }
 

@@ -16,7 +16,7 @@ use Rattle.model.specs.Module.{Module, read, write, flatModule, sized}
 use Rattle.model.specs.Taped.{Taped}
 use Rattle.theory_image.specs.Modules.{read-write, read-well}
 use Rattle.theory_image.specs.Views.{length-write}
-use Rattle.intake_layout.specs.Layout.{Answer, fits, size, shows, held, layoutOf, Lays}
+use Rattle.intake_layout.specs.Layout.{Answer, fits, size, shows, held, layoutOf, LayOutEnsures}
 use Rattle.intake_layout.specs.declared.Layout.the-variants.{Fits}
 
 -- the image is sized, and its words hold a module
@@ -85,7 +85,7 @@ module _ (bytes words tags words₁ tags₁ : List ℕ) (n : ℕ) (words-long : 
   inside-strange g = let z : _≡_ {A = ℕ} 0 1 = cc in absurd (omega arith)
 
   -- an image that fits is held by words and tags
-  pub holds : Lays (Fits n) words₁ tags₁ bytes words tags → HoldsImage bytes words₁ tags₁ n
+  pub holds : LayOutEnsures (Fits n) words₁ tags₁ bytes words tags → HoldsImage bytes words₁ tags₁ n
   unfolding shows layoutOf
   holds l = go (sized (length bytes) (wordsOf bytes)) refl (l .same)
     where

@@ -16,7 +16,7 @@ use Rattle.model.specs.Module.{Module, limits, placed, read, flatModule, sized}
 use Rattle.intake_fields.specs.Parts.{tableRows}
 use Rattle.intake_fields.specs.Walks.{next as next-final, seen, filled, Fills}
 use Rattle.intake_layout.specs.Extents.{done, shown, ending, Covers, sectionsFrom}
-use Rattle.intake_layout.specs.Layout.{fits, shows, held, layoutOf, Lays, layed, laying, Laying}
+use Rattle.intake_layout.specs.Layout.{fits, shows, held, layoutOf, LayOutEnsures, layed, laying, Laying}
 use Rattle.intake_fields.specs.declared.Walked.{Walked}
 use Rattle.intake_fields.specs.declared.Walked.the-variants.{Next, Misfit as WalkedMisfit, Strange as WalkedStrange}
 use Rattle.intake_layout.specs.declared.section.Held.{Held}
@@ -93,15 +93,15 @@ module _ (words tags tags₁ : List ℕ) (total : ℕ) (large : 20 ≤ total) (e
 
 -- ---- sizes
 module _ (bytes words tags words₁ tags₁ : List ℕ) where
-  size-is : sized (length bytes) (wordsOf bytes) ≡ false → Lays Size words₁ tags₁ bytes words tags
+  size-is : sized (length bytes) (wordsOf bytes) ≡ false → LayOutEnsures Size words₁ tags₁ bytes words tags
   unfolding shows layoutOf
   size-is e = record { same = rw (layoutOf, e) }
 
-  pub size-short : length bytes < 80 → Lays Size words₁ tags₁ bytes words tags
+  pub size-short : length bytes < 80 → LayOutEnsures Size words₁ tags₁ bytes words tags
   unfolding sized
   size-short h = size-is (rw (sized, lt-leb 80 (length bytes) h))
 
-  pub size-long : 80 ≤ length bytes → 65536 < length bytes → Lays Size words₁ tags₁ bytes words tags
+  pub size-long : 80 ≤ length bytes → 65536 < length bytes → LayOutEnsures Size words₁ tags₁ bytes words tags
   unfolding sized
   size-long h k = size-is (rw (sized, le-leb 80 (length bytes) h, lt-leb (length bytes) 65536 k))
 
@@ -112,12 +112,12 @@ module _ (bytes words tags words₁ tags₁ : List ℕ) where
     total : getD (wordsOf bytes) 1 0 ≡ wordAt bytes 4
     total = word-is bytes 1 (omega arith)
 
-    pub size-edition : (w : ℕ) → w ≡ wordAt bytes 0 → (w ≡ 1 → ⊥) → Lays Size words₁ tags₁ bytes words tags
+    pub size-edition : (w : ℕ) → w ≡ wordAt bytes 0 → (w ≡ 1 → ⊥) → LayOutEnsures Size words₁ tags₁ bytes words tags
     unfolding sized
     size-edition w is n = size-is (rw (sized, le-leb 80 (length bytes) h, le-leb (length bytes) 65536 k, ne-eqb (getD (wordsOf bytes) 0 0) 1 (λ q. n (is ∙ sym edition ∙ q))))
 
     module _ (w : ℕ) (is : w ≡ wordAt bytes 0) (one : w ≡ 1) (v u : ℕ) (is-v : v ≡ wordAt bytes 4) (is-u : u ≡ v) where
-      pub size-total : (4 * u ≡ length bytes → ⊥) → Lays Size words₁ tags₁ bytes words tags
+      pub size-total : (4 * u ≡ length bytes → ⊥) → LayOutEnsures Size words₁ tags₁ bytes words tags
       unfolding sized
       size-total n = size-is (rw (sized, le-leb 80 (length bytes) h, le-leb (length bytes) 65536 k, eq-eqb (getD (wordsOf bytes) 0 0) 1 (edition ∙ sym is ∙ one), ne-eqb (length bytes) (4 * getD (wordsOf bytes) 1 0) (λ q. n (ap (4 *_) (is-u ∙ is-v ∙ sym total) ∙ sym q))))
 
@@ -159,6 +159,6 @@ module _ (bytes words tags words₁ tags₁ : List ℕ) where
           relabel strange Misfit g = let z : _≡_ {A = ℕ} 0 1 = cc in absurd (omega arith)
           relabel strange Strange g = refl
 
-          pub laid-out : (r : Layout) → Laying r tags₁ tags (take (length bytes / 4) words₁) → Lays r words₁ tags₁ bytes words tags
+          pub laid-out : (r : Layout) → Laying r tags₁ tags (take (length bytes / 4) words₁) → LayOutEnsures r words₁ tags₁ bytes words tags
           unfolding layed layoutOf
           laid-out r got = record { same = relabel (read (wordsOf bytes)) r (rw front at (got .same)) ∙ sym (rw (layoutOf, right)) }

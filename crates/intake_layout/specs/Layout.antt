@@ -32,7 +32,7 @@ held ws words tags strange = unknown
 unfoldable pub layoutOf : List ℕ → List ℕ → List ℕ → Answer
 layoutOf bytes words tags = elim (sized (length bytes) (wordsOf bytes)) [ true ↦ held (wordsOf bytes) words tags (read (wordsOf bytes)) | false ↦ size ]
 
-pub record Lays (r : Layout) (words₁ tags₁ bytes words tags : List ℕ) : Type 0 where
+pub record LayOutEnsures (r : Layout) (words₁ tags₁ bytes words tags : List ℕ) : Type 0 where
   pub same : shows r words₁ tags₁ ≡ layoutOf bytes words tags
 
 -- the same of words that are there: what is laid is the module that they hold

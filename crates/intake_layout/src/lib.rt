@@ -7,7 +7,7 @@ use intake_fields::table::numbers;
 use section::Held;
 ghost use Prim.Native.Nat.{_≤_};
 ghost use lib.ListN.{length, take};
-ghost use Rattle.intake_layout.specs.Layout.{Lays, Laying};
+ghost use Rattle.intake_layout.specs.Layout.{LayOutEnsures, Laying};
 
 const HEADER: u32 = base_views::HEADER as u32;
 
@@ -42,7 +42,7 @@ fn lay_out_words(words: &Words, tags: &mut Tags, total: usize) -> Layout
 
 // Lays out an image. Words and tags hold it where it fits; if it is refused, nothing is promised about them.
 pub fn lay_out(image: &[u8], words: &mut Words, tags: &mut Tags) -> Layout
-    ensures { λ r. ⌜ Lays r (now (words .exit)) (now (tags .exit)) (now (image .entry)) (now (words .entry)) (now (tags .entry)) ⌝ }
+    ensures { λ r. ⌜ LayOutEnsures r (now (words .exit)) (now (tags .exit)) (now (image .entry)) (now (words .entry)) (now (tags .entry)) ⌝ }
 {
     let n = image.len();
     if n < 80 {

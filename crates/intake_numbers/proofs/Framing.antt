@@ -22,8 +22,8 @@ use Rattle.theory_image.specs.Views.{sees-entry}
 use Rattle.theory_image.specs.FunctionViews.{arguments-count, locals-count, exprs-count, stands-end, taped-part, taped-function, taped-entry, taped-functions, taped-entries}
 use Rattle.theory_image.specs.Betweens.{held-between}
 use Rattle.model.specs.Between.{Long}
-use Rattle.intake_ranges.specs.Ranges.{table, headed, owned, Checked, Owned}
-use Rattle.intake_numbers.specs.Passes.{Says, Tabled, Frame, Framed, Sound, Loose, Loosely, tablesFine, kindsFine, functionsFine, entriesFine}
+use Rattle.intake_ranges.specs.Ranges.{table, headed, owned, FunctionInRangeEnsures, Owned}
+use Rattle.intake_numbers.specs.Passes.{TestEnsures, Tabled, Frame, Framed, Sound, Loose, Loosely, tablesFine, kindsFine, functionsFine, entriesFine}
 use Rattle.intake_initialisers.specs.Lists.{Lists, Listed, Initialised}
 use Rattle.intake_numbers.proofs.Tabling.{and-next, taped-long, cells-few, headed-is}
 
@@ -76,7 +76,7 @@ module _ (words tags : List ℕ) (at from end : ℕ) (pre : Framed words tags at
       now-is : (f : Function) (cs : Cells) → Frame words tags at from end f cs → (b : Bounds) → t ≡ table b → t₁ ≡ table (inside b f)
       now-is f cs fr b q = got .same b q ∙ ap table (bounds-are fr locals exprs locals-is exprs-is e u v e-is u-is v-is b)
 
-      module _ (r₁ : Bool) (checked : Checked r₁ words tags t₁ at end) where
+      module _ (r₁ : Bool) (checked : FunctionInRangeEnsures r₁ words tags t₁ at end) where
         both : (f : Function) (cs : Cells) → Frame words tags at from end f cs → (b : Bounds) → t ≡ table b → within (inside b f) cs && ordered cs ≡ r₁
         both f cs fr b q = sym (checked .same (inside b f) (now-is f cs fr b q) ∙ ap (λ cs. within (inside b f) cs && ordered cs) (held-between (fr .own .held) (fr .whole)))
 
@@ -270,16 +270,16 @@ module _ (words tags : List ℕ) (n : ℕ) (t : List ℕ) (t-is : t ≡ table (h
   loose m tp = record { bounds = outside m; is = table-is m tp; alike = λ f. refl }
 
   module _ (r₁ : Bool) (g₁ : Tabled r₁ words tags n t tablesFine) where
-    pub numbered-tables : not r₁ ≡ true → Says false words tags n numbered
+    pub numbered-tables : not r₁ ≡ true → TestEnsures false words tags n numbered
     numbered-tables q = record { same = λ m tp. sym (numbered-is m ∙ rw (sym (g₁ .same m tp (table-is m tp)) ∙ not-true r₁ q)) }
 
-    module _ (q₁ : not r₁ ≡ false) (r₂ : Bool) (g₂ : Says r₂ words tags n kindsFine) where
-      pub numbered-kinds : not r₂ ≡ true → Says false words tags n numbered
+    module _ (q₁ : not r₁ ≡ false) (r₂ : Bool) (g₂ : TestEnsures r₂ words tags n kindsFine) where
+      pub numbered-kinds : not r₂ ≡ true → TestEnsures false words tags n numbered
       numbered-kinds q = record { same = λ m tp. sym (numbered-is m ∙ rw (sym (g₁ .same m tp (table-is m tp)) ∙ not-false r₁ q₁, sym (g₂ .same m tp) ∙ not-true r₂ q)) }
 
       module _ (q₂ : not r₂ ≡ false) (r₃ : Bool) (t₁ : List ℕ) (g₃ : Loosely r₃ t₁ words tags n t functionsFine) where
-        pub numbered-functions : not r₃ ≡ true → Says false words tags n numbered
+        pub numbered-functions : not r₃ ≡ true → TestEnsures false words tags n numbered
         numbered-functions q = record { same = λ m tp. sym (numbered-is m ∙ rw (sym (g₁ .same m tp (table-is m tp)) ∙ not-false r₁ q₁, sym (g₂ .same m tp) ∙ not-false r₂ q₂, sym (g₃ .same m tp (loose m tp)) ∙ not-true r₃ q)) }
 
-        pub numbered-entries : not r₃ ≡ false → (r₄ : Bool) (t₂ : List ℕ) → Loosely r₄ t₂ words tags n t₁ entriesFine → Says r₄ words tags n numbered
+        pub numbered-entries : not r₃ ≡ false → (r₄ : Bool) (t₂ : List ℕ) → Loosely r₄ t₂ words tags n t₁ entriesFine → TestEnsures r₄ words tags n numbered
         numbered-entries q r₄ t₂ g₄ = record { same = λ m tp. sym (numbered-is m ∙ rw (sym (g₁ .same m tp (table-is m tp)) ∙ not-false r₁ q₁, sym (g₂ .same m tp) ∙ not-false r₂ q₂, sym (g₃ .same m tp (loose m tp)) ∙ not-false r₃ q) (sym (g₄ .same m tp (g₃ .kept m tp (loose m tp))))) }

@@ -22,8 +22,8 @@ use Rattle.theory_image.specs.FunctionViews.{Part, part-word, part-end, Express
 use Rattle.model.specs.Between.{between, Long}
 use Rattle.theory_image.specs.Betweens.{held-between}
 use Rattle.theory_image.specs.Members.{each-at}
-use Rattle.intake_ranges.specs.Ranges.{table, headed, Ranged}
-use Rattle.intake_numbers.specs.Passes.{Says, Tabled, tablesFine, kindsFine}
+use Rattle.intake_ranges.specs.Ranges.{table, headed, InRangeEnsures}
+use Rattle.intake_numbers.specs.Passes.{TestEnsures, Tabled, tablesFine, kindsFine}
 
 -- ---- what a pass over a section tests
 pub and-next : (a b c : Bool) → (a && (b && c)) ≡ ((a && b) && c)
@@ -104,12 +104,12 @@ module _ (words tags : List ℕ) (n : ℕ) (tape : Tape words tags n) (k : ℕ) 
     pub table-small : e ≤ 16384
     table-small = omega (arith, end-at, section-part (tape .taped) k h .within, cells-few (tape .taped))
 
-    pub table-ranged : (r : Bool) (t : List ℕ) → Ranged r words tags t a e → Ranged r words tags t (offsetAt k words) (offsetAt (suc k) words)
+    pub table-ranged : (r : Bool) (t : List ℕ) → InRangeEnsures r words tags t a e → InRangeEnsures r words tags t (offsetAt k words) (offsetAt (suc k) words)
     table-ranged r t got = rw (start-at, end-at) at got
 
 -- ---- the tables, one after the other
 abbrev pub At : List ℕ → List ℕ → List ℕ → ℕ → Bool → Type 0
-At words tags t k r = Ranged r words tags t (offsetAt k words) (offsetAt (suc k) words)
+At words tags t k r = InRangeEnsures r words tags t (offsetAt k words) (offsetAt (suc k) words)
 
 module _ (words tags : List ℕ) (n : ℕ) (t : List ℕ) where
   got : (k : ℕ) → k < 8 → (r : Bool) → At words tags t k r → (m : Module) → Taped words tags n m → t ≡ table (outside m) → every (within (outside m)) (getD (tables m) k []) ≡ r
@@ -140,7 +140,7 @@ module _ (words tags : List ℕ) (n : ℕ) (t : List ℕ) where
             unfolding tablesFine tables
             tables-exprs q = record { same = λ m tp e. rw (got 1 (omega arith) r₁ a₁ m tp e, not-false r₁ q₁, got 2 (omega arith) r₂ a₂ m tp e, not-false r₂ q₂, got 3 (omega arith) r₃ a₃ m tp e, not-false r₃ q₃, got 4 (omega arith) r₄ a₄ m tp e, not-false r₄ q₄, got 5 (omega arith) r₅ a₅ m tp e, not-true r₅ q) }
 
-            pub tables-special : not r₅ ≡ false → (at : ℕ) → at ≡ offsetAt 8 words → (r : Bool) → Ranged r words tags t at n → Tabled r words tags n t tablesFine
+            pub tables-special : not r₅ ≡ false → (at : ℕ) → at ≡ offsetAt 8 words → (r : Bool) → InRangeEnsures r words tags t at n → Tabled r words tags n t tablesFine
             unfolding tablesFine tables flatSpecial
             tables-special q₅ at is r a = record {
               same = λ m tp e.
@@ -189,7 +189,7 @@ module _ (words tags : List ℕ) (n : ℕ) where
   kinds-begin count = record { to = omega arith; same = λ m tp. refl }
 
   module _ (j : ℕ) (inv : Kinding words tags n j) (count : ℕ) (is : count ≡ countAt 5 words) where
-    pub kinds-done : count ≤ j → Says true words tags n kindsFine
+    pub kinds-done : count ≤ j → TestEnsures true words tags n kindsFine
     unfolding kindsFine every
     kinds-done h = record {
       same = λ m tp.
@@ -214,7 +214,7 @@ module _ (words tags : List ℕ) (n : ℕ) where
               ∙ sym (ap (every constantOnly) (drop-cons (m .exprs) j [] (many tp j kinds-record)))
               ∙ inv .same m tp)
 
-          pub kinds-over : not v ≡ true → Says false words tags n kindsFine
+          pub kinds-over : not v ≡ true → TestEnsures false words tags n kindsFine
           unfolding kindsFine
           kinds-over q = record { same = λ m tp. rw (not-true v q) at (turn m tp) }
 

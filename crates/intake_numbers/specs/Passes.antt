@@ -14,7 +14,7 @@ use Rattle.theory_image.specs.FunctionViews.{Part, Stands}
 use Rattle.intake_ranges.specs.Ranges.{table}
 
 -- ---- of the module that words and tags hold
-pub record Says (r : Bool) (words tags : List ℕ) (n : ℕ) (f : Module → Bool) : Type 0 where
+pub record TestEnsures (r : Bool) (words tags : List ℕ) (n : ℕ) (f : Module → Bool) : Type 0 where
   pub same : (m : Module) → Taped words tags n m → r ≡ f m
 
 -- as long as the table is that of the module

@@ -31,14 +31,14 @@ ghost use Prim.Native.Nat.{suc, _<_};
 ghost use Rattle.model.specs.Module.{offsetAt};
 ghost use Rattle.model.specs.Taped.{Tape};
 ghost use Rattle.model.specs.Numbers.{numbered as numberedOf};
-ghost use Rattle.intake_ranges.specs.Ranges.{Ranged};
-ghost use Rattle.intake_numbers.specs.Passes.{Says, Tabled, Framed, Sound, Loosely, tablesFine, kindsFine, functionsFine, entriesFine};
+ghost use Rattle.intake_ranges.specs.Ranges.{InRangeEnsures};
+ghost use Rattle.intake_numbers.specs.Passes.{TestEnsures, Tabled, Framed, Sound, Loosely, tablesFine, kindsFine, functionsFine, entriesFine};
 
 // A table section: count offsets, and records whose numbers are in range.
 fn table(words: &Words, tags: &Tags, n: usize, t: &[u64; 256], k: usize) -> bool
     requires { ⌜ Tape (now words) (now tags) n ⌝ }
     requires { ⌜ k < 8 ⌝ }
-    ensures { λ r. ⌜ Ranged r (now (words .entry)) (now (tags .entry)) (now (t .entry)) (offsetAt k (now (words .entry))) (offsetAt (suc k) (now (words .entry))) ⌝ }
+    ensures { λ r. ⌜ InRangeEnsures r (now (words .entry)) (now (tags .entry)) (now (t .entry)) (offsetAt k (now (words .entry))) (offsetAt (suc k) (now (words .entry))) ⌝ }
 {
     let at = offset(words, k);
     let end = offset(words, k + 1);
@@ -72,7 +72,7 @@ fn tables(words: &Words, tags: &Tags, n: usize, t: &[u64; 256]) -> bool
 // The kinds of global expressions.
 fn kinds(words: &Words, tags: &Tags, n: usize) -> bool
     requires { ⌜ Tape (now words) (now tags) n ⌝ }
-    ensures { λ r. ⌜ Says r (now (words .entry)) (now (tags .entry)) n kindsFine ⌝ }
+    ensures { λ r. ⌜ TestEnsures r (now (words .entry)) (now (tags .entry)) n kindsFine ⌝ }
 {
     let count = count(words, EXPRESSIONS);
     let mut j = 0;
@@ -148,7 +148,7 @@ fn entries(words: &Words, tags: &Tags, n: usize, t: &mut [u64; 256]) -> bool
 // Whether every number and code is in range and every kind in its place.
 pub fn numbered(words: &Words, tags: &Tags, n: usize) -> bool
     requires { ⌜ Tape (now words) (now tags) n ⌝ }
-    ensures { λ r. ⌜ Says r (now (words .entry)) (now (tags .entry)) n numberedOf ⌝ }
+    ensures { λ r. ⌜ TestEnsures r (now (words .entry)) (now (tags .entry)) n numberedOf ⌝ }
 {
     let mut t = code_bounds();
     module_bounds(&mut t, words);

@@ -14,7 +14,7 @@ use Rattle.model.specs.Module.{countAt}
 use Rattle.model.specs.Numbers.{Bounds, caps, bound, below, within, rising, ordered}
 use Rattle.model.specs.Between.{between, Long}
 use Rattle.theory_image.specs.Betweens.{between-none, between-cons}
-use Rattle.intake_ranges.specs.Ranges.{cap, upTo, table, codes, headed, owned, Ranged, Checked, Owned}
+use Rattle.intake_ranges.specs.Ranges.{cap, upTo, table, codes, headed, owned, InRangeEnsures, FunctionInRangeEnsures, Owned}
 
 -- ---- the table
 map-upTo : (f : ℕ → ℕ) (n k s : ℕ) → s < n → getD (map f (upTo k n)) s 0 ≡ f (k + s)
@@ -47,7 +47,7 @@ module _ (words tags t : List ℕ) (at end : ℕ) where
   ranged-begin h = record { to = h; same = λ b e. refl }
 
   module _ (i : ℕ) (inv : Left words tags t at end i) where
-    pub ranged-done : end ≤ i → Ranged true words tags t at end
+    pub ranged-done : end ≤ i → InRangeEnsures true words tags t at end
     unfolding within
     ranged-done h = record { same = λ b e. sym (ap (within b) (between-none tags words i end h)) ∙ inv .same b e }
 
@@ -56,7 +56,7 @@ module _ (words tags t : List ℕ) (at end : ℕ) where
       unfolding within
       step b e v q = sym (ap (_&& within b (between tags words (i + 1) end)) (cell-tested t b e s f (getD tags i 0) (getD words i 0) s-is few f-is low ∙ q)) ∙ sym (ap (within b) (between-cons tags words i end h long ok)) ∙ inv .same b e
 
-      pub ranged-over : getD t s 0 ≤ f → Ranged false words tags t at end
+      pub ranged-over : getD t s 0 ≤ f → InRangeEnsures false words tags t at end
       ranged-over g = record { same = λ b e. step b e false (le-ltb f (getD t s 0) g) }
 
       pub ranged-next : f < getD t s 0 → Left words tags t at end (i + 1)
@@ -94,7 +94,7 @@ module _ (words tags t : List ℕ) (at end : ℕ) where
   checked-begin h = record { to = h; same = λ b e. refl }
 
   module _ (i : ℕ) (inv : Leaves words tags t at end i) where
-    pub checked-done : end ≤ i → Checked true words tags t at end
+    pub checked-done : end ≤ i → FunctionInRangeEnsures true words tags t at end
     unfolding within ordered
     checked-done h = record { same = λ b e. sym (ap (λ cs. within b cs && ordered cs) (between-none tags words i end h)) ∙ inv .same b e }
 
@@ -111,7 +111,7 @@ module _ (words tags t : List ℕ) (at end : ℕ) where
           ∙ sym (ap (λ cs. within b cs && ordered cs) (between-cons tags words i end h long ok))
           ∙ inv .same b e
 
-      pub checked-over : getD t s 0 ≤ f → Checked false words tags t at end
+      pub checked-over : getD t s 0 ≤ f → FunctionInRangeEnsures false words tags t at end
       checked-over g = record { same = λ b e. turn b e false (rising (getD tags i 0, getD words i 0) rest) (le-ltb f (getD t s 0) g) refl }
 
       module _ (g : f < getD t s 0) where
@@ -120,7 +120,7 @@ module _ (words tags t : List ℕ) (at end : ℕ) where
         checked-plain n = record { to = omega arith; same = λ b e. turn b e true true (lt-ltb f (getD t s 0) g) (sym (rising-other words tags i end (λ z. n (s-is .0 ∙ z)))) }
 
         module _ (v : Bool) (v-is : v ≡ rising (getD tags i 0, getD words i 0) (between tags words (i + 1) end)) where
-          pub checked-falls : not v ≡ true → Checked false words tags t at end
+          pub checked-falls : not v ≡ true → FunctionInRangeEnsures false words tags t at end
           unfolding rest
           checked-falls q = record { same = λ b e. sym (and-false (within b rest)) ∙ turn b e true false (lt-ltb f (getD t s 0) g) (sym v-is ∙ not-true v q) }
 

@@ -57,11 +57,11 @@ owned b e a l = record {
   locals = l;
 }
 
-pub record Ranged (r : Bool) (words tags t : List ℕ) (at end : ℕ) : Type 0 where
+pub record InRangeEnsures (r : Bool) (words tags t : List ℕ) (at end : ℕ) : Type 0 where
   pub same : (b : Bounds) → t ≡ table b → r ≡ within b (between tags words at end)
 
 -- with the order of Emit's words
-pub record Checked (r : Bool) (words tags t : List ℕ) (at end : ℕ) : Type 0 where
+pub record FunctionInRangeEnsures (r : Bool) (words tags t : List ℕ) (at end : ℕ) : Type 0 where
   pub same : (b : Bounds) → t ≡ table b → r ≡ within b (between tags words at end) && ordered (between tags words at end)
 
 pub record Owned (t₁ t : List ℕ) (e a l : ℕ) : Type 0 where

@@ -14,7 +14,7 @@ ghost use Prim.Native.Nat.{_+_, _^_, _≤_, _<_};
 ghost use lib.ListN.{getD};
 ghost use Rattle.model.specs.Numbers.{rising as risingOf};
 ghost use Rattle.model.specs.Between.{between, Long};
-ghost use Rattle.intake_ranges.specs.Ranges.{table, codes, headed, Ranged, Checked, Owned};
+ghost use Rattle.intake_ranges.specs.Ranges.{table, codes, headed, InRangeEnsures, FunctionInRangeEnsures, Owned};
 
 // Classes below this one are codes: each word of such a class is below the class.
 const CODES: usize = 80;
@@ -136,7 +136,7 @@ pub fn in_range(words: &Words, tags: &Tags, t: &[u64; 256], at: usize, end: usiz
     requires { ⌜ Long (now words) (now tags) ⌝ }
     requires { ⌜ at ≤ end ⌝ }
     requires { ⌜ end ≤ 16384 ⌝ }
-    ensures { λ r. ⌜ Ranged r (now (words .entry)) (now (tags .entry)) (now (t .entry)) at end ⌝ }
+    ensures { λ r. ⌜ InRangeEnsures r (now (words .entry)) (now (tags .entry)) (now (t .entry)) at end ⌝ }
 {
     let mut i = at;
     while i < end {
@@ -171,7 +171,7 @@ pub fn function_in_range(words: &Words, tags: &Tags, t: &[u64; 256], at: usize, 
     requires { ⌜ Long (now words) (now tags) ⌝ }
     requires { ⌜ at ≤ end ⌝ }
     requires { ⌜ end ≤ 16384 ⌝ }
-    ensures { λ r. ⌜ Checked r (now (words .entry)) (now (tags .entry)) (now (t .entry)) at end ⌝ }
+    ensures { λ r. ⌜ FunctionInRangeEnsures r (now (words .entry)) (now (tags .entry)) (now (t .entry)) at end ⌝ }
 {
     let mut i = at;
     while i < end {

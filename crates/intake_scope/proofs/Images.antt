@@ -21,7 +21,7 @@ use Rattle.model.specs.Initial.{initialised}
 use Rattle.model.specs.Numbers.{Bounds, caps, bound, below, within, ordered, every, outside, inside, sound}
 use Rattle.model.specs.Scope.{scoped, allScoped, entriesScoped, inScope}
 use Rattle.theory_image.specs.FunctionViews.{part-end}
-use Rattle.intake_numbers.specs.Passes.{Says, Frame, tablesFine, kindsFine, functionsFine, entriesFine}
+use Rattle.intake_numbers.specs.Passes.{TestEnsures, Frame, tablesFine, kindsFine, functionsFine, entriesFine}
 use Rattle.intake_numbers.proofs.Framing.{Word, noFunction, noEntry, Framing, framing-functions, framing-entries, functions-in, entries-in, numbered-is}
 use Rattle.intake_scope.specs.Functions.{Stated, Scoped, InRange, functionsScoped, entryPointsScoped}
 use Rattle.intake_blocks.proofs.Trees.{Runs, runs-word}
@@ -155,7 +155,7 @@ module _ (words tags : List ℕ) (n : ℕ) (nb : InRange words tags n) where
 
   module _ (count j : ℕ) where
     module _ (is : Word count (countAt 6 words)) (inv : InFunctions words tags n j) where
-      pub functions-done : count ≤ j → Says true words tags n functionsScoped
+      pub functions-done : count ≤ j → TestEnsures true words tags n functionsScoped
       functions-done h = record { same = λ m tp. onward-done 6 _ _ _ _ _ words tags n (framing-functions words tags n) j inv (omega (arith, is .0)) m tp ∙ all-every (m .functions) }
 
       module _ (h : j < count) (at end : ℕ) (at-is : at ≡ recordAt 6 j words) (end-is : end ≡ recordEnd 6 j words) where
@@ -163,14 +163,14 @@ module _ (words tags : List ℕ) (n : ℕ) (nb : InRange words tags n) where
         functions-stated tape = rw (at-is, end-is) (onward-stated 6 _ _ _ _ _ words tags n (framing-functions words tags n) j inv (functions-in words count j is h) functions-good (λ p. omega arith) tape)
 
         module _ (r : Bool) (got : Scoped r words tags at at end) where
-          pub functions-over : not r ≡ true → Says false words tags n functionsScoped
+          pub functions-over : not r ≡ true → TestEnsures false words tags n functionsScoped
           functions-over q = record { same = λ m tp. onward-over 6 _ _ _ _ _ words tags n (framing-functions words tags n) j inv (functions-in words count j is h) functions-good r (rw (at-is, end-is) at got) q m tp ∙ all-every (m .functions) }
 
           pub functions-next : not r ≡ false → InFunctions words tags n (j + 1)
           functions-next q = onward-next 6 _ _ _ _ _ words tags n (framing-functions words tags n) j inv (functions-in words count j is h) functions-good r (rw (at-is, end-is) at got) q
 
     module _ (is : Word count (countAt 7 words)) (inv : InEntries words tags n j) where
-      pub entries-done : count ≤ j → Says true words tags n entryPointsScoped
+      pub entries-done : count ≤ j → TestEnsures true words tags n entryPointsScoped
       entries-done h = record { same = λ m tp. onward-done 7 _ _ _ _ _ words tags n (framing-entries words tags n) j inv (omega (arith, is .0)) m tp ∙ entries-every (m .entries) }
 
       module _ (h : j < count) (at end : ℕ) (at-is : at ≡ recordAt 7 j words) (end-is : end ≡ recordEnd 7 j words) where
@@ -181,17 +181,17 @@ module _ (words tags : List ℕ) (n : ℕ) (nb : InRange words tags n) where
         entries-small tape = let p = entries-stated tape in omega (arith, p .frame .whole .rising, p .frame .whole .within, p .frame .small)
 
         module _ (r : Bool) (got : Scoped r words tags at (at + 7) end) where
-          pub entries-over : not r ≡ true → Says false words tags n entryPointsScoped
+          pub entries-over : not r ≡ true → TestEnsures false words tags n entryPointsScoped
           entries-over q = record { same = λ m tp. onward-over 7 _ _ _ _ _ words tags n (framing-entries words tags n) j inv (entries-in words count j is h) entries-good r (rw (at-is, end-is) at got) q m tp ∙ entries-every (m .entries) }
 
           pub entries-next : not r ≡ false → InEntries words tags n (j + 1)
           entries-next q = onward-next 7 _ _ _ _ _ words tags n (framing-entries words tags n) j inv (entries-in words count j is h) entries-good r (rw (at-is, end-is) at got) q
 
-  module _ (a : Bool) (got : Says a words tags n functionsScoped) where
-    pub image-functions : not a ≡ true → Says false words tags n inScope
+  module _ (a : Bool) (got : TestEnsures a words tags n functionsScoped) where
+    pub image-functions : not a ≡ true → TestEnsures false words tags n inScope
     unfolding inScope
     image-functions q = record { same = λ m tp. sym (rw (sym (got .same m tp) ∙ not-true a q)) }
 
-    pub image-entries : not a ≡ false → (r : Bool) → Says r words tags n entryPointsScoped → Says r words tags n inScope
+    pub image-entries : not a ≡ false → (r : Bool) → TestEnsures r words tags n entryPointsScoped → TestEnsures r words tags n inScope
     unfolding inScope
     image-entries q r more = record { same = λ m tp. sym (rw (sym (got .same m tp) ∙ not-false a q) (sym (more .same m tp))) }

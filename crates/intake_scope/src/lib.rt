@@ -20,7 +20,7 @@ ghost use mathlib.Core.Path.{_≡_};
 ghost use mathlib.Core.Bool.{true};
 ghost use Rattle.model.specs.Taped.{Tape};
 ghost use Rattle.model.specs.Scope.{inScope};
-ghost use Rattle.intake_numbers.specs.Passes.{Says};
+ghost use Rattle.intake_numbers.specs.Passes.{TestEnsures};
 ghost use Rattle.intake_scope.specs.Functions.{Lent, Known, Tested, Stated, Scoped, InRange, functionsScoped, entryPointsScoped};
 
 // Is the body of a function in scope? Its lists of locals and expressions have their numbers at the words `locals` and `exprs`.
@@ -83,7 +83,7 @@ fn functions(
     requires { ⌜ Tape (now words) (now tags) n ⌝ }
     requires { ⌜ InRange (now words) (now tags) n ⌝ }
     requires { ⌜ Lent (now starts) (now list) (now until) ⌝ }
-    ensures { λ r. ⌜ Says r (now (words .entry)) (now (tags .entry)) n functionsScoped ⌝ }
+    ensures { λ r. ⌜ TestEnsures r (now (words .entry)) (now (tags .entry)) n functionsScoped ⌝ }
     ensures { λ r. ⌜ (r ≡ true → Lent (now (starts .exit)) (now (list .exit)) (now (until .exit))) ⌝ }
 {
     let count = count(words, FUNCTIONS);
@@ -112,7 +112,7 @@ fn entries(
     requires { ⌜ Tape (now words) (now tags) n ⌝ }
     requires { ⌜ InRange (now words) (now tags) n ⌝ }
     requires { ⌜ Lent (now starts) (now list) (now until) ⌝ }
-    ensures { λ r. ⌜ Says r (now (words .entry)) (now (tags .entry)) n entryPointsScoped ⌝ }
+    ensures { λ r. ⌜ TestEnsures r (now (words .entry)) (now (tags .entry)) n entryPointsScoped ⌝ }
     ensures { λ r. ⌜ (r ≡ true → Lent (now (starts .exit)) (now (list .exit)) (now (until .exit))) ⌝ }
 {
     let count = count(words, ENTRIES);
@@ -133,7 +133,7 @@ fn entries(
 pub fn in_scope(words: &Words, tags: &Tags, n: usize) -> bool
     requires { ⌜ Tape (now words) (now tags) n ⌝ }
     requires { ⌜ InRange (now words) (now tags) n ⌝ }
-    ensures { λ r. ⌜ Says r (now (words .entry)) (now (tags .entry)) n inScope ⌝ }
+    ensures { λ r. ⌜ TestEnsures r (now (words .entry)) (now (tags .entry)) n inScope ⌝ }
 {
     let mut starts = [0u32; 1025];
     let mut list = [0u32; 1024];

@@ -20,7 +20,7 @@ use Rattle.order_ranks.specs.Placing.{shown}
 use Rattle.order_ranks.specs.declared.Ordered.{Ordered}
 use Rattle.order_ranks.specs.declared.Ordered.the-variants.{All, Ring}
 use Rattle.order_callees.specs.Gathering.{Known, Listed}
-use Rattle.intake.specs.Taken.{numberOf, Accepts, Takes}
+use Rattle.intake.specs.Taken.{numberOf, Accepts, TakeInEnsures}
 use Rattle.intake.specs.declared.Taken.{Taken}
 use Rattle.intake.specs.declared.Taken.the-variants.{Accepted}
 use Rattle.intake.proofs.Refusals.{NotFirst, refused-by}
@@ -30,14 +30,14 @@ use Rattle.theory_link.specs.Demand.{Linking}
 use Rattle.theory_link.specs.OnBytes.{whole-words, not-taken, too-short}
 use Rattle.derive_state.specs.Source.{modOf}
 use Rattle.model.specs.Image.{wuldgisp-link, LinkEnsures}
-use Rattle.link_words.specs.Appends.{Linkable, LinksBy}
+use Rattle.link_words.specs.Appends.{Linkable, LinkInOrderEnsures}
 
 -- what linking is, where its answer and its output are known
 links-as : (image output₀ : List ℕ) (x : Linked) → linkImage image output₀ .0 ≡ x → (r : ℕ) (output : List ℕ) → r ≡ linkAnswer x → output ≡ outputAfter x output₀ → LinkEnsures r output₀ output image
 unfolding wuldgisp-link linkImage
 links-as image output₀ x e r output a b = record { answer = a ∙ sym (ap linkAnswer e); left = b ∙ sym (ap (λ (y : Linked). outputAfter y output₀) e) }
 
-module _ (image words tags : List ℕ) (t : Taken) (got : Takes t words tags image) where
+module _ (image words tags : List ℕ) (t : Taken) (got : TakeInEnsures t words tags image) where
   -- ---- refused by intake
   pub intake-refuses : NotFirst t → (k : ℕ) → k ≡ numberOf t → (output : List ℕ) → LinkEnsures k output output image
   unfolding answerBy outputAfter
@@ -93,7 +93,7 @@ module _ (image words tags : List ℕ) (t : Taken) (got : Takes t words tags ima
               sequence = record { is = ordered-so; counts = refl; long = list-long words tags n (order-asks .0) order₀ order a o q long };
             }
 
-        pub by-tells : (output₀ : List ℕ) → length image ≤ length output₀ → (r : ℕ) (output : List ℕ) → LinksBy words n order output₀ r output → LinkEnsures r output₀ output image
+        pub by-tells : (output₀ : List ℕ) → length image ≤ length output₀ → (r : ℕ) (output : List ℕ) → LinkInOrderEnsures words n order output₀ r output → LinkEnsures r output₀ output image
         unfolding inOrder outputAfter
         by-tells output₀ h r output l = links-as image output₀ (done (write (linkBy (take (countAt 6 words) order) (modOf words n)))) (linked-as output₀ h ∙ ap (λ (x : Order). inOrder x (modOf words n)) ordered-so) r output (l .answer) (l .left)
 

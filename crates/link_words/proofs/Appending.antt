@@ -33,9 +33,9 @@ use Rattle.derive_special.proofs.Deriving.{specials-more}
 use Rattle.function_references.specs.Fits.{Ground}
 use Rattle.function_builder.specs.Stacks.{Stacks}
 use Rattle.function_entry.proofs.Sources.{at, ground, functions-are, ready-function, nested-function, append-same}
-use Rattle.function_localize.specs.Localized.{NestedF, Nests}
+use Rattle.function_localize.specs.Localized.{NestedF, ImportFunctionEnsures}
 use Rattle.derive_session.specs.Valid.{sessionOf, ValidSession}
-use Rattle.link_words.specs.Appends.{Roomy, Sequence, AppendsAll}
+use Rattle.link_words.specs.Appends.{Roomy, Sequence, AppendAllEnsures}
 
 -- ---- a session that is reached
 pub at-reached : {x : Src} {s : Derived} → At x s → Reached (record { source = some x; state = s })
@@ -84,7 +84,7 @@ module _ (words tags targets : List ℕ) (n : ℕ) (order : List ℕ) (all : ℕ
   next-at : At (source (modOf words n)) next
   next-at = function-at here f low off-rings
 
-  module _ (stacks₀ : List (List ℕ)) (r : Sizes) (log logtags : List ℕ) (starts maps : List (List ℕ)) (buckets : List ℕ) (stacks : List (List ℕ)) (N : Nests words (ReadyF 0 (modOf words n) (Ready 0 (modOf words n) all) (followS 0 (modOf words n) all) (function (modOf words n) f)) (appendS 0 (modOf words n) (followS 0 (modOf words n) all) f) log₀ logtags₀ starts₀ maps₀ buckets₀ stacks₀ e r log logtags starts maps buckets stacks) where
+  module _ (stacks₀ : List (List ℕ)) (r : Sizes) (log logtags : List ℕ) (starts maps : List (List ℕ)) (buckets : List ℕ) (stacks : List (List ℕ)) (N : ImportFunctionEnsures words (ReadyF 0 (modOf words n) (Ready 0 (modOf words n) all) (followS 0 (modOf words n) all) (function (modOf words n) f)) (appendS 0 (modOf words n) (followS 0 (modOf words n) all) f) log₀ logtags₀ starts₀ maps₀ buckets₀ stacks₀ e r log logtags starts maps buckets stacks) where
     pub next-room : r .full ≡ true → ⊥
     next-room q =
         let z : sizeR (tableOf log₀ logtags₀ starts₀ (e .counts) 7) + (e .exprtop + e .bodytop) ≡ 0 = omega (arith, none-held log₀ logtags₀ starts₀ (e .counts) (L .no-entries) .1, L .lowest .0, L .lowest .1) in
@@ -160,7 +160,7 @@ module _ (words tags targets : List ℕ) (n : ℕ) (order : List ℕ) (all : ℕ
       turn-asks =
           (ground n 0 words tags targets log₀ logtags₀ starts₀ maps₀ buckets₀ special e (A .live), next-low words tags targets n order all S log₀ logtags₀ starts₀ maps₀ buckets₀ special e (A .live) f (slice (suc i) all order) roomy-cons, next-nested words tags targets n order all S log₀ logtags₀ starts₀ maps₀ buckets₀ special e (A .live) f (slice (suc i) all order) roomy-cons, (A .live .going, A .stacks-are), A .live .kept)
 
-      behind : (r : Sizes) (log logtags : List ℕ) (starts maps : List (List ℕ)) (buckets : List ℕ) (stacks : List (List ℕ)) → Nests words (ReadyF 0 (modOf words n) (Ready 0 (modOf words n) all) (followS 0 (modOf words n) all) (function (modOf words n) f)) (appendS 0 (modOf words n) (followS 0 (modOf words n) all) f) log₀ logtags₀ starts₀ maps₀ buckets₀ stacks₀ e r log logtags starts maps buckets stacks
+      behind : (r : Sizes) (log logtags : List ℕ) (starts maps : List (List ℕ)) (buckets : List ℕ) (stacks : List (List ℕ)) → ImportFunctionEnsures words (ReadyF 0 (modOf words n) (Ready 0 (modOf words n) all) (followS 0 (modOf words n) all) (function (modOf words n) f)) (appendS 0 (modOf words n) (followS 0 (modOf words n) all) f) log₀ logtags₀ starts₀ maps₀ buckets₀ stacks₀ e r log logtags starts maps buckets stacks
           → Turn words tags targets n order all whole (suc i) log logtags starts maps buckets special stacks r
       behind r log logtags starts maps buckets stacks N =
           let q = never (r .full) (next-room words tags targets n order all S log₀ logtags₀ starts₀ maps₀ buckets₀ special e (A .live) f (slice (suc i) all order) roomy-cons stacks₀ r log logtags starts maps buckets stacks N) in
@@ -172,11 +172,11 @@ module _ (words tags targets : List ℕ) (n : ℕ) (order : List ℕ) (all : ℕ
             left = next-left words tags targets n order all S log₀ logtags₀ starts₀ maps₀ buckets₀ special e (A .live) f (slice (suc i) all order) roomy-cons stacks₀ r log logtags starts maps buckets stacks N q ∙ sym (ap (λ (l : List ℕ). appendAll l 0 (modOf words n) (stOf words log₀ logtags₀ starts₀ maps₀ special e)) cons) ∙ A .left;
           }
 
-      pub turn-next : (r : Sizes) (log logtags : List ℕ) (starts maps : List (List ℕ)) (buckets : List ℕ) (stacks : List (List ℕ)) → Nests words (ReadyF 0 (modOf words n) (Ready 0 (modOf words n) all) (followS 0 (modOf words n) all) (function (modOf words n) f)) (appendS 0 (modOf words n) (followS 0 (modOf words n) all) f) log₀ logtags₀ starts₀ maps₀ buckets₀ stacks₀ e r log logtags starts maps buckets stacks
+      pub turn-next : (r : Sizes) (log logtags : List ℕ) (starts maps : List (List ℕ)) (buckets : List ℕ) (stacks : List (List ℕ)) → ImportFunctionEnsures words (ReadyF 0 (modOf words n) (Ready 0 (modOf words n) all) (followS 0 (modOf words n) all) (function (modOf words n) f)) (appendS 0 (modOf words n) (followS 0 (modOf words n) all) f) log₀ logtags₀ starts₀ maps₀ buckets₀ stacks₀ e r log logtags starts maps buckets stacks
           → Turn words tags targets n order all whole (i + 1) log logtags starts maps buckets special stacks r
       turn-next r log logtags starts maps buckets stacks N = subst (λ (k : ℕ). Turn words tags targets n order all whole k log logtags starts maps buckets special stacks r) (let q : suc i ≡ i + 1 = omega arith in q) (behind r log logtags starts maps buckets stacks N)
 
-    pub turn-last : all ≤ i → (log₁ logtags₁ : List ℕ) (starts₁ maps₁ : List (List ℕ)) (e₁ : Sizes) → whole ≡ appendAll (take all order) 0 (modOf words n) (stOf words log₁ logtags₁ starts₁ maps₁ special e₁) → AppendsAll words tags targets n (take all order) log₁ logtags₁ starts₁ maps₁ e₁ e log₀ logtags₀ starts₀ maps₀ buckets₀ special stacks₀
+    pub turn-last : all ≤ i → (log₁ logtags₁ : List ℕ) (starts₁ maps₁ : List (List ℕ)) (e₁ : Sizes) → whole ≡ appendAll (take all order) 0 (modOf words n) (stOf words log₁ logtags₁ starts₁ maps₁ special e₁) → AppendAllEnsures words tags targets n (take all order) log₁ logtags₁ starts₁ maps₁ e₁ e log₀ logtags₀ starts₀ maps₀ buckets₀ special stacks₀
     unfolding appendAll
     turn-last h log₁ logtags₁ starts₁ maps₁ e₁ w =
         let k : i ≡ all = omega (arith, A .upto) in

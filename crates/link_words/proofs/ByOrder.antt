@@ -26,15 +26,15 @@ use Rattle.derive_state.specs.declared.Sizes.{Sizes}
 use Rattle.derive_state.proofs.Laws.{none-held}
 use Rattle.derive_state.proofs.Fresh.{kept-nothing, st-nothing}
 use Rattle.derive_session.specs.Fresh.{valid-new, zeros}
-use Rattle.derive_source.specs.SourceSet.{Sourced}
+use Rattle.derive_source.specs.SourceSet.{SourceTypesEnsures}
 use Rattle.function_builder.specs.Stacks.{Stacks}
 use Rattle.derive_finish.specs.Told.{told, Held, Ended}
 use Rattle.derive_finish.specs.Theorems.{finish-with-told}
 use Rattle.derive_session.specs.Valid.{sessionOf, ValidSession}
 use Rattle.model.specs.Image.{ScratchLengths}
 use Rattle.function_entry.proofs.Sources.{at}
-use Rattle.function_entry.specs.Entered.{EntersAll}
-use Rattle.link_words.specs.Appends.{Roomy, Sequence, AppendsAll, Linkable, LinksBy}
+use Rattle.function_entry.specs.Entered.{EnterAllEnsures}
+use Rattle.link_words.specs.Appends.{Roomy, Sequence, AppendAllEnsures, Linkable, LinkInOrderEnsures}
 use Rattle.link_words.proofs.Fresh.{fresh-at, set-fits, imported-roomy, finish-fits, link-output}
 use Rattle.link_words.proofs.Appending.{never, at-reached}
 
@@ -84,7 +84,7 @@ module _ (words tags : List ℕ) (n : ℕ) (order output₀ : List ℕ) (K : Lin
     source-asks = (K .source-is, ap (λ (y : Sizes). y .full) es, ks, kept-none log₀ logtags₀ starts₀ buckets₀ stacks₀ P marks-long e es, specials-none e es)
 
     module _ (r : Sizes) (log logtags : List ℕ) (starts maps : List (List ℕ)) (buckets special : List ℕ)
-        (S : Sourced words n 0 log₀ logtags₀ starts₀ buckets₀ (replicate 1027 0) e r log logtags starts maps buckets special) where
+        (S : SourceTypesEnsures words n 0 log₀ logtags₀ starts₀ buckets₀ (replicate 1027 0) e r log logtags starts maps buckets special) where
       bare : (getD (e .counts) 7 0 ≡ 0) × (e .exprtop ≡ 0) × (e .bodytop ≡ 0)
       bare = (ap (λ (y : Sizes). getD (y .counts) 7 0) es, ap (λ (y : Sizes). y .exprtop) es, ap (λ (y : Sizes). y .bodytop) es)
 
@@ -127,7 +127,7 @@ module _ (words tags : List ℕ) (n : ℕ) (order output₀ : List ℕ) (K : Lin
         append-asks = (set-live, record { four = P .stacks-four; rows = P .stacks-rows; high = omega (arith, set-live .lowest .0); high′ = omega (arith, set-live .lowest .1) }, set-sequence, set-roomy)
 
         -- ---- the functions are appended
-        module _ (r₂ : Sizes) (log₂ logtags₂ : List ℕ) (starts₂ maps₂ : List (List ℕ)) (buckets₂ : List ℕ) (stacks₂ : List (List ℕ)) (A : AppendsAll words tags targets n (take all order) log logtags starts maps r r₂ log₂ logtags₂ starts₂ maps₂ buckets₂ special stacks₂) where
+        module _ (r₂ : Sizes) (log₂ logtags₂ : List ℕ) (starts₂ maps₂ : List (List ℕ)) (buckets₂ : List ℕ) (stacks₂ : List (List ℕ)) (A : AppendAllEnsures words tags targets n (take all order) log logtags starts maps r r₂ log₂ logtags₂ starts₂ maps₂ buckets₂ special stacks₂) where
           abbrev s₂ : Derived
           s₂ = stOf words log₂ logtags₂ starts₂ maps₂ special r₂
 
@@ -144,7 +144,7 @@ module _ (words tags : List ℕ) (n : ℕ) (order output₀ : List ℕ) (K : Lin
           enter-asks = (A .live, A .stacks-are, off-rings)
 
           -- ---- the entry points are entered
-          module _ (r₃ : Sizes) (log₃ logtags₃ : List ℕ) (starts₃ maps₃ : List (List ℕ)) (buckets₃ : List ℕ) (stacks₃ : List (List ℕ)) (T : EntersAll words n 0 special log₂ logtags₂ starts₂ maps₂ buckets₂ r₂ r₃ log₃ logtags₃ starts₃ maps₃ buckets₃ stacks₃) where
+          module _ (r₃ : Sizes) (log₃ logtags₃ : List ℕ) (starts₃ maps₃ : List (List ℕ)) (buckets₃ : List ℕ) (stacks₃ : List (List ℕ)) (T : EnterAllEnsures words n 0 special log₂ logtags₂ starts₂ maps₂ buckets₂ r₂ r₃ log₃ logtags₃ starts₃ maps₃ buckets₃ stacks₃) where
             enter-room : r₃ .full ≡ false
             enter-room = never (r₃ .full) λ q. finish-fits (modOf words n) os (K .sequence .is) (length output₀) s₂ vs (at n 0 words tags targets log₂ logtags₂ starts₂ maps₂ buckets₂ special r₂ (A .live)) finishes (T .over q)
 
@@ -166,6 +166,6 @@ module _ (words tags : List ℕ) (n : ℕ) (order output₀ : List ℕ) (K : Lin
               pub answer-fits : (refusal ≡ 0) × (bytes ≤ 65536)
               answer-fits = (refusal-is, omega (arith, bytes-is, gives .shorter, length-take n words, K .source-is .taped .small, K .source-is .taped .words-long))
 
-              pub links-by : (r : ℕ) → r ≡ packed refusal bytes → LinksBy words n order output₀ r output
+              pub links-by : (r : ℕ) → r ≡ packed refusal bytes → LinkInOrderEnsures words n order output₀ r output
               unfolding answerBy
               links-by r is = record { answer = omega (arith, is, refusal-is, bytes-is); left = ap (λ (p : ℕ × ℕ × List ℕ). p .2) ended }

@@ -32,7 +32,7 @@ pub record Sequence (words : List ℕ) (n : ℕ) (order : List ℕ) (all : ℕ) 
   pub long : length order ≡ 256
 
 -- these functions are appended, and the session is valid: never full
-pub record AppendsAll (words tags targets : List ℕ) (n : ℕ) (is log₀ logtags₀ : List ℕ) (starts₀ maps₀ : List (List ℕ)) (e : Sizes) (r : Sizes) (log logtags : List ℕ) (starts maps : List (List ℕ)) (buckets special : List ℕ) (stacks : List (List ℕ)) : Type 0 where
+pub record AppendAllEnsures (words tags targets : List ℕ) (n : ℕ) (is log₀ logtags₀ : List ℕ) (starts₀ maps₀ : List (List ℕ)) (e : Sizes) (r : Sizes) (log logtags : List ℕ) (starts maps : List (List ℕ)) (buckets special : List ℕ) (stacks : List (List ℕ)) : Type 0 where
   pub same : appendAll is 0 (modOf words n) (stOf words log₀ logtags₀ starts₀ maps₀ special e) ≡ stOf words log logtags starts maps special r
   pub live : ValidSession true n 0 words tags targets log logtags starts maps buckets special r
   pub stacks-are : Stacks stacks r
@@ -43,6 +43,6 @@ pub record Linkable (words tags : List ℕ) (n : ℕ) (order output : List ℕ) 
   pub linking : Linking (take n words) (length output) (modOf words n)
   pub sequence : Sequence words n order (countAt 6 words)
 
-pub record LinksBy (words : List ℕ) (n : ℕ) (order output₀ : List ℕ) (r : ℕ) (output : List ℕ) : Type 0 where
+pub record LinkInOrderEnsures (words : List ℕ) (n : ℕ) (order output₀ : List ℕ) (r : ℕ) (output : List ℕ) : Type 0 where
   pub answer : r ≡ linkAnswer (done (write (linkBy (take (countAt 6 words) order) (modOf words n))))
   pub left : output ≡ sets output₀ 0 (bytesOf (write (linkBy (take (countAt 6 words) order) (modOf words n))))

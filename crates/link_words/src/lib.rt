@@ -27,7 +27,7 @@ ghost use Rattle.derive_state.specs.Held.{stOf};
 ghost use Rattle.function_builder.specs.Stacks.{Stacks};
 ghost use Rattle.derive_session.specs.Valid.{ValidSession};
 ghost use Rattle.model.specs.Image.{ScratchLengths};
-ghost use Rattle.link_words.specs.Appends.{Roomy, Sequence, AppendsAll, Linkable, LinksBy};
+ghost use Rattle.link_words.specs.Appends.{Roomy, Sequence, AppendAllEnsures, Linkable, LinkInOrderEnsures};
 
 // Appends the first `all` functions of the order.
 fn append_all(
@@ -50,7 +50,7 @@ fn append_all(
     requires { ⌜ Stacks (now stacks) ends ⌝ }
     requires { ⌜ Sequence (now words) n (now order) all ⌝ }
     requires { ⌜ Roomy (modOf (now words) n) (take all (now order)) (stOf (now words) (now log) (now logtags) (now starts) (now maps) (now special) ends) ⌝ }
-    ensures { λ r. ⌜ AppendsAll (now (words .entry)) (now (tags .entry)) (now (targets .entry)) n (take all (now (order .entry))) (now (log .entry)) (now (logtags .entry)) (now (starts .entry)) (now (maps .entry)) ends r (now (log .exit)) (now (logtags .exit)) (now (starts .exit)) (now (maps .exit)) (now (buckets .exit)) (now (special .entry)) (now (stacks .exit)) ⌝ }
+    ensures { λ r. ⌜ AppendAllEnsures (now (words .entry)) (now (tags .entry)) (now (targets .entry)) n (take all (now (order .entry))) (now (log .entry)) (now (logtags .entry)) (now (starts .entry)) (now (maps .entry)) ends r (now (log .exit)) (now (logtags .exit)) (now (starts .exit)) (now (maps .exit)) (now (buckets .exit)) (now (special .entry)) (now (stacks .exit)) ⌝ }
 {
     let mut e = ends;
     let mut places = [0u16; 1025];
@@ -95,7 +95,7 @@ pub fn link_in_order(
 ) -> u64
     requires { ⌜ Linkable (now words) (now tags) n (now order) (now output) ⌝ }
     requires { ⌜ ScratchLengths (now log) (now logtags) (now starts) (now stacks) ⌝ }
-    ensures { λ r. ⌜ LinksBy (now (words .entry)) n (now (order .entry)) (now (output .entry)) r (now (output .exit)) ⌝ }
+    ensures { λ r. ⌜ LinkInOrderEnsures (now (words .entry)) n (now (order .entry)) (now (output .entry)) r (now (output .exit)) ⌝ }
 {
     let targets = targets();
     let mut special = [0u32; 1027];

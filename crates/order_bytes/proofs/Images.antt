@@ -25,7 +25,7 @@ use Rattle.theory_order.specs.Rounds.{length-rounds}
 use Rattle.order_callees.specs.Gathering.{Known, Listed}
 use Rattle.order_callees.proofs.Numbered.{passed-known}
 use Rattle.order_callees.proofs.Whole.{few}
-use Rattle.intake.specs.Taken.{numberOf, Accepts, Takes}
+use Rattle.intake.specs.Taken.{numberOf, Accepts, TakeInEnsures}
 use Rattle.intake.specs.declared.Taken.{Taken}
 use Rattle.intake.specs.declared.Taken.the-variants.{Accepted}
 use Rattle.intake.proofs.Refusals.{NotFirst, refused-by}
@@ -84,7 +84,7 @@ module _ (words tags : List ℕ) (n : ℕ) (h : Tape words tags n) where
         rings m t = sym (rw e at (got .is m t))
 
 -- ---- order
-module _ (image words tags : List ℕ) (t : Taken) (got : Takes t words tags image) where
+module _ (image words tags : List ℕ) (t : Taken) (got : TakeInEnsures t words tags image) where
   pub intake-refuses : NotFirst t → (k : ℕ) → k ≡ numberOf t → (out : List ℕ) → OrderEnsures k out out image
   unfolding wuldgisp-order orderImage onImage answerBy orderAfter
   intake-refuses h k e out =

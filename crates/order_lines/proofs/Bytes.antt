@@ -10,7 +10,7 @@ use lib.Seq.{sets, drop-cons, drop-length, getD-take, getD-drop, length-take-le,
 use borrow.Author.Tests.{lt-ltb, le-ltb}
 use Rattle.base_words.specs.Words.{bytesOf}
 use Rattle.base_words.proofs.Laws.{length-bytesOf}
-use Rattle.order_lines.specs.Lines.{decimal, textAt, Puts, Room}
+use Rattle.order_lines.specs.Lines.{decimal, textAt, TextEnsures, Room}
 
 -- ---- one byte: byte s of a word
 abbrev part : ℕ → ℕ → ℕ
@@ -48,14 +48,14 @@ pub sets-append : (xs l : List ℕ) (i : ℕ) (ys : List ℕ) → sets (sets l i
 sets-append [] l i ys = let z : i + 0 ≡ i = omega arith in ap (λ j. sets l j ys) z
 sets-append (x ∷ xs) l i ys = let z : i + suc (length xs) ≡ suc i + length xs = omega arith in ap (λ j. sets (sets (set l i x) (suc i) xs) j ys) z ∙ sets-append xs (set l i x) (suc i) ys
 
-pub puts-both : {out xs mid ys out′ : List ℕ} {at j r : ℕ} → Puts out at xs mid j → Puts mid j ys out′ r → Puts out at (xs ++ ys) out′ r
+pub puts-both : {out xs mid ys out′ : List ℕ} {at j r : ℕ} → TextEnsures out at xs mid j → TextEnsures mid j ys out′ r → TextEnsures out at (xs ++ ys) out′ r
 puts-both {out} {xs} {mid} {ys} {out′} {at} {j} {r} p q =
     record {
       is = q .is ∙ ap (λ l. sets l j ys) (p .is) ∙ ap (λ x. sets (sets out at xs) x ys) (p .ends) ∙ sets-append xs out at ys;
       ends = omega (arith, p .ends, q .ends, length-append xs ys);
     }
 
-pub puts-long : {out xs out′ : List ℕ} {at r : ℕ} → Puts out at xs out′ r → length out′ ≡ length out
+pub puts-long : {out xs out′ : List ℕ} {at r : ℕ} → TextEnsures out at xs out′ r → length out′ ≡ length out
 puts-long {out} {xs} {out′} {at} p = ap length (p .is) ∙ length-sets out at xs
 
 -- ---- a number
@@ -72,13 +72,13 @@ unfolding decimal
 three-digits x b = let a : 10 ≤ x = omega arith in rw (le-ltb x 10 a, le-ltb x 100 b)
 
 module _ (out : List ℕ) (at x : ℕ) where
-  pub puts-one : {a : ℕ} → x < 10 → a ≡ 48 + x → Puts out at (decimal x) (set out at a) (at + 1)
+  pub puts-one : {a : ℕ} → x < 10 → a ≡ 48 + x → TextEnsures out at (decimal x) (set out at a) (at + 1)
   puts-one h e = rw (one-digit x h, e) (record { is = refl; ends = refl })
 
-  pub puts-two : {a b : ℕ} → 10 ≤ x → x < 100 → a ≡ 48 + x / 10 → b ≡ 48 + x % 10 → Puts out at (decimal x) (set (set out at a) (at + 1) b) (at + 2)
+  pub puts-two : {a b : ℕ} → 10 ≤ x → x < 100 → a ≡ 48 + x / 10 → b ≡ 48 + x % 10 → TextEnsures out at (decimal x) (set (set out at a) (at + 1) b) (at + 2)
   puts-two h k e f = rw (two-digits x h k, e, f, add-one at) (record { is = refl; ends = refl })
 
-  pub puts-three : {a b c : ℕ} → 100 ≤ x → a ≡ 48 + x / 100 → b ≡ 48 + x / 10 % 10 → c ≡ 48 + x % 10 → Puts out at (decimal x) (set (set (set out at a) (at + 1) b) (at + 2) c) (at + 3)
+  pub puts-three : {a b c : ℕ} → 100 ≤ x → a ≡ 48 + x / 100 → b ≡ 48 + x / 10 % 10 → c ≡ 48 + x % 10 → TextEnsures out at (decimal x) (set (set (set out at a) (at + 1) b) (at + 2) c) (at + 3)
   puts-three h e f g = let z : at + 2 ≡ suc (suc at) = omega arith in rw (three-digits x h, e, f, g, add-one at, z) (record { is = refl; ends = refl })
 
 -- how long a name is
@@ -102,7 +102,7 @@ module _ {text out : List ℕ} {at k : ℕ} {now : List ℕ} (s : Putting text o
       let d : drop k text ≡ b ∷ drop (suc k) text = drop-cons text k 0 h ∙ ap (_∷ drop (suc k) text) (sym e) in
       record { high = omega arith; long = length-set now (at + k) b ∙ s .long; is = rw (z, add-one k) (sym (ap (sets now (at + k)) d) ∙ s .is) }
 
-  pub finish : length text ≤ k → {n : ℕ} → n ≡ length text → Puts out at text now (at + n)
+  pub finish : length text ≤ k → {n : ℕ} → n ≡ length text → TextEnsures out at text now (at + n)
   finish h {n} e =
       let f : k ≡ length text = omega (arith, s .high) in
       record { is = sym (ap (sets now (at + k)) (ap (λ j. drop j text) f ∙ drop-length text)) ∙ s .is; ends = ap (at +_) e }
@@ -122,5 +122,5 @@ module _ {words : List ℕ} {p : ℕ} {out : List ℕ} {at : ℕ} (q : Room word
     unfolding textAt
     name-again h e = again s (omega (arith, name-long)) (e ∙ sym (getD-take (getD words p 0) (bytesOf (drop (p + 1) words)) k 0 h))
 
-    pub name-finish : getD words p 0 ≤ k → {n : ℕ} → n ≡ getD words p 0 → Puts out at (textAt words p) now (at + n)
+    pub name-finish : getD words p 0 ≤ k → {n : ℕ} → n ≡ getD words p 0 → TextEnsures out at (textAt words p) now (at + n)
     name-finish h e = finish s (omega (arith, name-long)) (e ∙ sym name-long)

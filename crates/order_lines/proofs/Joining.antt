@@ -10,7 +10,7 @@ use lib.ListN.{length, getD, take, drop, length-append}
 use lib.Seq.{sets, drop-cons, drop-length, getD-take, length-take-le}
 use Rattle.model.specs.Module.{offsetAt}
 use Rattle.model.specs.View.{recordAt}
-use Rattle.order_lines.specs.Lines.{decimal, numbersText, lineText, linesText, headed, FUNCTIONS, orderedText, nameAt, nameIs, textAt, Puts, Room, Readable, Line, Lines, Text}
+use Rattle.order_lines.specs.Lines.{decimal, numbersText, lineText, linesText, headed, FUNCTIONS, orderedText, nameAt, nameIs, textAt, TextEnsures, Room, Readable, Line, Lines, Text}
 use Rattle.order_lines.proofs.Bytes.{puts-both, puts-long, text-long, sets-append}
 
 -- ---- how long the pieces are
@@ -42,7 +42,7 @@ headed-long label x = omega (arith, length-append label (decimal x ++ (10 ∷ []
 joined : (a b c d : List ℕ) → a ++ b ++ c ++ d ≡ a ++ (b ++ (c ++ d))
 joined a b c d = simp append-assoc
 
-pub numbers-end : (new s : ℕ) {o₀ o₁ o₂ o₃ o₄ : List ℕ} {at a b c r : ℕ} → Puts o₀ at (decimal new) o₁ a → Puts o₁ a (32 ∷ []) o₂ b → Puts o₂ b (decimal s) o₃ c → Puts o₃ c (32 ∷ []) o₄ r → Puts o₀ at (numbersText new s) o₄ r
+pub numbers-end : (new s : ℕ) {o₀ o₁ o₂ o₃ o₄ : List ℕ} {at a b c r : ℕ} → TextEnsures o₀ at (decimal new) o₁ a → TextEnsures o₁ a (32 ∷ []) o₂ b → TextEnsures o₂ b (decimal s) o₃ c → TextEnsures o₃ c (32 ∷ []) o₄ r → TextEnsures o₀ at (numbersText new s) o₄ r
 unfolding numbersText
 numbers-end new s p₁ p₂ p₃ p₄ = rw (joined (decimal new) (32 ∷ []) (decimal s) (32 ∷ [])) at (puts-both (puts-both (puts-both p₁ p₂) p₃) p₄)
 
@@ -70,7 +70,7 @@ module _ {words : List ℕ} {new s : ℕ} {out : List ℕ} {at : ℕ} (q : Line 
   is-long : length (nameIs words s) ≡ getD words (nameAt words s) 0
   is-long = text-long words (nameAt words s) (q .reads .words-long) (q .reads .here) (q .reads .within)
 
-  module _ {o₁ : List ℕ} {a : ℕ} (p₁ : Puts out at (numbersText new s) o₁ a) {p : ℕ} (e : p ≡ nameAt words s) where
+  module _ {o₁ : List ℕ} {a : ℕ} (p₁ : TextEnsures out at (numbersText new s) o₁ a) {p : ℕ} (e : p ≡ nameAt words s) where
     pub name-room : Room words p o₁ a
     name-room =
         rw e (record {
@@ -81,8 +81,8 @@ module _ {words : List ℕ} {new s : ℕ} {out : List ℕ} {at : ℕ} (q : Line 
           fits = omega (arith, p₁ .ends, is-long, q .fits, line-long new s (nameIs words s));
         })
 
-    module _ {o₂ : List ℕ} {b : ℕ} (p₂ : Puts o₁ a (textAt words p) o₂ b) where
-      named : Puts o₁ a (nameIs words s) o₂ b
+    module _ {o₂ : List ℕ} {b : ℕ} (p₂ : TextEnsures o₁ a (textAt words p) o₂ b) where
+      named : TextEnsures o₁ a (nameIs words s) o₂ b
       named = rw e at p₂
 
       pub last-fits : b < 65536
@@ -91,7 +91,7 @@ module _ {words : List ℕ} {new s : ℕ} {out : List ℕ} {at : ℕ} (q : Line 
       pub last-long : length o₂ ≡ 65536
       last-long = puts-long p₂ ∙ puts-long p₁ ∙ q .long
 
-      pub line-end : {o₃ : List ℕ} {r : ℕ} → Puts o₂ b (10 ∷ []) o₃ r → Puts out at (lineText new s (nameIs words s)) o₃ r
+      pub line-end : {o₃ : List ℕ} {r : ℕ} → TextEnsures o₂ b (10 ∷ []) o₃ r → TextEnsures out at (lineText new s (nameIs words s)) o₃ r
       unfolding lineText
       line-end p₃ = rw (append-assoc (numbersText new s) (nameIs words s) (10 ∷ [])) at (puts-both (puts-both p₁ named) p₃)
 
@@ -130,7 +130,7 @@ module _ {words order : List ℕ} {count : ℕ} {out : List ℕ} {at : ℕ} (q :
             fits = omega (arith, split-long, g .ends, q .fits);
           }
 
-      pub lines-again : {now′ : List ℕ} {r : ℕ} → Puts now next (lineText i s (nameIs words s)) now′ r → Going words order count out at (i + 1) r now′
+      pub lines-again : {now′ : List ℕ} {r : ℕ} → TextEnsures now next (lineText i s (nameIs words s)) now′ r → Going words order count out at (i + 1) r now′
       lines-again {now′} {r} p =
           rw (add-one i) (record {
             high = omega arith;
@@ -143,7 +143,7 @@ module _ {words order : List ℕ} {count : ℕ} {out : List ℕ} {at : ℕ} (q :
             ends = omega (arith, p .ends, split-long, g .ends);
           })
 
-    pub lines-end : count ≤ i → Puts out at (linesText (take count order) 0 (nameIs words)) now next
+    pub lines-end : count ≤ i → TextEnsures out at (linesText (take count order) 0 (nameIs words)) now next
     unfolding linesText
     lines-end h =
         let f : i ≡ length (take count order) = omega (arith, taken, g .high) in
@@ -151,11 +151,11 @@ module _ {words order : List ℕ} {count : ℕ} {out : List ℕ} {at : ℕ} (q :
         record { is = sym (ap (sets now next) z) ∙ g .is; ends = omega (arith, ap length z, g .ends) }
 
 -- ---- a first line, and the text
-pub headed-end : (label : List ℕ) (x : ℕ) {o₀ o₁ o₂ o₃ : List ℕ} {a b r : ℕ} → Puts o₀ 0 label o₁ a → Puts o₁ a (decimal x) o₂ b → Puts o₂ b (10 ∷ []) o₃ r → Puts o₀ 0 (headed label x) o₃ r
+pub headed-end : (label : List ℕ) (x : ℕ) {o₀ o₁ o₂ o₃ : List ℕ} {a b r : ℕ} → TextEnsures o₀ 0 label o₁ a → TextEnsures o₁ a (decimal x) o₂ b → TextEnsures o₂ b (10 ∷ []) o₃ r → TextEnsures o₀ 0 (headed label x) o₃ r
 unfolding headed
 headed-end label x p₁ p₂ p₃ = rw (append-assoc label (decimal x) (10 ∷ [])) at (puts-both (puts-both p₁ p₂) p₃)
 
-module _ {words order : List ℕ} {count : ℕ} {out : List ℕ} (q : Text words order count out) {o₁ : List ℕ} {at : ℕ} (p : Puts out 0 (headed FUNCTIONS count) o₁ at) where
+module _ {words order : List ℕ} {count : ℕ} {out : List ℕ} (q : Text words order count out) {o₁ : List ℕ} {at : ℕ} (p : TextEnsures out 0 (headed FUNCTIONS count) o₁ at) where
   counted : length (take count order) ≡ count
   counted = length-take-le count order (omega (arith, q .prints .order-long, q .prints .count-few))
 
@@ -168,6 +168,6 @@ module _ {words order : List ℕ} {count : ℕ} {out : List ℕ} (q : Text words
         fits = omega (arith, p .ends, ap (λ k. length (headed FUNCTIONS k)) counted, q .fits, length-append (headed FUNCTIONS (length (take count order))) (linesText (take count order) 0 (nameIs words)));
       }
 
-  pub text-end : {o₂ : List ℕ} {r : ℕ} → Puts o₁ at (linesText (take count order) 0 (nameIs words)) o₂ r → Puts out 0 (orderedText (take count order) (nameIs words)) o₂ r
+  pub text-end : {o₂ : List ℕ} {r : ℕ} → TextEnsures o₁ at (linesText (take count order) 0 (nameIs words)) o₂ r → TextEnsures out 0 (orderedText (take count order) (nameIs words)) o₂ r
   unfolding orderedText
-  text-end u = puts-both (subst (λ k. Puts out 0 (headed FUNCTIONS k) o₁ at) (sym counted) p) u
+  text-end u = puts-both (subst (λ k. TextEnsures out 0 (headed FUNCTIONS k) o₁ at) (sym counted) p) u

@@ -61,7 +61,7 @@ orderedText os name = headed FUNCTIONS (length os) ++ linesText os 0 name
 
 -- ---- what lines are made of
 -- these bytes are put at a place, and the next place is after them
-pub record Puts (out : List ℕ) (at : ℕ) (xs out′ : List ℕ) (next : ℕ) : Type 0 where
+pub record TextEnsures (out : List ℕ) (at : ℕ) (xs out′ : List ℕ) (next : ℕ) : Type 0 where
   pub is : out′ ≡ sets out at xs
   pub ends : next ≡ at + length xs
 

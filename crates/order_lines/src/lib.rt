@@ -6,7 +6,7 @@ ghost use mathlib.Core.List.{[], _∷_};
 ghost use Prim.Native.Nat.{_+_, _/_, _≤_, _<_};
 ghost use lib.ListN.{length, getD, drop, take};
 ghost use Rattle.base_words.specs.Words.{bytesOf};
-ghost use Rattle.order_lines.specs.Lines.{decimal, numbersText, lineText, linesText, headed, orderedText, nameAt, nameIs, textAt, Puts, Room, Readable, Line, Lines, Text};
+ghost use Rattle.order_lines.specs.Lines.{decimal, numbersText, lineText, linesText, headed, orderedText, nameAt, nameIs, textAt, TextEnsures, Room, Readable, Line, Lines, Text};
 
 // Byte k of the words from `at` on.
 fn byte(words: &Words, at: usize, k: usize) -> u8
@@ -36,7 +36,7 @@ fn digit(d: usize) -> u8
 
 fn put(out: &mut [u8; 65536], at: usize, b: u8) -> usize
     requires { ⌜ (length (now out) ≡ 65536) × (at < 65536) ⌝ }
-    ensures { λ r. ⌜ Puts (now (out .entry)) at (b ∷ []) (now (out .exit)) r ⌝ }
+    ensures { λ r. ⌜ TextEnsures (now (out .entry)) at (b ∷ []) (now (out .exit)) r ⌝ }
 {
     out[at] = b;
     at + 1
@@ -45,7 +45,7 @@ fn put(out: &mut [u8; 65536], at: usize, b: u8) -> usize
 // Numbers of functions are below 1,000.
 fn put_number(out: &mut [u8; 65536], at: usize, x: usize) -> usize
     requires { ⌜ (length (now out) ≡ 65536) × (at + 3 ≤ 65536) × (x < 1000) ⌝ }
-    ensures { λ r. ⌜ Puts (now (out .entry)) at (decimal x) (now (out .exit)) r ⌝ }
+    ensures { λ r. ⌜ TextEnsures (now (out .entry)) at (decimal x) (now (out .exit)) r ⌝ }
 {
     if x < 10 {
         out[at] = digit(x);
@@ -65,7 +65,7 @@ fn put_number(out: &mut [u8; 65536], at: usize, x: usize) -> usize
 // The bytes of the name at p.
 fn put_name(words: &Words, p: usize, out: &mut [u8; 65536], at: usize) -> usize
     requires { ⌜ Room (now words) p (now out) at ⌝ }
-    ensures { λ r. ⌜ Puts (now (out .entry)) at (textAt (now (words .entry)) p) (now (out .exit)) r ⌝ }
+    ensures { λ r. ⌜ TextEnsures (now (out .entry)) at (textAt (now (words .entry)) p) (now (out .exit)) r ⌝ }
 {
     let n = base_words::wide(words[p]);
     let mut i = 0;
@@ -81,7 +81,7 @@ fn put_name(words: &Words, p: usize, out: &mut [u8; 65536], at: usize) -> usize
 fn put_text(text: &[u8], out: &mut [u8; 65536], at: usize) -> usize
     requires { ⌜ length (now out) ≡ 65536 ⌝ }
     requires { ⌜ at + length (now text) ≤ 65536 ⌝ }
-    ensures { λ r. ⌜ Puts (now (out .entry)) at (now (text .entry)) (now (out .exit)) r ⌝ }
+    ensures { λ r. ⌜ TextEnsures (now (out .entry)) at (now (text .entry)) (now (out .exit)) r ⌝ }
 {
     let mut i = 0;
     while i < text.len() {
@@ -96,7 +96,7 @@ fn put_text(text: &[u8], out: &mut [u8; 65536], at: usize) -> usize
 fn put_numbers(out: &mut [u8; 65536], at: usize, new: usize, s: usize) -> usize
     requires { ⌜ (length (now out) ≡ 65536) × (at + length (numbersText new s) < 65536) ⌝ }
     requires { ⌜ (new < 1000) × (s < 1000) ⌝ }
-    ensures { λ r. ⌜ Puts (now (out .entry)) at (numbersText new s) (now (out .exit)) r ⌝ }
+    ensures { λ r. ⌜ TextEnsures (now (out .entry)) at (numbersText new s) (now (out .exit)) r ⌝ }
 {
     let a = put_number(out, at, new);
     let b = put(out, a, 32);
@@ -117,7 +117,7 @@ fn name_of(words: &Words, s: usize) -> usize
 // The line of table function s.
 fn line(words: &Words, new: usize, s: usize, out: &mut [u8; 65536], at: usize) -> usize
     requires { ⌜ Line (now words) new s (now out) at ⌝ }
-    ensures { λ r. ⌜ Puts (now (out .entry)) at (lineText new s (nameIs (now (words .entry)) s)) (now (out .exit)) r ⌝ }
+    ensures { λ r. ⌜ TextEnsures (now (out .entry)) at (lineText new s (nameIs (now (words .entry)) s)) (now (out .exit)) r ⌝ }
 {
     let a = put_numbers(out, at, new, s);
     let p = name_of(words, s);
@@ -128,7 +128,7 @@ fn line(words: &Words, new: usize, s: usize, out: &mut [u8; 65536], at: usize) -
 // The lines of the first `count` numbers of an order.
 fn lines(words: &Words, order: &[u32; 256], count: usize, out: &mut [u8; 65536], at: usize) -> usize
     requires { ⌜ Lines (now words) (now order) count (now out) at ⌝ }
-    ensures { λ r. ⌜ Puts (now (out .entry)) at (linesText (take count (now (order .entry))) 0 (nameIs (now (words .entry)))) (now (out .exit)) r ⌝ }
+    ensures { λ r. ⌜ TextEnsures (now (out .entry)) at (linesText (take count (now (order .entry))) 0 (nameIs (now (words .entry)))) (now (out .exit)) r ⌝ }
 {
     let mut next = at;
     let mut i = 0;
@@ -144,7 +144,7 @@ fn lines(words: &Words, order: &[u32; 256], count: usize, out: &mut [u8; 65536],
 pub fn head(label: &[u8], x: usize, out: &mut [u8; 65536]) -> usize
     requires { ⌜ length (now out) ≡ 65536 ⌝ }
     requires { ⌜ (length (now label) ≤ 16) × (x < 1000) ⌝ }
-    ensures { λ r. ⌜ Puts (now (out .entry)) 0 (headed (now (label .entry)) x) (now (out .exit)) r ⌝ }
+    ensures { λ r. ⌜ TextEnsures (now (out .entry)) 0 (headed (now (label .entry)) x) (now (out .exit)) r ⌝ }
 {
     let a = put_text(label, out, 0);
     let b = put_number(out, a, x);
@@ -154,7 +154,7 @@ pub fn head(label: &[u8], x: usize, out: &mut [u8; 65536]) -> usize
 // The text of an order of `count` functions.
 pub fn text(words: &Words, order: &[u32; 256], count: usize, out: &mut [u8; 65536]) -> usize
     requires { ⌜ Text (now words) (now order) count (now out) ⌝ }
-    ensures { λ r. ⌜ Puts (now (out .entry)) 0 (orderedText (take count (now (order .entry))) (nameIs (now (words .entry)))) (now (out .exit)) r ⌝ }
+    ensures { λ r. ⌜ TextEnsures (now (out .entry)) 0 (orderedText (take count (now (order .entry))) (nameIs (now (words .entry)))) (now (out .exit)) r ⌝ }
 {
     let at = head(b"functions ", count, out);
     lines(words, order, count, out, at)

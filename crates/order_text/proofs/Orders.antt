@@ -27,13 +27,13 @@ use Rattle.theory_image.specs.OnWords.{on-refused, on-module}
 use Rattle.theory_image.specs.FunctionViews.{taped-functions}
 use Rattle.order_callees.specs.Gathering.{Listed}
 use Rattle.order_callees.proofs.Whole.{few}
-use Rattle.intake.specs.Taken.{numberOf, Accepts, Takes}
+use Rattle.intake.specs.Taken.{numberOf, Accepts, TakeInEnsures}
 use Rattle.intake.specs.declared.Taken.{Taken}
 use Rattle.intake.specs.declared.Taken.the-variants.{Accepted, Size, Layout, Range, Reference, Names, Scope}
 use Rattle.intake.proofs.Refusals.{NotFirst, refused-by}
 use Rattle.order_bytes.proofs.Images.{count-few, list-long}
-use Rattle.order_lines.specs.Lines.{nameOf, lineText, linesText, headed, FUNCTIONS, orderedText, nameIs, Puts, Text}
-use Rattle.order_text.specs.Telling.{REFUSED, RINGS, refusing, telling, tellingOf, Passed, Says, Tells}
+use Rattle.order_lines.specs.Lines.{nameOf, lineText, linesText, headed, FUNCTIONS, orderedText, nameIs, TextEnsures, Text}
+use Rattle.order_text.specs.Telling.{REFUSED, RINGS, refusing, telling, tellingOf, Passed, TellEnsures, Tells}
 use Rattle.order_lines.proofs.Bytes.{puts-long}
 use Rattle.order_text.proofs.Names.{text-of, readable}
 use Rattle.order_lines.proofs.Joining.{decimal-long, headed-long}
@@ -131,12 +131,12 @@ module _ {words tags : List ℕ} {n : ℕ} (p : Tape words tags n) (q : Passed w
         fits = omega (arith, ap length (named-same (p .taped)), fitting (p .taped));
       }
 
-  pub text-tells : {out out′ : List ℕ} {r : ℕ} → length out ≡ 65536 → Puts out 0 (orderedText (take count order) (nameIs words)) out′ r → Tells words tags n out out′ r 0 0
+  pub text-tells : {out out′ : List ℕ} {r : ℕ} → length out ≡ 65536 → TextEnsures out 0 (orderedText (take count order) (nameIs words)) out′ r → Tells words tags n out out′ r 0 0
   unfolding telling
   text-tells {out} {out′} {r} h u =
       record {
         same = λ m t.
-            let v : Puts out 0 (orderedText (take count order) (nameOf m)) out′ r = rw (named-same t) at u in
+            let v : TextEnsures out 0 (orderedText (take count order) (nameOf m)) out′ r = rw (named-same t) at u in
             rw (order-is t) (record { puts = v; within = omega (arith, v .ends, fitting t, puts-long v); refusal-is = refl; left-is = refl });
       }
 
@@ -146,10 +146,10 @@ module _ {words tags : List ℕ} {n : ℕ} {before order : List ℕ} {left : ℕ
   unfolding shown orderOf
   left-few p = omega (arith, ring-few (length (p .holds .functions)) (calls (p .holds)) left (sym (l .is (p .holds) (p .taped))), few (p .taped), taped-functions (p .taped))
 
-  pub ring-tells : {out out′ : List ℕ} {x r : ℕ} → x ≡ left → length out ≡ 65536 → Puts out 0 (headed RINGS x) out′ r → Tells words tags n out out′ r RING left
+  pub ring-tells : {out out′ : List ℕ} {x r : ℕ} → x ≡ left → length out ≡ 65536 → TextEnsures out 0 (headed RINGS x) out′ r → Tells words tags n out out′ r RING left
   unfolding telling shown
   ring-tells {out} {out′} {x} {r} e h u =
-      let v : Puts out 0 (headed RINGS left) out′ r = rw e at u in
+      let v : TextEnsures out 0 (headed RINGS left) out′ r = rw e at u in
       record { same = λ m t. rw (← l .is m t) (record { puts = v; within = omega (arith, v .ends, headed-long RINGS left, decimal-long left .1, puts-long v); refusal-is = refl; left-is = refl }) }
 
 -- the same, of an answer that is known to be one of them
@@ -157,14 +157,14 @@ pub asks-all : {words tags : List ℕ} {n : ℕ} {order : List ℕ} {a : Ordered
 asks-all p q e l c h = text-asks p q (rw e at l) c h
 
 pub tells-all : {words tags : List ℕ} {n : ℕ} {order : List ℕ} {a : Ordered} → Tape words tags n → Passed words tags n → a ≡ All → Listed words tags n (replicate 256 0) a order → {count : ℕ} → count ≡ countAt 6 words
-    → {out out′ : List ℕ} {r : ℕ} → length out ≡ 65536 → Puts out 0 (orderedText (take count order) (nameIs words)) out′ r → Tells words tags n out out′ r 0 0
+    → {out out′ : List ℕ} {r : ℕ} → length out ≡ 65536 → TextEnsures out 0 (orderedText (take count order) (nameIs words)) out′ r → Tells words tags n out out′ r 0 0
 tells-all p q e l c h u = text-tells p q (rw e at l) c h u
 
 pub few-ring : {words tags : List ℕ} {n : ℕ} {before order : List ℕ} {a : Ordered} {left : ℕ} → Tape words tags n → a ≡ Ring left → Listed words tags n before a order → left < 1000
 few-ring p e l = left-few (rw e at l) p
 
 pub tells-ring : {words tags : List ℕ} {n : ℕ} {before order : List ℕ} {a : Ordered} {left : ℕ} → a ≡ Ring left → Listed words tags n before a order
-    → {out out′ : List ℕ} {x r : ℕ} → x ≡ left → length out ≡ 65536 → Puts out 0 (headed RINGS x) out′ r → Tells words tags n out out′ r RING left
+    → {out out′ : List ℕ} {x r : ℕ} → x ≡ left → length out ≡ 65536 → TextEnsures out 0 (headed RINGS x) out′ r → Tells words tags n out out′ r RING left
 tells-ring e l i h u = ring-tells (rw e at l) i h u
 
 -- ---- any bytes
@@ -180,7 +180,7 @@ refused-few t e = omega (arith, small t)
     small Names = omega arith
     small Scope = omega arith
 
-module _ {image words tags : List ℕ} {t : Taken} (got : Takes t words tags image) where
+module _ {image words tags : List ℕ} {t : Taken} (got : TakeInEnsures t words tags image) where
   module _ {n : ℕ} (e : t ≡ Accepted n) where
     held : Accepts image words tags n
     held = got .held n e
@@ -191,17 +191,17 @@ module _ {image words tags : List ℕ} {t : Taken} (got : Takes t words tags ima
     pub held-passed : Passed words tags n
     held-passed = passed-one (held .taped) (held .passes .numbers) (held .passes .names)
 
-    pub accepted-says : {out out′ : List ℕ} {r k left : ℕ} → Tells words tags n out out′ r k left → Says (tellingOf image) out out′ r k left
+    pub accepted-says : {out out′ : List ℕ} {r k left : ℕ} → Tells words tags n out out′ r k left → TellEnsures (tellingOf image) out out′ r k left
     unfolding tellingOf onImage
     accepted-says {out} {out′} {r} {k} {left} l =
         let i : tellingOf image ≡ telling (held .holds) (orderOf (held .holds)) = on-module (λ m. telling m (orderOf m)) refusing (length image) (wordsOf image) (held .holds) (sym (got .same) ∙ ap numberOf e) (held .reads) in
-        subst (λ x. Says x out out′ r k left) (sym i) (l .same (held .holds) (held .taped))
+        subst (λ x. TellEnsures x out out′ r k left) (sym i) (l .same (held .holds) (held .taped))
 
-  pub refused-says : NotFirst t → {k : ℕ} → k ≡ numberOf t → {out out′ : List ℕ} {x r : ℕ} → x ≡ k → length out ≡ 65536 → Puts out 0 (headed REFUSED x) out′ r → Says (tellingOf image) out out′ r k 0
+  pub refused-says : NotFirst t → {k : ℕ} → k ≡ numberOf t → {out out′ : List ℕ} {x r : ℕ} → x ≡ k → length out ≡ 65536 → TextEnsures out 0 (headed REFUSED x) out′ r → TellEnsures (tellingOf image) out out′ r k 0
   unfolding tellingOf onImage refusing
   refused-says h {k} e {out} {out′} {x} {r} f g u =
       let y = refused-by t h in
       let j : k ≡ suc (y .0) = e ∙ y .1 in
       let i : tellingOf image ≡ refusing (suc (y .0)) = on-refused (λ m. telling m (orderOf m)) refusing (length image) (wordsOf image) (y .0) (sym (got .same) ∙ y .1) in
-      let v : Puts out 0 (headed REFUSED (suc (y .0))) out′ r = rw (f ∙ j) at u in
-      subst (λ z. Says z out out′ r k 0) (sym i) (record { puts = v; within = omega (arith, v .ends, headed-long REFUSED (suc (y .0)), decimal-long (suc (y .0)) .1, puts-long v); refusal-is = j; left-is = refl })
+      let v : TextEnsures out 0 (headed REFUSED (suc (y .0))) out′ r = rw (f ∙ j) at u in
+      subst (λ z. TellEnsures z out out′ r k 0) (sym i) (record { puts = v; within = omega (arith, v .ends, headed-long REFUSED (suc (y .0)), decimal-long (suc (y .0)) .1, puts-long v); refusal-is = j; left-is = refl })

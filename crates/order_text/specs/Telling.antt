@@ -14,7 +14,7 @@ use Rattle.model.specs.Calls.{Order, ordered, ring}
 use Rattle.model.specs.Callees.{orderOf}
 use Rattle.model.specs.Image.{onImage}
 use Rattle.model.specs.Redirect.{nameWord}
-use Rattle.order_lines.specs.Lines.{nameOf, headed, orderedText, Puts}
+use Rattle.order_lines.specs.Lines.{nameOf, headed, orderedText, TextEnsures}
 
 -- "refused "
 abbrev pub REFUSED : List ℕ
@@ -51,15 +51,15 @@ Naming words tags n = (m : Module) → Taped words tags n m → NamesKnown m
 
 -- ---- promises
 -- the text is at the start of `out`, where there was room for it, all else stays, and this is answered
-pub record Says (t : Telling) (out out′ : List ℕ) (count refusal left : ℕ) : Type 0 where
-  pub puts : Puts out 0 (t .text) out′ count
+pub record TellEnsures (t : Telling) (out out′ : List ℕ) (count refusal left : ℕ) : Type 0 where
+  pub puts : TextEnsures out 0 (t .text) out′ count
   pub within : count ≤ length out′
   pub refusal-is : refusal ≡ t .refusal
   pub left-is : left ≡ t .left
 
 -- of the module that words and tags hold
 pub record Tells (words tags : List ℕ) (n : ℕ) (out out′ : List ℕ) (count refusal left : ℕ) : Type 0 where
-  pub same : (m : Module) → Taped words tags n m → Says (telling m (orderOf m)) out out′ count refusal left
+  pub same : (m : Module) → Taped words tags n m → TellEnsures (telling m (orderOf m)) out out′ count refusal left
 
 -- what intake has shown of the module that words and tags hold, as far as it is needed here
 pub record Passed (words tags : List ℕ) (n : ℕ) : Type 0 where

@@ -9,7 +9,7 @@ use order_ranks::Ordered;
 ghost use mathlib.Core.Path.{_≡_};
 ghost use lib.ListN.{length};
 ghost use Rattle.model.specs.Taped.{Tape};
-ghost use Rattle.order_text.specs.Telling.{tellingOf, Passed, Says, Tells};
+ghost use Rattle.order_text.specs.Telling.{tellingOf, Passed, TellEnsures, Tells};
 
 // How many bytes the text has, the number of the refusal or 0, and how many functions a ring leaves.
 pub struct Said {
@@ -47,7 +47,7 @@ pub fn tell(words: &Words, tags: &Tags, n: usize, out: &mut [u8; 65536]) -> Said
 // What is printed and answered for any bytes.
 pub fn tell_of(image: &[u8], out: &mut [u8; 65536]) -> Said
     requires { ⌜ length (now out) ≡ 65536 ⌝ }
-    ensures { λ r. ⌜ Says (tellingOf (now (image .entry))) (now (out .entry)) (now (out .exit)) (r .count) (r .refusal) (r .left) ⌝ }
+    ensures { λ r. ⌜ TellEnsures (tellingOf (now (image .entry))) (now (out .entry)) (now (out .exit)) (r .count) (r .refusal) (r .left) ⌝ }
 {
     let mut words = intake::fresh_words();
     let mut tags = intake::fresh_tags();

@@ -13,7 +13,7 @@ use Rattle.model.specs.Taped.{Tape}
 use Rattle.model.specs.Intake.{intakeOf}
 use Rattle.model.specs.Redirect.{Answer, redirected, outside, noOriginal, noReplacement, argumentsDiffer, resultsDiffer, redirectFunction}
 use Rattle.theory_image.specs.Modules.{read-well}
-use Rattle.intake.specs.Taken.{numberOf, Accepts, Takes}
+use Rattle.intake.specs.Taken.{numberOf, Accepts, TakeInEnsures}
 use Rattle.intake.specs.declared.Taken.{Taken}
 use Rattle.intake.specs.declared.Taken.the-variants.{Accepted}
 use Rattle.intake.proofs.Refusals.{NotFirst, refused-by}
@@ -46,7 +46,7 @@ module _ (image : List ℕ) (o p : ℕ) (omit : List ℕ) where
   unfolding redirectImage onImage
   by-module m e r = on-module ofModule (λ k. (refused k, image)) (length image) (wordsOf image) m e r
 
-  module _ (words tags : List ℕ) (t : Taken) (got : Takes t words tags image) where
+  module _ (words tags : List ℕ) (t : Taken) (got : TakeInEnsures t words tags image) where
     pub intake-refuses : NotFirst t → (k : ℕ) → k ≡ numberOf t → RedirectFunctionEnsures (Refused k) image image o p omit
     unfolding shown
     intake-refuses h k e =

@@ -21,7 +21,7 @@ use Rattle.theory_image.specs.Carries.{carried-classes, carried-words, flat-car
 use Rattle.theory_image.specs.Sections.{slice-middle}
 use Rattle.theory_image.specs.Views.{length-write, view-length, view-next, view-within}
 use Rattle.theory_image.specs.FunctionViews.{taped-write, taped-offset, taped-record, taped-count, part-end}
-use Rattle.redirect_calls.specs.Turns.{Turns, turned, turnOne, turnAll, redirectedBy}
+use Rattle.redirect_calls.specs.Turns.{RedirectAllEnsures, turned, turnOne, turnAll, redirectedBy}
 use Rattle.redirect_calls.proofs.Contexts.{function-before, function-behind, function-in, function-here, function-long, entries-before, entries-behind, entries-in, entries-long}
 use Rattle.redirect_calls.proofs.Places.{many, standing, end-in, name-is}
 
@@ -178,10 +178,10 @@ module _ (words tags : List ℕ) (n j : ℕ) (h : j < countAt 6 words) (a b : �
     test-is : (m : Module) → Taped words tags n m → r ≡ stays b omit j (nameWord (function m j))
     test-is m t = r-is ∙ ap (stays b omit j) (ap (λ p. getD words p 0) s-is ∙ name-is t j h)
 
-    pub one-stays : r ≡ true → Turns words words tags n (turnOne j a b omit)
+    pub one-stays : r ≡ true → RedirectAllEnsures words words tags n (turnOne j a b omit)
     one-stays y = record { holds = λ m t. turn-none m t (sym (test-is m t) ∙ y); rest = refl }
 
-    pub one-turns : Tape words tags n → r ≡ false → (e : ℕ) → e ≡ recordEnd 6 j words → (words₁ : List ℕ) → words₁ ≡ sets words s (zipWith (redirecting a b) (slice s e tags) (slice s e words)) → Turns words₁ words tags n (turnOne j a b omit)
+    pub one-turns : Tape words tags n → r ≡ false → (e : ℕ) → e ≡ recordEnd 6 j words → (words₁ : List ℕ) → words₁ ≡ sets words s (zipWith (redirecting a b) (slice s e tags) (slice s e words)) → RedirectAllEnsures words₁ words tags n (turnOne j a b omit)
     one-turns t₀ y e e-is words₁ is =
         record {
           holds = λ m t. turn-part m t (sym (test-is m t) ∙ y) s e s-is e-is words₁ is .0;
@@ -242,7 +242,7 @@ module _ (words₀ tags : List ℕ) (n a b : ℕ) (omit : List ℕ) where
     pub turning-asks : Tape words tags n × (j < countAt 6 words)
     turning-asks = (turning-tape, turning-in)
 
-    pub turning-next : (words₁ : List ℕ) → Turns words₁ words tags n (turnOne j a b omit) → Turning count words₁ (j + 1)
+    pub turning-next : (words₁ : List ℕ) → RedirectAllEnsures words₁ words tags n (turnOne j a b omit) → Turning count words₁ (j + 1)
     unfolding turnOne withFunctions function
     turning-next words₁ t =
         rw add-one
@@ -253,7 +253,7 @@ module _ (words₀ tags : List ℕ) (n a b : ℕ) (omit : List ℕ) where
           rest = t .rest ∙ inv .rest;
         })
 
-  pub turning-done : (count j : ℕ) (words : List ℕ) → Turning count words j → count ≤ j → Turns words words₀ tags n (turnAll a b omit)
+  pub turning-done : (count j : ℕ) (words : List ℕ) → Turning count words j → count ≤ j → RedirectAllEnsures words words₀ tags n (turnAll a b omit)
   unfolding turnAll
   turning-done count j words inv h =
       record {
@@ -297,7 +297,7 @@ module _ (words tags : List ℕ) (n a b : ℕ) where
         let l = ap length c ∙ length-map (flatTable (map flatEntry (m .entries))) (carryCell (redirecting a b)) in
         rewrite-part (redirecting a b) t (withEntries m (map (redirectEntry a b) (m .entries))) (well-entries m (t .well) (map (redirectEntry a b) (m .entries)) (length-map (m .entries) (redirectEntry a b)) (each-map (redirectEntry a b) (carry-well-entry (redirecting a b) keeps) (t .well .entries-ok .each))) (entries-before m) (flatTable (map flatEntry (m .entries))) (entries-behind m) (entries-in m (m .entries) refl refl) (entries-in m (map (redirectEntry a b) (m .entries)) (length-map (m .entries) (redirectEntry a b)) l ∙ ap (λ y. entries-before m ++ (y ++ entries-behind m)) c) s e (entries-start t ∙ sym (entries-long m)) (entries-stop t) words₁ is
 
-pub all-turns : (words₀ words tags : List ℕ) (n a b : ℕ) (omit : List ℕ) → Tape words₀ tags n → Turns words words₀ tags n (turnAll a b omit) → (s e : ℕ) → s ≡ offsetAt 7 words → e ≡ offsetAt 8 words → (words₁ : List ℕ) → words₁ ≡ sets words s (zipWith (redirecting a b) (slice s e tags) (slice s e words)) → Turns words₁ words₀ tags n (redirectedBy a b omit)
+pub all-turns : (words₀ words tags : List ℕ) (n a b : ℕ) (omit : List ℕ) → Tape words₀ tags n → RedirectAllEnsures words words₀ tags n (turnAll a b omit) → (s e : ℕ) → s ≡ offsetAt 7 words → e ≡ offsetAt 8 words → (words₁ : List ℕ) → words₁ ≡ sets words s (zipWith (redirecting a b) (slice s e tags) (slice s e words)) → RedirectAllEnsures words₁ words₀ tags n (redirectedBy a b omit)
 unfolding turnAll redirectedBy redirect withFunctions
 all-turns words₀ words tags n a b omit h t s e s-is e-is words₁ is =
     record {
@@ -305,8 +305,8 @@ all-turns words₀ words tags n a b omit h t s e s-is e-is words₁ is =
       rest = turn-entries words tags n a b s e s-is e-is (t .holds (h .holds) (h .taped)) words₁ is .1 ∙ t .rest;
     }
 
-pub turned-tape : (words₀ words tags : List ℕ) (n : ℕ) (f : Module → Module) → Tape words₀ tags n → Turns words words₀ tags n f → Tape words tags n
+pub turned-tape : (words₀ words tags : List ℕ) (n : ℕ) (f : Module → Module) → Tape words₀ tags n → RedirectAllEnsures words words₀ tags n f → Tape words tags n
 turned-tape words₀ words tags n f h t = record { holds = f (h .holds); taped = t .holds (h .holds) (h .taped) }
 
-pub all-asks : (words₀ words tags : List ℕ) (n a b : ℕ) (omit : List ℕ) → Tape words₀ tags n → Turns words words₀ tags n (turnAll a b omit) → (s e : ℕ) → s ≡ offsetAt 7 words → e ≡ offsetAt 8 words → (s ≤ e) × (e ≤ 16384) × (length words ≡ 16384) × (length tags ≡ 16384)
+pub all-asks : (words₀ words tags : List ℕ) (n a b : ℕ) (omit : List ℕ) → Tape words₀ tags n → RedirectAllEnsures words words₀ tags n (turnAll a b omit) → (s e : ℕ) → s ≡ offsetAt 7 words → e ≡ offsetAt 8 words → (s ≤ e) × (e ≤ 16384) × (length words ≡ 16384) × (length tags ≡ 16384)
 all-asks words₀ words tags n a b omit h t s e s-is e-is = entries-asks words tags n a b s e s-is e-is (turned-tape words₀ words tags n (turnAll a b omit) h t)

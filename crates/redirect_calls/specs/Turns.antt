@@ -10,7 +10,7 @@ use Rattle.model.specs.Taped.{Taped}
 use Rattle.model.specs.Redirect.{nameWord, redirectFn, stays, redirectFns, withFunctions, redirect, function}
 
 -- words that held m hold f m, with the same tags, and the words after them stay
-pub record Turns (words₁ words tags : List ℕ) (n : ℕ) (f : Module → Module) : Type 0 where
+pub record RedirectAllEnsures (words₁ words tags : List ℕ) (n : ℕ) (f : Module → Module) : Type 0 where
   pub holds : (m : Module) → Taped words tags n m → Taped words₁ tags n (f m)
   pub rest : drop n words₁ ≡ drop n words
 

@@ -21,7 +21,7 @@ ghost use lib.Seq.{slice, sets};
 ghost use Rattle.model.specs.Module.{countAt};
 ghost use Rattle.model.specs.Taped.{Tape};
 ghost use Rattle.model.specs.Redirect.{omitted as omittedOf, redirecting, stays as staysOf};
-ghost use Rattle.redirect_calls.specs.Turns.{Turns, turnOne, turnAll, redirectedBy};
+ghost use Rattle.redirect_calls.specs.Turns.{RedirectAllEnsures, turnOne, turnAll, redirectedBy};
 
 // Whether an optional name is the name with a number.
 pub fn is_named(w: u32, name: u32) -> bool
@@ -108,7 +108,7 @@ fn redirect_one(
 )
     requires { ⌜ Tape (now words) (now tags) n ⌝ }
     requires { ⌜ j < countAt 6 (now words) ⌝ }
-    ensures { λ _. ⌜ Turns (now (words .exit)) (now (words .entry)) (now (tags .entry)) n (turnOne j original replacement (now (omit .entry))) ⌝ }
+    ensures { λ _. ⌜ RedirectAllEnsures (now (words .exit)) (now (words .entry)) (now (tags .entry)) n (turnOne j original replacement (now (omit .entry))) ⌝ }
 {
     let at = record_at(words, tags, n, FUNCTIONS, j);
     if !stays(replacement, omit, j, words[at]) {
@@ -127,7 +127,7 @@ fn redirect_functions(
     omit: &[u32],
 )
     requires { ⌜ Tape (now words) (now tags) n ⌝ }
-    ensures { λ _. ⌜ Turns (now (words .exit)) (now (words .entry)) (now (tags .entry)) n (turnAll original replacement (now (omit .entry))) ⌝ }
+    ensures { λ _. ⌜ RedirectAllEnsures (now (words .exit)) (now (words .entry)) (now (tags .entry)) n (turnAll original replacement (now (omit .entry))) ⌝ }
 {
     let count = count(words, FUNCTIONS);
     let mut j = 0;
@@ -148,7 +148,7 @@ pub fn redirect_all(
     omit: &[u32],
 )
     requires { ⌜ Tape (now words) (now tags) n ⌝ }
-    ensures { λ _. ⌜ Turns (now (words .exit)) (now (words .entry)) (now (tags .entry)) n (redirectedBy original replacement (now (omit .entry))) ⌝ }
+    ensures { λ _. ⌜ RedirectAllEnsures (now (words .exit)) (now (words .entry)) (now (tags .entry)) n (redirectedBy original replacement (now (omit .entry))) ⌝ }
 {
     redirect_functions(words, tags, n, original, replacement, omit);
     let at = offset(words, ENTRIES);

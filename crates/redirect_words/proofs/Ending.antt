@@ -16,7 +16,7 @@ use Rattle.theory_image.specs.FunctionViews.{taped-write}
 use Rattle.model.specs.Refusals.{done, refused}
 use Rattle.model.specs.Image.{redirectEnded}
 use Rattle.redirect_words.specs.Passes.{shown, Tests, Redirects}
-use Rattle.redirect_calls.specs.Turns.{Turns, redirectedBy}
+use Rattle.redirect_calls.specs.Turns.{RedirectAllEnsures, redirectedBy}
 use Rattle.redirect_words.specs.declared.Redirected.{Redirected}
 use Rattle.redirect_words.specs.declared.Redirected.the-variants.{Done, Outside, NoOriginal, NoReplacement, ArgumentsDiffer, ResultsDiffer}
 use Rattle.redirect_words.proofs.Redirected.{the-type}
@@ -111,7 +111,7 @@ module _ (words tags : List ℕ) (n o p : ℕ) (omit : List ℕ) (r : Redirected
         words-are = λ m x. held-words x words (x .words-long) refl ∙ ap (λ y. sets words 0 (write y)) (sym (after-refused m (redirectFunction m o p omit) k (sym (t .same m x) ∙ e)));
       }
 
-  pub words-turn : Tape words tags n → (a b : FunctionHandle) → r ≡ Done a b → (words₁ : List ℕ) → Turns words₁ words tags n (redirectedBy (a .0) (b .0) omit) → Redirects (Done a b) words₁ words tags n o p omit
+  pub words-turn : Tape words tags n → (a b : FunctionHandle) → r ≡ Done a b → (words₁ : List ℕ) → RedirectAllEnsures words₁ words tags n (redirectedBy (a .0) (b .0) omit) → Redirects (Done a b) words₁ words tags n o p omit
   unfolding shown redirectedBy after
   words-turn h a b e words₁ u =
       record {

@@ -11,7 +11,7 @@ use Rattle.function_builder.specs.Stacks.{Stacks}
 use Rattle.derive_session.specs.Valid.{sessionOf, ValidSession}
 use Rattle.model.specs.Image.{ScratchLengths, SessionEnsures}
 use Rattle.derive_session.specs.Fresh.{Nothing, unmapped, Empty, starts-new, valid-new, zeros}
-use Rattle.session_steps.specs.Stepped.{saying, Stepped}
+use Rattle.session_steps.specs.Stepped.{saying, PerformEnsures}
 use Rattle.session.specs.Sessions.{orElse, numbered}
 use Rattle.session.proofs.Running.{Left, left-start, left-end, left-next}
 
@@ -52,7 +52,7 @@ module _ (sources steps answers₀ output₀ targets : List ℕ) (count : ℕ) (
   going-last h = let b = G .below in let m = G .no-more in left-end sources steps answers₀ output₀ i first answers output (sessionOf set n o words log logtags starts maps special e) (omega arith) (G .left)
 
   pub going-next : i < count → (k u v : ℕ) → k < 4294967296 → (output′ words′ tags′ log′ logtags′ : List ℕ) (starts′ maps′ : List (List ℕ)) (buckets′ special′ : List ℕ) (stacks′ : List (List ℕ)) (e′ : Sizes) (set′ : Bool) (n′ o′ first′ i′ : ℕ)
-      → Stepped (saying (getD steps (4 * i) 0) (getD steps (4 * i + 1) 0) (getD steps (4 * i + 2) 0) (getD steps (4 * i + 3) 0) sources output (sessionOf set n o words log logtags starts maps special e)) k u v output output′ (sessionOf set′ n′ o′ words′ log′ logtags′ starts′ maps′ special′ e′)
+      → PerformEnsures (saying (getD steps (4 * i) 0) (getD steps (4 * i + 1) 0) (getD steps (4 * i + 2) 0) (getD steps (4 * i + 3) 0) sources output (sessionOf set n o words log logtags starts maps special e)) k u v output output′ (sessionOf set′ n′ o′ words′ log′ logtags′ starts′ maps′ special′ e′)
       → ValidSession set′ n′ o′ words′ tags′ targets log′ logtags′ starts′ maps′ buckets′ special′ e′ → Stacks stacks′ e′ → first′ ≡ orElse first (numbered k i) → i′ ≡ suc i
       → Going sources steps answers₀ output₀ targets count (put (put (put answers (3 * i) k) (3 * i + 1) u) (3 * i + 2) v) output′ words′ tags′ log′ logtags′ starts′ maps′ buckets′ special′ stacks′ e′ set′ n′ o′ first′ i′
   going-next h k u v low output′ words′ tags′ log′ logtags′ starts′ maps′ buckets′ special′ stacks′ e′ set′ n′ o′ first′ i′ d live stacks-are f hi =

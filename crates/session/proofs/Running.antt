@@ -10,7 +10,7 @@ use Rattle.model.specs.Session.{Session, new}
 use Rattle.model.specs.Steps.{Said, Operation, operations, sets-source, clears-source, maps-span, types, renames, constants, overrides, globals, expressions, functions, new-functions, handles, required, finishes, finishes-entries, unknown, perform, part, run, answersOf, outputOf, firstRefused, session}
 use Rattle.model.specs.Image.{wuldgisp-session, SessionEnsures}
 use Rattle.model.specs.Refusals.{packed}
-use Rattle.session_steps.specs.Stepped.{saying, Stepped}
+use Rattle.session_steps.specs.Stepped.{saying, PerformEnsures}
 use Rattle.session.specs.Sessions.{orElse, numbered}
 
 -- ---- the first refusal
@@ -136,7 +136,7 @@ module _ (sources steps answers₀ output₀ : List ℕ) where
     abbrev said : List ℕ → Said
     said l = saying (getD steps (4 * j) 0) (getD steps (4 * j + 1) 0) (getD steps (4 * j + 2) 0) (getD steps (4 * j + 3) 0) sources l s
 
-    module _ (k u v : ℕ) (output′ : List ℕ) (s′ : Session) (d : Stepped (said output) k u v output output′ s′) (low : k < 4294967296) where
+    module _ (k u v : ℕ) (output′ : List ℕ) (s′ : Session) (d : PerformEnsures (said output) k u v output output′ s′) (low : k < 4294967296) where
       abbrev answers′ : List ℕ
       answers′ = set (set (set answers (3 * j) k) (3 * j + 1) u) (3 * j + 2) v
 
@@ -157,8 +157,8 @@ module _ (sources steps answers₀ output₀ : List ℕ) where
         output-so = ap (outputOf rest) (d₀ .output-is) ∙ ap (λ (xs : List Said). outputOf xs output) (sym whole) ∙ L .output-so;
       }
         where
-          d₀ : Stepped (said output₀) k u v output output′ s′
-          d₀ = subst (λ (x : Said). Stepped x k u v output output′ s′) (same-said (getD operations (getD steps (4 * j) 0) unknown) (getD steps (4 * j + 1) 0) (getD steps (4 * j + 2) 0) (getD steps (4 * j + 3) 0) sources output output₀ s (L .long)) d
+          d₀ : PerformEnsures (said output₀) k u v output output′ s′
+          d₀ = subst (λ (x : Said). PerformEnsures x k u v output output′ s′) (same-said (getD operations (getD steps (4 * j) 0) unknown) (getD steps (4 * j + 1) 0) (getD steps (4 * j + 2) 0) (getD steps (4 * j + 3) 0) sources output output₀ s (L .long)) d
 
           rest : List Said
           rest = run (drop (4 * suc j) steps) sources output₀ s′

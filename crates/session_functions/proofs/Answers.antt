@@ -13,8 +13,8 @@ use Rattle.function_nesting.specs.Nested.{appendS, followS}
 use Rattle.derive_state.specs.Source.{modOf}
 use Rattle.derive_state.specs.Held.{stOf}
 use Rattle.derive_state.specs.declared.Sizes.{Sizes}
-use Rattle.derive_lookup.specs.Bearing.{Knows}
-use Rattle.derive_rings.specs.Rings.{Rings}
+use Rattle.derive_lookup.specs.Bearing.{KnownEnsures}
+use Rattle.derive_rings.specs.Rings.{RingsEnsures}
 use Rattle.function_builder.specs.Stacks.{Stacks}
 use Rattle.derive_session.specs.Valid.{sessionOf, ValidSession}
 use Rattle.session_operations.specs.Operations.{OperationEnsures}
@@ -56,7 +56,7 @@ module _ (set : Bool) (n o : ℕ) (words tags targets log logtags : List ℕ) (s
 
     module _ (l : f < countAt 6 words) (w : ℕ) (pw : w ≡ f) (b : Bool) where
       -- ---- import_function: w is its number, as the code has it
-      module _ (G : Rings (w ∷ callees (function (modOf words n) w)) words n log logtags starts e b) where
+      module _ (G : RingsEnsures (w ∷ callees (function (modOf words n) w)) words n log logtags starts e b) where
         rings-is : b ≡ meetsRing (f ∷ callees (function (modOf words n) f)) (modOf words n) (stOf words log logtags starts maps special e)
         rings-is = rw (← pw) (G .is maps special)
 
@@ -79,7 +79,7 @@ module _ (set : Bool) (n o : ℕ) (words tags targets log logtags : List ℕ) (s
           import-done z v pv = rw p (Bringing.import-done n o words tags targets log logtags starts maps buckets special e live f l (sym rings-is ∙ q) room k r log′ logtags′ starts′ maps′ buckets′ stacks′ B′ z v pv, (Bringing.import-done-live n o words tags targets log logtags starts maps buckets special e live f l (sym rings-is ∙ q) room k r log′ logtags′ starts′ maps′ buckets′ stacks′ B′ z, B .is z .2))
 
       -- ---- map_function_handle
-      module _ (G : Rings (w ∷ []) words n log logtags starts e b) where
+      module _ (G : RingsEnsures (w ∷ []) words n log logtags starts e b) where
         rings-is′ : b ≡ meetsRing (f ∷ []) (modOf words n) (stOf words log logtags starts maps special e)
         rings-is′ = rw (← pw) (G .is maps special)
 
@@ -98,5 +98,5 @@ module _ (set : Bool) (n o : ℕ) (words tags targets log logtags : List ℕ) (s
           pub handle-full : r .full ≡ true → Says (mapFunctionHandle f) FULL 0 log′ logtags′ starts′ maps′ buckets′ stacks′ e
           handle-full z = rw p (Bringing.handle-full n o words tags targets log logtags starts maps buckets special e live f l (sym rings-is′ ∙ q) room k r log′ logtags′ starts′ maps′ buckets′ stacks′ C z, (Bringing.handle-full-live n o words tags targets log logtags starts maps buckets special e live f l (sym rings-is′ ∙ q) room k r log′ logtags′ starts′ maps′ buckets′ stacks′ C z, B .stays z .2))
 
-          pub handle-done : r .full ≡ false → (y : ℕ) → y ≡ f → (d : ℕ) → Knows words n log′ logtags′ starts′ r y d → (v : ℕ) → v ≡ pred d → Says (mapFunctionHandle f) 0 v log′ logtags′ starts′ maps′ buckets′ stacks′ r
+          pub handle-done : r .full ≡ false → (y : ℕ) → y ≡ f → (d : ℕ) → KnownEnsures words n log′ logtags′ starts′ r y d → (v : ℕ) → v ≡ pred d → Says (mapFunctionHandle f) 0 v log′ logtags′ starts′ maps′ buckets′ stacks′ r
           handle-done z y py d D v pv = rw p (Bringing.handle-done n o words tags targets log logtags starts maps buckets special e live f l (sym rings-is′ ∙ q) room k r log′ logtags′ starts′ maps′ buckets′ stacks′ C z d (rw (← py) D) v pv, (Bringing.handle-done-live n o words tags targets log logtags starts maps buckets special e live f l (sym rings-is′ ∙ q) room k r log′ logtags′ starts′ maps′ buckets′ stacks′ C z, B .is z .2))

@@ -31,7 +31,7 @@ use Rattle.derive_state.specs.declared.Sizes.{Sizes}
 use Rattle.derive_state.proofs.State.{table-long, tab-long}
 use Rattle.derive_state.proofs.Laws.{none-held}
 use Rattle.function_nesting.specs.Nested.{appendS, followS}
-use Rattle.derive_lookup.specs.Bearing.{Knows}
+use Rattle.derive_lookup.specs.Bearing.{KnownEnsures}
 use Rattle.derive_session.specs.Valid.{sessionOf, ValidSession}
 use Rattle.session_operations.specs.Operations.{answerOf, OperationEnsures}
 use Rattle.session_functions.specs.Brought.{Brings}
@@ -259,7 +259,7 @@ module _ (n o : ℕ) (words tags targets log logtags : List ℕ) (starts maps : 
           handle-answers = handle-is ∙ answer-done _ Q same′ there′ more′ r log′ logtags′ starts′ maps′ buckets′ stacks B q _
               ∙ ap (λ (t : Derived). answered (pred (known (modOf words n) t f)) (sessionOf true n o words log′ logtags′ starts′ maps′ special r)) (state-is _ Q same′ there′ more′ r log′ logtags′ starts′ maps′ buckets′ stacks B q)
 
-          pub handle-done : (d : ℕ) → Knows words n log′ logtags′ starts′ r f d → (v : ℕ) → v ≡ pred d → OperationEnsures {A = ℕ} (mapFunctionHandle f) before 0 v (sessionOf true n o words log′ logtags′ starts′ maps′ special r)
+          pub handle-done : (d : ℕ) → KnownEnsures words n log′ logtags′ starts′ r f d → (v : ℕ) → v ≡ pred d → OperationEnsures {A = ℕ} (mapFunctionHandle f) before 0 v (sessionOf true n o words log′ logtags′ starts′ maps′ special r)
           unfolding answerOf
           handle-done d h v p = record { is = rw (p, h .is maps′ special) handle-answers; stays = λ z. absurd (omega arith) }
 

@@ -19,13 +19,13 @@ use Rattle.derive_state.specs.Source.{modOf}
 use Rattle.derive_state.specs.Held.{stOf}
 use Rattle.derive_state.specs.declared.Sizes.{Sizes}
 use Rattle.derive_state.proofs.State.{st-stays, kept-stays}
-use Rattle.derive_rings.specs.Rings.{Rings}
+use Rattle.derive_rings.specs.Rings.{RingsEnsures}
 use Rattle.function_builder.specs.Stacks.{Stacks}
 use Rattle.derive_session.specs.Valid.{sessionOf, ValidSession}
-use Rattle.session_operations.specs.Operations.{Finishes}
+use Rattle.session_operations.specs.Operations.{FinishEnsures}
 use Rattle.derive_session.specs.Fresh.{Nothing, unmapped, Empty, starts-new, valid-new}
 use Rattle.session_operations.proofs.Finishing.{none-written, unset, unset-long, unset-all}
-use Rattle.function_entry.specs.Entered.{EntersAll}
+use Rattle.function_entry.specs.Entered.{EnterAllEnsures}
 use Rattle.function_entry.proofs.Sources as Sources
 use Rattle.session_functions.proofs.Whole.{stacks-empty}
 use Rattle.session_functions.proofs.Answers.{not-set, is-set}
@@ -50,7 +50,7 @@ stacks-of S z = record { four = S .four; rows = S .rows; high = omega (arith, z 
 
 module _ (set : Bool) (n o : ℕ) (words tags targets log logtags : List ℕ) (starts maps : List (List ℕ)) (buckets special : List ℕ) (e : Sizes) (L : ValidSession set n o words tags targets log logtags starts maps buckets special e) (stacks : List (List ℕ)) (S : Stacks stacks e) (output₀ : List ℕ) where
   abbrev Ends-with : ℕ → ℕ → List ℕ → Bool → List ℕ → List ℕ → List (List ℕ) → List ℕ → List ℕ → List (List ℕ) → Sizes → Type 0
-  Ends-with refusal bytes output set′ log′ logtags′ maps′ buckets′ special′ stacks′ r = Finishes (finishWithEntryPoints (length output₀) (sessionOf set n o words log logtags starts maps special e)) (sessionOf set n o words log logtags starts maps special e) refusal bytes output₀ output (sessionOf set′ n o words log′ logtags′ starts maps′ special′ r) × (ValidSession set′ n o words tags targets log′ logtags′ starts maps′ buckets′ special′ r × Stacks stacks′ r)
+  Ends-with refusal bytes output set′ log′ logtags′ maps′ buckets′ special′ stacks′ r = FinishEnsures (finishWithEntryPoints (length output₀) (sessionOf set n o words log logtags starts maps special e)) (sessionOf set n o words log logtags starts maps special e) refusal bytes output₀ output (sessionOf set′ n o words log′ logtags′ starts maps′ special′ r) × (ValidSession set′ n o words tags targets log′ logtags′ starts maps′ buckets′ special′ r × Stacks stacks′ r)
 
   pub end-none : not set ≡ true → Ends-with NO-SOURCE 0 output₀ set log logtags maps buckets special stacks e
   unfolding finishWithEntryPoints withSource sessionOf told
@@ -75,7 +75,7 @@ module _ (set : Bool) (n o : ℕ) (words tags targets log logtags : List ℕ) (s
     abbrev before : Session
     before = sessionOf true n o words log logtags starts maps special e
 
-    module _ (b : Bool) (G : Rings (calleesOf (modOf words n .entries)) words n log logtags starts e b) where
+    module _ (b : Bool) (G : RingsEnsures (calleesOf (modOf words n .entries)) words n log logtags starts e b) where
       ring-answer : b ≡ true → finishWithEntryPoints (length output₀) before ≡ refused UNKNOWN-RING
       unfolding finishWithEntryPoints withSource sessionOf
       ring-answer q = rung R (writeIfFits (withEntries x s) (length output₀)) (sym (G .is maps special) ∙ q)
@@ -88,7 +88,7 @@ module _ (set : Bool) (n o : ℕ) (words tags targets log logtags : List ℕ) (s
         pub end-free : R ≡ false
         end-free = sym (G .is maps special) ∙ q
 
-        module _ (r : Sizes) (log′ logtags′ : List ℕ) (starts′ maps′ : List (List ℕ)) (buckets′ : List ℕ) (stacks′ : List (List ℕ)) (N : EntersAll words n o special log logtags starts maps buckets e r log′ logtags′ starts′ maps′ buckets′ stacks′) where
+        module _ (r : Sizes) (log′ logtags′ : List ℕ) (starts′ maps′ : List (List ℕ)) (buckets′ : List ℕ) (stacks′ : List (List ℕ)) (N : EnterAllEnsures words n o special log logtags starts maps buckets e r log′ logtags′ starts′ maps′ buckets′ stacks′) where
           -- where it is refused nothing has changed
           same : sessionOf true n o words log′ logtags′ starts maps special e ≡ before
           unfolding sessionOf

@@ -10,18 +10,18 @@ use Rattle.derive_state.specs.declared.Sizes.{Sizes}
 use Rattle.derive_state.proofs.State.{st-stays, kept-stays}
 use Rattle.derive_state.proofs.Fresh.{rows-at}
 use Rattle.function_builder.specs.Stacks.{Stacks}
-use Rattle.derive_snapshot.specs.Snapshot.{Saved, Restored}
+use Rattle.derive_snapshot.specs.Snapshot.{SaveEnsures, RestoreEnsures}
 use Rattle.derive_snapshot.proofs.Saved.{st-saved, kept-saved}
-use Rattle.function_localize.specs.Localized.{Nests}
+use Rattle.function_localize.specs.Localized.{ImportFunctionEnsures}
 use Rattle.session_functions.specs.Brought.{Brings}
 
 -- stacks that are empty
 pub stacks-empty : (stacks : List (List ℕ)) → stacks ≡ replicate 4 (replicate 16384 0) → (e : Sizes) → e .exprtop ≤ 16384 → e .bodytop ≤ 16384 → Stacks stacks e
 stacks-empty stacks p e a b = rw p (record { four = length-replicate {A = List ℕ} 4 (replicate 16384 0); rows = λ t h. ap length (rows-at (replicate 16384 0) 4 t h) ∙ length-replicate {A = ℕ} 16384 0; high = a; high′ = b })
 
-module _ (words special log logtags : List ℕ) (starts maps : List (List ℕ)) (buckets : List ℕ) (stacks : List (List ℕ)) (e : Sizes) (K : ValidArrays log logtags starts maps buckets e) (S : Stacks stacks e) (s₀ m₀ : List (List ℕ)) (saved : Saved words starts maps e s₀ m₀)
-    (ready : Derived → Type 0) (g : Derived → Derived) (r : Sizes) (log′ logtags′ : List ℕ) (s m : List (List ℕ)) (buckets′ : List ℕ) (stacks′ : List (List ℕ)) (N : Nests words ready g log logtags starts maps buckets stacks e r log′ logtags′ s m buckets′ stacks′)
-    (starts′ maps′ : List (List ℕ)) (t : Restored (r .full) s₀ m₀ s m starts′ maps′) where
+module _ (words special log logtags : List ℕ) (starts maps : List (List ℕ)) (buckets : List ℕ) (stacks : List (List ℕ)) (e : Sizes) (K : ValidArrays log logtags starts maps buckets e) (S : Stacks stacks e) (s₀ m₀ : List (List ℕ)) (saved : SaveEnsures words starts maps e s₀ m₀)
+    (ready : Derived → Type 0) (g : Derived → Derived) (r : Sizes) (log′ logtags′ : List ℕ) (s m : List (List ℕ)) (buckets′ : List ℕ) (stacks′ : List (List ℕ)) (N : ImportFunctionEnsures words ready g log logtags starts maps buckets stacks e r log′ logtags′ s m buckets′ stacks′)
+    (starts′ maps′ : List (List ℕ)) (t : RestoreEnsures (r .full) s₀ m₀ s m starts′ maps′) where
   pub brings-full : ready (stOf words log logtags starts maps special e) → r .full ≡ true → (stacks″ : List (List ℕ)) → stacks″ ≡ replicate 4 (replicate 16384 0) → Brings words special g log logtags starts maps e r log′ logtags′ starts′ maps′ buckets′ stacks″
   brings-full h f stacks″ p =
       let K′ = kept-saved words log logtags starts maps e s₀ m₀ saved buckets K in

@@ -46,7 +46,7 @@ ghost use Rattle.derive_state.specs.Source.{modOf};
 ghost use Rattle.derive_state.specs.Held.{stOf};
 ghost use Rattle.function_builder.specs.Stacks.{Stacks};
 ghost use Rattle.derive_session.specs.Valid.{sessionOf, ValidSession};
-ghost use Rattle.session_operations.specs.Operations.{OperationEnsures, Finishes};
+ghost use Rattle.session_operations.specs.Operations.{OperationEnsures, FinishEnsures};
 ghost use Rattle.session_functions.specs.Brought.{Brings};
 
 // Empties the stacks of functions under construction.
@@ -348,7 +348,7 @@ pub fn finish_with_entries(
 ) -> Finished
     requires { ⌜ ValidSession set n offset (now words) (now tags) (now targets) (now log) (now logtags) (now starts) (now maps) (now buckets) (now special) ends ⌝ }
     requires { ⌜ Stacks (now stacks) ends ⌝ }
-    ensures { λ r. ⌜ Finishes (finishWithEntryPoints (length (now (output .entry))) (sessionOf set n offset (now (words .entry)) (now (log .entry)) (now (logtags .entry)) (now (starts .entry)) (now (maps .entry)) (now (special .entry)) ends)) (sessionOf set n offset (now (words .entry)) (now (log .entry)) (now (logtags .entry)) (now (starts .entry)) (now (maps .entry)) (now (special .entry)) ends) (r .refusal) (r .bytes) (now (output .entry)) (now (output .exit)) (sessionOf (r .set) n offset (now (words .entry)) (now (log .exit)) (now (logtags .exit)) (now (starts .entry)) (now (maps .exit)) (now (special .exit)) (r .ends)) ⌝ }
+    ensures { λ r. ⌜ FinishEnsures (finishWithEntryPoints (length (now (output .entry))) (sessionOf set n offset (now (words .entry)) (now (log .entry)) (now (logtags .entry)) (now (starts .entry)) (now (maps .entry)) (now (special .entry)) ends)) (sessionOf set n offset (now (words .entry)) (now (log .entry)) (now (logtags .entry)) (now (starts .entry)) (now (maps .entry)) (now (special .entry)) ends) (r .refusal) (r .bytes) (now (output .entry)) (now (output .exit)) (sessionOf (r .set) n offset (now (words .entry)) (now (log .exit)) (now (logtags .exit)) (now (starts .entry)) (now (maps .exit)) (now (special .exit)) (r .ends)) ⌝ }
     ensures { λ r. ⌜ ValidSession (r .set) n offset (now (words .entry)) (now (tags .entry)) (now (targets .entry)) (now (log .exit)) (now (logtags .exit)) (now (starts .entry)) (now (maps .exit)) (now (buckets .exit)) (now (special .exit)) (r .ends) ⌝ }
     ensures { λ r. ⌜ Stacks (now (stacks .exit)) (r .ends) ⌝ }
 {

@@ -18,7 +18,7 @@ use Rattle.derive_state.specs.Source.{modOf}
 use Rattle.derive_state.specs.Held.{stOf}
 use Rattle.derive_state.specs.declared.Sizes.{Sizes}
 use Rattle.derive_session.specs.Valid.{sessionOf, ValidSession}
-use Rattle.session_operations.specs.Operations.{Finishes}
+use Rattle.session_operations.specs.Operations.{FinishEnsures}
 use Rattle.derive_session.specs.Fresh.{Nothing, unmapped, Empty, starts-new, valid-new}
 
 -- maps do not matter
@@ -72,7 +72,7 @@ module _ (set : Bool) (n o : ℕ) (words tags targets log logtags : List ℕ) (s
         go false = finish-told d (L .no-entries) words maps none ∙ ap (λ (a : Answer (List ℕ)). told a output₀) (sym (finish-cleared (length output₀) (stOf words log logtags starts maps special e)))
 
     -- 21, 7
-    pub finish-refused : (k ≡ 0 → ⊥) → Finishes (finish (length output₀) before) before k 0 output₀ output before × ValidSession set n o words tags targets log logtags starts maps buckets special e
+    pub finish-refused : (k ≡ 0 → ⊥) → FinishEnsures (finish (length output₀) before) before k 0 output₀ output before × ValidSession set n o words tags targets log logtags starts maps buckets special e
     finish-refused ne =
         let z = none-written (finish (length output₀) before) output₀ k b output tells ne in
         (record { is = ap (λ (y : ℕ). (k, y, output)) (sym z) ∙ tells; done = λ q. absurd (ne q); stays = λ q. refl }, L)
@@ -93,5 +93,5 @@ module _ (set : Bool) (n o : ℕ) (words tags targets log logtags : List ℕ) (s
         rays-none = unset-all special (L .specials .special-long);
       }
 
-      pub finish-done : Finishes (finish (length output₀) before) before 0 b output₀ output (sessionOf false n o words log logtags starts maps′ (unset special) r) × ValidSession false n o words tags targets log logtags starts maps′ buckets (unset special) r
+      pub finish-done : FinishEnsures (finish (length output₀) before) before 0 b output₀ output (sessionOf false n o words log logtags starts maps′ (unset special) r) × ValidSession false n o words tags targets log logtags starts maps′ buckets (unset special) r
       finish-done = rw (hm, hr) (record { is = ap (λ (y : ℕ). (y, b, output)) (sym ok) ∙ tells; done = λ q. starts-new empty n o; stays = λ q. absurd (omega arith) }, valid-new empty n o)

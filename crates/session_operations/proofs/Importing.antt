@@ -19,13 +19,13 @@ use Rattle.derive_limits.specs.Reached.{Public, Reached, does-reached, At, at-s
 use Rattle.derive_limits.specs.Theorems.{exact-at, kept-full, kept-room, kept-not-over}
 use Rattle.derive_state.specs.Refers.{tabOf}
 use Rattle.derive_state.specs.Source.{modOf, srcOf, Source as Held}
-use Rattle.derive_state.specs.Held.{stOf, ValidArrays, Whole}
+use Rattle.derive_state.specs.Held.{stOf, ValidArrays, ImportOrUndoEnsures}
 use Rattle.derive_state.specs.declared.Sizes.{Sizes}
 use Rattle.derive_state.proofs.State.{tab-long}
 use Rattle.derive_state.proofs.Laws.{none-held}
 use Rattle.derive_names.proofs.Sources.{count-is}
 use Rattle.derive_names.proofs.Growth.{Grow, grow-T}
-use Rattle.derive_rollback.specs.Answered.{Answers}
+use Rattle.derive_rollback.specs.Answered.{MappedToEnsures}
 use Rattle.derive_special.proofs.Deriving.{specials-more}
 use Rattle.derive_session.specs.Valid.{sessionOf, ValidSession}
 use Rattle.session_operations.specs.Operations.{OperationEnsures}
@@ -68,7 +68,7 @@ pub in-table : (t k : ℕ) → t ≡ k → (words : List ℕ) (h : ℕ) → h < 
 in-table t k q words h l = rw q at l
 
 pub of-table : (t k : ℕ) → t ≡ k → (o : ℕ) (T : Tables) (h : ℕ) → {words log logtags : List ℕ} {starts maps : List (List ℕ)} {e r : Sizes} {log′ logtags′ : List ℕ} {starts′ maps′ : List (List ℕ)} {buckets′ : List ℕ}
-    → Whole words (importT o T (tabOf k) h) log logtags starts maps e r log′ logtags′ starts′ maps′ buckets′ → Whole words (importT o T (tabOf t) h) log logtags starts maps e r log′ logtags′ starts′ maps′ buckets′
+    → ImportOrUndoEnsures words (importT o T (tabOf k) h) log logtags starts maps e r log′ logtags′ starts′ maps′ buckets′ → ImportOrUndoEnsures words (importT o T (tabOf t) h) log logtags starts maps e r log′ logtags′ starts′ maps′ buckets′
 of-table t k q o T h w = rw q w
 
 pub fifth : (t : ℕ) → 1 ≤ t → t < 6 → (t ≡ 1 → ⊥) → (t ≡ 2 → ⊥) → (t ≡ 3 → ⊥) → (t ≡ 4 → ⊥) → t ≡ 5
@@ -154,7 +154,7 @@ module _ (n o : ℕ) (words tags targets log logtags : List ℕ) (starts maps : 
   -- ---- what is imported is taken over, or not: 21
   module _ (L : ValidSession true n o words tags targets log logtags starts maps buckets special e) (p : Operation) (shown : Public p) (op : Session → Answer ℕ) (f : Derived → Derived) (value : Derived → ℕ)
       (runs : (s : Session) → does p s ≡ after s (op s)) (grows : (s : Derived) → Grow s (f s)) (is : op (record { source = some x; state = S }) ≡ unlessFull x (f S) (value (f S))) (lands : At x (f S))
-      (r : Sizes) (log′ logtags′ : List ℕ) (starts′ maps′ : List (List ℕ)) (buckets′ : List ℕ) (w : Whole words f log logtags starts maps e r log′ logtags′ starts′ maps′ buckets′) where
+      (r : Sizes) (log′ logtags′ : List ℕ) (starts′ maps′ : List (List ℕ)) (buckets′ : List ℕ) (w : ImportOrUndoEnsures words f log logtags starts maps e r log′ logtags′ starts′ maps′ buckets′) where
     taken-not : r .full ≡ true → Says op true n o words tags targets log logtags starts maps special e 21 0 log′ logtags′ starts′ maps′ buckets′ e
     unfolding sessionOf
     taken-not q =
@@ -232,7 +232,7 @@ module _ (n o : ℕ) (words tags targets log logtags : List ℕ) (starts maps : 
   -- import_type and its like
   module _ (t h : ℕ) (h1 : 1 ≤ t) (ht : t < 6) (r : Sizes) (log′ logtags′ : List ℕ) (starts′ maps′ : List (List ℕ)) (buckets′ : List ℕ) where
     abbrev Imports : Type 0
-    Imports = Whole words (importT o (srcOf words n) (tabOf t) h) log logtags starts maps e r log′ logtags′ starts′ maps′ buckets′
+    Imports = ImportOrUndoEnsures words (importT o (srcOf words n) (tabOf t) h) log logtags starts maps e r log′ logtags′ starts′ maps′ buckets′
 
     pub import-full : (set : Bool) → ValidSession set n o words tags targets log logtags starts maps buckets special e → not set ≡ false → h < countAt t words → Imports → r .full ≡ true
         → Says (importing (tabOf t) h) set n o words tags targets log logtags starts maps special e 21 0 log′ logtags′ starts′ maps′ buckets′ e
@@ -242,7 +242,7 @@ module _ (n o : ℕ) (words tags targets log logtags : List ℕ) (starts maps : 
         let c = count-held true L q t ht in
         taken-not L (imports (tabOf t) h) (public-tab t h1) (importing (tabOf t) h) (importT o (tables (modOf words n)) (tabOf t) h) (λ s. pred (mapAt (s .maps) (tabOf t) h)) (λ s. refl) (grow-T o (tables (modOf words n)) (tabOf t) h) (import-inside x S (tabOf t) h (omega arith)) (import-at (set-at L) (tabOf t) (public-tab t h1) h (omega arith)) r log′ logtags′ starts′ maps′ buckets′ w z
 
-    pub import-room : (set : Bool) → ValidSession set n o words tags targets log logtags starts maps buckets special e → not set ≡ false → h < countAt t words → Imports → r .full ≡ false → (v : ℕ) → Answers maps′ t h v
+    pub import-room : (set : Bool) → ValidSession set n o words tags targets log logtags starts maps buckets special e → not set ≡ false → h < countAt t words → Imports → r .full ≡ false → (v : ℕ) → MappedToEnsures maps′ t h v
         → Says (importing (tabOf t) h) set n o words tags targets log logtags starts maps special e 0 v log′ logtags′ starts′ maps′ buckets′ r
     unfolding does Public srcOf
     import-room false L q l w z v a = absurd (false≢true (sym q))
@@ -254,7 +254,7 @@ module _ (n o : ℕ) (words tags targets log logtags : List ℕ) (starts maps : 
   -- rename_type
   module _ (h name : ℕ) (r : Sizes) (log′ logtags′ : List ℕ) (starts′ maps′ : List (List ℕ)) (buckets′ : List ℕ) where
     abbrev Renames : Type 0
-    Renames = Whole words (importT o (renamed (srcOf words n) h name) types h) log logtags starts maps e r log′ logtags′ starts′ maps′ buckets′
+    Renames = ImportOrUndoEnsures words (importT o (renamed (srcOf words n) h name) types h) log logtags starts maps e r log′ logtags′ starts′ maps′ buckets′
 
     pub rename-full : (set : Bool) → ValidSession set n o words tags targets log logtags starts maps buckets special e → not set ≡ false → h < countAt 1 words → name < countAt 0 words → Renames → r .full ≡ true
         → Says (renameType h name) set n o words tags targets log logtags starts maps special e 21 0 log′ logtags′ starts′ maps′ buckets′ e
@@ -265,7 +265,7 @@ module _ (n o : ℕ) (words tags targets log logtags : List ℕ) (starts maps : 
         let d = names-held true L q h name in
         taken-not L (renames h name) tt (renameType h name) (importT o (renamed (tables (modOf words n)) h name) types h) (λ s. pred (mapAt (s .maps) types h)) (λ s. refl) (grow-T o (renamed (tables (modOf words n)) h name) types h) (rename-inside x S h name (omega arith) (omega arith)) (rename-at (set-at L) h name (omega arith) (omega arith)) r log′ logtags′ starts′ maps′ buckets′ w z
 
-    pub rename-room : (set : Bool) → ValidSession set n o words tags targets log logtags starts maps buckets special e → not set ≡ false → h < countAt 1 words → name < countAt 0 words → Renames → r .full ≡ false → (v : ℕ) → Answers maps′ 1 h v
+    pub rename-room : (set : Bool) → ValidSession set n o words tags targets log logtags starts maps buckets special e → not set ≡ false → h < countAt 1 words → name < countAt 0 words → Renames → r .full ≡ false → (v : ℕ) → MappedToEnsures maps′ 1 h v
         → Says (renameType h name) set n o words tags targets log logtags starts maps special e 0 v log′ logtags′ starts′ maps′ buckets′ r
     unfolding does Public srcOf tabOf
     rename-room false L q l k w z v a = absurd (false≢true (sym q))

@@ -18,7 +18,7 @@ use Rattle.theory_image.specs.OnWords.{on-refused, on-module}
 use Rattle.model.specs.Session.{Session, Answer, answered, refused, after, setModule, set as setOf}
 use Rattle.theory_sessions.specs.Operating.{sets, does}
 use Rattle.derive_limits.specs.Reached.{Public, Reached, does-reached}
-use Rattle.intake.specs.Taken.{numberOf, Accepts, Takes}
+use Rattle.intake.specs.Taken.{numberOf, Accepts, TakeInEnsures}
 use Rattle.intake.specs.declared.Taken.{Taken}
 use Rattle.intake.specs.declared.Taken.the-variants.{Accepted}
 use Rattle.intake.proofs.Refusals.{NotFirst, refused-by}
@@ -26,7 +26,7 @@ use Rattle.derive_state.specs.Source.{modOf, Source}
 use Rattle.derive_state.specs.Held.{stOf}
 use Rattle.derive_state.specs.declared.Sizes.{Sizes}
 use Rattle.derive_names.proofs.Sources.{mod-is, source-of}
-use Rattle.derive_source.specs.SourceSet.{SourceSet}
+use Rattle.derive_source.specs.SourceSet.{SetSourceEnsures}
 use Rattle.derive_source.specs.Theorems.{Holding, holding-set, holding-cleared, set-full, set-room}
 use Rattle.derive_session.specs.Valid.{sessionOf, ValidSession}
 use Rattle.session_operations.specs.Operations.{OperationEnsures}
@@ -76,7 +76,7 @@ unfolding setOf
 by-module bytes ws o s m h q = on-module (setModule o s) refused bytes ws m h q
 
 -- ---- the image that intake is given, and what it answers
-module _ (image w t : List ℕ) (taken : Taken) (got : Takes taken w t image) where
+module _ (image w t : List ℕ) (taken : Taken) (got : TakeInEnsures taken w t image) where
   module _ (m : ℕ) (ok : taken ≡ Accepted m) where
     accepts : Accepts image w t m
     accepts = got .held m ok
@@ -110,7 +110,7 @@ module _ (image w t : List ℕ) (taken : Taken) (got : Takes taken w t image) wh
         let z : k ≡ suc (y .0) = hk ∙ y .1 in
         (refuses op before before k tt (omega arith) (rw z (by-refusal (length image) (wordsOf image) o before (y .0) (sym (got .same) ∙ y .1))) refl, L)
 
-    module _ (m : ℕ) (ok : taken ≡ Accepted m) (r : Sizes) (log′ logtags′ : List ℕ) (starts′ maps′ : List (List ℕ)) (buckets′ special′ : List ℕ) (d : SourceSet w m o log logtags starts maps special e r log′ logtags′ starts′ maps′ buckets′ special′) where
+    module _ (m : ℕ) (ok : taken ≡ Accepted m) (r : Sizes) (log′ logtags′ : List ℕ) (starts′ maps′ : List (List ℕ)) (buckets′ special′ : List ℕ) (d : SetSourceEnsures w m o log logtags starts maps special e r log′ logtags′ starts′ maps′ buckets′ special′) where
       holding : Holding (before .state) log logtags starts special e
       holding = held-so set n offset words log logtags starts maps special e
 

@@ -22,16 +22,16 @@ pub record OperationEnsures {A : Type 0} (op : Session → Answer A) (before : S
   pub stays : 0 < refusal → behind ≡ before
 
 -- map_span: it leaves the session as it is
-pub record Spans (set : Bool) (o a b refusal start end : ℕ) : Type 0 where
+pub record MapSpanEnsures (set : Bool) (o a b refusal start end : ℕ) : Type 0 where
   pub none-set : set ≡ false → (refusal ≡ NO-SOURCE) × (start ≡ 0) × (end ≡ 0)
   pub is : set ≡ true → (refusal ≡ 0) × ((start, end) ≡ spanBy o (a, b))
 
 -- has_required_special_types, whatever the source
-pub record Requires (special : List ℕ) (e : Sizes) (r : ℕ) : Type 0 where
+pub record RequiredEnsures (special : List ℕ) (e : Sizes) (r : ℕ) : Type 0 where
   pub is : (set : Bool) (n o : ℕ) (words log logtags : List ℕ) (starts maps : List (List ℕ)) → r ≡ bit (hasRequiredSpecialTypes (sessionOf set n o words log logtags starts maps special e))
 
 -- a finish: what is answered and left in the output, and the session after it
-pub record Finishes (answer : Answer (List ℕ)) (before : Session) (refusal bytes : ℕ) (output₀ output : List ℕ) (behind : Session) : Type 0 where
+pub record FinishEnsures (answer : Answer (List ℕ)) (before : Session) (refusal bytes : ℕ) (output₀ output : List ℕ) (behind : Session) : Type 0 where
   pub is : (refusal, bytes, output) ≡ told answer output₀
   pub done : refusal ≡ 0 → behind ≡ new
   pub stays : 0 < refusal → behind ≡ before

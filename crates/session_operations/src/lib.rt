@@ -42,9 +42,9 @@ ghost use Rattle.model.specs.Imports.{importT};
 ghost use Rattle.model.specs.Session.{importing, renameType, set as setOf, finish as finishOf};
 ghost use Rattle.derive_state.specs.Refers.{targetBytes, tabOf};
 ghost use Rattle.derive_state.specs.Source.{srcOf, Source};
-ghost use Rattle.derive_state.specs.Held.{ValidArrays, Specials, Whole};
+ghost use Rattle.derive_state.specs.Held.{ValidArrays, Specials, ImportOrUndoEnsures};
 ghost use Rattle.derive_session.specs.Valid.{sessionOf, ValidSession};
-ghost use Rattle.session_operations.specs.Operations.{OperationEnsures, Spans, Requires, Finishes};
+ghost use Rattle.session_operations.specs.Operations.{OperationEnsures, MapSpanEnsures, RequiredEnsures, FinishEnsures};
 
 // What an operation answers: its refusal, 0 for none; a value; and the sizes of the derived module after it.
 pub struct Answer {
@@ -73,7 +73,7 @@ fn import_record(
     requires { ⌜ (1 ≤ t) × (t < 6) × (h < countAt t (now words)) × (ends .full ≡ false) ⌝ }
     requires { ⌜ now targets ≡ targetBytes ⌝ }
     requires { ⌜ ValidArrays (now log) (now logtags) (now starts) (now maps) (now buckets) ends ⌝ }
-    ensures { λ r. ⌜ Whole (now (words .entry)) (importT offset (srcOf (now (words .entry)) n) (tabOf t) h) (now (log .entry)) (now (logtags .entry)) (now (starts .entry)) (now (maps .entry)) ends r (now (log .exit)) (now (logtags .exit)) (now (starts .exit)) (now (maps .exit)) (now (buckets .exit)) ⌝ }
+    ensures { λ r. ⌜ ImportOrUndoEnsures (now (words .entry)) (importT offset (srcOf (now (words .entry)) n) (tabOf t) h) (now (log .entry)) (now (logtags .entry)) (now (starts .entry)) (now (maps .entry)) ends r (now (log .exit)) (now (logtags .exit)) (now (starts .exit)) (now (maps .exit)) (now (buckets .exit)) ⌝ }
 {
     if t == TYPES {
         return derive_rollback::import_type(
@@ -304,7 +304,7 @@ pub struct Span {
 
 // map_span
 pub fn map_span(set: bool, offset: u32, a: u32, b: u32) -> Span
-    ensures { λ r. ⌜ Spans set offset a b (r .refusal) (r .start) (r .end) ⌝ }
+    ensures { λ r. ⌜ MapSpanEnsures set offset a b (r .refusal) (r .start) (r .end) ⌝ }
 {
     if !set {
         return Span {
@@ -332,7 +332,7 @@ pub fn map_span(set: bool, offset: u32, a: u32, b: u32) -> Span
 // has_required_special_types: 1 if there are any.
 pub fn has_required_special_types(special: &Special, ends: Sizes) -> u32
     requires { ⌜ Specials (now special) ends ⌝ }
-    ensures { λ r. ⌜ Requires (now (special .entry)) ends r ⌝ }
+    ensures { λ r. ⌜ RequiredEnsures (now (special .entry)) ends r ⌝ }
 {
     if ends.pairs != 0 {
         return 1;
@@ -536,7 +536,7 @@ pub fn finish_plain(
     output: &mut [u8],
 ) -> Finished
     requires { ⌜ ValidSession set n offset (now words) (now tags) (now targets) (now log) (now logtags) (now starts) (now maps) (now buckets) (now special) ends ⌝ }
-    ensures { λ r. ⌜ Finishes (finishOf (length (now (output .entry))) (sessionOf set n offset (now (words .entry)) (now (log .entry)) (now (logtags .entry)) (now (starts .entry)) (now (maps .entry)) (now (special .entry)) ends)) (sessionOf set n offset (now (words .entry)) (now (log .entry)) (now (logtags .entry)) (now (starts .entry)) (now (maps .entry)) (now (special .entry)) ends) (r .refusal) (r .bytes) (now (output .entry)) (now (output .exit)) (sessionOf (r .set) n offset (now (words .entry)) (now (log .entry)) (now (logtags .entry)) (now (starts .entry)) (now (maps .exit)) (now (special .exit)) (r .ends)) ⌝ }
+    ensures { λ r. ⌜ FinishEnsures (finishOf (length (now (output .entry))) (sessionOf set n offset (now (words .entry)) (now (log .entry)) (now (logtags .entry)) (now (starts .entry)) (now (maps .entry)) (now (special .entry)) ends)) (sessionOf set n offset (now (words .entry)) (now (log .entry)) (now (logtags .entry)) (now (starts .entry)) (now (maps .entry)) (now (special .entry)) ends) (r .refusal) (r .bytes) (now (output .entry)) (now (output .exit)) (sessionOf (r .set) n offset (now (words .entry)) (now (log .entry)) (now (logtags .entry)) (now (starts .entry)) (now (maps .exit)) (now (special .exit)) (r .ends)) ⌝ }
     ensures { λ r. ⌜ ValidSession (r .set) n offset (now (words .entry)) (now (tags .entry)) (now (targets .entry)) (now (log .entry)) (now (logtags .entry)) (now (starts .entry)) (now (maps .exit)) (now (buckets .entry)) (now (special .exit)) (r .ends) ⌝ }
 {
     let mut out = [0u32; 16384];

@@ -18,8 +18,8 @@ use Rattle.model.specs.Finish.{finished, tooLarge}
 use Rattle.model.specs.Session.{Source, Session, Answer, answered, refused, new, withSource, meetsRing, calleesOf, withEntries, writeIfFits, finish, finishWithEntryPoints}
 use Rattle.model.specs.Steps.{Said, operations, writes, perform, part}
 use Rattle.derive_finish.specs.Told.{told}
-use Rattle.session_operations.specs.Operations.{Finishes}
-use Rattle.session_steps.specs.Stepped.{saying, Stepped, Wrote}
+use Rattle.session_operations.specs.Operations.{FinishEnsures}
+use Rattle.session_steps.specs.Stepped.{saying, PerformEnsures, Wrote}
 
 -- ---- what is cut
 drop-cut : (a : ℕ) (l : List ℕ) → drop a l ≡ drop (min a (length l)) l
@@ -114,7 +114,7 @@ module _ (a b : ℕ) (l : List ℕ) (f d k : ℕ) (hf : f ≡ min a (length l)) 
       ap (λ (n : ℕ). sets l n (v ∷ vs)) same
 
   module _ (s s′ : Session) (r n : ℕ) (left : List ℕ) where
-    wrote : (answer : Answer (List ℕ)) → EndsSo (length (midOf f k l)) answer → Finishes answer s r n (midOf f k l) left s′ → Stepped (writes s a answer) r n 0 l (putMid f k l left) s′
+    wrote : (answer : Answer (List ℕ)) → EndsSo (length (midOf f k l)) answer → FinishEnsures answer s r n (midOf f k l) left s′ → PerformEnsures (writes s a answer) r n 0 l (putMid f k l left) s′
     unfolding EndsSo told writes bytesOf
     wrote (answered ws s″) e h =
         let z = length-bytesOf ws in
@@ -137,21 +137,21 @@ module _ (a b : ℕ) (l : List ℕ) (f d k : ℕ) (hf : f ≡ min a (length l)) 
           session-is = h .stays (omega (arith, z, e));
         }
 
-    small : (answer : Answer (List ℕ)) → EndsSo (length (midOf f k l)) answer → Finishes answer s r n (midOf f k l) left s′ → n ≤ b
+    small : (answer : Answer (List ℕ)) → EndsSo (length (midOf f k l)) answer → FinishEnsures answer s r n (midOf f k l) left s′ → n ≤ b
     unfolding EndsSo told
     small (answered ws s″) e h = let z = ap (λ (p : ℕ × ℕ × List ℕ). p .1) (h .is) in let m = mid-size .0 in let g = e .0 in omega arith
     small (refused j) e h = let z = ap (λ (p : ℕ × ℕ × List ℕ). p .1) (h .is) in omega arith
 
-    pub plain-wrote : (c : ℕ) → Finishes (finish (length (midOf f k l)) s) s r n (midOf f k l) left s′ → Wrote 13 a b c s r n 0 l (putMid f k l left) s′
+    pub plain-wrote : (c : ℕ) → FinishEnsures (finish (length (midOf f k l)) s) s r n (midOf f k l) left s′ → Wrote 13 a b c s r n 0 l (putMid f k l left) s′
     unfolding operations perform
     plain-wrote c h = record { is = λ sources. rw (part-mid) (wrote (finish (length (midOf f k l)) s) (finish-so (length (midOf f k l)) s) h) }
 
-    pub plain-small : Finishes (finish (length (midOf f k l)) s) s r n (midOf f k l) left s′ → n ≤ b
+    pub plain-small : FinishEnsures (finish (length (midOf f k l)) s) s r n (midOf f k l) left s′ → n ≤ b
     plain-small = small (finish (length (midOf f k l)) s) (finish-so (length (midOf f k l)) s)
 
-    pub entries-wrote : (c : ℕ) → Finishes (finishWithEntryPoints (length (midOf f k l)) s) s r n (midOf f k l) left s′ → Wrote 14 a b c s r n 0 l (putMid f k l left) s′
+    pub entries-wrote : (c : ℕ) → FinishEnsures (finishWithEntryPoints (length (midOf f k l)) s) s r n (midOf f k l) left s′ → Wrote 14 a b c s r n 0 l (putMid f k l left) s′
     unfolding operations perform
     entries-wrote c h = record { is = λ sources. rw (part-mid) (wrote (finishWithEntryPoints (length (midOf f k l)) s) (entries-so (length (midOf f k l)) s) h) }
 
-    pub entries-small : Finishes (finishWithEntryPoints (length (midOf f k l)) s) s r n (midOf f k l) left s′ → n ≤ b
+    pub entries-small : FinishEnsures (finishWithEntryPoints (length (midOf f k l)) s) s r n (midOf f k l) left s′ → n ≤ b
     entries-small = small (finishWithEntryPoints (length (midOf f k l)) s) (entries-so (length (midOf f k l)) s)

@@ -18,8 +18,8 @@ use Rattle.derive_state.specs.Refers.{tabOf}
 use Rattle.derive_state.specs.declared.Sizes.{Sizes}
 use Rattle.function_builder.specs.Stacks.{Stacks}
 use Rattle.derive_session.specs.Valid.{sessionOf, ValidSession}
-use Rattle.session_operations.specs.Operations.{answerOf, OperationEnsures, Spans, Requires}
-use Rattle.session_steps.specs.Stepped.{saying, Stepped, Quiet, Recorded, valueOf}
+use Rattle.session_operations.specs.Operations.{answerOf, OperationEnsures, MapSpanEnsures, RequiredEnsures}
+use Rattle.session_steps.specs.Stepped.{saying, PerformEnsures, Quiet, Recorded, valueOf}
 
 -- ---- answers as words
 value-none : (k : ℕ) → valueOf k 0 ≡ 0
@@ -27,7 +27,7 @@ unfolding valueOf
 value-none zero = refl
 value-none (suc k) = refl
 
-says-stepped : {A : Type 0} (op : Session → Answer A) (values : A → ℕ × ℕ) (s : Session) (k : ℕ) (v : A) (s′ : Session) (output : List ℕ) → OperationEnsures op s k v s′ → Stepped (says s values (op s)) k (valueOf k (values v .0)) (valueOf k (values v .1)) output output s′
+says-stepped : {A : Type 0} (op : Session → Answer A) (values : A → ℕ × ℕ) (s : Session) (k : ℕ) (v : A) (s′ : Session) (output : List ℕ) → OperationEnsures op s k v s′ → PerformEnsures (says s values (op s)) k (valueOf k (values v .0)) (valueOf k (values v .1)) output output s′
 unfolding says answerOf valueOf bytesOf
 says-stepped op values s zero v s′ output d = rw (d .is) (record { refusal-is = refl; first-is = refl; second-is = refl; output-is = refl; session-is = refl })
 says-stepped op values s (suc k) v s′ output d = rw (d .is) (record { refusal-is = refl; first-is = refl; second-is = refl; output-is = refl; session-is = d .stays (omega arith) })
@@ -47,7 +47,7 @@ module _ (o a b c : ℕ) (s s′ : Session) (k v : ℕ) where
   recorded op e d = record {
     is = λ sources output.
         let h = says-stepped op (λ (n : ℕ). (n, 0)) s k v s′ output d in
-        subst (λ (x : Said). Stepped x k (valueOf k v) 0 output output s′) (sym (e sources output))
+        subst (λ (x : Said). PerformEnsures x k (valueOf k v) 0 output output s′) (sym (e sources output))
         (record { refusal-is = h .refusal-is; first-is = h .first-is; second-is = sym (value-none k) ∙ h .second-is; output-is = h .output-is; session-is = h .session-is });
   }
 
@@ -96,7 +96,7 @@ handle-recorded o a b c s s′ k v h l =
 -- 13: no operation
 pub none-recorded : (o a b c : ℕ) (s : Session) → 15 ≤ o → Recorded o a b c s 13 (valueOf 13 0) s
 unfolding operations perform says bytesOf valueOf
-none-recorded o a b c s h = record { is = λ sources output. subst (λ (x : Said). Stepped x 13 0 0 output output s) (sym (beyond sources output)) (record { refusal-is = refl; first-is = refl; second-is = refl; output-is = refl; session-is = refl }) }
+none-recorded o a b c s h = record { is = λ sources output. subst (λ (x : Said). PerformEnsures x 13 0 0 output output s) (sym (beyond sources output)) (record { refusal-is = refl; first-is = refl; second-is = refl; output-is = refl; session-is = refl }) }
   where
     beyond : (sources output : List ℕ) → saying o a b c sources output s ≡ perform unknown a b c sources output s
     beyond sources output = rw (List·getD-eq-default operations unknown h)
@@ -128,7 +128,7 @@ module _ (set : Bool) (n o : ℕ) (words log logtags : List ℕ) (starts maps : 
       go true = refl
       go false = refl
 
-  pub clear-stepped : Stepped (saying 1 a b c sources output held) 0 0 0 output output (sessionOf false n o words log logtags starts maps special e)
+  pub clear-stepped : PerformEnsures (saying 1 a b c sources output held) 0 0 0 output output (sessionOf false n o words log logtags starts maps special e)
   unfolding operations perform says bytesOf
   clear-stepped = record { refusal-is = refl; first-is = refl; second-is = refl; output-is = refl; session-is = cleared }
 
@@ -148,21 +148,21 @@ module _ (set : Bool) (n o : ℕ) (words log logtags : List ℕ) (starts maps : 
     going = L .going;
   }
 
-  pub span-stepped : (k x y : ℕ) → Spans set o a b k x y → Stepped (saying 2 a b c sources output held) k x y output output held
+  pub span-stepped : (k x y : ℕ) → MapSpanEnsures set o a b k x y → PerformEnsures (saying 2 a b c sources output held) k x y output output held
   unfolding operations perform says bytesOf mapSpan withSource sessionOf
   span-stepped k x y d = go set d
     where
-      go : (set : Bool) → Spans set o a b k x y → Stepped (saying 2 a b c sources output (sessionOf set n o words log logtags starts maps special e)) k x y output output (sessionOf set n o words log logtags starts maps special e)
+      go : (set : Bool) → MapSpanEnsures set o a b k x y → PerformEnsures (saying 2 a b c sources output (sessionOf set n o words log logtags starts maps special e)) k x y output output (sessionOf set n o words log logtags starts maps special e)
       go true d = let h = d .is refl in record { refusal-is = h .0; first-is = ap (λ (p : ℕ × ℕ). p .0) (h .1); second-is = ap (λ (p : ℕ × ℕ). p .1) (h .1); output-is = refl; session-is = refl }
       go false d = let h = d .none-set refl in record { refusal-is = h .0; first-is = h .1; second-is = h .2; output-is = refl; session-is = refl }
 
-  pub required-stepped : (r : ℕ) → Requires special e r → Stepped (saying 12 a b c sources output held) 0 r 0 output output held
+  pub required-stepped : (r : ℕ) → RequiredEnsures special e r → PerformEnsures (saying 12 a b c sources output held) 0 r 0 output output held
   unfolding operations perform says bytesOf
   required-stepped r d = record { refusal-is = refl; first-is = d .is set n o words log logtags starts maps; second-is = refl; output-is = refl; session-is = refl }
 
 -- ---- a step by the number of its operation
-pub by-number : (a b c : ℕ) (sources output₀ : List ℕ) (s : Session) {o p k u v : ℕ} {output : List ℕ} {s′ : Session} → o ≡ p → Stepped (saying p a b c sources output₀ s) k u v output₀ output s′ → Stepped (saying o a b c sources output₀ s) k u v output₀ output s′
-by-number a b c sources output₀ s {k = k} {u = u} {v = v} {output = output} {s′ = s′} e h = subst (λ (y : ℕ). Stepped (saying y a b c sources output₀ s) k u v output₀ output s′) (sym e) h
+pub by-number : (a b c : ℕ) (sources output₀ : List ℕ) (s : Session) {o p k u v : ℕ} {output : List ℕ} {s′ : Session} → o ≡ p → PerformEnsures (saying p a b c sources output₀ s) k u v output₀ output s′ → PerformEnsures (saying o a b c sources output₀ s) k u v output₀ output s′
+by-number a b c sources output₀ s {k = k} {u = u} {v = v} {output = output} {s′ = s′} e h = subst (λ (y : ℕ). PerformEnsures (saying y a b c sources output₀ s) k u v output₀ output s′) (sym e) h
 
-pub by-first : {x : Said} {k u u′ v : ℕ} {output₀ output : List ℕ} {s′ : Session} → u′ ≡ u → Stepped x k u v output₀ output s′ → Stepped x k u′ v output₀ output s′
+pub by-first : {x : Said} {k u u′ v : ℕ} {output₀ output : List ℕ} {s′ : Session} → u′ ≡ u → PerformEnsures x k u v output₀ output s′ → PerformEnsures x k u′ v output₀ output s′
 by-first e h = record { refusal-is = h .refusal-is; first-is = e ∙ h .first-is; second-is = h .second-is; output-is = h .output-is; session-is = h .session-is }

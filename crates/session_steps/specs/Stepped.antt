@@ -13,7 +13,7 @@ abbrev pub saying : ℕ → ℕ → ℕ → ℕ → List ℕ → List ℕ → Se
 saying o = perform (getD operations o unknown)
 
 -- its three words, the output after it, and the session that the arrays then hold
-pub record Stepped (x : Said) (refusal first second : ℕ) (output₀ output : List ℕ) (behind : Session) : Type 0 where
+pub record PerformEnsures (x : Said) (refusal first second : ℕ) (output₀ output : List ℕ) (behind : Session) : Type 0 where
   pub refusal-is : refusal ≡ x .refusal
   pub first-is : first ≡ x .first
   pub second-is : second ≡ x .second
@@ -22,15 +22,15 @@ pub record Stepped (x : Said) (refusal first second : ℕ) (output₀ output : L
 
 -- a step that writes nothing
 pub record Quiet (o a b c : ℕ) (sources : List ℕ) (before : Session) (refusal first second : ℕ) (behind : Session) : Type 0 where
-  pub is : (output : List ℕ) → Stepped (saying o a b c sources output before) refusal first second output output behind
+  pub is : (output : List ℕ) → PerformEnsures (saying o a b c sources output before) refusal first second output output behind
 
 -- a step that reads no source
 pub record Wrote (o a b c : ℕ) (before : Session) (refusal first second : ℕ) (output₀ output : List ℕ) (behind : Session) : Type 0 where
-  pub is : (sources : List ℕ) → Stepped (saying o a b c sources output₀ before) refusal first second output₀ output behind
+  pub is : (sources : List ℕ) → PerformEnsures (saying o a b c sources output₀ before) refusal first second output₀ output behind
 
 -- a step that does neither
 pub record Recorded (o a b c : ℕ) (before : Session) (refusal value : ℕ) (behind : Session) : Type 0 where
-  pub is : (sources output : List ℕ) → Stepped (saying o a b c sources output before) refusal value 0 output output behind
+  pub is : (sources output : List ℕ) → PerformEnsures (saying o a b c sources output before) refusal value 0 output output behind
 
 -- a value, 0 where the step is refused
 unfoldable pub valueOf : ℕ → ℕ → ℕ

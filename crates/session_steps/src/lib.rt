@@ -28,7 +28,7 @@ ghost use mathlib.Core.Path.{_≡_};
 ghost use Prim.Native.Nat.{_≤_, min};
 ghost use Rattle.function_builder.specs.Stacks.{Stacks};
 ghost use Rattle.derive_session.specs.Valid.{sessionOf, ValidSession};
-ghost use Rattle.session_steps.specs.Stepped.{saying, Stepped, Quiet, Wrote, Recorded, valueOf};
+ghost use Rattle.session_steps.specs.Stepped.{saying, PerformEnsures, Quiet, Wrote, Recorded, valueOf};
 
 // The operations by their numbers, as include/wuldgisp.h lists them.
 pub const SET: u32 = 0;
@@ -286,7 +286,7 @@ pub fn perform(
 ) -> Answered
     requires { ⌜ ValidSession set n offset (now words) (now tags) (now targets) (now log) (now logtags) (now starts) (now maps) (now buckets) (now special) ends ⌝ }
     requires { ⌜ Stacks (now stacks) ends ⌝ }
-    ensures { λ r. ⌜ Stepped (saying (step .operation) (step .a) (step .b) (step .c) (now (sources .entry)) (now (output .entry)) (sessionOf set n offset (now (words .entry)) (now (log .entry)) (now (logtags .entry)) (now (starts .entry)) (now (maps .entry)) (now (special .entry)) ends)) (r .refusal) (r .first) (r .second) (now (output .entry)) (now (output .exit)) (sessionOf (r .set) (r .n) (r .offset) (now (words .exit)) (now (log .exit)) (now (logtags .exit)) (now (starts .exit)) (now (maps .exit)) (now (special .exit)) (r .ends)) ⌝ }
+    ensures { λ r. ⌜ PerformEnsures (saying (step .operation) (step .a) (step .b) (step .c) (now (sources .entry)) (now (output .entry)) (sessionOf set n offset (now (words .entry)) (now (log .entry)) (now (logtags .entry)) (now (starts .entry)) (now (maps .entry)) (now (special .entry)) ends)) (r .refusal) (r .first) (r .second) (now (output .entry)) (now (output .exit)) (sessionOf (r .set) (r .n) (r .offset) (now (words .exit)) (now (log .exit)) (now (logtags .exit)) (now (starts .exit)) (now (maps .exit)) (now (special .exit)) (r .ends)) ⌝ }
     ensures { λ r. ⌜ ValidSession (r .set) (r .n) (r .offset) (now (words .exit)) (now (tags .exit)) (now (targets .entry)) (now (log .exit)) (now (logtags .exit)) (now (starts .exit)) (now (maps .exit)) (now (buckets .exit)) (now (special .exit)) (r .ends) ⌝ }
     ensures { λ r. ⌜ Stacks (now (stacks .exit)) (r .ends) ⌝ }
 {

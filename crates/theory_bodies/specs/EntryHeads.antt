@@ -28,7 +28,7 @@ head-of (plain-next (plain-next (plain-next (plain-next (plain-next (plain-next 
 pub entry-head : {E : Entry} → WellEntry E → Head (E .head)
 entry-head w = unfold entryHead plain? in head-of (plainly (w .head-ok) refl)
 
--- where a name went
+-- what a name is mapped to
 unfoldable pub nameTo : Builder → ℕ → ℕ
 nameTo x zero = zero
 nameTo x (suc n) = mapAt (x .out .maps) names n

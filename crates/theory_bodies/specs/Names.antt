@@ -141,7 +141,7 @@ last-miss (g ∷ fs) f j v w h = go (eqb (nameWord g) w) (last-miss fs f (suc j)
     go true p q = p
     go false p q = q
 
--- ---- names are no matter of walks: a function whose names are numbered anew agrees as it did
+-- ---- names are no matter of walks: a function whose names are numbered again agrees as it did
 pub renamed-agrees : {ρ : ℕ → ℕ → ℕ} → Only ρ → (M M′ : Module) (μ : Maps) (F F′ : Function) (f : ℕ → ℕ) → WellFunction F′ → Agrees M M′ μ F F′ f → Agrees M M′ μ F (carryFunction ρ F′) f
 renamed-agrees {ρ} o M M′ μ F F′ f w a = record { body = same-seen ∙ a .body; records = λ e m. rw same-rows (a .records e m); apart = a .apart }
   where

@@ -69,7 +69,7 @@ memos-at (x ∷ us) vs i m s ms (once-next h o) l = memos-at us vs i m (append 0
 abbrev pub Apart : List ℕ → Function → Type 0
 Apart o F = (x y k : ℕ) → getD o x 0 ≡ suc k → getD o y 0 ≡ suc k → (x ≡ y) ⊎ (MayShare F x × MayShare F y)
 
--- ---- a function whose names are numbered anew agrees as it did
+-- ---- a function whose names are numbered again agrees as it did
 
 module _ (m : Module) (well : WellFormed m) (ok : Passes m) where
   -- what is mapped stays mapped

@@ -166,7 +166,7 @@ module _ (m : Module) (well : WellFormed m) (three : numbered m ≡ true) (four 
   unfolding Fit
   tested-fit t k h = record { laid = laid-at m well three four t k h; coded = coded-at t k h; constant = constant-at m well three four t k h }
 
--- the references of a word, without those behind it
+-- the references of a word, without those after it
 pub first-of : (P : Node → Type 0) (t : Target) (w : ℕ) (rest : List Node) → All P (refOf t w rest) → All P (refOf t w [])
 unfolding refOf
 first-of P copied w rest a = tt

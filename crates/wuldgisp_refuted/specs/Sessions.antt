@@ -317,7 +317,7 @@ module _ (answers₀ output₀ : List ℕ) (room : 18 ≤ length answers₀) (ro
   unfolding spans-answers
   not-undefined j l e = let a : getD answers 16 0 ≡ 0 = answer spans l (omega arith) 16 (omega arith) in absurd (omega arith)
 
-  -- P2: the second value told in the place of the first
+  -- P2: the second value answered in the place of the first
   pub values-swapped : Meets nothing spans-steps → getD answers 7 0 ≡ 14 → ⊥
   unfolding spans-answers
   values-swapped l e = let a : getD answers 7 0 ≡ 10 = answer spans l (omega arith) 7 (omega arith) in absurd (omega arith)

@@ -6,14 +6,14 @@ use native.Mathlib.Omega.{arith}
 use lib.ListN.{length, getD, drop}
 use lib.Seq.{sets}
 use Rattle.base_words.proofs.Laws.{sets-front}
-use Rattle.order_text.specs.Telling.{tellingOf, Says}
+use Rattle.order_text.specs.Telling.{tellingOf, TellEnsures}
 use Rattle.wuldgisp_refuted.specs.Answers.{p6, p6-told}
 
 -- P6's lines counted from 1, in a buffer as long as they are
 abbrev from-one : List ℕ
 from-one = 102 ∷ 117 ∷ 110 ∷ 99 ∷ 116 ∷ 105 ∷ 111 ∷ 110 ∷ 115 ∷ 32 ∷ 51 ∷ 10 ∷ 49 ∷ 32 ∷ 49 ∷ 32 ∷ 116 ∷ 111 ∷ 110 ∷ 101 ∷ 10 ∷ 50 ∷ 32 ∷ 50 ∷ 32 ∷ 102 ∷ 111 ∷ 103 ∷ 10 ∷ 51 ∷ 32 ∷ 48 ∷ 32 ∷ 115 ∷ 104 ∷ 97 ∷ 100 ∷ 101 ∷ 10 ∷ []
 
-pub not-from-one : (out : List ℕ) (count refusal left : ℕ) → length out ≡ 39 → Says (tellingOf p6) out from-one count refusal left → ⊥
+pub not-from-one : (out : List ℕ) (count refusal left : ℕ) → length out ≡ 39 → TellEnsures (tellingOf p6) out from-one count refusal left → ⊥
 not-from-one out count refusal left h a =
     let e : from-one ≡ sets out 0 (tellingOf p6 .text) = a .puts .is in
     let f : sets out 0 (tellingOf p6 .text) ≡ tellingOf p6 .text ++ drop (length (tellingOf p6 .text)) out = sets-front (tellingOf p6 .text) out (omega (arith, ap length p6-told)) in
@@ -21,5 +21,5 @@ not-from-one out count refusal left h a =
     absurd (omega arith)
 
 -- the text without its last line
-pub not-cut : (out out′ : List ℕ) (refusal left : ℕ) → Says (tellingOf p6) out out′ 29 refusal left → ⊥
+pub not-cut : (out out′ : List ℕ) (refusal left : ℕ) → TellEnsures (tellingOf p6) out out′ 29 refusal left → ⊥
 not-cut out out′ refusal left a = absurd (omega (arith, a .puts .ends, ap length p6-told))
