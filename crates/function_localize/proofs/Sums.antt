@@ -1,4 +1,4 @@
--- The arithmetic of `localize`, apart from its proof: there every fact of the function is in reach, and a search among them takes long.
+-- The arithmetic of `localize`, each fact with the few premises that it needs.
 use mathlib.Core.Path.{_≡_}
 use Prim.Native.Nat.{ℕ, suc, _+_, _*_, _-_, _≤_, _<_}
 use native.Mathlib.Omega.{arith}
