@@ -1,6 +1,6 @@
 -- The arithmetic of `localize`, each fact with the few premises that it needs.
 use mathlib.Core.Path.{_≡_}
-use Prim.Native.Nat.{ℕ, suc, _+_, _*_, _-_, _≤_, _<_}
+use Prim.Native.Nat.{ℕ, _+_, _*_, _-_, _≤_, _<_}
 use native.Mathlib.Omega.{arith}
 use mir.Syntax.{w64}
 use mir.Val.{Fits}
@@ -9,21 +9,11 @@ use mir.Val.{Fits}
 pub place-4 : {i : ℕ} → i < 16384 → Fits w64 (i * 4)
 place-4 h = omega arith
 
-pub place-2 : {i : ℕ} → i ≤ 1024 → Fits w64 (i * 2)
-place-2 h = omega arith
-
 pub place-next : {i : ℕ} → i < 16384 → Fits w64 (i + 1)
 place-next h = omega arith
 
 pub place-low : {i : ℕ} → i ≤ 1024 → i < 1025
 place-low h = omega arith
-
--- named expressions, two words each
-pub names-2 : (n k w : ℕ) → w ≡ k → n + 1 + 2 * k < 16384 → Fits w64 (2 * w)
-names-2 n k w e h = omega arith
-
-pub names-after : (n k w : ℕ) → w ≡ k → n + 1 + 2 * k < 16384 → Fits w64 (n + 1 + 2 * w)
-names-after n k w e h = omega arith
 
 -- how far a run goes
 pub run-on : (i r count : ℕ) → r ≡ i + count → i ≤ r
