@@ -1,5 +1,7 @@
 // The classes of words by name, as the tags have them and code compares them: the model's numbers, each written here once. What each class is, the
 // model's field table says.
+#![tactic(auto)]
+
 ghost use Rattle.std.specs.Prelude.{◌≡◌};
 ghost use Rattle.base_classes.specs.Classes.{named};
 

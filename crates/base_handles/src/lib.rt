@@ -1,4 +1,6 @@
 // One handle for each table: a record's number in its table, of a type of its own, so that a number of one table is not taken for one of another.
+#![tactic(auto)]
+
 ghost use Rattle.std.specs.Prelude.{◌≡◌};
 ghost use Rattle.model.specs.Tables.{code_t};
 ghost use Rattle.base_handles.specs.Handles.{table_of, number_in};
@@ -6,31 +8,31 @@ ghost use Rattle.base_handles.specs.Handles.{table_of, number_in};
 use base_views::{CONSTANTS, EXPRESSIONS, GLOBALS, OVERRIDES, TYPES};
 
 // A type.
-#[derive(Drop)]
+#[derive(Clone, Copy)]
 pub struct TypeHandle(pub u32);
 
 // A constant.
-#[derive(Drop)]
+#[derive(Clone, Copy)]
 pub struct ConstantHandle(pub u32);
 
 // A pipeline override.
-#[derive(Drop)]
+#[derive(Clone, Copy)]
 pub struct OverrideHandle(pub u32);
 
 // A global variable.
-#[derive(Drop)]
+#[derive(Clone, Copy)]
 pub struct GlobalHandle(pub u32);
 
 // An expression: of the module's own, or of a function.
-#[derive(Drop)]
+#[derive(Clone, Copy)]
 pub struct ExpressionHandle(pub u32);
 
 // A function.
-#[derive(Drop)]
+#[derive(Clone, Copy)]
 pub struct FunctionHandle(pub u32);
 
 // A record of one of the tables whose records a session imports one by one; its expressions are the module's own.
-#[derive(Drop)]
+#[derive(Clone, Copy)]
 pub enum RecordHandle {
     Type(TypeHandle),
     Constant(ConstantHandle),

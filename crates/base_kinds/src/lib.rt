@@ -1,5 +1,7 @@
 // The kinds of expressions and statements by name, those that code compares, and what document 01 says of the kinds of expressions: which ones are standing,
 // which are emitted and which are allowed outside functions.
+#![tactic(auto)]
+
 ghost use Rattle.std.specs.Prelude.{◌≡◌};
 ghost use Rattle.model.specs.Operands.{standing_kind, emitted_kind, constant_kind};
 

@@ -1,4 +1,6 @@
 // The refusals by name, as the code answers them: the model's numbers, each written here once; and an answer as one number.
+#![tactic(auto)]
+
 ghost use Rattle.std.specs.Prelude.{◌≡◌};
 ghost use Rattle.model.specs.Refusals.{refusals, packed};
 

@@ -1,5 +1,7 @@
 // Where the parts of a module are in its words: sections and their records, by header and offsets; the lists of a function, by the counts before
 // them. The one home of these places in code.
+#![tactic(auto)]
+
 ghost use Rattle.std.specs.Prelude.{◌≡◌, ◌+◌, ◌*◌, ◌^◌, ◌≤◌, ◌<◌, get_or};
 ghost use Rattle.model.specs.Module.{count_at, offset_at};
 ghost use Rattle.model.specs.View.{record_at, record_end};

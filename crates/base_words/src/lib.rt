@@ -1,4 +1,6 @@
 // Bytes to words and back, little-endian, on slices that the caller provides.
+#![tactic(auto)]
+
 ghost use Rattle.std.specs.Prelude.{◌≡◌, ◌+◌, ◌*◌, ◌/◌, ◌^◌, ◌≤◌, ◌<◌, length, take, [], ◌∷◌};
 ghost use Rattle.std.proofs.lemmas.List.Edits.{sets};
 ghost use Rattle.base_words.specs.Words.{word_at, words_of, bytes_of};

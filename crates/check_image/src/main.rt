@@ -1,5 +1,7 @@
 // Reads an image on standard input and says what intake answers: `accepted`, or `refused` and the number; a refusal is also reported on standard error, with its
 // sentence. Input longer than an image may be is refused 1 and not cut: the buffer holds one byte more.
+#![tactic(auto)]
+
 ghost use Rattle.std.specs.Prelude.{◌≡◌, length};
 
 use libc::STDOUT_FILENO;

@@ -1,6 +1,8 @@
 // The imports of derive.rs, of constants, overrides and global expressions: what a record refers to comes first, in field order; then the record
 // is carried through the maps, and interned among the records of its table. A number that is mapped already is not imported again.
 // Constants, overrides and global expressions import one another, and the number of the expression falls.
+#![tactic(auto)]
+
 ghost use Rattle.std.specs.Prelude.{◌≡◌, false, ◌<◌};
 ghost use Rattle.model.specs.Module.{count_at};
 ghost use Rattle.model.specs.Tables.{constants, overrides, exprs};

@@ -1,4 +1,6 @@
 // The end of a session: the state that the arrays hold, written out as an image.
+#![tactic(auto)]
+
 ghost use Rattle.std.specs.Prelude.{◌≡◌, length};
 ghost use Rattle.derive_finish.specs.Told.{Held, Ended};
 

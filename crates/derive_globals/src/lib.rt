@@ -1,5 +1,7 @@
 // The import of a global, as derive.rs has it: its name, its type and its init come first, in field order; then the record is carried through the maps, and
 // interned among the globals. A number that is mapped already is not imported again.
+#![tactic(auto)]
+
 ghost use Rattle.std.specs.Prelude.{◌≡◌, false, ◌<◌};
 ghost use Rattle.model.specs.Module.{count_at};
 ghost use Rattle.model.specs.Tables.{globals};

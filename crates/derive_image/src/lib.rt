@@ -2,6 +2,8 @@
 // `starts` says where its records start. The names are met in the order of first appearance; row 0 of a copy of the starts then holds the names in that order,
 // so that all eight tables are written alike. The size is known before anything is written: 21 where it passes the limit, 7 where the output is shorter, and the
 // bytes after the image stay. On the stack: 20 KiB; the caller provides the 64 KiB for the image's words.
+#![tactic(auto)]
+
 ghost use Rattle.std.specs.Prelude.{◌≡◌, map, ℕ, ◌+◌, ◌*◌, ◌≤◌, ◌<◌, length, get_or, take};
 ghost use Rattle.std.proofs.lemmas.List.Edits.{sets};
 ghost use Rattle.derive_sections.specs.Rows.{tabs_of};
@@ -22,7 +24,7 @@ const MOST_ENTRIES: usize = 16;
 const MOST_WORDS: usize = 16384;
 
 // The refusal, or 0; and the bytes written.
-#[derive(Drop)]
+#[derive(Clone, Copy)]
 pub struct Answer {
     pub refusal: u32,
     pub bytes: usize,

@@ -1,5 +1,7 @@
 // A record of the source interned in the derived module: an equal record of its table (ignoring spans) is found, or the record is appended. It is compared
 // before anything is written: with the record that its bucket shows; only where the bucket shows several is the table searched.
+#![tactic(auto)]
+
 ghost use Rattle.std.specs.Prelude.{◌≡◌, true, false, ℕ, suc, ◌+◌, ◌-◌, ◌≤◌, ◌<◌, length, get_or, take};
 ghost use Rattle.model.specs.Module.{count_at};
 ghost use Rattle.model.specs.Between.{between};

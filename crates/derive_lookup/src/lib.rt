@@ -1,6 +1,8 @@
 // The derived function that has the name of a function of the source. Numbers of names differ between source and derived image, so the text is looked for among
 // the derived names, first at the number that the name is mapped to; then the functions are searched from the last on, since a later function of a name takes
 // the place of an earlier one.
+#![tactic(auto)]
+
 ghost use Rattle.std.specs.Prelude.{◌≡◌, true, map, suc, ◌+◌, ◌≤◌, ◌<◌, length, get_or, take};
 ghost use Rattle.model.specs.Module.{count_at};
 ghost use Rattle.model.specs.Names.{named};

@@ -1,5 +1,7 @@
 // The import of a name, which is found by its text, and what a word of a record refers to: the table, and the number there. A name that is mapped already is
 // not imported again.
+#![tactic(auto)]
+
 ghost use Rattle.std.specs.Prelude.{◌≡◌, false, ◌<◌};
 ghost use Rattle.model.specs.Module.{count_at};
 ghost use Rattle.model.specs.References.{target};
@@ -17,7 +19,7 @@ use derive_state::{
 };
 
 // What a word refers to: the number of a table, or NOTHING, and a number in that table.
-#[derive(Drop)]
+#[derive(Clone, Copy)]
 pub struct Reference {
     pub table: usize,
     pub number: u32,

@@ -2,6 +2,8 @@
 // which it would are those that no round places where only functions of unknown name wait. They are among those that no round places where all wait, so names
 // are looked up for these alone: for none where no calls form a ring. Before that the function's own calls are looked at: where it calls none of unknown name
 // there is no such ring.
+#![tactic(auto)]
+
 ghost use Rattle.std.specs.Prelude.{◌≡◌, true, [], ◌∷◌, ◌<◌, eqb, length};
 ghost use Rattle.model.specs.Module.{count_at};
 ghost use Rattle.model.specs.Names.{named};

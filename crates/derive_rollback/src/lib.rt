@@ -1,4 +1,6 @@
 // The imports as operations of a session: where the result does not fit, nothing has changed. What an import answers is the number that the maps then have.
+#![tactic(auto)]
+
 ghost use Rattle.std.specs.Prelude.{◌≡◌, false, ◌<◌};
 ghost use Rattle.model.specs.Module.{count_at};
 ghost use Rattle.model.specs.Tables.{types, constants, overrides, globals, exprs};

@@ -1,5 +1,7 @@
 // The sections of an image from the records of a log: one pass over the tables after the names meets the names in the order of first appearance, and each
 // table is written as its offsets and its records, with the names' new numbers.
+#![tactic(auto)]
+
 ghost use Rattle.std.specs.Prelude.{◌≡◌, [], ◌∷◌, map, ◌+◌, ◌*◌, ◌≤◌, ◌<◌, length, get_or, take, drop};
 ghost use Rattle.std.proofs.lemmas.List.Edits.{sets};
 ghost use Rattle.model.specs.Table.{NAME};

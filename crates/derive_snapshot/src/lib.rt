@@ -1,5 +1,7 @@
 // A snapshot of a session before an operation that may not fit: the starts and the maps that are in use are saved, and restored where it did not fit. Nothing
 // else has to be: what was written lies after the log's end, and a bucket that was set costs a search at most.
+#![tactic(auto)]
+
 ghost use Rattle.std.specs.Prelude.{◌≡◌, ◌≤◌, ◌<◌, length, get_or};
 ghost use Rattle.model.specs.Module.{count_at};
 ghost use Rattle.derive_snapshot.specs.Snapshot.{Prefix, Prefixes, SaveEnsures, RestoreEnsures};

@@ -1,5 +1,7 @@
 // What setting a source does to the state of a session, beyond intake: nothing is mapped, and the special types of the source are imported in order, the
 // three optional types by their places, then the pairs by their keys. A type whose place or key is derived already is mapped to the derived type.
+#![tactic(auto)]
+
 ghost use Rattle.std.specs.Prelude.{◌≡◌, false, ◌+◌, ◌<◌, replicate};
 ghost use Rattle.model.specs.Special.{rays as raysOf, pairs as pairs_of};
 ghost use Rattle.derive_state.specs.Refers.{target_bytes};

@@ -1,4 +1,6 @@
 // One special type of a source: derived for its place or key, or, where that is derived already, mapped to the derived type.
+#![tactic(auto)]
+
 ghost use Rattle.std.specs.Prelude.{◌≡◌, false, ◌+◌, ◌≤◌, ◌<◌, length};
 ghost use Rattle.model.specs.Module.{count_at};
 ghost use Rattle.model.specs.Special.{ray as rayOf, keyed};

@@ -1,6 +1,8 @@
 // The derived module, in arrays that the caller provides: `log` (words of all records) with `logtags` (the class of each word), `starts` (where each record
 // begins in the log), `maps` (source number to derived number), `buckets` (a hash table of records). Sizes are passed by value. A record in the log is a count
 // and that many words. What a record of the source becomes is hashed, compared with a derived record, and written to the log.
+#![tactic(auto)]
+
 ghost use Rattle.std.specs.Prelude.{◌≡◌, suc, pred, ◌+◌, ◌-◌, ◌*◌, ◌<◌, ◌≤◌, true, false, [], length, replicate, slice_index, slice_set};
 ghost use Rattle.model.specs.References.{target, ref_of, through, undefined_at, first_word, moved as movedOf, shift, alike_c, alike as alikeOf};
 ghost use Rattle.theory_records.specs.RecordLaws.{All, bare_w};
@@ -45,7 +47,7 @@ pub type Places = [u16; 1025];
 
 // Sizes of the derived module: words of the log, records of each table, pairs of special types; for functions in progress the tops of their stacks, and how many
 // expressions the last one has; `full`: something did not fit.
-#[derive(Drop)]
+#[derive(Clone, Copy)]
 pub struct Sizes {
     pub full: bool,
     pub loglen: u16,

@@ -1,5 +1,7 @@
 // The import of a type, as derive.rs has it: what it refers to comes first, in field order; then the record is carried through the maps, and interned among the
 // types. A number that is mapped already is not imported again. The import calls itself on the types of lower numbers that a type refers to.
+#![tactic(auto)]
+
 ghost use Rattle.std.specs.Prelude.{◌≡◌, false, ◌<◌};
 ghost use Rattle.model.specs.Module.{count_at};
 ghost use Rattle.model.specs.Tables.{names, types};

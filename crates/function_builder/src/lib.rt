@@ -1,6 +1,8 @@
 // A function under construction: its derived expressions on a stack, one after the other, with the place of each; the words of its declarations and its body on
 // another; and `exprmap`, which says what its expressions are mapped to. A word is carried through the maps of the tables, through `exprmap`, or to the derived
 // function of the same name. An expression is appended, or, where it belongs to an initialiser, merged.
+#![tactic(auto)]
+
 ghost use Rattle.std.specs.Prelude.{◌≡◌, false, List, [], ℕ, ◌+◌, ◌-◌, ◌≤◌, ◌<◌, length, drop};
 ghost use Rattle.std.proofs.Math.Seq.{slice};
 ghost use Rattle.std.proofs.lemmas.List.Edits.{sets};

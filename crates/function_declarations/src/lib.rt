@@ -1,5 +1,7 @@
 // The declarations of a function that is imported: name, arguments, result and locals, from left to right. The expressions of the locals' initialisers are
 // imported with their operands, and merge.
+#![tactic(auto)]
+
 ghost use Rattle.std.specs.Prelude.{◌≡◌, false, [], map, ◌<◌, ◌+◌, get_or};
 ghost use Rattle.model.specs.Outcome.{word};
 ghost use Rattle.model.specs.Between.{between};

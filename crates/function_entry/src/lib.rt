@@ -1,4 +1,6 @@
 // The import of entry points at the end of a session: of each its function, then what its head refers to, then its record among the entry points.
+#![tactic(auto)]
+
 ghost use Rattle.std.specs.Prelude.{◌≡◌, true, false, ◌<◌};
 ghost use Rattle.model.specs.Module.{count_at};
 ghost use Rattle.model.specs.Scope.{in_scope};

@@ -1,5 +1,7 @@
 // The expressions of a function that is imported. A word of the body imports its expression unless it is mapped: first what the expression refers to outside the
 // function, then itself, once. An Emit's first pass imports, of each expression of its range, what it refers to outside and the standing operands.
+#![tactic(auto)]
+
 ghost use Rattle.std.specs.Prelude.{◌≡◌, true, false, ◌<◌, get_or};
 ghost use Rattle.model.specs.Operands.{standing_kind};
 ghost use Rattle.theory_bodies.specs.Shallow.{need as needE, glance as glanceE};

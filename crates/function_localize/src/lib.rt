@@ -1,5 +1,7 @@
 // The import of a function: its declarations, its body and its names are passed from left to right and written on the stacks, then the record goes to the log. A
 // call to an unknown name imports that function first, on top of the stacks, and leaves the stacks as it found them.
+#![tactic(auto)]
+
 ghost use Rattle.std.specs.Prelude.{◌≡◌, false, ◌≤◌, ◌<◌, length, replicate};
 ghost use Rattle.std.proofs.Math.Seq.{slice};
 ghost use Rattle.std.proofs.lemmas.List.Edits.{sets};
@@ -55,7 +57,7 @@ fn index_expressions(tags: &Tags, at: usize, end: usize, places: &mut Places)
 }
 
 // Where the parts of a function are: its expressions, after their count; its named expressions; its body.
-#[derive(Drop)]
+#[derive(Clone, Copy)]
 struct Parts {
     exprs: usize,
     count: usize,

@@ -1,4 +1,6 @@
 // The named expressions of a function that is imported: those that stay, each with its last name, and their names imported.
+#![tactic(auto)]
+
 ghost use Rattle.std.specs.Prelude.{◌≡◌, false, [], ℕ, suc, ◌+◌, ◌-◌, ◌*◌, ◌≤◌, ◌<◌, length, get_or, take};
 ghost use Rattle.model.specs.Module.{count_at};
 ghost use Rattle.model.specs.Bodies.{keep_names};

@@ -1,4 +1,6 @@
 // What a function refers to outside itself: records of tables, by the words of one of its expressions or of another part.
+#![tactic(auto)]
+
 ghost use Rattle.std.specs.Prelude.{◌≡◌, true, false, ◌<◌};
 ghost use Rattle.model.specs.Module.{count_at};
 ghost use Rattle.model.specs.Between.{between};

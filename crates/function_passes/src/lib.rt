@@ -1,6 +1,8 @@
 // Passes over the words of a function's body: each word is written at once on the stack of words, by the maps as they are at its turn. What a word needs of
 // those after it is read ahead: of a span's start whether the span is undefined, of an Emit's start its end, of an atomic statement what it compares. Words that
 // import nothing are written in runs.
+#![tactic(auto)]
+
 ghost use Rattle.std.specs.Prelude.{◌≡◌, false, List, [], ◌∷◌, ℕ, suc, ◌≤◌, ◌<◌, ◌+◌, length, get_or};
 ghost use Rattle.model.specs.Between.{between, Stretch};
 ghost use Rattle.model.specs.Operands.{optional};

@@ -1,5 +1,7 @@
 // Words that need no import, copied in runs: each goes through the maps as they are, with its span moved, to the stack of words. Most words of a function are
 // such, so the sizes of the tables need not be passed along with each of them.
+#![tactic(auto)]
+
 ghost use Rattle.std.specs.Prelude.{◌≡◌, true, false, List, [], ℕ, suc, ◌≤◌, ◌<◌, ◌+◌, length, get_or};
 ghost use Rattle.model.specs.Table.{EXPR as EXPR'};
 ghost use Rattle.model.specs.Between.{between, Stretch};
@@ -101,7 +103,7 @@ fn carry(
 }
 
 // How far words were written, and whether the span last met is then undefined.
-#[derive(Drop)]
+#[derive(Clone, Copy)]
 pub struct Reach {
     pub at: usize,
     pub undefined: bool,

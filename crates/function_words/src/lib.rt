@@ -1,5 +1,7 @@
 // A word of a function written on the stack of words, by the maps as they are at its turn; and what passing over words does, as definitions and lemmas that the
 // crates of declarations and of bodies share.
+#![tactic(auto)]
+
 ghost use Rattle.std.specs.Prelude.{◌≡◌, false, [], ◌≤◌, ◌<◌, ◌+◌, length, get_or};
 ghost use Rattle.model.specs.References.{target, ref_of, through, moved as movedOf};
 ghost use Rattle.theory_records.specs.RecordLaws.{All};

@@ -1,4 +1,6 @@
 // Intake: the six tests of document 01 in sequence, on any bytes. Every exported function begins with it.
+#![tactic(auto)]
+
 ghost use Rattle.std.specs.Prelude.{◌≡◌, length};
 ghost use Rattle.model.specs.Taped.{Tape};
 ghost use Rattle.model.specs.Image.{IntakeEnsures};
@@ -8,7 +10,7 @@ use base_words::{Tags, Words};
 use intake_layout::Layout;
 
 // The answer: the image is accepted, with its count of words; or the test that failed, by document 01's numbers 1 to 6.
-#[derive(Drop)]
+#[derive(Clone, Copy)]
 pub enum Taken {
     Accepted(usize),
     Size,

@@ -1,5 +1,7 @@
 // Scope in one pass over a body. What a block evaluates stays until the block's end, and what a Loop's body evaluates before its first Continue, like
 // what its continuing block evaluates, until the end of the Loop.
+#![tactic(auto)]
+
 ghost use Rattle.std.specs.Prelude.{◌≡◌, Bool, true, false, ◌||◌, [], ◌+◌, ◌-◌, ◌≤◌, ◌<◌, length, get_or};
 ghost use Rattle.model.specs.Scope.{in_body};
 ghost use Rattle.intake_statements.specs.Fine.{fine_b};

@@ -3,6 +3,8 @@
 // hash, and only one whose mark may be there already is compared with all later ones, which is one or two of 512 names whose hashes fall as if by
 // chance. Names or keys that are made to leave their marks at one place are still compared by pairs. The worst case is 512 names of equal length and
 // one place that differ in their last words: 130,816 pairs of 30 words, about 2 ms.
+#![tactic(auto)]
+
 ghost use Rattle.std.specs.Prelude.{◌≡◌, ◌+◌, ◌-◌, ◌^◌, ◌≤◌, ◌<◌, length};
 ghost use Rattle.std.proofs.Math.Seq.{slice};
 ghost use Rattle.model.specs.Module.{count_at};

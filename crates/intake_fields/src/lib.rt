@@ -1,5 +1,7 @@
 // Laying out a record: one class for each word, by one table and recursion. A walk starts at a word and ends after the record, or finds a misfit (refusal 2) or
 // a code that is none of the listed (refusal 3). The tags have the class of each word that was passed.
+#![tactic(auto)]
+
 pub mod table;
 
 ghost use Rattle.std.specs.Prelude.{◌≡◌, [], ◌∷◌, ◌+◌, ◌*◌, ◌%◌, ◌^◌, ◌≤◌, ◌<◌, length};
@@ -29,7 +31,7 @@ const CASES: u16 = base_classes::CASES as u16;
 
 const LENGTH: u16 = base_classes::LENGTH as u16;
 
-#[derive(Drop)]
+#[derive(Clone, Copy)]
 pub enum Walked {
     Next(usize),
     Misfit,
@@ -37,7 +39,7 @@ pub enum Walked {
 }
 
 // What follows a word: the row at a place of the table, a number of times.
-#[derive(Drop)]
+#[derive(Clone, Copy)]
 pub enum More {
     Rows(usize, u32),
     Over,

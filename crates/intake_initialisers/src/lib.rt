@@ -1,5 +1,7 @@
 // What the initialisers of a function's locals reach, along operands as they are, lower or not: marks and a list of what is still to be visited, so
 // that each expression is visited once.
+#![tactic(auto)]
+
 ghost use Rattle.std.specs.Prelude.{◌≡◌, [], ◌+◌, ◌*◌, ◌^◌, ◌≤◌, ◌<◌, length, drop};
 ghost use Rattle.std.proofs.Math.Seq.{slice};
 ghost use Rattle.std.proofs.lemmas.List.Edits.{sets};

@@ -1,4 +1,6 @@
 // Reading an image: its bytes into words, and for each word its class, the tags. Refusals 1 and 2 of document 01 are found here.
+#![tactic(auto)]
+
 pub mod section;
 
 ghost use Rattle.std.specs.Prelude.{◌≤◌, length, take};
@@ -12,7 +14,7 @@ const HEADER: u32 = base_views::HEADER as u32;
 
 // What the bytes of an image are: laid out whole, with this many words; refused 1; refused 2; or with a kind or a code that is none of the listed, which is
 // refused 3 later.
-#[derive(Drop)]
+#[derive(Clone, Copy)]
 pub enum Layout {
     Fits(usize),
     Size,

@@ -19,7 +19,7 @@ const SPECIAL_COUNT: usize = COUNTS + 2 * SPECIAL;
 const SPECIAL_OFFSET: usize = OFFSETS + 2 * SPECIAL;
 
 // What an extent holds: records that fill it, a misfit (refusal 2), or a code that is none of the listed (refusal 3).
-#[derive(Drop)]
+#[derive(Clone, Copy)]
 pub enum Held {
     Fits,
     Bad,

@@ -1,5 +1,7 @@
 // Refusal 4 of document 01: a base, a member, an operand or an init that is not lower than what names it. Flat passes over the words and the tags, linear in the
 // words. `count` is how many records have begun, so the record that is being read has the number count - 1.
+#![tactic(auto)]
+
 ghost use Rattle.std.specs.Prelude.{◌≡◌, ◌+◌, ◌^◌, ◌<◌};
 ghost use Rattle.model.specs.Module.{Module, count_at};
 ghost use Rattle.model.specs.Taped.{Tape, Taped};

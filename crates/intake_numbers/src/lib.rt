@@ -2,6 +2,8 @@
 // bound of its class; a second look at Emit's start; and the kinds that the initialisers of locals reach, each expression visited once.
 // The cost is linear in the words, about 1 ns each. The worst are functions of 1,024 expressions whose operands run forward from one initialiser: two of
 // them, 12,353 words, take about 40 microseconds.
+#![tactic(auto)]
+
 ghost use Rattle.std.specs.Prelude.{suc, ◌<◌};
 ghost use Rattle.model.specs.Module.{offset_at};
 ghost use Rattle.model.specs.Taped.{Tape};

@@ -1,4 +1,6 @@
 // Numbers and codes in range: each word is compared with the bound of its class.
+#![tactic(auto)]
+
 ghost use Rattle.std.specs.Prelude.{◌≡◌, ◌+◌, ◌^◌, ◌≤◌, ◌<◌, get_or};
 ghost use Rattle.model.specs.Numbers.{rising as risingOf};
 ghost use Rattle.model.specs.Between.{between, Long};

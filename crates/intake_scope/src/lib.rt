@@ -1,6 +1,8 @@
 // Refusal 6: the Scope paragraph of document 01, in one pass over each body. The large arrays that a pass works in are made once for an image and used by one
 // function after the other. `starts` and `list` are written before they are read, and each body clears as much of `until` as its function has expressions. The
 // arrays keep their lengths where the answer is yes; after a no there is no next function.
+#![tactic(auto)]
+
 ghost use Rattle.std.specs.Prelude.{◌≡◌, true};
 ghost use Rattle.model.specs.Taped.{Tape};
 ghost use Rattle.model.specs.Scope.{in_scope};

@@ -1,5 +1,7 @@
 // What a statement without blocks reads and evaluates. For each expression there is the word up to which it is in scope: 0 while it is not evaluated, and 1,
 // which no statement lies before, for an initialiser expression.
+#![tactic(auto)]
+
 ghost use Rattle.std.specs.Prelude.{◌≡◌, [], ◌+◌, ◌≤◌, ◌<◌, get_or};
 ghost use Rattle.std.proofs.Math.Option.{some};
 ghost use Rattle.model.specs.Tree.{word_of};

@@ -1,4 +1,6 @@
 // Linking: one module in, one out, callees first, on any bytes. `link_in` works in arrays that the caller provides, `link` in its own.
+#![tactic(auto)]
+
 ghost use Rattle.std.specs.Prelude.{◌≡◌, length};
 ghost use Rattle.model.specs.Image.{ScratchLengths, LinkEnsures};
 

@@ -1,5 +1,7 @@
 // Reads an image on standard input, links it, and writes the linked image to standard output. A refusal or a failed read is one line on standard error,
 // and nothing is written. Input longer than an image may be is refused 1 and not cut: the buffer holds one byte more.
+#![tactic(auto)]
+
 ghost use Rattle.std.specs.Prelude.{◌≡◌, length};
 
 fn buffer() -> [u8; 65537]

@@ -1,5 +1,7 @@
 // Linking of an image that is laid out in words and tags and whose output order is known: the output is what a fresh session writes that sets the image, imports
 // its functions in that order and finishes with its entry points. No step is undone, since none is refused.
+#![tactic(auto)]
+
 ghost use Rattle.std.specs.Prelude.{true, take};
 ghost use Rattle.derive_state.specs.Source.{mod_of};
 ghost use Rattle.derive_state.specs.Held.{st_of};

@@ -1,4 +1,6 @@
 // The output order of any bytes: intake comes first, then the order, callees first, or refusal 12. A refusal leaves the caller's list as it was.
+#![tactic(auto)]
+
 ghost use Rattle.std.specs.Prelude.{◌≡◌, ◌≤◌, length, take};
 ghost use Rattle.std.proofs.lemmas.List.Edits.{sets};
 ghost use Rattle.model.specs.Taped.{Tape};

@@ -1,5 +1,7 @@
 // The callees of every table function, from words and tags: one pass over the words of each
 // function record, which marks each word of the class CALLEE. Then the order of output.
+#![tactic(auto)]
+
 ghost use Rattle.std.specs.Prelude.{◌≡◌, ◌<◌, length};
 ghost use Rattle.model.specs.Module.{count_at};
 ghost use Rattle.model.specs.Taped.{Tape};

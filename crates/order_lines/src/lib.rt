@@ -1,5 +1,7 @@
 // The text of an order, put into a buffer that the caller provides: the count of functions, and for each a line with its new number, its source number and its
 // name.
+#![tactic(auto)]
+
 ghost use Rattle.std.specs.Prelude.{◌≡◌, [], ◌∷◌, ◌+◌, ◌/◌, ◌≤◌, ◌<◌, length, get_or, drop, take};
 ghost use Rattle.base_words.specs.Words.{bytes_of};
 ghost use Rattle.order_lines.specs.Lines.{decimal, numbers_text, line_text, lines_text, headed, ordered_text, name_at, name_is, text_at, TextEnsures, Room, Readable, Line, Lines, Text};

@@ -2,6 +2,8 @@
 // or the count of the functions from which a chain of calls reaches a ring. Callees and waiting
 // functions are sets of 256 marks, four 64-bit words each. Functions are placed in rounds, as
 // Redirector::into_module does: a round places those that call none that was waiting when it began.
+#![tactic(auto)]
+
 ghost use Rattle.std.specs.Prelude.{◌≡◌, true, false, ◌≤◌, ◌<◌, length};
 ghost use Rattle.model.specs.Calls.{any};
 ghost use Rattle.order_ranks.specs.Marks.{bit, ones_of, meets, holds, marked, members, PutBit, PutMark, SetCall, NoCalls, Firsts, Below};
@@ -10,14 +12,14 @@ ghost use Rattle.order_ranks.specs.Placing.{Placeable, Placed, Leaves, Orders};
 use base_handles::FunctionHandle;
 
 // All functions have their place; or this many are left waiting for a ring.
-#[derive(Drop)]
+#[derive(Clone, Copy)]
 pub enum Ordered {
     All,
     Ring(u32),
 }
 
 // What a round leaves waiting, and where the output goes on.
-#[derive(Drop)]
+#[derive(Clone, Copy)]
 struct Round {
     waiting: [u64; 4],
     at: usize,

@@ -1,5 +1,7 @@
 // What the program `order` prints, put into a buffer that the caller provides: the count of functions and their lines, or the refusal. The whole text is one
 // definition on bytes (`telling_of` in specs/Telling.antt), and there is always room for it.
+#![tactic(auto)]
+
 ghost use Rattle.std.specs.Prelude.{◌≡◌, length};
 ghost use Rattle.model.specs.Taped.{Tape};
 ghost use Rattle.order_text.specs.Telling.{telling_of, Passed, TellEnsures, Tells};
@@ -10,7 +12,7 @@ use order_lines::{head, text};
 use order_ranks::Ordered;
 
 // How many bytes the text has, the number of the refusal or 0, and how many functions a ring leaves.
-#[derive(Drop)]
+#[derive(Clone, Copy)]
 pub struct Said {
     pub count: usize,
     pub refusal: u32,

@@ -1,11 +1,13 @@
 // Standard input, output and error as the programs use them. A failed read or write is an error of its own, reported in one line on standard error in the
 // system's words; a refusal is reported there with its sentence. A program has no exit status: these lines are how it reports failure.
+#![tactic(auto)]
+
 ghost use Rattle.std.specs.Prelude.{◌≡◌, ◌≤◌, length};
 
 use libc::{STDERR_FILENO, STDIN_FILENO, STDOUT_FILENO};
 
 // What was read: this many bytes at the start of the buffer, and whether a read failed after them.
-#[derive(Drop)]
+#[derive(Clone, Copy)]
 pub struct Input {
     pub count: usize,
     pub failed: bool,

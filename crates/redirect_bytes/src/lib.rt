@@ -1,4 +1,6 @@
 // redirect_function of redirect.rs on any bytes, in the image itself. Intake comes first; a refusal leaves every byte.
+#![tactic(auto)]
+
 ghost use Rattle.std.specs.Prelude.{◌≡◌};
 ghost use Rattle.model.specs.Image.{redirect_answer, RedirectEnsures};
 ghost use Rattle.redirect_bytes.specs.Answers.{shown, after, Small, RedirectFunctionEnsures};
@@ -9,7 +11,7 @@ use intake::Taken;
 use redirect_words::Redirected;
 
 // Both functions, the original first; or document 01's number of the refusal.
-#[derive(Drop)]
+#[derive(Clone, Copy)]
 pub enum Answer {
     Done(FunctionHandle, FunctionHandle),
     Refused(u32),

@@ -1,5 +1,7 @@
 // Replaces the original by the replacement in Calls and CallResults: one pass over the words and the tags of the functions and the entry points, which leaves
 // the replacement and the omitted functions as they are.
+#![tactic(auto)]
+
 ghost use Rattle.std.specs.Prelude.{◌≡◌, suc, ◌≤◌, ◌<◌, eqb, length};
 ghost use mathlib.Core.List.{zip_with};
 ghost use Rattle.std.proofs.Math.Seq.{slice};

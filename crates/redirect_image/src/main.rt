@@ -1,5 +1,7 @@
 // Reads an image on standard input, redirects calls in it, and writes it to standard output. The arguments are numbers of names: the original's, the
 // replacement's, and those of omitted functions. A refusal, a wrong argument or a failed read is one line on standard error, and nothing is written.
+#![tactic(auto)]
+
 ghost use Rattle.std.specs.Prelude.{◌≡◌, ◌≤◌, ◌<◌, length};
 ghost use Rattle.redirect_image.specs.Numbers.{WRONG, stepped, read as read_of};
 

@@ -1,6 +1,8 @@
 // Redirecting over the words and the tags of an image that passed intake: redirect_function of redirect.rs. Functions are found by name number, their argument
 // and result types are compared, and the original is replaced by the replacement in Calls and CallResults. The tests read and change nothing; the pass after
 // them goes once over the functions and the entry points.
+#![tactic(auto)]
+
 ghost use Rattle.std.specs.Prelude.{◌≡◌, ◌∷◌, ◌+◌, ◌*◌, ◌<◌, length, get_or};
 ghost use Rattle.model.specs.Module.{count_at};
 ghost use Rattle.model.specs.View.{record_at};
@@ -15,14 +17,14 @@ use base_words::{Tags, Words, store, wide};
 use redirect_calls::{is_named, redirect_all};
 
 // The table function with a name, or none.
-#[derive(Drop)]
+#[derive(Clone, Copy)]
 pub enum Found {
     At(FunctionHandle),
     Nothing,
 }
 
 // Both functions, the original first; or why nothing was changed: refusals 13, 8, 9, 10 and 11.
-#[derive(Drop)]
+#[derive(Clone, Copy)]
 pub enum Redirected {
     Done(FunctionHandle, FunctionHandle),
     Outside,

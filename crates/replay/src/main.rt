@@ -1,11 +1,13 @@
 // Replays reference vectors: standard input holds them one after the other, each as the number that intake answers (0 for accepted), the length
 // of the image and its bytes. A vector that is answered otherwise is named by its place; the last line says how many agree.
+#![tactic(auto)]
+
 ghost use Rattle.std.specs.Prelude.{◌≡◌, length};
 
 use libc::{STDERR_FILENO, STDOUT_FILENO};
 
 // What precedes an image: the expected answer, and the image's length.
-#[derive(Drop)]
+#[derive(Clone, Copy)]
 enum Found {
     Vector(u32, usize),
     End,

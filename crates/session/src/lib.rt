@@ -1,6 +1,8 @@
 // A session as a list of steps: one call is given all sources, all steps and the output, and keeps nothing. A step is four words, an operation and its numbers;
 // its answer is three, the refusal and two values. A refused step changes nothing, and the next one follows. `session_in` works in arrays that the caller
 // provides, `session` in its own.
+#![tactic(auto)]
+
 ghost use Rattle.std.specs.Prelude.{◌≡◌, length, set};
 ghost use Rattle.model.specs.Image.{ScratchLengths, SessionEnsures};
 ghost use Rattle.session.specs.Sessions.{or_else, numbered};

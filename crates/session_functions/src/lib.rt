@@ -1,5 +1,7 @@
 // The operations of a session on functions, and finishing with entry points: each makes its tests in document 01's sequence, and where it is refused the session
 // is as it was. The stacks of functions under construction are empty between operations.
+#![tactic(auto)]
+
 ghost use Rattle.std.specs.Prelude.{◌≡◌, true, false, [], ◌∷◌, ℕ, ◌<◌, pred, length, replicate};
 ghost use Rattle.model.specs.Module.{count_at};
 ghost use Rattle.model.specs.Callees.{callees};

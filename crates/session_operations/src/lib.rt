@@ -1,5 +1,7 @@
 // The operations of a session on the state that the arrays hold, except those on functions: each makes its tests in document 01's sequence, and where it is
 // refused the session is as it was.
+#![tactic(auto)]
+
 ghost use Rattle.std.specs.Prelude.{◌≡◌, ℕ, ◌<◌, ◌≤◌, false, length};
 ghost use Rattle.base_words.specs.Words.{words_of};
 ghost use Rattle.model.specs.Module.{count_at};
@@ -25,7 +27,7 @@ use intake::Taken;
 use std::num::wrapping_add_u32;
 
 // What an operation answers: its refusal, 0 for none; a value; and the sizes of the derived module after it.
-#[derive(Drop)]
+#[derive(Clone, Copy)]
 pub struct Answer {
     pub refusal: u32,
     pub value: u32,
@@ -263,7 +265,7 @@ pub fn rename_type(
 }
 
 // A span by the source's offset.
-#[derive(Drop)]
+#[derive(Clone, Copy)]
 pub struct Span {
     pub refusal: u32,
     pub start: u32,
@@ -318,7 +320,7 @@ pub fn has_required_special_types(special: &Special, ends: Sizes) -> u32
 }
 
 // What setting a source answers: its refusal, 0 for none; the number of words of the source that is then set; and the sizes.
-#[derive(Drop)]
+#[derive(Clone, Copy)]
 pub struct Set {
     pub refusal: u32,
     pub set: bool,
@@ -446,7 +448,7 @@ pub fn set_shader_source(
 }
 
 // What finishing answers: its refusal, 0 for none; the bytes written; and the sizes: those of a new session, or as they were.
-#[derive(Drop)]
+#[derive(Clone, Copy)]
 pub struct Finished {
     pub refusal: u32,
     pub bytes: usize,

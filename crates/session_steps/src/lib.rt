@@ -1,5 +1,7 @@
 // One step of a session: its four words, an operation and its numbers, to the operation itself, and what that answers as three words. A refused step changes
 // nothing.
+#![tactic(auto)]
+
 ghost use Rattle.std.specs.Prelude.{◌≡◌, ◌≤◌, min};
 ghost use Rattle.function_builder.specs.Stacks.{Stacks};
 ghost use Rattle.derive_session.specs.Valid.{session_of, ValidSession};
@@ -49,7 +51,7 @@ pub const FINISH_WITH_ENTRY_POINTS: u32 = 14;
 const TABLES: usize = IMPORT_CONST as usize - CONSTANTS;
 
 // What a step answers, and the session after it: whether a source is set, its words and its offset, and the sizes of the derived module.
-#[derive(Drop)]
+#[derive(Clone, Copy)]
 pub struct Answered {
     pub refusal: u32,
     pub first: u32,
@@ -61,7 +63,7 @@ pub struct Answered {
 }
 
 // A step: an operation and its numbers.
-#[derive(Drop)]
+#[derive(Clone, Copy)]
 pub struct Step {
     pub operation: u32,
     pub a: u32,

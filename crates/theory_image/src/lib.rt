@@ -1,1 +1,3 @@
 // Theorems on reading, writing, viewing and rewriting an image, in specs/. No code.
+#![tactic(auto)]
+

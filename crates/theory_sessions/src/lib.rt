@@ -1,1 +1,3 @@
 // What holds of any session, in specs/. No code.
+#![tactic(auto)]
+

@@ -1,1 +1,3 @@
 // Theorems on walks, in specs/: scope is sound, and agreement carries walks. No code.
+#![tactic(auto)]
+

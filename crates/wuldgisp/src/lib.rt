@@ -1,5 +1,7 @@
 // The functions that the archive exports to C and Rust; include/wuldgisp.h declares them. What each promises is in model/specs/Image.antt, under its name; what its
 // answer means is the theorem of specs/Meaning.antt that is named beside it.
+#![tactic(auto)]
+
 ghost use Rattle.std.specs.Prelude.{◌≡◌, length};
 ghost use Rattle.model.specs.Image.{IntakeEnsures, OrderEnsures, RedirectEnsures, LinkEnsures, SessionEnsures, ScratchLengths};
 
