@@ -103,7 +103,7 @@ pub all_record : {cells : Cells} {p q : ℕ} (rs : List Cells) → Part cells p 
 unfolding flat_all start_of
 all_record [] v i h = absurd (omega arith)
 all_record {p} (r ∷ rs) v zero h = rw (start_zero (p + length r) rs) (part_left r (flat_all rs) v)
-all_record (r ∷ rs) v (suc i) h = all_record rs (part_right r (flat_all rs) v) i (omega arith)
+all_record {p} (r ∷ rs) v (suc i) h = all_record {p = p + length r} rs (part_right r (flat_all rs) v) i (omega arith)
 
 module _ {cells : Cells} {p q : ℕ} (s : ℕ) (rs : List Cells) (v : Part cells p q (flat_list s rs)) where
   -- the records

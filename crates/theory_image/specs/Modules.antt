@@ -251,7 +251,7 @@ end-last : (ws : List ℕ) (k : ℕ) → suc k ≡ 9 → end_at k ws ≡ length 
 unfolding end_at
 end-last ws k e = if_true (eqb k 8) (length ws) (offset_at (suc k) ws) (eq-eqb k 8 (omega arith))
 
-stand : {ws ms : List ℕ} {ss : List Section} {k at : ℕ} → Holds ws k ss → Placed ws ms k at → length ms ≡ length ss → (k ≡ 9 → at ≡ length ws) → Stands ws k at ss
+stand : {ws : List ℕ} {ss : List Section} {k at : ℕ} {ms : List ℕ} → Holds ws k ss → Placed ws ms k at → length ms ≡ length ss → (k ≡ 9 → at ≡ length ws) → Stands ws k at ss
 stand holds-none p e h = stands-none (h refl)
 stand (holds-next c w hs) placed-none e h = absurd (omega arith)
 stand {ws} (holds-next {k} c w hs) (placed-next a b l r p) e h = stands-next a c w l r (stand hs p (omega arith) (end-last ws k))

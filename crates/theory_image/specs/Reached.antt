@@ -58,7 +58,7 @@ unfolding mark
 mark_keeps [] m x h = h
 mark_keeps (e ∷ es) m x h = mark_keeps es (set m e true) x (set_keeps m e x h)
 
-mark_hits : {es : List ℕ} {x : ℕ} → Mem x es → (m : Marks) → x < length m → marked (mark es m) x ≡ true
+mark_hits : {x : ℕ} {es : List ℕ} → Mem x es → (m : Marks) → x < length m → marked (mark es m) x ≡ true
 unfolding mark
 mark_hits {x = x} (here {xs = es}) m h = mark_keeps es (set m x true) x (set_hits m x h)
 mark_hits (there {y = y} p) m h = mark_hits p (set m y true) (rw length-set h)
@@ -94,6 +94,9 @@ full (false ∷ m) h x l = absurd (omega arith)
 -- ---- what the marked ones read
 reads_from : (m : Marks) (xs : List Cells) {x : ℕ} → Mem x (read_by m xs) → (e : ℕ) × (marked m e ≡ true) × Mem x (ops xs e)
 unfolding read_by marked ops
+reads_from [] xs p = absurd (no_mem p)
+reads_from (false ∷ m) [] p = absurd (no_mem p)
+reads_from (true ∷ m) [] p = absurd (no_mem p)
 reads_from (true ∷ m) (c ∷ xs) p =
     ⊎_elim (λ q. (0, refl, q)) (λ q. let r = reads_from m xs q in (suc r.0, r.1, r.2)) (mem_cases (ops_of c) (read_by m xs) p)
 reads_from (false ∷ m) (c ∷ xs) p = let r = reads_from m xs p in (suc r.0, r.1, r.2)
