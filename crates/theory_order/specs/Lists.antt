@@ -89,7 +89,7 @@ module _ (p : ℕ → Bool) where
           let k = rest (rw (keep_no j is e) at h) in
           (later k.0, k.1)
 
-  pub in_keep : {is : List ℕ} {i : ℕ} → In i is → p i ≡ true → In i (keep is p)
+  pub in_keep : {i : ℕ} {is : List ℕ} → In i is → p i ≡ true → In i (keep is p)
   in_keep {i} (here {xs}) e = rw (keep_yes i xs e) here
   in_keep (later {y} {xs} h) e =
       ⊎_elim (λ (t : p y ≡ true). rw (keep_yes y xs t) (later (in_keep h e))) (λ (f : p y ≡ false). rw (keep_no y xs f) (in_keep h e)) (either (p y))
@@ -136,7 +136,7 @@ module _ (p : ℕ → Bool) where
           let r = rest (rw e at h) in
           (r.0, later r.1, r.2)
 
-  pub in_any : {is : List ℕ} {i : ℕ} → In i is → p i ≡ true → any is p ≡ true
+  pub in_any : {i : ℕ} {is : List ℕ} → In i is → p i ≡ true → any is p ≡ true
   unfolding any
   in_any here e = rw e
   in_any (later {y} h) e = ⊎_elim (λ (t : p y ≡ true). rw t) (λ (f : p y ≡ false). rw f (in_any h e)) (either (p y))
@@ -191,7 +191,7 @@ module _ (p q : ℕ → Bool) where
       go (inl t) l = rw (t, h i here t) (omega arith)
       go (inr f) l = rw f (tail (q i) l)
 
-  pub length_lt : {is : List ℕ} {j : ℕ} → In j is → ((i : ℕ) → In i is → p i ≡ true → q i ≡ true) → p j ≡ false → q j ≡ true → length (keep is p) < length (keep is q)
+  pub length_lt : {j : ℕ} {is : List ℕ} → In j is → ((i : ℕ) → In i is → p i ≡ true → q i ≡ true) → p j ≡ false → q j ≡ true → length (keep is p) < length (keep is q)
   unfolding keep
   length_lt (here {xs}) h f t = let l = length_le xs (λ j k. h j (later k)) in rw (f, t) (omega arith)
   length_lt (later {y} {xs} g) h f t = go (either (p y)) (length_lt g (λ j k. h j (later k)) f t)
