@@ -114,16 +114,16 @@ unfolding classes
 brings_in names s h = among_elim (Brings []) [] tt s h
 brings_in types s h =
     among_elim (Brings (classes types)) (classes types)
-    (plain_in _ NAME refl, (plain_in _ SPAN refl, (plain_in _ UPTO refl, (kinds_in, (plain_in _ 9 refl, (plain_in _ WORD refl, (plain_in _ TYPE refl, (members_in, tt)))))))) s h
+    (plain_in (classes types) NAME refl, (plain_in (classes types) SPAN refl, (plain_in (classes types) UPTO refl, (kinds_in, (plain_in (classes types) 9 refl, (plain_in (classes types) WORD refl, (plain_in (classes types) TYPE refl, (members_in, tt)))))))) s h
 brings_in constants s h =
-    among_elim (Brings (classes constants)) (classes constants) (plain_in _ NAME refl, (plain_in _ SPAN refl, (plain_in _ UPTO refl, (plain_in _ TYPE refl, (plain_in _ INIT refl, tt))))) s h
+    among_elim (Brings (classes constants)) (classes constants) (plain_in (classes constants) NAME refl, (plain_in (classes constants) SPAN refl, (plain_in (classes constants) UPTO refl, (plain_in (classes constants) TYPE refl, (plain_in (classes constants) INIT refl, tt))))) s h
 brings_in overrides s h =
-    among_elim (Brings (classes overrides)) (classes overrides) (plain_in _ NAME refl, (plain_in _ SPAN refl, (plain_in _ UPTO refl, (plain_in _ WORD refl, (plain_in _ TYPE refl, (plain_in _ OPT_INIT refl, tt)))))) s h
+    among_elim (Brings (classes overrides)) (classes overrides) (plain_in (classes overrides) NAME refl, (plain_in (classes overrides) SPAN refl, (plain_in (classes overrides) UPTO refl, (plain_in (classes overrides) WORD refl, (plain_in (classes overrides) TYPE refl, (plain_in (classes overrides) OPT_INIT refl, tt)))))) s h
 brings_in globals s h =
-    among_elim (Brings (classes globals)) (classes globals) (plain_in _ NAME refl, (plain_in _ SPAN refl, (plain_in _ UPTO refl, (plain_in _ WORD refl, (plain_in _ TYPE refl, (plain_in _ OPT_INIT refl, tt)))))) s h
+    among_elim (Brings (classes globals)) (classes globals) (plain_in (classes globals) NAME refl, (plain_in (classes globals) SPAN refl, (plain_in (classes globals) UPTO refl, (plain_in (classes globals) WORD refl, (plain_in (classes globals) TYPE refl, (plain_in (classes globals) OPT_INIT refl, tt)))))) s h
 brings_in exprs s h =
     among_elim (Brings (classes exprs)) (classes exprs)
-    (plain_in _ SPAN refl, (plain_in _ UPTO refl, (plain_in _ 10 refl, (plain_in _ WORD refl, (plain_in _ CONSTANT refl, (plain_in _ OVERRIDE refl, (plain_in _ TYPE refl, (operands_in, (plain_in _ EXPR refl, (plain_in _ OPT_EXPR refl, (plain_in _ 3 refl, (plain_in _ 4 refl, (plain_in _ 18 refl, (plain_in _ 79 refl, (plain_in _ 6 refl, tt))))))))))))))) s h
+    (plain_in (classes exprs) SPAN refl, (plain_in (classes exprs) UPTO refl, (plain_in (classes exprs) 10 refl, (plain_in (classes exprs) WORD refl, (plain_in (classes exprs) CONSTANT refl, (plain_in (classes exprs) OVERRIDE refl, (plain_in (classes exprs) TYPE refl, (operands_in, (plain_in (classes exprs) EXPR refl, (plain_in (classes exprs) OPT_EXPR refl, (plain_in (classes exprs) 3 refl, (plain_in (classes exprs) 4 refl, (plain_in (classes exprs) 18 refl, (plain_in (classes exprs) 79 refl, (plain_in (classes exprs) 6 refl, tt))))))))))))))) s h
 
 lays_kinds : (t : Tab) {ss : Row} {cs : Cells} → Lays ss cs → in_l (classes t) ss ≡ true → Kinds t cs
 lays_kinds t lays_none h = no_kinds
