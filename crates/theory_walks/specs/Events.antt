@@ -14,7 +14,7 @@ use Rattle.model.specs.Callees.{callees}
 use Rattle.model.specs.Agreement.{Mapping}
 use Rattle.theory_image.specs.Members.{mem_left, mem_right}
 use Rattle.theory_walks.specs.Members.{Each}
-use Rattle.theory_walks.specs.Agreement.{mentions_e, mentions_s, mentions_f, mentions_b, mentions_k, mentions_c, mentioned, carry_e, carry_t, end_of, CarriedE, carried-read, carried_eval, carried-call, CarriedT, carried-end, carried_on}
+use Rattle.theory_walks.specs.Agreement.{mentions_e, mentions_s, mentions_f, mentions_b, mentions_k, mentions_c, mentioned, carry_e, carry_t, end_of, carried-read, carried_eval, carried-call, CarriedT, carried-end, carried_on}
 use Rattle.theory_walks.specs.Called.{called_s, called_f, called_b, called_k, called_c, called_is}
 use Rattle.theory_walks.specs.WholeWords.{made, to}
 

@@ -1,5 +1,5 @@
 -- What holds of each member of a list of numbers.
-use Rattle.std.specs.Prelude.{◌⊎◌, List, [], ◌∷◌, ◌++◌, ℕ}
+use Rattle.std.specs.Prelude.{List, [], ◌∷◌, ◌++◌, ℕ}
 use Rattle.std.proofs.Common.{⊎_elim}
 use Rattle.model.specs.Initial.{Mem, here, there}
 use Rattle.theory_image.specs.Members.{no_mem, mem_cases}

@@ -19,6 +19,7 @@ use Rattle.theory_walks.specs.Agreement.{mentions_e, mentions_s, mentions_f, men
 module _ (xs : List Cells) where
   emit_mentions : (es : List ℕ) {e : ℕ} → Mem e es → Mem e (mentions_e es xs)
   unfolding mentions_e
+  emit_mentions [] m = absurd (no_mem m)
   emit_mentions (x ∷ es) here = here
   emit_mentions (x ∷ es) (there m) = there (mem_right (ops xs x) (emit_mentions es m))
 

@@ -452,6 +452,7 @@ module _ (M M' : Module) (μ : Mapping) (o : List ℕ) where
       go_f kill kill s_kill_lem l y y' h = kill_step y y' h
       go_f (call f ys r) (call f' ys' r') s_call_lem l y y' h = call_step f f' ys ys' r r' y y' h
       go_f (effect k cs) (effect k' cs') (s_effect_lem c c') l y y' h = effects k cs cs' c c' l y y' h
+      go_f f f' s l y y' h = elim s [ ]
 
       go_b : (b b' : Block Range) {d d' : ℕ} → OkBs d b → OkBs d' b' → size_b b ≡ size_b b' → (y y' : Cells) → Opened (flat_b b ++ y) (flat_b b' ++ y') → GotB b b' y y'
       go_b end end p p' n y y' h = end_step y y' h

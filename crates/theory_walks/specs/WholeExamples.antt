@@ -17,7 +17,7 @@ use Rattle.model.specs.Scope.{up_from, in_range, live, expand_s, seen}
 use Rattle.model.specs.SampleBodies.{record_with, literal, negate, splat, add, does, evals, store, exchange, uniform_load, local}
 use Rattle.model.specs.RedirectExamples.{letter}
 use Rattle.model.specs.ImportExamples.{leaf}
-use Rattle.model.specs.Tables.{Tab, names, types, constants, overrides, globals, exprs, code_t, is_t, at, upd, six, tables, rec_at, count, map_at}
+use Rattle.model.specs.Tables.{Tab, types, constants, exprs, code_t, is_t, at, upd, six, tables, rec_at, count, map_at}
 use Rattle.model.specs.References.{Node, target as target_of, targets, ref_of, refs, first_word, fold_refs, carry_w, through, undefined, add as addSpan, span_by, undefined_at, moved, shift, alike_c, alike, index_of, interned}
 use Rattle.model.specs.Imports.{unless_mapped, intern, mapped_to_t, made, commit, step_t, import_f, levels, import_t, unmapped, emptied, fresh}
 use Rattle.model.specs.Special.{force, with_special, put_ray, ray_to, ray, rays, keyed, put_pair, pair_to, pairs, sourced}

@@ -13,7 +13,7 @@ use Rattle.model.specs.Tree.{Function, flat_all}
 use Rattle.model.specs.Module.{Module, flat_special}
 use Rattle.model.specs.Operands.{standing}
 use Rattle.model.specs.Initial.{initial}
-use Rattle.model.specs.Tables.{Tab, names, exprs, is_t, at, tables, rec_at, map_at}
+use Rattle.model.specs.Tables.{Tab, names, is_t, at, tables, rec_at, map_at}
 use Rattle.model.specs.References.{Place, table, own, function, Target, copied, start, upto, ref, opt, target, Node, node, ref_of, refs}
 use Rattle.model.specs.Agreement.{Mapping, Among, first, later, MayShare, body_of, stated, becomes, agrees_w, agrees_r, agrees_l, stands, Agrees, Holds, Reached, from_function, from_kept, from_special, from_record, from_operand, global}
 

@@ -13,7 +13,7 @@ use Rattle.model.specs.Outcome.{Cells}
 use Rattle.model.specs.Table.{SPAN, UPTO, NAME}
 use Rattle.model.specs.Module.{Module}
 use Rattle.model.specs.Tables.{names, types, constants, overrides, globals, exprs, code_t, is_t, at, map_at}
-use Rattle.model.specs.References.{Place, table, own, function, copied, start, upto, ref, opt, targets, target}
+use Rattle.model.specs.References.{Place, table, own, function, copied, ref, opt, targets, target}
 use Rattle.model.specs.Agreement.{Mapping, becomes, agrees_w, agrees_r}
 use Rattle.theory_image.specs.Same.{same_true}
 use Rattle.theory_walks.specs.Agreement.{Maps, opt_word, carriers, through, carried, text_of, plain, Alike, AlikeR, over, next}
