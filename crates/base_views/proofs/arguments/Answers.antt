@@ -1,0 +1,18 @@
+use Rattle.base_views.proofs.Places.{arguments_inside}
+use mathlib.Core.Path.{ap, ◌∙◌}
+use native.Mathlib.Omega.{arith}
+use lib.ListN.{get_or}
+use borrow.Author.Rules.{rules}
+use Rattle.base_views.proofs.arguments.Goals as goal
+
+pub arguments_at-requires : goal.arguments_at-requires
+arguments_at-requires c = omega (arith, arguments_inside _ _ c.requires)
+
+pub offset_bounds-words-arguments_at : goal.offset_bounds-words-arguments_at
+offset_bounds-words-arguments_at c = let h = arguments_inside _ _ c.requires in record { fits = omega (arith, h, c.arguments_at.ensures) }
+
+pub bounds-words-arguments_at : goal.bounds-words-arguments_at
+bounds-words-arguments_at c = omega (arith, arguments_inside _ _ c.requires, c.arguments_at.ensures)
+
+pub returns : goal.returns
+returns c = (c.wide.ensures.0 ∙ ap (λ i. get_or c.args.words.now i 0) c.arguments_at.ensures, c.wide.ensures.1)
