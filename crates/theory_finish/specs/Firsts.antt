@@ -63,6 +63,7 @@ firsts-seen (x ∷ xs) seen m = firsts-seen xs (keep_n seen x) (keep_old x m)
 
 pub firsts-all : {z : ℕ} (xs seen : List ℕ) → Mem z xs → Mem z (firsts xs seen)
 unfolding firsts
+firsts-all [] seen p = elim p [ ]
 firsts-all (x ∷ xs) seen here = firsts-seen xs (keep_n seen x) (keep-new seen x)
 firsts-all (x ∷ xs) seen (there m) = firsts-all xs (keep_n seen x) m
 

@@ -190,6 +190,7 @@ module _ (m : Module) (well : WellFormed m) (three : numbered m ≡ true) (four 
   -- ---- along a list of functions
   pub along : (is : List ℕ) (s : Derived) → ((i : ℕ) → In i is → Headed m i) → Follows T s s → (j : ℕ) → In j is → Bears m (append_all is o m s) j
   unfolding append_all
+  along [] s h k j p = elim p [ ]
   along (i ∷ is) s h k j here = bears_kept i (all-follow _ is _ (follows_refl (function_follows s i s k))) (imported_bears i s (h i here) k)
   along (i ∷ is) s h k j (later g) = along is _ (λ i p. h i (later p)) (follows_refl (function_follows s i s k)) j g
 

@@ -155,6 +155,9 @@ module _ (o : ℕ) (T : Tables) (plain : (k : ℕ) → refs (rec_at T names k) �
       one own n a = h exprs n s (an_expression L n) v
       one function n a = v
 
+  borne : (t : Tab) (n : ℕ) (s : Derived) (k j : ℕ) → Bears (rec_at T t n) k → map_at s.maps names k ≡ suc j → Mem j (names_in (made o T t n s))
+  borne t n s k j m p = unfold made in rw (shift_names (carry_cells (through (mapped_to_t s)) (rec_at T t n)) o false) (carry_names (mapped_to_t s) (rec_at T t n) m (unfold mapped_to_t in p))
+
   fuel_shown : (f : ℕ) (L J : ℕ → Type 0) (t : Tab) (n : ℕ) (s : Derived) → Allowed L (table t) n → Shown T L J s → Shown T L J (import_f f o T t n s)
   unfolding import_f
   fuel_shown zero L J t n s a v = v
@@ -168,10 +171,7 @@ module _ (o : ℕ) (T : Tables) (plain : (k : ℕ) → refs (rec_at T names k) �
           let r = rec_at T t n in
           let s₁ : Derived = fold_refs (refs r) (step_t (import_f f o T)) s in
           let w : Shown T (Or L (Bears r)) J s₁ = ih (Or L (Bears r)) (refs r) (mores_allowed (λ k m. inr m) (refs r) (refs_names r)) s (more_waits (low t n) v) in
-          unfold commit in settle_record t q n (made o T t n s₁) s₁ (λ k j m p. borne k j m p) w
-        where
-          borne : (k j : ℕ) → Bears (rec_at T t n) k → map_at (fold_refs (refs (rec_at T t n)) (step_t (import_f f o T)) s).maps names k ≡ suc j → Mem j (names_in (made o T t n (fold_refs (refs (rec_at T t n)) (step_t (import_f f o T)) s)))
-          borne k j m p = unfold made in rw (shift_names (carry_cells (through (mapped_to_t (fold_refs (refs (rec_at T t n)) (step_t (import_f f o T)) s))) (rec_at T t n)) o false) (carry_names (mapped_to_t (fold_refs (refs (rec_at T t n)) (step_t (import_f f o T)) s)) (rec_at T t n) m (unfold mapped_to_t in p))
+          unfold commit in settle_record t q n (made o T t n s₁) s₁ (λ k j m p. borne t n s₁ k j m p) w
 
   -- AN IMPORT of what is allowed
   pub import_shown : (L J : ℕ → Type 0) (t : Tab) (n : ℕ) (s : Derived) → Allowed L (table t) n → Shown T L J s → Shown T L J (import_t o T t n s)

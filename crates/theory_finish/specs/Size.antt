@@ -138,12 +138,12 @@ each_stays : {x : Cells} {ys xs : List Cells} (i : In x ys) → Each (λ y. y �
 each_stays i each_none each_none = each_none
 each_stays i (each_next n ns) (each_next j js) = each_next (stays i j n) (each_stays i ns js)
 
+joined : {x : Cells} {xs ys : List Cells} (i : In x ys) → Smaller xs (without i) → Smaller (x ∷ xs) ys
+joined {x} {xs} i s = record { few = omega (arith, without_few i); short = unfold flat_all in omega (arith, without_short i, length-append x (flat_all xs)) }
+
 pub picked_smaller : {xs : List Cells} (ys : List Cells) → Apart xs → Each (λ x. In x ys) xs → Smaller xs ys
 picked_smaller ys apart_none e = record { few = omega arith; short = unfold flat_all in omega arith }
-picked_smaller ys (apart_next {x} {xs} n a) (each_next i js) = joined (picked_smaller (without i) a (each_stays i n js))
-  where
-    joined : Smaller xs (without i) → Smaller (x ∷ xs) ys
-    joined s = record { few = omega (arith, without_few i); short = unfold flat_all in omega (arith, without_short i, length-append x (flat_all xs)) }
+picked_smaller ys (apart_next n a) (each_next i js) = joined i (picked_smaller (without i) a (each_stays i n js))
 
 unlike-apart : (x : Cells) (xs : List Cells) → unlike (map (map word) xs) (map word x) ≡ true → Each (λ y. y ≡ x → ⊥) xs
 unfolding unlike

@@ -95,7 +95,7 @@ each_set j c p each_none = each_none
 each_set zero c p (each_next q qs) = each_next p qs
 each_set (suc j) c p (each_next q qs) = each_next q (each_set j c p qs)
 
-each_get_d : {cs : Cells} {n : ℕ} → Each (λ c. word c ≤ n) cs → (j : ℕ) → word (get_or cs j (0, 0)) ≤ n
+each_get_d : {n : ℕ} {cs : Cells} → Each (λ c. word c ≤ n) cs → (j : ℕ) → word (get_or cs j (0, 0)) ≤ n
 each_get_d each_none j = omega arith
 each_get_d (each_next p ps) zero = p
 each_get_d (each_next p ps) (suc j) = each_get_d ps j

@@ -167,6 +167,7 @@ module _ {b : Bounds} (k : Bounded b) where
   cell_below s w h f = go (fixed (target s)) refl
     where
       low : (c : Option ℕ) → Cap c → below c w ≡ true → w < 2 ^ 32
+      low none k e = elim k [ ]
       low (some n) (cap l) e = omega (arith, ltb-true w n e)
 
       far : (r : Bool) → ltb s SPAN ≡ r → fixed (target s) ≡ false → w < 2 ^ 32
