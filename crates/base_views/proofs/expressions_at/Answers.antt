@@ -4,4 +4,4 @@ use borrow.Author.Rules.{rules}
 use Rattle.base_views.proofs.expressions_at.Goals as goal
 
 pub returns : goal.returns
-returns c = let e = expressions_is _ _ c.requires _ _ c.locals_at_lem.ensures.0 c.wide.ensures.0 in (e, omega (arith, c.requires))
+returns c = let e = expressions_is _ _ c.requires _ _ c.locals_at-at.ensures.0 c.wide.ensures.0 in (e, omega (arith, c.requires))
