@@ -2,37 +2,36 @@
 -- What it makes is the source's body, as walks see it, carried through the maps in the end.
 use Prim.Native.Nat.{ℕ, zero, suc, ◌+◌, ◌-◌, ◌<◌, ◌≤◌, pred}
 use Rattle.std.proofs.Math.Path.{◌≡◌, refl}
-use Rattle.std.proofs.Common.{ap, sym, ◌∙◌, inl, inr, ⊎_elim, le_refl, le_trans}
-use Rattle.std.specs.Prelude.{◌≢◌, ◌⊎◌, Bool, ◌&&◌, ◌||◌, get_or}
+use Rattle.std.proofs.Common.{ap, sym, ◌∙◌, inl, inr, ⊎_elim, le_trans}
+use Rattle.std.specs.Prelude.{◌≢◌, ◌⊎◌, Bool, get_or}
 use Rattle.std.proofs.Math.Bool.{true, false}
 use Rattle.std.proofs.lemmas.Bool.{false≢true}
 use mathlib.Core.List.{List, [], ◌∷◌, ◌++◌, map}
 use Rattle.std.proofs.Math.Option.{Option, none, some}
 use native.Mathlib.Omega.{arith}
-use Rattle.std.proofs.Math.Decide.{ℕ_discrete, dec_lt}
+use Rattle.std.proofs.Math.Decide.{dec_lt}
 use Rattle.std.proofs.Math.ListN.{length, get_or-eq_default}
-use Rattle.theory_lists.specs.Booleans.{and_split, by}
-use Rattle.model.specs.Outcome.{Cells, class}
-use Rattle.model.specs.Module.{Module}
-use Rattle.model.specs.Table.{WORD, SPAN, UPTO, CALLEE, EXPR, OPT_EXPR, FROM, TO, OPT_RESULT, KEY, OPERANDS, BLOCK, CASES, LENGTH, STMT_KIND, expressions}
-use Rattle.model.specs.Tree.{Stmt, stmt, Form, emit, block, branch, switch, loop, break, continue, return, kill, call, effect, Block, end, ◌then◌, Case, case, Cases, nomore, ◌also◌, Range, opt_of, word_of, kind_of, size_b, size_c, flat_x, flat_s, flat_f, flat_b, flat_k, flat_c}
+use Rattle.theory_lists.specs.Booleans.{and_split}
+use Rattle.model.specs.Outcome.{Cells}
+use Rattle.model.specs.Table.{SPAN, UPTO, CALLEE, EXPR, OPT_EXPR, FROM, TO, OPT_RESULT, KEY, OPERANDS, BLOCK, CASES, LENGTH, STMT_KIND, expressions}
+use Rattle.model.specs.Tree.{Stmt, stmt, Form, emit, block, branch, switch, loop, break, continue, return, kill, call, effect, Block, end, ◌then◌, Case, case, Cases, nomore, ◌also◌, Range, opt_of, word_of, flat_x, flat_s, flat_f, flat_b, flat_k, flat_c}
 use Rattle.model.specs.Carry.{carry_cells, carry_opt, carry_f}
-use Rattle.model.specs.Tables.{Tab, tables}
-use Rattle.model.specs.References.{Place, table, own, function, Target, copied, ref, opt, targets, target, Node, node, refs, fold_refs, carry_w, through}
+use Rattle.model.specs.Tables.{tables}
+use Rattle.model.specs.References.{Place, table, own, function, opt, targets, target, Node, refs, fold_refs, carry_w, through}
 use Rattle.model.specs.Operands.{ops_of, result_of, kind, standing_kind, kind_at, ops, standing}
 use Rattle.model.specs.Initial.{Mem, here, there}
-use Rattle.model.specs.Scope.{XStmt, XForm, XBlock, XCase, XCases, up_from, in_range, live, expand_s, expand_f, expand, expand_k, expand_c, evals_opt, evals_s, evals_f, evals_b, evals_k, evals_c, add_e, add_opt, add_f, add_s, top_b, holds_s, cont_b, vis, all_vis, opt_vis, ok_e, ok_s, ok_f, ok_b, ok_k, ok_c}
-use Rattle.model.specs.Imports.{Derived, unless_mapped, import_t}
-use Rattle.model.specs.Bodies.{known, Builder, bring, mapped_to, carried, step, each_e, opt_e, compares_of, append_expr, import_e, import_body, import_standing, import_stmt, import_form, import_block, import_case, import_cases, carried_form, rebuild_stmt, rebuild_form, rebuild_block, rebuild_case, rebuild_cases}
+use Rattle.model.specs.Scope.{XStmt, XForm, XBlock, up_from, in_range, live, expand_s, expand_f, expand, expand_k, expand_c, evals_opt, evals_s, evals_f, evals_b, evals_k, evals_c, add_e, add_opt, add_f, add_s, top_b, holds_s, cont_b, vis, all_vis, opt_vis, ok_e, ok_s, ok_f, ok_b, ok_k, ok_c}
+use Rattle.model.specs.Imports.{import_t}
+use Rattle.model.specs.Bodies.{Builder, bring, mapped_to, step, each_e, opt_e, compares_of, import_stmt, import_form, import_block, import_case, import_cases, carried_form, rebuild_stmt, rebuild_form, rebuild_block, rebuild_case, rebuild_cases}
 use Rattle.theory_walks.specs.Agreement.{Maps, carry_opt as carryOptA, carry_cells as carryCellsA, carry_s as carrySA, carry_f as carryFA, carry_b as carryBA, carry_k as carryKA, carry_c as carryCA, mentions_e, mentions_s, mentions_f, mentions_b, mentions_k, mentions_c}
-use Rattle.theory_records.specs.RecordLaws.{All as AllN, all_map as alln-map, all_both as alln-both, Has as HasN}
-use Rattle.theory_bodies.specs.Lists.{All, Distinct, all_map, all_both, all_any, all_append, all_l, all-r, all_mem, mem_all, distinct_l, distinct-r, cross, split}
-use Rattle.theory_bodies.specs.Context.{look, Inside, InN, outer, Law, Ctx, OwnP, Own, own_map, owns-map, own_of, owns, owns-all, all-owns, once_is}
-use Rattle.theory_bodies.specs.Inv.{Has, Un, place, Ext, ext_refl, ext_trans, ext_has, ext_went, ext_same, ext_place, ext_all, carry_ext, ext_bring, Inv, inv-bring, Put, push_put}
+use Rattle.theory_records.specs.RecordLaws.{All as AllN, all_map as alln-map, Has as HasN}
+use Rattle.theory_bodies.specs.Lists.{All, Distinct, all_map, all_both, all_append, all_l, all-r, distinct_l, distinct-r, cross, split}
+use Rattle.theory_bodies.specs.Context.{Inside, InN, outer, Ctx, OwnP, own_of, owns, all-owns}
+use Rattle.theory_bodies.specs.Inv.{Has, Un, place, Ext, ext_refl, ext_trans, ext_has, ext_went, ext_same, ext_place, ext_all, carry_ext, ext_bring, Inv, inv-bring}
 use Rattle.theory_bodies.specs.Gen.{bring-has}
 use Rattle.theory_bodies.specs.Carried.{Nameless, Free, Match, both_ok, cells_carry}
 use Rattle.theory_bodies.specs.Classes.{Effects}
-use Rattle.theory_bodies.specs.Steps.{vis_is, all-vis, Lives, lives, Exprs, own_ops, ops_own, plain_c, quiet_c, step_c, Pushed, plain_ready, plain-idle, Soft, Shared, shared_new, Pass1, pass1, Pass2, pass2}
+use Rattle.theory_bodies.specs.Steps.{vis_is, lives, Exprs, plain_c, quiet_c, step_c, Pushed, plain_ready, plain-idle, Shared, shared_new, pass1, pass2}
 
 module _ (P : ℕ → Type 0) where
   -- ---- scopes hold what was in them and what is evaluated
@@ -159,6 +158,7 @@ vis_sub std ρ xs [] v m = refl
 vis_sub std ρ xs (y ∷ ys) v m = rw (at xs v (m y here)) (vis_sub std ρ xs ys v (λ z k. m z (there k)))
   where
     at : (xs : List ℕ) → all_vis std ρ xs ≡ true → Mem y xs → vis std ρ y ≡ true
+    at [] v k = elim k [ ]
     at (x ∷ xs) v here = (and_split (vis std ρ y) _ v).0
     at (x ∷ xs) v (there k) = at xs (and_split (vis std ρ x) _ v).1 k
 

@@ -1,22 +1,22 @@
 -- Cells through the linker's maps are cells carried, as agreement has it; a derived record that equals the carried source record, ignoring spans, is alike.
 use Prim.Native.Nat.{ℕ, zero, suc, ◌+◌, ◌-◌, ◌<◌, ◌≤◌, pred}
-use Rattle.std.specs.Prelude.{◌≡◌, ◌⊎◌, Bool, ◌||◌, not, ltb, get_or}
+use Rattle.std.specs.Prelude.{◌≡◌, ◌⊎◌, Bool, ◌||◌, ltb, get_or}
 use Rattle.std.proofs.Math.Path.{refl, sym}
-use Rattle.std.proofs.Common.{ap, ◌∙◌, subst, inl, inr}
+use Rattle.std.proofs.Common.{subst, inl, inr}
 use Rattle.std.proofs.Math.Bool.{true, false}
 use Rattle.std.proofs.lemmas.Bool.{false≢true}
-use mathlib.Core.List.{List, [], ◌∷◌, ◌++◌, map}
+use mathlib.Core.List.{List, [], ◌∷◌}
 use native.Mathlib.Omega.{arith}
 use Rattle.std.proofs.Math.Dec.{eqb}
 use Rattle.std.proofs.Math.Decide.{dec_lt}
 use Rattle.std.proofs.Math.ListN.{length, get_or-eq_default}
-use borrow.Author.Tests.{eqb-true, eqb-false, ne_eqb, ltb-true, ltb-false, lt-ltb}
-use Rattle.model.specs.Outcome.{Cell, Cells, class, word}
+use borrow.Author.Tests.{eqb-true, ne_eqb, ltb-true, ltb-false}
+use Rattle.model.specs.Outcome.{Cells, class, word}
 use Rattle.model.specs.Module.{Module}
 use Rattle.model.specs.Table.{WORD, KEY, SPAN, UPTO, NAME, TYPE, OPT_TYPE, CONSTANT, OVERRIDE, GLOBAL, INIT, OPT_INIT, FUNCTION, CALLEE, EXPR, OPT_EXPR, RESULT, OPT_RESULT, NAMED-EXPR, LOCAL-INIT}
 use Rattle.model.specs.Carry.{carry_cell, carry_cells}
-use Rattle.model.specs.Tables.{Tab, names, types, constants, overrides, globals, exprs}
-use Rattle.model.specs.References.{Place, table, own, function, Target, copied, start, upto, ref, opt, targets, target, Node, node, ref_of, refs, carry_w, through, alike_c, alike}
+use Rattle.model.specs.Tables.{types, constants, overrides, globals, exprs}
+use Rattle.model.specs.References.{Place, table, own, function, Target, copied, ref, opt, targets, target, Node, ref_of, refs, carry_w, through, alike_c, alike}
 use Rattle.theory_walks.specs.Agreement.{Maps, opt_word, carriers, through as throughM, carried as carriedM, carry_cells as carryCellsM, plain, Alike, start as span-start, upto as span-upto, field, AlikeR, over, next}
 use Rattle.theory_records.specs.RecordLaws.{All as AllN, Went, Has as HasN, rest_of}
 use Rattle.theory_bodies.specs.Context.{Inside, InN}

@@ -1,18 +1,18 @@
 -- Which classes are in the records of a function, from their layout: so the expressions among the references of an expression are its operands, those of an effect its operands and its result, those of the declarations the initialisers; and a standing expression or a result has no operands.
-use Rattle.std.specs.Prelude.{◌≡◌, Bool, ◌&&◌, ◌||◌, ◌⊎◌, ℕ, zero, suc, ◌+◌, ◌≤◌, ◌<◌, eqb, leb, length, get_or}
+use Rattle.std.specs.Prelude.{◌≡◌, Bool, ◌&&◌, ◌||◌, ◌⊎◌, ℕ, zero, suc, ◌+◌, ◌≤◌, eqb}
 use Rattle.std.proofs.Math.Path.{refl}
 use Rattle.std.proofs.Common.{sym, ap, ◌∙◌, subst, inl, inr, arith, eqb-true}
 use Rattle.std.proofs.Math.Bool.{true, false}
 use Rattle.std.proofs.lemmas.Bool.{false≢true}
 use mathlib.Core.List.{List, [], ◌∷◌, ◌++◌, append-nil}
-use Rattle.std.proofs.Math.Option.{Option, none, some}
+use Rattle.std.proofs.Math.Option.{some}
 use Rattle.std.proofs.Math.ListN.{get_elem?}
 use Rattle.theory_lists.specs.Booleans.{and-true, and_split}
-use Rattle.model.specs.Outcome.{Cell, Cells, class, word}
-use Rattle.model.specs.Table.{Row, WORD, SPAN, UPTO, NAME, TYPE, CONSTANT, OVERRIDE, GLOBAL, FUNCTION, CALLEE, EXPR, OPT_EXPR, ARGUMENT, LOCAL, FROM, TO, RESULT, OPT_RESULT, LOCAL-INIT, OPERANDS, ARGUMENTS, LOCALS, EXPR_KIND, LEVEL, QUERY, ATOMIC, RETURNS, VALUE, KEY, values, Shape, s_emit, s_block, s_if, s_switch, s_loop, s_break, s_continue, s_return, s_kill, s_call, s_effect, expressions, levels, queries, atomics, results, statements, expression_row, function_head, counted, variants, repeat, variant, brings, over, more}
+use Rattle.model.specs.Outcome.{Cells, class, word}
+use Rattle.model.specs.Table.{Row, WORD, SPAN, UPTO, NAME, TYPE, CONSTANT, OVERRIDE, GLOBAL, FUNCTION, CALLEE, EXPR, OPT_EXPR, ARGUMENT, LOCAL, FROM, TO, RESULT, OPT_RESULT, LOCAL-INIT, OPERANDS, ARGUMENTS, LOCALS, EXPR_KIND, LEVEL, QUERY, ATOMIC, RETURNS, VALUE, KEY, values, Shape, s_emit, s_block, s_if, s_switch, s_loop, s_break, s_continue, s_return, s_kill, s_call, s_effect, expressions, levels, queries, atomics, results, statements, expression_row, function_head, counted, variants, repeat, brings, more}
 use Rattle.model.specs.Tree.{opt_of, flat_all}
 use Rattle.model.specs.Carry.{Lays, lays_none, lays_next, Each, each_none, each_next}
-use Rattle.model.specs.References.{Place, table, own, function, Target, copied, start, upto, ref, opt, targets, target, Node, node, ref_of, refs}
+use Rattle.model.specs.References.{targets, target, Node, ref_of, refs}
 use Rattle.model.specs.Operands.{optional, operand, ops_of, result_of, function_of, kind, standing_kind, result_kind}
 use Rattle.model.specs.Initial.{Mem, here, there, roots, inits_of}
 use Rattle.model.specs.Scope.{evals_opt, is_of}
@@ -65,7 +65,7 @@ queries_in w xs e = row_at expr_classes queries w refl (variant_brings (get_elem
 exprs_closed : All (Brings expr_classes) expr_classes
 unfolding expr_classes
 exprs_closed =
-    (exprs_in, (plain_in _ SPAN refl, (plain_in _ UPTO refl, (plain_in _ WORD refl, (plain_in _ CONSTANT refl, (plain_in _ OVERRIDE refl, (plain_in _ TYPE refl, (plain_in _ GLOBAL refl, (plain_in _ ARGUMENT refl, (plain_in _ LOCAL refl, (plain_in _ FUNCTION refl, (plain_in _ EXPR refl, (plain_in _ OPT_EXPR refl, (operands_in _ refl, (levels_in, (queries_in, (plain_in _ 2 refl, (plain_in _ 3 refl, (plain_in _ 4 refl, (plain_in _ 5 refl, (plain_in _ 6 refl, (plain_in _ 10 refl, (plain_in _ 18 refl, (plain_in _ 79 refl, tt))))))))))))))))))))))))
+    (exprs_in, (plain_in expr_classes SPAN refl, (plain_in expr_classes UPTO refl, (plain_in expr_classes WORD refl, (plain_in expr_classes CONSTANT refl, (plain_in expr_classes OVERRIDE refl, (plain_in expr_classes TYPE refl, (plain_in expr_classes GLOBAL refl, (plain_in expr_classes ARGUMENT refl, (plain_in expr_classes LOCAL refl, (plain_in expr_classes FUNCTION refl, (plain_in expr_classes EXPR refl, (plain_in expr_classes OPT_EXPR refl, (operands_in expr_classes refl, (levels_in, (queries_in, (plain_in expr_classes 2 refl, (plain_in expr_classes 3 refl, (plain_in expr_classes 4 refl, (plain_in expr_classes 5 refl, (plain_in expr_classes 6 refl, (plain_in expr_classes 10 refl, (plain_in expr_classes 18 refl, (plain_in expr_classes 79 refl, tt))))))))))))))))))))))))
 
 expr_classes_lem : {r : Cells} → Lays expression_row r → InC expr_classes r
 unfolding expression_row expr_classes
@@ -119,7 +119,7 @@ bare_classes = SPAN ∷ UPTO ∷ WORD ∷ CONSTANT ∷ OVERRIDE ∷ TYPE ∷ GLO
 bare_closed : All (Brings bare_classes) bare_classes
 unfolding bare_classes
 bare_closed =
-    (plain_in _ SPAN refl, (plain_in _ UPTO refl, (plain_in _ WORD refl, (plain_in _ CONSTANT refl, (plain_in _ OVERRIDE refl, (plain_in _ TYPE refl, (plain_in _ GLOBAL refl, (plain_in _ ARGUMENT refl, (plain_in _ LOCAL refl, (plain_in _ FUNCTION refl, (plain_in _ 2 refl, (plain_in _ 10 refl, tt))))))))))))
+    (plain_in bare_classes SPAN refl, (plain_in bare_classes UPTO refl, (plain_in bare_classes WORD refl, (plain_in bare_classes CONSTANT refl, (plain_in bare_classes OVERRIDE refl, (plain_in bare_classes TYPE refl, (plain_in bare_classes GLOBAL refl, (plain_in bare_classes ARGUMENT refl, (plain_in bare_classes LOCAL refl, (plain_in bare_classes FUNCTION refl, (plain_in bare_classes 2 refl, (plain_in bare_classes 10 refl, tt))))))))))))
 
 abbrev bare_rows : List Row → ℕ → Bool
 bare_rows [] i = true
@@ -184,7 +184,7 @@ atomics_in w xs e = row_at effect_classes atomics w refl (variant_brings (get_el
 
 effects_closed : All (Brings effect_classes) effect_classes
 unfolding effect_classes
-effects_closed = (plain_in _ WORD refl, (plain_in _ EXPR refl, (plain_in _ OPT_EXPR refl, (atomics_in, tt))))
+effects_closed = (plain_in effect_classes WORD refl, (plain_in effect_classes EXPR refl, (plain_in effect_classes OPT_EXPR refl, (atomics_in, tt))))
 
 abbrev Nothing : ℕ → Type 0
 Nothing s = (w : ℕ) (xs : Row) → more s w ≡ brings xs → xs ≡ []
@@ -332,7 +332,7 @@ results_in w xs e = row_at decl_classes results w refl (variant_brings (get_elem
 
 decls_closed : All (Brings decl_classes) decl_classes
 unfolding decl_classes
-decls_closed = (plain_in _ NAME refl, (plain_in _ SPAN refl, (plain_in _ UPTO refl, (plain_in _ TYPE refl, (plain_in _ WORD refl, (results_in, tt))))))
+decls_closed = (plain_in decl_classes NAME refl, (plain_in decl_classes SPAN refl, (plain_in decl_classes UPTO refl, (plain_in decl_classes TYPE refl, (plain_in decl_classes WORD refl, (results_in, tt))))))
 
 abbrev OwnNone : ℕ → Type 0
 OwnNone s = (w : ℕ) (js : List Node) → owns (ref_of (target s) w js) ≡ owns js
@@ -357,7 +357,7 @@ local_classes = NAME ∷ SPAN ∷ UPTO ∷ TYPE ∷ LOCAL-INIT ∷ []
 
 locals_closed : All (Brings local_classes) local_classes
 unfolding local_classes
-locals_closed = (plain_in _ NAME refl, (plain_in _ SPAN refl, (plain_in _ UPTO refl, (plain_in _ TYPE refl, (plain_in _ LOCAL-INIT refl, tt)))))
+locals_closed = (plain_in local_classes NAME refl, (plain_in local_classes SPAN refl, (plain_in local_classes UPTO refl, (plain_in local_classes TYPE refl, (plain_in local_classes LOCAL-INIT refl, tt)))))
 
 abbrev OwnInit : ℕ → Type 0
 OwnInit s = (w : ℕ) (js : List Node) → owns (ref_of (target s) w js) ≡ elim (eqb s LOCAL-INIT) [ true ↦ optional w (owns js) | false ↦ owns js ]
@@ -411,7 +411,7 @@ values_in w xs e = row_at value_classes values w refl (variant_brings (get_elem?
 
 values_closed : All (Brings value_classes) value_classes
 unfolding value_classes
-values_closed = (values_in, (plain_in _ WORD refl, tt))
+values_closed = (values_in, (plain_in value_classes WORD refl, tt))
 
 free_of : (r : Cells) → InC value_classes r → Free r
 unfolding value_classes
@@ -489,7 +489,7 @@ queries-field w xs e = row_at field_classes queries w refl (variant_brings (get_
 fields_closed : All (Brings field_classes) field_classes
 unfolding field_classes
 fields_closed =
-    (plain_in _ SPAN refl, (plain_in _ UPTO refl, (plain_in _ WORD refl, (plain_in _ CONSTANT refl, (plain_in _ OVERRIDE refl, (plain_in _ TYPE refl, (plain_in _ GLOBAL refl, (plain_in _ ARGUMENT refl, (plain_in _ LOCAL refl, (plain_in _ EXPR refl, (plain_in _ OPT_EXPR refl, (operands_in _ refl, (levels-field, (queries-field, (plain_in _ 2 refl, (plain_in _ 3 refl, (plain_in _ 4 refl, (plain_in _ 5 refl, (plain_in _ 6 refl, (plain_in _ 10 refl, (plain_in _ 18 refl, (plain_in _ 79 refl, tt))))))))))))))))))))))
+    (plain_in field_classes SPAN refl, (plain_in field_classes UPTO refl, (plain_in field_classes WORD refl, (plain_in field_classes CONSTANT refl, (plain_in field_classes OVERRIDE refl, (plain_in field_classes TYPE refl, (plain_in field_classes GLOBAL refl, (plain_in field_classes ARGUMENT refl, (plain_in field_classes LOCAL refl, (plain_in field_classes EXPR refl, (plain_in field_classes OPT_EXPR refl, (operands_in field_classes refl, (levels-field, (queries-field, (plain_in field_classes 2 refl, (plain_in field_classes 3 refl, (plain_in field_classes 4 refl, (plain_in field_classes 5 refl, (plain_in field_classes 6 refl, (plain_in field_classes 10 refl, (plain_in field_classes 18 refl, (plain_in field_classes 79 refl, tt))))))))))))))))))))))
 
 -- all rows but the one at n
 abbrev but_in : List ℕ → List Row → ℕ → Bool
@@ -532,6 +532,10 @@ not_call Q l d = go (expression_shape l) d
         let n = fields_not cs (lays_in field_classes fields_closed l (field_row k (λ q. d (unfold kind in q)) e)) in
         no_funs_lem Q (each_next refl n.0) (each_next refl n.1)
 
+call_row : {row : Row} → get_elem? expressions 23 ≡ some row → row ≡ SPAN ∷ UPTO ∷ FUNCTION ∷ []
+unfolding expressions
+call_row e = cc
+
 pub call_result_lem : (Q : ℕ → Type 0) {r : Cells} → Lays expression_row r → kind r ≡ 23 → (f : ℕ) → is_of (function_of r) f ≡ true → Q f → FunsOk Q (refs r)
 unfolding expression_row
 call_result_lem Q l d f t q = go (expression_shape l) d t
@@ -540,7 +544,4 @@ call_result_lem Q l d f t q = go (expression_shape l) d t
     laid (plain-next (plain-next (plain-next {w} plain-none))) k t = unfold refs ref_of target targets in (fun_call (subst Q (sym (eqb-true w f (unfold is_of function_of in t))) q), tt)
 
     go : {r : Cells} → Expression r → kind r ≡ 23 → is_of (function_of r) f ≡ true → FunsOk Q (refs r)
-    go (expression {k} {row} {cs} h e l p) d t = (let z : k ≡ 23 = (unfold kind in d) in laid (plainly (rw (row_is (rw z at e)) at l) (unfold plain? in refl)) k t)
-      where
-        row_is : get_elem? expressions 23 ≡ some row → row ≡ SPAN ∷ UPTO ∷ FUNCTION ∷ []
-        row_is e = unfold expressions in (cc)
+    go (expression {k} {row} {cs} h e l p) d t = (let z : k ≡ 23 = (unfold kind in d) in laid (plainly (rw (call_row (rw z at e)) at l) (unfold plain? in refl)) k t)

@@ -1,12 +1,12 @@
 -- What the import of a body is given, and what it requires of the imports outside the function: after one its number is mapped, what was mapped stays mapped, the derived tables only grow, and one of what is mapped does nothing.
-use Rattle.std.specs.Prelude.{ℕ, zero, suc, ◌<◌, ◌≤◌, pred, ◌≡◌, refl, List, [], ◌∷◌, ◌++◌, map, length, get_or}
-use Rattle.std.proofs.Common.{sym, ◌∙◌, arith, le_refl, le_trans, lt_of_lt_of_le}
+use Rattle.std.specs.Prelude.{ℕ, zero, suc, ◌<◌, ◌≤◌, ◌≡◌, refl, List, [], ◌∷◌, length}
+use Rattle.std.proofs.Common.{arith, le_refl, le_trans}
 use Rattle.model.specs.Outcome.{Cells}
 use Rattle.model.specs.Module.{Module}
-use Rattle.model.specs.Tables.{Tab, tables, count, map_at}
-use Rattle.model.specs.References.{Place, table, own, function, Node, node, refs, fold_refs}
+use Rattle.model.specs.Tables.{tables, count, map_at}
+use Rattle.model.specs.References.{Place, table, own, function, Node}
 use Rattle.model.specs.Imports.{Derived, unless_mapped, import_t}
-use Rattle.model.specs.Bodies.{known, Builder, bring, mapped_to, step}
+use Rattle.model.specs.Bodies.{known, Builder, mapped_to}
 use Rattle.theory_records.specs.RecordLaws.{All as AllN, all_map as alln-map}
 use Rattle.theory_records.specs.Theorems.{Grows, grows_trans}
 use Rattle.theory_bodies.specs.Lists.{All}

@@ -1,8 +1,7 @@
 -- The assumptions are not vacuous: a function with an Emit passes the tests, in a module without functions, from the start of a session.
-use Rattle.std.specs.Prelude.{◌≡◌, refl, true, List, [], ◌∷◌, ℕ}
+use Rattle.std.specs.Prelude.{◌≡◌, refl, true, [], ◌∷◌}
 use Rattle.std.proofs.Common.{arith}
-use Rattle.model.specs.Outcome.{Cells}
-use Rattle.model.specs.Table.{OPT_TYPE, NAME, SPAN, UPTO, RETURNS, ARGUMENTS, LOCALS, EXPRESSIONS, NAMED, expressions, results, function_head, counted, limit, variants, variant, brings, more}
+use Rattle.model.specs.Table.{OPT_TYPE, NAME, SPAN, UPTO, RETURNS, expressions, results, function_head, counted, limit, variants, variant, more}
 use Rattle.model.specs.Tree.{Function, end, ◌then◌, opt_of, word_of, kind_of, size_b, flat_all, flat_list, flat_x, flat_s, flat_block, flat}
 use Rattle.model.specs.Operands.{optional, operand, ops_of, result_of, function_of, kind, standing_kind, result_kind, emitted_kind, constant_kind, ops, kind_at, standing}
 use Rattle.model.specs.Initial.{inits_of, roots, marked, mark, unmarked, read_by, close, reached_marks, moving, initials, constant_at, initialised}
@@ -10,12 +9,12 @@ use Rattle.model.specs.Scope.{up_from, in_range, live, expand_s, shape_s, emitte
 use Rattle.model.specs.Numbers.{caps, bound, below as under, within, rising, ordered, every, outside, inside, sound, numbered}
 use Rattle.model.specs.Lower.{below, types_lower, operands_lower, functions_lower, entries_lower, inits_lower, lower}
 use Rattle.model.specs.Module.{Module}
-use Rattle.model.specs.Carry.{Each, each_none, each_next, Lays, lays_none, lays_next, ok_stmt, ok_emit, ok_deeper, ok_end, ok_then, WellFunction, WellFormed}
+use Rattle.model.specs.Carry.{each_none, each_next, lays_none, lays_next, ok_stmt, ok_emit, ok_deeper, ok_end, ok_then, WellFunction, WellFormed}
 use Rattle.model.specs.SampleBodies.{literal, negate, evals}
-use Rattle.model.specs.Imports.{Derived, unmapped, emptied, fresh}
+use Rattle.model.specs.Imports.{unmapped, emptied, fresh}
 use Rattle.model.specs.Tables.{tables}
 use Rattle.model.specs.Bodies.{localized}
-use Rattle.theory_records.specs.Imported.{Kept, emptied-kept, fresh_kept}
+use Rattle.theory_records.specs.Imported.{emptied-kept, fresh_kept}
 use Rattle.theory_bodies.specs.Passing.{Passes}
 use Rattle.model.specs.Callees.{callees_s, callees}
 use Rattle.theory_bodies.specs.Lists.{All}

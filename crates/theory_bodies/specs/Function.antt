@@ -2,11 +2,10 @@
 use Prim.Native.Nat.{ℕ, zero, suc, ◌+◌, ◌<◌, ◌≤◌, pred}
 use Rattle.std.specs.Prelude.{◌≡◌, ◌≢◌, ◌⊎◌, true, eqb, get_or, replicate}
 use Rattle.std.proofs.Math.Path.{refl, ap, subst}
-use Rattle.std.proofs.Common.{sym, ◌∙◌, arith, le_refl, le_trans, lt_of_lt_of_le, eqb-true, lt-ltb}
+use Rattle.std.proofs.Common.{sym, ◌∙◌, arith, le_refl, eqb-true, lt-ltb}
 use Rattle.std.proofs.Math.Logic.{inl, inr, ⊎_elim}
 use Rattle.std.proofs.Math.Bool.{Bool, false, false≢true}
 use mathlib.Core.List.{List, [], ◌∷◌, ◌++◌, map}
-use Rattle.std.proofs.Math.Option.{Option, none, some}
 use Rattle.std.proofs.Math.Decide.{ℕ_discrete, dec_lt}
 use Rattle.std.proofs.Math.ListN.{length, get_or-eq_default}
 use Rattle.std.proofs.lemmas.List.{length-replicate}
@@ -18,24 +17,24 @@ use Rattle.model.specs.Table.{NAME, LOCAL-INIT}
 use Rattle.model.specs.Tree.{Function, flat_all, flat_b}
 use Rattle.model.specs.Carry.{carry_cell, carry_cells}
 use Rattle.model.specs.Names.{field}
-use Rattle.model.specs.Tables.{Tab, names, types, constants, overrides, globals, exprs, tables}
-use Rattle.model.specs.References.{Place, table, own, function, Target, copied, start, upto, ref, opt, targets, target, Node, node, ref_of, refs, fold_refs, carry_w, through, first_word, undefined_at, moved, shift, index_of}
+use Rattle.model.specs.Tables.{names, types, constants, overrides, globals, exprs}
+use Rattle.model.specs.References.{Place, table, own, function, Target, copied, start, upto, ref, opt, targets, target, Node, ref_of, refs, carry_w, through, first_word, undefined_at, moved, shift}
 use Rattle.model.specs.Operands.{optional, ops_of, constant_kind, ops, kind_at, standing}
-use Rattle.model.specs.Initial.{Mem, here, there, Reach, root, step as reach_step, Reached, roots, inits_of, marked, initials, initial, initialised}
+use Rattle.model.specs.Initial.{Mem, here, there, root, step as reach_step, Reached, roots, inits_of, marked, initials, initial, initialised}
 use Rattle.theory_image.specs.Reached.{initial_is, initial-all, initialised_is, initialised-all}
-use Rattle.model.specs.Scope.{expand, evals_b, ok_b, seen, all_of, scoped_as, scoped}
-use Rattle.model.specs.Imports.{Derived, unless_mapped, import_t}
-use Rattle.model.specs.Bodies.{Builder, bring, mapped_to, carried, step, intern_expr, import_e, import_body, import_initialiser, import_standing, import_block, rebuild_block, put_name, name_if, keep_names, name_cells, named_rows, declarations, declared, walked, rebuilt, kept_names, named_after, derived, final, localized}
-use Rattle.theory_walks.specs.Agreement.{Maps, carry_b, mentioned, MayShare, AlikeR, Agrees, carry_cells as carryCellsA}
+use Rattle.model.specs.Scope.{expand, evals_b, ok_b, seen, all_of, scoped}
+use Rattle.model.specs.Imports.{Derived}
+use Rattle.model.specs.Bodies.{Builder, mapped_to, carried, intern_expr, import_body, import_initialiser, put_name, name_if, keep_names, name_cells, declarations, declared, walked, rebuilt, kept_names, named_after, derived, final, localized}
+use Rattle.theory_walks.specs.Agreement.{Maps, carry_b, mentioned, MayShare, AlikeR, Agrees}
 use Rattle.theory_walks.specs.AgreementProof.{alike-ops, alike-kind}
 use Rattle.theory_walks.specs.Theorems.{carries_scope}
 use Rattle.theory_records.specs.RecordLaws.{All as AllN, all_map as alln-map, all_both as alln-both, Has as HasN, image, bare, alike_self, rest_of, refs-alike, refs-carry}
 use Rattle.theory_bodies.specs.Lists.{All, Distinct, all_map, all_both, all_any, all_mem, mem_all, mem_map, all_of_map, split}
-use Rattle.theory_bodies.specs.Context.{Inside, InN, Grown, grown_trans, outer, Law, Ctx, OwnP, Own, own_of, owns, owns-all, all-owns}
-use Rattle.theory_bodies.specs.Inv.{Has, Un, place, Ext, ext_refl, ext_trans, ext_has, ext_went, ext_place, ext_all, Low, LowN, Entry, Inv, Put, join-put}
+use Rattle.theory_bodies.specs.Context.{InN, Grown, grown_trans, Law, Ctx, OwnP, Own, owns, owns-all}
+use Rattle.theory_bodies.specs.Inv.{Has, Un, place, Ext, ext_trans, ext_has, ext_place, Low, LowN, Inv, join-put}
 use Rattle.theory_bodies.specs.Gen.{Wants, Ends, Res, Many, many, import_res}
 use Rattle.theory_bodies.specs.Carried.{Nameless, Match, both_ok, cells_carry, alike_of}
-use Rattle.theory_bodies.specs.Steps.{Exprs, own_ops, ops_own, plain_c, quiet_c, step_c, import_c, abroad, import_idle, each_idle, Brought, brought, Soft, Shared}
+use Rattle.theory_bodies.specs.Steps.{Exprs, own_ops, ops_own, plain_c, import_idle, each_idle, Brought, brought, Soft}
 use Rattle.theory_bodies.specs.Body.{FitB, Room, no_room, Pre, Does, does_b, has-owns}
 
 -- the maps of a state, as agreement has them

@@ -1,19 +1,15 @@
 -- The import of an expression, whichever way it ends: by induction on the number. Used for the declarations (merging) and for the first pass of an Emit (only standing expressions).
-use Prim.Native.Nat.{ℕ, zero, suc, ◌+◌, ◌<◌, ◌≤◌, pred}
+use Prim.Native.Nat.{ℕ, zero, suc, ◌<◌, ◌≤◌}
 use Rattle.std.proofs.Math.Path.{◌≡◌}
-use Rattle.std.specs.Prelude.{refl, ◌≢◌, ◌⊎◌, Bool, true, false, length, get_or}
-use Rattle.std.proofs.Common.{ap, sym, ◌∙◌, inl, inr, ⊎_elim, arith}
-use mathlib.Core.List.{List, [], ◌∷◌, ◌++◌, map}
+use Rattle.std.specs.Prelude.{refl, ◌≢◌, Bool, true, length, get_or}
+use Rattle.std.proofs.Common.{arith}
+use mathlib.Core.List.{List, [], ◌∷◌}
 use Rattle.std.proofs.Math.Decide.{ℕ_discrete}
-use Rattle.model.specs.Outcome.{Cells}
-use Rattle.model.specs.Module.{Module}
-use Rattle.model.specs.Tables.{Tab, tables}
-use Rattle.model.specs.References.{Place, table, own, function, Node, node, refs, fold_refs}
-use Rattle.model.specs.Imports.{Derived, unless_mapped, import_t}
-use Rattle.model.specs.Bodies.{known, Builder, bring, mapped_to, step, import_e}
-use Rattle.theory_records.specs.RecordLaws.{All as AllN, all_map as alln-map, all_both as alln-both, Has as HasN}
-use Rattle.theory_bodies.specs.Context.{look, Inside, InN, outer, Law, Ctx, OwnP, Own, own_map, owns-map, once_is}
-use Rattle.theory_bodies.specs.Inv.{Has, Un, Ext, ext_refl, ext_trans, ext_has, ext_went, ext_all, ext_bring, Inv, inv-bring}
+use Rattle.model.specs.References.{Place, table, own, function, Node, refs, fold_refs}
+use Rattle.model.specs.Bodies.{Builder, bring, mapped_to, step, import_e}
+use Rattle.theory_records.specs.RecordLaws.{All as AllN, all_map as alln-map, Has as HasN}
+use Rattle.theory_bodies.specs.Context.{look, Inside, InN, outer, Ctx, OwnP, Own, once_is}
+use Rattle.theory_bodies.specs.Inv.{Has, Un, Ext, ext_refl, ext_trans, ext_went, ext_bring, Inv, inv-bring}
 
 -- a reference outside is mapped after it was imported
 pub bring-has : (c : Ctx) (p : Place) (n : ℕ) (st : Builder) → Inside c.M c.calls p n → Inv c st → (own ≡ p → ⊥) → 0 < mapped_to c.M (bring (outer c.o c.M c.follow p n) st) p n

@@ -1,5 +1,5 @@
 -- What every import of an expression keeps: mapped stays mapped, the derived lists only grow, and the record at the place of a mapped expression is the source's carried, ignoring spans, its references in range and its operands lower.
-use Rattle.std.specs.Prelude.{ℕ, zero, suc, ◌+◌, ◌<◌, ◌≤◌, pred, ◌≡◌, ◌≢◌, ◌⊎◌, Bool, true, false, get_or}
+use Rattle.std.specs.Prelude.{ℕ, suc, ◌<◌, ◌≤◌, pred, ◌≡◌, ◌≢◌, ◌⊎◌, false, get_or}
 use Rattle.std.proofs.Math.Path.{refl}
 use Rattle.std.proofs.Common.{ap, sym, ◌∙◌, arith, le_trans, lt_of_lt_of_le, get_or-set_same}
 use Rattle.std.proofs.Math.Logic.{inl, inr, ⊎_elim}
@@ -11,13 +11,11 @@ use Rattle.std.proofs.Math.Seq.{get_or-set_other, get_or-append_seam}
 use Rattle.model.specs.Outcome.{Cells}
 use Rattle.model.specs.Module.{Module}
 use Rattle.model.specs.Carry.{carry_cells}
-use Rattle.model.specs.Tables.{Tab, count}
-use Rattle.model.specs.References.{Place, table, own, function, Node, node, refs, fold_refs, through, shift, index_of, interned}
+use Rattle.model.specs.References.{Place, table, own, function, Node, refs, through, index_of, interned}
 use Rattle.model.specs.Imports.{Derived}
-use Rattle.model.specs.Bodies.{known, Builder, bring, mapped_to, step, carried, append_expr, intern_expr}
-use Rattle.theory_records.specs.RecordLaws.{All as AllN, all_map as alln-map, all_both as alln-both, all-image, Has as HasN, image, bare, bare-shift, refs-shift, refs-carry, carry_same, Kept, old, new, kept, kept_in, kept_at, kept_longer, kept_prefix, kept-last}
-use Rattle.theory_bodies.specs.Lists.{All}
-use Rattle.theory_bodies.specs.Context.{look, size_of, Inside, InN, Grown, grown_refl, grown_trans, grown_size, outer, Law, Ctx, OwnP, Own, went-look}
+use Rattle.model.specs.Bodies.{Builder, bring, mapped_to, carried, append_expr, intern_expr}
+use Rattle.theory_records.specs.RecordLaws.{All as AllN, all_map as alln-map, all-image, Has as HasN, image, bare, bare-shift, refs-shift, refs-carry, carry_same, Kept, kept, kept_in, kept_at, kept_longer, kept_prefix, kept-last}
+use Rattle.theory_bodies.specs.Context.{look, size_of, Inside, Grown, grown_refl, grown_trans, grown_size, outer, Ctx}
 
 abbrev pub Has : List ℕ → ℕ → Type 0
 Has m e = 0 < get_or m e 0

@@ -1,7 +1,7 @@
 -- The imports of tables' records meet what the import of a body requires of what is outside the function, given the same of callees: they are known after they were followed, what is mapped stays mapped, and the derived tables only grow.
-use Rattle.std.specs.Prelude.{ℕ, zero, suc, ◌+◌, ◌<◌, ◌≤◌, pred, ◌≡◌, Bool, true, false, List, [], ◌∷◌, ◌++◌, eqb, length, get_or}
+use Rattle.std.specs.Prelude.{ℕ, suc, ◌+◌, ◌<◌, ◌≤◌, pred, ◌≡◌, Bool, true, false, List, [], ◌∷◌, eqb, length, get_or}
 use Rattle.std.proofs.Math.Path.{refl}
-use Rattle.std.proofs.Common.{ap, sym, ◌∙◌, le_trans, not-suc-le-zero, eqb-true}
+use Rattle.std.proofs.Common.{ap, ◌∙◌, le_trans, not-suc-le-zero, eqb-true}
 use native.Mathlib.Omega.{arith}
 use Rattle.std.proofs.Math.Nat.{le_refl}
 use Rattle.model.specs.Outcome.{Cells}
@@ -11,7 +11,7 @@ use Rattle.model.specs.Carry.{WellFormed}
 use Rattle.model.specs.Numbers.{numbered}
 use Rattle.model.specs.Lower.{lower}
 use Rattle.model.specs.Redirect.{name_word, function as function_at}
-use Rattle.model.specs.Tables.{Tab, names, at, Tables, tables, rec_at, count, map_at}
+use Rattle.model.specs.Tables.{Tab, names, at, tables, rec_at, count}
 use Rattle.model.specs.References.{Place, table, own, function, alike, index_of}
 use Rattle.model.specs.Imports.{Derived, intern, commit, import_t}
 use Rattle.model.specs.Bodies.{last_of, known}

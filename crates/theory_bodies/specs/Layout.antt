@@ -1,28 +1,27 @@
 -- Layout again: the derived function is laid out as its source, its lists are within their limits, and its blocks are as deep.
-use Rattle.std.specs.Prelude.{ℕ, zero, suc, ◌+◌, ◌<◌, ◌≤◌, pred, ◌≡◌, refl, Bool, true, false, ◌||◌, List, [], ◌∷◌, ◌++◌, map, eqb, length, get_or}
-use Rattle.std.proofs.Common.{ap, sym, ◌∙◌, subst, arith, le_refl, eqb-true}
+use Rattle.std.specs.Prelude.{ℕ, suc, ◌<◌, ◌≡◌, refl, Bool, true, false, ◌||◌, List, [], ◌∷◌, ◌++◌, map, eqb, length, get_or}
+use Rattle.std.proofs.Common.{sym, ◌∙◌, subst, arith, eqb-true}
 use Rattle.std.proofs.lemmas.Bool.{false≢true}
-use Rattle.std.proofs.Math.Option.{Option, none, some}
 use Rattle.std.proofs.Math.Nat.{le_trans}
 use Rattle.std.proofs.Math.Decide.{dec_lt}
 use Rattle.std.proofs.lemmas.List.{length-map}
 use Rattle.std.proofs.Math.ListN.{get_or-eq_default}
-use Rattle.model.specs.Outcome.{Cell, Cells, class, word}
-use Rattle.model.specs.Table.{Row, SPAN, UPTO, NAME, NAMED-EXPR, KEY, RETURNS, ARGUMENTS, LOCALS, EXPRESSIONS, NAMED, expression_row, function_head, counted, limit, brings, more}
-use Rattle.model.specs.Tree.{Stmt, stmt, Form, emit, block, branch, switch, loop, break, continue, return, kill, call, effect, Block, end, ◌then◌, Case, case, Cases, nomore, ◌also◌, Range, Function, flat_all, DEPTH}
+use Rattle.model.specs.Outcome.{Cells, class, word}
+use Rattle.model.specs.Table.{Row, SPAN, UPTO, NAME, NAMED-EXPR, EXPRESSIONS, NAMED, expression_row, counted, brings, more}
+use Rattle.model.specs.Tree.{Stmt, Form, Block, Case, Cases, Range, Function}
 use Rattle.model.specs.Module.{Module}
-use Rattle.model.specs.Carry.{carry_cell, carry_cells, carry_f, Each, each_none, each_next, Lays, lays_none, lays_next, Listed, OkS, OkF, OkB, OkBs, OkK, OkC, ok_stmt, ok_emit, ok_block, ok_branch, ok_switch, ok_loop, ok_break, ok_continue, ok_return, ok_kill, ok-call, ok_effect, ok_deeper, ok_end, ok_then, ok_case, ok_nomore, ok_also, WellFunction}
-use Rattle.model.specs.References.{Target, moved, through, alike_c, alike}
+use Rattle.model.specs.Carry.{carry_f, Each, each_none, each_next, Lays, lays_none, lays_next, OkS, OkF, OkB, OkBs, OkK, OkC, ok_stmt, ok_emit, ok_block, ok_branch, ok_switch, ok_loop, ok_break, ok_continue, ok_return, ok_kill, ok-call, ok_effect, ok_deeper, ok_end, ok_then, ok_case, ok_nomore, ok_also, WellFunction}
+use Rattle.model.specs.References.{through, alike_c, alike}
 use Rattle.model.specs.Callees.{callees}
 use Rattle.model.specs.Imports.{Derived}
-use Rattle.model.specs.Bodies.{Builder, mapped_to, carried, import_stmt, import_form, import_block, import_case, import_cases, carried_form, rebuild_stmt, rebuild_form, rebuild_block, rebuild_case, rebuild_cases, named_rows, declared, rebuilt, kept_names, derived, final, localized}
+use Rattle.model.specs.Bodies.{Builder, mapped_to, carried, import_stmt, import_block, import_case, carried_form, rebuild_stmt, rebuild_form, rebuild_block, rebuild_case, rebuild_cases, named_rows, declared, rebuilt, kept_names, derived, final, localized}
 use Rattle.theory_records.specs.Passing.{through_keeps, lays_shift}
 use Rattle.theory_image.specs.Plain.{plain_more}
 use Rattle.theory_image.specs.Carries.{lays_carry}
-use Rattle.theory_records.specs.RecordLaws.{bare, alike_self}
+use Rattle.theory_records.specs.RecordLaws.{alike_self}
 use Rattle.theory_bodies.specs.Lists.{All}
-use Rattle.theory_bodies.specs.Context.{Law, Ctx}
-use Rattle.theory_bodies.specs.Inv.{Has, place, Entry, Inv}
+use Rattle.theory_bodies.specs.Context.{Law}
+use Rattle.theory_bodies.specs.Inv.{Has, place, Inv}
 use Rattle.theory_bodies.specs.Function.{Fine, ctx, holds}
 use Rattle.theory_bodies.specs.Size.{exprs_fewer, named_fewer}
 use Rattle.theory_bodies.specs.Passing.{Passes, fine, row_lays}

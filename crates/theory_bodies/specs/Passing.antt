@@ -1,35 +1,35 @@
 -- What the import of a body requires of a function, from intake's tests: its layout, numbers in range (3), lower operands (4), and scope (6).
-use Prim.Native.Nat.{ℕ, zero, suc, ◌+◌, ◌-◌, ◌<◌, ◌≤◌, pred, suc-le-suc}
-use Rattle.std.specs.Prelude.{◌≡◌, ◌≢◌, ◌⊎◌, Bool, ◌&&◌, ◌||◌, not}
+use Prim.Native.Nat.{ℕ, zero, suc, ◌+◌, ◌-◌, ◌<◌, ◌≤◌}
+use Rattle.std.specs.Prelude.{◌≡◌, Bool, ◌&&◌, ◌||◌, not}
 use Rattle.std.proofs.Math.Path.{refl, sym}
-use Rattle.std.proofs.Common.{ap, ◌∙◌, inl, inr, not-suc-le-zero}
+use Rattle.std.proofs.Common.{◌∙◌, inl, inr, not-suc-le-zero}
 use Rattle.std.proofs.Math.Logic.{⊎_elim}
 use Rattle.std.proofs.Math.Bool.{true, false, false≢true}
-use mathlib.Core.List.{List, [], ◌∷◌, ◌++◌, map}
+use mathlib.Core.List.{List, [], ◌∷◌, ◌++◌}
 use Rattle.std.proofs.Math.Option.{Option, none, some}
 use native.Mathlib.Omega.{arith}
 use Rattle.std.proofs.Math.Nat.{le_of_suc-le-suc}
 use Rattle.std.proofs.Math.Decide.{dec_lt}
 use Rattle.std.proofs.Math.Dec.{eqb, ltb, leb}
-use Rattle.std.proofs.Math.ListN.{length, get_or, get_elem?, get_or-eq_default}
-use borrow.Author.Tests.{eqb-true, ltb-true, ltb-false, leb-true, le-ltb, lt-ltb, eq-eqb}
+use Rattle.std.proofs.Math.ListN.{length, get_or, get_or-eq_default}
+use borrow.Author.Tests.{eqb-true, ltb-true, ltb-false, leb-true, le-ltb, eq-eqb}
 use Rattle.theory_lists.specs.Lists.{behind, get_d_behind}
 use Rattle.theory_lists.specs.Booleans.{and_split, or_cases, by}
-use Rattle.model.specs.Outcome.{Cell, Cells, class, word}
-use Rattle.model.specs.Table.{WORD, SPAN, UPTO, NAME, CALLEE, EXPR, OPT_EXPR, FROM, TO, OPT_RESULT, NAMED-EXPR, FUNCTION, function_head, ARGUMENTS, LOCALS, EXPRESSIONS, NAMED, OPERANDS, BLOCK, CASES, LENGTH, STMT_KIND, VALUE, expression_row, counted, statements}
-use Rattle.model.specs.Tree.{Stmt, stmt, Form, emit, block, branch, switch, loop, break, continue, return, kill, call, effect, Block, end, ◌then◌, Case, case, Cases, nomore, ◌also◌, Range, Function, flat_all, flat_list, flat_x, flat_s, flat_f, flat_b, flat_k, flat_c, flat_block, flat, word_of, DEPTH}
+use Rattle.model.specs.Outcome.{Cells, class, word}
+use Rattle.model.specs.Table.{WORD, SPAN, UPTO, NAME, CALLEE, EXPR, OPT_EXPR, FROM, TO, OPT_RESULT, NAMED-EXPR, FUNCTION, function_head, ARGUMENTS, LOCALS, EXPRESSIONS, NAMED, BLOCK, CASES, LENGTH, STMT_KIND, VALUE, expression_row, counted}
+use Rattle.model.specs.Tree.{Stmt, stmt, Form, emit, block, branch, switch, loop, break, continue, return, kill, call, effect, Block, end, ◌then◌, Case, case, Cases, nomore, ◌also◌, Range, Function, flat_all, flat_list, flat_x, flat_s, flat_f, flat_b, flat_k, flat_c, flat_block, flat, word_of}
 use Rattle.model.specs.Module.{Module}
-use Rattle.model.specs.Carry.{Each, each_none, each_next, Lays, OkS, OkF, OkB, OkBs, OkK, OkC, ok_stmt, ok_emit, ok_block, ok_branch, ok_switch, ok_loop, ok_break, ok_continue, ok_return, ok_kill, ok-call, ok_effect, ok_deeper, ok_end, ok_then, ok_case, ok_nomore, ok_also, WellFunction}
+use Rattle.model.specs.Carry.{Each, each_next, Lays, OkS, OkF, OkB, OkBs, OkK, OkC, ok_stmt, ok_block, ok_branch, ok_switch, ok_loop, ok_effect, ok_deeper, ok_then, ok_case, ok_also, WellFunction}
 use Rattle.model.specs.Names.{field}
 use Rattle.model.specs.Numbers.{Bounds, caps, bound, below as under, within, ordered, outside, inside, sound, sound_function}
 use Rattle.model.specs.Lower.{below, operands_lower}
-use Rattle.model.specs.Tables.{Tab, names, types, constants, overrides, globals, exprs, at, Tables, tables, count}
-use Rattle.model.specs.References.{Place, table, own, function, Target, copied, start, upto, ref, opt, targets, target, Node, node, ref_of, refs}
-use Rattle.model.specs.Operands.{optional, ops_of, result_of, kind, function_of, standing_kind, result_kind, emitted_kind, constant_kind, ops, kind_at, standing}
+use Rattle.model.specs.Tables.{names, types, constants, overrides, globals, exprs, at, tables, count}
+use Rattle.model.specs.References.{Place, table, own, function, Target, copied, start, upto, ref, opt, targets, target, Node, ref_of, refs}
+use Rattle.model.specs.Operands.{ops_of, result_of, function_of, standing_kind, result_kind, emitted_kind, constant_kind, ops, kind_at, standing}
 use Rattle.model.specs.Callees.{callees_s, callees_f, callees_b, callees_k, callees_c, callees}
 use Rattle.theory_image.specs.Reached.{initialised_is}
 use Rattle.theory_image.specs.Members.{no_mem, mem_left, mem_right, mem_cases, each_at}
-use Rattle.model.specs.Initial.{Mem, here, there, Reached, step as reach_step, roots, marked, initials, initial, initialised}
+use Rattle.model.specs.Initial.{Mem, here, there, step as reach_step, roots, marked, initials, initial, initialised}
 use Rattle.model.specs.Scope.{XStmt, XForm, XBlock, XCase, XCases, emitted, is_of, up_from, in_range, live, expand_s, expand_f, expand, expand_k, expand_c, call_result, effect_result, kinds_s, kinds_f, kinds_b, kinds_k, kinds_c, evals_opt, evals_s, evals_f, evals_b, evals_k, evals_c, has, distinct, shape_b, in_body, ok_b, all_of, seen, scoped_as, scoped}
 use Rattle.model.specs.Imports.{Derived}
 use Rattle.model.specs.Bodies.{declarations}
@@ -43,10 +43,9 @@ use Rattle.theory_image.specs.Quiet.{each_append, Plainly, plain-none, plain-nex
 use Rattle.theory_image.specs.Within.{within-append}
 use Rattle.theory_records.specs.RecordLaws.{All as AllN, all_map as alln-map, all_both as alln-both}
 use Rattle.theory_records.specs.Tested.{cons_all}
-use Rattle.theory_bodies.specs.Lists.{All, Distinct, all_map, all_both, all_any, all_append, all_l, all-r, all_mem, mem_all}
-use Rattle.theory_bodies.specs.Context.{Inside, InN, Law, Ctx, OwnP, Own, owns, owns-all, all-owns}
+use Rattle.theory_bodies.specs.Lists.{All, Distinct, all_map, all_append, all_l, all-r, all_mem, mem_all}
+use Rattle.theory_bodies.specs.Context.{Inside, InN, Law, Ctx, OwnP, owns, all-owns}
 use Rattle.theory_bodies.specs.Carried.{Nameless}
-use Rattle.theory_bodies.specs.Steps.{Exprs}
 use Rattle.theory_bodies.specs.Body.{Effect, Callee, CaseFit, FitS, FitF, FitB, FitK, FitC}
 use Rattle.theory_bodies.specs.Function.{Fine, May, ctx, NameIn, NamesIn}
 use Rattle.theory_bodies.specs.Size.{Twos}
@@ -208,6 +207,7 @@ lower-at (x ∷ xs) i h (suc e) l = all_map (ops_of (get_or xs e [])) (λ y q. o
 -- ---- lists
 has_mem : (xs : List ℕ) (e : ℕ) → Mem e xs → has xs e ≡ true
 unfolding has
+has_mem [] e m = elim m [ ]
 has_mem (x ∷ xs) e here = rw (eq-eqb e e refl)
 has_mem (x ∷ xs) e (there m) = go (eqb e x) (has_mem xs e m)
   where
@@ -540,6 +540,7 @@ module _ (o : ℕ) (M : Module) (follow : ℕ → Derived → Derived) (Q : ℕ 
   -- ---- and so of its operands
   emit_up : (es : List ℕ) {e x : ℕ} → Mem e es → Mem x (ops xs e) → Mem x (mentions_e es xs)
   unfolding mentions_e
+  emit_up [] m k = elim m [ ]
   emit_up (e ∷ es) here k = there (mem_left (mentions_e es xs) k)
   emit_up (e ∷ es) (there m) k = there (mem_right (ops xs e) (emit_up es m k))
 

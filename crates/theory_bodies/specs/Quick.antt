@@ -1,30 +1,28 @@
 -- The whole body imported without recursion into expressions: `need` for an operand, `glance` for the first pass of an Emit. The same state, the same body. This is the form for the code.
-use Rattle.std.specs.Prelude.{ℕ, zero, suc, ◌+◌, ◌<◌, ◌≤◌, pred, ◌≢◌, ◌⊎◌, Bool, true, false, ◌&&◌, length, get_or}
+use Rattle.std.specs.Prelude.{ℕ, ◌<◌, ◌≤◌, Bool, true, false, length}
 use Rattle.std.proofs.Math.Path.{◌≡◌, refl, ap}
-use Rattle.std.proofs.Common.{sym, ◌∙◌, inl, inr, ⊎_elim, arith}
-use Rattle.std.proofs.lemmas.Bool.{false≢true}
-use mathlib.Core.List.{List, [], ◌∷◌, ◌++◌, map}
+use Rattle.std.proofs.Common.{sym, ◌∙◌, ⊎_elim, arith}
+use mathlib.Core.List.{List, [], ◌∷◌}
 use Rattle.std.proofs.Math.Option.{Option, none, some}
 use Rattle.theory_lists.specs.Booleans.{and_split}
 use Rattle.model.specs.Outcome.{Cells}
 use Rattle.model.specs.Module.{Module}
 use Rattle.model.specs.Tree.{Stmt, stmt, Form, emit, block, branch, switch, loop, break, continue, return, kill, call, effect, Block, end, ◌then◌, Case, case, Cases, nomore, ◌also◌, Range, Function}
 use Rattle.model.specs.Carry.{carry_f}
-use Rattle.model.specs.Tables.{Tab, tables}
-use Rattle.model.specs.References.{Place, table, own, function, Node, node, refs, fold_refs, through}
+use Rattle.model.specs.References.{Place, table, own, function, Node, refs, fold_refs, through}
 use Rattle.model.specs.Operands.{ops_of, result_of, ops, standing}
 use Rattle.model.specs.Initial.{marked, initials}
 use Rattle.model.specs.Scope.{in_range, live, expand_s, expand_f, expand, expand_k, expand_c, evals_opt, evals_s, evals_f, evals_b, evals_k, evals_c, add_f, add_s, top_b, cont_b, vis, all_vis, opt_vis, ok_e, ok_s, ok_f, ok_b, ok_k, ok_c, seen}
-use Rattle.model.specs.Imports.{Derived, import_t}
-use Rattle.model.specs.Bodies.{Builder, bring, mapped_to, step, each_e, opt_e, compares_of, import_body, import_standing, import_stmt, import_form, import_block, import_case, import_cases, carried_form, rebuild_stmt, rebuild_form, rebuild_block, rebuild_case, rebuild_cases, declared, walked, rebuilt, final}
+use Rattle.model.specs.Imports.{Derived}
+use Rattle.model.specs.Bodies.{Builder, bring, mapped_to, step, each_e, opt_e, compares_of, import_stmt, import_form, import_block, import_case, import_cases, carried_form, rebuild_stmt, rebuild_form, rebuild_block, rebuild_case, rebuild_cases, declared, walked, rebuilt, final}
 use Rattle.theory_walks.specs.Agreement.{Maps}
 use Rattle.theory_records.specs.RecordLaws.{All as AllN}
 use Rattle.theory_bodies.specs.Lists.{All, Distinct, all_map, all_both}
 use Rattle.theory_bodies.specs.Context.{Inside, InN, outer, Law, Ctx, own_of, owns}
-use Rattle.theory_bodies.specs.Inv.{Has, Un, place, Ext, ext_refl, ext_has, ext_trans, Inv}
+use Rattle.theory_bodies.specs.Inv.{Has, Un, place, ext_has, Inv}
 use Rattle.theory_bodies.specs.Carried.{Match}
-use Rattle.theory_bodies.specs.Steps.{vis_is, Lives, l_end, l_skip, l_keep, lives, Exprs, plain_c, quiet_c, step_c, plain_ready, plain-idle, Under, now_has, Pass1, pass1}
-use Rattle.theory_bodies.specs.Body.{all-add_s, all-top, all_cont, standing_in, Effect, Callee, FitS, FitF, FitB, FitK, FitC, Turns, t_none, t_read, t_eval, turns, vis_sub, no_room, Pre, Does, pre_l, pre_next, pre_same, pre_end, read, reads, read_opt, brings, result1, φ, does_s, does_f, does_b, does_k}
+use Rattle.theory_bodies.specs.Steps.{vis_is, Lives, l_end, l_skip, l_keep, lives, Exprs, plain_c, quiet_c, step_c, plain_ready, plain-idle, Under, now_has, pass1}
+use Rattle.theory_bodies.specs.Body.{all-add_s, all-top, all_cont, standing_in, Effect, Callee, FitS, FitF, FitB, FitK, FitC, Turns, t_read, t_eval, turns, vis_sub, no_room, Pre, pre_l, pre_next, pre_same, pre_end, read, reads, brings, result1, does_s, does_b, does_k}
 use Rattle.theory_bodies.specs.Shallow.{need, glance, need_c, glance_c, need-idle, s_has, plain-need, pass1_glance}
 use Rattle.theory_bodies.specs.Function.{Fine, ctx, maps_of, maps_match, before}
 

@@ -1,8 +1,8 @@
 -- Test 3 again: every number of the derived function is in range, and each Emit's start is at most its end, in any module whose tables hold at least what this import derived.
 use Prim.Native.Nat.{ℕ, zero, suc, ◌+◌, ◌-◌, ◌<◌, ◌≤◌, pred}
-use Rattle.std.specs.Prelude.{◌≡◌, ◌⊎◌, Bool, ◌&&◌, ◌||◌, eqb, leb}
+use Rattle.std.specs.Prelude.{◌≡◌, ◌⊎◌, Bool, ◌||◌, eqb}
 use Rattle.std.proofs.Math.Path.{refl}
-use Rattle.std.proofs.Common.{ap, sym, ◌∙◌, subst, le_refl, lt_of_lt_of_le}
+use Rattle.std.proofs.Common.{ap, sym, ◌∙◌}
 use Rattle.std.proofs.Math.Logic.{inl, inr, ⊎_elim}
 use Rattle.std.proofs.Math.Bool.{true, false}
 use Rattle.std.proofs.lemmas.Bool.{false≢true}
@@ -16,33 +16,32 @@ use Rattle.std.proofs.Math.ListN.{length, get_or, length-map, get_or-eq_default}
 use borrow.Author.Tests.{eqb-true, ltb-true, ltb-false, lt-ltb, le-ltb, le-leb, ne_eqb}
 use Rattle.theory_lists.specs.Lists.{behind, get_d_behind}
 use Rattle.theory_lists.specs.Booleans.{and_split}
-use Rattle.model.specs.Outcome.{Cell, Cells, class, word}
-use Rattle.model.specs.Table.{WORD, SPAN, UPTO, NAME, CALLEE, EXPR, OPT_EXPR, FROM, TO, RESULT, OPT_RESULT, NAMED-EXPR, KEY, ATOMIC, RETURNS, ARGUMENTS, LOCALS, EXPRESSIONS, NAMED, BLOCK, counted}
-use Rattle.model.specs.Tree.{Function, flat_all, flat_list, flat_b, flat_block, flat, size_b, word_of}
+use Rattle.model.specs.Outcome.{Cells, class, word}
+use Rattle.model.specs.Table.{WORD, SPAN, UPTO, NAME, CALLEE, EXPR, OPT_EXPR, FROM, TO, RESULT, OPT_RESULT, NAMED-EXPR, KEY, ATOMIC, ARGUMENTS, LOCALS, EXPRESSIONS, NAMED, BLOCK}
+use Rattle.model.specs.Tree.{Function, flat_all, flat_list, flat_b, flat_block, flat, word_of}
 use Rattle.model.specs.Module.{Module}
-use Rattle.model.specs.Carry.{carry_cell, carry_cells, Each, each_none, each_next, Lays, WellFunction}
+use Rattle.model.specs.Carry.{carry_cell, carry_cells, Each, each_none, each_next}
 use Rattle.model.specs.Names.{field}
 use Rattle.model.specs.Numbers.{Bounds, caps, bound, below as under, within, rising, ordered, outside, inside, sound, sound_function}
 use Rattle.model.specs.Tables.{Tab, names, types, constants, overrides, globals, exprs, at, tables, count}
-use Rattle.model.specs.References.{Place, table, own, function, Target, copied, start, upto, ref, opt, targets, target, Node, node, ref_of, refs, carry_w, through, alike_c, alike}
-use Rattle.model.specs.Initial.{initialised}
+use Rattle.model.specs.References.{Place, table, own, function, Target, copied, ref, opt, targets, target, Node, ref_of, refs, carry_w, through, alike_c, alike}
 use Rattle.model.specs.Scope.{evals_opt}
 use Rattle.model.specs.Callees.{callees}
 use Rattle.model.specs.Imports.{Derived}
 use Rattle.model.specs.Bodies.{Builder, mapped_to, carried, put_name, name_if, keep_names, named_rows, declarations, declared, kept_names, derived, final, localized}
-use Rattle.theory_walks.specs.Agreement.{Maps, carry_opt as carryOptA, carry_cells as carryCellsA}
+use Rattle.theory_walks.specs.Agreement.{Maps, carry_opt as carryOptA}
 use Rattle.theory_image.specs.FunctionViews.{among}
 use Rattle.theory_image.specs.Quiet.{each_map}
 use Rattle.theory_image.specs.Within.{within-append}
-use Rattle.theory_records.specs.RecordLaws.{All as AllN, all_map as alln-map, Has as HasN, bare, alike_self, rest_of}
-use Rattle.theory_bodies.specs.Lists.{All, all_map, split}
-use Rattle.theory_bodies.specs.Context.{look, size_of, Inside, Law, Ctx}
-use Rattle.theory_bodies.specs.Inv.{Has, place, Ext, ext_all, carry_ext, bare-carried, Entry, Inv}
-use Rattle.theory_bodies.specs.Carried.{Nameless, Free, Match, both_ok, cells_carry}
+use Rattle.theory_records.specs.RecordLaws.{All as AllN, Has as HasN, bare, alike_self, rest_of}
+use Rattle.theory_bodies.specs.Lists.{All, split}
+use Rattle.theory_bodies.specs.Context.{look, size_of, Law, Ctx}
+use Rattle.theory_bodies.specs.Inv.{Has, place, ext_all, carry_ext, bare-carried, Inv}
+use Rattle.theory_bodies.specs.Carried.{Free, both_ok, cells_carry}
 use Rattle.theory_bodies.specs.Classes.{Effects, e-none, e-last, e-more, effect_classes, result_classes, Plain, expr_plain, head_plain, argument-plain, result_plain, local-plain, effect_cells, result_cells}
-use Rattle.theory_bodies.specs.Body.{Effect, CaseFit, Room}
+use Rattle.theory_bodies.specs.Body.{Room}
 use Rattle.theory_bodies.specs.Function.{Fine, ctx, maps_of, maps_match, holds, grows, decl_has, refs-append, body-laid, initialised-again}
-use Rattle.theory_bodies.specs.Passing.{Passes, fine, initials-fine, Parts, parts, row_lays, row_in}
+use Rattle.theory_bodies.specs.Passing.{Passes, fine, initials-fine, parts, row_lays, row_in}
 
 -- ---- cells in range, and an Emit's range in order: B are the bounds
 pub data Laid (B : Bounds) : Cells → Type 0 where

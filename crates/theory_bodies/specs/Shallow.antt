@@ -1,26 +1,24 @@
 -- In the body of a function that is in scope, import_expression never goes deeper than one level, and the first pass of an Emit needs no marks: what an import does is then what `need` and `glance` do, which do not recur.
-use Prim.Native.Nat.{ℕ, zero, suc, ◌+◌, ◌<◌, ◌≤◌, pred}
-use Rattle.std.specs.Prelude.{◌≡◌, ◌≢◌, ◌⊎◌, Bool, ◌&&◌, length, get_or}
+use Prim.Native.Nat.{ℕ, zero, suc, ◌<◌}
+use Rattle.std.specs.Prelude.{◌≡◌, ◌⊎◌, Bool, length, get_or}
 use Rattle.std.proofs.Math.Path.{refl, ap}
 use Rattle.std.proofs.Common.{sym, ◌∙◌, subst, inl, inr, ⊎_elim, arith}
 use Rattle.std.proofs.Math.Bool.{true, false}
-use Rattle.std.proofs.lemmas.Bool.{false≢true}
-use mathlib.Core.List.{List, [], ◌∷◌, ◌++◌, map}
+use mathlib.Core.List.{List, [], ◌∷◌}
 use Rattle.theory_lists.specs.Booleans.{and_split}
 use Rattle.model.specs.Outcome.{Cells}
 use Rattle.model.specs.Module.{Module}
-use Rattle.model.specs.Tables.{Tab, tables}
-use Rattle.model.specs.References.{Place, table, own, function, Node, node, refs, fold_refs}
+use Rattle.model.specs.References.{Place, table, own, function, Node, refs, fold_refs}
 use Rattle.model.specs.Operands.{ops, standing}
-use Rattle.model.specs.Initial.{Mem, here, there}
-use Rattle.model.specs.Scope.{live, vis, all_vis, ok_e}
-use Rattle.model.specs.Imports.{Derived, unless_mapped, import_t}
+use Rattle.model.specs.Initial.{Mem}
+use Rattle.model.specs.Scope.{all_vis, ok_e}
+use Rattle.model.specs.Imports.{Derived, unless_mapped}
 use Rattle.model.specs.Bodies.{Builder, bring, mapped_to, step, each_e, append_expr, append_standing, import_e, import_body, import_standing}
-use Rattle.theory_records.specs.RecordLaws.{All as AllN, all_map as alln-map, all_both as alln-both, Has as HasN}
-use Rattle.theory_bodies.specs.Lists.{All, all_map, all_both, mem_all, all_mem, split}
-use Rattle.theory_bodies.specs.Context.{look, Inside, InN, outer, Law, Ctx, OwnP, Own, own_map, owns-map, owns, owns-all, all-owns, once_is, once_cong}
-use Rattle.theory_bodies.specs.Inv.{Has, Un, Ext, ext_refl, ext_trans, ext_has, ext_went, ext_bring, Inv, inv-bring}
-use Rattle.theory_bodies.specs.Steps.{all-vis, Lives, l_end, l_skip, l_keep, Exprs, own_ops, ops_own, plain_c, quiet_c, step_c, import_c, push_c, stand_c, abroad, import_idle, each_idle, Brought1, brought1, plain_ready, plain-idle, quiet-idle}
+use Rattle.theory_records.specs.RecordLaws.{All as AllN, all_map as alln-map}
+use Rattle.theory_bodies.specs.Lists.{All, all_map, mem_all, all_mem, split}
+use Rattle.theory_bodies.specs.Context.{look, Inside, InN, outer, Ctx, OwnP, Own, own_map, owns-map, once_is, once_cong}
+use Rattle.theory_bodies.specs.Inv.{Has, Ext, ext_refl, ext_trans, ext_has, ext_went, ext_bring, Inv, inv-bring}
+use Rattle.theory_bodies.specs.Steps.{all-vis, Lives, l_end, l_skip, l_keep, Exprs, own_ops, ops_own, plain_c, quiet_c, step_c, import_c, push_c, stand_c, import_idle, each_idle, plain_ready, quiet-idle}
 use Rattle.theory_bodies.specs.Body.{standing_in}
 
 module _ (o : ℕ) (M : Module) (follow : ℕ → Derived → Derived) (xs : List Cells) where

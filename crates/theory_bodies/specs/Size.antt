@@ -1,9 +1,8 @@
 -- Size: the derived function has at most as many expressions, named expressions and words as its source. The body and the declarations have exactly as many words, whatever is imported.
-use Rattle.std.specs.Prelude.{ℕ, zero, suc, ◌+◌, ◌<◌, ◌≤◌, pred, ◌≡◌, ◌≢◌, Bool, true, false, eqb, get_or, set}
+use Rattle.std.specs.Prelude.{ℕ, zero, suc, ◌+◌, ◌<◌, ◌≤◌, ◌≡◌, ◌≢◌, Bool, true, false, eqb, get_or, set}
 use Rattle.std.proofs.Math.Path.{refl, ap}
-use Rattle.std.proofs.Common.{sym, ◌∙◌, le_refl, le_trans, length-set, get_or-set_other}
-use mathlib.Core.List.{List, [], ◌∷◌, ◌++◌, map}
-use Rattle.std.proofs.Math.Option.{Option, none, some}
+use Rattle.std.proofs.Common.{sym, ◌∙◌, le_refl, get_or-set_other}
+use mathlib.Core.List.{List, [], ◌∷◌, map}
 use native.Mathlib.Omega.{arith}
 use Rattle.std.proofs.Math.Decide.{dec_lt}
 use Rattle.std.proofs.Math.ListN.{length, length-append, get_or-eq_default}
@@ -13,17 +12,17 @@ use Rattle.model.specs.Module.{Module}
 use Rattle.model.specs.Table.{NAME, EXPR, NAMED-EXPR}
 use Rattle.model.specs.Tree.{Stmt, stmt, Form, emit, block, branch, switch, loop, break, continue, return, kill, call, effect, Block, end, ◌then◌, Case, case, Cases, nomore, ◌also◌, Range, Function, flat_all, flat_list, flat_x, flat_s, flat_f, flat_b, flat_k, flat_c, flat_block, flat}
 use Rattle.model.specs.Carry.{carry_cells, carry_f}
-use Rattle.model.specs.References.{Place, refs, through, shift}
+use Rattle.model.specs.References.{through}
 use Rattle.model.specs.Names.{field}
 use Rattle.model.specs.Imports.{Derived}
-use Rattle.model.specs.Bodies.{Builder, mapped_to, carried, import_stmt, import_form, import_block, import_case, import_cases, carried_form, rebuild_stmt, rebuild_form, rebuild_block, rebuild_case, rebuild_cases, put_name, name_if, keep_names, named_rows, declared, rebuilt, kept_names, derived, final, localized}
+use Rattle.model.specs.Bodies.{Builder, mapped_to, carried, import_stmt, import_block, import_case, carried_form, rebuild_stmt, rebuild_form, rebuild_block, rebuild_case, rebuild_cases, put_name, name_if, keep_names, named_rows, declared, rebuilt, kept_names, derived, final, localized}
 use Rattle.theory_finish.specs.Tabled.{total-one, total-length}
 use Rattle.theory_records.specs.RecordLaws.{bare, length_shift, length-carry}
 use Rattle.theory_records.specs.Theorems.{total}
 use Rattle.theory_bodies.specs.Lists.{All, Distinct, all_map}
 use Rattle.theory_bodies.specs.Context.{Law, Ctx}
 use Rattle.theory_bodies.specs.Inv.{Has, place, Inv}
-use Rattle.theory_bodies.specs.Function.{Fine, ctx, holds, F'}
+use Rattle.theory_bodies.specs.Function.{Fine, ctx, holds}
 
 -- ---- distinct places hold no more than all
 

@@ -1,17 +1,16 @@
 -- Every function and every entry point of a module that passed intake passes its tests (`Passes`), and a session that has derived no function yet is one that imports may start from (`Good`).
-use Rattle.std.specs.Prelude.{ℕ, zero, suc, ◌≡◌, refl, Bool, true, false, ◌&&◌, List, [], ◌∷◌, ◌++◌, eqb, leb}
-use Rattle.std.proofs.Common.{sym, subst, arith}
-use Rattle.std.proofs.Math.Option.{Option, some}
+use Rattle.std.specs.Prelude.{ℕ, zero, suc, ◌≡◌, Bool, true, List, [], ◌∷◌, ◌++◌}
+use Rattle.std.proofs.Common.{subst, arith}
+use Rattle.std.proofs.Math.Option.{some}
 use Rattle.std.proofs.Math.ListN.{get_elem?}
 use Rattle.theory_lists.specs.Booleans.{and_split}
-use Rattle.model.specs.Outcome.{Cell, class, word}
 use Rattle.model.specs.Tree.{Function, Entry, flat, flat_entry}
 use Rattle.model.specs.Module.{Module}
-use Rattle.model.specs.Carry.{Each, each_none, each_next, WellFunction, WellEntry, WellFormed}
-use Rattle.model.specs.Numbers.{Bounds, within, ordered, every, outside, inside, constant_only, sound, sound_function, sound_entry, numbered}
+use Rattle.model.specs.Carry.{Each, each_none, each_next, WellFormed}
+use Rattle.model.specs.Numbers.{within, ordered, every, outside, inside, constant_only, sound, sound_function, sound_entry, numbered}
 use Rattle.model.specs.Lower.{types_lower, operands_lower, functions_lower, entries_lower, inits_lower, lower}
 use Rattle.model.specs.Initial.{initialised}
-use Rattle.model.specs.Scope.{scoped, all_scoped, entries_scoped, in_scope}
+use Rattle.model.specs.Scope.{all_scoped, entries_scoped, in_scope}
 use Rattle.model.specs.Tables.{tables}
 use Rattle.model.specs.Imports.{Derived}
 use Rattle.theory_finish.specs.Words.{rises_right}
@@ -19,7 +18,7 @@ use Rattle.theory_image.specs.Within.{within-append}
 use Rattle.theory_walks.specs.FunctionProof.{scoped_at, entry_at}
 use Rattle.theory_records.specs.Imported.{Kept}
 use Rattle.theory_bodies.specs.Passing.{Passes}
-use Rattle.theory_bodies.specs.Lawful.{Good, NamesTo}
+use Rattle.theory_bodies.specs.Lawful.{Good}
 
 each_is : {A : Type 0} {P : A → Type 0} {l : List A} → Each P l → (i : ℕ) (a : A) → get_elem? l i ≡ some a → P a
 each_is each_none i a e = let z : ◌≡◌ {A = ℕ} 0 1 = cc in absurd (omega arith)

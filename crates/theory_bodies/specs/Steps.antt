@@ -1,26 +1,22 @@
 -- The parts of a body's import: an operand that is imported when it is needed, the two passes of an Emit. The second pass appends exactly what is live, in order.
-use Prim.Native.Nat.{ℕ, zero, suc, ◌+◌, ◌<◌, ◌≤◌, pred}
+use Prim.Native.Nat.{ℕ, zero, suc, ◌+◌, ◌<◌, pred}
 use Rattle.std.proofs.Math.Path.{◌≡◌, refl}
 use Rattle.std.proofs.Common.{ap, sym, ◌∙◌, inl, inr, ⊎_elim, arith, eqb-true}
-use Rattle.std.specs.Prelude.{◌≢◌, ◌⊎◌, Bool, ◌&&◌, ◌||◌, length, get_or, set, eqb}
+use Rattle.std.specs.Prelude.{◌≢◌, ◌⊎◌, Bool, length, get_or, eqb}
 use Rattle.std.proofs.Math.Bool.{true, false}
 use Rattle.std.proofs.lemmas.Bool.{false≢true}
-use mathlib.Core.List.{List, [], ◌∷◌, ◌++◌, map}
+use mathlib.Core.List.{List, [], ◌∷◌, map}
 use Rattle.std.proofs.Math.Decide.{ℕ_discrete}
 use Rattle.std.proofs.Math.ListN.{length-append}
-use Rattle.theory_lists.specs.Booleans.{and_split, or_cases, by}
-use Rattle.model.specs.Outcome.{Cells}
-use Rattle.model.specs.Module.{Module}
-use Rattle.model.specs.Tables.{Tab, tables}
-use Rattle.model.specs.References.{Place, table, own, function, Node, node, refs, fold_refs}
+use Rattle.theory_lists.specs.Booleans.{and_split, or_cases}
+use Rattle.model.specs.References.{Place, table, own, function, Node, refs, fold_refs}
 use Rattle.model.specs.Operands.{ops, standing}
 use Rattle.model.specs.Scope.{up_from, live, vis, all_vis, ok_e}
-use Rattle.model.specs.Imports.{Derived, unless_mapped, import_t}
-use Rattle.model.specs.Bodies.{known, Builder, bring, mapped_to, carried, step, each_e, append_expr, append_standing, import_e, import_body, import_standing}
+use Rattle.model.specs.Bodies.{Builder, bring, mapped_to, step, each_e, append_expr, append_standing, import_e, import_body, import_standing}
 use Rattle.theory_records.specs.RecordLaws.{All as AllN, all_map as alln-map, all_both as alln-both, Has as HasN}
-use Rattle.theory_bodies.specs.Lists.{All, Distinct, all_map, all_both, all_any, split}
-use Rattle.theory_bodies.specs.Context.{look, Inside, InN, outer, Law, Ctx, OwnP, Own, own_map, owns-map, own_both, owns, owns-all, all-owns, once_is}
-use Rattle.theory_bodies.specs.Inv.{Has, Un, place, Ext, ext_refl, ext_trans, ext_has, ext_went, ext_same, ext_place, ext_all, ext_bring, Inv, inv-bring, Put, push_put}
+use Rattle.theory_bodies.specs.Lists.{All, Distinct, all_map, all_both, split}
+use Rattle.theory_bodies.specs.Context.{Inside, InN, outer, Ctx, OwnP, Own, owns, owns-all, all-owns, once_is}
+use Rattle.theory_bodies.specs.Inv.{Has, Un, place, Ext, ext_refl, ext_trans, ext_has, ext_went, ext_same, ext_bring, Inv, inv-bring, push_put}
 use Rattle.theory_bodies.specs.Gen.{bring-has, Wants, Ends, Res, import_res}
 
 -- in scope: it is standing, or it is one of ρ

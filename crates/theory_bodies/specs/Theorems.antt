@@ -1,5 +1,5 @@
 -- The theorems on the import of a function, each with its statement in full, for a source that passed intake's tests 3, 4 and 6 and a way to follow calls (`Follows`): the derived function agrees with its source, passes layout and tests 3, 4 and 6 again, is no larger, its body is imported without recursion, and its cells are the source's, carried.
-use Rattle.std.specs.Prelude.{ℕ, zero, suc, ◌<◌, ◌≤◌, pred, ◌≡◌, refl, ◌≢◌, ◌⊎◌, Bool, true, false, length, get_or}
+use Rattle.std.specs.Prelude.{ℕ, zero, suc, ◌<◌, ◌≤◌, pred, ◌≡◌, refl, ◌≢◌, ◌⊎◌, true, false, length, get_or}
 use Rattle.std.proofs.Common.{arith, sym, ◌∙◌}
 use mathlib.Core.List.{List, [], ◌∷◌, map}
 use Rattle.model.specs.Tree.{Function, flat}
@@ -8,7 +8,7 @@ use Rattle.model.specs.Carry.{carry_cells, WellFormed}
 use Rattle.model.specs.Numbers.{numbered, outside, sound_function}
 use Rattle.model.specs.Tables.{Tab, tables, count}
 use Rattle.model.specs.Lower.{lower, operands_lower}
-use Rattle.model.specs.References.{function, Node, refs, fold_refs, through}
+use Rattle.model.specs.References.{function, Node, refs, through}
 use Rattle.model.specs.Operands.{standing}
 use Rattle.model.specs.Initial.{Mem, here, there, initial, initialised}
 use Rattle.model.specs.Scope.{evals_b, all_of, seen, scoped}
@@ -64,6 +64,7 @@ known_by zero e = absurd (omega (arith, e))
 known_by (suc k) e = omega arith
 
 same_at : (f g : ℕ → ℕ) (l : List ℕ) → map f l ≡ map g l → {h : ℕ} → Mem h l → f h ≡ g h
+same_at f g [] e i = elim i [ ]
 same_at f g (x ∷ l) e here = let z : f x ≡ g x = cc in z
 same_at f g (x ∷ l) e (there i) = let z : map f l ≡ map g l = cc in same_at f g l z i
 
