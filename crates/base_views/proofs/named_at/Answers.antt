@@ -1,7 +1,7 @@
 use Rattle.base_views.proofs.Places.{Seeking, standing-inside, seek_begin, seek_inside, seek_next, seek_done}
 use Prim.Native.Nat.{◌-◌}
 use borrow.Author.Rules.{rules}
-use Rattle.base_views.proofs.base_views::expressions_at.Goals as goal
+use Rattle.base_views.proofs.named_at.Goals as goal
 
 pub expressions_at-i-requires : goal.expressions_at-i-requires
 expressions_at-i-requires c = standing-inside c.requires

@@ -1,6 +1,6 @@
 use Rattle.base_views.proofs.Places.{Seeking, standing-inside, seek_begin, seek_inside, seek_next, seek_done}
 use Prim.Native.Nat.{◌-◌}
-use Rattle.base_views.proofs.base_views::expressions_at.Given as goal
+use Rattle.base_views.proofs.named_at.Given as goal
 
 abbrev pub invariant-loop-i : goal.invariant-loop-i
 invariant-loop-i l = Seeking l.words l.tags l.s l.i

@@ -3,7 +3,7 @@ use mathlib.Core.Path.{ap, ◌∙◌}
 use native.Mathlib.Omega.{arith}
 use lib.ListN.{get_or}
 use borrow.Author.Rules.{rules}
-use Rattle.base_views.proofs.base_words::wide.Goals as goal
+use Rattle.base_views.proofs.arguments.Goals as goal
 
 pub arguments_at-requires : goal.arguments_at-requires
 arguments_at-requires c = omega (arith, arguments_inside _ _ c.requires)
