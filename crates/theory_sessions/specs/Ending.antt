@@ -18,7 +18,7 @@ use Rattle.model.specs.Numbers.{every, outside, sound_function, sound_entry, num
 use Rattle.model.specs.Lower.{functions_lower, entries_lower, lower}
 use Rattle.model.specs.Names.{field, present, absent, distinct, differ, functions_named, entries_named, function_names, entry_names, named}
 use Rattle.model.specs.Scope.{all_scoped, entries_scoped, in_scope}
-use Rattle.model.specs.Tables.{Tab, names, at, Tables, tables, count}
+use Rattle.model.specs.Tables.{Tab, at, Tables, tables, count}
 use Rattle.model.specs.Imports.{Derived}
 use Rattle.model.specs.Finish.{appearing, renumber, with_names, named_by, gathered, finished, too_large}
 use Rattle.theory_bodies.specs.Names.{head_field, renamed_agrees}

@@ -4,7 +4,7 @@ use Rattle.std.proofs.Math.Path.{refl, sym}
 use Rattle.std.proofs.Common.{ap, subst, ◌∙◌, inl, inr, le_trans, not-suc-le-zero, arith, ne_eqb}
 use mathlib.Core.List.{List, [], ◌∷◌, ◌++◌}
 use Rattle.std.proofs.Math.Option.{some}
-use Prim.Native.Nat.{ℕ, zero, suc, ◌+◌, ◌<◌, ◌≤◌, pred}
+use Prim.Native.Nat.{ℕ, zero, suc, ◌<◌, ◌≤◌, pred}
 use Rattle.std.proofs.Math.Nat.{le_refl}
 use Rattle.std.proofs.Math.ListN.{length, get_elem?, length-append, get_or-append}
 use Rattle.std.proofs.Math.Seq.{get_or-append_seam}

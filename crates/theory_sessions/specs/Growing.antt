@@ -8,7 +8,7 @@ use Rattle.model.specs.Intake.{Passes}
 use Rattle.model.specs.Tables.{types, Tables, tables, count}
 use Rattle.model.specs.Imports.{Derived, import_t, unmapped, emptied}
 use Rattle.model.specs.Special.{force, with_special, put_ray, put_pair, sourced}
-use Rattle.model.specs.Session.{Source, Session, Answer, answered, refused, after, unless_full, clear}
+use Rattle.model.specs.Session.{Source, Session, Answer, answered, refused, after, clear}
 use Rattle.theory_records.specs.Trace.{Keeps}
 use Rattle.theory_records.specs.Theorems.{Distinct}
 use Rattle.theory_bodies.specs.Context.{Grown, grown_refl, grown_trans}

@@ -1,7 +1,7 @@
 -- EVERY IMAGE THAT A STEP OF AN EXPORTED SESSION WRITES, in the bytes of the output: where the step says, and as many bytes as it answers, the output holds an image that is read back as the module that was derived, and intake accepts it, but for 5 where a function's name stands twice. The sources are bytes; nothing else is assumed.
 use Rattle.std.proofs.Math.Path.{◌≡◌, refl}
 use Rattle.std.proofs.Common.{sym, ap, ap₂, ◌∙◌, subst, inl, inr, append_assoc, arith, length-take, length-drop, length-take-le, get_or-take, get_or-drop}
-use Rattle.std.specs.Prelude.{true, false, ◌⊎◌, List, [], ◌∷◌, ◌++◌, ℕ, zero, suc, ◌+◌, ◌-◌, ◌*◌, ◌^◌, ◌<◌, ◌≤◌, length, get_or, take, drop}
+use Rattle.std.specs.Prelude.{true, false, ◌⊎◌, List, [], ◌∷◌, ◌++◌, ℕ, ◌+◌, ◌^◌, ◌<◌, ◌≤◌, length, get_or, take, drop}
 use Rattle.std.proofs.Math.Option.{Option, none, some}
 use Rattle.std.proofs.lemmas.List.Edits.{sets, sets-eq}
 use Rattle.std.proofs.Math.Seq.{length-sets, take-append_seam, drop-append_seam}
@@ -15,12 +15,10 @@ use Rattle.model.specs.Scope.{in_scope}
 use Rattle.model.specs.Intake.{intake_of}
 use Rattle.model.specs.Session.{Source, Session, Answer, answered, refused, new, with_source, set, clear, map_span, importing, rename_type, import_function, map_function_handle, finish, finish_with_entry_points}
 use Rattle.model.specs.Tables as Tab
-use Rattle.model.specs.Steps.{Operation, sets-source, clears_source, maps_span, types, renames, constants, overrides, globals, expressions, functions, new_functions, handles, required, finishes, finishes_entries, unknown, operations, Said, part, says, writes, perform, run, output_of}
-use Rattle.theory_sessions.specs.Ending.{Written}
+use Rattle.model.specs.Steps.{Operation, sets-source, clears_source, maps_span, types, renames, constants, overrides, globals, expressions, functions, new_functions, handles, required, finishes, finishes_entries, unknown, operations, Said, part, says, writes, perform, run}
 use Rattle.theory_sessions.specs.Operating.{Good, new_good}
-use Rattle.theory_sessions.specs.Operating as Op
 use Rattle.theory_sessions.specs.Words.{bytes_given, GivenBy, given-source, given_clears, given_spans, given-imports, given-renames, given_functions, given_handles, given_finishes, given_finishes_with, SmallSession, new_small, run_small, finish_words, finish_with_words}
-use Rattle.theory_sessions.specs.Steps.{step_as, Image, Stepped, says_nothing, step_is, step-stepped}
+use Rattle.theory_sessions.specs.Steps.{step_as, Image, says_nothing, step_is, step-stepped}
 
 -- ---- THE STATEMENT
 -- the n bytes of `out` from `at` on are an image that holds m

@@ -1,13 +1,13 @@
 -- THE STEPS OF AN EXPORTED SESSION (`run` of the model's Steps.antt) ARE OPERATIONS: the session after a step is the session after one operation, or the same session. So every theorem on any session is one on the exported steps, and `Stepped` has the main ones: whatever the steps are, each leaves a session of which they hold, what it writes is read back and passes intake, but for 5 where a function's name stands twice, tables and functions only grow until a finish, and a refused step changes nothing.
 use Rattle.std.proofs.Math.Path.{◌≡◌, refl, subst}
 use Rattle.std.proofs.Common.{sym, ap, ◌∙◌, inr, arith, length-take, length-drop, leb-true, ltb-false}
-use Rattle.std.specs.Prelude.{Bool, ◌⊎◌, ℕ, zero, suc, ◌+◌, ◌-◌, ◌*◌, ◌<◌, ◌≤◌, min, eqb, leb, ltb, get_or, take, drop}
+use Rattle.std.specs.Prelude.{Bool, ◌⊎◌, ℕ, ◌+◌, ◌*◌, ◌<◌, ◌≤◌, leb, ltb, get_or, drop}
 use Rattle.std.proofs.Math.Bool.{true, false}
 use Rattle.std.proofs.Math.Logic.{inl}
 use mathlib.Core.List.{List, [], ◌∷◌}
 use Rattle.std.proofs.Math.Option.{Option, none, some}
 use Rattle.std.proofs.Math.ListN.{length}
-use Rattle.theory_lists.specs.Booleans.{and_first, and_second}
+use Rattle.theory_lists.specs.Booleans.{and_first}
 use Rattle.base_words.specs.Words.{words_of}
 use Rattle.model.specs.Module.{Module, write, sized}
 use Rattle.model.specs.Tables as Tab
@@ -16,7 +16,7 @@ use Rattle.model.specs.Bodies.{mapped_to, enter_all}
 use Rattle.model.specs.Finish.{finished, too_large}
 use Rattle.model.specs.Session.{Source, Session, Answer, answered, refused, after, new, with_source, meets_ring, set, clear, map_span, importing, rename_type, import_function, map_function_handle, write_if_fits, finish, callees_of, with_entries, finish_with_entry_points}
 use Rattle.model.specs.Steps.{Operation, sets-source, clears_source, maps_span, types, renames, constants, overrides, globals, expressions, functions, new_functions, handles, required, finishes, finishes_entries, unknown, operations, Said, part, says, writes, perform, run}
-use Rattle.model.specs.Tree.{Function, Entry}
+use Rattle.model.specs.Tree.{Function}
 use Rattle.model.specs.Carry.{Each}
 use Rattle.theory_image.specs.Quiet.{each_map}
 use Rattle.model.specs.References as References

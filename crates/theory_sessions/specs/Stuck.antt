@@ -1,6 +1,6 @@
 -- REFUSAL 22, EXACTLY. Document 01: "22: an import would follow calls, through functions whose names are unknown, back to one of those." The definition (`stuck`) is by rounds, as the code has it; here it is said by chains, in both directions: an import is refused by 22 exactly if one of the functions that it would follow is of unknown name and a chain of calls between functions of unknown names leads from it to a ring of such.
-use Rattle.std.specs.Prelude.{◌≡◌, refl, Bool, true, false, ◌↔◌, List, [], ◌∷◌, ℕ, zero, suc, ◌*◌, ◌<◌, eqb, ltb, length}
-use Rattle.std.proofs.Common.{sym, ap, ◌∙◌, subst, arith, eqb-true, eq-eqb, ltb-true, lt-ltb}
+use Rattle.std.specs.Prelude.{◌≡◌, refl, Bool, true, false, ◌↔◌, List, [], ◌∷◌, ℕ, ◌*◌, ◌<◌, eqb, ltb, length}
+use Rattle.std.proofs.Common.{sym, subst, arith, eqb-true, eq-eqb, ltb-true, lt-ltb}
 use Rattle.std.proofs.lemmas.Bool.{false≢true}
 use Rattle.std.proofs.Math.Option.{some}
 use Rattle.model.specs.Refusals.{UNKNOWN_RING}
@@ -9,7 +9,6 @@ use Rattle.model.specs.Calls.{Reaches, In, any}
 use Rattle.model.specs.Callees.{callees, calls}
 use Rattle.model.specs.Redirect.{function}
 use Rattle.model.specs.Imports.{Derived}
-use Rattle.model.specs.Bodies.{known, append, follow}
 use Rattle.model.specs.Finish.{finished, too_large}
 use Rattle.model.specs.Session.{Source, Session, Answer, answered, refused, new, with_source, unless_full, unknown, stuck, meets_ring, import_function, map_function_handle, write_if_fits, callees_of, with_entries, finish_with_entry_points}
 use Rattle.theory_order.specs.Lists.{any_in, in_any}

@@ -10,7 +10,7 @@ use Rattle.model.specs.Module.{Special, Module}
 use Rattle.model.specs.Names.{field, absent, distinct, named}
 use Rattle.model.specs.Tables.{types, Tables, tables, map_at}
 use Rattle.model.specs.Imports.{Derived, import_t, unmapped, emptied}
-use Rattle.model.specs.Special.{with_special, put_ray, ray_to, ray, rays, keyed, put_pair, pair_to, pairs}
+use Rattle.model.specs.Special.{with_special, put_ray, ray_to, ray, rays, keyed, put_pair, pair_to}
 use Rattle.model.specs.Session.{Session, any_ray, has_required_special_types}
 use Rattle.theory_bodies.specs.Names.{keys_distinct}
 use Rattle.theory_finish.specs.Specials.{import_special}
