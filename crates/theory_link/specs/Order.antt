@@ -13,7 +13,7 @@ use Rattle.model.specs.Outcome.{Cells}
 use Rattle.model.specs.Table.{WORD, NAME}
 use Rattle.model.specs.Tree.{Function, Entry, flat, flat_entry}
 use Rattle.model.specs.Module.{Module}
-use Rattle.model.specs.Carry.{carry_cell, Each, each_next, WellEntry, WellFormed}
+use Rattle.model.specs.Carry.{carry_cell, Each, each_none, each_next, WellEntry, WellFormed}
 use Rattle.model.specs.Numbers.{Bounds, caps, bound, below as under, within, rising, ordered as rises, every, outside, inside, sound, sound_entry}
 use Rattle.model.specs.Agreement.{Among, first, later}
 use Rattle.model.specs.Intake.{Passes}
@@ -212,15 +212,18 @@ module _ (m : Module) (well : WellFormed m) (ok : Passes m) (os : List ℕ) (e :
   entries_made_lem (E ∷ es) h s g = made-next (entry-made E (h E first) s g) (entries_made_lem es (λ D k. h D (later k)) (entered 0 m E s).out (entry_going E (h E first) s g))
 
   among-at : {A : Type 0} {x : A} (l : List A) → Among x l → (i : ℕ) × (get_elem? l i ≡ some x)
+  among-at [] k = elim k [ ]
   among-at (y ∷ l) first = (0, refl)
   among-at (y ∷ l) (later k) = let r = among-at l k in (suc r.0, r.1)
 
   every_in : {A : Type 0} (p : A → Bool) {x : A} (l : List A) → every p l ≡ true → Among x l → p x ≡ true
   unfolding every
+  every_in p [] h k = elim k [ ]
   every_in p {x} (y ∷ l) h first = (and_split (p x) (every p l) h).0
   every_in p (y ∷ l) h (later k) = every_in p l (and_split (p y) (every p l) h).1 k
 
   each_in : {A : Type 0} {P : A → Type 0} {x : A} {l : List A} → Each P l → Among x l → P x
+  each_in each_none k = elim k [ ]
   each_in (each_next a ps) first = a
   each_in (each_next a ps) (later k) = each_in ps k
 

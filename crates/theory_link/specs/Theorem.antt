@@ -10,7 +10,7 @@ use Rattle.model.specs.Tree.{Function, Entry, flat_all}
 use Rattle.model.specs.Outcome.{laid}
 use Rattle.model.specs.Module.{Module, read, write, flat_special}
 use Rattle.theory_walks.specs.WholeLaws.{closed_records, agrees_append, agrees_flat}
-use Rattle.model.specs.Carry.{carry, carry_function, Each, each_next, WellFormed}
+use Rattle.model.specs.Carry.{carry, carry_function, Each, each_none, each_next, WellFormed}
 use Rattle.model.specs.Initial.{Mem, here, there}
 use Rattle.model.specs.Intake.{Passes}
 use Rattle.model.specs.Scope.{scoped, all_scoped, in_scope}
@@ -49,6 +49,7 @@ use Rattle.theory_link.specs.Functions.{functions_same, entries_same}
 use Rattle.theory_link.specs.Walking.{Apart, end_going, all-agree, function_agrees, function-apart, place_is, places-once, places_onto, the_turn, entry-apart, entries_count, entry_agrees}
 
 mem_each : {P : ℕ → Type 0} {ks : List ℕ} {h : ℕ} → Each P ks → Mem h ks → P h
+mem_each each_none i = elim i [ ]
 mem_each (each_next p b) here = p
 mem_each (each_next p b) (there i) = mem_each b i
 

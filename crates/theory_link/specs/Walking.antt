@@ -168,6 +168,7 @@ module _ (m : Module) (well : WellFormed m) (ok : Passes m) where
     all-agree = functions_both m well ok os e R os [] (rw (append-nil os)) (λ us vs i q. ((agrees_at us vs i q).0, (agrees_at us vs i q).1, apart-at us vs i q))
 
     in_at : (l : List ℕ) (i : ℕ) → In i l → (p : ℕ) × (get_elem? l p ≡ some i)
+    in_at [] i k = elim k [ ]
     in_at (x ∷ l) i here_in = (0, refl)
     in_at (x ∷ l) i (later-in k) = let r = in_at l i k in (suc r.0, r.1)
 
