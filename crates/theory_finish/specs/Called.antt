@@ -17,7 +17,7 @@ use Rattle.model.specs.Operands.{standing}
 use Rattle.model.specs.Names.{field}
 use Rattle.model.specs.Scope.{in_range}
 use Rattle.model.specs.Numbers.{Bounds, caps, bound, below as under, within, outside, inside}
-use Rattle.model.specs.Tables.{Tab, names, exprs, at, tables, count}
+use Rattle.model.specs.Tables.{Tab, tables, count}
 use Rattle.model.specs.References.{Place, table, own, function, Target, copied, start, upto, ref, opt, targets, target, Node, ref_of, refs, fold_refs}
 use Rattle.model.specs.Imports.{Derived, unless_mapped, import_t}
 use Rattle.model.specs.Bodies.{Builder, bring, compares_of, each_e, opt_e, step, append_expr, intern_expr, append_standing, import_e, import_body, import_initialiser, import_standing, import_stmt, import_form, import_block, import_case, import_cases, put_name, name_if, keep_names, name_cells, declarations, declared, walked, kept_names, named_after, final}

@@ -19,7 +19,6 @@ use Rattle.model.specs.Module.{Module, flat_table, sections, pairs_from, bodies,
 use Rattle.model.specs.Carry.{carry_cell, carry_cells, carry_function, carry_entry, carry_special, carry, Lays, Each, each_none, each_next, WellFunction, WellEntry}
 use Rattle.model.specs.Initial.{Mem, here, there}
 use Rattle.theory_image.specs.Members.{no_mem, each_at}
-use Rattle.model.specs.Calls.{numbers}
 use Rattle.model.specs.Numbers.{Bounds, bound, caps, below, within, every, outside, inside, sound, sound_function, sound_entry, constant_only, numbered}
 use Rattle.model.specs.Lower.{lower}
 use Rattle.model.specs.Names.{field, present, distinct, same, unlike, differ, functions_named, entries_named, function_names, entry_names, named}

@@ -14,7 +14,7 @@ use Rattle.model.specs.Tree.{Function, flat_all, flat_list, flat_b, flat_block, 
 use Rattle.model.specs.Module.{Module}
 use Rattle.model.specs.Names.{field}
 use Rattle.model.specs.Numbers.{Bounds, caps, bound, below as under, within, outside, inside}
-use Rattle.model.specs.Tables.{Tab, names, exprs, at, tables, count}
+use Rattle.model.specs.Tables.{Tab, tables, count}
 use Rattle.model.specs.References.{table, function, Node, refs, fold_refs}
 use Rattle.model.specs.Imports.{Derived, import_t}
 use Rattle.model.specs.Bodies.{Builder, step, import_initialiser, put_name, name_if, keep_names, name_cells, declarations, declared, walked, kept_names, named_after, final}

@@ -9,7 +9,7 @@ use Rattle.model.specs.Tree.{Entry, flat, flat_entry}
 use Rattle.model.specs.Module.{Module, read, write}
 use Rattle.model.specs.Carry.{Lays, Each, each_none, each_next, WellFunction, WellEntry, WellFormed}
 use Rattle.model.specs.Intake.{Passes, tested, verdict, intake_of}
-use Rattle.model.specs.Numbers.{every, within, outside, sound_function, sound_entry, numbered}
+use Rattle.model.specs.Numbers.{every, outside, sound_function, sound_entry, numbered}
 use Rattle.model.specs.Lower.{functions_lower, entries_lower, lower}
 use Rattle.model.specs.Names.{present, distinct, functions_named, entries_named, function_names, entry_names, named}
 use Rattle.model.specs.Scope.{in_scope}

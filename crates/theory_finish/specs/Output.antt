@@ -14,7 +14,7 @@ use Rattle.model.specs.Table.{NAME, SPAN, UPTO, function_head}
 use Rattle.model.specs.Tree.{Function, flat_all}
 use Rattle.model.specs.Module.{Special, Module}
 use Rattle.model.specs.Carry.{carry_cell, Lays, Each, WellFormed}
-use Rattle.model.specs.Numbers.{sound, numbered}
+use Rattle.model.specs.Numbers.{numbered}
 use Rattle.model.specs.Lower.{lower}
 use Rattle.model.specs.Names.{field, present, function_names, named}
 use Rattle.model.specs.Calls.{Call, In, here, later, ordered}

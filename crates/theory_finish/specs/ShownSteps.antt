@@ -1,7 +1,7 @@
 -- EVERY DERIVED NAME APPEARS after every step of a session: setting a source, the import of a record, the renaming of a type, the import of a function with all that it calls; and at the end with the entry points. The names of a function's declarations go where its derived declarations have them, and the names of its expressions are taken only where they stay.
 use Rattle.std.specs.Prelude.{◌≡◌, true, length, get_or}
 use Rattle.std.proofs.Math.Path.{refl}
-use Rattle.std.proofs.Common.{ap, arith}
+use Rattle.std.proofs.Common.{ap}
 use Rattle.std.proofs.Math.Bool.{false}
 use Rattle.std.proofs.Math.Logic.{inl, inr, ⊎_elim}
 use mathlib.Core.List.{List, [], ◌∷◌, ◌++◌, map}
@@ -12,10 +12,10 @@ use Rattle.model.specs.Tree.{Stmt, Form, Block, Case, Cases, Range, Function, En
 use Rattle.model.specs.Module.{Module}
 use Rattle.model.specs.Carry.{carry_cell, carry_cells, Each, each_none, each_next, OkS, OkF, OkB, OkBs, OkK, OkC, ok_stmt, ok_emit, ok_block, ok_branch, ok_switch, ok_loop, ok_break, ok_continue, ok_return, ok_kill, ok-call, ok_effect, ok_deeper, ok_end, ok_then, ok_case, ok_nomore, ok_also, WellFunction}
 use Rattle.model.specs.Initial.{Mem}
-use Rattle.model.specs.Numbers.{within, every, outside, inside}
+use Rattle.model.specs.Numbers.{within, outside, inside}
 use Rattle.model.specs.Redirect.{function as function_at}
-use Rattle.model.specs.Tables.{Tab, names, exprs, at, Tables, tables, rec_at, count, map_at}
-use Rattle.model.specs.References.{Place, table, function, target, targets, ref_of, refs, fold_refs, through}
+use Rattle.model.specs.Tables.{Tab, names, Tables, tables, rec_at, count, map_at}
+use Rattle.model.specs.References.{Place, table, target, targets, ref_of, refs, fold_refs, through}
 use Rattle.model.specs.Imports.{Derived, import_t}
 use Rattle.model.specs.Bodies.{known, Builder, bring, mapped_to, carried, step, name_cells, named_rows, declarations, declared, walked, kept_names, named_after, import_body as plain', derived, final, localized, appended, append, follow_f, follow, entered, entry_made, enter_all, entries_made}
 use Rattle.model.specs.Finish.{names_in}

@@ -1,5 +1,5 @@
 -- OUTPUT ORDER AGAIN: where functions are in output order already, their output order is the order that they are in. So of a linked module, whose functions call as the source's do at their places, a second link would import them in the order of their numbers.
-use Rattle.std.specs.Prelude.{◌≡◌, Bool, false, ◌⊎◌, get_or}
+use Rattle.std.specs.Prelude.{◌≡◌, Bool, false, get_or}
 use Rattle.std.proofs.Math.Path.{refl, sym, ap, subst}
 use Rattle.std.proofs.Common.{ap₂, ◌∙◌, arith, length-append}
 use Rattle.std.proofs.Math.Bool.{true, not}

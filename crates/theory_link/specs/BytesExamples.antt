@@ -5,7 +5,6 @@ use Rattle.base_words.proofs.Laws.{bytes_below}
 use Rattle.model.specs.Outcome.{laid}
 use Rattle.model.specs.Module.{Module, read}
 use Rattle.model.specs.Intake.{intake_of}
-use Rattle.model.specs.Refusals.{done}
 use Rattle.model.specs.Link.{link_image}
 use Rattle.theory_link.specs.OnBytes.{Held, Demand3, demand3_bytes, linked-only}
 use Rattle.model_vectors.specs.Links.{P5, P5-linked}

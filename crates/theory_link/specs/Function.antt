@@ -12,7 +12,7 @@ use Rattle.model.specs.Intake.{Passes}
 use Rattle.model.specs.Calls.{Call, here, ordered}
 use Rattle.model.specs.Callees.{callees, calls, order_of}
 use Rattle.model.specs.Redirect.{nothing, function as function_at}
-use Rattle.model.specs.Tables.{names, tables}
+use Rattle.model.specs.Tables.{tables}
 use Rattle.model.specs.Imports.{Derived, fresh}
 use Rattle.model.specs.Bodies.{known, final, localized, appended, append, follow}
 use Rattle.model.specs.Finish.{gathered}

@@ -1,11 +1,10 @@
 -- DEMAND 3, ON BYTES: the statement that a reader is sent to. Document 01 and the paper of demands: "Linking succeeds exactly if no chain of calls comes back to its start. Then the output holds what a fresh session writes that sets the image as its source with span offset 0, imports its functions in output order and finishes with entry points: each function stands once, every callee before its callers. And for every function or entry point and every finite list of numbers the walk in the linked module reads, apart from standing expressions, only what it has already evaluated; and its events from first to last equal those of the source's walk by the same list, carried through the maps, and both end alike."
 -- The premises are document 01's: the image passes intake, the output is at least as long as the image. An image and an output are lists of bytes; `link_image` is the answer and the output afterwards, and what is said of the linked module is said of the module that the output's bytes hold. Demand.antt has the statement on words, which is the lemma.
-use Rattle.std.specs.Prelude.{◌≡◌, refl, Bool, true, false, ◌↔◌, List, [], ◌∷◌, ◌++◌, ℕ, zero, suc, ◌+◌, ◌*◌, ◌<◌, ◌≤◌, eqb, leb, ltb, get_or, take, drop}
+use Rattle.std.specs.Prelude.{◌≡◌, refl, Bool, true, false, ◌↔◌, List, [], ◌∷◌, ◌++◌, ℕ, zero, suc, ◌*◌, ◌<◌, ◌≤◌, eqb, leb, ltb, get_or, take, drop}
 use Rattle.std.proofs.Math.Path.{sym, ap, ap₂, subst}
 use Rattle.std.proofs.Common.{◌∙◌, arith, eqb-true, lt-ltb, ltb-false}
 use Rattle.std.proofs.Math.Option.{some}
 use Rattle.std.proofs.Math.ListN.{length, get_elem?}
-use Rattle.std.proofs.lemmas.List.Edits.{sets}
 use Rattle.std.proofs.Math.Seq.{length-sets, take-append_seam, drop-append_seam}
 use Rattle.theory_lists.specs.Booleans.{and_split}
 use Rattle.base_words.specs.Words.{AllBelow, words_of, bytes_of}

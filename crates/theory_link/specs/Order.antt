@@ -4,7 +4,7 @@ use Rattle.std.proofs.Math.Path.{refl}
 use Rattle.std.proofs.Common.{sym, ap, ◌∙◌, le_trans}
 use mathlib.Core.List.{List, [], ◌∷◌, ◌++◌, append_assoc, append-nil}
 use Rattle.std.proofs.Math.Option.{some}
-use Prim.Native.Nat.{ℕ, zero, suc, ◌+◌, ◌<◌, ◌≤◌}
+use Prim.Native.Nat.{ℕ, zero, suc, ◌<◌, ◌≤◌}
 use Rattle.std.proofs.Math.Nat.{le_refl}
 use native.Mathlib.Omega.{arith}
 use Rattle.std.proofs.Math.ListN.{length, get_elem?, length-append}
@@ -21,7 +21,7 @@ use Rattle.model.specs.Calls.{In, ordered}
 use Rattle.model.specs.Callees.{callees, calls, order_of}
 use Rattle.model.specs.Redirect.{name_word, function as function_at}
 use Rattle.model.specs.Tables.{Tab, names, at, tables, count}
-use Rattle.model.specs.References.{function, target, targets, refs, through, carry_w, shift, moved}
+use Rattle.model.specs.References.{target, targets, refs, through, carry_w, shift, moved}
 use Rattle.model.specs.Imports.{Derived, import_t, fresh}
 use Rattle.model.specs.Special.{sourced}
 use Rattle.model.specs.Bodies.{known, Builder, mapped_to, carried, final, localized, appended, append, follow, entered, entry_made}

@@ -1,13 +1,13 @@
 -- LINK IS A SESSION, the exported one: given the steps of linking, `session` of the model's Steps.antt, which is what wuldgisp_session promises, leaves the bytes that `link_image` leaves, which is what wuldgisp_link promises. Demand 3's "what a fresh session writes" is so said of the exported session.
-use Rattle.std.specs.Prelude.{◌≡◌, List, [], ◌∷◌, ℕ, zero, suc, ◌+◌, ◌*◌, length, get_or, take, drop}
+use Rattle.std.specs.Prelude.{◌≡◌, List, [], ◌∷◌, ℕ, suc, length}
 use Rattle.std.proofs.Math.Path.{refl}
-use Rattle.std.proofs.Common.{sym, ap, ◌∙◌, subst, le_refl, take_all}
+use Rattle.std.proofs.Common.{sym, ap, ◌∙◌, le_refl, take_all}
 use Rattle.std.proofs.lemmas.List.Edits.{sets}
 use Rattle.base_words.specs.Words.{words_of, bytes_of}
 use Rattle.model.specs.Module.{Module, write}
-use Rattle.model.specs.Session.{Session, Answer, answered, refused, new, set, import_function, finish_with_entry_points}
-use Rattle.model.specs.Link.{append_all, link_by, output_after, link_image, link}
-use Rattle.model.specs.Steps.{operations, Said, part, says, writes, perform, run, answers_of, output_of, first_refused, session}
+use Rattle.model.specs.Session.{Session, answered, new, import_function, finish_with_entry_points}
+use Rattle.model.specs.Link.{append_all, link_by, output_after, link_image}
+use Rattle.model.specs.Steps.{operations, Said, part, says, writes, perform, run, output_of, first_refused, session}
 use Rattle.model.specs.Imports.{fresh}
 use Rattle.model.specs.Special.{sourced}
 use Rattle.theory_finish.specs.Fresh.{with, FreshLink, Imported, no_more, and_then}

@@ -32,7 +32,7 @@ use Rattle.theory_finish.specs.Cellwise.{each_first}
 use Rattle.theory_finish.specs.Finished.{Low, within_low}
 use Rattle.model.specs.References.{table, opt, target, targets, ref_of, refs, fold_refs, carry_w, through, moved, shift, index_of}
 use Rattle.model.specs.Imports.{Derived, import_t}
-use Rattle.model.specs.Bodies.{Builder, carried, bring, step, mapped_to, final, derived, localized, follow, entered, entry_made, entries_made}
+use Rattle.model.specs.Bodies.{Builder, carried, bring, step, mapped_to, final, localized, follow, entered, entry_made, entries_made}
 use Rattle.model.specs.Finish.{gathered}
 use Rattle.model.specs.Agreement.{Among, first, later}
 use Rattle.theory_finish.specs.Firsts.{Once, once-next}

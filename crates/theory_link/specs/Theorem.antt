@@ -26,7 +26,6 @@ use Rattle.model.specs.Agreement as Whole
 use Rattle.theory_order.specs.Theorems.{each_once, callees-first}
 use Rattle.theory_image.specs.Modules.{read_well}
 use Rattle.theory_image.specs.Members.{looked_each}
-use Rattle.theory_walks.specs.Agreement.{Agrees}
 use Rattle.theory_walks.specs.WholeWords.{made}
 use Rattle.theory_walks.specs.Members as Members
 use Rattle.theory_walks.specs.Events.{MappedIn}

@@ -4,7 +4,7 @@ use Rattle.std.proofs.Common.{◌∙◌, arith, length-set, get_or-set_same, get
 use Rattle.std.proofs.Math.Bool.{true}
 use mathlib.Core.List.{List, [], ◌∷◌, ◌++◌, append-nil}
 use Rattle.std.proofs.Math.Option.{some}
-use Prim.Native.Nat.{ℕ, zero, suc, ◌+◌, ◌<◌, pred}
+use Prim.Native.Nat.{ℕ, zero, suc, ◌<◌, pred}
 use Rattle.std.specs.Prelude.{length, replicate, ◌⊎◌}
 use Rattle.std.proofs.Math.ListN.{get_or, get_elem?, length-map}
 use Rattle.std.proofs.lemmas.List.{length-replicate}

@@ -1,5 +1,5 @@
 -- THE WORDS OF A LINKED IMAGE ARE BELOW 2^32 where the source's are, so its bytes give them back.
-use Rattle.std.specs.Prelude.{◌≡◌, refl, List, ℕ, ◌*◌, ◌^◌, length}
+use Rattle.std.specs.Prelude.{refl, List, ℕ, ◌*◌, ◌^◌, length}
 use Rattle.base_words.specs.Words.{AllBelow}
 use Rattle.model.specs.Module.{Module, write}
 use Rattle.model.specs.Session.{with_entries}

@@ -1,11 +1,11 @@
 -- CALLS AMONG SOME FUNCTIONS, those of which p holds. What the rounds leave of these, of all calls, is what they leave of all functions where only calls among them count: after one round the same functions wait. So what is left is exactly those from which a chain through such functions reaches a ring of such.
-use Rattle.std.specs.Prelude.{◌≡◌, Bool, false, ◌&&◌, ◌↔◌}
+use Rattle.std.specs.Prelude.{◌≡◌, Bool, ◌&&◌, ◌↔◌}
 use Rattle.std.proofs.Math.Path.{refl, sym, ap}
 use Rattle.std.proofs.Common.{◌∙◌, subst, arith}
 use Rattle.std.proofs.Math.Bool.{true, not}
 use Rattle.std.proofs.Math.Logic.{⊎_elim}
 use mathlib.Core.List.{List, [], ◌∷◌}
-use Prim.Native.Nat.{ℕ, zero, suc, ◌+◌, ◌≤◌, ◌<◌}
+use Prim.Native.Nat.{ℕ, zero, suc, ◌≤◌}
 use Rattle.std.proofs.Math.ListN.{length}
 use Rattle.model.specs.Calls.{Reaches, In, numbers, any, keep, free, held, Rounds, rounds}
 use Rattle.theory_lists.specs.Booleans.{either, bool_same, and-true, and_first, and_second}

@@ -13,7 +13,7 @@ use Rattle.theory_lists.specs.Booleans.{and_split}
 use Rattle.model.specs.Outcome.{Cells}
 use Rattle.model.specs.Tree.{Function, flat_block}
 use Rattle.model.specs.Module.{Module}
-use Rattle.model.specs.References.{function, Node, refs, fold_refs}
+use Rattle.model.specs.References.{function, Node, refs}
 use Rattle.model.specs.Operands.{kind, standing_kind, result_kind, emitted_kind, constant_kind, function_of, kind_at, standing}
 use Rattle.model.specs.Initial.{root, Reached, roots, marked, initials}
 use Rattle.theory_image.specs.Reached.{initialised_is}

@@ -1,11 +1,11 @@
 -- The import of a function keeps what the imports of tables' records keep: all that it does to the derived tables are such imports, of numbers that test 3 found in range.
-use Rattle.std.specs.Prelude.{◌≡◌, Bool, ◌&&◌, replicate}
+use Rattle.std.specs.Prelude.{◌≡◌, Bool}
 use Rattle.std.proofs.Math.Path.{refl}
-use Rattle.std.proofs.Common.{sym, ap, ◌∙◌, le_of_suc-le-suc}
+use Rattle.std.proofs.Common.{le_of_suc-le-suc}
 use Rattle.std.proofs.Math.Bool.{true, false}
-use mathlib.Core.List.{List, [], ◌∷◌, ◌++◌, map}
+use mathlib.Core.List.{List, [], ◌∷◌, ◌++◌}
 use Rattle.std.proofs.Math.Option.{Option, none, some}
-use Prim.Native.Nat.{ℕ, zero, suc, ◌+◌, ◌-◌, ◌<◌, ◌≤◌}
+use Prim.Native.Nat.{ℕ, zero, suc, ◌-◌, ◌<◌, ◌≤◌}
 use native.Mathlib.Omega.{arith}
 use Rattle.std.proofs.Math.Decide.{dec_lt}
 use Rattle.std.proofs.Math.Dec.{eqb, ltb}
@@ -15,7 +15,7 @@ use Rattle.theory_lists.specs.Lists.{behind, get_d_behind}
 use Rattle.theory_lists.specs.Booleans.{and-true, and_split}
 use Rattle.model.specs.Outcome.{Cells, class, word}
 use Rattle.model.specs.Table.{WORD, SPAN, UPTO, NAME, EXPR, OPT_EXPR, NAMED-EXPR, ARGUMENTS, LOCALS, EXPRESSIONS, NAMED, BLOCK, CASES, LENGTH, STMT_KIND}
-use Rattle.model.specs.Tree.{Stmt, stmt, Form, emit, block, branch, switch, loop, break, continue, return, kill, call, effect, Block, end, ◌then◌, Case, case, Cases, nomore, ◌also◌, Range, Function, Entry, flat_all, flat_list, flat_x, flat_s, flat_f, flat_b, flat_k, flat_c, flat_block, flat, size_b, size_c, kind_of, word_of}
+use Rattle.model.specs.Tree.{Stmt, stmt, Form, emit, block, branch, switch, loop, break, continue, return, kill, call, effect, Block, end, ◌then◌, Case, case, Cases, nomore, ◌also◌, Range, Function, flat_all, flat_list, flat_s, flat_f, flat_b, flat_k, flat_c, flat_block, flat, size_b, word_of}
 use Rattle.model.specs.Module.{Module}
 use Rattle.model.specs.Carry.{WellFormed}
 use Rattle.model.specs.Operands.{standing}
@@ -24,14 +24,14 @@ use Rattle.model.specs.Scope.{in_range}
 use Rattle.model.specs.Numbers.{Bounds, caps, bound, below as under, within, every, outside, inside, constant_only, sound, sound_function, numbered}
 use Rattle.model.specs.Lower.{lower}
 use Rattle.model.specs.Redirect.{nothing, function as function_at}
-use Rattle.model.specs.Tables.{Tab, names, types, constants, overrides, globals, exprs, at, Tables, tables, rec_at, count, map_at}
-use Rattle.model.specs.References.{Place, table, own, function, Target, copied, start, upto, ref, opt, targets, target, Node, node, ref_of, refs, fold_refs}
-use Rattle.model.specs.Imports.{Derived, unless_mapped, import_t}
-use Rattle.model.specs.Bodies.{known, Builder, bring, compare_of, compares_of, each_e, opt_e, step, append_expr, intern_expr, append_standing, import_e, import_body, import_initialiser, import_standing, import_stmt, import_form, import_block, import_case, import_cases, put_name, name_if, keep_names, name_cells, declarations, declared, walked, kept_names, named_after, final, localized, appended, append, follow_f, follow}
+use Rattle.model.specs.Tables.{Tab, names, types, constants, overrides, globals, exprs, at, Tables, tables, count}
+use Rattle.model.specs.References.{Place, table, own, function, Target, copied, start, upto, ref, opt, targets, target, Node, ref_of, refs, fold_refs}
+use Rattle.model.specs.Imports.{Derived, unless_mapped}
+use Rattle.model.specs.Bodies.{known, Builder, bring, compares_of, each_e, opt_e, step, append_expr, intern_expr, append_standing, import_e, import_body, import_initialiser, import_standing, import_stmt, import_form, import_block, import_case, import_cases, put_name, name_if, keep_names, name_cells, declarations, declared, walked, kept_names, named_after, final, localized, appended, append, follow_f, follow}
 use Rattle.theory_image.specs.Within.{within-append, within-next, within-join, within-row}
-use Rattle.theory_records.specs.RecordLaws.{All, all_map}
+use Rattle.theory_records.specs.RecordLaws.{All}
 use Rattle.theory_records.specs.Trace.{Sized}
-use Rattle.theory_records.specs.Theorems.{Inside, Distinct, Base}
+use Rattle.theory_records.specs.Theorems.{Inside, Distinct}
 use Rattle.theory_records.specs.Tested.{cons_all, every-at}
 use Rattle.theory_records.specs.Imported.{Kept, import_kept}
 

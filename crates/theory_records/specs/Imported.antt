@@ -8,7 +8,7 @@ use Rattle.model.specs.Module.{Module}
 use Rattle.model.specs.Carry.{WellFormed}
 use Rattle.model.specs.Numbers.{numbered}
 use Rattle.model.specs.Lower.{lower}
-use Rattle.model.specs.Tables.{Tab, names, types, constants, overrides, globals, exprs, at, upd, six, Tables, tables, rec_at, count, Maps, map_at}
+use Rattle.model.specs.Tables.{Tab, types, at, Tables, tables, count, map_at}
 use Rattle.model.specs.Imports.{Derived, import_t, unmapped, emptied, fresh}
 use Rattle.model.specs.Special.{force}
 use Rattle.model.specs.Finish.{gathered}

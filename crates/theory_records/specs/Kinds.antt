@@ -1,17 +1,17 @@
 -- Which classes are in the records of each table, from their layout: no others refer to anything. Global expressions are of the kinds that document 01 lists for them.
-use Rattle.std.specs.Prelude.{◌≡◌, Bool, true, false, ◌&&◌, ◌||◌, List, [], ◌∷◌, ◌++◌, ℕ, zero, suc, ◌+◌, ◌-◌, ◌/◌, ◌%◌, ◌^◌, ◌≤◌, ◌<◌, eqb, ltb, leb, length, get_or, replicate}
+use Rattle.std.specs.Prelude.{◌≡◌, Bool, true, false, ◌&&◌, ◌||◌, List, [], ◌∷◌, ◌++◌, ℕ, zero, suc, ◌+◌, ◌-◌, ◌/◌, ◌%◌, ◌^◌, ◌≤◌, eqb, ltb, leb, replicate}
 use Rattle.std.proofs.Math.Path.{refl}
-use Rattle.std.proofs.Common.{sym, ap, ◌∙◌, append-nil, arith, eqb-true, ltb-false, leb-true, ne_eqb, le-ltb, lt-ltb, le-leb}
-use Rattle.std.proofs.Math.Option.{Option, none, some}
+use Rattle.std.proofs.Common.{sym, ◌∙◌, append-nil, arith, eqb-true, ltb-false, leb-true, ne_eqb, le-ltb, lt-ltb, le-leb}
+use Rattle.std.proofs.Math.Option.{none, some}
 use Rattle.std.proofs.Math.ListN.{get_elem?, get_or-eq_default}
 use Rattle.theory_lists.specs.Booleans.{and-true, and_split}
-use Rattle.model.specs.Outcome.{Cell, Cells, class, word}
-use Rattle.model.specs.Table.{Row, WORD, SPAN, UPTO, NAME, TYPE, CONSTANT, OVERRIDE, INIT, OPT_INIT, EXPR, OPT_EXPR, KEY, PLACE, PAD, TEXT, OPERANDS, MEMBERS, TYPE_KIND, EXPR_KIND, types as typeRows, expressions, name_row, type_row, constant_row, override_row, global_row, expression_row, counted, limit, variants, repeat, text, variant, brings, over, more}
+use Rattle.model.specs.Outcome.{Cells}
+use Rattle.model.specs.Table.{Row, WORD, SPAN, UPTO, NAME, TYPE, CONSTANT, OVERRIDE, INIT, OPT_INIT, EXPR, OPT_EXPR, KEY, PLACE, PAD, TEXT, OPERANDS, MEMBERS, TYPE_KIND, EXPR_KIND, types as typeRows, expressions, name_row, type_row, constant_row, override_row, global_row, expression_row, counted, limit, variants, repeat, text, brings, over, more}
 use Rattle.model.specs.Carry.{Lays, lays_none, lays_next}
 use Rattle.model.specs.Operands.{kind, constant_kind}
 use Rattle.model.specs.Numbers.{Bounds, caps, bound}
 use Rattle.model.specs.Tables.{Tab, names, types, constants, overrides, globals, exprs}
-use Rattle.model.specs.References.{Place, table, own, Target, copied, targets, target}
+use Rattle.model.specs.References.{table, own, copied, targets, target}
 use Rattle.theory_image.specs.Plain.{plain_more}
 use Rattle.theory_image.specs.FunctionViews.{among, split_or, variant_brings}
 use Rattle.theory_records.specs.Well.{May, type_name, type_type, const_name, const_type, const_init, over_name, over_type, over_init, global_name, global_type, global-init, expr_type, expr_const, expr_over, expr_own}

@@ -1,31 +1,31 @@
 -- The derived tables pass tests 3 and 4: every record is laid out by its table's row, its codes are the source's, and its references are in range and lower.
 use Rattle.std.specs.Prelude.{◌≡◌, Bool, false, ◌&&◌, eqb, ltb, length, get_or}
 use Rattle.std.proofs.Math.Path.{refl}
-use Rattle.std.proofs.Common.{sym, ap, ◌∙◌, le_of_suc-le-suc}
+use Rattle.std.proofs.Common.{sym, ◌∙◌}
 use Rattle.std.proofs.Math.Bool.{true}
 use mathlib.Core.List.{List, [], ◌∷◌, ◌++◌}
-use Prim.Native.Nat.{ℕ, zero, suc, ◌+◌, ◌<◌, ◌≤◌, suc-le-suc}
+use Prim.Native.Nat.{ℕ, zero, suc, ◌+◌, ◌<◌, suc-le-suc}
 use native.Mathlib.Omega.{arith}
 use Rattle.std.proofs.Math.Decide.{dec_lt}
 use borrow.Author.Tests.{eqb-true, ltb-false, lt-ltb}
 use Rattle.theory_lists.specs.Booleans.{and-true, and_split}
 use Rattle.model.specs.Outcome.{Cells, class, word}
-use Rattle.model.specs.Table.{Row, TYPE, CONSTANT, OVERRIDE, INIT, OPT_INIT, EXPR, OPT_EXPR, EXPR_KIND, PLACE, PAD, brings, more}
+use Rattle.model.specs.Table.{Row, TYPE, CONSTANT, OVERRIDE, INIT, OPT_INIT, EXPR, OPT_EXPR, EXPR_KIND, PAD, more}
 use Rattle.model.specs.Module.{Module}
 use Rattle.model.specs.Carry.{Keeps, carry_cell, carry_cells, Lays, lays_none, lays_next, WellFormed}
 use Rattle.model.specs.Operands.{optional, operand, ops_of, NO_KIND, kind, constant_kind}
 use Rattle.model.specs.Numbers.{Bounds, caps, bound, below as under, within, every, outside, constant_only, numbered}
 use Rattle.model.specs.Lower.{below, bases_of, types_lower, operands_lower, init_of, inits_of, inits_lower, lower}
 use Rattle.model.specs.Tables.{Tab, names, types, constants, overrides, globals, exprs, code_t, is_t, at, Tables, tables, rec_at, count}
-use Rattle.model.specs.References.{Place, table, own, Target, copied, start, upto, ref, opt, targets, target, Node, node, ref_of, refs, carry_w, through, first_word, undefined_at, moved, shift}
-use Rattle.model.specs.Imports.{Derived, intern, made, commit, mapped_to_t}
+use Rattle.model.specs.References.{Target, copied, start, upto, ref, opt, targets, target, Node, ref_of, refs, carry_w, through, first_word, undefined_at, moved, shift}
+use Rattle.model.specs.Imports.{Derived, made, commit, mapped_to_t}
 use Rattle.theory_image.specs.Plain.{plain_more}
 use Rattle.theory_image.specs.Carries.{lays_carry}
 use Rattle.theory_records.specs.TableLaws.{apart}
 use Rattle.theory_records.specs.RecordLaws.{All, all_map, rest_of, Went}
 use Rattle.theory_records.specs.Well.{home, InitLow, Good, WF}
 use Rattle.theory_records.specs.Trace.{Ready, Trace, keep_rule}
-use Rattle.theory_records.specs.Theorems.{Grows, commit_grows, settle_new}
+use Rattle.theory_records.specs.Theorems.{commit_grows, settle_new}
 use Rattle.theory_records.specs.Kinds.{KindOf, is_copied, is_span, is_upto, is_name, is_type, is_constant, is_override, is_init, is_opt_init, is_expr, is_opt_expr, Kinds, no_kinds, kinds, row_of, record_kinds, far_copied}
 use Rattle.theory_records.specs.Tested.{In, Low, Threes, Fours, threes, laid-at, constant-at, kinds_at, every-at}
 

@@ -1,23 +1,23 @@
 -- A source that is set, with its special types, keeps what imports keep; and so do entry points. So the tables that link derives pass tests 3 and 4.
-use Rattle.std.specs.Prelude.{◌≡◌, refl, Bool, false, ◌&&◌, eqb, ltb, length, get_or, set}
-use Rattle.std.proofs.Common.{sym, ap, ◌∙◌, arith, le_refl, le_trans, le_of_suc-le-suc}
+use Rattle.std.specs.Prelude.{◌≡◌, refl, Bool, false, eqb, ltb, length, get_or, set}
+use Rattle.std.proofs.Common.{◌∙◌, arith, le_trans, le_of_suc-le-suc}
 use Rattle.std.proofs.Math.Bool.{true}
 use mathlib.Core.List.{List, [], ◌∷◌, ◌++◌}
-use Prim.Native.Nat.{ℕ, zero, suc, ◌+◌, ◌<◌, ◌≤◌, pred}
+use Prim.Native.Nat.{ℕ, zero, suc, ◌<◌, ◌≤◌, pred}
 use borrow.Author.Tests.{ltb-true}
 use Rattle.theory_lists.specs.Booleans.{and_split}
-use Rattle.model.specs.Outcome.{Cell, Cells, class, word}
+use Rattle.model.specs.Outcome.{Cells, word}
 use Rattle.model.specs.Table.{TYPE, OPT_TYPE, KEY}
 use Rattle.model.specs.Tree.{Entry, flat, flat_entry}
-use Rattle.model.specs.Module.{Special, Module, rays_row, pair_row}
+use Rattle.model.specs.Module.{Special, Module, pair_row}
 use Rattle.model.specs.Carry.{Each, each_none, each_next, Lays, WellFormed}
 use Rattle.model.specs.Names.{field}
-use Rattle.model.specs.Numbers.{Bounds, caps, bound, below as under, within, every, outside, inside, constant_only, sound, sound_function, sound_entry, numbered}
+use Rattle.model.specs.Numbers.{caps, bound, below as under, within, every, outside, inside, constant_only, sound, sound_function, sound_entry, numbered}
 use Rattle.model.specs.Lower.{lower}
-use Rattle.model.specs.Tables.{Tab, types, at, six, Tables, tables, count, map_at}
+use Rattle.model.specs.Tables.{types, at, six, Tables, tables, count, map_at}
 use Rattle.model.specs.Imports.{Derived, intern, commit, import_t, unmapped, emptied, fresh}
 use Rattle.model.specs.References.{refs}
-use Rattle.model.specs.Bodies.{append, follow, entered, enter_all}
+use Rattle.model.specs.Bodies.{follow, entered, enter_all}
 use Rattle.model.specs.Special.{force, with_special, put_ray, ray_to, ray, rays, keyed, put_pair, pair_to, pairs, sourced}
 use Rattle.model.specs.Finish.{gathered}
 use Rattle.model.specs.Link.{append_all}
@@ -25,7 +25,7 @@ use Rattle.theory_image.specs.Plain.{plain?}
 use Rattle.theory_image.specs.Quiet.{Plainly, plain-none, plain-next, plainly}
 use Rattle.theory_image.specs.Within.{within-append}
 use Rattle.theory_records.specs.Trace.{Sized, Trace, keep_rule₂, import_trace}
-use Rattle.theory_records.specs.Theorems.{Inside, Distinct, Base, trace_grows}
+use Rattle.theory_records.specs.Theorems.{Inside, Distinct, trace_grows}
 use Rattle.theory_records.specs.Tested.{Threes, Fours, tested_wf}
 use Rattle.theory_records.specs.Imported.{Kept, emptied-kept, fresh_kept, import_kept, force-kept, derived-three, derived_four}
 use Rattle.theory_records.specs.Functions.{cells_in, each_kept, final-kept, import_function_kept, map_function_kept}

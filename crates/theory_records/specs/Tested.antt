@@ -1,26 +1,25 @@
 -- The tables of a module that is laid out and passes tests 3 and 4 are well formed.
-use Rattle.std.specs.Prelude.{◌≡◌, Bool, true, false, ◌&&◌, eqb, ltb, length, get_or}
+use Rattle.std.specs.Prelude.{◌≡◌, Bool, true, false, eqb, ltb, length, get_or}
 use Rattle.std.proofs.Math.Path.{refl}
-use Rattle.std.proofs.Common.{sym, ap, ◌∙◌, arith, le_of_suc-le-suc, not-suc-le-zero, ltb-true}
+use Rattle.std.proofs.Common.{arith, le_of_suc-le-suc, not-suc-le-zero, ltb-true}
 use mathlib.Core.List.{List, [], ◌∷◌, ◌++◌}
-use Rattle.std.proofs.Math.Option.{none, some}
-use Prim.Native.Nat.{ℕ, zero, suc, ◌+◌, ◌<◌, ◌≤◌}
+use Prim.Native.Nat.{ℕ, zero, suc, ◌+◌, ◌<◌}
 use Rattle.std.proofs.Math.Decide.{dec_lt}
 use Rattle.std.proofs.Math.ListN.{get_or-eq_default}
 use Rattle.theory_lists.specs.Booleans.{and_split}
-use Rattle.model.specs.Outcome.{Cells, class, word}
+use Rattle.model.specs.Outcome.{Cells}
 use Rattle.model.specs.Table.{TYPE, CONSTANT, OVERRIDE, INIT, OPT_INIT, EXPR, OPT_EXPR}
 use Rattle.model.specs.Module.{Module}
 use Rattle.model.specs.Carry.{Lays, WellFormed}
 use Rattle.model.specs.Operands.{optional, operand, ops_of, kind, constant_kind}
-use Rattle.model.specs.Numbers.{Bounds, caps, bound, below as under, within, every, outside, constant_only, sound_function, sound_entry, numbered}
-use Rattle.model.specs.Lower.{below, bases_of, types_lower, operands_lower, functions_lower, entries_lower, init_of, inits_of, inits_lower, lower}
-use Rattle.model.specs.Tables.{Tab, names, types, constants, overrides, globals, exprs, code_t, is_t, at, Tables, tables, rec_at, count}
+use Rattle.model.specs.Numbers.{caps, bound, below as under, within, every, outside, constant_only, numbered}
+use Rattle.model.specs.Lower.{below, bases_of, types_lower, operands_lower, init_of, inits_of, inits_lower, lower}
+use Rattle.model.specs.Tables.{Tab, names, types, constants, overrides, globals, exprs, code_t, is_t, at, tables, rec_at, count}
 use Rattle.model.specs.References.{Place, table, own, Target, copied, start, upto, ref, opt, targets, target, Node, node, ref_of, refs}
 use Rattle.theory_image.specs.Members.{each_at}
 use Rattle.theory_records.specs.TableLaws.{Tab_dec, apart}
 use Rattle.theory_records.specs.RecordLaws.{All, all_map, all_both}
-use Rattle.theory_records.specs.Well.{home, May, type_name, type_type, const_name, const_type, const_init, over_name, over_type, over_init, global_name, global_type, global-init, expr_type, expr_const, expr_over, expr_own, InitLow, Good, WF}
+use Rattle.theory_records.specs.Well.{home, May, type_name, type_type, const_name, const_type, const_init, over_name, over_type, over_init, global_name, global_type, global-init, expr_own, InitLow, WF}
 use Rattle.theory_records.specs.Kinds.{KindOf, is_copied, is_span, is_upto, is_name, is_type, is_constant, is_override, is_init, is_opt_init, is_expr, is_opt_expr, Kinds, no_kinds, kinds, row_of, record_kinds}
 
 -- ---- lists

@@ -1,22 +1,21 @@
 -- Theorems on the import of tables' records: the tables only grow; what is mapped stays mapped, to a record that is its source's carried; the derived tables are well formed and hold no two equal records; and they are no larger than what is mapped. Each is a fact of one commit, taken to every import by the keep rule.
-use Rattle.std.specs.Prelude.{◌≡◌, refl, List, [], ◌∷◌, ◌++◌, map, ℕ, zero, suc, ◌+◌, ◌-◌, ◌*◌, ◌<◌, ◌≤◌, pred, length, get_or, set, replicate}
-use Rattle.std.proofs.Common.{ap, ◌∙◌, le_trans, lt_of_lt_of_le, le_of_suc-le-suc, not-suc-le-zero, length-append}
+use Rattle.std.specs.Prelude.{◌≡◌, refl, List, [], ◌∷◌, ◌++◌, map, ℕ, zero, suc, ◌+◌, ◌<◌, ◌≤◌, pred, length, get_or, set}
+use Rattle.std.proofs.Common.{ap, ◌∙◌, le_trans, lt_of_lt_of_le, le_of_suc-le-suc, not-suc-le-zero}
 use Rattle.std.proofs.Math.Path.{sym}
 use Rattle.std.proofs.Math.Bool.{false}
 use native.Mathlib.Omega.{arith}
 use Rattle.std.proofs.Math.Nat.{le_refl}
 use Rattle.std.proofs.Math.Decide.{dec_lt}
-use Rattle.std.proofs.lemmas.List.{length-replicate}
 use Rattle.std.proofs.Math.ListN.{get_or-append}
 use Rattle.model.specs.Outcome.{Cells}
 use Rattle.model.specs.Carry.{carry_cells}
-use Rattle.model.specs.Tables.{Tab, names, types, constants, overrides, globals, exprs, at, upd, six, Tables, rec_at, count, Maps, map_at}
-use Rattle.model.specs.References.{Place, table, own, function, Node, node, refs, through, shift, index_of, interned}
-use Rattle.model.specs.Imports.{Derived, intern, mapped_to_t, made, commit, import_t, unmapped, emptied, fresh}
-use Rattle.theory_records.specs.TableLaws.{Tab_dec, at_same, at_other, at-six}
-use Rattle.theory_records.specs.RecordLaws.{All, all_map, all_both, all-image, Went, Has, image, bare, refs-shift, refs-alike, bare-shift, length_shift, length-carry, carry_same, refs-carry, Kept, old, new, kept, kept_in, kept_at, kept_longer, kept_prefix, kept-last}
-use Rattle.theory_records.specs.Well.{home, May, InitLow, Good, WF}
-use Rattle.theory_records.specs.Trace.{went-home, Other, node-cases, settle_recs, settle_here, settle_other, Ready, Trace, keep_rule, keep_rule₂, Sized, commit-sized, Keeps, keeps_went, commit_keeps, trace_sized, trace_keeps, import_trace}
+use Rattle.model.specs.Tables.{Tab, at, Tables, rec_at, count, map_at}
+use Rattle.model.specs.References.{Node, refs, through, shift, index_of, interned}
+use Rattle.model.specs.Imports.{Derived, intern, mapped_to_t, made, commit}
+use Rattle.theory_records.specs.TableLaws.{Tab_dec, at_same, at_other}
+use Rattle.theory_records.specs.RecordLaws.{All, all_map, all_both, all-image, Went, Has, image, bare, refs-shift, bare-shift, carry_same, refs-carry, Kept, old, new, kept, kept_in, kept_at, kept_longer, kept_prefix, kept-last}
+use Rattle.theory_records.specs.Well.{home, InitLow, Good, WF}
+use Rattle.theory_records.specs.Trace.{went-home, Other, node-cases, settle_recs, settle_here, settle_other, Ready, Trace, keep_rule, keep_rule₂, Sized, commit-sized, Keeps, keeps_went, commit_keeps}
 
 pub settle_at : (t : Tab) (n : ℕ) (c : Cells) (s : Derived) → at t (intern t n c s).recs ≡ interned (at t s.recs) c
 unfolding intern

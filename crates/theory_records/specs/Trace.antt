@@ -1,5 +1,5 @@
 -- An import is a sequence of commits, each of a record that was not mapped and whose references were. That is the one induction over the import; every other theorem is on one commit, and the keep rule takes it to the whole. Here too: the equation of the import without fuel.
-use Rattle.std.specs.Prelude.{◌≡◌, length, get_or, set}
+use Rattle.std.specs.Prelude.{◌≡◌, length, set}
 use Rattle.std.proofs.Math.Path.{refl, ap, sym}
 use Rattle.std.proofs.Common.{◌∙◌, not-suc-le-zero, length-set, get_or-set_same, get_or-set_other}
 use mathlib.Core.List.{List, [], ◌∷◌}
@@ -7,11 +7,11 @@ use Prim.Native.Nat.{ℕ, zero, suc, ◌+◌, ◌*◌, ◌<◌, ◌≤◌}
 use native.Mathlib.Omega.{arith}
 use Rattle.std.proofs.Math.Decide.{ℕ_discrete}
 use Rattle.model.specs.Outcome.{Cells}
-use Rattle.model.specs.Tables.{Tab, names, types, constants, overrides, globals, exprs, at, upd, Tables, rec_at, count, Maps, map_at}
-use Rattle.model.specs.References.{Place, table, own, function, Node, node, refs, fold_refs, index_of, interned}
+use Rattle.model.specs.Tables.{Tab, types, exprs, at, Tables, rec_at, count, map_at}
+use Rattle.model.specs.References.{Place, table, own, function, Node, refs, fold_refs, index_of, interned}
 use Rattle.model.specs.Imports.{Derived, unless_mapped, intern, mapped_to_t, made, commit, step_t, import_f, levels, import_t}
 use Rattle.theory_records.specs.TableLaws.{Tab_dec, at_same, at_other}
-use Rattle.theory_records.specs.RecordLaws.{All, all_map, all_both, Has}
+use Rattle.theory_records.specs.RecordLaws.{All, Has}
 use Rattle.theory_records.specs.Well.{home, May, type_name, type_type, const_name, const_type, const_init, over_name, over_type, over_init, global_name, global_type, global-init, expr_type, expr_const, expr_over, expr_own, WF, rank, Lower, falls, rank_below}
 
 -- ---- a place that a table's record may name is in a table

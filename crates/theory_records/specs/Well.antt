@@ -1,6 +1,5 @@
 -- Well-formed tables, what tests 3 and 4 leave of them: every reference is in range and of a kind that its table may have, in its own table it is lower, and an expression's constant or override has an init that is lower than the expression. Ranks, which fall along references.
-use Rattle.std.specs.Prelude.{◌≡◌, refl, List, [], ◌∷◌, ℕ, zero, suc, ◌+◌, ◌*◌, ◌<◌, ◌≤◌, max, length, get_or}
-use Rattle.std.proofs.Common.{sym}
+use Rattle.std.specs.Prelude.{◌≡◌, refl, List, [], ◌∷◌, ℕ, suc, ◌+◌, ◌*◌, ◌<◌, ◌≤◌, max}
 use native.Mathlib.Omega.{arith}
 use Rattle.model.specs.Tables.{Tab, names, types, constants, overrides, globals, exprs, Tables, rec_at, count}
 use Rattle.model.specs.References.{Place, table, own, function, Node, node, refs}
