@@ -1,5 +1,5 @@
 -- FULL, as the code means it, is refusal 21, as the model says it, of what is gathered: the words that the code counts are the image's, and the counts that it looks at are those that the limits bound.
-use Rattle.std.specs.Prelude.{◌≡◌, true, false, List, [], ◌∷◌, map, ℕ, ◌+◌, ◌*◌, ◌<◌, ltb}
+use Rattle.std.specs.Prelude.{◌≡◌, true, List, [], ◌∷◌, map, ℕ, ◌+◌, ◌*◌, ◌<◌, ltb}
 use Rattle.std.proofs.Math.Path.{refl}
 use Rattle.std.proofs.Common.{◌∙◌, length-append}
 use Rattle.std.proofs.Math.Logic.{⊎_elim}
@@ -76,6 +76,7 @@ module _ (s : Derived) (es : List Entry) where
   counted (later (later (later (later (later (later (first h))))))) = over (crowd h)
   counted (later (later (later (later (later (later (later (first h)))))))) = entries h
   counted (later (later (later (later (later (later (later (later (first h))))))))) = over (keys h)
+  counted (later (later (later (later (later (later (later (later (later p))))))))) = elim p [ ]
 
 -- ---- words
 -- a record and its offset

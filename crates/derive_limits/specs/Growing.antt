@@ -1,5 +1,5 @@
 -- FULL STAYS FULL: functions imported, calls followed, entry points entered and a source that is set only add to a state, from a source that passed test 3. So the code may refuse as soon as it is full, with the entry points that it has by then.
-use Rattle.std.specs.Prelude.{◌≡◌, refl, true, List, [], ◌∷◌, ◌++◌, map, ℕ, suc, ◌+◌, ◌≤◌}
+use Rattle.std.specs.Prelude.{◌≡◌, refl, true, List, [], ◌∷◌, ◌++◌, map, ℕ, suc, ◌≤◌}
 use Rattle.std.proofs.Common.{ap, le_refl, arith, length-append}
 use Rattle.theory_lists.specs.Lists.{map-append}
 use Rattle.model.specs.Tree.{Function, Entry, flat, flat_entry}
