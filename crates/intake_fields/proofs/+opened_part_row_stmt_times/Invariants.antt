@@ -1,0 +1,36 @@
+-- `intake_fields::+opened_part_row_stmt_times` meets its contract.
+use Prim.Native.Nat.{◌*◌, ◌+◌, ◌-◌}
+use native.Mathlib.Omega.{arith}
+use Rattle.intake_fields.proofs.Rows.{rows_few}
+use Rattle.intake_fields.specs.Rows.{ROWS, SIZE, KIND_ROW}
+use Rattle.intake_fields.proofs.Steps.{opened-short, opened_over, opened-unknown, opened_in, opened_rows, stmt_short, stmt_misfit, stmt_strange, stmt_next, stmt_wrong, part-text, part-operands, part_stmt, part_block, part-other, part_deep, Rowing, row-begin, row_done, row_symbol, row_large, row-short, row_plain, row_misfit, row_strange, row-again, Timing, times-begin, times_done, times_misfit, times_strange, times-next}
+use Prim.Native.Nat.{ℕ, ◌<◌}
+use borrow.Fn.PlainCycle.{Measures, is, falls, and}
+use Rattle.intake_fields.proofs.+opened_part_row_stmt_times.Given as goal
+
+abbrev pub decreases-opened : goal.decreases-opened
+decreases-opened l = 4 * (l.end - l.at)
+
+abbrev pub decreases-part : goal.decreases-part
+decreases-part l = 4 * (l.end - l.at) + 1
+
+abbrev pub decreases-row : goal.decreases-row
+decreases-row l = 4 * (l.end - l.at) + 2
+
+abbrev pub decreases-stmt : goal.decreases-stmt
+decreases-stmt l = 4 * (l.end - l.at)
+
+abbrev pub decreases-times : goal.decreases-times
+decreases-times l = 4 * (l.end - l.at) + 3
+
+abbrev pub invariant-row-loop-at : goal.invariant-row-loop-at
+invariant-row-loop-at l = Rowing l.words l.initial.tags l.at l.end l.pc l.left l.tags l.i l.p
+
+abbrev pub decreases-row-loop-at : goal.decreases-row-loop-at
+decreases-row-loop-at l = ROWS - l.p
+
+abbrev pub invariant-times-loop-n : goal.invariant-times-loop-n
+invariant-times-loop-n l = Timing l.words l.initial.tags l.at l.count l.end l.pc l.left l.tags l.i l.n
+
+abbrev pub decreases-times-loop-n : goal.decreases-times-loop-n
+decreases-times-loop-n l = l.n
