@@ -1,0 +1,10 @@
+use Prim.Native.Nat.{◌-◌, ◌+◌}
+use lib.ListN.{get_or}
+use Rattle.intake_blocks.proofs.Answers.{Skipping, skip_begin, skip_in, skip_far, skip_next, skip_done}
+use Rattle.intake_blocks.proofs.skip.Given as goal
+
+abbrev pub invariant-loop-n : goal.invariant-loop-n
+invariant-loop-n l = Skipping l.words (get_or l.words l.at 0) (l.at + 1) l.n l.i
+
+abbrev pub decreases-loop-n : goal.decreases-loop-n
+decreases-loop-n l = l.n

@@ -1,0 +1,28 @@
+-- `intake_distinct::absent` meets its contract: the invariant is that what is left from number i on says what the whole says.
+use mathlib.Core.Path.{refl}
+use Prim.Native.Nat.{◌-◌}
+use native.Mathlib.Omega.{arith}
+use Rattle.model.specs.Module.{count_at}
+use Rattle.model.specs.Names.{absent}
+use Rattle.intake_distinct.specs.Listed.{listing, number_at}
+use Rattle.intake_distinct.proofs.Steps.{Over, over_from, absent_done, absent_found, absent-next}
+use borrow.Author.Rules.{rules}
+use Rattle.intake_distinct.proofs.absent.Goals as goal
+
+pub count-n-requires : goal.count-n-requires
+count-n-requires c = c.requires.placed.known
+
+pub loop-i-init : goal.loop-i-init
+loop-i-init c = over_from (λ l. absent l c.args.x) (number_at c.args.words.now c.args.k) _ _ _ _ c.count-n.ensures.0 c.requires.from_bound refl
+
+pub number-requires : goal.number-requires
+number-requires c = let h = c.count-n.ensures in record { placed = c.requires.placed; j_bound = omega arith; j_bound_2 = omega arith }
+
+pub returns-then-x-number : goal.returns-then-x-number
+returns-then-x-number c = absent_found _ _ _ _ _ _ c.loop-i.invariant c.loop-i-test.true _ c.number.ensures c.if-x-number.true
+
+pub loop-i-preserved : goal.loop-i-preserved
+loop-i-preserved c = absent-next _ _ _ _ _ _ c.loop-i.invariant c.loop-i-test.true _ c.number.ensures c.if-x-number.false
+
+pub returns : goal.returns
+returns c = absent_done _ _ c.args.x _ _ _ c.loop-i.invariant c.loop-i-test.false

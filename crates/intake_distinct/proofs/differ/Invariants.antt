@@ -1,0 +1,14 @@
+-- `intake_distinct::differ` meets its contract: the invariant is that the names from number i on differ and have their marks.
+use native.Mathlib.Omega.{arith}
+use Rattle.model.specs.Module.{count_at}
+use Rattle.model.specs.Names.{differ}
+use Rattle.intake_distinct.specs.Listed.{name_at}
+use Rattle.intake_distinct.specs.Places.{hash}
+use Rattle.intake_distinct.proofs.Places.{names, Down, down_all, down_seen, down_fails, down_next, down_done}
+use Rattle.intake_distinct.proofs.differ.Given as goal
+
+abbrev pub invariant-loop-i : goal.invariant-loop-i
+invariant-loop-i l = Down differ hash 4096 (name_at l.words) (count_at 0 l.words) l.seen l.i
+
+abbrev pub decreases-loop-i : goal.decreases-loop-i
+decreases-loop-i l = l.i

@@ -1,0 +1,11 @@
+use Rattle.intake_fields.specs.Rows.{SIZE}
+use native.Mathlib.Omega.{arith}
+use Prim.Native.Nat.{◌-◌}
+use Rattle.intake_layout.proofs.Sections.{Sectioning, sections-begin, sections_forth, sections-within, sections-total, sections-row, sections_bad, sections_fits, sections_strange, last_forth, last_bad, last_strange, last-odd, last_fits}
+use Rattle.intake_layout.proofs.section.sections.Given as goal
+
+abbrev pub invariant-loop-k : goal.invariant-loop-k
+invariant-loop-k l = Sectioning l.words l.initial.tags l.total l.tags l.k l.odd
+
+abbrev pub decreases-loop-k : goal.decreases-loop-k
+decreases-loop-k l = 8 - l.k

@@ -1,0 +1,23 @@
+-- `intake_lower::operands` meets its contract: the invariant is that what is left from word i on, with the expressions that have begun, says what the whole says.
+use Prim.Native.Nat.{◌-◌}
+use Rattle.intake_lower.specs.Passes.{expr_next, expr_ok}
+use Rattle.intake_lower.proofs.Steps.{Left, left_all, left_none, left_fails, left_next, expr_grows}
+use borrow.Author.Rules.{rules}
+use mathlib.Core.Bool.{not}
+use mathlib.Core.Path.{ap}
+use Rattle.intake_lower.proofs.operands.Goals as goal
+
+pub loop-i-init : goal.loop-i-init
+loop-i-init c = left_all expr_next expr_ok expr_grows _ _ _ _ c.requires
+
+pub expr_next-count-requires : goal.expr_next-count-requires
+expr_next-count-requires c = let i = c.loop-i.invariant in let p = c.requires in search rules
+
+pub returns-then-not-expr_ok : goal.returns-then-not-expr_ok
+returns-then-not-expr_ok c = left_fails expr_next expr_ok expr_grows _ _ _ _ _ _ c.loop-i.invariant c.loop-i-test.true c.requires _ c.expr_next-count.ensures _ c.expr_ok.ensures (ap not c.if-not-expr_ok.true)
+
+pub loop-i-preserved : goal.loop-i-preserved
+loop-i-preserved c = left_next expr_next expr_ok expr_grows _ _ _ _ _ _ c.loop-i.invariant c.loop-i-test.true c.requires _ c.expr_next-count.ensures _ c.expr_ok.ensures (ap not c.if-not-expr_ok.false)
+
+pub returns : goal.returns
+returns c = left_none expr_next expr_ok expr_grows _ _ _ _ _ _ c.loop-i.invariant c.loop-i-test.false

@@ -1,0 +1,29 @@
+-- `intake_names::present` meets its contract: the invariant is that what is left from number i on says what the whole says.
+use mathlib.Core.Path.{refl}
+use Prim.Native.Nat.{◌-◌}
+use native.Mathlib.Omega.{arith}
+use Rattle.model.specs.Module.{count_at}
+use Rattle.model.specs.Names.{present}
+use Rattle.intake_distinct.specs.Listed.{listing, number_at}
+use Rattle.intake_distinct.proofs.Steps.{Over, over_all}
+use Rattle.intake_names.proofs.Steps.{present_done, present-none, present-next}
+use borrow.Author.Rules.{rules}
+use Rattle.intake_names.proofs.present.Goals as goal
+
+pub count-n-requires : goal.count-n-requires
+count-n-requires c = c.requires.known
+
+pub loop-i-init : goal.loop-i-init
+loop-i-init c = over_all present (number_at c.args.words.now c.args.k) _ _ _ c.count-n.ensures.0 refl
+
+pub number-requires : goal.number-requires
+number-requires c = let h = c.count-n.ensures in record { placed = c.requires; j_bound = omega arith; j_bound_2 = omega arith }
+
+pub returns-then-number-eq0 : goal.returns-then-number-eq0
+returns-then-number-eq0 c = present-none _ _ _ _ _ c.loop-i.invariant c.loop-i-test.true _ c.number.ensures c.if-number-eq0.true
+
+pub loop-i-preserved : goal.loop-i-preserved
+loop-i-preserved c = present-next _ _ _ _ _ c.loop-i.invariant c.loop-i-test.true _ c.number.ensures c.if-number-eq0.false
+
+pub returns : goal.returns
+returns c = present_done _ _ _ _ _ c.loop-i.invariant c.loop-i-test.false

@@ -1,0 +1,10 @@
+use native.Mathlib.Omega.{arith}
+use Rattle.order_lines.proofs.Joining.{Going, lines_begin, line_asks, lines_again, lines_end}
+use Prim.Native.Nat.{◌-◌}
+use Rattle.order_lines.proofs.lines.Given as goal
+
+abbrev pub invariant-loop-i : goal.invariant-loop-i
+invariant-loop-i l = Going l.words l.order l.count l.initial.out l.at l.i l.next l.out
+
+abbrev pub decreases-loop-i : goal.decreases-loop-i
+decreases-loop-i l = l.count - l.i

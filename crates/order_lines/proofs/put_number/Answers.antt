@@ -1,0 +1,13 @@
+-- `order_lines::put_number` meets its contract: one, two or three digits.
+use Rattle.order_lines.proofs.Bytes.{puts_one, puts_two, puts_three}
+use borrow.Author.Rules.{rules}
+use Rattle.order_lines.proofs.put_number.Goals as goal
+
+pub returns-then-x-lt10 : goal.returns-then-x-lt10
+returns-then-x-lt10 c = puts_one _ _ _ c.if-x-lt10.true c.digit.ensures
+
+pub returns-then-x-lt100 : goal.returns-then-x-lt100
+returns-then-x-lt100 c = puts_two _ _ _ c.if-x-lt10.false c.if-x-lt100.true c.digit-then-x-lt100.ensures c.digit-then-x-lt100-2.ensures
+
+pub returns : goal.returns
+returns c = puts_three _ _ _ c.if-x-lt100.false c.digit-2.ensures c.digit-3.ensures c.digit-4.ensures

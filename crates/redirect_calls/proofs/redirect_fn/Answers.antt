@@ -1,0 +1,14 @@
+use Prim.Native.Nat.{◌-◌}
+use Rattle.model.specs.Redirect.{redirecting}
+use Rattle.redirect_calls.proofs.Pass.{Left, begin, finish, next}
+use borrow.Author.Rules.{rules}
+use Rattle.redirect_calls.proofs.redirect_fn.Goals as goal
+
+pub loop-i-init : goal.loop-i-init
+loop-i-init c = search (begin, rules)
+
+pub loop-i-preserved : goal.loop-i-preserved
+loop-i-preserved c = search (next, rules)
+
+pub returns : goal.returns
+returns c = search (finish, rules)

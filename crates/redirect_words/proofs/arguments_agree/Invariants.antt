@@ -1,0 +1,9 @@
+use Prim.Native.Nat.{◌-◌}
+use Rattle.redirect_words.proofs.Finding.{Agreeing, agree-begin, lists_in, agree-short, in_a, in_b, agree_not, agree-next, agree_done}
+use Rattle.redirect_words.proofs.arguments_agree.Given as goal
+
+abbrev pub invariant-loop-j : goal.invariant-loop-j
+invariant-loop-j l = Agreeing l.words l.tags l.n l.i l.k l.some l.others l.j
+
+abbrev pub decreases-loop-j : goal.decreases-loop-j
+decreases-loop-j l = l.some - l.j

@@ -1,0 +1,11 @@
+use Rattle.model.specs.FunctionView.{returns_at}
+use mathlib.Core.Path.{ap, ◌∙◌}
+use Rattle.redirect_words.proofs.Finding.{lists_in}
+use borrow.Author.Rules.{rules}
+use Rattle.redirect_words.proofs.returns_at.Goals as goal
+
+pub returns_at-requires : goal.returns_at-requires
+returns_at-requires c = lists_in _ _ _ _ c.requires.tape c.requires.i_bound _ c.record_at-s.ensures
+
+pub returns : goal.returns
+returns c = (c.returns_at.ensures.0 ∙ ap (λ s. returns_at s c.args.words.now) c.record_at-s.ensures, c.returns_at.ensures.1)
