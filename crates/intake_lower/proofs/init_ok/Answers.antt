@@ -17,7 +17,7 @@ pub returns-then-count-j-2 : goal.returns-then-count-j-2
 returns-then-count-j-2 c = override-none _ _ _ _ _ c.wide-j.ensures.0 _ c.count-then-s-eq-OVERRIDE.ensures.0 c.if-s-eq-CONSTANT.false c.if-s-eq-OVERRIDE.true c.if-count-j-2.true
 
 pub word_at-requires-then-s-eq-OVERRIDE : goal.word_at-requires-then-s-eq-OVERRIDE
-word_at-requires-then-s-eq-OVERRIDE c = ((omega arith, omega (arith, c.count-then-s-eq-OVERRIDE.ensures.0), omega arith), c.requires.1)
+word_at-requires-then-s-eq-OVERRIDE c = record { k_bound = (omega arith, omega (arith, c.count-then-s-eq-OVERRIDE.ensures.0), omega arith); reaches = c.requires.1 }
 
 pub returns-then-s-eq-OVERRIDE : goal.returns-then-s-eq-OVERRIDE
 returns-then-s-eq-OVERRIDE c = override-tested _ _ _ _ _ c.wide-j.ensures.0 _ _ c.count-then-s-eq-OVERRIDE.ensures.0 c.if-s-eq-CONSTANT.false c.if-s-eq-OVERRIDE.true c.if-count-j-2.false c.word_at-then-s-eq-OVERRIDE.ensures.0
