@@ -1,12 +1,11 @@
 -- What all rounds leave: the rounds of those that still wait leave what those of all leave.
 use mathlib.Core.Path.{◌≡◌, refl, sym, ap, ◌∙◌}
-use mathlib.Core.Bool.{not}
 use mathlib.Core.List.{List, []}
-use Prim.Native.Nat.{ℕ, ◌+◌, ◌≤◌, ◌<◌}
+use Prim.Native.Nat.{ℕ, ◌≤◌, ◌<◌}
 use native.Mathlib.Omega.{arith}
 use lib.ListN.{length}
 use Rattle.theory_lists.specs.Lists.{length_none}
-use Rattle.model.specs.Calls.{numbers, keep, free, held, Rounds, rounds}
+use Rattle.model.specs.Calls.{numbers, free, held, Rounds}
 use Rattle.order_ranks.specs.Marks.{holds, members, marked, Below}
 use Rattle.order_ranks.specs.Placing.{Placeable, Placed, Leaves}
 use Rattle.theory_order.specs.Lists.{length-numbers, length-parts}

@@ -1,6 +1,5 @@
 -- `order_ranks::clear` meets its contract: words of 0 hold no mark.
 use Rattle.order_ranks.proofs.Marks.{zeros_call_none}
-use borrow.Author.Rules.{rules}
 use Rattle.order_ranks.proofs.clear.Goals as goal
 
 pub returns : goal.returns

@@ -1,6 +1,5 @@
 -- `order_ranks::clear_bit` meets its contract: a power of two has one bit.
 use Rattle.order_ranks.proofs.Bits.{xor_clears}
-use borrow.Author.Rules.{rules}
 use Rattle.order_ranks.proofs.clear_bit.Goals as goal
 
 pub returns : goal.returns

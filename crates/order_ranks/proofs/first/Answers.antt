@@ -1,6 +1,5 @@
 -- `order_ranks::first` meets its contract. The invariant: the set has the marks below i.
-use Prim.Native.Nat.{◌-◌}
-use Rattle.order_ranks.proofs.Begun.{Begun, begin, next, finish}
+use Rattle.order_ranks.proofs.Begun.{begin, next, finish}
 use borrow.Author.Rules.{rules}
 use Rattle.order_ranks.proofs.first.Goals as goal
 

@@ -1,6 +1,6 @@
 -- `order_ranks::first` meets its contract. The invariant: the set has the marks below i.
 use Prim.Native.Nat.{◌-◌}
-use Rattle.order_ranks.proofs.Begun.{Begun, begin, next, finish}
+use Rattle.order_ranks.proofs.Begun.{Begun}
 use Rattle.order_ranks.proofs.first.Given as goal
 
 abbrev pub invariant-loop-i : goal.invariant-loop-i

@@ -1,7 +1,6 @@
 -- `order_ranks::join` meets its contract: one bit more in one word.
 use Rattle.order_ranks.proofs.Marks.{puts}
 use mathlib.Core.Bool.{true}
-use borrow.Author.Rules.{rules}
 use Rattle.order_ranks.proofs.join.Goals as goal
 
 pub returns : goal.returns

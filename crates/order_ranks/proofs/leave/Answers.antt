@@ -2,7 +2,6 @@
 use mathlib.Core.Bool.{false}
 use Rattle.order_ranks.specs.Marks.{holds}
 use Rattle.order_ranks.proofs.Marks.{puts, low_bit}
-use borrow.Author.Rules.{rules}
 use Rattle.order_ranks.proofs.leave.Goals as goal
 
 pub clear_bit-requires : goal.clear_bit-requires

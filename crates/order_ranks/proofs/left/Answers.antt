@@ -1,8 +1,5 @@
 -- `order_ranks::left` meets its contract. The invariant: the rounds of those that wait leave what is left of the whole.
-use lib.ListN.{length}
-use Rattle.order_ranks.specs.Marks.{members}
-use Rattle.order_ranks.proofs.Leaving.{Leaving, begin, asks, again, less, finish}
-use borrow.Author.Rules.{rules}
+use Rattle.order_ranks.proofs.Leaving.{begin, asks, again, less, finish}
 use Rattle.order_ranks.proofs.left.Goals as goal
 
 pub loop-out-init : goal.loop-out-init

@@ -1,6 +1,5 @@
 -- `order_ranks::mark` meets its contract: one bit more in one word.
 use Rattle.order_ranks.proofs.Marks.{calls_too}
-use borrow.Author.Rules.{rules}
 use Rattle.order_ranks.proofs.mark.Goals as goal
 
 pub returns : goal.returns

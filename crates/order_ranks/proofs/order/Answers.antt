@@ -1,8 +1,6 @@
 -- `order_ranks::order` meets its contract. The invariant: what the rounds of those that wait will write and leave is the whole.
-use Prim.Native.Nat.{◌-◌}
 use native.Mathlib.Omega.{arith}
-use Rattle.order_ranks.proofs.Whole.{Under, begin, asks, again, less, stuck, finish}
-use borrow.Author.Rules.{rules}
+use Rattle.order_ranks.proofs.Whole.{begin, asks, again, less, stuck, finish}
 use Rattle.order_ranks.proofs.order.Goals as goal
 
 pub first-waiting-requires : goal.first-waiting-requires

@@ -1,7 +1,6 @@
 -- `order_ranks::order` meets its contract. The invariant: what the rounds of those that wait will write and leave is the whole.
 use Prim.Native.Nat.{◌-◌}
-use native.Mathlib.Omega.{arith}
-use Rattle.order_ranks.proofs.Whole.{Under, begin, asks, again, less, stuck, finish}
+use Rattle.order_ranks.proofs.Whole.{Under}
 use Rattle.order_ranks.proofs.order.Given as goal
 
 abbrev pub invariant-loop-at : goal.invariant-loop-at

@@ -1,9 +1,8 @@
 -- `order_ranks::place` meets its contract. The invariant: what is to be written from mark i on completes the round.
 use mathlib.Core.Path.{sym, ◌∙◌}
-use Prim.Native.Nat.{◌-◌}
 use native.Mathlib.Omega.{arith}
 use borrow.Author.Tests.{not-true, not-false}
-use Rattle.order_ranks.proofs.Turn.{Turn, begin, there, keeps, places, passes, fits, finish}
+use Rattle.order_ranks.proofs.Turn.{begin, there, keeps, places, passes, fits, finish}
 use borrow.Author.Rules.{rules}
 use mathlib.Core.Bool.{not}
 use mathlib.Core.Path.{ap}
@@ -19,7 +18,7 @@ pub bounds-out-k : goal.bounds-out-k
 bounds-out-k c = let p = c.requires in fits _ _ _ p.small p.low _ _ _ _ _ _ c.loop-i.invariant c.loop-i-test.true p.room (sym c.has.ensures ∙ c.if-has.true) (sym c.waits.ensures ∙ not-true _ (ap not c.if-not-waits.true))
 
 pub offset_bounds-out-k : goal.offset_bounds-out-k
-offset_bounds-out-k c = let h = bounds-out-k c in search rules
+offset_bounds-out-k c = let p = c.requires in let h = fits _ _ _ p.small p.low _ _ _ _ _ _ c.loop-i.invariant c.loop-i-test.true p.room (sym c.has.ensures ∙ c.if-has.true) (sym c.waits.ensures ∙ not-true _ (ap not c.if-not-waits.true)) in search rules
 
 pub overflow_add-k : goal.overflow_add-k
 overflow_add-k c = let h = bounds-out-k c in search rules

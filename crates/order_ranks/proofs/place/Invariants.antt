@@ -1,9 +1,6 @@
 -- `order_ranks::place` meets its contract. The invariant: what is to be written from mark i on completes the round.
-use mathlib.Core.Path.{sym, ◌∙◌}
 use Prim.Native.Nat.{◌-◌}
-use native.Mathlib.Omega.{arith}
-use borrow.Author.Tests.{not-true, not-false}
-use Rattle.order_ranks.proofs.Turn.{Turn, begin, there, keeps, places, passes, fits, finish}
+use Rattle.order_ranks.proofs.Turn.{Turn}
 use Rattle.order_ranks.proofs.place.Given as goal
 
 abbrev pub invariant-loop-i : goal.invariant-loop-i

@@ -1,6 +1,5 @@
 -- `order_ranks::set_bit` meets its contract: a power of two has one bit.
 use Rattle.order_ranks.proofs.Bits.{or_sets}
-use borrow.Author.Rules.{rules}
 use Rattle.order_ranks.proofs.set_bit.Goals as goal
 
 pub returns : goal.returns

@@ -1,11 +1,7 @@
 -- `order_ranks::waits` meets its contract. The invariant: no word passed has a bit in common.
-use mathlib.Core.Path.{◌≡◌, sym, ◌∙◌}
-use mathlib.Core.Bool.{false}
-use Prim.Native.Nat.{ℕ, ◌+◌, ◌-◌, ◌≤◌, ◌<◌}
+use mathlib.Core.Path.{sym, ◌∙◌}
 use native.Mathlib.Omega.{arith}
-use lib.ListN.{get_or}
 use borrow.Author.Count.{below_none, below_more}
-use Rattle.order_ranks.specs.Marks.{meets}
 use Rattle.order_ranks.proofs.Marks.{meet_calls, apart-calls}
 use borrow.Author.Rules.{rules}
 use Rattle.order_ranks.proofs.waits.Goals as goal

@@ -1,12 +1,9 @@
 -- `order_ranks::waits` meets its contract. The invariant: no word passed has a bit in common.
-use mathlib.Core.Path.{◌≡◌, sym, ◌∙◌}
+use mathlib.Core.Path.{◌≡◌}
 use mathlib.Core.Bool.{false}
 use Prim.Native.Nat.{ℕ, ◌+◌, ◌-◌, ◌≤◌, ◌<◌}
-use native.Mathlib.Omega.{arith}
 use lib.ListN.{get_or}
-use borrow.Author.Count.{below_none, below_more}
 use Rattle.order_ranks.specs.Marks.{meets}
-use Rattle.order_ranks.proofs.Marks.{meet_calls, apart-calls}
 use Rattle.order_ranks.proofs.waits.Given as goal
 
 abbrev pub invariant-loop-w : goal.invariant-loop-w
