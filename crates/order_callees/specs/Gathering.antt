@@ -1,7 +1,6 @@
 -- The callees of functions as they are in words and tags: the words of the class CALLEE between two places, and what marking them does.
-use Rattle.std.specs.Prelude.{◌≡◌, true, cond, ◌&&◌, List, [], ◌∷◌, ℕ, ◌+◌, ◌≤◌, ◌<◌, eqb, length, take, drop}
+use Rattle.std.specs.Prelude.{◌≡◌, true, cond, ◌&&◌, List, ℕ, ◌+◌, ◌≤◌, ◌<◌, eqb, length, take, drop}
 use Rattle.std.proofs.Math.Seq.{slice}
-use Rattle.model.specs.Table.{CALLEE}
 use Rattle.model.specs.Module.{Module, count_at, offset_at}
 use Rattle.model.specs.View.{record_at, record_end}
 use Rattle.model.specs.Taped.{Taped}
