@@ -124,7 +124,7 @@ pub stmt-bounds-words-at : goal.stmt-bounds-words-at
 stmt-bounds-words-at t c = let h = stmt_low _ _ _ [] [] _ _ _ _ c.requires in let w = c.requires.holds.within in search rules
 
 pub stmt-emit-requires : goal.stmt-emit-requires
-stmt-emit-requires t c = (c.requires.exprs, emit_asks _ _ _ [] [] _ _ _ _ c.requires c.if-k-eq-EMIT.true)
+stmt-emit-requires t c = let zz = emit_asks _ _ _ [] [] _ _ _ _ c.requires c.if-k-eq-EMIT.true in record { exprs = c.requires.exprs; at_lt_keep = zz.0; at_bound = zz.1.0; at_bound_2 = zz.1.1 }
 
 pub stmt-returns-then-k-eq-EMIT : goal.stmt-returns-then-k-eq-EMIT
 stmt-returns-then-k-eq-EMIT t c = stmt_emit _ _ _ _ _ _ _ _ _ c.requires c.if-k-eq-EMIT.true _ _ _ c.emit.ensures _ c.found.ensures
