@@ -3,12 +3,10 @@ use mathlib.Core.Path.{◌≡◌, refl, sym, ap, ap₂, ◌∙◌}
 use mathlib.Core.Bool.{Bool, true, false}
 use mathlib.Core.Option.{Option, none, some}
 use mathlib.Core.List.{List, [], ◌∷◌, ◌++◌}
-use Prim.Native.Nat.{ℕ, ◌+◌}
+use Prim.Native.Nat.{ℕ}
 use native.Mathlib.Omega.{arith}
 use lib.ListN.{length, take, drop, take-append-drop}
 use lib.Seq.{sets, length-take-le}
-use denote.Enum.Declared.{tag_of}
-use types.Run.{OneOf, miss}
 use Rattle.model.specs.Module.{Module, write}
 use Rattle.model.specs.Taped.{Taped, Tape}
 use Rattle.model.specs.Redirect.{find, all_below, argument_types, agree, result_type, same, redirect, Answer, redirected, outside, no_original, no_replacement, arguments_differ, results_differ, after, function, compared, with_replacement, with_original, redirect_function}
@@ -19,7 +17,6 @@ use Rattle.redirect_words.specs.Passes.{shown, Tests, Redirects}
 use Rattle.redirect_calls.specs.Turns.{RedirectAllEnsures, redirected_by}
 use Rattle.redirect_words.specs.declared.Redirected.{Redirected}
 use Rattle.redirect_words.specs.declared.Redirected.TheVariants.{Done, Outside, NoOriginal, NoReplacement, ArgumentsDiffer, ResultsDiffer}
-use Rattle.redirect_words.specs.contracts.Redirected.{the_type}
 use Rattle.redirect_calls.proofs.Turning.{sets_middle}
 use Rattle.base_handles.specs.declared.FunctionHandle.{FunctionHandle}
 
@@ -81,9 +78,9 @@ pub data Refused : Redirected → Type 0 where
   refuses_by : {r : Redirected} (k : ℕ) → shown r ≡ refused k → Refused r
 
 -- every variant but the first
-pub not_done : (r : Redirected) → OneOf (1 ∷ 2 ∷ 3 ∷ 4 ∷ 5 ∷ []) (tag_of the_type r) → Refused r
+pub not_done : (r : Redirected) → ((a b : FunctionHandle) → r ≡ Done a b → ⊥) → Refused r
 unfolding shown
-not_done (Done a b) k = absurd (miss (1 ∷ 2 ∷ 3 ∷ 4 ∷ 5 ∷ []) 0 tt k)
+not_done (Done a b) k = absurd (k a b refl)
 not_done Outside k = refuses_by 13 refl
 not_done NoOriginal k = refuses_by 8 refl
 not_done NoReplacement k = refuses_by 9 refl
@@ -94,14 +91,9 @@ not_done ResultsDiffer k = refuses_by 11 refl
 pub data Accepted : Redirected → Type 0 where
   accepts : {r : Redirected} (a b : ℕ) → shown r ≡ done (a, b) → Accepted r
 
-pub is_done : (r : Redirected) → OneOf (0 ∷ []) (tag_of the_type r) → Accepted r
+pub is_done : (r : Redirected) (a b : FunctionHandle) → r ≡ Done a b → Accepted r
 unfolding shown
-is_done (Done a b) k = accepts a.0 b.0 refl
-is_done Outside k = absurd (miss (0 ∷ []) 1 tt k)
-is_done NoOriginal k = absurd (miss (0 ∷ []) 2 tt k)
-is_done NoReplacement k = absurd (miss (0 ∷ []) 3 tt k)
-is_done ArgumentsDiffer k = absurd (miss (0 ∷ []) 4 tt k)
-is_done ResultsDiffer k = absurd (miss (0 ∷ []) 5 tt k)
+is_done r a b e = accepts a.0 b.0 (ap shown e)
 
 module _ (words tags : List ℕ) (n o p : ℕ) (omit : List ℕ) (r : Redirected) (t : Tests r words tags n o p omit) where
   pub words_stay : Refused r → Redirects r words words tags n o p omit

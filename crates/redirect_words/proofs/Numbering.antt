@@ -11,7 +11,7 @@ use borrow.Author.Tests.{eqb-true, lt-ltb}
 use Rattle.theory_lists.specs.Booleans.{and-true, and_split}
 use Rattle.model.specs.Outcome.{Cell, Cells, class}
 use Rattle.model.specs.Table.{Row, EXPR, FROM, TO, PAD, VALUE, ATOMIC, RETURNS, Shape, s_emit, s_block, s_if, s_switch, s_loop, s_break, s_continue, s_return, s_kill, s_call, s_effect, values, atomics, results, statements, function_head, entry_head, counted, variants, brings, more}
-use Rattle.model.specs.Tree.{Stmt, Form, Block, Cases, Case, ◌then◌, ◌also◌, Range, Function, Entry, flat_s, flat_f, flat_b, flat_k, flat_c, flat_x, flat_all, flat_list, flat_block, flat, flat_entry}
+use Rattle.model.specs.Tree.{Stmt, Form, Block, Cases, Case, Range, Function, Entry, flat_s, flat_f, flat_b, flat_k, flat_c, flat_x, flat_all, flat_list, flat_block, flat, flat_entry}
 use Rattle.model.specs.Module.{Module}
 use Rattle.model.specs.Carry.{carry_cell, carry_cells, carry_function, carry_entry, Lays, lays_none, lays_next, Each, each_none, each_next, OkS, OkF, OkB, OkBs, OkK, OkC, ok_stmt, ok_emit, ok_block, ok_branch, ok_switch, ok_loop, ok_break, ok_continue, ok_return, ok_kill, ok-call, ok_effect, ok_deeper, ok_end, ok_then, ok_case, ok_nomore, ok_also, WellFunction, WellEntry, WellFormed}
 use Rattle.model.specs.Initial.{initialised}

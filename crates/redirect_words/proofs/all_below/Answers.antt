@@ -1,6 +1,4 @@
-use Prim.Native.Nat.{◌-◌}
-use lib.ListN.{length}
-use Rattle.redirect_words.proofs.Lists.{Below, below-begin, below_not, below_next, below_done}
+use Rattle.redirect_words.proofs.Lists.{below-begin, below_not, below_next, below_done}
 use borrow.Author.Rules.{rules}
 use Rattle.redirect_words.proofs.all_below.Goals as goal
 

@@ -1,6 +1,6 @@
 use Prim.Native.Nat.{◌-◌}
 use lib.ListN.{length}
-use Rattle.redirect_words.proofs.Lists.{Below, below-begin, below_not, below_next, below_done}
+use Rattle.redirect_words.proofs.Lists.{Below}
 use Rattle.redirect_words.proofs.all_below.Given as goal
 
 abbrev pub invariant-loop-i : goal.invariant-loop-i

@@ -1,5 +1,4 @@
-use Prim.Native.Nat.{◌-◌}
-use Rattle.redirect_words.proofs.Finding.{Agreeing, agree-begin, lists_in, agree-short, in_a, in_b, agree_not, agree-next, agree_done}
+use Rattle.redirect_words.proofs.Finding.{agree-begin, lists_in, agree-short, in_a, in_b, agree_not, agree-next, agree_done}
 use borrow.Author.Rules.{rules}
 use Rattle.redirect_words.proofs.arguments_agree.Goals as goal
 

@@ -1,5 +1,5 @@
 use Prim.Native.Nat.{◌-◌}
-use Rattle.redirect_words.proofs.Finding.{Agreeing, agree-begin, lists_in, agree-short, in_a, in_b, agree_not, agree-next, agree_done}
+use Rattle.redirect_words.proofs.Finding.{Agreeing}
 use Rattle.redirect_words.proofs.arguments_agree.Given as goal
 
 abbrev pub invariant-loop-j : goal.invariant-loop-j

@@ -1,6 +1,5 @@
-use Prim.Native.Nat.{◌-◌}
 use mathlib.Core.Path.{refl}
-use Rattle.redirect_words.proofs.Finding.{Seeking, seek_begin, seek_in, seek_small, seek_at, seek_fits, seek_here, seek_on, seek_none}
+use Rattle.redirect_words.proofs.Finding.{seek_begin, seek_in, seek_small, seek_at, seek_fits, seek_here, seek_on, seek_none}
 use borrow.Author.Rules.{rules}
 use Rattle.redirect_words.proofs.find.Goals as goal
 

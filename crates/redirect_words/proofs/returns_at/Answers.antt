@@ -1,7 +1,6 @@
 use Rattle.model.specs.FunctionView.{returns_at}
 use mathlib.Core.Path.{ap, ◌∙◌}
 use Rattle.redirect_words.proofs.Finding.{lists_in}
-use borrow.Author.Rules.{rules}
 use Rattle.redirect_words.proofs.returns_at.Goals as goal
 
 pub returns_at-requires : goal.returns_at-requires

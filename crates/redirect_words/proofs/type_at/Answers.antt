@@ -1,7 +1,6 @@
 use lib.ListN.{get_or}
 use Prim.Native.Nat.{◌+◌}
 use mathlib.Core.Path.{ap}
-use borrow.Author.Rules.{rules}
 use Rattle.redirect_words.proofs.type_at.Goals as goal
 
 pub returns : goal.returns
