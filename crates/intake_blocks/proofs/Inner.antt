@@ -4,7 +4,7 @@ use mathlib.Core.Logic.{◌⊎◌, inl, inr, ⊎_elim}
 use mathlib.Core.Bool.{Bool, true, false, ◌&&◌, ◌||◌, not}
 use mathlib.Core.List.{List, [], ◌∷◌, ◌++◌, append-nil, append_assoc}
 use mathlib.Core.Option.{some}
-use Prim.Native.Nat.{ℕ, zero, suc, ◌+◌, ◌-◌, ◌≤◌, ◌<◌}
+use Prim.Native.Nat.{ℕ, zero, suc, ◌+◌, ◌≤◌, ◌<◌}
 use native.Mathlib.Numerals.{add-one}
 use native.Mathlib.Omega.{arith}
 use lib.ListN.{length, get_or, length-append, get_elem?}
@@ -12,7 +12,7 @@ use borrow.Author.Tests.{not-true, not-false}
 use Rattle.theory_lists.specs.Booleans.{and_right}
 use Rattle.model.specs.Outcome.{Cell, Cells, class, word}
 use Rattle.model.specs.Table.{Row, EXPR, OPT_EXPR, WORD, VALUE, BLOCK, CASES, values, variants, variant, brings, more, statements, s_call, s_effect}
-use Rattle.model.specs.Tree.{Stmt, stmt, Form, emit, block, branch, switch, loop, break, continue, return, kill, call, effect, Block, ◌then◌, case, Cases, nomore, ◌also◌, Range, kind_of, size_b, size_c, flat_s, flat_f, flat_b, flat_c, flat_block, DEPTH}
+use Rattle.model.specs.Tree.{Stmt, stmt, Form, emit, block, branch, switch, loop, break, continue, return, kill, call, effect, Block, case, Cases, nomore, ◌also◌, Range, kind_of, size_b, size_c, flat_s, flat_f, flat_b, flat_c, flat_block, DEPTH}
 use Rattle.model.specs.Carry.{Lays, lays_none, lays_next, Each, each_none, each_next, OkS, OkF, OkB, OkC, ok_stmt, ok_block, ok_branch, ok_switch, ok_effect, ok_case, ok_also}
 use Rattle.model.specs.Operands.{operand, standing}
 use Rattle.model.specs.Scope.{Place, in_switch, expand_s, expand_f, expand, expand_k, expand_c, evals_s, evals_f, evals_b, evals_k, evals_c, add_e, add_s, add_f, holds_s, holds_f, holds_b, holds_k, holds_c, cont_b, vis, all_vis}

@@ -8,7 +8,7 @@ use native.Mathlib.Omega.{arith}
 use lib.ListN.{length, get_or, length-append}
 use Rattle.model.specs.Outcome.{Cell, Cells, class, word}
 use Rattle.model.specs.Table.{BLOCK}
-use Rattle.model.specs.Tree.{Stmt, stmt, Form, kill, Block, end, ◌then◌, Case, Cases, ◌also◌, Range, size_b, flat_s, flat_b, flat_block, statement, block_at, DEPTH}
+use Rattle.model.specs.Tree.{Stmt, stmt, Form, kill, Block, end, ◌then◌, Case, Cases, Range, size_b, flat_s, flat_b, flat_block, statement, block_at, DEPTH}
 use Rattle.model.specs.Carry.{OkS, OkF, OkB, OkBs, OkK, OkC, ok_stmt, ok_emit, ok_block, ok_branch, ok_switch, ok_loop, ok_break, ok_continue, ok_return, ok_kill, ok-call, ok_effect, ok_deeper, ok_end, ok_then, ok_case, ok_nomore, ok_also}
 use Rattle.theory_image.specs.Writing.{write_s, write-b}
 use Rattle.intake_statements.specs.Tape.{cells_from, cells_in, got, block_of, stmt_of, HoldsB, HoldsS, Ends, Steps, steps-none, steps_next, stepped}

@@ -1,15 +1,8 @@
 -- `intake_blocks::+block_looped_parts_stmt` meets its contract.
-use mathlib.Core.Bool.{true}
-use mathlib.Core.List.{[]}
-use Prim.Native.Nat.{◌*◌, ◌+◌, ◌-◌, ℕ, ◌<◌}
-use native.Mathlib.Omega.{arith}
-use mathlib.Core.Path.{refl}
+use Prim.Native.Nat.{◌*◌, ◌+◌, ◌-◌}
 use Rattle.intake_blocks.specs.Found.{place_of}
-use Rattle.intake_blocks.proofs.Trees.{skip_low}
-use Rattle.intake_blocks.proofs.Blocks.{Walking, block_begin, block_far, block_on, block_stmt, block_wrong, block_next, block_done}
-use Rattle.intake_blocks.proofs.Inner.{Passing, parts-begin, parts_skip, parts_far, parts-on, parts_block, parts_wrong, parts_next, word_wrong, word_next, parts_done}
-use Rattle.intake_blocks.proofs.Statements.{loop_skip, loop_mid, loop_body, loop_skip₂, loop_wrong, loop_late, loop_continuing, loop_wrong₂, loop_end, stmt_low, emit_asks, stmt_emit, stmt_break, stmt_continue, stmt_no_continue, stmt_switch, stmt_simple, stmt_no_return}
-use borrow.Fn.PlainCycle.{Measures, is, falls, and}
+use Rattle.intake_blocks.proofs.Blocks.{Walking}
+use Rattle.intake_blocks.proofs.Inner.{Passing}
 use Rattle.intake_blocks.proofs.+block_looped_parts_stmt.Given as goal
 
 abbrev pub decreases-block : goal.decreases-block

@@ -1,5 +1,4 @@
 use Rattle.intake_blocks.proofs.Bodies.{body_is, body_long}
-use borrow.Author.Rules.{rules}
 use Rattle.intake_blocks.proofs.body.Goals as goal
 
 pub returns : goal.returns

@@ -1,6 +1,4 @@
 use native.Mathlib.Omega.{arith}
-use Prim.Native.Nat.{◌-◌, ◌≤◌}
-use Rattle.intake_blocks.specs.Found.{Cleared}
 use Rattle.intake_blocks.proofs.Bodies.{clear-begin, clear_next, clear_done}
 use borrow.Author.Rules.{rules}
 use Rattle.intake_blocks.proofs.clear.Goals as goal

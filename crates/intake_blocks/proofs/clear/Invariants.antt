@@ -1,7 +1,5 @@
-use native.Mathlib.Omega.{arith}
 use Prim.Native.Nat.{◌-◌, ◌≤◌}
 use Rattle.intake_blocks.specs.Found.{Cleared}
-use Rattle.intake_blocks.proofs.Bodies.{clear-begin, clear_next, clear_done}
 use Rattle.intake_blocks.proofs.clear.Given as goal
 
 abbrev pub invariant-loop-i : goal.invariant-loop-i

@@ -1,5 +1,4 @@
 use Rattle.intake_blocks.proofs.Answers.{kept-cut, kept-rest}
-use borrow.Author.Rules.{rules}
 use Rattle.intake_blocks.proofs.kept.Goals as goal
 
 pub returns-then-cut-eq2 : goal.returns-then-cut-eq2

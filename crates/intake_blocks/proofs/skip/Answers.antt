@@ -1,6 +1,4 @@
-use Prim.Native.Nat.{◌-◌, ◌+◌}
-use lib.ListN.{get_or}
-use Rattle.intake_blocks.proofs.Answers.{Skipping, skip_begin, skip_in, skip_far, skip_next, skip_done}
+use Rattle.intake_blocks.proofs.Answers.{skip_begin, skip_in, skip_far, skip_next, skip_done}
 use borrow.Author.Rules.{rules}
 use Rattle.intake_blocks.proofs.skip.Goals as goal
 

@@ -1,6 +1,6 @@
-use Prim.Native.Nat.{◌-◌, ◌+◌}
+use Prim.Native.Nat.{◌+◌}
 use lib.ListN.{get_or}
-use Rattle.intake_blocks.proofs.Answers.{Skipping, skip_begin, skip_in, skip_far, skip_next, skip_done}
+use Rattle.intake_blocks.proofs.Answers.{Skipping}
 use Rattle.intake_blocks.proofs.skip.Given as goal
 
 abbrev pub invariant-loop-n : goal.invariant-loop-n

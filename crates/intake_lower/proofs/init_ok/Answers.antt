@@ -1,7 +1,6 @@
 -- `intake_lower::init_ok` meets its contract: a case of the test for each return.
 use native.Mathlib.Omega.{arith}
 use Rattle.intake_lower.proofs.Steps.{constant-none, constant-tested, override-none, override-tested, init-passed}
-use borrow.Author.Rules.{rules}
 use Rattle.intake_lower.proofs.init_ok.Goals as goal
 
 pub returns-then-count-j : goal.returns-then-count-j

@@ -1,7 +1,7 @@
 -- `intake_lower::inits` meets its contract: the invariant is that what is left from word i on, with the expressions that have begun, says what the whole says.
 use Prim.Native.Nat.{◌-◌}
 use Rattle.intake_lower.specs.Passes.{expr_next, init_ok}
-use Rattle.intake_lower.proofs.Steps.{Left, left_all, left_none, left_fails, left_next, expr_grows}
+use Rattle.intake_lower.proofs.Steps.{Left}
 use Rattle.intake_lower.proofs.inits.Given as goal
 
 abbrev pub invariant-loop-i : goal.invariant-loop-i

@@ -3,7 +3,6 @@ use native.Mathlib.Omega.{arith}
 use mathlib.Core.Path.{◌∙◌}
 use Rattle.theory_image.specs.Betweens.{header_stretch}
 use Rattle.intake_lower.proofs.Answer.{types-answer, exprs_answer, inits-answer, functions_answer, entries_answer, reach, types_fail, exprs_fail, inits_fail, functions_fail, last}
-use borrow.Author.Rules.{rules}
 use mathlib.Core.Bool.{not}
 use mathlib.Core.Path.{ap}
 use Rattle.intake_lower.proofs.lower.Goals as goal

@@ -1,7 +1,6 @@
 -- `intake_lower::types` meets its contract: the invariant is that what is left from word i on, with the types that have begun, says what the whole says.
-use Prim.Native.Nat.{◌-◌}
 use Rattle.intake_lower.specs.Passes.{type_next, type_ok}
-use Rattle.intake_lower.proofs.Steps.{Left, left_all, left_none, left_fails, left_next, type_grows}
+use Rattle.intake_lower.proofs.Steps.{left_all, left_none, left_fails, left_next, type_grows}
 use borrow.Author.Rules.{rules}
 use mathlib.Core.Bool.{not}
 use mathlib.Core.Path.{ap}

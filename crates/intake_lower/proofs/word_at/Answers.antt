@@ -1,6 +1,5 @@
 -- `intake_lower::word_at` meets its contract: the record is in the words, as `Reaches` says.
 use Rattle.intake_lower.proofs.Steps.{word_in, word_is}
-use borrow.Author.Rules.{rules}
 use Rattle.intake_lower.proofs.word_at.Goals as goal
 
 pub start_of-at-requires : goal.start_of-at-requires

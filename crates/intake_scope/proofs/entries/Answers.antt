@@ -1,10 +1,8 @@
 use mathlib.Core.Path.{refl}
-use Prim.Native.Nat.{◌-◌}
 use borrow.Author.Tests.{not-false}
 use Rattle.intake_numbers.proofs.Framing.{entries_in}
-use Rattle.intake_scope.specs.Functions.{Lent}
 use Rattle.intake_statements.proofs.Scopes.{absurd_bool}
-use Rattle.intake_scope.proofs.Images.{InEntries, entries_begin, entries_done, entries_stated, entries_over, entries_next, entries_small}
+use Rattle.intake_scope.proofs.Images.{entries_begin, entries_done, entries_stated, entries_over, entries_next, entries_small}
 use borrow.Author.Rules.{rules}
 use mathlib.Core.Bool.{not}
 use mathlib.Core.Path.{ap}

@@ -1,6 +1,5 @@
 use Rattle.intake_numbers.proofs.Framing.{function-inside}
 use Rattle.intake_scope.proofs.Whole.{stated_framed, stated-known, stated-scoped}
-use borrow.Author.Rules.{rules}
 use Rattle.intake_scope.proofs.function.Goals as goal
 
 pub locals_at-locals-requires : goal.locals_at-locals-requires

@@ -1,10 +1,8 @@
 use mathlib.Core.Path.{refl}
-use Prim.Native.Nat.{◌-◌}
 use borrow.Author.Tests.{not-false}
 use Rattle.intake_numbers.proofs.Framing.{functions_in_lem}
-use Rattle.intake_scope.specs.Functions.{Lent}
 use Rattle.intake_statements.proofs.Scopes.{absurd_bool}
-use Rattle.intake_scope.proofs.Images.{InFunctions, functions_begin, functions_done, functions_stated, functions_over, functions_next}
+use Rattle.intake_scope.proofs.Images.{functions_begin, functions_done, functions_stated, functions_over, functions_next}
 use borrow.Author.Rules.{rules}
 use mathlib.Core.Bool.{not}
 use mathlib.Core.Path.{ap}

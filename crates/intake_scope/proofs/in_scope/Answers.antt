@@ -1,6 +1,5 @@
 use borrow.Author.Tests.{not-false}
 use Rattle.intake_scope.proofs.Images.{image_functions, image_entries}
-use borrow.Author.Rules.{rules}
 use mathlib.Core.Bool.{not}
 use mathlib.Core.Path.{ap}
 use Rattle.intake_scope.proofs.in_scope.Goals as goal
