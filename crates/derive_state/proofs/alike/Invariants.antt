@@ -1,0 +1,11 @@
+use Rattle.std.proofs.Common.{◌-◌, arith, rules}
+use Rattle.derive_state.specs.Refers.{went_r}
+use borrow.Author.Tests.{not-true, not-false}
+use Rattle.derive_state.proofs.Passes.{Comparing, compare-short, compare-begin, compare_small, compare_in, compare_not, compare-next, compare_done}
+use Rattle.derive_state.proofs.alike.Given as goal
+
+abbrev pub invariant-loop-i : goal.invariant-loop-i
+invariant-loop-i l = Comparing l.words l.tags l.log l.logtags (went_r l.maps) l.at l.end l.s l.i l.p
+
+abbrev pub decreases-loop-i : goal.decreases-loop-i
+decreases-loop-i l = l.end - l.i

@@ -1,0 +1,10 @@
+use Rattle.std.proofs.Common.{◌-◌, arith, rules}
+use Rattle.derive_state.specs.Refers.{went_r, Small}
+use Rattle.derive_state.proofs.Passes.{Writing, write-begin, write_good, write_stretch, write-rest, write-next, write_done}
+use Rattle.derive_state.proofs.write.Given as goal
+
+abbrev pub invariant-loop-i : goal.invariant-loop-i
+invariant-loop-i l = Writing Small l.words l.tags (went_r l.maps) l.at l.end l.to l.offset l.initial.log l.initial.logtags l.log l.logtags l.i l.p l.u
+
+abbrev pub decreases-loop-i : goal.decreases-loop-i
+decreases-loop-i l = l.end - l.i
