@@ -1,7 +1,7 @@
 -- From intake's answer and the redirected words to the promise on all bytes.
 use mathlib.Core.Path.{◌≡◌, refl, sym, ap, ap₂, ◌∙◌, subst}
 use mathlib.Core.List.{List}
-use Prim.Native.Nat.{ℕ, zero, suc, ◌+◌, ◌*◌, ◌^◌, ◌<◌, ◌≤◌}
+use Prim.Native.Nat.{ℕ, zero, suc, ◌+◌, ◌*◌, ◌<◌, ◌≤◌}
 use native.Mathlib.Omega.{arith}
 use lib.ListN.{length}
 use mir.Val.{Fits}
@@ -15,8 +15,7 @@ use Rattle.model.specs.Redirect.{Answer, redirected, outside, no_original, no_re
 use Rattle.theory_image.specs.Modules.{read_well}
 use Rattle.intake.specs.Taken.{number_of, Accepts, TakeInEnsures}
 use Rattle.intake.specs.declared.Taken.{Taken}
-use Rattle.intake.specs.declared.Taken.TheVariants.{Accepted}
-use Rattle.intake.proofs.Refusals.{NotFirst, refused_by}
+use Rattle.intake.specs.declared.Taken.TheVariants.{Accepted, Size, Layout, Range, Reference, Names, Scope}
 use Rattle.model.specs.Refusals.{Ended, done, refused, packed, answer_by}
 use Rattle.model.specs.Intake.{of_laid, after_intake, on_words}
 use Rattle.model.specs.Image.{on_image, redirect_ended, redirect_after, redirect_image, redirect_answer, wuldgisp_redirect, RedirectEnsures}
@@ -33,6 +32,15 @@ use Rattle.redirect_bytes.specs.declared.Answer.TheVariants.{Done as Told-done, 
 use Rattle.redirect_bytes.proofs.Sizes.{image_long}
 
 -- ---- intake refuses
+refused_by : (t : Taken) → ((n : ℕ) → t ≡ Accepted n → ⊥) → (k : ℕ) × (number_of t ≡ suc k)
+refused_by (Accepted n) h = absurd (h n refl)
+refused_by Size h = (0, refl)
+refused_by Layout h = (1, refl)
+refused_by Range h = (2, refl)
+refused_by Reference h = (3, refl)
+refused_by Names h = (4, refl)
+refused_by Scope h = (5, refl)
+
 module _ (image : List ℕ) (o p : ℕ) (omit : List ℕ) where
   -- what comes of a module
   abbrev of_module : Module → Ended (ℕ × ℕ) × List ℕ
@@ -47,7 +55,7 @@ module _ (image : List ℕ) (o p : ℕ) (omit : List ℕ) where
   by_module m e r = on_module of_module (λ k. (refused k, image)) (length image) (words_of image) m e r
 
   module _ (words tags : List ℕ) (t : Taken) (got : TakeInEnsures t words tags image) where
-    pub intake_refuses : NotFirst t → (k : ℕ) → k ≡ number_of t → RedirectFunctionEnsures (Refused k) image image o p omit
+    pub intake_refuses : ((n : ℕ) → t ≡ Accepted n → ⊥) → (k : ℕ) → k ≡ number_of t → RedirectFunctionEnsures (Refused k) image image o p omit
     unfolding shown
     intake_refuses h k e =
         let x = refused_by t h in
