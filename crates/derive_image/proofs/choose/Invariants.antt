@@ -1,0 +1,9 @@
+use Prim.Native.Nat.{◌-◌}
+use Rattle.derive_image.proofs.Copies.{Choosing, choosing_begin, choosing_in, choosing_next, choosing_done}
+use Rattle.derive_image.proofs.choose.Given as goal
+
+abbrev pub invariant-loop-i : goal.invariant-loop-i
+invariant-loop-i l = Choosing l.row l.order l.n l.r l.i
+
+abbrev pub decreases-loop-i : goal.decreases-loop-i
+decreases-loop-i l = l.n - l.i

@@ -1,0 +1,9 @@
+use Prim.Native.Nat.{◌-◌}
+use Rattle.derive_sections.proofs.Tables.{rows_row, Summing, summing_begin, summing_next, summing_done}
+use Rattle.derive_sections.proofs.all_sizes.Given as goal
+
+abbrev pub invariant-loop-t : goal.invariant-loop-t
+invariant-loop-t l = Summing l.log l.logtags l.starts l.counts l.t l.p
+
+abbrev pub decreases-loop-t : goal.decreases-loop-t
+decreases-loop-t l = 8 - l.t

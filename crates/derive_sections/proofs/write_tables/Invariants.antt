@@ -1,0 +1,9 @@
+use Prim.Native.Nat.{◌-◌}
+use Rattle.derive_sections.proofs.Tables.{rows_row, Tabling, tabling_begin, tabling_room, tabling_next, tabling_done}
+use Rattle.derive_sections.proofs.write_tables.Given as goal
+
+abbrev pub invariant-loop-t : goal.invariant-loop-t
+invariant-loop-t l = Tabling l.log l.logtags l.starts l.counts l.places l.initial.out l.at l.out l.t l.p
+
+abbrev pub decreases-loop-t : goal.decreases-loop-t
+decreases-loop-t l = 8 - l.t

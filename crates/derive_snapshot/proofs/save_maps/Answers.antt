@@ -1,0 +1,15 @@
+use Prim.Native.Nat.{◌-◌}
+use Rattle.model.specs.Module.{count_at}
+use Rattle.derive_snapshot.specs.Snapshot.{Prefixes}
+use Rattle.derive_snapshot.proofs.Saving.{rows_asked, rows_next, rows_done}
+use borrow.Author.Rules.{rules}
+use Rattle.derive_snapshot.proofs.save_maps.Goals as goal
+
+pub save_row-requires : goal.save_row-requires
+save_row-requires c = rows_asked 6 _ _ _ _ c.loop-i.invariant c.loop-i-test.true _ c.count.ensures.0
+
+pub loop-i-preserved : goal.loop-i-preserved
+loop-i-preserved c = rows_next 6 _ _ _ _ c.loop-i.invariant c.loop-i-test.true _ c.count.ensures.0 _ c.save_row.ensures
+
+pub returns : goal.returns
+returns c = rows_done 6 _ _ _ _ c.loop-i.invariant c.loop-i-test.false
