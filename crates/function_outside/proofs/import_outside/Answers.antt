@@ -1,0 +1,58 @@
+-- What a stretch refers to outside the function: the loop passes one word at a turn.
+use native.Mathlib.Omega.{arith}
+use Prim.Native.Nat.{◌-◌}
+use mathlib.Core.Path.{refl}
+use lib.ListN.{get_or}
+use Rattle.derive_names.proofs.Sources.{small_number}
+use Rattle.function_outside.proofs.Records.{lands_mapped}
+use Rattle.function_outside.proofs.Passing.{Passing, pass-first, pass_in, pass_skip, pass_number, pass_full, pass-next, pass_done}
+use borrow.Author.Rules.{rules}
+use Rattle.function_outside.proofs.import_outside.Goals as goal
+
+pub loop-i-init : goal.loop-i-init
+loop-i-init c = let a = c.args in pass-first a.words.now a.tags.now a.n a.offset a.at a.end a.log.now a.logtags.now a.starts.now a.maps.now a.buckets.now a.ends c.requires.valid_arrays c.requires.legible c.requires.full_value
+
+pub overflow_add-i : goal.overflow_add-i
+overflow_add-i c = let a = c.args in let l = c.loop-i in let z = pass_in a.words.now a.tags.now a.n a.offset a.at a.end a.log.now a.logtags.now a.starts.now a.maps.now a.buckets.now a.ends c.requires.valid_arrays l.log l.logtags l.starts l.maps l.buckets l.e l.i l.invariant c.loop-i-test.true in omega arith
+
+pub bounds-tags-j : goal.bounds-tags-j
+bounds-tags-j c = let a = c.args in let l = c.loop-i in pass_in a.words.now a.tags.now a.n a.offset a.at a.end a.log.now a.logtags.now a.starts.now a.maps.now a.buckets.now a.ends c.requires.valid_arrays l.log l.logtags l.starts l.maps l.buckets l.e l.i l.invariant c.loop-i-test.true
+
+pub offset_bounds-words-j : goal.offset_bounds-words-j
+offset_bounds-words-j c = let a = c.args in let l = c.loop-i in let z = pass_in a.words.now a.tags.now a.n a.offset a.at a.end a.log.now a.logtags.now a.starts.now a.maps.now a.buckets.now a.ends c.requires.valid_arrays l.log l.logtags l.starts l.maps l.buckets l.e l.i l.invariant c.loop-i-test.true in omega arith
+
+pub bounds-words-j : goal.bounds-words-j
+bounds-words-j c = let a = c.args in let l = c.loop-i in pass_in a.words.now a.tags.now a.n a.offset a.at a.end a.log.now a.logtags.now a.starts.now a.maps.now a.buckets.now a.ends c.requires.valid_arrays l.log l.logtags l.starts l.maps l.buckets l.e l.i l.invariant c.loop-i-test.true
+
+pub refers_to-r-requires : goal.refers_to-r-requires
+refers_to-r-requires c = c.requires.ground.targets_are
+
+pub missing-requires : goal.missing-requires
+missing-requires c = let a = c.before.before.before.before.before.before.before.args in let p = c.before.before.before.before.before.before.before.requires in let l = c.before.before.before.before.before.before.loop in let t = c.before.refers_to in small_number a.words.now a.tags.now a.n p.0.source t.result.table t.result.number c (pass_number a.words.now a.tags.now a.n a.offset a.at a.end a.log.now a.logtags.now a.starts.now a.maps.now a.buckets.now a.ends p.1.1.1 l.log l.logtags l.starts l.maps l.buckets l.e l.i l.invariant c.before.before.before.before.before.loop-test.true (get_or a.tags.now l.i 0) refl c.before.before.before.if1.true t.result.table t.result.number t.ensures.0 t.ensures.1 c)
+
+pub import_by_table-e-requires : goal.import_by_table-e-requires
+import_by_table-e-requires c = let a = c.args in let l = c.loop-i in let t = c.refers_to-r in record { ground = c.requires.ground; h_bound = pass_number a.words.now a.tags.now a.n a.offset a.at a.end a.log.now a.logtags.now a.starts.now a.maps.now a.buckets.now a.ends c.requires.valid_arrays l.log l.logtags l.starts l.maps l.buckets l.e l.i l.invariant c.loop-i-test.true (get_or a.tags.now l.i 0) refl c.if-s-lt-EXPR.true t.result.table t.result.number t.ensures.0 t.ensures.1; full_value = l.invariant.going; valid_arrays = l.invariant.kept }
+
+pub returns-then-e : goal.returns-then-e
+returns-then-e c = let a = c.args in let l = c.loop-i in let t = c.refers_to-r in let u = c.import_by_table-e in let m = u.new.1.1.1.1 in pass_full a.words.now a.tags.now a.n a.offset a.at a.end a.log.now a.logtags.now a.starts.now a.maps.now a.buckets.now a.ends c.requires.valid_arrays l.log l.logtags l.starts l.maps l.buckets l.e l.i l.invariant c.loop-i-test.true (get_or a.tags.now l.i 0) refl c.if-s-lt-EXPR.true t.result.table t.result.number t.ensures.0 t.ensures.1 u.result m.0 m.1.0 m.1.1.0 m.1.1.1.0 m.1.1.1.1.0 u.ensures c.if-e.true
+
+pub loop-i-smaller-else-e : goal.loop-i-smaller-else-e
+loop-i-smaller-else-e c = let h = c.loop-i-test.true in omega arith
+
+pub loop-i-preserved-else-e : goal.loop-i-preserved-else-e
+loop-i-preserved-else-e c = let a = c.args in let l = c.loop-i in let t = c.refers_to-r in let u = c.import_by_table-e in let m = u.new.1.1.1.1 in pass-next a.words.now a.tags.now a.n a.offset a.at a.end a.log.now a.logtags.now a.starts.now a.maps.now a.buckets.now a.ends c.requires.valid_arrays l.log l.logtags l.starts l.maps l.buckets l.e l.i l.invariant c.loop-i-test.true (get_or a.tags.now l.i 0) refl c.if-s-lt-EXPR.true t.result.table t.result.number t.ensures.0 t.ensures.1 u.result m.0 m.1.0 m.1.1.0 m.1.1.1.0 m.1.1.1.1.0 u.ensures c.if-e.false
+
+pub loop-i-smaller-else-missing : goal.loop-i-smaller-else-missing
+loop-i-smaller-else-missing c = let h = c.loop-i-test.true in omega arith
+
+pub loop-i-preserved-else-missing : goal.loop-i-preserved-else-missing
+loop-i-preserved-else-missing c = let a = c.args in let l = c.loop-i in let t = c.refers_to-r in pass-next a.words.now a.tags.now a.n a.offset a.at a.end a.log.now a.logtags.now a.starts.now a.maps.now a.buckets.now a.ends c.requires.valid_arrays l.log l.logtags l.starts l.maps l.buckets l.e l.i l.invariant c.loop-i-test.true (get_or a.tags.now l.i 0) refl c.if-s-lt-EXPR.true t.result.table t.result.number t.ensures.0 t.ensures.1 l.e l.log l.logtags l.starts l.maps l.buckets (lands_mapped c.requires.ground.source a.offset (pass_number a.words.now a.tags.now a.n a.offset a.at a.end a.log.now a.logtags.now a.starts.now a.maps.now a.buckets.now a.ends c.requires.valid_arrays l.log l.logtags l.starts l.maps l.buckets l.e l.i l.invariant c.loop-i-test.true (get_or a.tags.now l.i 0) refl c.if-s-lt-EXPR.true t.result.table t.result.number t.ensures.0 t.ensures.1) l.invariant.going l.invariant.kept (c.missing.ensures.h_nonzero c.if-missing.false)) l.invariant.going
+
+pub loop-i-smaller : goal.loop-i-smaller
+loop-i-smaller c = let h = c.loop-i-test.true in omega arith
+
+pub loop-i-preserved : goal.loop-i-preserved
+loop-i-preserved c = let a = c.args in let l = c.loop-i in pass_skip a.words.now a.tags.now a.n a.offset a.at a.end a.log.now a.logtags.now a.starts.now a.maps.now a.buckets.now a.ends c.requires.valid_arrays l.log l.logtags l.starts l.maps l.buckets l.e l.i l.invariant c.loop-i-test.true (get_or a.tags.now l.i 0) refl c.if-s-lt-EXPR.false
+
+pub returns : goal.returns
+returns c = let a = c.args in let l = c.loop-i in pass_done a.words.now a.tags.now a.n a.offset a.at a.end a.log.now a.logtags.now a.starts.now a.maps.now a.buckets.now a.ends c.requires.valid_arrays l.log l.logtags l.starts l.maps l.buckets l.e l.i l.invariant c.loop-i-test.false

@@ -1,0 +1,14 @@
+-- `function_outside::import_record` meets its contract: what is not missing is left as it is.
+use borrow.Author.Tests.{not-true}
+use Rattle.derive_names.proofs.Sources.{small_number}
+use Rattle.function_outside.proofs.Records.{lands_mapped}
+use borrow.Author.Rules.{rules}
+use mathlib.Core.Bool.{not}
+use mathlib.Core.Path.{ap}
+use Rattle.function_outside.proofs.import_record.Goals as goal
+
+pub missing-requires : goal.missing-requires
+missing-requires c = let a = c.before.args in let p = c.before.requires in small_number a.words.now a.tags.now a.n p.0.source a.t a.h c (p.1.0 c)
+
+pub returns-then-not-missing : goal.returns-then-not-missing
+returns-then-not-missing c = let a = c.args in lands_mapped c.requires.ground.source a.offset c.requires.h_bound c.requires.full_value c.requires.valid_arrays (c.missing.ensures.h_nonzero (not-true _ (ap not c.if-not-missing.true)))
