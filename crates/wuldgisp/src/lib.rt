@@ -1,4 +1,4 @@
-// The functions that the archive exports to C and Rust; include/wuldgisp.h declares them. What each promises is in model/specs/Image.antt, under its name; what its
+// The functions that the archive exports to C and Rust, by the crate wuldgisp_c; include/wuldgisp.h declares them. What each promises is in model/specs/Image.antt, under its name; what its
 // answer means is the theorem of specs/Meaning.antt that is named beside it.
 #![tactic(auto)]
 
@@ -9,8 +9,7 @@ use base_words::{Tags, Words};
 use derive_state::{Buckets, Log, LogTags, Maps, StackRows, Starts};
 
 // Intake: 0 for an image that is accepted, else the number of the test that refuses it, 1 to 6. Meaning: `intake_accepts`.
-#[unsafe(no_mangle)]
-pub extern "C" fn wuldgisp_intake(image: &[u8]) -> u32
+pub fn wuldgisp_intake(image: &[u8]) -> u32
     ensures { IntakeEnsures result image.now }
 {
     intake::intake(image)
@@ -18,8 +17,7 @@ pub extern "C" fn wuldgisp_intake(image: &[u8]) -> u32
 
 // The output order, as far as there is room for it. The low half of the answer is the number of the refusal, or 0; the high half is the count of functions,
 // or, with refusal 12, of those from which a chain of calls reaches a ring. Meaning: `order-listed`, `order_ring`.
-#[unsafe(no_mangle)]
-pub extern "C" fn wuldgisp_order(image: &[u8], order: &mut [u32]) -> u64
+pub fn wuldgisp_order(image: &[u8], order: &mut [u32]) -> u64
     ensures { OrderEnsures result order.old order.new image.now }
 {
     order_bytes::order(image, order)
@@ -27,13 +25,7 @@ pub extern "C" fn wuldgisp_order(image: &[u8], order: &mut [u32]) -> u64
 
 // Redirects calls in the image itself. The low half of the answer is the number of the refusal, or 0; the high half is the original's number plus 65,536
 // times the replacement's. Meaning: `redirect_done`, `redirect_refused`.
-#[unsafe(no_mangle)]
-pub extern "C" fn wuldgisp_redirect(
-    image: &mut [u8],
-    original: u32,
-    replacement: u32,
-    omit: &[u32],
-) -> u64
+pub fn wuldgisp_redirect(image: &mut [u8], original: u32, replacement: u32, omit: &[u32]) -> u64
     ensures { RedirectEnsures result image.old image.new original replacement omit.now }
 {
     redirect_bytes::redirect(image, original, replacement, omit)
@@ -42,8 +34,7 @@ pub extern "C" fn wuldgisp_redirect(
 // Links the image into the output. The low half of the answer is the number of the refusal, or 0; the high half is the count of bytes written, or, with
 // refusal 12, of functions from which a chain of calls reaches a ring. Meaning: `demand3_code`, which is demand 3 of the bytes that are written; `intake_told`,
 // `short-told` and `premises_hold` for the refusals.
-#[unsafe(no_mangle)]
-pub extern "C" fn wuldgisp_link(image: &[u8], output: &mut [u8]) -> u64
+pub fn wuldgisp_link(image: &[u8], output: &mut [u8]) -> u64
     ensures { LinkEnsures result output.old output.new image.now }
 {
     link::link(image, output)
@@ -51,8 +42,7 @@ pub extern "C" fn wuldgisp_link(image: &[u8], output: &mut [u8]) -> u64
 
 // wuldgisp_link in memory that the caller provides: eight arrays, 476 KiB in all. They may hold anything before and hold anything after, so they need no clearing,
 // neither at first nor between calls. The promise is that of wuldgisp_link, word for word; required are the lengths that the arrays' types say.
-#[unsafe(no_mangle)]
-pub extern "C" fn wuldgisp_link_in(
+pub fn wuldgisp_link_in(
     image: &[u8],
     output: &mut [u8],
     words: &mut Words,
@@ -76,8 +66,7 @@ pub extern "C" fn wuldgisp_link_in(
 // Runs a session's steps, four words each, and answers three words to each as far as there is room. 0 if every step was accepted; else the low half of the
 // answer is the first refusal and the high half the number of its step. Meaning: `session_means`, of every step and of every image that one
 // writes; `same_bytes`, of the steps of linking.
-#[unsafe(no_mangle)]
-pub extern "C" fn wuldgisp_session(
+pub fn wuldgisp_session(
     sources: &[u8],
     steps: &[u32],
     answers: &mut [u32],
@@ -90,8 +79,7 @@ pub extern "C" fn wuldgisp_session(
 
 // wuldgisp_session in memory that the caller provides, as for wuldgisp_link_in. The promise is that of wuldgisp_session, word for word; required are the lengths
 // that the arrays' types say.
-#[unsafe(no_mangle)]
-pub extern "C" fn wuldgisp_session_in(
+pub fn wuldgisp_session_in(
     sources: &[u8],
     steps: &[u32],
     answers: &mut [u32],
