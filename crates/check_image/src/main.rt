@@ -4,49 +4,36 @@
 
 ghost use Rattle.std.specs.Prelude.{◌≡◌, length};
 
-use libc::STDOUT_FILENO;
-
 fn buffer() -> [u8; 65537]
     ensures { 65537 ≡ length result }
 {
     [0; 65537]
 }
 
-// The line of a refusal; whether it was written.
-fn print_refused(k: u32) -> bool {
-    if !io::write_all(STDOUT_FILENO, b"refused ") {
-        return false;
-    }
-    if !io::print_decimal(STDOUT_FILENO, k as u64) {
-        return false;
-    }
-    io::write_all(STDOUT_FILENO, b"\n")
-}
-
-fn say(answer: u32) {
+fn say(rt: &(impl Print + Eprint), answer: u32) {
     if answer == 0 {
-        program_streams::write(b"check_image", b"accepted\n");
+        program_streams::write(rt, "check_image", b"accepted\n");
         return;
     }
-    if !print_refused(answer) {
-        program_streams::unwritten(b"check_image");
+    if let Err(error) = println!(rt; "refused {answer}") {
+        program_streams::unwritten(rt, "check_image", error);
     }
-    program_streams::refused(b"check_image", answer);
+    program_streams::refused(rt, "check_image", answer);
 }
 
 // The answer for the first n bytes.
-fn check(bytes: &[u8], n: usize) {
+fn check(rt: &(impl Print + Eprint), bytes: &[u8], n: usize) {
     if n <= bytes.len() {
-        say(intake::intake(&bytes[..n]));
+        say(rt, intake::intake(&bytes[..n]));
     }
 }
 
-fn main() {
+fn main(rt: HostRuntime) {
     let mut bytes = buffer();
-    let input = program_streams::read(&mut bytes);
-    if input.failed {
-        program_streams::unread(b"check_image");
+    let input = program_streams::read(&mut rt.stdin(), &mut bytes);
+    if let Some(error) = input.error {
+        program_streams::unread(&rt, "check_image", error);
         return;
     }
-    check(&bytes, input.count);
+    check(&rt, &bytes, input.count);
 }
