@@ -28,25 +28,25 @@ pub refers_to-r-requires : goal.refers_to-r-requires
 refers_to-r-requires c = c.requires.ground.targets_are
 
 pub missing-requires : goal.missing-requires
-missing-requires c = let a = c.before.before.before.before.before.before.before.args in let p = c.before.before.before.before.before.before.before.requires in let l = c.before.before.before.before.before.before.loop in let t = c.before.refers_to in small_number a.words.now a.tags.now a.n p.0.source t.result.table t.result.number c (pass_number a.words.now a.tags.now a.n a.offset a.at a.end a.log.now a.logtags.now a.starts.now a.maps.now a.buckets.now a.ends p.1.1.1 l.log l.logtags l.starts l.maps l.buckets l.e l.i l.invariant c.before.before.before.before.before.loop-test.true (get_or a.tags.now l.i 0) refl c.before.before.before.if1.true t.result.table t.result.number t.ensures.0 t.ensures.1 c)
+missing-requires c = λ h. let a = c.args in let l = c.loop-i in let t = c.refers_to-r in small_number a.words.now a.tags.now a.n c.requires.ground.source t.result.table t.result.number h (pass_number a.words.now a.tags.now a.n a.offset a.at a.end a.log.now a.logtags.now a.starts.now a.maps.now a.buckets.now a.ends c.requires.valid_arrays l.log l.logtags l.starts l.maps l.buckets l.e l.i l.invariant c.loop-i-test.true (get_or a.tags.now l.i 0) refl c.if-s-lt-EXPR.true t.result.table t.result.number c.refers_to-r.ensures.0 c.refers_to-r.ensures.1 h)
 
 pub import_by_table-e-requires : goal.import_by_table-e-requires
-import_by_table-e-requires c = let a = c.args in let l = c.loop-i in let t = c.refers_to-r in record { ground = c.requires.ground; h_bound = pass_number a.words.now a.tags.now a.n a.offset a.at a.end a.log.now a.logtags.now a.starts.now a.maps.now a.buckets.now a.ends c.requires.valid_arrays l.log l.logtags l.starts l.maps l.buckets l.e l.i l.invariant c.loop-i-test.true (get_or a.tags.now l.i 0) refl c.if-s-lt-EXPR.true t.result.table t.result.number t.ensures.0 t.ensures.1; full_value = l.invariant.going; valid_arrays = l.invariant.kept }
+import_by_table-e-requires c = let a = c.args in let l = c.loop-i in let t = c.refers_to-r in record { ground = c.requires.ground; h_bound = pass_number a.words.now a.tags.now a.n a.offset a.at a.end a.log.now a.logtags.now a.starts.now a.maps.now a.buckets.now a.ends c.requires.valid_arrays l.log l.logtags l.starts l.maps l.buckets l.e l.i l.invariant c.loop-i-test.true (get_or a.tags.now l.i 0) refl c.if-s-lt-EXPR.true t.result.table t.result.number c.refers_to-r.ensures.0 c.refers_to-r.ensures.1; full_value = l.invariant.going; valid_arrays = l.invariant.kept }
 
 pub returns-then-e : goal.returns-then-e
-returns-then-e c = let a = c.args in let l = c.loop-i in let t = c.refers_to-r in let u = c.import_by_table-e in let m = u.new.1.1.1.1 in pass_full a.words.now a.tags.now a.n a.offset a.at a.end a.log.now a.logtags.now a.starts.now a.maps.now a.buckets.now a.ends c.requires.valid_arrays l.log l.logtags l.starts l.maps l.buckets l.e l.i l.invariant c.loop-i-test.true (get_or a.tags.now l.i 0) refl c.if-s-lt-EXPR.true t.result.table t.result.number t.ensures.0 t.ensures.1 u.result m.0 m.1.0 m.1.1.0 m.1.1.1.0 m.1.1.1.1.0 u.ensures c.if-e.true
+returns-then-e c = let a = c.args in let l = c.loop-i in let t = c.refers_to-r in let u = c.import_by_table-e in pass_full a.words.now a.tags.now a.n a.offset a.at a.end a.log.now a.logtags.now a.starts.now a.maps.now a.buckets.now a.ends c.requires.valid_arrays l.log l.logtags l.starts l.maps l.buckets l.e l.i l.invariant c.loop-i-test.true (get_or a.tags.now l.i 0) refl c.if-s-lt-EXPR.true t.result.table t.result.number c.refers_to-r.ensures.0 c.refers_to-r.ensures.1 u.result c.import_by_table-e.new.log c.import_by_table-e.new.logtags c.import_by_table-e.new.starts c.import_by_table-e.new.maps c.import_by_table-e.new.buckets c.import_by_table-e.ensures c.if-e.true
 
 pub loop-i-smaller-else-e : goal.loop-i-smaller-else-e
 loop-i-smaller-else-e c = let h = c.loop-i-test.true in omega arith
 
 pub loop-i-preserved-else-e : goal.loop-i-preserved-else-e
-loop-i-preserved-else-e c = let a = c.args in let l = c.loop-i in let t = c.refers_to-r in let u = c.import_by_table-e in let m = u.new.1.1.1.1 in pass-next a.words.now a.tags.now a.n a.offset a.at a.end a.log.now a.logtags.now a.starts.now a.maps.now a.buckets.now a.ends c.requires.valid_arrays l.log l.logtags l.starts l.maps l.buckets l.e l.i l.invariant c.loop-i-test.true (get_or a.tags.now l.i 0) refl c.if-s-lt-EXPR.true t.result.table t.result.number t.ensures.0 t.ensures.1 u.result m.0 m.1.0 m.1.1.0 m.1.1.1.0 m.1.1.1.1.0 u.ensures c.if-e.false
+loop-i-preserved-else-e c = let a = c.args in let l = c.loop-i in let t = c.refers_to-r in let u = c.import_by_table-e in pass-next a.words.now a.tags.now a.n a.offset a.at a.end a.log.now a.logtags.now a.starts.now a.maps.now a.buckets.now a.ends c.requires.valid_arrays l.log l.logtags l.starts l.maps l.buckets l.e l.i l.invariant c.loop-i-test.true (get_or a.tags.now l.i 0) refl c.if-s-lt-EXPR.true t.result.table t.result.number c.refers_to-r.ensures.0 c.refers_to-r.ensures.1 u.result c.import_by_table-e.new.log c.import_by_table-e.new.logtags c.import_by_table-e.new.starts c.import_by_table-e.new.maps c.import_by_table-e.new.buckets c.import_by_table-e.ensures c.if-e.false
 
 pub loop-i-smaller-else-missing : goal.loop-i-smaller-else-missing
 loop-i-smaller-else-missing c = let h = c.loop-i-test.true in omega arith
 
 pub loop-i-preserved-else-missing : goal.loop-i-preserved-else-missing
-loop-i-preserved-else-missing c = let a = c.args in let l = c.loop-i in let t = c.refers_to-r in pass-next a.words.now a.tags.now a.n a.offset a.at a.end a.log.now a.logtags.now a.starts.now a.maps.now a.buckets.now a.ends c.requires.valid_arrays l.log l.logtags l.starts l.maps l.buckets l.e l.i l.invariant c.loop-i-test.true (get_or a.tags.now l.i 0) refl c.if-s-lt-EXPR.true t.result.table t.result.number t.ensures.0 t.ensures.1 l.e l.log l.logtags l.starts l.maps l.buckets (lands_mapped c.requires.ground.source a.offset (pass_number a.words.now a.tags.now a.n a.offset a.at a.end a.log.now a.logtags.now a.starts.now a.maps.now a.buckets.now a.ends c.requires.valid_arrays l.log l.logtags l.starts l.maps l.buckets l.e l.i l.invariant c.loop-i-test.true (get_or a.tags.now l.i 0) refl c.if-s-lt-EXPR.true t.result.table t.result.number t.ensures.0 t.ensures.1) l.invariant.going l.invariant.kept (c.missing.ensures.h_nonzero c.if-missing.false)) l.invariant.going
+loop-i-preserved-else-missing c = let a = c.args in let l = c.loop-i in let t = c.refers_to-r in pass-next a.words.now a.tags.now a.n a.offset a.at a.end a.log.now a.logtags.now a.starts.now a.maps.now a.buckets.now a.ends c.requires.valid_arrays l.log l.logtags l.starts l.maps l.buckets l.e l.i l.invariant c.loop-i-test.true (get_or a.tags.now l.i 0) refl c.if-s-lt-EXPR.true t.result.table t.result.number c.refers_to-r.ensures.0 c.refers_to-r.ensures.1 l.e l.log l.logtags l.starts l.maps l.buckets (lands_mapped c.requires.ground.source a.offset (pass_number a.words.now a.tags.now a.n a.offset a.at a.end a.log.now a.logtags.now a.starts.now a.maps.now a.buckets.now a.ends c.requires.valid_arrays l.log l.logtags l.starts l.maps l.buckets l.e l.i l.invariant c.loop-i-test.true (get_or a.tags.now l.i 0) refl c.if-s-lt-EXPR.true t.result.table t.result.number c.refers_to-r.ensures.0 c.refers_to-r.ensures.1) l.invariant.going l.invariant.kept (c.missing.ensures.h_nonzero c.if-missing.false)) l.invariant.going
 
 pub loop-i-smaller : goal.loop-i-smaller
 loop-i-smaller c = let h = c.loop-i-test.true in omega arith

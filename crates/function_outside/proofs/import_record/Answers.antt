@@ -8,7 +8,7 @@ use mathlib.Core.Path.{ap}
 use Rattle.function_outside.proofs.import_record.Goals as goal
 
 pub missing-requires : goal.missing-requires
-missing-requires c = let a = c.before.args in let p = c.before.requires in small_number a.words.now a.tags.now a.n p.0.source a.t a.h c (p.1.0 c)
+missing-requires c = λ l. let a = c.args in small_number a.words.now a.tags.now a.n c.requires.ground.source a.t a.h l (c.requires.h_bound l)
 
 pub returns-then-not-missing : goal.returns-then-not-missing
 returns-then-not-missing c = let a = c.args in lands_mapped c.requires.ground.source a.offset c.requires.h_bound c.requires.full_value c.requires.valid_arrays (c.missing.ensures.h_nonzero (not-true _ (ap not c.if-not-missing.true)))

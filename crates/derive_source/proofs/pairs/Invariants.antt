@@ -1,0 +1,10 @@
+use native.Mathlib.Omega.{arith}
+use Prim.Native.Nat.{◌-◌}
+use Rattle.derive_source.proofs.Loops.{Pairing, pairs_first, pairs_done, pairs_low, pairs_in_lem, pairs_full, pairs_next}
+use Rattle.derive_source.proofs.pairs.Given as goal
+
+abbrev pub invariant-loop-i : goal.invariant-loop-i
+invariant-loop-i l = Pairing l.words l.n l.offset l.initial.log l.initial.logtags l.initial.starts l.initial.maps l.initial.buckets l.initial.special l.initial.e l.log l.logtags l.starts l.maps l.buckets l.special l.e l.i
+
+abbrev pub decreases-loop-i : goal.decreases-loop-i
+decreases-loop-i l = l.c - l.i

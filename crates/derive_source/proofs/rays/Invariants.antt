@@ -1,0 +1,10 @@
+use native.Mathlib.Omega.{arith}
+use Prim.Native.Nat.{◌-◌}
+use Rattle.derive_source.proofs.Loops.{Raying, rays-first, rays_done, rays_low, rays_in, rays_full, rays-next}
+use Rattle.derive_source.proofs.rays.Given as goal
+
+abbrev pub invariant-loop-k : goal.invariant-loop-k
+invariant-loop-k l = Raying l.words l.n l.offset l.initial.log l.initial.logtags l.initial.starts l.initial.maps l.initial.buckets l.initial.special l.initial.e l.log l.logtags l.starts l.maps l.buckets l.special l.e l.k
+
+abbrev pub decreases-loop-k : goal.decreases-loop-k
+decreases-loop-k l = 3 - l.k
