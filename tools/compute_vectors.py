@@ -2,8 +2,9 @@
 """Writes the theorems of the crate model_vectors: the model's link and run of steps on vectors, each computed and compared by refl; and what the crate
 wuldgisp_refuted computes of images.
 
-    tools/compute_vectors.py [FOLDER]       writes Links.antt and Sessions.antt for the vectors named below, Small.antt and Marked.antt to
-                                            crates/model_vectors/specs, and Answers.antt to crates/wuldgisp_refuted/specs; or all of them to another folder
+    tools/compute_vectors.py           writes Links.antt and Sessions.antt for the vectors named below, Small.antt and Marked.antt to
+                                       crates/model_vectors/specs, and Answers.antt to crates/wuldgisp_refuted/specs
+    tools/compute_vectors.py --check   only says whether the files there are those that it would write
 
 A handful is in the gate, since a vector takes a second or more; others are tried by naming them here."""
 import os
@@ -18,6 +19,18 @@ SESSIONS = ["s001", "s008", "s104", "s106"]
 # the files of the model whose definitions have to be unfolded
 MODEL = ["Outcome", "Table", "Tree", "Module", "Carry", "Operands", "Lower", "Names", "Initial", "Numbers", "Scope", "Intake", "Calls", "Callees", "Redirect",
          "Tables", "References", "Imports", "Bodies", "Special", "Finish", "Session", "Link", "Steps"]
+# and those that neither links nor runs steps
+INTAKE = MODEL[: MODEL.index("Redirect") + 1]
+
+
+# a name of two parts has a dash between them where each names something by itself, as elsewhere in the crates
+WORDS = {"P5", "P6", "P8", "P11", "p5", "p6", "p8", "p10", "p11", "twice", "linked", "rings", "called", "passed", "emitted", "later", "moved", "two", "special", "constant", "named", "nested",
+         "known", "initial", "types", "steps", "ordered", "told"}
+
+
+def spelled(name):
+    """A name whose parts are written apart by dashes, as the crates spell it."""
+    return name if set(name.split("-", 1)) <= WORDS else name.replace("-", "_")
 
 
 def unfoldables(name):
@@ -47,6 +60,7 @@ def listed(numbers):
 
 def defined(name, numbers):
     """A list of numbers under a name."""
+    name = spelled(name)
     return [f"unfoldable pub {name} : List ℕ", f"{name} = {listed(numbers)[1:-1]}", ""]
 
 
@@ -59,8 +73,16 @@ def imports(files):
             plain = re.match(r"^[A-Za-z]", name)
             names.append(f"{file}-{name}" if plain else name)
             items.append(f"{name} as {file}-{name}" if plain else name)
-        uses.append(f"use Rattle·model.specs.{file}.{{{', '.join(items)}}}")
-    return uses, "unfolding wordOf wordsOf " + " ".join(names)
+        uses.append(f"use Rattle.model.specs.{file}.{{{', '.join(items)}}}")
+    return uses, "unfolding word_of words_of " + " ".join(names)
+
+
+def prelude(text):
+    """The use line of the library's words that stand in these lines."""
+    operators = {"◌≡◌": "≡", "◌∷◌": "∷", "◌+◌": "+", "◌*◌": "*"}
+    found = {word for line in text if not line.startswith(("use ", "--")) for word in re.findall(r"\[\]|[^\s(){}\[\],;.]+", line)}
+    names = [name for name in ("◌≡◌", "refl", "List", "[]", "◌∷◌", "ℕ", "replicate", "get_or", "◌+◌", "◌*◌", "length") if operators.get(name, name) in found]
+    return f"use Rattle.std.specs.Prelude.{{{', '.join(names)}}}"
 
 
 def bytes_of(name):
@@ -88,14 +110,14 @@ def image_of(names=(), types=(), constants=(), expressions=(), functions=(), ray
     return [1, 20 + len(body), *head, *body]
 
 
-def links(uses, unfolding):
+def links(unfolding):
     """Link on an image, into an output as long as the image."""
     expected = {line.split("\t")[0]: line.split("\t")[1:] for line in open("vectors/expected.tsv").read().strip().split("\n")}
-    text = ["use Rattle·model.specs.Refusals.{done, refused, ringed}", "", "-- ---- marked cases by name"]
+    text = ["use Rattle.model.specs.Refusals.{done, refused, ringed}", "", "-- ---- marked cases by name"]
     for name, number in NAMED.items():
         image, linked = (words(bytes_of(f"{number}.{end}")) for end in ("img", "linked"))
-        text += [*defined(name, image), *defined(f"{name}-linked", linked), f"pub {name.lower()}-links : Link-link {4 * len(image)} {name} {4 * len(image)} ≡ done {name}-linked",
-                 f"{unfolding} {name} {name}-linked", f"{name.lower()}-links = refl", ""]
+        text += [*defined(name, image), *defined(f"{name}-linked", linked), f"pub {name.lower()}_links : Link-link {4 * len(image)} {name} {4 * len(image)} ≡ done {name}-linked",
+                 f"{unfolding} {name} {name}-linked", f"{name.lower()}_links = refl", ""]
     image = words(p8())
     text += [*defined("P8", image), f"pub p8-rings : Link-link {4 * len(image)} P8 {4 * len(image)} ≡ ringed 2", f"{unfolding} P8", "p8-rings = refl", "", "-- ---- vectors by number"]
     for name in LINKS:
@@ -110,12 +132,12 @@ def links(uses, unfolding):
     return text
 
 
-def sessions(uses, unfolding):
+def sessions(unfolding):
     """A run of steps: the answers, and the words of the last finish that wrote."""
-    text = ["use Rattle·model.specs.Steps.{Said}", "",
+    text = ["use Rattle.model.specs.Steps.{Said}", "",
             "-- the words that the last step wrote that wrote any",
-            "unfoldable pub lastWritten : List Said → List ℕ → List ℕ", "lastWritten [] v = v",
-            "lastWritten (x ∷ xs) v = elim (x .written) [ [] ↦ lastWritten xs v | w ∷ ws ↦ lastWritten xs (w ∷ ws) ]", ""]
+            "unfoldable pub last_written : List Said → List ℕ → List ℕ", "last_written [] v = v",
+            "last_written (x ∷ xs) v = elim x.written [ [] ↦ last_written xs v | w ∷ ws ↦ last_written xs (w ∷ ws) ]", ""]
     for name in SESSIONS:
         lines = bytes_of(f"{name}.steps").decode().strip().split("\n")
         room = int(re.search(r"output of (\d+)", lines[0]).group(1))
@@ -126,9 +148,9 @@ def sessions(uses, unfolding):
         start, size = finishes[-1] if finishes else (0, 0)
         output = bytes_of(f"{name}.output").ljust(start + size, b"\xa5")
         run = f"(Steps-run {listed(steps)} {listed(list(bytes_of(f'{name}.sources')))} (replicate {room} 0) Session-new)"
-        text += [f"pub {name} : Steps-answersOf {run} ≡ {listed(answers)}", unfolding, f"{name} = refl", "",
-                 f"pub {name}-written : lastWritten {run} [] ≡ {listed(words(output[start:start + size]))}", unfolding.replace("unfolding", "unfolding lastWritten"),
-                 f"{name}-written = refl", ""]
+        text += [f"pub {name} : Steps-answers_of {run} ≡ {listed(answers)}", unfolding, f"{name} = refl", "",
+                 f"pub {name}_written : last_written {run} [] ≡ {listed(words(output[start:start + size]))}", unfolding.replace("unfolding", "unfolding last_written"),
+                 f"{name}_written = refl", ""]
     return text
 
 
@@ -186,15 +208,15 @@ def small():
     }
 
 
-def small_sessions(uses, unfolding):
+def small_sessions(unfolding):
     """A run of steps: the result, the answers, and all that was written."""
-    text = ["use Rattle·base_words.specs.Words.{bytesOf}", "use Rattle·model.specs.Steps.{Said}", "",
+    text = ["use Rattle.model.specs.Steps.{Said}", "",
             "-- the places and words of the steps that write",
             "unfoldable pub wrote : List Said → List (ℕ × List ℕ)", "wrote [] = []",
-            "wrote (x ∷ xs) = elim (x .written) [ [] ↦ wrote xs | w ∷ ws ↦ (x .at, w ∷ ws) ∷ wrote xs ]", "",
+            "wrote (x ∷ xs) = elim x.written [ [] ↦ wrote xs | w ∷ ws ↦ (x.at, w ∷ ws) ∷ wrote xs ]", "",
             "-- what these steps answer and write with these sources, in an output of 400 bytes",
             "unfoldable pub does : List ℕ → List ℕ → ℕ × List ℕ × List (ℕ × List ℕ)",
-            "does sources steps = let xs = Steps-run steps sources (replicate 400 0) Session-new in (Steps-firstRefused xs 0, Steps-answersOf xs, wrote xs)", "",
+            "does sources steps = let xs = Steps-run steps sources (replicate 400 0) Session-new in (Steps-first_refused xs 0, Steps-answers_of xs, wrote xs)", "",
             "-- ---- sources, and images derived from them, as words"]
     lists, cases = small()
     for name, numbers in lists.items():
@@ -203,8 +225,9 @@ def small_sessions(uses, unfolding):
         text += [f"-- ---- {shows}"]
         for part, numbers in (("steps", steps), ("answers", answers)):
             text += defined(f"{name}-{part}", numbers)
-        text += [f"pub {name} : does (bytesOf {sources}) {name}-steps ≡ ({result}, {name}-answers, {f'(0, {written}) ∷ []' if written else '[]'})",
-                 f"{unfolding} bytesOf wrote does {name}-steps {name}-answers {sources}{f' {written}' if written and written != sources else ''}", f"{name} = refl", ""]
+        sources, written, steps, answers, name = map(spelled, (sources, written or "", f"{name}-steps", f"{name}-answers", name))
+        text += [f"pub {name} : does (bytes_of {sources}) {steps} ≡ ({result}, {answers}, {f'(0, {written}) ∷ []' if written else '[]'})",
+                 f"{unfolding} bytes_of wrote does {steps} {answers} {sources}{f' {written}' if written and written != sources else ''}", f"{name} = refl", ""]
     return text
 
 
@@ -212,82 +235,97 @@ def spelt(text):
     return listed(list(text.encode()))[1:-1]
 
 
-def answers():
+def answers(unfolding):
     """What the exported functions and `order`'s text answer for marked cases."""
-    uses, unfolding = imports(MODEL[: MODEL.index("Redirect") + 1])
-    on_bytes = ["onImage", "wuldgisp-intake", "orderEnded", "orderImage", "orderAfter", "wuldgisp-order", "redirectEnded", "redirectAfter", "redirectImage", "wuldgisp-redirect"]
-    lines = ["decimal", "nameText", "nameIn", "nameOf", "numbersText", "lineText", "linesText", "headed", "orderedText"]
-    telling = ["refusing", "telling", "tellingOf"]
-    text = ["-- What the exported functions and the text of `order` answer for document 01's marked cases P5, P6 and P8, and for P6 with two functions of one name. Written by tools/compute_vectors.py.",
-            "use mathlib.Core.Path.{_≡_, refl}", "use mathlib.Core.List.{List, [], _∷_}", "use Prim.Native.Nat.{ℕ}", "use lib.ListN.{getD}",
-            "use Rattle·base_words.specs.Words.{wordOf, wordsOf, bytesOf}", *uses, "use Rattle·model.specs.Refusals.{answerBy}", f"use Rattle·model.specs.Image.{{{', '.join(on_bytes)}, orderAnswer}}",
-            f"use Rattle·order_lines.specs.Lines.{{{', '.join(lines)}}}", f"use Rattle·order_text.specs.Telling.{{{', '.join(telling)}}}", ""]
-    unfolding = " ".join([unfolding, "bytesOf", "answerBy", *on_bytes])
+    on_bytes = ["on_image", "wuldgisp_intake", "order_ended", "order_image", "order_after", "wuldgisp_order", "redirect_ended", "redirect_after", "redirect_image", "wuldgisp_redirect"]
+    lines = ["decimal", "name_text", "name_in", "name_of", "numbers_text", "line_text", "lines_text", "headed", "ordered_text"]
+    telling = ["refusing", "telling", "telling_of"]
+    text = ["use Rattle.model.specs.Refusals.{answer_by}", f"use Rattle.model.specs.Image.{{{', '.join(on_bytes)}, order_answer}}",
+            f"use Rattle.order_lines.specs.Lines.{{{', '.join(lines)}}}", f"use Rattle.order_text.specs.Telling.{{{', '.join(telling)}}}", ""]
+    unfolding = " ".join([unfolding, "bytes_of", "answer_by", *on_bytes])
     p6 = bytes_of("001.img")
     # of the last the number of tone's name is changed
     for name, numbers in {"p5": bytes_of("000.img"), "p6": p6, "p8": p8(), "twice": changed(p6, 196, 1)}.items():
         text += defined(name, list(numbers))
-    computed = [("p6-accepted", "wuldgisp-intake p6", "0"), ("twice-refused", "wuldgisp-intake twice", "5"),
-                ("p5-ordered", "wuldgisp-order p5 (9 ∷ 9 ∷ 9 ∷ []) .1", "1 ∷ 2 ∷ 0 ∷ []"), ("p8-left", "orderAnswer (orderImage p8)", str(12 + 2 * 2**32)),
+    computed = [("p6-accepted", "wuldgisp_intake p6", "0"), ("twice-refused", "wuldgisp_intake twice", "5"),
+                ("p5-ordered", "(wuldgisp_order p5 (9 ∷ 9 ∷ 9 ∷ [])).1", "1 ∷ 2 ∷ 0 ∷ []"), ("p8-left", "order_answer (order_image p8)", str(12 + 2 * 2**32)),
                 # byte 184 is the callee in shade's call, which is of fog at first
-                ("p6-called", "getD p6 184 0", "2"), ("p6-redirected", "getD (wuldgisp-redirect p6 2 1 [] .1) 184 0", "1"),
-                ("p6-answered", "wuldgisp-redirect p6 2 1 [] .0", str((2 + 65536) * 2**32)),
-                ("p6-told", "tellingOf p6 .text", spelt("functions 3\n0 1 tone\n1 2 fog\n2 0 shade\n")), ("p8-told", "tellingOf p8 .text", spelt("refused 12 left 2\n")),
-                ("twice-told", "tellingOf twice .text", spelt("refused 5\n"))]
+                ("p6-called", "get_or p6 184 0", "2"), ("p6-redirected", "get_or (wuldgisp_redirect p6 2 1 []).1 184 0", "1"),
+                ("p6-answered", "(wuldgisp_redirect p6 2 1 []).0", str((2 + 65536) * 2**32)),
+                ("p6-told", "(telling_of p6).text", spelt("functions 3\n0 1 tone\n1 2 fog\n2 0 shade\n")), ("p8-told", "(telling_of p8).text", spelt("refused 12 left 2\n")),
+                ("twice-told", "(telling_of twice).text", spelt("refused 5\n"))]
     for name, term, value in computed:
         told = " ".join(["", *lines, *telling]) if name.endswith("told") else ""
-        text += [f"pub {name} : {term} ≡ {value}", f"{unfolding}{told} {name.split('-')[0]}", f"{name} = refl", ""]
+        about, name = name.split("-")[0], spelled(name)
+        text += [f"pub {name} : {term} ≡ {value}", f"{unfolding}{told} {about}", f"{name} = refl", ""]
     return text
 
 
-def marked(uses, unfolding):
+def marked(unfolding):
     """The marked cases P5 to P9 and P12 of the exported link and redirect, on images."""
-    on_bytes = ["onImage", "redirectEnded", "redirectAfter", "redirectImage", "wuldgisp-redirect", "wuldgisp-link"]
+    on_bytes = ["on_image", "redirect_ended", "redirect_after", "redirect_image", "wuldgisp_redirect", "wuldgisp_link"]
     t, f, s = "letter 116", "letter 102", "letter 115"
     cases = [
         ('"P5 a calls b; b; c: b, c, a"', "p5", "linked P5", f"gives P5 (having ({t} ∷ {f} ∷ {s} ∷ []) (plain 0 end ∷ plain 1 end ∷ plain 2 (to 0) ∷ []))"),
         ('"P6 shade calls fog; tone; fog calls tone: tone, fog, shade"', "p6", "linked P6", f"gives P6 (having ({t} ∷ {f} ∷ {s} ∷ []) (plain 0 end ∷ plain 1 (to 0) ∷ plain 2 (to 1) ∷ []))"),
-        ('"P7 P6 with fog replaced by tone: tone, shade, fog"', "p7", "wuldgisp-redirect (image P6) 2 1 []", "(packed 0 (2 + 65536 * 1), image P7)"),
-        (None, "p7-linked", "linked P7", f"gives P7 (having ({t} ∷ {s} ∷ {f} ∷ []) (plain 0 end ∷ plain 1 (to 0) ∷ plain 2 (to 0) ∷ []))"),
-        ('"P8 P6 with tone replaced by shade: 12, left 2"', "p8", "wuldgisp-redirect (image P6) 1 0 []", "(packed 0 (1 + 65536 * 0), image P8)"),
+        ('"P7 P6 with fog replaced by tone: tone, shade, fog"', "p7", "wuldgisp_redirect (image P6) 2 1 []", "(packed 0 (2 + 65536 * 1), image P7)"),
+        (None, "p7_linked", "linked P7", f"gives P7 (having ({t} ∷ {s} ∷ {f} ∷ []) (plain 0 end ∷ plain 1 (to 0) ∷ plain 2 (to 0) ∷ []))"),
+        ('"P8 P6 with tone replaced by shade: 12, left 2"', "p8", "wuldgisp_redirect (image P6) 1 0 []", "(packed 0 (1 + 65536 * 0), image P8)"),
         (None, "p8-linked", "linked P8", "rings P8 2"),
         ('"P9 one self-caller: 12, left 1"', "p9", "linked P9", "rings P9 1"),
         ('"P12 no functions: succeeds"', "p12", "linked P12", "gives P12 (having [] [])"),
     ]
-    text = ["use Prim.Native.Nat.{_+_, _*_}", "use lib.ListN.{length}", "use lib.Seq.{sets}", "use Rattle·base_words.specs.Words.{bytesOf}",
-            "use Rattle·model.specs.Refusals.{packed, answerBy}", "use Rattle·model.specs.Outcome.{Cells}", "use Rattle·model.specs.Tree.{end, Function}",
-            "use Rattle·model.specs.Module.{Module}", "use Rattle·model.specs.RedirectExamples.{to, plain, letter, holding, P6}", f"use Rattle·model.specs.Image.{{{', '.join(on_bytes)}}}", "",
+    text = ["use Rattle.std.proofs.lemmas.List.Edits.{sets}", "use Rattle.model.specs.Refusals.{packed, answer_by}", "use Rattle.model.specs.Outcome.{Cells}", "use Rattle.model.specs.Tree.{end, Function}",
+            "use Rattle.model.specs.Module.{Module}", "use Rattle.model.specs.RedirectExamples.{to, plain, letter, holding, P6}", f"use Rattle.model.specs.Image.{{{', '.join(on_bytes)}}}", "",
             "-- P6 has the names shade, tone and fog, which are 0, 1 and 2, by their first letters, and one that no function has; so have the others", "abbrev P5 : Module", "P5 = holding (plain 0 (to 1) ∷ plain 1 end ∷ plain 2 end ∷ []) []", "",
             "abbrev P7 : Module", "P7 = holding (plain 0 (to 1) ∷ plain 1 end ∷ plain 2 (to 1) ∷ []) []", "",
             "abbrev P8 : Module", "P8 = holding (plain 0 (to 2) ∷ plain 1 end ∷ plain 2 (to 0) ∷ []) []", "",
             "abbrev pub P9 : Module", "P9 = holding (plain 0 (to 0) ∷ []) []", "", "abbrev pub P12 : Module", "P12 = holding [] []", "",
             "-- with these names, and these functions", "abbrev having : List Cells → List Function → Module",
-            "having ns fs = record { names = ns; types = []; constants = []; overrides = []; globals = []; exprs = []; functions = fs; entries = []; special = holding [] [] .special }", "",
-            "abbrev pub image : Module → List ℕ", "image m = bytesOf (Module-write m)", "",
+            "having ns fs = record { names = ns; types = []; constants = []; overrides = []; globals = []; exprs = []; functions = fs; entries = []; special = (holding [] []).special }", "",
+            "abbrev pub image : Module → List ℕ", "image m = bytes_of (Module-write m)", "",
             "-- the output: a byte for each of the image", "abbrev pub output : Module → List ℕ", "output m = replicate (length (image m)) 9", "",
-            "-- what link answers and leaves: the linked image, its bytes counted; or 12 with the count, and the output as it was", "abbrev linked : Module → ℕ × List ℕ", "linked m = wuldgisp-link (image m) (output m)", "",
-            "abbrev gives : Module → Module → ℕ × List ℕ", "gives m m′ = (packed 0 (length (image m′)), sets (output m) 0 (image m′))", "",
+            "-- what link answers and leaves: the linked image, its bytes counted; or 12 with the count, and the output as it was", "abbrev linked : Module → ℕ × List ℕ", "linked m = wuldgisp_link (image m) (output m)", "",
+            "abbrev gives : Module → Module → ℕ × List ℕ", "gives m m' = (packed 0 (length (image m')), sets (output m) 0 (image m'))", "",
             "abbrev rings : Module → ℕ → ℕ × List ℕ", "rings m left = (packed 12 left, output m)", "", "pub record Marked : Type 0 where"]
     for note, name, left, right in cases:
         text += [f"  -- {note}"] * (note is not None) + [f"  pub {name} : {left} ≡ {right}"]
     fields = "; ".join(f"{name} = refl" for _, name, _, _ in cases)
-    return [*text, "", "pub marked : Marked", " ".join([unfolding, "bytesOf", "answerBy", *on_bytes]), f"marked = record {{ {fields} }}", ""]
+    return [*text, "", "pub marked : Marked", " ".join([unfolding, "bytes_of", "answer_by", *on_bytes]), f"marked = record {{ {fields} }}", ""]
+
+
+def page(title, uses, body):
+    """A file: its title, what it uses of the library, of these two crates and of others, and the rest."""
+    words = [word for word in ("word_of", "words_of", "bytes_of") if any(word in line for line in body)]
+    return "\n".join([f"-- {title} Written by tools/compute_vectors.py.", prelude(body), f"use Rattle.base_words.specs.Words.{{{', '.join(words)}}}", *uses, *body])
+
+
+def pages():
+    """The files' texts, each by its path."""
+    uses, unfolding = imports(MODEL)
+    vectors, refuted = "crates/model_vectors/specs", "crates/wuldgisp_refuted/specs"
+    return {
+        f"{vectors}/Links.antt": page("Linking computed on vectors: the answer, or the linked image.", uses, links(unfolding)),
+        f"{vectors}/Sessions.antt": page("Sessions computed on vectors: the answers of all steps, and what was written last.", uses, sessions(unfolding)),
+        f"{vectors}/Small.antt": page("Sessions of a few steps computed: the answers of all steps, and what was written.", uses, small_sessions(unfolding)),
+        f"{vectors}/Marked.antt": page("THE MARKED CASES P5 TO P9 AND P12 ON IMAGES: what the exported link and redirect answer and leave. One table, one theorem; "
+                                       "Marked.antt of the crate model has all marked cases, on modules.", uses, marked(unfolding)),
+        f"{refuted}/Answers.antt": page("What the exported functions and the text of `order` answer for document 01's marked cases P5, P6 and P8, and for P6 with two functions of one name.",
+                                        imports(INTAKE)[0], answers(imports(INTAKE)[1])),
+    }
 
 
 def main():
-    folder = os.path.abspath(sys.argv[1]) if len(sys.argv) > 1 else "crates/model_vectors/specs"
     os.chdir(os.path.dirname(os.path.dirname(os.path.abspath(__file__))))
-    uses, unfolding = imports(MODEL)
-    head = ["use mathlib.Core.Path.{_≡_, refl}", "use mathlib.Core.List.{List, [], _∷_}", "use Prim.Native.Nat.{ℕ}", "use lib.ListN.{replicate}",
-            "use Rattle·base_words.specs.Words.{wordOf, wordsOf}", *uses]
-    first = {"Links": "-- Linking computed on vectors: the answer, or the linked image.", "Sessions": "-- Sessions computed on vectors: the answers of all steps, and what was written last.",
-             "Small": "-- Sessions of a few steps computed: the answers of all steps, and what was written.",
-             "Marked": "-- THE MARKED CASES P5 TO P9 AND P12 ON IMAGES: what the exported link and redirect answer and leave. One table, one theorem; Marked.antt of the crate model has all marked cases, on modules."}
-    for name, body in (("Links", links(uses, unfolding)), ("Sessions", sessions(uses, unfolding)), ("Small", small_sessions(uses, unfolding)), ("Marked", marked(uses, unfolding))):
-        with open(f"{folder}/{name}.antt", "w") as out:
-            out.write("\n".join([first[name] + " Written by tools/compute_vectors.py.", *head, *body]))
-    with open(f"{folder if len(sys.argv) > 1 else 'crates/wuldgisp_refuted/specs'}/Answers.antt", "w") as out:
-        out.write("\n".join(answers()))
+    check = sys.argv[1:] == ["--check"]
+    if sys.argv[1:] and not check:
+        sys.exit(__doc__)
+    for path, text in pages().items():
+        if not check:
+            with open(path, "w", encoding="utf-8") as out:
+                out.write(text)
+        elif open(path, encoding="utf-8").read() != text:
+            sys.exit(f"{path} is not what tools/compute_vectors.py writes")
 
 
 main()
