@@ -19,12 +19,17 @@ CONTRACTS = [
     ("`wuldgisp_redirect`", [("model", "Image", "RedirectEnsures")]),
     ("`wuldgisp_link`, `wuldgisp_link_in`", [("model", "Image", "LinkEnsures"), ("model", "Image", "ScratchLengths")]),
     ("`wuldgisp_session`, `wuldgisp_session_in`", [("model", "Image", "SessionEnsures"), ("model", "Image", "ScratchLengths")]),
-    ("demand 3 of `wuldgisp_link` (`demand3-code`)", [("link", "Theorems", "Demand3Code")]),
-    ("the steps of `wuldgisp_session` (`session-means`)", [("wuldgisp", "Meaning", "SessionMeans")]),
-    ("refusal 22 (`function-22`, `handle-22`, `finish-22`)", [("theory_sessions", "Stuck", "OneLeads")]),
+    ("demand 3 of `wuldgisp_link` (`demand3_code`)", [("link", "Theorems", "Demand3Code")]),
+    ("the steps of `wuldgisp_session` (`session_means`)", [("wuldgisp", "Meaning", "SessionMeans")]),
+    ("refusal 22 (`function_22`, `handle_22`, `finish_22`)", [("theory_sessions", "Stuck", "OneLeads")]),
 ]
 DECLARED = re.compile(r"^( *)(abbrev |unfoldable )?(pub )?(?:(data|record) )?([^\s:(){}]+)(?: [^:]*| *)? : ")
 TOKEN = re.compile(r"[^\s(){}\[\];,λ]+")
+
+
+def path(crate, name):
+    """Where a file of a crate stands, if it has one of that name."""
+    return next((place for place in (f"crates/{crate}/{folder}/{name}.antt" for folder in ("specs", "proofs")) if os.path.exists(place)), None)
 
 
 class File:
@@ -32,7 +37,7 @@ class File:
 
     def __init__(self, crate, name):
         self.crate, self.name = crate, name
-        self.path = f"crates/{crate}/specs/{name}.antt"
+        self.path = path(crate, name)
         self.uses, self.modules, self.owner, self.text = {}, {}, {}, {}
         lines = open(self.path, encoding="utf-8").read().split("\n")
         now, mutual = None, None
@@ -73,8 +78,8 @@ class File:
                 entry[2].append(line.split(" -- ")[0])
 
     def use(self, line):
-        path, _, names = line.replace("pub use ", "use ")[4:].partition(".{")
-        parts = re.match(r"Rattle·(\w+)(?:·specs\.specs|\.specs)\.(\w+)(?: as (\w+))?$", path.strip())
+        module, _, names = line.replace("pub use ", "use ")[4:].partition(".{")
+        parts = re.match(r"Rattle\.(\w+)\.(?:specs|proofs)\.(\w+)(?: as (\w+))?$", module.strip())
         if not parts:
             return
         crate, file, alias = parts.groups()
@@ -95,18 +100,21 @@ def file(crate, name):
 
 
 def resolve(here, token):
-    """The definition that a word names, if it names one; an operator is declared with its places, as _▸_."""
-    if token not in here.uses and token not in here.owner and f"_{token}_" in {*here.uses, *here.owner}:
-        token = f"_{token}_"
+    """The definition that a word names, if it names one; an operator is declared with its places, as ◌▸◌, and a field follows a dot, as in m.names."""
+    if token not in here.uses and token not in here.owner and f"◌{token}◌" in {*here.uses, *here.owner}:
+        token = f"◌{token}◌"
+    first, _, rest = token.partition(".")
     if token in here.uses:
         crate, name, word = here.uses[token]
     elif token in here.owner:
         crate, name, word = here.crate, here.name, token
-    elif "." in token and token.split(".")[0] in here.modules:
-        (crate, name), word = here.modules[token.split(".")[0]], token.split(".")[1]
+    elif rest and first in here.modules:
+        (crate, name), word = here.modules[first], rest.split(".")[0]
+    elif rest and first:
+        return resolve(here, first)
     else:
         return None
-    if not os.path.exists(f"crates/{crate}/specs/{name}.antt"):
+    if not path(crate, name):
         return None
     there = file(crate, name)
     if word in there.owner:
@@ -140,7 +148,7 @@ def listed(names):
     for crate, name, word in names:
         by_file.setdefault((crate, name), []).append((*file(crate, name).text[word][:2], word))
     rows = sorted(by_file.items(), key=lambda row: (row[0][0] != "base_words", row[0][0] != "model", row[0][0], order.index(row[0][1]) if row[0][0] == "model" else 0, row[0][1]))
-    return [f"| `{crate}/specs/{name}.antt` | " + ", ".join(f"`{word}` {a}" + (f"–{b}" if b > a else "") for a, b, word in sorted(words)) + f" | {sum(b - a + 1 for a, b, _ in words)} |" for (crate, name), words in rows]
+    return [f"| `{path(crate, name).removeprefix('crates/')}` | " + ", ".join(f"`{word}` {a}" + (f"–{b}" if b > a else "") for a, b, word in sorted(words)) + f" | {sum(b - a + 1 for a, b, _ in words)} |" for (crate, name), words in rows]
 
 
 def page():
