@@ -4,21 +4,21 @@
 
 ghost use Rattle.std.specs.Prelude.{◌≡◌, length};
 
-use libc::{STDERR_FILENO, STDOUT_FILENO};
+use std::io::{self, Read};
 
 // What precedes an image: the expected answer, and the image's length.
 #[derive(Clone, Copy)]
 enum Found {
     Vector(u32, usize),
     End,
-    Failed,
+    Failed(io::Error),
 }
 
-fn head() -> Found {
+fn head<R: Read>(from: &mut R) -> Found {
     let mut bytes = [0u8; 8];
-    let input = program_streams::read(&mut bytes);
-    if input.failed {
-        return Found::Failed;
+    let input = program_streams::read(from, &mut bytes);
+    if let Some(error) = input.error {
+        return Found::Failed(error);
     }
     if input.count < 8 {
         return Found::End;
@@ -29,8 +29,8 @@ fn head() -> Found {
 }
 
 // Reads an image that is as long as the slice, and compares intake's answer.
-fn one(bytes: &mut [u8], want: u32) -> bool {
-    let input = program_streams::read(bytes);
+fn one<R: Read>(from: &mut R, bytes: &mut [u8], want: u32) -> bool {
+    let input = program_streams::read(from, bytes);
     if input.count < bytes.len() {
         return false;
     }
@@ -38,11 +38,11 @@ fn one(bytes: &mut [u8], want: u32) -> bool {
 }
 
 // An image of n bytes, at the start of the buffer. No vector is longer than that.
-fn part(bytes: &mut [u8], want: u32, n: usize) -> bool {
+fn part<R: Read>(from: &mut R, bytes: &mut [u8], want: u32, n: usize) -> bool {
     if bytes.len() < n {
         return false;
     }
-    one(&mut bytes[..n], want)
+    one(from, &mut bytes[..n], want)
 }
 
 fn buffer() -> [u8; 65600]
@@ -51,57 +51,40 @@ fn buffer() -> [u8; 65600]
     [0; 65600]
 }
 
-fn agrees(want: u32, n: usize) -> bool {
+fn agrees<R: Read>(from: &mut R, want: u32, n: usize) -> bool {
     let mut bytes = buffer();
-    part(&mut bytes, want, n)
-}
-
-// A number and a text on standard output; whether they were written.
-fn report(number: u64, text: &[u8]) -> bool {
-    if !io::print_decimal(STDOUT_FILENO, number) {
-        return false;
-    }
-    io::write_all(STDOUT_FILENO, text)
+    part(from, &mut bytes, want, n)
 }
 
 // Names a vector that is answered otherwise, on standard error too.
-fn differs(number: u64) -> bool {
-    io::write_all(STDERR_FILENO, b"replay: vector ");
-    io::print_decimal(STDERR_FILENO, number);
-    io::write_all(STDERR_FILENO, b" differs\n");
-    report(number, b" differs\n")
+fn differs(rt: &(impl Print + Eprint), number: u64) -> io::Result<()> {
+    let _ = eprintln!(rt; "replay: vector {number} differs");
+    println!(rt; "{number} differs")
 }
 
-fn last_line(all: u64, good: u64) -> bool {
-    if !report(all, b" vectors, ") {
-        return false;
-    }
-    report(good, b" agree\n")
-}
-
-fn main() {
+fn main(rt: HostRuntime) {
+    let mut input = rt.stdin();
     let mut all: u64 = 0;
     let mut good: u64 = 0;
     while all < 100000 {
-        let h = head();
-        match h {
+        match head(&mut input) {
             Found::Vector(want, n) => {
                 all += 1;
-                if agrees(want, n) {
+                if agrees(&mut input, want, n) {
                     good += 1;
-                } else if !differs(all) {
-                    program_streams::unwritten(b"replay");
+                } else if let Err(error) = differs(&rt, all) {
+                    program_streams::unwritten(&rt, "replay", error);
                     return;
                 }
             }
             Found::End => {
-                if !last_line(all, good) {
-                    program_streams::unwritten(b"replay");
+                if let Err(error) = println!(rt; "{all} vectors, {good} agree") {
+                    program_streams::unwritten(&rt, "replay", error);
                 }
                 return;
             }
-            Found::Failed => {
-                program_streams::unread(b"replay");
+            Found::Failed(error) => {
+                program_streams::unread(&rt, "replay", error);
                 return;
             }
         }
