@@ -5,8 +5,8 @@
 ghost use Rattle.std.specs.Prelude.{◌≡◌, ◌≤◌, ◌<◌, length};
 ghost use Rattle.redirect_image.specs.Numbers.{WRONG, stepped, read as read_of};
 
-use libc::STDERR_FILENO;
 use redirect_bytes::Answer;
+use std::env::{Env, FillError};
 
 // Longer than an image may be, so that one that is too long is seen to be.
 fn buffer() -> [u8; 65540]
@@ -58,49 +58,64 @@ fn read(text: &[u8]) -> u64
 }
 
 // Argument i as a number.
-fn argument(i: usize) -> u64
+fn argument(rt: &impl Env, i: usize) -> u64
     ensures { result ≤ WRONG }
 {
-    let mut text = io::buffer();
-    let n = os::arg(i, &mut text);
-    if os::errno() != 0 {
-        return 4294967296;
+    let mut text = [0; 4096];
+    match rt.arg(i, &mut text) {
+        Ok(n) => read(&text[..n]),
+        Err(_) => 4294967296,
     }
-    read(&text[..n])
 }
 
-fn say(text: &[u8]) {
-    io::write_all(STDERR_FILENO, text);
+fn is_present(rt: &impl Env, i: usize) -> bool {
+    !matches!(rt.arg(i, &mut []), Err(FillError::NotPresent))
 }
 
-fn usage() {
+// How many arguments there are, the program's name among them; counted up to 516.
+fn argument_count(rt: &impl Env) -> usize {
+    (0..516).take_while(|i| is_present(rt, *i)).count()
+}
+
+// A line on standard error.
+fn say(rt: &impl Eprint, text: &str) {
+    let _ = eprintln!(rt; "{text}");
+}
+
+fn usage(rt: &impl Eprint) {
     say(
-        b"usage: redirect_image ORIGINAL REPLACEMENT [OMITTED ..] < IMAGE > REDIRECTED, where functions are given by the numbers of their names\n",
+        rt,
+        "usage: redirect_image ORIGINAL REPLACEMENT [OMITTED ..] < IMAGE > REDIRECTED, where functions are given by the numbers of their names",
     );
 }
 
-fn wrong(i: usize) {
-    say(b"redirect_image: argument ");
-    io::print_decimal(STDERR_FILENO, i as u64);
-    say(b" is no number of a name\n");
+fn wrong(rt: &impl Eprint, i: usize) {
+    let _ = eprintln!(rt; "redirect_image: argument {i} is no number of a name");
 }
 
 // The first n bytes, redirected.
-fn redirect(image: &mut [u8], n: usize, original: u32, replacement: u32, omit: &[u32]) {
+fn redirect(
+    rt: &(impl Print + Eprint),
+    image: &mut [u8],
+    n: usize,
+    original: u32,
+    replacement: u32,
+    omit: &[u32],
+) {
     if n <= image.len() {
         match redirect_bytes::redirect_function(&mut image[..n], original, replacement, omit) {
             Answer::Done(_, _) => {
-                program_streams::write(b"redirect_image", &image[..n]);
+                program_streams::write(rt, "redirect_image", &image[..n]);
             }
             Answer::Refused(k) => {
-                program_streams::refused(b"redirect_image", k);
+                program_streams::refused(rt, "redirect_image", k);
             }
         }
     }
 }
 
 // The numbers of the arguments from the third on; or the first argument that is none.
-fn omitted(omit: &mut [u32; 512], count: usize) -> usize
+fn omitted(rt: &impl Env, omit: &mut [u32; 512], count: usize) -> usize
     requires omit_len { length omit.old ≡ 512 }
     requires count_bound { count ≤ 512 }
     ensures { length omit.new ≡ 512 }
@@ -109,7 +124,7 @@ fn omitted(omit: &mut [u32; 512], count: usize) -> usize
     while i < count {
         let j = i;
         i += 1;
-        let x = argument(j + 3);
+        let x = argument(rt, j + 3);
         if x == 4294967296 {
             return j + 3;
         }
@@ -118,22 +133,23 @@ fn omitted(omit: &mut [u32; 512], count: usize) -> usize
     0
 }
 
-fn run(original: u32, replacement: u32, count: usize)
+fn run(rt: &HostRuntime, original: u32, replacement: u32, count: usize)
     requires { count ≤ 512 }
 {
     let mut omit = names();
-    let bad = omitted(&mut omit, count);
+    let bad = omitted(rt, &mut omit, count);
     if bad != 0 {
-        wrong(bad);
+        wrong(rt, bad);
         return;
     }
     let mut image = buffer();
-    let input = program_streams::read(&mut image);
-    if input.failed {
-        program_streams::unread(b"redirect_image");
+    let input = program_streams::read(&mut rt.stdin(), &mut image);
+    if let Some(error) = input.error {
+        program_streams::unread(rt, "redirect_image", error);
         return;
     }
     redirect(
+        rt,
         &mut image,
         input.count,
         original,
@@ -142,25 +158,28 @@ fn run(original: u32, replacement: u32, count: usize)
     );
 }
 
-fn main() {
-    let count = os::arg_count();
+fn main(rt: HostRuntime) {
+    let count = argument_count(&rt);
     if count < 3 {
-        usage();
+        usage(&rt);
         return;
     }
     if 515 < count {
-        say(b"redirect_image: more names are omitted than an image may have, 512\n");
+        say(
+            &rt,
+            "redirect_image: more names are omitted than an image may have, 512",
+        );
         return;
     }
-    let original = argument(1);
+    let original = argument(&rt, 1);
     if original == 4294967296 {
-        wrong(1);
+        wrong(&rt, 1);
         return;
     }
-    let replacement = argument(2);
+    let replacement = argument(&rt, 2);
     if replacement == 4294967296 {
-        wrong(2);
+        wrong(&rt, 2);
         return;
     }
-    run(original as u32, replacement as u32, count - 3);
+    run(&rt, original as u32, replacement as u32, count - 3);
 }

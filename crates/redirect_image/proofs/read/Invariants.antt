@@ -1,0 +1,10 @@
+use Rattle.redirect_image.proofs.Numbers.{Reading, read-nothing, read-begin, read_next, read_done}
+use Prim.Native.Nat.{◌-◌}
+use lib.ListN.{length}
+use Rattle.redirect_image.proofs.read.Given as goal
+
+abbrev pub invariant-loop-i : goal.invariant-loop-i
+invariant-loop-i l = Reading l.text l.x l.i
+
+abbrev pub decreases-loop-i : goal.decreases-loop-i
+decreases-loop-i l = length l.text - l.i
