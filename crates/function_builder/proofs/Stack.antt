@@ -295,7 +295,7 @@ module _ {k : ℕ} {exprmap : List ℕ} {stacks : List (List ℕ)} {e₁ : ℕ} 
 
   -- what was below the function's first expression is there
   pub stays-more : Stays e₁ stacks seated
-  stays-more = record { expressions = kept; body = others 3 (λ q. omega arith) ∙ W.Body-same }
+  stays-more = record { expressions = kept; body = others 3 (λ q. omega arith) ∙ W.body_same }
     where
       low : e₁ ≤ e.exprtop
       low = let a = made_low U in omega arith
@@ -338,5 +338,5 @@ module _ {k : ℕ} {exprmap : List ℕ} {stacks : List (List ℕ)} {e₁ : ℕ} 
         rows zero h = rw (others 0 (λ q. omega arith)) (wrote_long cs e.exprtop (row stacks 0) (row stacks 1) (row stacks' 0) (row stacks' 1) (R 0 (omega arith)) (R 1 (omega arith)) fits W.cells)
         rows (suc zero) h = rw (others 1 (λ q. omega arith)) (wrote_long' cs e.exprtop (row stacks 0) (row stacks 1) (row stacks' 0) (row stacks' 1) (R 0 (omega arith)) (R 1 (omega arith)) fits W.cells)
         rows (suc (suc zero)) h = rw seats (length-set (row stacks 2) (e₁ + e.made) e.exprtop ∙ R 2 (omega arith))
-        rows (suc (suc (suc zero))) h = rw (others 3 (λ q. omega arith), W.Body-same) (R 3 (omega arith))
+        rows (suc (suc (suc zero))) h = rw (others 3 (λ q. omega arith), W.body_same) (R 3 (omega arith))
         rows (suc (suc (suc (suc t)))) h = absurd (omega arith)

@@ -282,7 +282,7 @@ module _ {words tags : List ℕ} {n : ℕ} (src : Source words tags n) (scopes :
           rows₂ zero h = wrote_long C led.exprtop (row stacks₁ 0) (row stacks₁ 1) (row stacks₂ 0) (row stacks₂ 1) (R 0 (omega arith)) (R 1 (omega arith)) high W.cells
           rows₂ (suc zero) h = wrote_long' C led.exprtop (row stacks₁ 0) (row stacks₁ 1) (row stacks₂ 0) (row stacks₂ 1) (R 0 (omega arith)) (R 1 (omega arith)) high W.cells
           rows₂ (suc (suc zero)) h = rw W.seats_same (R 2 (omega arith))
-          rows₂ (suc (suc (suc zero))) h = rw W.Body-same (R 3 (omega arith))
+          rows₂ (suc (suc (suc zero))) h = rw W.body_same (R 3 (omega arith))
           rows₂ (suc (suc (suc (suc t)))) h = absurd (omega arith)
 
           stacks_wrote : Stacks stacks₂ led
@@ -295,7 +295,7 @@ module _ {words tags : List ℕ} {n : ℕ} (src : Source words tags n) (scopes :
           exprs_same = between-same (row stacks₁ 1) (row stacks₁ 0) (row stacks₂ 1) (row stacks₂ 0) e.exprtop got.exprtop led.exprtop (let q = et_same in omega arith) tags_below words_below
 
           deep_then : Deep e.exprtop e.bodytop stacks₀ stacks₂
-          deep_then = record { expressions = kept; body = ap (take e.bodytop) W.Body-same ∙ (L.deep z).body }
+          deep_then = record { expressions = kept; body = ap (take e.bodytop) W.body_same ∙ (L.deep z).body }
             where
               low : e.exprtop ≤ led.exprtop
               low = rw et_same (L.along z).et_more
@@ -321,7 +321,7 @@ module _ {words tags : List ℕ} {n : ℕ} (src : Source words tags n) (scopes :
             close-made = let a = made-same ∙ L.made z [] in let b = made_few piece read o follow (S₀ []) in let d = k_few piece read in omega arith
 
             close-pairs : length (pairs_in (slice (e.bodytop + ((ea - s) + (end - body))) led.bodytop (row stacks₂ 3))) * 2 + (e.bodytop + ((ea - s) + (end - body))) ≡ led.bodytop
-            close-pairs = rw (bt_same, W.Body-same) (pairs-fill piece read o ready follow log₀ logtags₀ starts₀ maps₀ buckets₀ stacks₀ e got log₁ logtags₁ starts₁ maps₁ buckets₁ stacks₁ L z)
+            close-pairs = rw (bt_same, W.body_same) (pairs-fill piece read o ready follow log₀ logtags₀ starts₀ maps₀ buckets₀ stacks₀ e got log₁ logtags₁ starts₁ maps₁ buckets₁ stacks₁ L z)
 
             close_bytes : (i : ℕ) → e.exprtop ≤ i → i < led.exprtop + (s - at) → get_or (row stacks₂ 1) i 0 < 256
             close_bytes i h g =
@@ -350,7 +350,7 @@ module _ {words tags : List ℕ} {n : ℕ} (src : Source words tags n) (scopes :
             -- what is above the expressions has no part in the function's record
             closing_same : closing tags stacks₂ e led s ea body end ≡ closing tags stacks₁ e got s ea body end
             unfolding closing
-            closing_same = rw (et_same, bt_same, made-same, W.Body-same, exprs_same) refl
+            closing_same = rw (et_same, bt_same, made-same, W.body_same, exprs_same) refl
 
             record_is : (special : List ℕ) → between (row stacks₂ 1) (row stacks₂ 0) led.exprtop (led.exprtop + (s - at)) ++ closing tags stacks₂ e led s ea body end ≡ entry_cells_s o M follow E (S₀ special)
             unfolding entry_cells_s

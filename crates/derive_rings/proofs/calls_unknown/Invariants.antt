@@ -1,0 +1,13 @@
+-- `derive_rings::calls_unknown` meets its contract. The invariant: whether one is called from here on is whether one is called at all.
+use Prim.Native.Nat.{◌-◌}
+use Rattle.model.specs.Module.{count_at}
+use Rattle.derive_rings.specs.Rings.{unknown_by}
+use Rattle.derive_rings.proofs.Wholes.{is_known, is_unknown_lem}
+use Rattle.derive_rings.proofs.Asking.{Asking, begin, finish, may, hit, miss, pass}
+use Rattle.derive_rings.proofs.calls_unknown.Given as goal
+
+abbrev pub invariant-loop-j : goal.invariant-loop-j
+invariant-loop-j l = Asking l.words l.tags l.at l.end (count_at 6 l.words) (unknown_by l.words l.n l.log l.logtags l.starts l.ends) l.j
+
+abbrev pub decreases-loop-j : goal.decreases-loop-j
+decreases-loop-j l = l.end - l.j

@@ -1,0 +1,32 @@
+use native.Mathlib.Omega.{arith}
+use Rattle.derive_names.proofs.Sources.{tape}
+use Rattle.derive_rings.proofs.Wholes.{calls_not, callees-known, few, rings-itself, rings-callees}
+use borrow.Author.Tests.{not-true}
+use borrow.Author.Rules.{rules}
+use mathlib.Core.Bool.{not}
+use mathlib.Core.Path.{ap}
+use Rattle.derive_rings.proofs.import_rings.Goals as goal
+
+pub returns-then-not-calls_unknown_name : goal.returns-then-not-calls_unknown_name
+returns-then-not-calls_unknown_name c = let a = c.args in calls_not a.words.now a.n a.log.now a.logtags.now a.starts.now a.ends a.tags.now c.requires.source a.f c.requires.f_bound _ c.calls_unknown_name.ensures (not-true _ (ap not c.if-not-calls_unknown_name.true))
+
+pub gather_requirements-requires : goal.gather_requirements-requires
+gather_requirements-requires c = record { tape = tape c.args.words.now c.args.tags.now c.args.n c.requires.source; known = callees-known c.requires.source; no_calls = c.clear-callees.ensures }
+
+pub unknown_in_ring-set-requires : goal.unknown_in_ring-set-requires
+unknown_in_ring-set-requires c = record { source = c.requires.source; n_value = c.requires.n_value; bearing = c.requires.bearing; gathered = c.gather_requirements.ensures }
+
+pub has-requires : goal.has-requires
+has-requires c = omega (arith, few c.requires.source, c.requires.f_bound)
+
+pub returns-then-has : goal.returns-then-has
+returns-then-has c = rings-itself c.args.words.now c.args.n c.args.log.now c.args.logtags.now c.args.starts.now c.args.ends c.args.tags.now c.requires.source _ c.gather_requirements.ensures _ c.unknown_in_ring-set.ensures c.args.f c.requires.f_bound _ c.has.ensures c.if-has.true
+
+pub overflow_cast-f : goal.overflow_cast-f
+overflow_cast-f c = omega (arith, few c.requires.source, c.requires.f_bound)
+
+pub waits-requires : goal.waits-requires
+waits-requires c = omega (arith, few c.requires.source, c.requires.f_bound)
+
+pub returns : goal.returns
+returns c = rings-callees c.args.words.now c.args.n c.args.log.now c.args.logtags.now c.args.starts.now c.args.ends c.args.tags.now c.requires.source _ c.gather_requirements.ensures _ c.unknown_in_ring-set.ensures c.args.f c.requires.f_bound _ _ c.has.ensures c.if-has.false c.waits.ensures

@@ -1,0 +1,13 @@
+-- `derive_rings::unknown` meets its contract. The invariant: of the marks below i those are left whose names are unknown.
+use mathlib.Core.Path.{sym, ◌∙◌}
+use Prim.Native.Nat.{◌-◌}
+use native.Mathlib.Omega.{arith}
+use Rattle.derive_rings.proofs.Sieving.{Sieve, begin, there, drops, stays, passes}
+use Rattle.derive_rings.proofs.Wholes.{few_at, below_at, is_unknown, is_known, is_unknown_lem, unknowns}
+use Rattle.derive_rings.proofs.unknown.Given as goal
+
+abbrev pub invariant-loop-i : goal.invariant-loop-i
+invariant-loop-i l = Sieve (is_unknown l.words l.n l.log l.logtags l.starts l.ends) l.functions l.began l.set l.i
+
+abbrev pub decreases-loop-i : goal.decreases-loop-i
+decreases-loop-i l = l.functions - l.i

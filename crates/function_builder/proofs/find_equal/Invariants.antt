@@ -1,0 +1,13 @@
+-- `function_builder::find_equal` meets its contract. What is left from expression k on is the whole, and the word at p becomes y.
+use Prim.Native.Nat.{◌-◌, ◌<◌}
+use native.Mathlib.Nat.{le_of_lt}
+use native.Mathlib.Omega.{arith}
+use Rattle.function_builder.specs.Stacks.{went_of}
+use Rattle.function_builder.proofs.Sieve.{Sieving, sieve_room, sieve_fits, sieve_first, sieve_last, sieve_seat, sieve_word, sieve_within, sieve_found, sieve_more, sieve_short, sieve_hop}
+use Rattle.function_builder.proofs.find_equal.Given as goal
+
+abbrev pub invariant-loop-k : goal.invariant-loop-k
+invariant-loop-k l = Sieving l.words l.tags (went_of l.words l.n l.log l.logtags l.starts l.maps l.ends l.exprmap) l.at l.end l.stacks l.e1 l.ends l.k l.p l.y
+
+abbrev pub decreases-loop-k : goal.decreases-loop-k
+decreases-loop-k l = l.ends.made - l.k

@@ -1,0 +1,18 @@
+-- `function_builder::first_difference` meets its contract. What is left from here is alike as the whole is.
+use mathlib.Core.Path.{refl}
+use mathlib.Core.List.{[]}
+use Prim.Native.Nat.{◌-◌, ◌≤◌}
+use native.Mathlib.Nat.{le_refl}
+use native.Mathlib.Omega.{arith}
+use borrow.Author.Tests.{not-true, not-false}
+use lib.ListN.{get_or}
+use Rattle.derive_state.proofs.Passes.{Compares, compares_begin, compares_in, compares_good, compares_not, compares_next, compares_done}
+use Rattle.function_references.specs.Fits.{FitN}
+use Rattle.function_builder.specs.Stacks.{went_of}
+use Rattle.function_builder.proofs.first_difference.Given as goal
+
+abbrev pub invariant-loop-i : goal.invariant-loop-i
+invariant-loop-i l = (Compares (FitN l.words 1024) l.words l.tags (get_or l.stacks 0 []) (get_or l.stacks 1 []) (went_of l.words l.n l.log l.logtags l.starts l.maps l.ends l.exprmap) l.at l.end l.a l.b l.i l.p) × (l.at ≤ l.i)
+
+abbrev pub decreases-loop-i : goal.decreases-loop-i
+decreases-loop-i l = l.end - l.i

@@ -1,0 +1,12 @@
+-- `function_builder::write` meets its contract. Words and classes go to the top of the stack, one after the other.
+use Prim.Native.Nat.{◌-◌}
+use native.Mathlib.Omega.{arith}
+use Rattle.function_builder.specs.Stacks.{went_of}
+use Rattle.function_builder.proofs.Writes.{Laying, lay_begin, lay_done, lay_in, lay_word, lay_fits, lay_rest, lay_next}
+use Rattle.function_builder.proofs.write.Given as goal
+
+abbrev pub invariant-loop-i : goal.invariant-loop-i
+invariant-loop-i l = Laying l.words l.tags (went_of l.words l.n l.log l.logtags l.starts l.maps l.ends l.exprmap) l.at l.end l.offset l.initial.stacks l.ends l.stacks l.i l.p l.u
+
+abbrev pub decreases-loop-i : goal.decreases-loop-i
+decreases-loop-i l = l.end - l.i

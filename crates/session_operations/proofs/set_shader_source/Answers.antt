@@ -1,0 +1,24 @@
+use Rattle.std.proofs.Common.{sym, rules}
+use borrow.Author.Tests.{not-true}
+use Rattle.session_operations.proofs.Setting.{accepted_source, set_refused, set_not, set_so}
+use mathlib.Core.Bool.{not}
+use mathlib.Core.Path.{ap}
+use Rattle.session_operations.proofs.set_shader_source.Goals as goal
+
+pub set_first_source-requires : goal.set_first_source-requires
+set_first_source-requires c = rw (sym (not-true c.args.set (ap not c.if-not-set.true))) c.requires
+
+pub returns-then-not-set : goal.returns-then-not-set
+returns-then-not-set c = rw (not-true c.args.set (ap not c.if-not-set.true)) (record { operation_ensures = c.set_first_source.ensures.operation_ensures; valid_session = c.set_first_source.ensures.valid_session })
+
+pub set_source-got-requires : goal.set_source-got-requires
+set_source-got-requires c = let a = c.args in record { source = accepted_source a.image.now c.take_in-taken.new.words c.take_in-taken.new.tags c.take_in-taken.result c.take_in-taken.ensures c.taken-1.given.0.0 (search rules); full_value = c.requires.going; targets_value = c.requires.targets_are; valid_arrays = c.requires.kept; specials = c.requires.specials }
+
+pub returns-then-got : goal.returns-then-got
+returns-then-got c = let a = c.args in let zz = set_not a.image.now c.take_in-taken.new.words c.take_in-taken.new.tags c.take_in-taken.result c.take_in-taken.ensures a.set a.n a.offset a.words.now a.tags.now a.targets.now a.log.now a.logtags.now a.starts.now a.maps.now a.buckets.now a.special.now a.ends c.requires a.o c.taken-1.given.0.0 c.taken-1.given.1 _ _ _ _ _ _ _ c.set_source-got.ensures c.if-got.true in record { operation_ensures = zz.0; valid_session = zz.1 }
+
+pub returns-in-Accepted : goal.returns-in-Accepted
+returns-in-Accepted c = let a = c.args in let zz = set_so a.image.now c.take_in-taken.new.words c.take_in-taken.new.tags c.take_in-taken.result c.take_in-taken.ensures a.set a.n a.offset a.words.now a.tags.now a.targets.now a.log.now a.logtags.now a.starts.now a.maps.now a.buckets.now a.special.now a.ends c.requires a.o c.taken-1.given.0.0 c.taken-1.given.1 _ _ _ _ _ _ _ c.set_source-got.ensures c.if-got.false in record { operation_ensures = zz.0; valid_session = zz.1 }
+
+pub returns : goal.returns
+returns c = let a = c.args in let zz = set_refused a.image.now c.take_in-taken.new.words c.take_in-taken.new.tags c.take_in-taken.result c.take_in-taken.ensures a.set a.n a.offset a.words.now a.tags.now a.targets.now a.log.now a.logtags.now a.starts.now a.maps.now a.buckets.now a.special.now a.ends c.requires a.o c.in_default.keys2 _ c.number.ensures in record { operation_ensures = zz.0; valid_session = zz.1 }
