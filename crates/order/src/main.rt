@@ -11,38 +11,38 @@ fn buffer() -> [u8; 65537]
 }
 
 // The refusal on standard error; `left` functions are left by a ring alone.
-fn complain(refusal: u32, left: u32) {
+fn complain(rt: &impl Eprint, refusal: u32, left: u32) {
     if refusal == 0 {
         return;
     }
     if left == 0 {
-        program_streams::refused(b"order", refusal);
+        program_streams::refused(rt, "order", refusal);
         return;
     }
-    program_streams::ring(b"order", left);
+    program_streams::ring(rt, "order", left);
 }
 
 // The answer for an image.
-fn answer(image: &[u8]) {
-    let mut out = io::large_buffer();
+fn answer(rt: &(impl Print + Eprint), image: &[u8]) {
+    let mut out = [0; 65536];
     let said = order_text::tell_of(image, &mut out);
-    program_streams::write(b"order", &out[..said.count]);
-    complain(said.refusal, said.left);
+    program_streams::write(rt, "order", &out[..said.count]);
+    complain(rt, said.refusal, said.left);
 }
 
 // The answer for the first n bytes.
-fn check(bytes: &[u8], n: usize) {
+fn check(rt: &(impl Print + Eprint), bytes: &[u8], n: usize) {
     if n <= bytes.len() {
-        answer(&bytes[..n]);
+        answer(rt, &bytes[..n]);
     }
 }
 
-fn main() {
+fn main(rt: HostRuntime) {
     let mut bytes = buffer();
-    let input = program_streams::read(&mut bytes);
-    if input.failed {
-        program_streams::unread(b"order");
+    let input = program_streams::read(&mut rt.stdin(), &mut bytes);
+    if let Some(error) = input.error {
+        program_streams::unread(&rt, "order", error);
         return;
     }
-    check(&bytes, input.count);
+    check(&rt, &bytes, input.count);
 }
