@@ -11,43 +11,43 @@ fn buffer() -> [u8; 65537]
 }
 
 // The refusal on standard error; with 12, `left` functions are left by a ring.
-fn complain(refusal: u32, left: u32) {
+fn complain(rt: &impl Eprint, refusal: u32, left: u32) {
     if refusal == base_refusals::RING {
-        program_streams::ring(b"link_image", left);
+        program_streams::ring(rt, "link_image", left);
         return;
     }
-    program_streams::refused(b"link_image", refusal);
+    program_streams::refused(rt, "link_image", refusal);
 }
 
 // The linked image, or why there is none.
-fn answer(image: &[u8]) {
+fn answer(rt: &(impl Print + Eprint), image: &[u8]) {
     let mut output = buffer();
     let said = link::link(image, &mut output);
     let refusal = (said % 4294967296) as u32;
     let count = (said / 4294967296) as u32;
     if refusal != 0 {
-        complain(refusal, count);
+        complain(rt, refusal, count);
         return;
     }
     let n = count as usize;
     if n <= output.len() {
-        program_streams::write(b"link_image", &output[..n]);
+        program_streams::write(rt, "link_image", &output[..n]);
     }
 }
 
 // The answer for the first n bytes.
-fn run(bytes: &[u8], n: usize) {
+fn run(rt: &(impl Print + Eprint), bytes: &[u8], n: usize) {
     if n <= bytes.len() {
-        answer(&bytes[..n]);
+        answer(rt, &bytes[..n]);
     }
 }
 
-fn main() {
+fn main(rt: HostRuntime) {
     let mut bytes = buffer();
-    let input = program_streams::read(&mut bytes);
-    if input.failed {
-        program_streams::unread(b"link_image");
+    let input = program_streams::read(&mut rt.stdin(), &mut bytes);
+    if let Some(error) = input.error {
+        program_streams::unread(&rt, "link_image", error);
         return;
     }
-    run(&bytes, input.count);
+    run(&rt, &bytes, input.count);
 }
