@@ -1,0 +1,19 @@
+-- `import_standing` meets its contract: expression e is mapped; or its words are passed one at a turn, a record of a table that is not mapped is imported, and so is a standing operand that is not mapped.
+use mathlib.Core.Path.{refl, ◌∙◌}
+use Prim.Native.Nat.{◌-◌}
+use native.Mathlib.Omega.{arith}
+use Rattle.theory_bodies.specs.Shallow.{peek}
+use Rattle.theory_passes.specs.Light.{still}
+use Rattle.derive_state.specs.Source.{mod_of}
+use Rattle.function_references.specs.Cuts.{exprs_of}
+use Rattle.derive_names.proofs.Sources.{small_number}
+use Rattle.function_outside.proofs.Records.{lands_mapped}
+use Rattle.function_expressions.proofs.Needs.{cells_legible, first_in, glance-idle}
+use Rattle.function_expressions.proofs.Alongs.{Alongs, along-begin, along-kept, along_under, along_in, along_number, along_record, along-none, along-next, operand_in, operand-idle, operand_done, glance_full, glance_done}
+use Rattle.function_expressions.proofs.import_standing.Given as goal
+
+abbrev pub invariant-loop-i : goal.invariant-loop-i
+invariant-loop-i l = Alongs l.words l.tags l.n l.k l.offset l.e l.initial.i l.end (peek l.offset (mod_of l.words l.n) still (exprs_of l.words l.tags l.places l.k)) l.initial.log l.initial.logtags l.initial.starts l.initial.maps l.initial.buckets l.initial.exprmap l.initial.stacks l.e1 l.initial.got l.log l.logtags l.starts l.maps l.buckets l.exprmap l.stacks l.got l.i
+
+abbrev pub decreases-loop-i : goal.decreases-loop-i
+decreases-loop-i l = l.end - l.i

@@ -1,0 +1,64 @@
+-- The names of the pairs on the stack are imported one at a turn, and its word is what it is mapped to.
+use native.Mathlib.Omega.{arith}
+use Prim.Native.Nat.{◌+◌, ◌-◌}
+use mathlib.Core.Path.{refl}
+use lib.ListN.{get_or}
+use Rattle.derive_state.specs.Held.{row}
+use Rattle.derive_names.proofs.Sources.{small_number}
+use Rattle.function_names.proofs.Naming.{Naming, name_first, name_in_lem, name_number, name_full, name_next, name_skip, name_done}
+use borrow.Author.Rules.{rules}
+use Rattle.function_names.proofs.import_names.Goals as goal
+
+pub loop-i-init : goal.loop-i-init
+loop-i-init c = let a = c.args in name_first a.words.now a.n a.offset a.b a.log.now a.logtags.now a.starts.now a.maps.now a.buckets.now a.stacks.now a.ends c.requires.valid_arrays c.requires.b_le_bodytop.0 c.requires.by_index c.requires.b_le_bodytop.1 c.requires.stacks
+
+pub overflow_add-j : goal.overflow_add-j
+overflow_add-j c = let a = c.args in let l = c.loop-i in let z = name_in_lem a.words.now a.n a.offset a.b a.log.now a.logtags.now a.starts.now a.maps.now a.buckets.now a.stacks.now a.ends c.requires.valid_arrays l.log l.logtags l.starts l.maps l.buckets l.stacks l.e l.i l.invariant c.loop-i-test.true in omega arith
+
+pub overflow_add-i : goal.overflow_add-i
+overflow_add-i c = let a = c.args in let l = c.loop-i in let z = name_in_lem a.words.now a.n a.offset a.b a.log.now a.logtags.now a.starts.now a.maps.now a.buckets.now a.stacks.now a.ends c.requires.valid_arrays l.log l.logtags l.starts l.maps l.buckets l.stacks l.e l.i l.invariant c.loop-i-test.true in omega arith
+
+pub offset_bounds-stacks-j : goal.offset_bounds-stacks-j
+offset_bounds-stacks-j c = let a = c.args in let l = c.loop-i in let z = name_in_lem a.words.now a.n a.offset a.b a.log.now a.logtags.now a.starts.now a.maps.now a.buckets.now a.stacks.now a.ends c.requires.valid_arrays l.log l.logtags l.starts l.maps l.buckets l.stacks l.e l.i l.invariant c.loop-i-test.true in omega arith
+
+pub bounds-stacks-j : goal.bounds-stacks-j
+bounds-stacks-j c = let a = c.args in let l = c.loop-i in let z = name_in_lem a.words.now a.n a.offset a.b a.log.now a.logtags.now a.starts.now a.maps.now a.buckets.now a.stacks.now a.ends c.requires.valid_arrays l.log l.logtags l.starts l.maps l.buckets l.stacks l.e l.i l.invariant c.loop-i-test.true in omega arith
+
+pub overflow_sub-w : goal.overflow_sub-w
+overflow_sub-w c = let h = c.if-w-ne0.true in omega arith
+
+pub import_name-e-requires : goal.import_name-e-requires
+import_name-e-requires c = let a = c.args in let l = c.loop-i in let h = name_number a.words.now a.n a.offset a.b a.log.now a.logtags.now a.starts.now a.maps.now a.buckets.now a.stacks.now a.ends c.requires.valid_arrays l.log l.logtags l.starts l.maps l.buckets l.stacks l.e l.i l.invariant c.loop-i-test.true (get_or (row l.stacks 3) (l.i + 1) 0) ((get_or (row l.stacks 3) (l.i + 1) 0) - 1) refl c.if-w-ne0.true refl in record { source = c.requires.ground.source; h_bound = (h, l.invariant.going); targets_value = c.requires.ground.targets_are; valid_arrays = l.invariant.kept }
+
+pub returns-then-e : goal.returns-then-e
+returns-then-e c = let a = c.args in let l = c.loop-i in let h = name_number a.words.now a.n a.offset a.b a.log.now a.logtags.now a.starts.now a.maps.now a.buckets.now a.stacks.now a.ends c.requires.valid_arrays l.log l.logtags l.starts l.maps l.buckets l.stacks l.e l.i l.invariant c.loop-i-test.true (get_or (row l.stacks 3) (l.i + 1) 0) ((get_or (row l.stacks 3) (l.i + 1) 0) - 1) refl c.if-w-ne0.true refl in let u = c.import_name-e in name_full a.words.now a.n a.offset a.b a.log.now a.logtags.now a.starts.now a.maps.now a.buckets.now a.stacks.now a.ends c.requires.valid_arrays l.log l.logtags l.starts l.maps l.buckets l.stacks l.e l.i l.invariant c.loop-i-test.true (get_or (row l.stacks 3) (l.i + 1) 0) ((get_or (row l.stacks 3) (l.i + 1) 0) - 1) refl c.if-w-ne0.true refl u.result c.import_name-e.new.log c.import_name-e.new.logtags c.import_name-e.new.starts c.import_name-e.new.maps c.import_name-e.new.buckets c.import_name-e.ensures c.if-e.true
+
+pub overflow_sub-w-then-w-ne0 : goal.overflow_sub-w-then-w-ne0
+overflow_sub-w-then-w-ne0 c = let h = c.if-w-ne0.true in omega arith
+
+pub offset_bounds-maps-wide : goal.offset_bounds-maps-wide
+offset_bounds-maps-wide c = let a = c.args in let l = c.loop-i in let h = name_number a.words.now a.n a.offset a.b a.log.now a.logtags.now a.starts.now a.maps.now a.buckets.now a.stacks.now a.ends c.requires.valid_arrays l.log l.logtags l.starts l.maps l.buckets l.stacks l.e l.i l.invariant c.loop-i-test.true (get_or (row l.stacks 3) (l.i + 1) 0) ((get_or (row l.stacks 3) (l.i + 1) 0) - 1) refl c.if-w-ne0.true refl in let s = small_number a.words.now a.tags.now a.n c.requires.ground.source 0 ((get_or (row l.stacks 3) (l.i + 1) 0) - 1) (omega arith) h in let e = c.wide.ensures.0 in omega arith
+
+pub bounds-maps-wide : goal.bounds-maps-wide
+bounds-maps-wide c = let a = c.args in let l = c.loop-i in let h = name_number a.words.now a.n a.offset a.b a.log.now a.logtags.now a.starts.now a.maps.now a.buckets.now a.stacks.now a.ends c.requires.valid_arrays l.log l.logtags l.starts l.maps l.buckets l.stacks l.e l.i l.invariant c.loop-i-test.true (get_or (row l.stacks 3) (l.i + 1) 0) ((get_or (row l.stacks 3) (l.i + 1) 0) - 1) refl c.if-w-ne0.true refl in let s = small_number a.words.now a.tags.now a.n c.requires.ground.source 0 ((get_or (row l.stacks 3) (l.i + 1) 0) - 1) (omega arith) h in let e = c.wide.ensures.0 in omega arith
+
+pub offset_bounds-stacks-j-then-w-ne0 : goal.offset_bounds-stacks-j-then-w-ne0
+offset_bounds-stacks-j-then-w-ne0 c = let a = c.args in let l = c.loop-i in let z = name_in_lem a.words.now a.n a.offset a.b a.log.now a.logtags.now a.starts.now a.maps.now a.buckets.now a.stacks.now a.ends c.requires.valid_arrays l.log l.logtags l.starts l.maps l.buckets l.stacks l.e l.i l.invariant c.loop-i-test.true in omega arith
+
+pub bounds-stacks-j-else-e : goal.bounds-stacks-j-else-e
+bounds-stacks-j-else-e c = let a = c.args in let l = c.loop-i in let z = name_in_lem a.words.now a.n a.offset a.b a.log.now a.logtags.now a.starts.now a.maps.now a.buckets.now a.stacks.now a.ends c.requires.valid_arrays l.log l.logtags l.starts l.maps l.buckets l.stacks l.e l.i l.invariant c.loop-i-test.true in omega arith
+
+pub loop-i-smaller-then-w-ne0 : goal.loop-i-smaller-then-w-ne0
+loop-i-smaller-then-w-ne0 c = let h = c.loop-i-test.true in omega arith
+
+pub loop-i-preserved-then-w-ne0 : goal.loop-i-preserved-then-w-ne0
+loop-i-preserved-then-w-ne0 c = let a = c.args in let l = c.loop-i in let h = name_number a.words.now a.n a.offset a.b a.log.now a.logtags.now a.starts.now a.maps.now a.buckets.now a.stacks.now a.ends c.requires.valid_arrays l.log l.logtags l.starts l.maps l.buckets l.stacks l.e l.i l.invariant c.loop-i-test.true (get_or (row l.stacks 3) (l.i + 1) 0) ((get_or (row l.stacks 3) (l.i + 1) 0) - 1) refl c.if-w-ne0.true refl in let u = c.import_name-e in name_next a.words.now a.n a.offset a.b a.log.now a.logtags.now a.starts.now a.maps.now a.buckets.now a.stacks.now a.ends c.requires.valid_arrays l.log l.logtags l.starts l.maps l.buckets l.stacks l.e l.i l.invariant c.loop-i-test.true (get_or (row l.stacks 3) (l.i + 1) 0) ((get_or (row l.stacks 3) (l.i + 1) 0) - 1) refl c.if-w-ne0.true refl u.result c.import_name-e.new.log c.import_name-e.new.logtags c.import_name-e.new.starts c.import_name-e.new.maps c.import_name-e.new.buckets c.import_name-e.ensures c.if-e.false c.wide.result c.wide.ensures.0 _ refl
+
+pub loop-i-smaller : goal.loop-i-smaller
+loop-i-smaller c = let h = c.loop-i-test.true in omega arith
+
+pub loop-i-preserved : goal.loop-i-preserved
+loop-i-preserved c = let a = c.args in let l = c.loop-i in name_skip a.words.now a.n a.offset a.b a.log.now a.logtags.now a.starts.now a.maps.now a.buckets.now a.stacks.now a.ends c.requires.valid_arrays l.log l.logtags l.starts l.maps l.buckets l.stacks l.e l.i l.invariant c.loop-i-test.true (get_or (row l.stacks 3) (l.i + 1) 0) refl c.if-w-ne0.false
+
+pub returns : goal.returns
+returns c = let a = c.args in let l = c.loop-i in name_done a.words.now a.n a.offset a.b a.log.now a.logtags.now a.starts.now a.maps.now a.buckets.now a.stacks.now a.ends c.requires.valid_arrays l.log l.logtags l.starts l.maps l.buckets l.stacks l.e l.i l.invariant c.loop-i-test.false
