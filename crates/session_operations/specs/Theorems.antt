@@ -1,7 +1,6 @@
 -- CLEARING: a session whose source is cleared is held by the arrays that held it before. What `MapSpanEnsures` says is what the model's map_span answers.
 use Rattle.std.specs.Prelude.{◌≡◌, ℕ, Bool, true, false, List}
 use Rattle.std.proofs.Math.Path.{refl, subst}
-use Rattle.std.proofs.Common.{sym, ap, ◌∙◌}
 use Rattle.std.proofs.lemmas.Bool.{false≢true}
 use Rattle.model.specs.Imports.{emptied}
 use Rattle.model.specs.Session.{with_source, clear, map_span}

@@ -1,4 +1,3 @@
-use Rattle.std.proofs.Common.{rules}
 use Rattle.session_operations.proofs.Finishing.{finish_refused, finish_done}
 use Rattle.session_operations.proofs.finish_plain.Goals as goal
 

@@ -1,4 +1,3 @@
-use Rattle.std.proofs.Common.{rules}
 use Rattle.session_operations.proofs.Plain.{by-pairs, by_first, by_second, by_third, by-none}
 use Rattle.session_operations.proofs.has_required_special_types.Goals as goal
 

@@ -1,4 +1,3 @@
-use Rattle.std.proofs.Common.{rules}
 use Rattle.derive_state.specs.Refers.{tab_of}
 use Rattle.derive_names.proofs.Sources.{small_number}
 use Rattle.session_operations.proofs.Importing.{below, source-held, import_unset, import_none, import_full, import_room}

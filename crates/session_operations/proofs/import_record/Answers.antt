@@ -1,7 +1,6 @@
 use Rattle.derive_state.specs.Refers.{tab_of}
 use Rattle.derive_state.specs.Source.{src_of}
 use Rattle.session_operations.proofs.Importing.{in_table, of_table, fifth}
-use borrow.Author.Rules.{rules}
 use Rattle.session_operations.proofs.import_record.Goals as goal
 
 pub import_type-requires : goal.import_type-requires

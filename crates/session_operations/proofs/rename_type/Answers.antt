@@ -1,4 +1,4 @@
-use Rattle.std.proofs.Common.{arith, rules}
+use Rattle.std.proofs.Common.{arith}
 use Rattle.derive_names.proofs.Sources.{small_number}
 use Rattle.session_operations.proofs.Importing.{below, source-held, rename_unset, rename-none, rename_no_name, rename_full, rename-room}
 use mathlib.Core.Bool.{not}
