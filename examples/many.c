@@ -1,7 +1,7 @@
 /* How a C program links many images with Wuldgisp: in memory that it keeps and lends to every call. Links each file that is named and writes the linked
  * image beside it, to FILE.linked, which stays as it was where the image is refused. Prints a line for each file. At the root of the repository:
  *
- *     rt staticlib wuldgisp
+ *     tools/build.sh
  *     cc -std=c99 -Iinclude examples/many.c target/staticlib/libwuldgisp.a -o target/many_c
  *     cp vectors/000.img vectors/001.img target && target/many_c target/000.img target/001.img
  *

@@ -1,7 +1,7 @@
 /* How a C program calls Wuldgisp: reads an image on standard input and prints whether intake accepts it and in which order its functions come out.
  * With two name numbers as arguments it first redirects calls of the first function to the second. At the root of the repository:
  *
- *     rt staticlib wuldgisp
+ *     tools/build.sh
  *     cc -std=c99 -Iinclude examples/order.c target/staticlib/libwuldgisp.a -o target/order_c
  *     target/order_c < vectors/001.img
  *

@@ -2,7 +2,7 @@
  * order and finishes with its entry points, which links it; then maps spans by two offsets. It prints a line for each step and its answer, as
  * vectors/README.md has them. With a file's name as argument it writes the linked image there. At the root of the repository:
  *
- *     rt staticlib wuldgisp
+ *     tools/build.sh
  *     cc -std=c99 -Iinclude examples/session.c target/staticlib/libwuldgisp.a -o target/session_c
  *     target/session_c target/linked.img < vectors/001.img
  *

@@ -1,4 +1,4 @@
-/* Wuldgisp: a proved linker for shader modules. The functions of libwuldgisp.a, which `rt staticlib wuldgisp` writes to target/staticlib.
+/* Wuldgisp: a proved linker for shader modules. The functions of libwuldgisp.a, which `tools/build.sh` writes to target/staticlib.
  *
  * Every function returns for every input, reads and writes nothing but what it is lent, and keeps nothing. A null pointer may be given only with
  * length 0. Several threads may call at the same time.

@@ -1,6 +1,6 @@
 //! Finds the proved archive `libwuldgisp.a` and links it.
 //!
-//! It stands where `rt staticlib wuldgisp` writes it, in `target/staticlib` at the repository's root. The
+//! It stands where `tools/build.sh` writes it, in `target/staticlib` at the repository's root. The
 //! environment variable WULDGISP_LIB names another folder, or another archive of that name, by an absolute path: a
 //! build script runs in its package's folder and does not learn where cargo was started.
 
@@ -18,7 +18,7 @@ fn main() {
     println!("cargo::rerun-if-changed={}", archive.display());
     if !archive.is_file() {
         println!(
-            "cargo::error=there is no {ARCHIVE} in {}: run `rt staticlib wuldgisp` at the root of the repository, \
+            "cargo::error=there is no {ARCHIVE} in {}: run `tools/build.sh` at the root of the repository, \
              or set WULDGISP_LIB to the folder that holds it",
             folder.display()
         );

@@ -27,7 +27,7 @@ fn the_archive_is_found_or_its_absence_told() {
     let (works, said) = build(Path::new("/no/such/folder"));
     assert!(!works);
     assert!(
-        said.contains("there is no libwuldgisp.a in /no/such/folder: run `rt staticlib wuldgisp`"),
+        said.contains("there is no libwuldgisp.a in /no/such/folder: run `tools/build.sh`"),
         "{said}"
     );
 
