@@ -93,7 +93,7 @@ module _ {log₀ logtags₀ : List ℕ} {starts₀ maps₀ : List (List ℕ)} {b
       declare_fits = legible_here inv.left.legible less
 
       cells : between tags words i end ≡ (s, w) ∷ cs
-      cells = let S = inv.left.legible.stretch in between_next tags words i end less S.in_tags S.in_words_lem
+      cells = let S = inv.left.legible.stretch in between_next tags words i end less S.in_tags S.in_words
 
       passes : (m : Builder) → passed o M still p p (s, w) cs m ≡ to m
       passes m = let z = inv.left.plain i (le_refl _) less in passed-plain o M p p s w cs m z.0 z.2

@@ -61,7 +61,7 @@ module _ (words tags : List ℕ) (n k o : ℕ) (p q : ℕ → Builder → Builde
         → Runs words k F G log₀ logtags₀ starts₀ maps₀ buckets₀ exprmap₀ stacks₀ e₁ e₀ r log logtags starts maps buckets exprmap stacks
     pass_from B h e {a} {b} ha hb A =
         let S = B.legible.stretch in
-        let f = first_some tags words i end (range_in B h e).0 S.in_tags S.in_words_lem in
+        let f = first_some tags words i end (range_in B h e).0 S.in_tags S.in_words in
         runs_as K₀ A (λ m. passed_from o M p q s w cs m e ∙ ap₂ (λ (x y : ℕ). both o M still p q x y m) (sym ha) (sym (hb ∙ f)))
         (λ m. ap (◌∷ []) (word_from o M p q s w cs u m e ∙ ap₂ (λ (x y : ℕ). length (first o M still p q x y m).made) (sym ha) (sym (hb ∙ f))))
 
