@@ -1,6 +1,4 @@
-use Rattle.redirect_image.proofs.Numbers.{Reading, read-nothing, read-begin, read_next, read_done}
-use Prim.Native.Nat.{◌-◌}
-use lib.ListN.{length}
+use Rattle.redirect_image.proofs.Numbers.{read-nothing, read-begin, read_next, read_done}
 use borrow.Author.Rules.{rules}
 use Rattle.redirect_image.proofs.read.Goals as goal
 

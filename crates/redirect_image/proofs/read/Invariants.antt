@@ -1,4 +1,4 @@
-use Rattle.redirect_image.proofs.Numbers.{Reading, read-nothing, read-begin, read_next, read_done}
+use Rattle.redirect_image.proofs.Numbers.{Reading}
 use Prim.Native.Nat.{◌-◌}
 use lib.ListN.{length}
 use Rattle.redirect_image.proofs.read.Given as goal
