@@ -10,20 +10,30 @@ import sys
 
 
 def fault(path):
-    """What is wrong with an edit, or None."""
-    parts = dict(line.split(": ", 1) for line in open(path).read().split("\n") if line.startswith(("file: ", "old: ", "new: ")))
-    missing = [name for name in ("file", "old", "new") if name not in parts]
-    if missing:
-        return f"has no line '{missing[0]}:'"
-    target = os.path.join(os.path.dirname(os.path.dirname(path)), parts["file"])
-    if not os.path.isfile(target):
-        return f"names {parts['file']}, which is not there"
-    times = open(target).read().count(parts["old"])
-    if times != 1:
-        return f"replaces what stands {times} times in {parts['file']}"
-    if parts["old"] == parts["new"]:
-        return "changes nothing"
-    return None
+    """What is wrong with an edit, or None. Of several pairs each applies to what those before it made."""
+    crate, name, old, texts, pairs = os.path.dirname(os.path.dirname(path)), None, None, {}, 0
+    for line in open(path, encoding="utf-8").read().split("\n"):
+        key, _, value = line.partition(":")
+        value = value.removeprefix(" ")
+        if key == "file":
+            name = value
+            if name not in texts:
+                if not os.path.isfile(os.path.join(crate, name)):
+                    return f"names {name}, which is not there"
+                texts[name] = open(os.path.join(crate, name), encoding="utf-8").read()
+        elif key == "old":
+            old = value
+        elif key == "new":
+            if name is None or old is None:
+                return "has a line 'new:' before 'file:' or 'old:'"
+            times = texts[name].count(old)
+            if times != 1:
+                return f"replaces what stands {times} times in {name}"
+            if old == value:
+                return "changes nothing"
+            texts[name] = texts[name].replace(old, value)
+            old, pairs = None, pairs + 1
+    return None if pairs else "has no lines 'old:' and 'new:'"
 
 
 def main():
