@@ -1,0 +1,22 @@
+-- `import_initialiser` meets its contract: the cycle of calls {import_initialiser}. Expression e is mapped; or its words are passed one at a turn, a record of a table imported and an operand, whose number is lower, taken by `import_initialiser` itself; and then it is merged. The measure is the expression's number.
+use mathlib.Core.Path.{refl, ◌∙◌}
+use Prim.Native.Nat.{ℕ, ◌-◌, ◌<◌}
+use native.Mathlib.Omega.{arith}
+use borrow.Fn.PlainCycle.{Measures, is, falls, and}
+use Rattle.model.specs.Bodies.{import_initialiser as initialiserE}
+use Rattle.theory_passes.specs.Light.{still}
+use Rattle.derive_state.specs.Source.{mod_of}
+use Rattle.derive_lookup.proofs.Bears.{bearing}
+use Rattle.function_references.specs.Cuts.{exprs_of}
+use Rattle.function_expressions.proofs.Needs.{cells_legible, unique_idle}
+use Rattle.function_expressions.proofs.Alongs.{Alongs, along-begin, along-kept, along_under, along_in, along_number, along_record, along-lower, along_own, along-none, along-next, unique_full, unique_done}
+use Rattle.function_declarations.proofs.+import_initialiser.Given as goal
+
+abbrev pub decreases-import_initialiser : goal.decreases-import_initialiser
+decreases-import_initialiser l = l.e
+
+abbrev pub invariant-loop-i : goal.invariant-loop-i
+invariant-loop-i l = Alongs l.words l.tags l.n l.k l.offset l.e l.initial.i l.end (initialiserE l.offset (mod_of l.words l.n) still (exprs_of l.words l.tags l.places l.k)) l.initial.log l.initial.logtags l.initial.starts l.initial.maps l.initial.buckets l.initial.exprmap l.initial.stacks l.e1 l.initial.got l.log l.logtags l.starts l.maps l.buckets l.exprmap l.stacks l.got l.i
+
+abbrev pub decreases-loop-i : goal.decreases-loop-i
+decreases-loop-i l = l.end - l.i

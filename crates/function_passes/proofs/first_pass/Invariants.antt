@@ -1,0 +1,12 @@
+-- `first_pass` meets its contract: one expression of the range at a turn.
+use Prim.Native.Nat.{◌-◌}
+use native.Mathlib.Omega.{arith}
+use Rattle.function_words.specs.Runs.{glances}
+use Rattle.function_passes.proofs.Ranges.{Ranging, range_begin, range_more, range_full, range_done, glances_grow}
+use Rattle.function_passes.proofs.first_pass.Given as goal
+
+abbrev pub invariant-loop-x : goal.invariant-loop-x
+invariant-loop-x l = Ranging l.words l.k (glances l.offset l.words l.tags l.n l.places l.k) l.a l.b l.initial.log l.initial.logtags l.initial.starts l.initial.maps l.initial.buckets l.initial.exprmap l.initial.stacks l.e1 l.initial.e l.e l.log l.logtags l.starts l.maps l.buckets l.exprmap l.stacks l.x
+
+abbrev pub decreases-loop-x : goal.decreases-loop-x
+decreases-loop-x l = l.b - l.x

@@ -1,0 +1,12 @@
+-- `second_pass` meets its contract: one expression of the range at a turn.
+use Prim.Native.Nat.{◌-◌}
+use native.Mathlib.Omega.{arith}
+use Rattle.derive_lookup.proofs.Bears.{bearing}
+use Rattle.function_passes.proofs.Appending.{Appending, appending, append_done, append_skip, append_full, append-more}
+use Rattle.function_passes.proofs.second_pass.Given as goal
+
+abbrev pub invariant-loop-x : goal.invariant-loop-x
+invariant-loop-x l = Appending l.words l.tags l.n l.places l.k l.offset l.a l.b l.log l.logtags l.starts l.maps l.initial.exprmap l.initial.stacks l.e1 l.initial.e l.e l.exprmap l.stacks l.x
+
+abbrev pub decreases-loop-x : goal.decreases-loop-x
+decreases-loop-x l = l.b - l.x
