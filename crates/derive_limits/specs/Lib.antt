@@ -1,4 +1,3 @@
 pub mod Full
-pub mod Growing
 pub mod Reached
 pub mod Theorems

@@ -11,7 +11,8 @@ use Rattle.model.specs.Imports.{Derived, emptied, fresh}
 use Rattle.model.specs.Session.{new}
 use Rattle.model.specs.Image.{ScratchLengths}
 use Rattle.theory_sessions.specs.Operating.{run}
-use Rattle.derive_limits.specs.Reached.{Reached, reached}
+use Rattle.derive_limits.specs.Reached.{Reached}
+use Rattle.derive_limits.proofs.Reached.{reached}
 use Rattle.derive_state.specs.Refers.{target_bytes}
 use Rattle.derive_state.specs.Marks.{MARKS}
 use Rattle.derive_state.specs.Held.{row}

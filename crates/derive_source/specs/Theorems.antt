@@ -16,8 +16,10 @@ use Rattle.derive_state.specs.Source.{mod_of}
 use Rattle.derive_state.specs.Held.{st_of}
 use Rattle.derive_state.specs.declared.Sizes.{Sizes}
 use Rattle.derive_state.proofs.Laws.{none-held}
-use Rattle.derive_limits.specs.Reached.{Reached, sourced-at}
-use Rattle.derive_limits.specs.Theorems.{Exactly, exact-at, kept_full, kept-room, kept_not_over}
+use Rattle.derive_limits.specs.Reached.{Reached}
+use Rattle.derive_limits.proofs.Reached.{sourced-at}
+use Rattle.derive_limits.specs.Theorems.{Exactly}
+use Rattle.derive_limits.proofs.Theorems.{exact-at, kept_full, kept-room, kept_not_over}
 use Rattle.derive_source.specs.SourceSet.{SetSourceEnsures}
 
 -- the arrays hold the state, apart from the maps

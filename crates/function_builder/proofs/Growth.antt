@@ -10,7 +10,7 @@ use Rattle.model.specs.Module.{Module}
 use Rattle.model.specs.Tables.{tables}
 use Rattle.model.specs.Imports.{Derived}
 use Rattle.model.specs.Bodies.{Builder, bring, append_expr, intern_expr}
-use Rattle.theory_passes.specs.Growth.{Growing, longer}
+use Rattle.theory_passes.proofs.Growth.{Growing, longer}
 use Rattle.theory_passes.specs.Light.{still}
 use Rattle.derive_state.specs.Held.{Over, long, many, crowd, keys}
 use Rattle.derive_names.proofs.Growth.{Grow, stay, then, over_grow, grow_T}

@@ -14,7 +14,7 @@ use Rattle.model.specs.References.{target, ref_of, through, first_word, undefine
 use Rattle.model.specs.Bodies.{Builder, mapped_to}
 use Rattle.theory_records.specs.RecordLaws.{All}
 use Rattle.theory_passes.specs.Pass.{arrive, passed, word_of, after, written}
-use Rattle.theory_passes.specs.Growth.{grow_front}
+use Rattle.theory_passes.proofs.Growth.{grow_front}
 use Rattle.theory_passes.specs.Light.{still}
 use Rattle.theory_image.specs.Betweens.{between_none, between_next}
 use Rattle.derive_state.specs.Source.{mod_of}

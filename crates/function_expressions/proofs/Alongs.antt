@@ -17,7 +17,7 @@ use Rattle.model.specs.Bodies.{Builder, bring, intern_expr, import_initialiser}
 use Rattle.theory_bodies.specs.Shallow.{need, peek, glance}
 use Rattle.theory_passes.specs.Pass.{arrive}
 use Rattle.theory_passes.specs.Cases.{along}
-use Rattle.theory_passes.specs.Growth.{grow_all, grow_arrive, grow_peek, grow_unique}
+use Rattle.theory_passes.proofs.Growth.{grow_all, grow_arrive, grow_peek, grow_unique}
 use Rattle.theory_passes.specs.Light.{still}
 use Rattle.theory_image.specs.Betweens.{between_none, between_next}
 use Rattle.derive_state.specs.Source.{mod_of, src_of, refers_to, number_of}

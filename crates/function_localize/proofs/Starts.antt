@@ -19,7 +19,8 @@ use Rattle.model.specs.Bodies.{Builder}
 use Rattle.theory_image.specs.Betweens.{held-between}
 use Rattle.theory_bodies.specs.Shallow.{need, glance}
 use Rattle.theory_passes.specs.Pass.{after, written, front, begin}
-use Rattle.theory_passes.specs.Light.{still, still_grow_body}
+use Rattle.theory_passes.specs.Light.{still}
+use Rattle.theory_passes.proofs.Light.{still_grow_body}
 use Rattle.derive_state.specs.Flats.{function_of}
 use Rattle.derive_state.specs.Source.{mod_of}
 use Rattle.derive_state.specs.Held.{row, table_of, st_of, size_r, Over, ValidArrays}

@@ -20,8 +20,9 @@ use Rattle.model.specs.Bodies.{Builder}
 use Rattle.theory_image.specs.Betweens.{between_none, between_next}
 use Rattle.theory_bodies.specs.Shallow.{need, glance}
 use Rattle.theory_passes.specs.Pass.{passed, word_of, after, written, front, begin}
-use Rattle.theory_passes.specs.Growth.{grow_names}
-use Rattle.theory_passes.specs.Light.{still, still_grow_body}
+use Rattle.theory_passes.proofs.Growth.{grow_names}
+use Rattle.theory_passes.specs.Light.{still}
+use Rattle.theory_passes.proofs.Light.{still_grow_body}
 use Rattle.derive_state.specs.Source.{mod_of}
 use Rattle.derive_state.specs.Held.{row, table_of, st_of, size_r, Over, ValidArrays, Same}
 use Rattle.derive_state.specs.Marks.{Marks}

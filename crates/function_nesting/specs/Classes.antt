@@ -14,10 +14,11 @@ use Rattle.theory_image.specs.Plain.{plain?, plain_more}
 use Rattle.theory_image.specs.Quiet.{each_append, each_map}
 use Rattle.theory_image.specs.FunctionViews.{among, split_or, field?, Expression, expression, expression_shape}
 use Rattle.theory_finish.specs.Cellwise.{each_first, each_rest, all-to}
-use Rattle.theory_finish.specs.Small.{at_row}
+use Rattle.theory_finish.proofs.Small.{at_row}
 use Rattle.theory_passes.specs.Pass.{front, begin}
-use Rattle.theory_passes.specs.Growth.{Growing}
-use Rattle.theory_passes.specs.Light.{still, still_grow_front, still_grow_body}
+use Rattle.theory_passes.proofs.Growth.{Growing}
+use Rattle.theory_passes.specs.Light.{still}
+use Rattle.theory_passes.proofs.Light.{still_grow_front, still_grow_body}
 use Rattle.function_nesting.specs.Nested.{declared_s, walked_s}
 
 abbrev pub Byte : Cell → Type 0

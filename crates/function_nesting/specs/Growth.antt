@@ -15,8 +15,9 @@ use Rattle.model.specs.Imports.{Derived}
 use Rattle.model.specs.Bodies.{known, Builder, bring, append_expr, intern_expr, appended}
 use Rattle.theory_bodies.specs.Context.{once_is}
 use Rattle.theory_passes.specs.Pass.{front, begin}
-use Rattle.theory_passes.specs.Growth.{Growing, grow_names}
-use Rattle.theory_passes.specs.Light.{still, still_grow_front, still_grow_body}
+use Rattle.theory_passes.proofs.Growth.{Growing, grow_names}
+use Rattle.theory_passes.specs.Light.{still}
+use Rattle.theory_passes.proofs.Light.{still_grow_front, still_grow_body}
 use Rattle.derive_state.specs.Flats.{function_of}
 use Rattle.derive_state.specs.Held.{words_of}
 use Rattle.derive_state.proofs.State.{size_r-append}

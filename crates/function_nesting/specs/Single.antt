@@ -41,7 +41,7 @@ use Rattle.theory_bodies.specs.Layout.{well_again}
 use Rattle.theory_bodies.specs.Theorems.{sound-again}
 use Rattle.theory_passes.specs.Pass.{arrive, first, both, early, passed, word_of, after, written, named, rows, front, begin, names_after, names_written}
 use Rattle.theory_passes.specs.Light.{still}
-use Rattle.theory_passes.specs.Whole as Whole
+use Rattle.theory_passes.proofs.Whole as Whole
 use Rattle.theory_sessions.specs.Alike.{final-same, localized-same}
 use Rattle.derive_state.specs.Flats.{function_in, function_of, entry_in, entry_of}
 use Rattle.derive_state.specs.Held.{Named}

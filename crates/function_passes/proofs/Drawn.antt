@@ -21,7 +21,7 @@ use Rattle.theory_records.specs.Trace.{settle_here, settle_size}
 use Rattle.theory_bodies.specs.Context.{once_is}
 use Rattle.theory_bodies.specs.Shallow.{need, peek, glance}
 use Rattle.theory_passes.specs.Cases.{range_next}
-use Rattle.theory_passes.specs.Growth.{Growing, grow_all, grow_peek, grow_glance}
+use Rattle.theory_passes.proofs.Growth.{Growing, grow_all, grow_peek, grow_glance}
 use Rattle.theory_passes.specs.Light.{still}
 use Rattle.derive_state.specs.Source.{mod_of}
 use Rattle.derive_state.specs.Held.{maps_of, st_of, ValidArrays}

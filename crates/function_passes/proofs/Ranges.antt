@@ -10,7 +10,7 @@ use Rattle.model.specs.Scope.{in_range}
 use Rattle.model.specs.Bodies.{Builder, each_e}
 use Rattle.theory_passes.specs.Pass.{first, both}
 use Rattle.theory_passes.specs.Cases.{range_end, range_next}
-use Rattle.theory_passes.specs.Growth.{grow_all, grow_need, grow_glance}
+use Rattle.theory_passes.proofs.Growth.{grow_all, grow_need, grow_glance}
 use Rattle.theory_passes.specs.Light.{still}
 use Rattle.derive_state.specs.Source.{mod_of}
 use Rattle.derive_state.specs.Held.{ValidArrays}

@@ -15,7 +15,7 @@ use Rattle.model.specs.References.{Place, table, own, function, Target, copied, 
 use Rattle.model.specs.Bodies.{Builder}
 use Rattle.theory_records.specs.RecordLaws.{All, all_map}
 use Rattle.theory_passes.specs.Pass.{arrive, passed, word_of}
-use Rattle.theory_passes.specs.Cases.{early-other}
+use Rattle.theory_passes.proofs.Cases.{early-other}
 use Rattle.theory_passes.specs.Light.{still}
 use Rattle.derive_state.specs.Refers.{target_of, tab_of}
 use Rattle.derive_state.specs.Source.{mod_of, src_of, Source, refers_to, number_of}

@@ -18,7 +18,7 @@ use Rattle.model.specs.References.{Target, targets, target, ref_of, refs, carry_
 use Rattle.model.specs.Bodies.{Builder, mapped_to, compare_of, compares_of, each_e}
 use Rattle.theory_records.specs.RecordLaws.{All, all_map, rest_of}
 use Rattle.theory_passes.specs.Pass.{atomic_kind, arrive, first, both, early, passed, word_of}
-use Rattle.theory_passes.specs.Cases.{early-atomic}
+use Rattle.theory_passes.proofs.Cases.{early-atomic}
 use Rattle.theory_passes.specs.Light.{still}
 use Rattle.theory_image.specs.Betweens.{between_none, between_next}
 use Rattle.derive_state.specs.Source.{mod_of, src_of, refers_to, number_of}

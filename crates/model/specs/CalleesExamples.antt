@@ -1,11 +1,11 @@
 -- Callees and orders by example, computed: document 01's P5, P6, P9 and P12 as modules, and Calls in every place of a body.
-use Rattle.std.specs.Prelude.{◌≡◌, refl, false, List, [], ◌∷◌, ℕ}
+use Rattle.std.specs.Prelude.{◌≡◌, false, List, [], ◌∷◌, ℕ}
 use Rattle.std.proofs.Math.Option.{none, some}
 use Rattle.model.specs.Table.{VALUE}
 use Rattle.model.specs.Tree.{Stmt, block, branch, switch, loop, break, return, call, end, ◌then◌, nomore, ◌also◌, case, Range, Function}
 use Rattle.model.specs.Module.{Module}
-use Rattle.model.specs.Calls.{numbers, any, keep, free, held, round, rounds, ordered, ring, answer, order}
-use Rattle.model.specs.Callees.{callees_s, callees, callees_at, calls, order_of}
+use Rattle.model.specs.Calls.{ordered, ring}
+use Rattle.model.specs.Callees.{callees, calls, order_of}
 use Rattle.model.specs.SampleBodies.{literal, called, does, evals, function}
 
 -- a Call of f, without operands or result
@@ -49,19 +49,3 @@ pub record Called : Type 0 where
   pub p12 : order_of (holding []) ≡ ordered []
   -- a ring that no walk goes round: after a Return
   pub behind : order_of (holding (function [] [] (does (return none) then calling 0 then end) ∷ [])) ≡ ring 1
-
-pub computed : Called
-unfolding callees_s callees_at calls order_of numbers any keep free held round rounds answer order
-computed = record {
-  result_only = refl;
-  with_result = refl;
-  not_reached = refl;
-  nested = refl;
-  branches = refl;
-  past = refl;
-  p5 = refl;
-  p6 = refl;
-  p9 = refl;
-  p12 = refl;
-  behind = refl;
-}

@@ -1,11 +1,10 @@
 -- Refusal 4 by example, computed: for each rule a module that keeps it and one that does not, which differ in one number.
-use Rattle.std.specs.Prelude.{◌≡◌, refl, true, false, List, [], ◌∷◌, ℕ}
+use Rattle.std.specs.Prelude.{◌≡◌, true, false, List, [], ◌∷◌, ℕ}
 use Rattle.model.specs.Outcome.{Cells}
 use Rattle.model.specs.Table.{WORD, SPAN, UPTO, NAME, TYPE, CONSTANT, OVERRIDE, INIT, OPT_INIT, MEMBERS, TYPE_KIND}
 use Rattle.model.specs.Tree.{Function, Entry, end, ◌then◌}
 use Rattle.model.specs.Module.{Module}
-use Rattle.model.specs.Operands.{optional, operand, ops_of}
-use Rattle.model.specs.Lower.{below, bases_of, types_lower, operands_lower, functions_lower, entries_lower, init_of, inits_of, inits_lower, lower}
+use Rattle.model.specs.Lower.{lower}
 use Rattle.model.specs.SampleBodies.{record_with, literal, negate, store, function}
 
 -- types, constants, overrides, global expressions, functions, entry points
@@ -57,24 +56,3 @@ pub record Tried : Type 0 where
   pub entry_own : lower (holding [] [] [] [] [] (calling (literal 7 ∷ negate 1 ∷ []) ∷ [])) ≡ false
   -- a function may name a constant whose init is any global expression, and a statement any expression
   pub elsewhere : lower (holding [] (constant 9 ∷ []) [] [] (function [] (constant-named 0 ∷ []) (store 8 9 then end) ∷ []) []) ≡ true
-
-tried : Tried
-unfolding optional operand ops_of below bases_of types_lower operands_lower functions_lower entries_lower init_of inits_of inits_lower lower
-tried = record {
-  base = refl;
-  base_own = refl;
-  member = refl;
-  member_later = refl;
-  global = refl;
-  global_own = refl;
-  named-constant = refl;
-  constant_own = refl;
-  named-override = refl;
-  override_own = refl;
-  override-none = refl;
-  operand-lower = refl;
-  operand_own = refl;
-  entry-lower = refl;
-  entry_own = refl;
-  elsewhere = refl;
-}

@@ -1,13 +1,10 @@
 -- Refusal 5 by example, computed: for each rule a module that breaks it, and what the rules allow.
-use Rattle.std.specs.Prelude.{◌≡◌, refl, true, false, List, [], ◌∷◌, ℕ}
-use Rattle.std.proofs.Common.{lit<}
+use Rattle.std.specs.Prelude.{◌≡◌, true, false, List, [], ◌∷◌, ℕ}
 use Rattle.model.specs.Outcome.{Cells}
-use Rattle.model.specs.Table.{WORD, SPAN, UPTO, NAME, TYPE, NAMED-EXPR, KEY, PAD, TEXT, limit}
+use Rattle.model.specs.Table.{WORD, SPAN, UPTO, NAME, TYPE, NAMED-EXPR, KEY, PAD, TEXT}
 use Rattle.model.specs.Tree.{Function, Entry, end}
 use Rattle.model.specs.Module.{Module}
-use Rattle.model.specs.Carry.{each_none, each_next}
-use Rattle.model.specs.Names.{field, present, absent, distinct, same, unlike, differ, expressions_named, functions_named, entries_named, function_names, entry_names, named, NumbersFew}
-use Rattle.model.specs.Sample.{sample, function as sampled}
+use Rattle.model.specs.Names.{named}
 
 -- names, functions, entry points, pairs of special types
 abbrev holding : List Cells → List Function → List Entry → List Cells → Module
@@ -46,23 +43,3 @@ pub record Tried : Type 0 where
   pub named-twice : named (holding [] (function 1 (naming 0 1 ∷ naming 1 2 ∷ naming 0 3 ∷ []) ∷ []) [] []) ≡ false
   pub entry_named_twice : named (holding [] [] (entry 1 (function 0 (naming 3 1 ∷ naming 3 2 ∷ [])) ∷ []) []) ≡ false
   pub keys_equal : named (holding [] [] [] (pair 7 ∷ pair 8 ∷ pair 7 ∷ [])) ≡ false
-
-tried : Tried
-unfolding field present absent distinct same unlike differ expressions_named functions_named entries_named function_names entry_names named
-tried = record {
-  fine = refl;
-  function-unnamed = refl;
-  entry-unnamed = refl;
-  expression_unnamed = refl;
-  entry_expression_unnamed = refl;
-  names_equal = refl;
-  functions_equal = refl;
-  named-twice = refl;
-  entry_named_twice = refl;
-  keys_equal = refl;
-}
-
--- a module whose named numbers are few
-sample_few : NumbersFew sample
-unfolding sample sampled field limit
-sample_few = record { in_functions_lem = each_next (each_next (lit< tt) each_none) each_none; in_entries_lem = each_next (each_next (lit< tt) each_none) each_none }

@@ -1,13 +1,11 @@
 -- Refusal 3 by example: a small module that passes, and for each rule one that is turned back by one word.
-use Rattle.std.specs.Prelude.{◌≡◌, refl, true, false, [], ◌∷◌, ℕ}
+use Rattle.std.specs.Prelude.{◌≡◌, true, false, [], ◌∷◌, ℕ}
 use Rattle.model.specs.Outcome.{Cells}
 use Rattle.model.specs.Table.{WORD, SPAN, UPTO, NAME, TYPE, OPT_TYPE, INIT, EXPR, ARGUMENT, LOCAL, KEY, TEXT, TYPE_KIND}
-use Rattle.model.specs.Tree.{end, ◌then◌, kind_of, size_b, flat_all, flat_list, flat_x, flat_s, flat_block, flat, flat_entry, word_of, Function}
+use Rattle.model.specs.Tree.{end, ◌then◌, Function}
 use Rattle.model.specs.Module.{Module}
-use Rattle.model.specs.Operands.{optional, operand, ops_of, kind, constant_kind}
-use Rattle.model.specs.Initial.{inits_of, roots, mark, unmarked, read_by, close, reached_marks, constant_at, initialised}
 use Rattle.model.specs.SampleBodies.{record_with, literal, negate, splat, called, evals, store, local, function}
-use Rattle.model.specs.Numbers.{caps, bound, below, within, rising, ordered, every, outside, inside, sound, constant_only, numbered}
+use Rattle.model.specs.Numbers.{numbered}
 
 -- one name, one leaf, one constant whose init is the one global expression, one function
 unfoldable pub with-tables : Cells → Cells → Cells → Function → Module
@@ -71,31 +69,3 @@ pub record Shown : Type 0 where
   pub reaches_barred : numbered (holding (function (local 1 ∷ []) (splat 1 ∷ record_with 12 ((EXPR, 0) ∷ []) ∷ []) end)) ≡ false
   pub reaches_not : numbered (holding (function (local 1 ∷ []) (literal 0 ∷ record_with 12 ((EXPR, 0) ∷ []) ∷ []) end)) ≡ true
   pub local_init_over : numbered (holding (function (local 3 ∷ []) (literal 0 ∷ literal 1 ∷ []) end)) ≡ false
-
-pub shown : Shown
-unfolding with-tables caps bound below within rising ordered every outside inside sound constant_only numbered optional operand ops_of kind constant_kind inits_of roots mark unmarked read_by close reached_marks constant_at initialised kind_of size_b flat_all flat_list flat_x flat_s flat_block flat flat_entry word_of
-shown = record {
-  fine = refl;
-  name_over = refl;
-  code_over = refl;
-  type_over = refl;
-  init_over = refl;
-  global-operand = refl;
-  global_over = refl;
-  global_barred = refl;
-  operand_own = refl;
-  operand_over = refl;
-  statement_over = refl;
-  local_over = refl;
-  local_own = refl;
-  argument_over = refl;
-  function_own = refl;
-  function_over = refl;
-  emit_all = refl;
-  emit_falls = refl;
-  emit_over = refl;
-  reaches = refl;
-  reaches_barred = refl;
-  reaches_not = refl;
-  local_init_over = refl;
-}

@@ -1,13 +1,12 @@
 -- Redirecting by example: where calls stay and where they change, and each refusal. One table, one theorem; P7 and P8 are in Marked.antt.
-use Rattle.std.specs.Prelude.{◌≡◌, refl, List, [], ◌∷◌, map, ℕ, suc}
+use Rattle.std.specs.Prelude.{◌≡◌, List, [], ◌∷◌, map, ℕ, suc}
 use Rattle.std.proofs.Math.Option.{none, some}
 use Rattle.model.specs.Outcome.{Cells}
 use Rattle.model.specs.Table.{WORD, SPAN, UPTO, NAME, TYPE, OPT_TYPE, PAD, TEXT, RETURNS}
-use Rattle.model.specs.Tree.{Block, call, end, ◌then◌, Range, Function, Entry, opt_of, word_of, kind_of, size_b, size_c, flat_all, flat_list, flat_x, flat_s, flat_block, flat}
+use Rattle.model.specs.Tree.{Block, call, end, ◌then◌, Range, Function, Entry}
 use Rattle.model.specs.Module.{Module}
-use Rattle.model.specs.Carry.{carry_cell, carry_opt, carry_range, carry_s, carry_function, carry_entry}
 use Rattle.model.specs.SampleBodies.{does, called}
-use Rattle.model.specs.Redirect.{name_word, find, omitted, all_below, argument_types, agree, type_behind, result_type, same, redirecting, redirect_fn, redirect_entry, stays, redirect_fns, with_functions, with_entries, redirect, redirected, refusal, nothing, function, compared, with_replacement, with_original, redirect_function}
+use Rattle.model.specs.Redirect.{redirected, refusal, function, redirect_function}
 
 -- a function by its name number, argument types, result, expressions and body
 abbrev pub made : ℕ → List ℕ → Cells → List Cells → Block Range → Function
@@ -81,24 +80,3 @@ pub record Redirects : Type 0 where
   pub shorter : redirect_function (holding (made 0 (0 ∷ 1 ∷ []) no_result [] end ∷ made 1 (0 ∷ []) no_result [] end ∷ []) []) 0 1 [] ≡ redirected 0 1 (holding (made 0 (0 ∷ 1 ∷ []) no_result [] end ∷ made 1 (0 ∷ []) no_result [] end ∷ []) [])
   pub none_some : refusal (redirect_function (holding (made 0 [] no_result [] end ∷ made 1 [] (result_of_lem 0) [] end ∷ []) []) 0 1 []) ≡ 11
   pub some_some : refusal (redirect_function (holding (made 0 [] (result_of_lem 1) [] end ∷ made 1 [] (result_of_lem 0) [] end ∷ []) []) 0 1 []) ≡ 11
-
-pub redirects : Redirects
-unfolding opt_of word_of kind_of size_b size_c flat_all flat_list flat_x flat_s flat_block flat carry_cell carry_opt carry_range carry_s carry_function carry_entry name_word find omitted all_below argument_types agree type_behind result_type same redirecting redirect_fn redirect_entry stays redirect_fns with_functions with_entries redirect refusal nothing function compared with_replacement with_original redirect_function
-redirects = record {
-  itself = refl;
-  omits = refl;
-  omits_none = refl;
-  own = refl;
-  self = refl;
-  twice = refl;
-  results = refl;
-  entries = refl;
-  no_name = refl;
-  no_omitted_name = refl;
-  no_original_lem = refl;
-  no_replacement_lem = refl;
-  arguments = refl;
-  shorter = refl;
-  none_some = refl;
-  some_some = refl;
-}

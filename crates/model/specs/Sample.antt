@@ -1,11 +1,11 @@
 -- A module with every form of statement and a list or a variant in every table, read, written and carried by computation; and modules that are not well formed, which are not read.
-use Rattle.std.specs.Prelude.{◌≡◌, refl, true, false, [], ◌∷◌, ℕ, ◌+◌, ltb}
+use Rattle.std.specs.Prelude.{◌≡◌, true, false, [], ◌∷◌, ℕ, ◌+◌, ltb}
 use Rattle.std.proofs.Math.Option.{none, some}
-use Rattle.model.specs.Outcome.{Cells, laid, bad, strange, ◌⟫◌, eat, map_o, exact, both, map_l}
-use Rattle.model.specs.Table.{WORD, SPAN, UPTO, NAME, TYPE, OPT_TYPE, CONSTANT, INIT, EXPR, OPT_EXPR, OPT_RESULT, NAMED-EXPR, LOCAL-INIT, KEY, PLACE, PAD, TEXT, OPERANDS, MEMBERS, TYPE_KIND, EXPR_KIND, LEVEL, VALUE, ATOMIC, RETURNS, types, expressions, levels, queries, values, atomics, results, statements, name_row, type_row, constant_row, override_row, global_row, expression_row, function_head, entry_head, counted, limit, variants, repeat, text, variant, more, follow, run}
-use Rattle.model.specs.Tree.{Block, stmt, emit, block, branch, switch, loop, break, continue, return, kill, call, effect, end, ◌then◌, nomore, ◌also◌, case, Range, Function, opt_of, word_of, kind_of, size_b, size_c, flat_all, flat_list, flat_x, flat_s, flat_block, flat, flat_entry, rows, listed, operands, stmts, case_at, cases, form, checked, shaped, statement, block_at, function_at, entry_at}
-use Rattle.model.specs.Module.{Module, next, records, table, special_at, count_at, offset_at, end_at, limits, placed, section, table_at, ◌⊛◌, read, places, flat_table, flat_special, sections, pairs_from, bodies, flat_module, write}
-use Rattle.model.specs.Carry.{carry_cell, carry_cells, carry_opt, carry_range, carry_s, carry_function, carry_entry, carry_special, carry}
+use Rattle.model.specs.Outcome.{Cells, laid, bad, strange}
+use Rattle.model.specs.Table.{WORD, SPAN, UPTO, NAME, TYPE, OPT_TYPE, CONSTANT, INIT, EXPR, OPT_EXPR, OPT_RESULT, NAMED-EXPR, LOCAL-INIT, KEY, PLACE, PAD, TEXT, OPERANDS, MEMBERS, TYPE_KIND, EXPR_KIND, LEVEL, VALUE, ATOMIC, RETURNS, types}
+use Rattle.model.specs.Tree.{Block, stmt, emit, block, branch, switch, loop, break, continue, return, kill, call, effect, end, ◌then◌, nomore, ◌also◌, case, Range, Function}
+use Rattle.model.specs.Module.{Module, read, flat_module, write}
+use Rattle.model.specs.Carry.{carry_cells, carry}
 
 unfoldable pub body : Block Range
 body =
@@ -71,7 +71,3 @@ pub record Shown : Type 0 where
   pub padded-read : read (write padded) ≡ bad
   pub short-read : read (write short) ≡ bad
   pub odd-read : read (write odd) ≡ strange
-
-pub shown : Shown
-unfolding body function sample moved named padded short odd ◌⟫◌ eat map_o exact both map_l types expressions levels queries values atomics results statements name_row type_row constant_row override_row global_row expression_row function_head entry_head counted limit variants repeat text variant more follow run opt_of word_of kind_of size_b size_c flat_all flat_list flat_x flat_s flat_block flat flat_entry rows listed operands stmts case_at cases form checked shaped statement block_at function_at entry_at next records table special_at count_at offset_at end_at limits placed section table_at ◌⊛◌ read places flat_table flat_special sections pairs_from bodies flat_module write carry_cell carry_opt carry_range carry_s carry_function carry_entry carry_special carry
-shown = record { sample-read = refl; sample-carried = refl; carried-read = refl; padded-read = refl; short-read = refl; odd-read = refl }

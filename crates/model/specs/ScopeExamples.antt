@@ -1,11 +1,9 @@
 -- The Scope paragraph of document 01 by example: for each of its rules a function that passes and, beside it, one that is refused and differs in as little as can be. One table, one theorem.
-use Rattle.std.specs.Prelude.{◌≡◌, refl, Bool, true, false, List, [], ◌∷◌, ℕ, replicate}
+use Rattle.std.specs.Prelude.{Bool, List, [], ◌∷◌, ℕ}
 use Rattle.std.proofs.Math.Option.{Option, none, some}
 use Rattle.model.specs.Outcome.{Cells}
-use Rattle.model.specs.Tree.{opt_of, Form, block, branch, switch, loop, break, continue, return, kill, call, Block, end, ◌then◌, case, nomore, ◌also◌, Range, Function}
-use Rattle.model.specs.Operands.{optional, operand, ops_of, result_of, function_of, kind, standing_kind, result_kind, emitted_kind, ops, kind_at, standing}
-use Rattle.model.specs.Initial.{inits_of, roots, marked, mark, unmarked, read_by, close, reached_marks, moving, initials}
-use Rattle.model.specs.Scope.{up_from, in_range, live, expand_s, shape_s, emitted, is_of, call_result, effect_result, kinds_s, evals_opt, evals_s, has, distinct, add_e, add_opt, add_f, add_s, top_b, holds_s, cont_b, vis, all_vis, opt_vis, ok_e, ok_s, all_of, seen, scoped_as, scoped}
+use Rattle.model.specs.Tree.{Form, block, branch, switch, loop, break, continue, return, kill, call, Block, end, ◌then◌, case, nomore, ◌also◌, Range, Function}
+use Rattle.model.specs.Scope.{scoped}
 use Rattle.model.specs.SampleBodies.{literal, negate, called, swapped, loaded, does, evals, store, atomic, uniform_load, local, function}
 
 abbrev Body : Type 0
@@ -29,7 +27,7 @@ pub record Pair : Type 0 where
   pub good : Function
   pub bad : Function
 
-pairs : List Pair
+unfoldable pub pairs : List Pair
 pairs =
     -- "standing expressions from the start"
     record { good = f (store 0 1 then end); bad = f (store 0 2 then end) }
@@ -90,11 +88,7 @@ pairs =
     ∷ record { good = f (uniform_load 0 6 then end); bad = f (uniform_load 0 5 then end) }
     ∷ []
 
-verdicts : List Pair → List (Bool × Bool)
+unfoldable pub verdicts : List Pair → List (Bool × Bool)
 unfolding scoped
 verdicts [] = []
 verdicts (p ∷ ps) = (scoped p.good, scoped p.bad) ∷ verdicts ps
-
-sentences : verdicts pairs ≡ replicate 25 (true, false)
-unfolding verdicts pairs opt_of optional operand ops_of result_of function_of kind standing_kind result_kind emitted_kind ops kind_at standing inits_of roots marked mark unmarked read_by close reached_marks moving initials up_from in_range live expand_s shape_s emitted is_of call_result effect_result kinds_s evals_opt evals_s has distinct add_e add_opt add_f add_s top_b holds_s cont_b vis all_vis opt_vis ok_e ok_s all_of seen scoped_as scoped
-sentences = refl

@@ -1,12 +1,9 @@
 -- Small walks, computed: which numbers are taken where, the order of events, and each of the five ends. One table, one theorem; and the marks of what a local reaches where operands run forward.
-use Rattle.std.specs.Prelude.{◌≡◌, refl, true, false, List, [], ◌∷◌, ℕ}
+use Rattle.std.specs.Prelude.{List, [], ◌∷◌, ℕ}
 use Rattle.std.proofs.Math.Option.{none, some}
 use Rattle.model.specs.Outcome.{Cells}
-use Rattle.model.specs.Tree.{opt_of, branch, switch, loop, break, continue, return, kill, call, end, ◌then◌, case, nomore, ◌also◌, Function}
-use Rattle.model.specs.Operands.{optional, operand, ops_of, result_of, kind, standing_kind, ops}
-use Rattle.model.specs.Initial.{inits_of, roots, marked, mark, unmarked, read_by, close, reached_marks, moving, initials}
-use Rattle.model.specs.Scope.{up_from, in_range, live, expand_s, seen}
-use Rattle.model.specs.Walk.{read, eval, calls, exhausted, missing, finished, returned, killed, Trace, halt, ◌▸◌, ends, only, ▸read, ▸readOpt, ▸evalOpt, ▸emit, choose, pick, round_end, rounds, fall_to, walk_s, walk}
+use Rattle.model.specs.Tree.{branch, switch, loop, break, continue, return, kill, call, end, ◌then◌, case, nomore, ◌also◌, Function}
+use Rattle.model.specs.Walk.{read, eval, calls, exhausted, missing, finished, returned, killed, Trace, halt, ◌▸◌, walk}
 use Rattle.model.specs.SampleBodies.{literal, negate, add, called, swapped, does, evals, store, exchange, local, function}
 
 -- 2: 0 + 1, 3: -2, 4: the result of function 5, 5: that of an Atomic
@@ -42,7 +39,7 @@ pub record Sample : Type 0 where
   pub numbers : List ℕ
   pub gives : Trace
 
-samples : List Sample
+unfoldable pub samples : List Sample
 samples =
     -- "an emitted expression's reads, then its evaluation"; it ends "with the body"
     record { of = emits; numbers = []; gives = read 0 ▸ read 1 ▸ eval 2 ▸ read 2 ▸ eval 3 ▸ halt finished }
@@ -73,22 +70,14 @@ samples =
     ∷ record { of = initialising; numbers = []; gives = halt finished }
     ∷ []
 
-found : List Sample → List Trace
+unfoldable pub found : List Sample → List Trace
 found [] = []
 found (s ∷ ss) = walk s.of s.numbers ∷ found ss
 
-stated : List Sample → List Trace
+unfoldable pub stated : List Sample → List Trace
 stated [] = []
 stated (s ∷ ss) = s.gives ∷ stated ss
 
-walked : found samples ≡ stated samples
-unfolding found stated samples opt_of optional operand ops_of result_of kind standing_kind ops inits_of roots marked mark unmarked read_by close reached_marks moving initials up_from in_range live expand_s seen ends only ▸read ▸readOpt ▸evalOpt ▸emit choose pick round_end rounds fall_to walk_s walk
-walked = refl
-
 -- ---- what a local reaches: its init is 0, 0 reads 2, 2 reads 1, 1 reads 2
-forward : Function
+unfoldable pub forward : Function
 forward = function (local 1 ∷ []) (negate 2 ∷ negate 2 ∷ negate 1 ∷ negate 0 ∷ []) end
-
-forward_marks : reached_marks forward ≡ true ∷ true ∷ true ∷ false ∷ []
-unfolding forward ops_of operand optional inits_of roots mark unmarked read_by close reached_marks
-forward_marks = refl

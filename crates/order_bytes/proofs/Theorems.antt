@@ -12,7 +12,7 @@ use Rattle.model.specs.Module.{Module, read}
 use Rattle.model.specs.Intake.{intake_of}
 use Rattle.model.specs.Calls.{Call, Ring, Reaches, In, Sorted, Count, Order, ordered, ring}
 use Rattle.model.specs.Callees.{calls, order_of}
-use Rattle.theory_order.specs.Theorems.{claims}
+use Rattle.theory_order.proofs.Theorems.{claims}
 use Rattle.model.specs.Refusals.{Ended, done, refused, ringed}
 use Rattle.model.specs.Image.{on_image, order_ended, order_image, order_after}
 use Rattle.theory_image.specs.OnWords.{on_module}

@@ -20,7 +20,7 @@ use Rattle.order_ranks.specs.declared.Ordered.{Ordered}
 use Rattle.order_ranks.specs.declared.Ordered.TheVariants.{All, Ring}
 use Rattle.theory_order.specs.Lists.{in_keep, length-numbers}
 use Rattle.theory_order.specs.Rounds.{length-rounds}
-use Rattle.theory_order.specs.Theorems.{claims}
+use Rattle.theory_order.proofs.Theorems.{claims}
 use Rattle.base_words.specs.Words.{words_of}
 use Rattle.model.specs.Image.{on_image}
 use Rattle.theory_image.specs.OnWords.{on_refused, on_module}

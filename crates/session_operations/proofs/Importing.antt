@@ -10,8 +10,9 @@ use Rattle.model.specs.Imports.{Derived, import_t, renamed}
 use Rattle.model.specs.Refusals.{NUMBER_GIVEN, NO_SOURCE}
 use Rattle.model.specs.Session.{Source, Session, Answer, answered, refused, after, with_source, unless_full, importing, rename_type}
 use Rattle.theory_sessions.specs.Operating.{Operation, imports, renames, does}
-use Rattle.derive_limits.specs.Reached.{Public, Reached, does-reached, At, at_source, import_at, rename-at}
-use Rattle.derive_limits.specs.Theorems.{exact-at, kept_full, kept-room, kept_not_over}
+use Rattle.derive_limits.specs.Reached.{Public, Reached, At}
+use Rattle.derive_limits.proofs.Reached.{does-reached, at_source, import_at, rename-at}
+use Rattle.derive_limits.proofs.Theorems.{exact-at, kept_full, kept-room, kept_not_over}
 use Rattle.derive_state.specs.Refers.{tab_of}
 use Rattle.derive_state.specs.Source.{mod_of, src_of, Source as Held}
 use Rattle.derive_state.specs.Held.{st_of, ValidArrays, ImportOrUndoEnsures}

@@ -13,7 +13,8 @@ use Rattle.model.specs.Imports.{Derived, emptied}
 use Rattle.theory_image.specs.OnWords.{on_refused, on_module}
 use Rattle.model.specs.Session.{Session, Answer, answered, refused, after, set_module, set as setOf}
 use Rattle.theory_sessions.specs.Operating.{sets, does}
-use Rattle.derive_limits.specs.Reached.{Public, Reached, does-reached}
+use Rattle.derive_limits.specs.Reached.{Public, Reached}
+use Rattle.derive_limits.proofs.Reached.{does-reached}
 use Rattle.intake.specs.Taken.{number_of, Accepts, TakeInEnsures}
 use Rattle.intake.specs.declared.Taken.{Taken}
 use Rattle.intake.specs.declared.Taken.TheVariants.{Accepted}

@@ -26,8 +26,8 @@ use Rattle.model.specs.Scope.{expand, evals_b, ok_b, seen, all_of, scoped}
 use Rattle.model.specs.Imports.{Derived}
 use Rattle.model.specs.Bodies.{Builder, mapped_to, carried, intern_expr, import_body, import_initialiser, put_name, name_if, keep_names, name_cells, declarations, declared, walked, rebuilt, kept_names, named_after, derived, final, localized}
 use Rattle.theory_walks.specs.Agreement.{Maps, carry_b, mentioned, MayShare, AlikeR, Agrees}
-use Rattle.theory_walks.specs.AgreementProof.{alike-ops, alike-kind}
-use Rattle.theory_walks.specs.Theorems.{carries_scope}
+use Rattle.theory_walks.proofs.AgreementProof.{alike-ops, alike-kind}
+use Rattle.theory_walks.proofs.Theorems.{carries_scope}
 use Rattle.theory_records.specs.RecordLaws.{All as AllN, all_map as alln-map, all_both as alln-both, Has as HasN, image, bare, alike_self, rest_of, refs-alike, refs-carry}
 use Rattle.theory_bodies.specs.Lists.{All, Distinct, all_map, all_both, all_any, all_mem, mem_all, mem_map, all_of_map, split}
 use Rattle.theory_bodies.specs.Context.{InN, Grown, grown_trans, Law, Ctx, OwnP, Own, owns, owns-all}

@@ -36,7 +36,7 @@ use Rattle.model.specs.Bodies.{declarations}
 use Rattle.theory_walks.specs.ExpandProof.{Evaluated, emits, results, part-distinct, part_b, kinds_b_drop, evaluated_b}
 use Rattle.theory_walks.specs.MentionProof.{mention_b, is_b}
 use Rattle.theory_walks.specs.Agreement.{mentions_e, mentions_s, mentions_f, mentions_b, mentions_k, mentions_c, mentioned}
-use Rattle.theory_walks.specs.Theorems.{unread}
+use Rattle.theory_walks.proofs.Theorems.{unread}
 use Rattle.theory_finish.specs.Classes.{calm?, calms?, all_not, functionless, calleeless, effect_functionless, effect_calleeless}
 use Rattle.theory_finish.specs.Called.{FunOk, fun_call, FunsOk, no_funs_lem}
 use Rattle.theory_image.specs.Quiet.{each_append, Plainly, plain-none, plain-next, named_shape}

@@ -13,9 +13,9 @@ use Rattle.model.specs.Initial.{initialised}
 use Rattle.model.specs.Scope.{all_scoped, entries_scoped, in_scope}
 use Rattle.model.specs.Tables.{tables}
 use Rattle.model.specs.Imports.{Derived}
-use Rattle.theory_finish.specs.Words.{rises_right}
+use Rattle.theory_finish.proofs.Words.{rises_right}
 use Rattle.theory_image.specs.Within.{within-append}
-use Rattle.theory_walks.specs.FunctionProof.{scoped_at, entry_at}
+use Rattle.theory_walks.proofs.FunctionProof.{scoped_at, entry_at}
 use Rattle.theory_records.specs.Imported.{Kept}
 use Rattle.theory_bodies.specs.Passing.{Passes}
 use Rattle.theory_bodies.specs.Lawful.{Good}

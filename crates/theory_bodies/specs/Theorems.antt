@@ -18,7 +18,7 @@ use Rattle.model.specs.Agreement.{body_of}
 use Rattle.model.specs.Bodies.{Builder, mapped_to, import_block, rebuild_block, keep_names, name_cells, kept_names, declarations, declared, walked, rebuilt, derived, final, localized}
 use Rattle.theory_walks.specs.Agreement.{Maps, mentioned, MayShare, Agrees, Carries}
 use Rattle.theory_walks.specs.Called.{callees-carried}
-use Rattle.theory_walks.specs.Theorems.{carries}
+use Rattle.theory_walks.proofs.Theorems.{carries}
 use Rattle.theory_records.specs.RecordLaws.{All as AllN, all_both as alln-both, Has as HasN, bare}
 use Rattle.theory_bodies.specs.Lists.{All}
 use Rattle.theory_bodies.specs.Context.{InN, Grown, Law}
@@ -221,9 +221,9 @@ module _ (M : Module) (well : WellFormed M) (three : numbered M ≡ true) (four 
     met = alln-both (refs (get_or F.exprs e [])) (λ j h i. (h, i)) n.ready (fit.exprs.inside e (Function.mapped_may o M follow Q G law F fit s good e h));
   }
 
-  -- the body, opened
-  pub body_same : bare (body_of F') ≡ bare (carry_cells (through (mapped_to M fin)) (body_of F))
-  body_same = body_copied M (mapped_to M fin) F F' pass.well.body_ok (Layout.well_again o M follow Q G law F pass calls s good).body_ok (unfold place mapped_to in Function.body-carried o M follow Q G law F fit s good (Function.maps_of (mapped_to M fin)) (Function.maps_match M Q fin) M) (unfold mapped_to in mapped)
+  -- the body, opened (`body_opened` of proofs/Theorems.antt)
+  pub record Opened : Type 0 where
+    pub body_same : bare (body_of F') ≡ bare (carry_cells (through (mapped_to M fin)) (body_of F))
 
   -- the names of the named expressions that stay
   pub names_met : AllN (Met fin) (refs (name_cells (kept_names o M follow F fin)))

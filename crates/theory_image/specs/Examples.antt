@@ -5,7 +5,8 @@ use Rattle.model.specs.Outcome.{Laid, laid, bad, strange}
 use Rattle.model.specs.Table.{PLACE}
 use Rattle.model.specs.Module.{Module, read, write}
 use Rattle.model.specs.Carry.{Keeps, carry, WellFormed}
-use Rattle.model.specs.Sample.{sample, moved, padded, short, odd, shown}
+use Rattle.model.specs.Sample.{sample, moved, padded, short, odd}
+use Rattle.model.proofs.Sample.{shown}
 use Rattle.theory_image.specs.Carries.{carry_well}
 use Rattle.theory_image.specs.Modules.{read_well, write_read}
 

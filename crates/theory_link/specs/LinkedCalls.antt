@@ -23,7 +23,7 @@ use Rattle.theory_image.specs.Quiet.{each_map}
 use Rattle.theory_image.specs.Members.{each_at}
 use Rattle.theory_order.specs.Lists.{numbers_in, numbers-append}
 use Rattle.theory_order.specs.Numbered.{numbered-known}
-use Rattle.theory_order.specs.Theorems.{claims}
+use Rattle.theory_order.proofs.Theorems.{claims}
 use Rattle.theory_finish.specs.Ringless.{low}
 use Rattle.theory_link.specs.Exactly.{placed, order-length}
 use Rattle.theory_link.specs.Walking.{function_agrees, places-once, place_is}

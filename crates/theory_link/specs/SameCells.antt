@@ -41,6 +41,7 @@ use Rattle.theory_bodies.specs.Lawful as Lawful
 use Rattle.theory_bodies.specs.Opened.{body-refs}
 use Rattle.theory_bodies.specs.Function.{refs-append}
 use Rattle.theory_bodies.specs.Theorems as Theorems
+use Rattle.theory_bodies.proofs.Theorems as TheoremsProved
 use Rattle.theory_finish.specs.Touching.{Only, same-b}
 use Rattle.theory_finish.specs.Kept.{initials-kept}
 use Rattle.theory_finish.specs.Finished.{Seen, renumber-only}
@@ -151,7 +152,7 @@ module _ (m : Module) (well : WellFormed m) (ok : Passes m) (os : List ℕ) (e :
           called f h c = unfold mapped_to becomes in (h, eq-eqb (get_or (link_maps os m).functions f 0) (suc (pred (known m fin.out f))) (omega (arith, l.places f c h)))
 
       body_agrees : agrees_r m m' μ o (body_of F) (body_of (carry_function ρ F')) ≡ true
-      body_agrees = rw (body-renamed (renumber-only names') F' w) (cells_agree m m' μ o (mapped_to m fin) (body_of F) (body_of F') body-becomes (Theorems.body_same m well ok.numbers ok.lowers 0 (follow 0 m) Q G follows F pass calls s good))
+      body_agrees = rw (body-renamed (renumber-only names') F' w) (cells_agree m m' μ o (mapped_to m fin) (body_of F) (body_of F') body-becomes (TheoremsProved.body_same m well ok.numbers ok.lowers 0 (follow 0 m) Q G follows F pass calls s good))
 
       -- ---- expressions
       kept-stands : (x k : ℕ) → get_or o x 0 ≡ suc k → stands m m' μ o (map (carry_cells ρ) F'.exprs) (suc k) (get_or F.exprs x []) ≡ true

@@ -4,8 +4,9 @@ use Rattle.base_words.specs.Words.{AllBelow}
 use Rattle.model.specs.Module.{Module, write}
 use Rattle.model.specs.Session.{with_entries}
 use Rattle.model.specs.Link.{link_by}
-use Rattle.theory_finish.specs.Small.{SmallModule, sourced_small, functions_small, enter_small, entries_small, fresh_small, finished_small}
-use Rattle.theory_finish.specs.Words.{read_small, written_words}
+use Rattle.theory_finish.specs.Small.{SmallModule}
+use Rattle.theory_finish.proofs.Small.{sourced_small, functions_small, enter_small, entries_small, fresh_small, finished_small}
+use Rattle.theory_finish.proofs.Words.{read_small, written_words}
 use Rattle.theory_finish.specs.Size.{intake_sized}
 use Rattle.theory_finish.specs.Linking.{intake_passes}
 use Rattle.theory_link.specs.Demand.{Linking, Output}

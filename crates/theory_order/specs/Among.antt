@@ -1,5 +1,5 @@
 -- CALLS AMONG SOME FUNCTIONS, those of which p holds. What the rounds leave of these, of all calls, is what they leave of all functions where only calls among them count: after one round the same functions wait. So what is left is exactly those from which a chain through such functions reaches a ring of such.
-use Rattle.std.specs.Prelude.{◌≡◌, Bool, ◌&&◌, ◌↔◌}
+use Rattle.std.specs.Prelude.{◌≡◌, Bool, ◌&&◌}
 use Rattle.std.proofs.Math.Path.{refl, sym, ap}
 use Rattle.std.proofs.Common.{◌∙◌, subst, arith}
 use Rattle.std.proofs.Math.Bool.{true, not}
@@ -7,11 +7,10 @@ use Rattle.std.proofs.Math.Logic.{⊎_elim}
 use mathlib.Core.List.{List, [], ◌∷◌}
 use Prim.Native.Nat.{ℕ, zero, suc, ◌≤◌}
 use Rattle.std.proofs.Math.ListN.{length}
-use Rattle.model.specs.Calls.{Reaches, In, numbers, any, keep, free, held, Rounds, rounds}
+use Rattle.model.specs.Calls.{In, numbers, any, keep, free, held, Rounds, rounds}
 use Rattle.theory_lists.specs.Booleans.{either, bool_same, and-true, and_first, and_second}
 use Rattle.theory_order.specs.Lists.{in_nil, keep_in, in_keep, keep_all_lem, length-parts, any_in, in_any, keep_ext, keep-keep, length-numbers}
 use Rattle.theory_order.specs.Rounds.{last-round, some_round, enough}
-use Rattle.theory_order.specs.Theorems.{claims}
 
 -- calls between functions of which p holds
 unfoldable pub among : (ℕ → Bool) → (ℕ → ℕ → Bool) → ℕ → ℕ → Bool
@@ -87,10 +86,3 @@ module _ (c : ℕ → ℕ → Bool) (p : ℕ → Bool) where
 
       of_p : (i : ℕ) → In i (held c (keep (numbers n 0) p)) → p i ≡ true
       of_p i k = (keep_in p (numbers n 0) (keep_in (λ i. any (keep (numbers n 0) p) (c i)) (keep (numbers n 0) p) k).0).1
-
--- WHAT IS LEFT of the functions of which p holds: those from which a chain of calls among them reaches a ring of such
-pub left_reaches : (c : ℕ → ℕ → Bool) (p : ℕ → Bool) (n i : ℕ) → In i (rounds c n (keep (numbers n 0) p)).left ↔ Reaches n (among p c) i
-left_reaches c p n i =
-    let l = (claims n (among p c)).left_exactly i in
-    let e = left_among c p n in
-    ((λ h. l.0 (subst (λ (ws : List ℕ). In i ws) (sym e) h)), λ r. subst (λ (ws : List ℕ). In i ws) e (l.1 r))

@@ -8,7 +8,6 @@ use mathlib.Core.List.{List, [], ◌∷◌, ◌++◌}
 use Rattle.std.proofs.Math.ListN.{length}
 use Rattle.theory_lists.specs.Booleans.{bool_same, either}
 use Rattle.model.specs.Calls.{Call, one, Ring, Reaches, on, leads, Rank, Before, lower, level, In, here, Sorted, first, numbers, any, keep, times, Count, Rounds, rounds, ordered, ring, answer, order}
-use Rattle.theory_order.specs.Claims.{Claims}
 use Rattle.theory_order.specs.Lists.{in_nil, in_cons, in_append, in_numbers, numbers_in, length-numbers, keep_all_lem, keep_ext, keep_in, in_keep, any_in}
 use Rattle.theory_order.specs.Rounds.{enough}
 use Rattle.theory_order.specs.Ranks.{callee-rank, ranked_reaches_none, one_rank}
@@ -215,20 +214,3 @@ one-count n P k m a b =
     let h : i < n = omega arith in
     bool_same _ _ (λ t. (b.says i h).1 ((a.says i h).0 t)) (λ t. (a.says i h).1 ((b.says i h).0 t))))
     ∙ b.is
-
-pub claims : (n : ℕ) (calls : ℕ → ℕ → Bool) → Claims n calls
-claims n calls =
-    record {
-      rank_exactly = rank_exactly n calls;
-      rank_unique = λ i r s a b. one_rank n calls a b;
-      order_exactly = order_exactly n calls;
-      each_once = each_once n calls;
-      none_else = none_else n calls;
-      callees-first = callees-first n calls;
-      order_sorted = order_sorted n calls;
-      ring_answers = ring_answers n calls;
-      ring_counts = ring_counts n calls;
-      count_unique = one-count n (Reaches n calls);
-      left_exactly = left_exactly n calls;
-      bound = bound n calls;
-    }

@@ -1,5 +1,5 @@
 -- One cell of a pass, by its class: the equations that a loop over the cells uses. In each, what is left from the next cell on is the whole.
-use Rattle.std.specs.Prelude.{◌≡◌, Bool, true, false, ℕ, suc, ◌<◌, ◌≤◌, ◌-◌, pred, length, get_or}
+use Rattle.std.specs.Prelude.{◌≡◌, Bool, true, ℕ, suc, ◌<◌, ◌≤◌, ◌-◌, pred, length, get_or}
 use Rattle.std.proofs.Math.Path.{refl, ap}
 use Rattle.std.proofs.Common.{◌∙◌, arith}
 use mathlib.Core.List.{[], ◌∷◌}
@@ -10,8 +10,8 @@ use Rattle.model.specs.Tables.{Tab, tables, map_at}
 use Rattle.model.specs.References.{Place, table, own, function, Target, copied, ref, opt, targets, target, carry_w, through, undefined, add, first_word, undefined_at, moved, refs, fold_refs}
 use Rattle.model.specs.Scope.{up_from, in_range}
 use Rattle.model.specs.Imports.{Derived, import_t}
-use Rattle.model.specs.Bodies.{known, Builder, bring, mapped_to, step, compares_of, each_e}
-use Rattle.theory_passes.specs.Pass.{atomic_kind, arrive, first, both, early, passed, word_of, after, written}
+use Rattle.model.specs.Bodies.{known, Builder, bring, mapped_to, step, each_e}
+use Rattle.theory_passes.specs.Pass.{arrive, first, both, early, passed, word_of, after, written}
 use Rattle.theory_passes.specs.Passage.{calm?, calm_of, calm-passed, calm-word, arrive_each}
 
 -- ---- a range, from its start on
@@ -75,14 +75,6 @@ module _ (o : ℕ) (M : Module) (follow : ℕ → Derived → Derived) (p q : �
   pub written-kind : (k : ℕ) (cs : Cells) (u : Bool) (m : Builder) → W ((STMT_KIND, k) ∷ cs) u m ≡ (STMT_KIND, k) ∷ W cs u (early o M follow p q k cs m)
   unfolding written passed word_of target targets undefined_at moved through carry_w
   written-kind k cs u m = refl
-
-  pub early-atomic : (k : ℕ) (cs : Cells) (m : Builder) → atomic_kind k ≡ true → early o M follow p q k cs m ≡ each_e (compares_of cs) p m
-  unfolding early
-  early-atomic k cs m h = rw (h, early)
-
-  pub early-other : (k : ℕ) (cs : Cells) (m : Builder) → atomic_kind k ≡ false → early o M follow p q k cs m ≡ m
-  unfolding early
-  early-other k cs m h = rw (h, early)
 
   -- ---- every other class (`calm?`), by what its word refers to
   pub after-calm : (s w : ℕ) (cs : Cells) (m : Builder) → calm? s ≡ true → A ((s, w) ∷ cs) m ≡ A cs (to (target s) w m)

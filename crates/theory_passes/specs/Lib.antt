@@ -2,15 +2,7 @@ pub mod Pass
 pub mod Passage
 pub mod Cases
 pub mod Operands
-pub mod Growth
 pub mod Light
 pub mod Forms
 pub mod Ready
-pub mod Shapes
-pub mod Body
-pub mod Declarations
 pub mod Names
-pub mod Still
-pub mod Whole
-pub mod Entries
-pub mod Examples

@@ -13,14 +13,14 @@ use Rattle.model.specs.Tree.{Function, Entry}
 use Rattle.model.specs.Module.{Module, read, write, sized}
 use Rattle.model.specs.Carry.{carry_function, carry_entry, carry_special, carry, WellFunction, Each, each_none, each_next}
 use Rattle.model.specs.Initial.{Mem}
-use Rattle.model.specs.Intake.{tested, verdict, intake_of}
+use Rattle.model.specs.Intake.{intake_of}
 use Rattle.model.specs.Numbers.{every, outside, sound_function, sound_entry, numbered}
 use Rattle.model.specs.Lower.{functions_lower, entries_lower, lower}
 use Rattle.model.specs.Names.{field, present, absent, distinct, differ, functions_named, entries_named, function_names, entry_names, named}
 use Rattle.model.specs.Scope.{all_scoped, entries_scoped, in_scope}
 use Rattle.model.specs.Tables.{Tab, at, Tables, tables, count}
 use Rattle.model.specs.Imports.{Derived}
-use Rattle.model.specs.Finish.{appearing, renumber, with_names, named_by, gathered, finished, too_large}
+use Rattle.model.specs.Finish.{appearing, renumber, with_names, named_by, gathered, finished}
 use Rattle.theory_bodies.specs.Names.{head_field, renamed_agrees}
 use Rattle.theory_image.specs.Quiet.{each_map}
 use Rattle.theory_records.specs.Imported.{derived_four, gathered-tables}
@@ -29,9 +29,8 @@ use Rattle.theory_finish.specs.Firsts.{either}
 use Rattle.theory_finish.specs.Kept.{Parts}
 use Rattle.theory_finish.specs.Touching.{Only}
 use Rattle.theory_finish.specs.Naming.{function_names_lem, entry_names_lem, present-kept, functions_named_lem, entries_named_lem, other-fields}
-use Rattle.theory_finish.specs.Finished.{renumber-only, renumber_names, renumber-apart, image-seen, names_seen, finished-parts, finished-numbered, finished-lower, finished_scope, finished-differ}
+use Rattle.theory_finish.specs.Finished.{renumber-only, renumber_names, renumber-apart, image-seen, names_seen, finished-differ}
 use Rattle.theory_finish.specs.Cellwise.{each_to, cellwise}
-use Rattle.theory_finish.specs.Images.{image-read, image-sized}
 use Rattle.theory_finish.specs.Tabled.{kept-differ}
 use Rattle.theory_finish.specs.Linking.{LaidOut, gathered-parts, gathered-numbers}
 use Rattle.theory_sessions.specs.Following.{Origin, Piece, Holds}
@@ -175,50 +174,6 @@ pub record Written (m : Module) (ws : List ℕ) : Type 0 where
   pub six : in_scope m ≡ true
   -- so intake's answer is 0, or 5 in that case
   pub intake : intake_of (4 * length ws) ws ≡ elim (distinct (function_names m.functions)) [ true ↦ 0 | false ↦ 5 ]
-
--- tests 5 and 6, the last two
-by_names : (a b c : Bool) → a ≡ b → c ≡ true → ◌≡◌ {A = ℕ} (elim a [ true ↦ elim c [ true ↦ 0 | false ↦ 6 ] | false ↦ 5 ]) (elim b [ true ↦ 0 | false ↦ 5 ])
-by_names a true true p q = rw p refl
-by_names a false true p q = rw p refl
-by_names a b false p q = let z : ◌≡◌ {A = ℕ} 0 1 = cc in absurd (omega arith)
-
-pub all-written : {T : Tables} {s : Derived} {es : List Entry} → Holds T s → Each (EntryPiece s) es → too_large (finished s es) ≡ false → Written (finished s es) (write (finished s es))
-unfolding finished
-all-written {s} {es} h ps e = record {
-  words = refl;
-  reads = reads;
-  one = one;
-  three = three';
-  four = four';
-  fifth = fifth';
-  five = five';
-  six = six';
-  intake = unfold intake_of verdict tested in rw (intake_of, one, reads, tested, three', four') (by_names (named t) (distinct (function_names t.functions)) (in_scope t) five' six');
-}
-  where
-    t : Module
-    t = named_by (appearing (gathered s es)) (gathered s es)
-
-    one : sized (4 * length (write t)) (write t) ≡ true
-    one = image-sized t e
-
-    reads : read (write t) ≡ laid t
-    reads = image-read (finished-parts (parts h ps) (three h ps)) e
-
-    three' : numbered t ≡ true
-    three' = finished-numbered (parts h ps) (three h ps)
-
-    four' : lower t ≡ true
-    four' = finished-lower (parts h ps) (three h ps) ∙ four h ps
-
-    fifth' : Fifth t
-    fifth' = fifth_again (parts h ps) (three h ps) (fifth h ps)
-
-    five' : named t ≡ distinct (function_names t.functions)
-    five' = fifth_named fifth'
-
-    six' : in_scope t ≡ true
-    six' = finished_scope (parts h ps) (three h ps) ∙ six h ps
 
 -- two functions in it have one name exactly if two in the state do
 pub names_finished : {T : Tables} {s : Derived} {es : List Entry} → Holds T s → Each (EntryPiece s) es → distinct (function_names (finished s es).functions) ≡ distinct (function_names s.functions)

@@ -32,7 +32,7 @@ use Rattle.theory_image.specs.Quiet.{each_append, each_map}
 use Rattle.theory_walks.specs.Members as Members
 use Rattle.theory_walks.specs.Agreement.{mentioned, Agrees, Carries}
 use Rattle.theory_walks.specs.Events.{Along, walk-along}
-use Rattle.theory_walks.specs.Theorems.{carries}
+use Rattle.theory_walks.proofs.Theorems.{carries}
 use Rattle.theory_records.specs.RecordLaws.{All as AllN, Has as HasN}
 use Rattle.theory_records.specs.Trace.{Keeps, keeps_trans}
 use Rattle.theory_records.specs.Imported.{gathered-tables, import_keeps}

@@ -12,9 +12,7 @@ pub mod Replaced
 pub mod Mapped
 pub mod Untaken
 pub mod Answers
-pub mod Theorems
 pub mod Words
 pub mod Steps
 pub mod StepBytes
 pub mod Stuck
-pub mod Examples

@@ -12,7 +12,8 @@ use Rattle.model.specs.Imports.{Derived}
 use Rattle.model.specs.Finish.{finished, too_large}
 use Rattle.model.specs.Session.{Source, Session, Answer, answered, refused, new, with_source, unless_full, unknown, stuck, meets_ring, import_function, map_function_handle, write_if_fits, callees_of, with_entries, finish_with_entry_points}
 use Rattle.theory_order.specs.Lists.{any_in, in_any}
-use Rattle.theory_order.specs.Among.{among, left_reaches}
+use Rattle.theory_order.specs.Among.{among}
+use Rattle.theory_order.proofs.Among.{left_reaches}
 
 -- a chain of calls through functions of unknown names leads from i to a ring of such, or i is on one
 abbrev pub LeadsToRing : Module → Derived → ℕ → Type 0

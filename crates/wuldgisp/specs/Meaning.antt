@@ -14,8 +14,10 @@ use Rattle.model.specs.Callees.{calls, order_of}
 use Rattle.model.specs.Image.{wuldgisp_intake, IntakeEnsures, order_image, order_answer, order_after, wuldgisp_order, OrderEnsures, redirect_image, redirect_answer, wuldgisp_redirect, RedirectEnsures, wuldgisp_link, LinkEnsures, wuldgisp_session, SessionEnsures}
 use Rattle.model.specs.Session.{new}
 use Rattle.model.specs.Steps.{Said, run, answers_of, output_of, session}
-use Rattle.theory_sessions.specs.Steps.{Stepped, StepByStep, every-step}
-use Rattle.theory_sessions.specs.StepBytes.{AllLeave, every-image}
+use Rattle.theory_sessions.specs.Steps.{Stepped, StepByStep}
+use Rattle.theory_sessions.proofs.Steps.{every-step}
+use Rattle.theory_sessions.specs.StepBytes.{AllLeave}
+use Rattle.theory_sessions.proofs.StepBytes.{every-image}
 use Rattle.theory_link.specs.Session.{link_steps, session_is_link}
 use Rattle.link.specs.Theorems.{Halves}
 use Rattle.intake.proofs.Tests.{passes}
@@ -24,7 +26,7 @@ use Rattle.redirect_bytes.proofs.Theorems.{refused_keeps, passes_intake}
 -- wuldgisp_link, wuldgisp_link_in: demand 3 of the bytes that are written (`demand3_code`), and what is answered where its premises fail
 pub use Rattle.link.specs.Theorems.{demand3_code, intake_told, short-told, premises_hold}
 
--- ---- wuldgisp_intake: an accepted image holds a module that passes tests 3 to 6. What its scope test is worth is in theory_walks/specs/Theorems.antt: every walk reads only what it may
+-- ---- wuldgisp_intake: an accepted image holds a module that passes tests 3 to 6. What its scope test is worth is in theory_walks/proofs/Theorems.antt: every walk reads only what it may
 pub intake_accepts : (image : List ℕ) → IntakeEnsures 0 image → (m : Module) × (read (words_of image) ≡ laid m) × Passes m
 unfolding wuldgisp_intake intake_of verdict
 intake_accepts image p = by_size (sized (length image) (words_of image)) (sym p.answer)

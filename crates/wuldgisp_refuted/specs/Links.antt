@@ -40,7 +40,7 @@ module _ (ws : List ℕ) (whole : words_of (bytes_of ws) ≡ ws) (output : List 
     byte : length vs ≤ length ws → (i : ℕ) → i < 4 * length vs → get_or out i 0 ≡ get_or (bytes_of vs) i 0
     byte l i h = sym (get_or-take (4 * length vs) out i 0 h) ∙ ap (λ x. get_or x i 0) (bytes_are l)
 
-  ring_so : (k : ℕ) → link (4 * length ws) ws (4 * length ws) ≡ ringed k → (r : ℕ) (out : List ℕ) → LinkEnsures r output out (bytes_of ws) → (r ≡ 12 + k * 4294967296) × (out ≡ output)
+  pub ring_so : (k : ℕ) → link (4 * length ws) ws (4 * length ws) ≡ ringed k → (r : ℕ) (out : List ℕ) → LinkEnsures r output out (bytes_of ws) → (r ≡ 12 + k * 4294967296) × (out ≡ output)
   unfolding wuldgisp_link answer_by output_after
   ring_so k e r out m = (m.answer ∙ ap link_answer (linked_so ws whole output roomy ∙ e), m.left ∙ left_so ws whole output roomy (ringed k) (linked_so ws whole output roomy ∙ e))
 
@@ -97,9 +97,8 @@ module _ (output : List ℕ) (roomy : 308 ≤ length output) (r : ℕ) (out : Li
   passing_shade m e = let a : get_or out 284 0 ≡ 1 = p6_byte m 284 (omega arith) in absurd (omega arith)
 
   -- ---- A RING COUNT NOT FROM ITS DEFINITION: of P8 it is 2, which is all that is answered beside 12, and the output stays
-  pub miscounting : LinkEnsures r output out (bytes_of P8) → (k : ℕ) → r ≡ 12 + k * 4294967296 → k ≡ 2
-  unfolding P8
-  miscounting m k e = let a = (ring_so P8 whole.of_p8 output (omega arith) 2 p8-rings r out m).0 in omega arith
+  pub record Miscounted : Type 0 where
+    pub miscounting : LinkEnsures r output out (bytes_of P8) → (k : ℕ) → r ≡ 12 + k * 4294967296 → k ≡ 2
 
   pub ring_answer : LinkEnsures r output out (bytes_of P8) → r ≡ 12 + 2 * 4294967296
   unfolding P8

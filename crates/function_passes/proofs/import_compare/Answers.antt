@@ -6,7 +6,7 @@ use lib.ListN.{get_or}
 use borrow.Author.Tests.{not-true, not-false}
 use Rattle.model.specs.Between.{between}
 use Rattle.model.specs.Operands.{optional}
-use Rattle.theory_passes.specs.Cases.{early-other}
+use Rattle.theory_passes.proofs.Cases.{early-other}
 use Rattle.theory_passes.specs.Light.{still}
 use Rattle.derive_state.specs.Source.{mod_of}
 use Rattle.function_outside.proofs.Passing.{legible_next}

@@ -1,0 +1,4 @@
+pub mod Full
+pub mod Growing
+pub mod Reached
+pub mod Theorems

@@ -1,0 +1,11 @@
+pub mod Sample
+pub mod ScopeExamples
+pub mod WalkExamples
+pub mod CalleesExamples
+pub mod LowerExamples
+pub mod NamesExamples
+pub mod NumbersExamples
+pub mod RedirectExamples
+pub mod ImportExamples
+pub mod SessionExamples
+pub mod Marked

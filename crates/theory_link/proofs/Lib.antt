@@ -1,0 +1,4 @@
+pub mod Theorem
+pub mod OnBytes
+pub mod BytesExamples
+pub mod Examples

@@ -1,0 +1,10 @@
+pub mod Cases
+pub mod Growth
+pub mod Light
+pub mod Shapes
+pub mod Body
+pub mod Declarations
+pub mod Still
+pub mod Whole
+pub mod Entries
+pub mod Examples

@@ -1,0 +1,9 @@
+pub mod AgreementProof
+pub mod ScopeProof
+pub mod KeptProof
+pub mod FunctionProof
+pub mod WholeWords
+pub mod WholeBody
+pub mod WholeProof
+pub mod Theorems
+pub mod AgreementExamples
