@@ -1,3 +1,2 @@
 // Theorems on importing a function's body, in specs/. No code.
 #![tactic(auto)]
-

@@ -1,3 +1,2 @@
 // Theorems on importing the records of tables, in specs/. No code.
 #![tactic(auto)]
-

@@ -1,3 +1,2 @@
 // What holds of any session, in specs/. No code.
 #![tactic(auto)]
-

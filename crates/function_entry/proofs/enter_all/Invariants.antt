@@ -1,0 +1,13 @@
+-- The loop over the entry points: those before i are entered, or the arrays are full.
+use native.Mathlib.Omega.{arith}
+use Prim.Native.Nat.{◌-◌, ◌<◌}
+use Rattle.model.specs.Module.{count_at}
+use Rattle.function_entry.proofs.Sources as Sources
+use Rattle.function_entry.proofs.Entering.{Turn, turn-first, turn_done, nested-entry, turn_full, turn-next}
+use Rattle.function_entry.proofs.enter_all.Given as goal
+
+abbrev pub invariant-loop-i : goal.invariant-loop-i
+invariant-loop-i l = Turn l.words l.n l.offset l.special l.initial.log l.initial.logtags l.initial.starts l.initial.maps l.initial.buckets l.initial.e l.log l.logtags l.starts l.maps l.buckets l.stacks l.e l.i
+
+abbrev pub decreases-loop-i : goal.decreases-loop-i
+decreases-loop-i l = l.all - l.i

@@ -1,0 +1,11 @@
+use Prim.Native.Nat.{◌-◌, ◌*◌, ◌/◌}
+use lib.ListN.{length}
+use native.Mathlib.Omega.{arith}
+use Rattle.session.proofs.Going.{Going, going_first, going_next, going_last, told_so}
+use Rattle.session.proofs.session_in.Given as goal
+
+abbrev pub invariant-loop-i : goal.invariant-loop-i
+invariant-loop-i l = Going l.sources l.steps l.initial.answers l.initial.output l.targets l.count l.answers l.output l.words l.tags l.log l.logtags l.starts l.maps l.buckets l.special l.stacks l.ends l.set l.n l.offset l.first l.i
+
+abbrev pub decreases-loop-i : goal.decreases-loop-i
+decreases-loop-i l = l.count - l.i
