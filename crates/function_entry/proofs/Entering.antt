@@ -20,7 +20,7 @@ use Rattle.theory_image.specs.FunctionViews.{taped_entries}
 use Rattle.theory_lists.specs.Booleans.{and_second as and_r}
 use Rattle.theory_order.specs.Numbered.{entries_sound}
 use Rattle.derive_limits.specs.Full.{Full, over, entries}
-use Rattle.derive_limits.specs.Growing.{enter_grows, full_later}
+use Rattle.derive_limits.proofs.Growing.{enter_grows, full_later}
 use Rattle.function_nesting.specs.Nested.{follow_s, entered_s, entry_cells_s, entry_s, Ready}
 use Rattle.function_nesting.specs.Entries.{EntryMade, EntriesMade}
 use Rattle.function_nesting.specs.Theorems.{entries_are}

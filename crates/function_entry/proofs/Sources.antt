@@ -15,7 +15,8 @@ use Rattle.model.specs.Scope.{in_scope}
 use Rattle.model.specs.Session.{Source, meets_ring}
 use Rattle.theory_image.specs.FunctionViews.{taped_functions}
 use Rattle.intake_initialisers.specs.Marks.{finds}
-use Rattle.derive_limits.specs.Reached.{At, at_source}
+use Rattle.derive_limits.specs.Reached.{At}
+use Rattle.derive_limits.proofs.Reached.{at_source}
 use Rattle.function_nesting.specs.Nested.{append_s, follow_s, ReadyF, Ready}
 use Rattle.function_nesting.specs.Theorems.{append_is, follow_is}
 use Rattle.derive_state.specs.Source.{mod_of}
