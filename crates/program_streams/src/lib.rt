@@ -59,10 +59,12 @@ pub fn unread(rt: &impl Eprint, program: &str, error: io::Error) {
 }
 
 // Writes to standard output; a write that fails is reported.
-pub fn write(rt: &(impl Print + Eprint), program: &str, bytes: &[u8]) {
+pub fn write(rt: &(impl Print + Eprint), program: &str, bytes: &[u8]) -> bool {
     if let Err(error) = rt.write_all(bytes) {
         unwritten(rt, program, error);
+        return false;
     }
+    true
 }
 
 // Reports that standard output could not be written.
