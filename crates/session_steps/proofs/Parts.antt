@@ -16,10 +16,10 @@ use Rattle.base_words.proofs.Laws.{length_bytes_of}
 use Rattle.model.specs.Module.{Module, write}
 use Rattle.model.specs.Finish.{finished, too_large}
 use Rattle.model.specs.Session.{Source, Session, Answer, answered, refused, new, with_source, meets_ring, callees_of, with_entries, write_if_fits, finish, finish_with_entry_points}
-use Rattle.model.specs.Steps.{Said, operations, writes, perform, part}
+use Rattle.model.specs.Steps.{operations, writes, perform, part}
 use Rattle.derive_finish.specs.Told.{told}
 use Rattle.session_operations.specs.Operations.{FinishEnsures}
-use Rattle.session_steps.specs.Stepped.{saying, PerformEnsures, Wrote}
+use Rattle.session_steps.specs.Stepped.{PerformEnsures, Wrote}
 
 -- ---- what is cut
 drop-cut : (a : ℕ) (l : List ℕ) → drop a l ≡ drop (min a (length l)) l

@@ -1,16 +1,13 @@
 -- What each operation answers and leaves is what its step answers and leaves: an operation's answer as three words, and the part of the output that a finish writes.
 use mathlib.Core.Path.{◌≡◌, refl, sym, ap, ◌∙◌, subst}
 use mathlib.Core.Bool.{Bool, true, false, false≢true}
-use mathlib.Core.List.{List, [], ◌∷◌, ◌++◌}
-use mathlib.Core.Option.{none, some}
-use Prim.Native.Nat.{ℕ, zero, suc, ◌+◌, ◌-◌, ◌*◌, ◌≤◌, ◌<◌}
+use mathlib.Core.List.{List}
+use Prim.Native.Nat.{ℕ, zero, suc, ◌+◌, ◌-◌, ◌≤◌, ◌<◌}
 use native.Mathlib.Omega.{arith}
-use lib.ListN.{length, get_or, get_or-eq_default}
+use lib.ListN.{length, get_or-eq_default}
 use Rattle.base_words.specs.Words.{words_of, bytes_of}
 use Rattle.model.specs.Imports.{emptied}
-use Rattle.model.specs.Tables.{Tab}
-use Rattle.model.specs.References.{span_by}
-use Rattle.model.specs.Session.{Session, Answer, answered, refused, with_source, set, clear, map_span, importing, rename_type, import_function, map_function_handle, has_required_special_types}
+use Rattle.model.specs.Session.{Session, Answer, with_source, set, clear, map_span, importing, rename_type, import_function, map_function_handle}
 use Rattle.model.specs.Steps.{Said, operations, unknown, says, perform, part}
 use Rattle.derive_limits.specs.Reached.{Reached, does-reached, Public}
 use Rattle.theory_sessions.specs.Operating.{does, clears}

@@ -1,7 +1,6 @@
 use Rattle.function_entry.proofs.Sources as Sources
 use Rattle.session_functions.proofs.Whole.{brings_full, brings_done}
 use Rattle.derive_snapshot.proofs.Saving.{save_begin}
-use borrow.Author.Rules.{rules}
 use Rattle.session_functions.proofs.append_or_undo.Goals as goal
 
 pub save-requires : goal.save-requires

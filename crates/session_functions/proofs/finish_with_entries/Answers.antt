@@ -3,7 +3,6 @@ use lib.ListN.{length-replicate}
 use Rattle.derive_lookup.proofs.Bears.{bearing}
 use Rattle.function_entry.proofs.Sources as Sources
 use Rattle.session_functions.proofs.Ending as Ending
-use borrow.Author.Rules.{rules}
 use mathlib.Core.Bool.{not}
 use mathlib.Core.Path.{ap}
 use Rattle.session_functions.proofs.finish_with_entries.Goals as goal

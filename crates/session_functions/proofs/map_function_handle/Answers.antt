@@ -4,7 +4,6 @@ use Rattle.model.specs.Module.{count_at}
 use Rattle.derive_lookup.proofs.Bears.{bearing}
 use Rattle.function_entry.proofs.Sources as Sources
 use Rattle.session_functions.proofs.Answers as Answers
-use borrow.Author.Rules.{rules}
 use mathlib.Core.Bool.{not}
 use mathlib.Core.Path.{ap}
 use Rattle.session_functions.proofs.map_function_handle.Goals as goal

@@ -3,7 +3,6 @@ use Prim.Native.Nat.{ℕ, ◌+◌, ◌-◌, min}
 use native.Mathlib.Omega.{arith}
 use lib.ListN.{length}
 use Rattle.session_steps.proofs.Parts.{entries_wrote, entries_small}
-use borrow.Author.Rules.{rules}
 use Rattle.session_steps.proofs.entries_step.Goals as goal
 
 pub finish_with_entries-got-requires : goal.finish_with_entries-got-requires

@@ -1,7 +1,6 @@
 use native.Mathlib.Omega.{arith}
 use Rattle.derive_session.specs.Valid.{session_of}
 use Rattle.session_steps.proofs.Saying.{clear-stepped, clear-live, span_stepped, required_stepped, stacks_low, by_number, by_first}
-use borrow.Author.Rules.{rules}
 use Rattle.session_steps.proofs.perform.Goals as goal
 
 pub returns-then-step-eq-SET : goal.returns-then-step-eq-SET

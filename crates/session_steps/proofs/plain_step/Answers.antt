@@ -3,7 +3,6 @@ use Prim.Native.Nat.{ℕ, ◌+◌, ◌-◌, min}
 use native.Mathlib.Omega.{arith}
 use lib.ListN.{length}
 use Rattle.session_steps.proofs.Parts.{plain-wrote, plain_small}
-use borrow.Author.Rules.{rules}
 use Rattle.session_steps.proofs.plain_step.Goals as goal
 
 pub overflow_cast-result : goal.overflow_cast-result

@@ -2,7 +2,6 @@ use mathlib.Core.Path.{ap}
 use Prim.Native.Nat.{ℕ, ◌-◌}
 use native.Mathlib.Omega.{arith}
 use Rattle.session_steps.proofs.Saying.{type_recorded, rename_recorded, tables_recorded, function_recorded, handle_recorded, none_recorded, stacks_low}
-use borrow.Author.Rules.{rules}
 use Rattle.session_steps.proofs.record_step.Goals as goal
 
 pub returns-then-step-eq-IMPORT_TYPE : goal.returns-then-step-eq-IMPORT_TYPE

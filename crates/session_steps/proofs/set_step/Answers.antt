@@ -4,7 +4,6 @@ use native.Mathlib.Omega.{arith}
 use lib.ListN.{length}
 use Rattle.session_steps.proofs.Saying.{set-quiet}
 use Rattle.session_steps.proofs.Parts.{part-mid}
-use borrow.Author.Rules.{rules}
 use Rattle.session_steps.proofs.set_step.Goals as goal
 
 pub returns : goal.returns

@@ -1,5 +1,4 @@
 use Rattle.session_steps.proofs.Saying.{value_there, value_refused}
-use borrow.Author.Rules.{rules}
 use Rattle.session_steps.proofs.value_of.Goals as goal
 
 pub returns-then-refusal-eq0 : goal.returns-then-refusal-eq0
