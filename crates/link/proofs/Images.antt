@@ -27,7 +27,7 @@ use Rattle.intake.proofs.Refusals.{NotFirst, refused_by}
 use Rattle.derive_names.proofs.Sources.{mod_is, source_of}
 use Rattle.order_bytes.proofs.Images.{list_long, list_asks}
 use Rattle.theory_link.specs.Demand.{Linking}
-use Rattle.theory_link.specs.OnBytes.{whole_words, not_taken, too_short}
+use Rattle.theory_link.proofs.OnBytes.{whole_words, not_taken, too_short}
 use Rattle.derive_state.specs.Source.{mod_of}
 use Rattle.model.specs.Image.{wuldgisp_link, LinkEnsures}
 use Rattle.link_words.specs.Appends.{Linkable, LinkInOrderEnsures}

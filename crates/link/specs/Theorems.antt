@@ -13,7 +13,8 @@ use Rattle.model.specs.Calls.{Ring, Reaches, Count, Order, ordered, ring}
 use Rattle.model.specs.Callees.{calls, order_of}
 use Rattle.model.specs.Refusals.{done, refused, ringed, answer_by}
 use Rattle.model.specs.Link.{Linked, in_order, link_module, link, link_image, link_answer}
-use Rattle.theory_link.specs.OnBytes.{Held, Demand3, demand3_bytes, not_taken, too_short, linked-only}
+use Rattle.theory_link.specs.OnBytes.{Held, Demand3}
+use Rattle.theory_link.proofs.OnBytes.{demand3_bytes, not_taken, too_short, linked-only}
 use Rattle.theory_image.specs.IntakeNumbers.{intake_low}
 use Rattle.model.specs.Image.{wuldgisp_link, LinkEnsures}
 

@@ -20,7 +20,8 @@ use Rattle.theory_finish.specs.Ringless.{none_ringing}
 use Rattle.theory_finish.specs.NamedSession.{NamedBy}
 use Rattle.theory_sessions.specs.Operating.{GoodBy, Good}
 use Rattle.theory_sessions.specs.Holding.{function-next}
-use Rattle.derive_limits.specs.Reached.{Reached, At, function-at}
+use Rattle.derive_limits.specs.Reached.{Reached, At}
+use Rattle.derive_limits.proofs.Reached.{function-at}
 use Rattle.function_nesting.specs.Nested.{append_s, follow_s, ReadyF, Ready}
 use Rattle.order_callees.proofs.Whole.{few}
 use Rattle.derive_state.specs.Refers.{tab_of}

@@ -24,11 +24,12 @@ use Rattle.theory_finish.specs.Fresh.{source, with, Imported, no_more, and_then}
 use Rattle.theory_finish.specs.Ringless.{none_ringing}
 use Rattle.theory_sessions.specs.Operating.{run}
 use Rattle.derive_limits.specs.Full.{Full}
-use Rattle.derive_limits.specs.Reached.{reached, At, function-at, sourced-at}
-use Rattle.derive_limits.specs.Theorems.{exact-at, exact-end, kept_full, kept-room}
+use Rattle.derive_limits.specs.Reached.{At}
+use Rattle.derive_limits.proofs.Reached.{reached, function-at, sourced-at}
+use Rattle.derive_limits.proofs.Theorems.{exact-at, exact-end, kept_full, kept-room}
 use Rattle.theory_link.specs.Demand.{Linking, Output}
 use Rattle.theory_link.specs.Exactly.{link_is}
-use Rattle.theory_link.specs.Theorem.{demand3}
+use Rattle.theory_link.proofs.Theorem.{demand3}
 use Rattle.derive_state.specs.Held.{Over}
 use Rattle.link_words.specs.Appends.{Roomy}
 

@@ -14,7 +14,7 @@ use Rattle.model.specs.Session.{Source, Session, Answer, refused, with_source, m
 use Rattle.derive_finish.specs.Told.{told, Held, Ended}
 use Rattle.derive_finish.specs.Theorems.{finish_with_told}
 use Rattle.derive_limits.specs.Reached.{Reached}
-use Rattle.derive_limits.specs.Theorems.{exact-end}
+use Rattle.derive_limits.proofs.Theorems.{exact-end}
 use Rattle.derive_state.specs.Source.{mod_of}
 use Rattle.derive_state.specs.Held.{st_of}
 use Rattle.derive_state.specs.declared.Sizes.{Sizes}

@@ -9,7 +9,8 @@ use Rattle.base_words.specs.Words.{words_of, bytes_of}
 use Rattle.model.specs.Imports.{emptied}
 use Rattle.model.specs.Session.{Session, Answer, with_source, set, clear, map_span, importing, rename_type, import_function, map_function_handle}
 use Rattle.model.specs.Steps.{Said, operations, unknown, says, perform, part}
-use Rattle.derive_limits.specs.Reached.{Reached, does-reached, Public}
+use Rattle.derive_limits.specs.Reached.{Reached, Public}
+use Rattle.derive_limits.proofs.Reached.{does-reached}
 use Rattle.theory_sessions.specs.Operating.{does, clears}
 use Rattle.derive_state.specs.Refers.{tab_of}
 use Rattle.derive_state.specs.declared.Sizes.{Sizes}
