@@ -20,9 +20,9 @@ use Rattle.theory_finish.specs.Size.{intake_sized}
 use Rattle.theory_link.specs.Demand.{Linking, Output}
 use Rattle.theory_link.specs.Demand as Words
 use Rattle.theory_link.specs.Exactly.{link_is}
-use Rattle.theory_link.proofs.Theorem.{demand3}
+use Rattle.theory_link.proofs.Theorem.{demand3, output_mapped}
 use Rattle.theory_link.specs.Words.{linked_words}
-use Rattle.theory_link.specs.OnBytes.{Held, Demand3}
+use Rattle.theory_link.specs.OnBytes.{Held, HeldMapped, Demand3}
 
 -- ---- THE PROOF
 -- an image that passes intake is its words
@@ -118,18 +118,20 @@ module _ (image output : List ℕ) (bytes : AllBelow 256 image) (passes : intake
         once = o.once;
         places = o.places;
         callees-first = o.callees-first;
-        callees-before = o.callees-before;
         agree = o.agree;
-        records-agree = o.records-agree;
         functions = o.functions;
         entries = o.entries;
-        functions_mapped = o.functions_mapped;
-        entries_mapped = o.entries_mapped;
       }
 
       counts : link_answer (link_image image output).0 ≡ n * 4294967296
       unfolding answer_by
       counts = let a : link_answer (link_image image output).0 ≡ link_answer (done (write (link_by os m))) = ap link_answer is in omega (arith, four)
+
+    -- AND MORE of what the output holds where it is held
+    pub held_mapped : (out os : List ℕ) (n : ℕ) (m' : Module) → Held image output out m os n m' → HeldMapped m os m'
+    held_mapped out os n m' h =
+        let w = output_mapped ws room m linking os h.order in
+        subst (λ (x : Module). HeldMapped m os x) (sym h.is) (record { callees-before = w.callees-before; records-agree = w.records-agree; functions_mapped = w.functions_mapped; entries_mapped = w.entries_mapped })
 
     of_module_lem : Demand3 image output m
     of_module_lem = record {

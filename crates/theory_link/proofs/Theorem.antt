@@ -34,7 +34,7 @@ use Rattle.theory_walks.proofs.FunctionProof.{scoped_at, entry_at}
 use Rattle.theory_finish.specs.Fresh.{state_at}
 use Rattle.theory_finish.specs.Linking.{intake_passes}
 use Rattle.theory_finish.specs.Whole.{session_links, linked-length, linked-read, linked_intake}
-use Rattle.theory_link.specs.Demand.{Linking, Walks, WalksMapped, Output, Demand3}
+use Rattle.theory_link.specs.Demand.{Linking, Walks, WalksMapped, Output, OutputMapped, Demand3}
 use Rattle.theory_link.specs.Exactly.{linked_as, link_exactly, placed, order-length}
 use Rattle.theory_link.specs.Order.{functions_made, all_entries}
 use Rattle.theory_link.specs.Places.{both-length}
@@ -167,11 +167,16 @@ module _ (ws : List ℕ) (room : ℕ) (m : Module) (l : Linking ws room m) where
       once = each_once (length m.functions) (calls m) os (unfold order_of in e);
       places = placed m os e;
       callees-first = callees-first (length m.functions) (calls m) os (unfold order_of in e);
-      callees-before = callees-before m well ok os e count;
       agree = agreement;
-      records-agree = records-agree m well ok os e;
       functions = walks_functions;
       entries = walks_entries;
+    }
+
+    -- and more of it
+    pub output_mapped : OutputMapped m os
+    output_mapped = record {
+      callees-before = callees-before m well ok os e count;
+      records-agree = records-agree m well ok os e;
       functions_mapped = mapped_functions;
       entries_mapped = mapped_entries;
     }

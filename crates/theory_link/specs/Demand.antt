@@ -50,18 +50,20 @@ pub record Output (ws : List ℕ) (room : ℕ) (m : Module) (os : List ℕ) : Ty
   pub once : (i : ℕ) → i < length m.functions → times os i ≡ 1
   pub places : (j i : ℕ) → get_elem? os j ≡ some i → get_or (link_maps os m).functions i 0 ≡ suc j
   pub callees-first : (xs ys : List ℕ) (i j : ℕ) → os ≡ xs ++ (i ∷ ys) → Call (length m.functions) (calls m) i j → In j xs
-  pub callees-before : (i j : ℕ) → Call (length (link_by os m).functions) (calls (link_by os m)) i j → j < i
-  -- every record that is reached is mapped, and equals the source's through link's maps
+  -- every record that is reached equals the source's, through link's maps
   pub agree : Agreement m (link_by os m) (link_maps os m)
-  -- and so does every record that is mapped, reached or not
-  pub records-agree : (t : Tab) (n k : ℕ) → is_t t names ≡ false → map_at (link_maps os m).in_tables t n ≡ suc k
-      → stands m (link_by os m) (link_maps os m) (link_maps os m).in_tables.of_exprs (at t (tables (link_by os m))) (suc k) (rec_at (tables m) t n) ≡ true
   -- "for every function or entry point and every finite list of numbers"
   pub functions : (i : ℕ) (F : Function) → get_elem? m.functions i ≡ some F
       → (F' : Function) × (get_elem? (link_by os m).functions ((made (link_maps os m)).function i) ≡ some F') × ((cs : List ℕ) → Walks (made (link_maps os m)) F F' ((made (link_maps os m)).in_function i) cs)
   pub entries : (i : ℕ) (E : Entry) → get_elem? m.entries i ≡ some E
       → (E' : Entry) × (get_elem? (link_by os m).entries i ≡ some E') × ((cs : List ℕ) → Walks (made (link_maps os m)) E.function E'.function ((made (link_maps os m)).in_entry i) cs)
-  -- and every event is carried by a number that is mapped
+
+-- and more of the module `link_by os m`: in it too every callee stands before its callers; every record that is mapped, reached or not, equals the source's; and every event is carried by a
+-- number that is mapped
+pub record OutputMapped (m : Module) (os : List ℕ) : Type 0 where
+  pub callees-before : (i j : ℕ) → Call (length (link_by os m).functions) (calls (link_by os m)) i j → j < i
+  pub records-agree : (t : Tab) (n k : ℕ) → is_t t names ≡ false → map_at (link_maps os m).in_tables t n ≡ suc k
+      → stands m (link_by os m) (link_maps os m) (link_maps os m).in_tables.of_exprs (at t (tables (link_by os m))) (suc k) (rec_at (tables m) t n) ≡ true
   pub functions_mapped : (i : ℕ) (F : Function) → get_elem? m.functions i ≡ some F
       → (j : ℕ) × (F' : Function) × (get_or (link_maps os m).functions i 0 ≡ suc j) × (get_elem? (link_by os m).functions j ≡ some F') × ((cs : List ℕ) → WalksMapped (link_maps os m) (get_or (link_maps os m).in_functions i []) F F' cs)
   pub entries_mapped : (i : ℕ) (E : Entry) → get_elem? m.entries i ≡ some E

@@ -37,23 +37,25 @@ pub record Held (image output out : List ℕ) (m : Module) (os : List ℕ) (n : 
   pub intake : intake_of n (words_of (take n out)) ≡ 0
   pub holds : read (words_of (take n out)) ≡ laid m'
   pub is : m' ≡ link_by os m
-  -- "each function stands once", at its place, "every callee before its callers": in the source's order, and in the module that the bytes hold
+  -- "each function stands once", at its place, "every callee before its callers"
   pub count : length m'.functions ≡ length m.functions
   pub once : (i : ℕ) → i < length m.functions → times os i ≡ 1
   pub places : (j i : ℕ) → get_elem? os j ≡ some i → get_or (link_maps os m).functions i 0 ≡ suc j
   pub callees-first : (xs ys : List ℕ) (i j : ℕ) → os ≡ xs ++ (i ∷ ys) → Call (length m.functions) (calls m) i j → In j xs
-  pub callees-before : (i j : ℕ) → Call (length m'.functions) (calls m') i j → j < i
-  -- every record that is reached is mapped, and equals the source's through link's maps
+  -- every record that is reached equals the source's, through link's maps
   pub agree : Agreement m m' (link_maps os m)
-  -- and so does every record that is mapped, reached or not
-  pub records-agree : (t : Tab) (n k : ℕ) → is_t t names ≡ false → map_at (link_maps os m).in_tables t n ≡ suc k
-      → stands m m' (link_maps os m) (link_maps os m).in_tables.of_exprs (at t (tables m')) (suc k) (rec_at (tables m) t n) ≡ true
   -- "for every function or entry point and every finite list of numbers": the walk in m' reads only what it has evaluated, its events are the source's carried, and both end alike
   pub functions : (i : ℕ) (F : Function) → get_elem? m.functions i ≡ some F
       → (F' : Function) × (get_elem? m'.functions ((made (link_maps os m)).function i) ≡ some F') × ((cs : List ℕ) → Walks (made (link_maps os m)) F F' ((made (link_maps os m)).in_function i) cs)
   pub entries : (i : ℕ) (E : Entry) → get_elem? m.entries i ≡ some E
       → (E' : Entry) × (get_elem? m'.entries i ≡ some E') × ((cs : List ℕ) → Walks (made (link_maps os m)) E.function E'.function ((made (link_maps os m)).in_entry i) cs)
-  -- and every event is carried by a number that is mapped
+
+-- and more of the module m' that the bytes hold: in it too every callee stands before its callers; every record that is mapped, reached or not, equals the source's; and every event is
+-- carried by a number that is mapped
+pub record HeldMapped (m : Module) (os : List ℕ) (m' : Module) : Type 0 where
+  pub callees-before : (i j : ℕ) → Call (length m'.functions) (calls m') i j → j < i
+  pub records-agree : (t : Tab) (n k : ℕ) → is_t t names ≡ false → map_at (link_maps os m).in_tables t n ≡ suc k
+      → stands m m' (link_maps os m) (link_maps os m).in_tables.of_exprs (at t (tables m')) (suc k) (rec_at (tables m) t n) ≡ true
   pub functions_mapped : (i : ℕ) (F : Function) → get_elem? m.functions i ≡ some F
       → (j : ℕ) × (F' : Function) × (get_or (link_maps os m).functions i 0 ≡ suc j) × (get_elem? m'.functions j ≡ some F') × ((cs : List ℕ) → WalksMapped (link_maps os m) (get_or (link_maps os m).in_functions i []) F F' cs)
   pub entries_mapped : (i : ℕ) (E : Entry) → get_elem? m.entries i ≡ some E

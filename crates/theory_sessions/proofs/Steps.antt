@@ -25,7 +25,7 @@ use Rattle.theory_sessions.specs.Operating.{does, Good, ending-after, finish_wit
 use Rattle.theory_sessions.proofs.Operating.{finish-written}
 use Rattle.theory_sessions.specs.Operating as Op
 use Rattle.theory_sessions.specs.Growing.{Grew, grew_refl, ends, all-distinct}
-use Rattle.theory_sessions.proofs.Theorems.{source-set, written-with, only_grows, walks, walks_mapped}
+use Rattle.theory_sessions.proofs.Theorems.{source-set, written-with, only_grows, walks}
 use Rattle.theory_sessions.specs.Steps.{step_as, Image, Stepped, StepByStep, no_steps, and_step, Walks}
 
 -- ---- one operation
@@ -222,7 +222,7 @@ pub every-step : (steps sources output : List ℕ) → StepByStep (Stepped (leng
 every-step steps sources output = run-stepped steps sources output new new_good
 
 walks_of : (m : Module) {d : Derived} {f : Function} → Origin d f → Walks d f
-walks_of m p = record { from = p; carried = walks p m; mapped = walks_mapped p }
+walks_of m p = record { from = p; carried = walks p m }
 
 pub image_walks : {room : ℕ} {x : Said} (i : Image room x) → Each (Walks i.derived) i.holds.functions × Each (λ E. Walks i.derived E.function) i.holds.entries
 image_walks i = (each_map (λ f p. walks_of i.holds p) i.origins.functions, each_map (λ E p. walks_of i.holds p) i.origins.entries)

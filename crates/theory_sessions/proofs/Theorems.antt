@@ -99,10 +99,6 @@ origins_with = Operating.finish_with_origins
 pub walks : {s : Derived} {f : Function} (p : Origin s f) → (D : Module) (cs : List ℕ) → Carries (maps_of (mapped_to p.source p.under)) p.function f (place p.under.memo) cs
 walks = Following.origin_walks
 
--- and every number that such a walk reads, evaluates or calls is mapped
-pub walks_mapped : {s : Derived} {f : Function} (p : Origin s f) → (cs : List ℕ) → Along (λ e. 0 < get_or p.under.memo e 0) (λ h. 0 < mapped_to p.source p.under References.function h) (walk p.function cs)
-walks_mapped = Following.origin_mapped
-
 -- ---- 3. WHAT OPERATIONS LEAVE
 -- except by finishing, tables and functions only grow
 pub only_grows : (p : Operation) → ends p ≡ false → (s : Session) → Good s → Grew s.state (does p s).state

@@ -196,8 +196,6 @@ origin_named {ρ} {s} {f} o w p = record {
   kept = p.kept;
   grown = p.grown;
   agrees = λ D. renamed_agrees o p.source D _ p.function f _ w (p.agrees D);
-  mapped = p.mapped;
-  called = p.called;
 }
 
 pub record Origins (s : Derived) (m : Module) : Type 0 where

@@ -69,20 +69,13 @@ pub record Origin (s : Derived) (f : Function) : Type 0 where
   pub kept : Typed (tables source) under.out
   pub grown : Grown under.out s
   pub agrees : (D : Module) → Agrees source D (maps_of (mapped_to source under)) function f (place under.memo)
-  -- all that it reads or evaluates is mapped, and all that it calls is known
-  pub mapped : Members.Each (λ e. 0 < get_or under.memo e 0) (mentioned function)
-  pub called : Members.Each (λ h. 0 < mapped_to source under References.function h) (callees function)
 
 pub origin_grown : {s r : Derived} {f : Function} → Grown s r → Origin s f → Origin r f
-origin_grown g p = record { source = p.source; well = p.well; passes = p.passes; function = p.function; is = p.is; under = p.under; kept = p.kept; grown = grown_trans p.grown g; agrees = p.agrees; mapped = p.mapped; called = p.called }
+origin_grown g p = record { source = p.source; well = p.well; passes = p.passes; function = p.function; is = p.is; under = p.under; kept = p.kept; grown = grown_trans p.grown g; agrees = p.agrees }
 
 -- so every walk of it is its source's, carried
 pub origin_walks : {s : Derived} {f : Function} (p : Origin s f) → (D : Module) (cs : List ℕ) → Carries (maps_of (mapped_to p.source p.under)) p.function f (place p.under.memo) cs
 origin_walks {s} {f} p D cs = carries p.source D (maps_of (mapped_to p.source p.under)) p.function f (place p.under.memo) (p.agrees D) cs
-
--- and no event of it is carried by a number that is not mapped
-pub origin_mapped : {s : Derived} {f : Function} (p : Origin s f) (cs : List ℕ) → Along (λ e. 0 < get_or p.under.memo e 0) (λ h. 0 < mapped_to p.source p.under References.function h) (walk p.function cs)
-origin_mapped p cs = walk-along _ _ p.function p.mapped p.called cs
 
 -- ---- a derived function: it passes in every module that has at least what s has, it has a name, and so have its named expressions
 pub record Piece (s : Derived) (f : Function) : Type 0 where
@@ -258,8 +251,6 @@ module _ (m : Module) (well : WellFormed m) (ok : Passes m) (o : ℕ) where
       kept = ends.typed;
       grown = grown_refl e;
       agrees = λ D. Theorems.agrees m well ok.numbers ok.lowers o fol Q (From m s) follows F pass calls s f D (maps_of (mapped_to m (final o m fol F s))) (maps_match m Q (final o m fol F s));
-      mapped = λ x i. mem_all _ i (Theorems.mapped m well ok.numbers ok.lowers o fol Q (From m s) follows F pass calls s f);
-      called = Theorems.called m well ok.numbers ok.lowers o fol Q (From m s) follows F pass calls s f;
     }
 
     -- its name

@@ -78,4 +78,3 @@ pub data StepByStep (P : Session → Said → Type 0) : Session → List Said �
 pub record Walks (d : Derived) (f : Function) : Type 0 where
   pub from : Origin d f
   pub carried : (cs : List ℕ) → Carries (maps_of (mapped_to from.source from.under)) from.function f (place from.under.memo) cs
-  pub mapped : (cs : List ℕ) → Events.Along (λ e. 0 < get_or from.under.memo e 0) (λ h. 0 < mapped_to from.source from.under References.function h) (walk from.function cs)

@@ -105,8 +105,8 @@ module _ (x : Source) (s : Derived) (n : ℕ) where
       go : OneLeads (n ∷ []) x.image s → ⊥
       go (i, p, l) = leads_on i (subst (λ (j : ℕ). unknown x.image s j ≡ false) (sym (only_one p)) k) l
 
--- ---- THE LINKED MODULE, as the output's bytes hold it (`Held`)
-module _ (image output out : List ℕ) (m : Module) (os : List ℕ) (n : ℕ) (m' : Module) (h : OnBytes.Held image output out m os n m') where
+-- ---- THE LINKED MODULE, as the output's bytes hold it (`HeldMapped`)
+module _ (m : Module) (os : List ℕ) (m' : Module) (h : OnBytes.HeldMapped m os m') where
   -- a linker that writes a caller before its callee, or leaves a function that calls itself
   pub caller-before : Call (length m'.functions) (calls m') 0 1 → ⊥
   caller-before c = omega (arith, h.callees-before 0 1 c)
