@@ -2,7 +2,7 @@
 use mathlib.Core.Path.{◌≡◌, refl, sym, ap, ◌∙◌, subst}
 use mathlib.Core.Bool.{true, false}
 use mathlib.Core.List.{List}
-use Prim.Native.Nat.{ℕ, ◌+◌, ◌*◌, ◌≤◌}
+use Prim.Native.Nat.{ℕ, ◌*◌, ◌≤◌}
 use native.Mathlib.Omega.{arith}
 use lib.ListN.{length, get_or, take, length-take, replicate}
 use lib.Seq.{sets}
@@ -13,7 +13,7 @@ use Rattle.model.specs.Imports.{Derived, fresh, emptied}
 use Rattle.model.specs.Special.{sourced}
 use Rattle.model.specs.Session.{Answer, answered, new, meets_ring, callees_of, finish_with_entry_points}
 use Rattle.model.specs.Refusals.{answer_by, packed}
-use Rattle.model.specs.Link.{append_all, link_by, link_answer}
+use Rattle.model.specs.Link.{append_all, link_by}
 use Rattle.theory_finish.specs.Fresh.{source, with}
 use Rattle.theory_finish.specs.Linking.{intake_passes}
 use Rattle.theory_finish.specs.Ringless.{none_ringing}

@@ -1,9 +1,9 @@
 -- The steps in sequence: what is left from here is the whole.
 use mathlib.Core.Path.{◌≡◌, refl, sym, ap, ◌∙◌, subst}
 use mathlib.Core.List.{List, [], ◌∷◌}
-use Prim.Native.Nat.{ℕ, zero, suc, ◌+◌, ◌-◌, ◌*◌, ◌%◌, ◌≤◌, ◌<◌, min}
+use Prim.Native.Nat.{ℕ, zero, suc, ◌+◌, ◌-◌, ◌*◌, ◌%◌, ◌<◌, min}
 use native.Mathlib.Omega.{arith}
-use lib.ListN.{length, get_or, set, take, drop, length-take, length-drop, length-set}
+use lib.ListN.{length, get_or, set, drop, length-take, length-drop, length-set}
 use lib.Seq.{sets, drop-cons, length-sets}
 use Rattle.base_words.specs.Words.{bytes_of}
 use Rattle.model.specs.Session.{Session, new}

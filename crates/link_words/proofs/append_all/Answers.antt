@@ -1,12 +1,10 @@
 use mathlib.Core.Path.{refl}
-use Prim.Native.Nat.{◌-◌}
 use lib.ListN.{take}
 use native.Mathlib.Omega.{arith}
 use Rattle.model.specs.Link.{append_all}
 use Rattle.derive_state.specs.Source.{mod_of}
 use Rattle.derive_state.specs.Held.{st_of}
-use Rattle.link_words.proofs.Appending.{Turn, few_all, turn-first, turn_asks, turn-next, turn_last}
-use borrow.Author.Rules.{rules}
+use Rattle.link_words.proofs.Appending.{few_all, turn-first, turn_asks, turn-next, turn_last}
 use Rattle.link_words.proofs.append_all.Goals as goal
 
 pub loop-i-init : goal.loop-i-init

@@ -1,11 +1,9 @@
-use mathlib.Core.Path.{refl}
 use Prim.Native.Nat.{◌-◌}
 use lib.ListN.{take}
-use native.Mathlib.Omega.{arith}
 use Rattle.model.specs.Link.{append_all}
 use Rattle.derive_state.specs.Source.{mod_of}
 use Rattle.derive_state.specs.Held.{st_of}
-use Rattle.link_words.proofs.Appending.{Turn, few_all, turn-first, turn_asks, turn-next, turn_last}
+use Rattle.link_words.proofs.Appending.{Turn}
 use Rattle.link_words.proofs.append_all.Given as goal
 
 abbrev pub invariant-loop-i : goal.invariant-loop-i

@@ -2,7 +2,6 @@ use Prim.Native.Nat.{ℕ}
 use native.Mathlib.Omega.{arith}
 use lib.ListN.{replicate, length-replicate}
 use Rattle.link_words.proofs.ByOrder.{source_asks, append_asks, enter_asks, finish_asks, answer_fits, links_by}
-use borrow.Author.Rules.{rules}
 use Rattle.link_words.proofs.link_in_order.Goals as goal
 
 pub source_types-set-requires : goal.source_types-set-requires

@@ -1,6 +1,5 @@
 -- A refusal that was there stays; else it is the step's, with its number, or none.
 use Rattle.session.proofs.Running.{first-stays, first_accepted, first_refused_lem}
-use borrow.Author.Rules.{rules}
 use Rattle.session.proofs.first_of.Goals as goal
 
 pub returns-then-first-ne0 : goal.returns-then-first-ne0

@@ -1,5 +1,4 @@
 use Rattle.derive_session.specs.Fresh.{zeros, zeros_spaces}
-use borrow.Author.Rules.{rules}
 use Rattle.session.proofs.session.Goals as goal
 
 pub session_in-requires : goal.session_in-requires

@@ -1,8 +1,7 @@
-use Prim.Native.Nat.{◌-◌, ◌*◌, ◌/◌}
+use Prim.Native.Nat.{◌*◌, ◌/◌}
 use lib.ListN.{length}
 use native.Mathlib.Omega.{arith}
-use Rattle.session.proofs.Going.{Going, going_first, going_next, going_last, told_so}
-use borrow.Author.Rules.{rules}
+use Rattle.session.proofs.Going.{going_first, going_next, going_last, told_so}
 use Rattle.session.proofs.session_in.Goals as goal
 
 pub loop-i-init : goal.loop-i-init

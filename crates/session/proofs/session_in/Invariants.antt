@@ -1,7 +1,5 @@
-use Prim.Native.Nat.{◌-◌, ◌*◌, ◌/◌}
-use lib.ListN.{length}
-use native.Mathlib.Omega.{arith}
-use Rattle.session.proofs.Going.{Going, going_first, going_next, going_last, told_so}
+use Prim.Native.Nat.{◌-◌}
+use Rattle.session.proofs.Going.{Going}
 use Rattle.session.proofs.session_in.Given as goal
 
 abbrev pub invariant-loop-i : goal.invariant-loop-i

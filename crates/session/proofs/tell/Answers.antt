@@ -1,7 +1,6 @@
 use mathlib.Core.Path.{sym}
 use native.Mathlib.Omega.{arith}
 use lib.Seq.{set_out}
-use borrow.Author.Rules.{rules}
 use Rattle.session.proofs.tell.Goals as goal
 
 pub returns-else-at-answers : goal.returns-else-at-answers
