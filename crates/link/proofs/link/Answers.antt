@@ -1,7 +1,6 @@
 use Prim.Native.Nat.{ℕ}
 use lib.ListN.{length-replicate}
 use Rattle.derive_session.specs.Fresh.{zeros_spaces}
-use borrow.Author.Rules.{rules}
 use Rattle.link.proofs.link.Goals as goal
 
 pub link_in-requires : goal.link_in-requires
