@@ -14,7 +14,7 @@ use Rattle.model.specs.Table.{NAMED, EXPR_KIND}
 use Rattle.model.specs.Tree.{Function, flat_all}
 use Rattle.model.specs.Module.{count_at, offset_at, end_at, flat_module}
 use Rattle.model.specs.View.{record_at, record_end}
-use Rattle.model.specs.FunctionView.{ENTRY_HEAD, returns_at, locals_at, expressions_at}
+use Rattle.model.specs.FunctionView.{entry_head_words, returns_at, locals_at, expressions_at}
 use Rattle.model.specs.Taped.{Tape}
 use Rattle.model.specs.Carry.{Each, each_none, each_next}
 use Rattle.model.specs.Redirect.{nothing}
@@ -61,7 +61,7 @@ module _ {words tags : List ℕ} {n : ℕ} (tape : Tape words tags n) {j : ℕ} 
       let h : j < length tape.holds.functions = omega (arith, taped_functions tape.taped) in
       record { end = _; function = _; cells = _; small = few tape; own = taped_function tape.taped j _ (looked_at tape.holds.functions j nothing h) }
 
-  pub standing-entry : j < count_at 7 words → Standing words tags (record_at 7 j words + ENTRY_HEAD)
+  pub standing-entry : j < count_at 7 words → Standing words tags (record_at 7 j words + entry_head_words)
   standing-entry i =
       let h : j < length tape.holds.entries = omega (arith, taped_entries tape.taped) in
       record { end = _; function = _; cells = _; small = few tape; own = taped_entry tape.taped j _ (looked_at tape.holds.entries j (record { head = []; function = nothing }) h) }

@@ -5,7 +5,7 @@
 ghost use Rattle.std.specs.Prelude.{◌≡◌, ◌+◌, ◌*◌, ◌^◌, ◌≤◌, ◌<◌, get_or};
 ghost use Rattle.model.specs.Module.{count_at, offset_at};
 ghost use Rattle.model.specs.View.{record_at, record_end};
-ghost use Rattle.model.specs.FunctionView.{ENTRY_HEAD, arguments_at, argument_at, returns_at, locals_at, local_at, expressions_at};
+ghost use Rattle.model.specs.FunctionView.{entry_head_words, arguments_at, argument_at, returns_at, locals_at, local_at, expressions_at};
 ghost use Rattle.model.specs.Taped.{Tape};
 ghost use Rattle.base_views.specs.Functions.{Standing, Named, Body};
 
@@ -109,7 +109,7 @@ pub fn pair_at(words: &Words, j: usize) -> usize
 pub fn entry_function(words: &Words, tags: &Tags, n: usize, j: usize) -> usize
     requires tape { Tape words.now tags.now n }
     requires j_bound { j < count_at 7 words.now }
-    ensures { result ≡ record_at 7 j words.now + ENTRY_HEAD }
+    ensures { result ≡ record_at 7 j words.now + entry_head_words }
 {
     start_of(words, ENTRIES, j) + ENTRY_HEAD
 }

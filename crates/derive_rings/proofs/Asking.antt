@@ -15,7 +15,7 @@ use Rattle.model.specs.Table.{CALLEE}
 use Rattle.model.specs.Tree.{Function, Entry}
 use Rattle.model.specs.Module.{count_at}
 use Rattle.model.specs.View.{record_at, record_end}
-use Rattle.model.specs.FunctionView.{ENTRY_HEAD}
+use Rattle.model.specs.FunctionView.{entry_head_words}
 use Rattle.model.specs.Carry.{Each, each_none, each_next}
 use Rattle.model.specs.Calls.{any}
 use Rattle.model.specs.Callees.{callees}
@@ -174,7 +174,7 @@ module _ {words tags : List ℕ} {n : ℕ} (src : Source words tags n) where
     inside : j < length es
     inside = omega (arith, many)
 
-    module _ {from to : ℕ} (hf : from ≡ record_at 7 j words + ENTRY_HEAD) (ht : to ≡ record_end 7 j words) where
+    module _ {from to : ℕ} (hf : from ≡ record_at 7 j words + entry_head_words) (ht : to ≡ record_end 7 j words) where
       called : picked words tags from to ≡ callees here.function
       unfolding picked
       called =

@@ -14,7 +14,7 @@ use Rattle.model.specs.Table.{EXPRESSIONS, NAMED}
 use Rattle.model.specs.Tree.{Function, Entry, flat_all, flat_list, flat_entry}
 use Rattle.model.specs.Module.{Module, count_at, flat_module}
 use Rattle.model.specs.View.{record_at, record_end}
-use Rattle.model.specs.FunctionView.{ENTRY_HEAD, expressions_at}
+use Rattle.model.specs.FunctionView.{entry_head_words, expressions_at}
 use Rattle.model.specs.Between.{between}
 use Rattle.model.specs.Carry.{carry_cells, Each}
 use Rattle.model.specs.Scope.{in_scope}
@@ -63,7 +63,7 @@ use Rattle.function_localize.proofs.Few.{made_few}
 use Rattle.function_entry.specs.Entered.{NestedE, EnterEnsures}
 
 -- ---- entry point j of the source
-module _ {words tags : List ℕ} {n : ℕ} (src : Source words tags n) (scopes : in_scope (mod_of words n) ≡ true) (j : ℕ) (there : j < count_at 7 words) (at s end : ℕ) (at-is : at ≡ record_at 7 j words) (s-is : s ≡ record_at 7 j words + ENTRY_HEAD) (end_is : end ≡ record_end 7 j words) where
+module _ {words tags : List ℕ} {n : ℕ} (src : Source words tags n) (scopes : in_scope (mod_of words n) ≡ true) (j : ℕ) (there : j < count_at 7 words) (at s end : ℕ) (at-is : at ≡ record_at 7 j words) (s-is : s ≡ record_at 7 j words + entry_head_words) (end_is : end ≡ record_end 7 j words) where
   abbrev M : Module
   M = mod_of words n
 

@@ -18,7 +18,7 @@ use Rattle.model.specs.Table.{WORD, SPAN, NAME, EXPRESSIONS, NAMED, binding, ent
 use Rattle.model.specs.Tree.{Function, Entry, flat, flat_all, flat_list, flat_block, flat_entry}
 use Rattle.model.specs.Module.{Module}
 use Rattle.model.specs.View.{record_at, tables as tablesL}
-use Rattle.model.specs.FunctionView.{ENTRY_HEAD}
+use Rattle.model.specs.FunctionView.{entry_head_words}
 use Rattle.model.specs.Between.{between}
 use Rattle.model.specs.Numbers.{Bounds, caps, bound, below as under, within, ordered, every, outside, inside, constant_only, sound, sound_function, sound_entry, numbered}
 use Rattle.model.specs.Initial.{initialised}
@@ -234,7 +234,7 @@ module _ {words tags : List ℕ} {n s end : ℕ} {F : Function} (p : Part words 
 
 -- ---- the head of an entry point: its name refers, and nothing else
 module _ {words tags : List ℕ} {n : ℕ} (src : Source words tags n) (j : ℕ) (E : Entry) (e : get_elem? (mod_of words n).entries j ≡ some E) where
-  pub head_is : E.head ≡ between tags words (record_at 7 j words) (record_at 7 j words + ENTRY_HEAD)
+  pub head_is : E.head ≡ between tags words (record_at 7 j words) (record_at 7 j words + entry_head_words)
   head_is = sym (held-between (taped_held src.taped) (taped_entry_head src.taped j E e))
 
   entry-sound : sound_entry (outside (mod_of words n)) E ≡ true
@@ -267,7 +267,7 @@ module _ {words tags : List ℕ} {n : ℕ} (src : Source words tags n) (j : ℕ)
       let a = within-append b E.head (flat E.function) (and_split (within b (flat_entry E)) _ entry-sound).0 in
       only_name (plainly (looked_each src.taped.well.entries_ok.each j e).head_ok (unfold plain? in refl)) (cells_fit src E.function E.head a.0)
 
-  pub head_legible : Legible words tags 0 (record_at 7 j words) (record_at 7 j words + ENTRY_HEAD)
+  pub head_legible : Legible words tags 0 (record_at 7 j words) (record_at 7 j words + entry_head_words)
   head_legible =
       let v = taped_entry_head src.taped j E e in
       let t = src.taped in

@@ -9,7 +9,7 @@ use Rattle.model.specs.Outcome.{Cell, Cells, class}
 use Rattle.model.specs.Table.{Row, WORD, SPAN, UPTO, NAME, TYPE, LOCAL-INIT, FROM, TO, ARGUMENTS, LOCALS, RETURNS, STMT_KIND, function_head, entry_head, counted}
 use Rattle.model.specs.Tree.{Function, Entry, flat_all, flat_list}
 use Rattle.model.specs.View.{record_at}
-use Rattle.model.specs.FunctionView.{ENTRY_HEAD}
+use Rattle.model.specs.FunctionView.{entry_head_words}
 use Rattle.model.specs.Carry.{Lays, Each, each_none, each_next, WellFunction}
 use Rattle.model.specs.Tables.{code_t}
 use Rattle.model.specs.References.{target, targets}
@@ -121,7 +121,7 @@ module _ {words tags : List ℕ} {n s end : ℕ} {F : Function} (p : Part words 
   front_declaring = declaring (get_or tags i 0) front-among
 
 -- the head of an entry point
-module _ {words tags : List ℕ} {n : ℕ} (src : Source words tags n) (j : ℕ) (E : Entry) (e : get_elem? (mod_of words n).entries j ≡ some E) (i : ℕ) (low : record_at 7 j words ≤ i) (high : i < record_at 7 j words + ENTRY_HEAD) where
+module _ {words tags : List ℕ} {n : ℕ} (src : Source words tags n) (j : ℕ) (E : Entry) (e : get_elem? (mod_of words n).entries j ≡ some E) (i : ℕ) (low : record_at 7 j words ≤ i) (high : i < record_at 7 j words + entry_head_words) where
   pub head_declaring : Declaring (get_or tags i 0)
   unfolding rows? plain? entry_head
   head_declaring = declaring (get_or tags i 0) (each_place (taped_held src.taped) (taped_entry_head src.taped j E e) i low high (lays_declared (looked_each src.taped.well.entries_ok.each j e).head_ok refl refl)).listed

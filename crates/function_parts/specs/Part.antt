@@ -15,7 +15,7 @@ use Rattle.model.specs.Table.{ARGUMENTS, LOCALS, EXPRESSIONS, NAMED}
 use Rattle.model.specs.Tree.{Function, Entry, flat, flat_all, flat_list, flat_block}
 use Rattle.model.specs.Module.{Module, count_at, flat_module}
 use Rattle.model.specs.View.{record_at, record_end}
-use Rattle.model.specs.FunctionView.{ENTRY_HEAD, locals_at, expressions_at}
+use Rattle.model.specs.FunctionView.{entry_head_words, locals_at, expressions_at}
 use Rattle.model.specs.Between.{between, Long, Stretch}
 use Rattle.model.specs.Redirect.{nothing, function as function_at}
 use Rattle.model.specs.Scope.{in_scope}
@@ -57,14 +57,14 @@ module _ {words tags : List ℕ} {n : ℕ} (src : Source words tags n) (six : in
   unfolding function_at
   function-part j h = part_of_function j _ (looked_at (mod_of words n).functions j nothing (omega (arith, taped_functions src.taped)))
 
-  pub part_of_entry : (j : ℕ) (E : Entry) → get_elem? (mod_of words n).entries j ≡ some E → Part words tags n (record_at 7 j words + ENTRY_HEAD) (record_end 7 j words) E.function
+  pub part_of_entry : (j : ℕ) (E : Entry) → get_elem? (mod_of words n).entries j ≡ some E → Part words tags n (record_at 7 j words + entry_head_words) (record_end 7 j words) E.function
   part_of_entry j E e = record {
     source = src;
     stands = taped_entry src.taped j E e;
     pass = entry-passes (mod_of words n) src.taped.well src.three src.four six j E e;
   }
 
-  pub entry-part : (j : ℕ) → j < count_at 7 words → Part words tags n (record_at 7 j words + ENTRY_HEAD) (record_end 7 j words) (entry (mod_of words n) j).function
+  pub entry-part : (j : ℕ) → j < count_at 7 words → Part words tags n (record_at 7 j words + entry_head_words) (record_end 7 j words) (entry (mod_of words n) j).function
   entry-part j h = part_of_entry j _ (entry_there src j h)
 
 -- ---- as the code reads the words: the count of expressions is at ea, the places where they start are found in the tags, and the last is followed by the count of named expressions

@@ -2,8 +2,8 @@
 use Rattle.std.specs.Prelude.{List, ℕ, ◌+◌, ◌*◌, get_or}
 
 -- the words before an entry point's function
-abbrev pub ENTRY_HEAD : ℕ
-ENTRY_HEAD = 7
+abbrev pub entry_head_words : ℕ
+entry_head_words = 7
 
 -- the count of arguments, after name and span
 abbrev pub arguments_at : ℕ → ℕ

@@ -24,7 +24,7 @@ use Rattle.model.specs.View.{tables, record_at, record_end}
 use Rattle.model.specs.Taped.{Taped}
 use Rattle.model.specs.Operands.{kind, kind_at}
 use Rattle.model.specs.Carry.{Lays, lays_none, lays_next, Each, each_none, each_next, WellFunction, WellEntry}
-use Rattle.model.specs.FunctionView.{ENTRY_HEAD, arguments_at, argument_at, returns_at, locals_at, local_at, expressions_at}
+use Rattle.model.specs.FunctionView.{entry_head_words, arguments_at, argument_at, returns_at, locals_at, local_at, expressions_at}
 use Rattle.theory_image.specs.Plain.{plain?, plain_more, plain-length, plain_start, plain-classes}
 use Rattle.theory_image.specs.Views.{length_cells, length-write, view_within, view_table, view_records, view_length, SeesRecord, sees_functions, sees_entries, sees_function, sees_entry}
 use Rattle.theory_image.specs.Sections.{slice-slice, get_d_slice, slice-map, start_of, start_zero, start_end, length-places}
@@ -730,14 +730,14 @@ module _ {words tags : List ℕ} {n : ℕ} {m : Module} (t : Taped words tags n 
       record { held = taped_held; part = taped_part (omega arith) (sees_function m refl j f e); well = looked_each t.well.functions_ok.each j e }
 
   -- and entry point j: seven words, and its function
-  pub taped_entry_head : (j : ℕ) (x : Entry) → get_elem? m.entries j ≡ some x → Part (flat_module m) (record_at 7 j words) (record_at 7 j words + ENTRY_HEAD) x.head
+  pub taped_entry_head : (j : ℕ) (x : Entry) → get_elem? m.entries j ≡ some x → Part (flat_module m) (record_at 7 j words) (record_at 7 j words + entry_head_words) x.head
   unfolding flat_entry
   taped_entry_head j x e = moved (part_left x.head (flat x.function) (taped_part (omega arith) (sees_entry m refl j x e))) refl (omega (arith, entry_long (looked_each t.well.entries_ok.each j e)))
 
   pub taped_entry_classes : (j : ℕ) (x : Entry) → get_elem? m.entries j ≡ some x → map class x.head ≡ NAME ∷ binding []
   taped_entry_classes j x e = entry-classes (looked_each t.well.entries_ok.each j e)
 
-  pub taped_entry : (j : ℕ) (x : Entry) → get_elem? m.entries j ≡ some x → Stands words tags (flat_module m) (record_at 7 j words + ENTRY_HEAD) (record_end 7 j words) x.function
+  pub taped_entry : (j : ℕ) (x : Entry) → get_elem? m.entries j ≡ some x → Stands words tags (flat_module m) (record_at 7 j words + entry_head_words) (record_end 7 j words) x.function
   unfolding flat_entry
   taped_entry j x e =
       let w : WellEntry x = looked_each t.well.entries_ok.each j e in

@@ -2,7 +2,6 @@ use Rattle.base_views.proofs.Places.{arguments_inside}
 use mathlib.Core.Path.{ap, ◌∙◌}
 use native.Mathlib.Omega.{arith}
 use lib.ListN.{get_or}
-use borrow.Author.Rules.{rules}
 use Rattle.base_views.proofs.arguments.Goals as goal
 
 pub arguments_at-requires : goal.arguments_at-requires

@@ -1,5 +1,4 @@
 use Rattle.base_views.proofs.Places.{body_is}
-use borrow.Author.Rules.{rules}
 use Rattle.base_views.proofs.body_at.Goals as goal
 
 pub returns : goal.returns

@@ -1,7 +1,6 @@
 use mathlib.Core.Path.{sym, ◌∙◌}
 use native.Mathlib.Omega.{arith}
 use Rattle.base_views.proofs.Places.{end-last, end-next}
-use borrow.Author.Rules.{rules}
 use Rattle.base_views.proofs.end_of.Goals as goal
 
 pub returns-then-j-count : goal.returns-then-j-count

@@ -1,6 +1,5 @@
 use Rattle.base_views.proofs.Places.{locals_inside, locals_is}
 use native.Mathlib.Omega.{arith}
-use borrow.Author.Rules.{rules}
 use Rattle.base_views.proofs.locals_at.Goals as goal
 
 pub returns : goal.returns

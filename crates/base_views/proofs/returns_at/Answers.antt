@@ -1,7 +1,6 @@
 use mathlib.Core.Path.{◌∙◌}
 use native.Mathlib.Omega.{arith}
 use Rattle.base_views.proofs.Places.{returns-inside, returns_is}
-use borrow.Author.Rules.{rules}
 use Rattle.base_views.proofs.returns_at.Goals as goal
 
 pub argument_at-requires : goal.argument_at-requires

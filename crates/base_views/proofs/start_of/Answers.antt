@@ -1,6 +1,5 @@
 use native.Mathlib.Omega.{arith}
 use Rattle.base_views.proofs.Places.{start_is}
-use borrow.Author.Rules.{rules}
 use Rattle.base_views.proofs.start_of.Goals as goal
 
 pub returns : goal.returns

@@ -1,7 +1,6 @@
 -- `base_words::load` meets its contract: each turn puts the next word in place.
-use Prim.Native.Nat.{◌/◌, ◌-◌}
-use lib.ListN.{length}
-use Rattle.base_words.proofs.Loops.{Loading, load-begin, load-next, load_done}
+use Prim.Native.Nat.{◌-◌}
+use Rattle.base_words.proofs.Loops.{load-begin, load-next, load_done}
 use borrow.Author.Rules.{rules}
 use Rattle.base_words.proofs.load.Goals as goal
 

@@ -1,7 +1,7 @@
 -- `base_words::load` meets its contract: each turn puts the next word in place.
 use Prim.Native.Nat.{◌/◌, ◌-◌}
 use lib.ListN.{length}
-use Rattle.base_words.proofs.Loops.{Loading, load-begin, load-next, load_done}
+use Rattle.base_words.proofs.Loops.{Loading}
 use Rattle.base_words.proofs.load.Given as goal
 
 abbrev pub invariant-loop-i : goal.invariant-loop-i

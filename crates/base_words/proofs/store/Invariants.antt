@@ -1,6 +1,6 @@
 -- `base_words::store` meets its contract: each turn puts the next word's four bytes in place.
 use Prim.Native.Nat.{◌-◌}
-use Rattle.base_words.proofs.Loops.{Storing, store-begin, store-next, store_done}
+use Rattle.base_words.proofs.Loops.{Storing}
 use Rattle.base_words.proofs.store.Given as goal
 
 abbrev pub invariant-loop-i : goal.invariant-loop-i

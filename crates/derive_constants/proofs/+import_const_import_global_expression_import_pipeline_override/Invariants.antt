@@ -1,18 +1,10 @@
-use native.Mathlib.Omega.{arith}
-use mathlib.Core.Path.{◌≡◌, sym, ◌∙◌}
 use Prim.Native.Nat.{◌-◌}
-use Rattle.model.specs.Module.{count_at}
-use Rattle.model.specs.Tables.{names, types, constants, overrides, globals, exprs, rec_at}
+use Rattle.model.specs.Tables.{constants, overrides, exprs, rec_at}
 use Rattle.model.specs.References.{refs}
-use Rattle.model.specs.Imports.{import_t}
 use Rattle.derive_state.specs.Refers.{tab_of}
 use Rattle.derive_state.specs.Source.{src_of}
 use Rattle.theory_records.specs.Well.{rank}
-use Rattle.derive_names.proofs.Sources.{tape, small_number, readable, plain_name}
-use Rattle.derive_names.proofs.Steps.{past_const, past_override, past_expr}
-use Rattle.derive_names.proofs.Turns.{Turn, turn-known, turn-first, turn_in, turn_number, turn_full, turn-next, turn_skip, turn_allowed, turn_settled, ends_in, lands_at, turn_falls}
-use Prim.Native.Nat.{ℕ, ◌<◌}
-use borrow.Fn.PlainCycle.{Measures, is, falls, and}
+use Rattle.derive_names.proofs.Turns.{Turn}
 use Rattle.derive_constants.proofs.+import_const_import_global_expression_import_pipeline_override.Given as goal
 
 abbrev pub decreases-import_const : goal.decreases-import_const

@@ -1,5 +1,4 @@
 use Rattle.derive_finish.proofs.Sizes.{derived, ended}
-use borrow.Author.Rules.{rules}
 use Rattle.derive_finish.proofs.finish.Goals as goal
 
 pub widened-counts-requires : goal.widened-counts-requires

@@ -1,5 +1,4 @@
 use Rattle.derive_finish.proofs.Sizes.{eight}
-use borrow.Author.Rules.{rules}
 use Rattle.derive_finish.proofs.widened.Goals as goal
 
 pub returns : goal.returns

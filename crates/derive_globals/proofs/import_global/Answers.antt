@@ -1,8 +1,8 @@
 use native.Mathlib.Omega.{arith}
-use mathlib.Core.Path.{◌≡◌, sym, ◌∙◌}
+use mathlib.Core.Path.{sym, ◌∙◌}
 use Prim.Native.Nat.{◌-◌}
 use Rattle.model.specs.Module.{count_at}
-use Rattle.model.specs.Tables.{names, types, constants, overrides, globals, exprs, rec_at}
+use Rattle.model.specs.Tables.{globals, rec_at}
 use Rattle.model.specs.References.{refs}
 use Rattle.model.specs.Imports.{import_t}
 use Rattle.derive_state.specs.Refers.{tab_of}
@@ -10,8 +10,7 @@ use Rattle.derive_state.specs.Source.{src_of}
 use Prim.Native.Nat.{◌<◌}
 use Rattle.derive_names.proofs.Sources.{tape, small_number, readable, plain_name}
 use Rattle.derive_names.proofs.Steps.{past_global}
-use Rattle.derive_names.proofs.Turns.{Turn, turn-known, turn-first, turn_in, turn_number, turn_full, turn-next, turn_skip, turn_allowed, turn_settled, ends_in, lands_at}
-use borrow.Author.Rules.{rules}
+use Rattle.derive_names.proofs.Turns.{turn-known, turn-first, turn_in, turn_number, turn_full, turn-next, turn_skip, turn_allowed, turn_settled, ends_in, lands_at}
 use Rattle.derive_globals.proofs.import_global.Goals as goal
 
 pub offset_bounds-maps-k : goal.offset_bounds-maps-k

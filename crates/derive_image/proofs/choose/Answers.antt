@@ -1,5 +1,5 @@
 use Prim.Native.Nat.{◌-◌}
-use Rattle.derive_image.proofs.Copies.{Choosing, choosing_begin, choosing_in, choosing_next, choosing_done}
+use Rattle.derive_image.proofs.Copies.{choosing_begin, choosing_in, choosing_next, choosing_done}
 use borrow.Author.Rules.{rules}
 use Rattle.derive_image.proofs.choose.Goals as goal
 

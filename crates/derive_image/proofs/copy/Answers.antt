@@ -1,6 +1,6 @@
 use Prim.Native.Nat.{◌-◌}
 use native.Mathlib.Omega.{arith}
-use Rattle.derive_image.proofs.Copies.{Moving, moving-begin, moving-next, moving_done}
+use Rattle.derive_image.proofs.Copies.{moving-begin, moving-next, moving_done}
 use borrow.Author.Rules.{rules}
 use Rattle.derive_image.proofs.copy.Goals as goal
 

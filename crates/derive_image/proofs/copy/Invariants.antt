@@ -1,6 +1,5 @@
 use Prim.Native.Nat.{◌-◌}
-use native.Mathlib.Omega.{arith}
-use Rattle.derive_image.proofs.Copies.{Moving, moving-begin, moving-next, moving_done}
+use Rattle.derive_image.proofs.Copies.{Moving}
 use Rattle.derive_image.proofs.copy.Given as goal
 
 abbrev pub invariant-loop-i : goal.invariant-loop-i

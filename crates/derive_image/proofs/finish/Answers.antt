@@ -3,7 +3,6 @@ use native.Mathlib.Omega.{arith}
 use lib.ListN.{take}
 use Rattle.derive_image.proofs.Storing.{many_functions, many_entries, too_long, no_room, stored, out_long, small, store-room}
 use Prim.Native.Nat.{◌*◌}
-use borrow.Author.Rules.{rules}
 use Rattle.derive_image.proofs.finish.Goals as goal
 
 pub returns-then-counts-gt-MOST_FUNCTIONS : goal.returns-then-counts-gt-MOST_FUNCTIONS

@@ -6,7 +6,6 @@ use Rattle.derive_sections.proofs.Names.{noted_none}
 use Rattle.derive_image.proofs.Finishing.{names_few, order_low, rows-chosen, finish_over, tables-room, special-room, finish_done}
 use lib.Seq.{length-sets}
 use lib.ListN.{length-set}
-use borrow.Author.Rules.{rules}
 use Rattle.derive_image.proofs.finish_words.Goals as goal
 
 pub appearing-n-requires : goal.appearing-n-requires

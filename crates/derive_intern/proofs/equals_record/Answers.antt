@@ -4,7 +4,6 @@ use borrow.Author.Tests.{not-true}
 use Rattle.derive_state.specs.Refers.{went_r}
 use Rattle.derive_state.proofs.Passes.{compare-short}
 use Rattle.derive_state.proofs.Unlike.{last_small, last_not}
-use borrow.Author.Rules.{rules}
 use mathlib.Core.Bool.{not}
 use mathlib.Core.Path.{ap}
 use Rattle.derive_intern.proofs.equals_record.Goals as goal

@@ -1,11 +1,9 @@
-use native.Mathlib.Omega.{arith}
 use Rattle.derive_state.specs.Refers.{went_r}
 use Rattle.derive_state.specs.Held.{carried_by}
 use mathlib.Core.List.{[]}
 use lib.ListN.{get_or}
 use Prim.Native.Nat.{◌-◌}
-use Rattle.derive_state.proofs.Passes.{Seeks, seek_first, seek_found, seek_more, seek_last}
-use borrow.Author.Rules.{rules}
+use Rattle.derive_state.proofs.Passes.{seek_first, seek_found, seek_more, seek_last}
 use Rattle.derive_intern.proofs.find.Goals as goal
 
 pub loop-k-init : goal.loop-k-init

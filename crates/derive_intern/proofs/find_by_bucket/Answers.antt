@@ -2,7 +2,6 @@ use native.Mathlib.Omega.{arith}
 use mathlib.Core.Path.{sym, ◌∙◌}
 use Rattle.derive_state.proofs.State.{sought_none, sought_stale, sought_one, sought_other}
 use Prim.Native.Nat.{◌-◌}
-use borrow.Author.Rules.{rules}
 use Rattle.derive_intern.proofs.find_by_bucket.Goals as goal
 
 pub returns-then-v-eq0 : goal.returns-then-v-eq0

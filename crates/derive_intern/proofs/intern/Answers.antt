@@ -2,7 +2,6 @@ use native.Mathlib.Omega.{arith}
 use lib.ListN.{length-set}
 use mathlib.Core.Path.{◌∙◌}
 use Rattle.derive_state.proofs.State.{settle_old, settle_many, settle_long, settle_new}
-use borrow.Author.Rules.{rules}
 use Rattle.derive_intern.proofs.intern.Goals as goal
 
 pub bucket_of-p-requires : goal.bucket_of-p-requires

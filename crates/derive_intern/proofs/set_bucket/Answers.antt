@@ -1,6 +1,4 @@
-use native.Mathlib.Omega.{arith}
 use Rattle.derive_state.proofs.State.{left_first, left_more}
-use borrow.Author.Rules.{rules}
 use Rattle.derive_intern.proofs.set_bucket.Goals as goal
 
 pub returns-then-buckets-p-eq0 : goal.returns-then-buckets-p-eq0

@@ -1,9 +1,8 @@
 use Prim.Native.Nat.{◌-◌}
 use native.Mathlib.Omega.{arith}
 use borrow.Author.Tests.{not-true, not-false}
-use Rattle.derive_state.proofs.Passes.{Comparing, compare-short, compare-begin, compare_in, compare_not, compare-next, compare_done}
+use Rattle.derive_state.proofs.Passes.{compare-short, compare-begin, compare_in, compare_not, compare-next, compare_done}
 use Rattle.derive_lookup.proofs.Compares.{stay, word-stays, plainly}
-use borrow.Author.Rules.{rules}
 use mathlib.Core.Bool.{not}
 use mathlib.Core.Path.{ap}
 use Rattle.derive_lookup.proofs.equals_name.Goals as goal

@@ -1,8 +1,7 @@
 use Prim.Native.Nat.{◌-◌}
 use native.Mathlib.Omega.{arith}
 use Rattle.model.specs.Between.{between}
-use Rattle.derive_state.proofs.Passes.{Seeks, seek_first, seek_found, seek_more, seek_last}
-use borrow.Author.Rules.{rules}
+use Rattle.derive_state.proofs.Passes.{seek_first, seek_found, seek_more, seek_last}
 use Rattle.derive_lookup.proofs.find_name.Goals as goal
 
 pub loop-k-init : goal.loop-k-init

@@ -1,7 +1,6 @@
 use Prim.Native.Nat.{◌-◌}
-use native.Mathlib.Omega.{arith}
 use Rattle.model.specs.Between.{between}
-use Rattle.derive_state.proofs.Passes.{Seeks, seek_first, seek_found, seek_more, seek_last}
+use Rattle.derive_state.proofs.Passes.{Seeks}
 use Rattle.derive_lookup.proofs.find_name.Given as goal
 
 abbrev pub invariant-loop-k : goal.invariant-loop-k

@@ -1,5 +1,4 @@
 use native.Mathlib.Omega.{arith}
-use borrow.Author.Rules.{rules}
 use Rattle.derive_lookup.proofs.find_name_from.Goals as goal
 
 pub overflow_sub-result : goal.overflow_sub-result

@@ -1,9 +1,7 @@
 use mathlib.Core.Bool.{false≢true}
-use native.Mathlib.Omega.{arith}
 use Prim.Native.Nat.{◌-◌}
 use Rattle.model.specs.Between.{between}
 use Rattle.derive_lookup.proofs.Firsts.{place_in, went-first}
-use borrow.Author.Rules.{rules}
 use Rattle.derive_lookup.proofs.is_mapped_name.Goals as goal
 
 pub returns-then-m-eq0 : goal.returns-then-m-eq0

@@ -1,7 +1,6 @@
 use native.Mathlib.Omega.{arith}
 use Rattle.derive_names.proofs.Sources.{tape}
 use Rattle.derive_lookup.proofs.Finds.{head_in, some_name, name_in_lem, name_few, name_reads, knows}
-use borrow.Author.Rules.{rules}
 use Rattle.derive_lookup.proofs.known.Goals as goal
 
 pub offset_bounds-words-s : goal.offset_bounds-words-s

@@ -1,6 +1,5 @@
 use native.Mathlib.Omega.{arith}
-use Rattle.derive_lookup.proofs.Lasts.{Left, begin, found, again, none, in_log}
-use borrow.Author.Rules.{rules}
+use Rattle.derive_lookup.proofs.Lasts.{begin, found, again, none, in_log}
 use Rattle.derive_lookup.proofs.last.Goals as goal
 
 pub loop-k-init : goal.loop-k-init

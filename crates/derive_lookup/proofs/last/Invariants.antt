@@ -1,5 +1,4 @@
-use native.Mathlib.Omega.{arith}
-use Rattle.derive_lookup.proofs.Lasts.{Left, begin, found, again, none, in_log}
+use Rattle.derive_lookup.proofs.Lasts.{Left}
 use Rattle.derive_lookup.proofs.last.Given as goal
 
 abbrev pub invariant-loop-k : goal.invariant-loop-k

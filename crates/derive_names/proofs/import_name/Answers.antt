@@ -1,5 +1,5 @@
 use native.Mathlib.Omega.{arith}
-use mathlib.Core.Path.{◌≡◌, refl}
+use mathlib.Core.Path.{refl}
 use Prim.Native.Nat.{◌<◌}
 use Rattle.model.specs.Module.{count_at}
 use Rattle.model.specs.Tables.{names}
@@ -7,7 +7,6 @@ use Rattle.derive_state.specs.Refers.{tab_of}
 use Rattle.derive_state.specs.Source.{src_of}
 use Rattle.derive_names.proofs.Sources.{tape, small_number, readable, plain_name}
 use Rattle.derive_names.proofs.Turns.{turn-known, name_settled, lands_at}
-use borrow.Author.Rules.{rules}
 use Rattle.derive_names.proofs.import_name.Goals as goal
 
 pub offset_bounds-maps-k : goal.offset_bounds-maps-k

@@ -1,6 +1,5 @@
 -- `refers_to` meets its contract: each return is one kind of class.
 use Rattle.derive_names.proofs.Steps.{to_ref, to_zero, to_none, to_opt}
-use borrow.Author.Rules.{rules}
 use Rattle.derive_names.proofs.refers_to.Goals as goal
 
 pub returns-then-u-lt-NOTHING : goal.returns-then-u-lt-NOTHING

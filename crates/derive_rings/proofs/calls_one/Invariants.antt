@@ -1,7 +1,6 @@
 -- `derive_rings::calls_one` meets its contract. The invariant: whether one is called from here on is whether one is called at all.
-use mathlib.Core.Path.{sym, ◌∙◌}
 use Prim.Native.Nat.{◌-◌}
-use Rattle.derive_rings.proofs.Asking.{is_of, holds_is, Asking, begin, finish, may, hit, miss, pass}
+use Rattle.derive_rings.proofs.Asking.{is_of, Asking}
 use Rattle.derive_rings.proofs.calls_one.Given as goal
 
 abbrev pub invariant-loop-j : goal.invariant-loop-j

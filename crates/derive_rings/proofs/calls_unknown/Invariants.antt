@@ -2,8 +2,7 @@
 use Prim.Native.Nat.{◌-◌}
 use Rattle.model.specs.Module.{count_at}
 use Rattle.derive_rings.specs.Rings.{unknown_by}
-use Rattle.derive_rings.proofs.Wholes.{is_known, is_unknown_lem}
-use Rattle.derive_rings.proofs.Asking.{Asking, begin, finish, may, hit, miss, pass}
+use Rattle.derive_rings.proofs.Asking.{Asking}
 use Rattle.derive_rings.proofs.calls_unknown.Given as goal
 
 abbrev pub invariant-loop-j : goal.invariant-loop-j

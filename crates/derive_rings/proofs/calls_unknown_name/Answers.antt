@@ -2,7 +2,6 @@ use native.Mathlib.Omega.{arith}
 use Rattle.derive_names.proofs.Sources.{tape}
 use Rattle.derive_rings.specs.Rings.{unknown_by}
 use Rattle.derive_rings.proofs.Asking.{calls-any, function_scannable}
-use borrow.Author.Rules.{rules}
 use Rattle.derive_rings.proofs.calls_unknown_name.Goals as goal
 
 pub record_at-at-requires : goal.record_at-at-requires

@@ -1,10 +1,8 @@
 -- `derive_rings::entries_lead` meets its contract. The invariant: whether one of unknown name is called from this entry point on is whether one is called at all.
 use Prim.Native.Nat.{◌-◌}
-use native.Mathlib.Omega.{arith}
 use Rattle.derive_state.specs.Source.{mod_of}
-use Rattle.derive_names.proofs.Sources.{tape}
 use Rattle.derive_rings.specs.Rings.{unknown_by}
-use Rattle.derive_rings.proofs.Asking.{Looking, look, entry_in_lem, scannable, entry_hit, entry_miss, none_left}
+use Rattle.derive_rings.proofs.Asking.{Looking}
 use Rattle.derive_rings.proofs.entries_lead.Given as goal
 
 abbrev pub invariant-loop-j : goal.invariant-loop-j

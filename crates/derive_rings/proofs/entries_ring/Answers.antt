@@ -1,7 +1,6 @@
 use Rattle.derive_names.proofs.Sources.{tape}
 use Rattle.derive_rings.proofs.Wholes.{entries_not, callees-known, rings-any}
 use borrow.Author.Tests.{not-true}
-use borrow.Author.Rules.{rules}
 use mathlib.Core.Bool.{not}
 use mathlib.Core.Path.{ap}
 use Rattle.derive_rings.proofs.entries_ring.Goals as goal

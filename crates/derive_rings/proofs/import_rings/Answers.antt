@@ -2,7 +2,6 @@ use native.Mathlib.Omega.{arith}
 use Rattle.derive_names.proofs.Sources.{tape}
 use Rattle.derive_rings.proofs.Wholes.{calls_not, callees-known, few, rings-itself, rings-callees}
 use borrow.Author.Tests.{not-true}
-use borrow.Author.Rules.{rules}
 use mathlib.Core.Bool.{not}
 use mathlib.Core.Path.{ap}
 use Rattle.derive_rings.proofs.import_rings.Goals as goal

@@ -2,9 +2,8 @@
 use mathlib.Core.Path.{sym, ◌∙◌}
 use Prim.Native.Nat.{◌-◌}
 use native.Mathlib.Omega.{arith}
-use Rattle.derive_rings.proofs.Sieving.{Sieve, begin, there, drops, stays, passes}
-use Rattle.derive_rings.proofs.Wholes.{few_at, below_at, is_unknown, is_known, is_unknown_lem, unknowns}
-use borrow.Author.Rules.{rules}
+use Rattle.derive_rings.proofs.Sieving.{begin, there, drops, stays, passes}
+use Rattle.derive_rings.proofs.Wholes.{few_at, below_at, is_known, is_unknown_lem, unknowns}
 use Rattle.derive_rings.proofs.unknown.Goals as goal
 
 pub loop-i-init : goal.loop-i-init

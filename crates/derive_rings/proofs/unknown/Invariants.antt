@@ -1,9 +1,7 @@
 -- `derive_rings::unknown` meets its contract. The invariant: of the marks below i those are left whose names are unknown.
-use mathlib.Core.Path.{sym, ◌∙◌}
 use Prim.Native.Nat.{◌-◌}
-use native.Mathlib.Omega.{arith}
-use Rattle.derive_rings.proofs.Sieving.{Sieve, begin, there, drops, stays, passes}
-use Rattle.derive_rings.proofs.Wholes.{few_at, below_at, is_unknown, is_known, is_unknown_lem, unknowns}
+use Rattle.derive_rings.proofs.Sieving.{Sieve}
+use Rattle.derive_rings.proofs.Wholes.{is_unknown}
 use Rattle.derive_rings.proofs.unknown.Given as goal
 
 abbrev pub invariant-loop-i : goal.invariant-loop-i

@@ -1,6 +1,5 @@
 use mathlib.Core.Path.{sym}
 use Rattle.derive_rings.proofs.Wholes.{few_at, below_at, all_asks, waiting_asks, stuck_is}
-use borrow.Author.Rules.{rules}
 use Rattle.derive_rings.proofs.unknown_in_ring.Goals as goal
 
 pub first-all-requires : goal.first-all-requires

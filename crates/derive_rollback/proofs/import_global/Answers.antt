@@ -1,6 +1,5 @@
 use Rattle.derive_snapshot.proofs.Over.{whole_of}
 use Rattle.derive_snapshot.proofs.Saving.{save_begin}
-use borrow.Author.Rules.{rules}
 use Rattle.derive_rollback.proofs.import_global.Goals as goal
 
 pub save-requires : goal.save-requires

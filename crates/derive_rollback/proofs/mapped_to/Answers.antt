@@ -1,5 +1,4 @@
 use Rattle.derive_rollback.proofs.Answer.{answers, none-less, less_one}
-use borrow.Author.Rules.{rules}
 use Rattle.derive_rollback.proofs.mapped_to.Goals as goal
 
 pub returns-then-v-eq0 : goal.returns-then-v-eq0

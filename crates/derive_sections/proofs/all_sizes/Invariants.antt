@@ -1,5 +1,5 @@
 use Prim.Native.Nat.{◌-◌}
-use Rattle.derive_sections.proofs.Tables.{rows_row, Summing, summing_begin, summing_next, summing_done}
+use Rattle.derive_sections.proofs.Tables.{Summing}
 use Rattle.derive_sections.proofs.all_sizes.Given as goal
 
 abbrev pub invariant-loop-t : goal.invariant-loop-t

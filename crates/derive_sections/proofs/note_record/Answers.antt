@@ -1,5 +1,5 @@
 use Prim.Native.Nat.{◌-◌}
-use Rattle.derive_sections.proofs.Notes.{Noting, noting_begin, noting_low, noting_next, noting_done}
+use Rattle.derive_sections.proofs.Notes.{noting_begin, noting_low, noting_next, noting_done}
 use borrow.Author.Rules.{rules}
 use Rattle.derive_sections.proofs.note_record.Goals as goal
 

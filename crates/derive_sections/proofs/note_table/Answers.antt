@@ -1,5 +1,5 @@
 use Prim.Native.Nat.{◌-◌}
-use Rattle.derive_sections.proofs.Notes.{NotingR, noting_r_begin, noting_r_rec, noting_r_next, noting_r_done}
+use Rattle.derive_sections.proofs.Notes.{noting_r_begin, noting_r_rec, noting_r_next, noting_r_done}
 use borrow.Author.Rules.{rules}
 use Rattle.derive_sections.proofs.note_table.Goals as goal
 

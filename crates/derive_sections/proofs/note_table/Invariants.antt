@@ -1,5 +1,5 @@
 use Prim.Native.Nat.{◌-◌}
-use Rattle.derive_sections.proofs.Notes.{NotingR, noting_r_begin, noting_r_rec, noting_r_next, noting_r_done}
+use Rattle.derive_sections.proofs.Notes.{NotingR}
 use Rattle.derive_sections.proofs.note_table.Given as goal
 
 abbrev pub invariant-loop-i : goal.invariant-loop-i

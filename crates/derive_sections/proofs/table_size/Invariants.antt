@@ -1,5 +1,5 @@
 use Prim.Native.Nat.{◌-◌}
-use Rattle.derive_sections.proofs.Writes.{row_in, Adding, adding_begin, adding_next, adding_done}
+use Rattle.derive_sections.proofs.Writes.{Adding}
 use Rattle.derive_sections.proofs.table_size.Given as goal
 
 abbrev pub invariant-loop-i : goal.invariant-loop-i

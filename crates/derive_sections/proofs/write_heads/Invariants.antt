@@ -1,6 +1,5 @@
 use Prim.Native.Nat.{◌-◌}
-use native.Mathlib.Omega.{arith}
-use Rattle.derive_sections.proofs.Tables.{rows_row, rows_few, Heading, heading_begin, heading_next, heading_done}
+use Rattle.derive_sections.proofs.Tables.{Heading}
 use Rattle.derive_sections.proofs.write_heads.Given as goal
 
 abbrev pub invariant-loop-t : goal.invariant-loop-t

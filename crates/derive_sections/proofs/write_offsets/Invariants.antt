@@ -1,5 +1,5 @@
 use Prim.Native.Nat.{◌-◌}
-use Rattle.derive_sections.proofs.Writes.{row_in, Offering, offering_begin, offering_next, offering_done}
+use Rattle.derive_sections.proofs.Writes.{Offering}
 use Rattle.derive_sections.proofs.write_offsets.Given as goal
 
 abbrev pub invariant-loop-i : goal.invariant-loop-i

@@ -1,5 +1,5 @@
 use Prim.Native.Nat.{◌-◌}
-use Rattle.derive_sections.proofs.Writes.{Copying, copying_begin, copying_low, copying_in, copying_next, copying_done}
+use Rattle.derive_sections.proofs.Writes.{copying_begin, copying_low, copying_in, copying_next, copying_done}
 use borrow.Author.Rules.{rules}
 use Rattle.derive_sections.proofs.write_record.Goals as goal
 

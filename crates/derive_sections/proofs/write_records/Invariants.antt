@@ -1,5 +1,5 @@
 use Prim.Native.Nat.{◌-◌}
-use Rattle.derive_sections.proofs.Writes.{row-rec, Joining, joining_begin, joining_room, joining_next, joining_done}
+use Rattle.derive_sections.proofs.Writes.{Joining}
 use Rattle.derive_sections.proofs.write_records.Given as goal
 
 abbrev pub invariant-loop-i : goal.invariant-loop-i

@@ -3,7 +3,6 @@ use lib.ListN.{length}
 use mathlib.Core.Path.{ap, ◌∙◌}
 use Rattle.derive_sections.proofs.Writes.{table-room, table_done}
 use lib.Seq.{length-sets}
-use borrow.Author.Rules.{rules}
 use Rattle.derive_sections.proofs.write_table.Goals as goal
 
 pub write_offsets-requires : goal.write_offsets-requires

@@ -1,5 +1,5 @@
 use Prim.Native.Nat.{◌-◌}
-use Rattle.derive_sections.proofs.Tables.{rows_row, Tabling, tabling_begin, tabling_room, tabling_next, tabling_done}
+use Rattle.derive_sections.proofs.Tables.{rows_row, tabling_begin, tabling_room, tabling_next, tabling_done}
 use borrow.Author.Rules.{rules}
 use Rattle.derive_sections.proofs.write_tables.Goals as goal
 

@@ -1,5 +1,5 @@
 use Prim.Native.Nat.{◌-◌}
-use Rattle.derive_sections.proofs.Tables.{rows_row, Tabling, tabling_begin, tabling_room, tabling_next, tabling_done}
+use Rattle.derive_sections.proofs.Tables.{Tabling}
 use Rattle.derive_sections.proofs.write_tables.Given as goal
 
 abbrev pub invariant-loop-t : goal.invariant-loop-t

@@ -1,5 +1,4 @@
 use Rattle.derive_snapshot.proofs.Over.{restored, not_restored}
-use borrow.Author.Rules.{rules}
 use Rattle.derive_snapshot.proofs.restore.Goals as goal
 
 pub returns-then-full : goal.returns-then-full

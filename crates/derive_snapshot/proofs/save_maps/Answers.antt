@@ -1,8 +1,5 @@
 use Prim.Native.Nat.{◌-◌}
-use Rattle.model.specs.Module.{count_at}
-use Rattle.derive_snapshot.specs.Snapshot.{Prefixes}
 use Rattle.derive_snapshot.proofs.Saving.{rows_asked, rows_next, rows_done}
-use borrow.Author.Rules.{rules}
 use Rattle.derive_snapshot.proofs.save_maps.Goals as goal
 
 pub save_row-requires : goal.save_row-requires

@@ -1,7 +1,6 @@
 use Prim.Native.Nat.{◌-◌}
 use Rattle.model.specs.Module.{count_at}
 use Rattle.derive_snapshot.specs.Snapshot.{Prefixes}
-use Rattle.derive_snapshot.proofs.Saving.{rows_asked, rows_next, rows_done}
 use Rattle.derive_snapshot.proofs.save_maps.Given as goal
 
 abbrev pub invariant-loop-i : goal.invariant-loop-i

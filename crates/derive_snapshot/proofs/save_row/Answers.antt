@@ -1,5 +1,4 @@
 use Prim.Native.Nat.{◌-◌}
-use Rattle.derive_snapshot.specs.Snapshot.{Prefix}
 use Rattle.derive_snapshot.proofs.Saving.{row-begin, row_next, row_done}
 use borrow.Author.Rules.{rules}
 use Rattle.derive_snapshot.proofs.save_row.Goals as goal

@@ -1,6 +1,5 @@
 use Prim.Native.Nat.{◌-◌}
 use Rattle.derive_snapshot.specs.Snapshot.{Prefix}
-use Rattle.derive_snapshot.proofs.Saving.{row-begin, row_next, row_done}
 use Rattle.derive_snapshot.proofs.save_row.Given as goal
 
 abbrev pub invariant-loop-i : goal.invariant-loop-i

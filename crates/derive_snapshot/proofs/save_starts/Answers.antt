@@ -1,9 +1,6 @@
 use mathlib.Core.Path.{refl}
 use Prim.Native.Nat.{◌-◌}
-use lib.ListN.{get_or}
-use Rattle.derive_snapshot.specs.Snapshot.{Prefixes}
 use Rattle.derive_snapshot.proofs.Saving.{rows_asked, rows_next, rows_done}
-use borrow.Author.Rules.{rules}
 use Rattle.derive_snapshot.proofs.save_starts.Goals as goal
 
 pub save_row-requires : goal.save_row-requires

@@ -1,8 +1,6 @@
-use mathlib.Core.Path.{refl}
 use Prim.Native.Nat.{◌-◌}
 use lib.ListN.{get_or}
 use Rattle.derive_snapshot.specs.Snapshot.{Prefixes}
-use Rattle.derive_snapshot.proofs.Saving.{rows_asked, rows_next, rows_done}
 use Rattle.derive_snapshot.proofs.save_starts.Given as goal
 
 abbrev pub invariant-loop-i : goal.invariant-loop-i

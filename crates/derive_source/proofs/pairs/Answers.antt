@@ -1,7 +1,6 @@
 use native.Mathlib.Omega.{arith}
 use Prim.Native.Nat.{◌-◌}
-use Rattle.derive_source.proofs.Loops.{Pairing, pairs_first, pairs_done, pairs_low, pairs_in_lem, pairs_full, pairs_next}
-use borrow.Author.Rules.{rules}
+use Rattle.derive_source.proofs.Loops.{pairs_first, pairs_done, pairs_low, pairs_in_lem, pairs_full, pairs_next}
 use Rattle.derive_source.proofs.pairs.Goals as goal
 
 pub loop-i-init : goal.loop-i-init

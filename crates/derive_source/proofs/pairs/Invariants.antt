@@ -1,6 +1,5 @@
-use native.Mathlib.Omega.{arith}
 use Prim.Native.Nat.{◌-◌}
-use Rattle.derive_source.proofs.Loops.{Pairing, pairs_first, pairs_done, pairs_low, pairs_in_lem, pairs_full, pairs_next}
+use Rattle.derive_source.proofs.Loops.{Pairing}
 use Rattle.derive_source.proofs.pairs.Given as goal
 
 abbrev pub invariant-loop-i : goal.invariant-loop-i

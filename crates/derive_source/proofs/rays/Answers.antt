@@ -1,7 +1,6 @@
 use native.Mathlib.Omega.{arith}
 use Prim.Native.Nat.{◌-◌}
-use Rattle.derive_source.proofs.Loops.{Raying, rays-first, rays_done, rays_low, rays_in, rays_full, rays-next}
-use borrow.Author.Rules.{rules}
+use Rattle.derive_source.proofs.Loops.{rays-first, rays_done, rays_low, rays_in, rays_full, rays-next}
 use Rattle.derive_source.proofs.rays.Goals as goal
 
 pub loop-k-init : goal.loop-k-init

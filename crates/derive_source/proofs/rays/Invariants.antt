@@ -1,6 +1,5 @@
-use native.Mathlib.Omega.{arith}
 use Prim.Native.Nat.{◌-◌}
-use Rattle.derive_source.proofs.Loops.{Raying, rays-first, rays_done, rays_low, rays_in, rays_full, rays-next}
+use Rattle.derive_source.proofs.Loops.{Raying}
 use Rattle.derive_source.proofs.rays.Given as goal
 
 abbrev pub invariant-loop-k : goal.invariant-loop-k

@@ -1,6 +1,5 @@
 use mathlib.Core.Path.{refl, sym, ◌∙◌}
 use mathlib.Core.Bool.{false≢true}
-use borrow.Author.Rules.{rules}
 use Rattle.derive_source.proofs.replace.Goals as goal
 
 pub returns-then-full : goal.returns-then-full

@@ -1,6 +1,5 @@
 use Rattle.derive_state.proofs.Fresh.{kept_forgotten}
 use Rattle.derive_source.proofs.Setting.{set_of}
-use borrow.Author.Rules.{rules}
 use Rattle.derive_source.proofs.set_source.Goals as goal
 
 pub source_types-got-requires : goal.source_types-got-requires

@@ -1,6 +1,5 @@
 use lib.ListN.{replicate}
 use Rattle.derive_source.proofs.Setting.{forget_kept, set_rays_full, set-pairs}
-use borrow.Author.Rules.{rules}
 use Rattle.derive_source.proofs.source_types.Goals as goal
 
 pub rays-e-requires : goal.rays-e-requires

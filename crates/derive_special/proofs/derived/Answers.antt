@@ -1,6 +1,5 @@
 use Prim.Native.Nat.{◌-◌}
-use Rattle.derive_special.proofs.Keys.{Seeking, seek_first, seek_next, seek_hit, seek_none}
-use borrow.Author.Rules.{rules}
+use Rattle.derive_special.proofs.Keys.{seek_first, seek_next, seek_hit, seek_none}
 use Rattle.derive_special.proofs.derived.Goals as goal
 
 pub loop-i-init : goal.loop-i-init

@@ -1,5 +1,5 @@
 use Prim.Native.Nat.{◌-◌}
-use Rattle.derive_special.proofs.Keys.{Seeking, seek_first, seek_next, seek_hit, seek_none}
+use Rattle.derive_special.proofs.Keys.{Seeking}
 use Rattle.derive_special.proofs.derived.Given as goal
 
 abbrev pub invariant-loop-i : goal.invariant-loop-i

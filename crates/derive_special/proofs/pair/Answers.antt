@@ -3,7 +3,6 @@ use Prim.Native.Nat.{◌-◌, ◌<◌}
 use Rattle.model.specs.Module.{count_at}
 use Rattle.derive_names.proofs.Sources.{small_number}
 use Rattle.derive_special.proofs.Steps.{pair_low, pair_old, pair_full, pair-mapped, pair_many, pair_left, pair-new}
-use borrow.Author.Rules.{rules}
 use Rattle.derive_special.proofs.pair.Goals as goal
 
 pub overflow_cast-maps : goal.overflow_cast-maps

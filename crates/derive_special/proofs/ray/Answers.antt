@@ -3,7 +3,6 @@ use Prim.Native.Nat.{◌-◌, ◌<◌}
 use Rattle.model.specs.Module.{count_at}
 use Rattle.derive_names.proofs.Sources.{small_number}
 use Rattle.derive_special.proofs.Steps.{ray-none, ray_old, ray_full, ray-new}
-use borrow.Author.Rules.{rules}
 use Rattle.derive_special.proofs.ray.Goals as goal
 
 pub returns-then-w-eq0 : goal.returns-then-w-eq0

@@ -1,7 +1,7 @@
-use Rattle.std.proofs.Common.{◌-◌, arith, rules}
+use Rattle.std.proofs.Common.{◌-◌, arith}
 use Rattle.derive_state.specs.Refers.{went_r}
 use borrow.Author.Tests.{not-true, not-false}
-use Rattle.derive_state.proofs.Passes.{Comparing, compare-short, compare-begin, compare_small, compare_in, compare_not, compare-next, compare_done}
+use Rattle.derive_state.proofs.Passes.{compare-short, compare-begin, compare_small, compare_in, compare_not, compare-next, compare_done}
 use mathlib.Core.Bool.{not}
 use mathlib.Core.Path.{ap}
 use Rattle.derive_state.proofs.alike.Goals as goal

@@ -1,7 +1,6 @@
-use Rattle.std.proofs.Common.{◌-◌, arith, rules}
+use Rattle.std.proofs.Common.{◌-◌}
 use Rattle.derive_state.specs.Refers.{went_r}
-use borrow.Author.Tests.{not-true, not-false}
-use Rattle.derive_state.proofs.Passes.{Comparing, compare-short, compare-begin, compare_small, compare_in, compare_not, compare-next, compare_done}
+use Rattle.derive_state.proofs.Passes.{Comparing}
 use Rattle.derive_state.proofs.alike.Given as goal
 
 abbrev pub invariant-loop-i : goal.invariant-loop-i

@@ -1,4 +1,4 @@
-use Rattle.std.proofs.Common.{arith, rules}
+use Rattle.std.proofs.Common.{rules}
 use Rattle.derive_state.proofs.Classes.{alike-class, alike-word, alike_start, alike_upto}
 use Rattle.derive_state.proofs.alike_cell.Goals as goal
 

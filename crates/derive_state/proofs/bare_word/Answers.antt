@@ -1,4 +1,4 @@
-use Rattle.std.proofs.Common.{arith, rules}
+use Rattle.std.proofs.Common.{rules}
 use Rattle.derive_state.proofs.Classes.{bare_low, bare_high, bare_span}
 use Rattle.derive_state.proofs.bare_word.Goals as goal
 

@@ -1,4 +1,4 @@
-use Rattle.std.proofs.Common.{◌%◌, ap, mod-lt, arith, rules}
+use Rattle.std.proofs.Common.{◌%◌, ap, mod-lt, arith}
 use Rattle.derive_state.proofs.bucket_of.Goals as goal
 
 pub returns : goal.returns

@@ -1,6 +1,6 @@
-use Rattle.std.proofs.Common.{◌-◌, arith, rules}
+use Rattle.std.proofs.Common.{◌-◌}
 use Rattle.derive_state.specs.Refers.{went_r}
-use Rattle.derive_state.proofs.Passes.{Hashing, hash-begin, hash_done, hash_small, hash-next}
+use Rattle.derive_state.proofs.Passes.{Hashing}
 use Rattle.derive_state.proofs.hash.Given as goal
 
 abbrev pub invariant-loop-i : goal.invariant-loop-i

@@ -1,4 +1,3 @@
-use Rattle.std.proofs.Common.{arith, rules}
 use Rattle.derive_state.proofs.Classes.{kind_is}
 use Rattle.derive_state.proofs.target_of.Goals as goal
 

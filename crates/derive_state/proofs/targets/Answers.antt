@@ -1,4 +1,4 @@
-use Rattle.std.proofs.Common.{refl, arith, rules}
+use Rattle.std.proofs.Common.{refl}
 use Rattle.derive_state.specs.Refers.{target_bytes, targets_from, target_of, code_p}
 use Rattle.model.specs.References.{target, targets}
 use Rattle.model.specs.Tables.{code_t}

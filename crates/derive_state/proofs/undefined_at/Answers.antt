@@ -1,4 +1,3 @@
-use Rattle.std.proofs.Common.{arith, rules}
 use Rattle.derive_state.specs.Refers.{went_r, Small}
 use Rattle.derive_state.proofs.Classes.{undefined-other, undefined_no, undefined-next, undefined-none}
 use Rattle.derive_state.proofs.Passes.{all_here, following_some, following_none}

@@ -1,6 +1,6 @@
-use Rattle.std.proofs.Common.{◌-◌, arith, rules}
+use Rattle.std.proofs.Common.{◌-◌}
 use Rattle.derive_state.specs.Refers.{went_r, Small}
-use Rattle.derive_state.proofs.Passes.{Writing, write-begin, write_good, write_stretch, write-rest, write-next, write_done}
+use Rattle.derive_state.proofs.Passes.{write-begin, write_good, write_stretch, write-rest, write-next, write_done}
 use Rattle.derive_state.proofs.write.Goals as goal
 
 pub loop-i-init : goal.loop-i-init

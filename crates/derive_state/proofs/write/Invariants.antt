@@ -1,6 +1,6 @@
-use Rattle.std.proofs.Common.{◌-◌, arith, rules}
+use Rattle.std.proofs.Common.{◌-◌}
 use Rattle.derive_state.specs.Refers.{went_r, Small}
-use Rattle.derive_state.proofs.Passes.{Writing, write-begin, write_good, write_stretch, write-rest, write-next, write_done}
+use Rattle.derive_state.proofs.Passes.{Writing}
 use Rattle.derive_state.proofs.write.Given as goal
 
 abbrev pub invariant-loop-i : goal.invariant-loop-i

@@ -1,17 +1,9 @@
-use native.Mathlib.Omega.{arith}
-use mathlib.Core.Path.{◌≡◌, sym, ◌∙◌}
 use Prim.Native.Nat.{◌-◌}
-use Rattle.model.specs.Module.{count_at}
-use Rattle.model.specs.Tables.{names, types, constants, overrides, globals, exprs, rec_at}
+use Rattle.model.specs.Tables.{rec_at}
 use Rattle.model.specs.References.{refs}
-use Rattle.model.specs.Imports.{import_t}
 use Rattle.derive_state.specs.Refers.{tab_of}
 use Rattle.derive_state.specs.Source.{src_of}
-use Rattle.derive_names.proofs.Sources.{tape, small_number, readable, plain_name}
-use Rattle.derive_names.proofs.Steps.{past_type}
-use Rattle.derive_names.proofs.Turns.{Turn, turn-known, turn-first, turn_in, turn_number, turn_full, turn-next, turn_skip, turn_allowed, turn_settled, ends_in, lands_at, turn_falls, type_falls}
-use Prim.Native.Nat.{ℕ, ◌<◌}
-use borrow.Fn.PlainCycle.{Measures, is, falls, and}
+use Rattle.derive_names.proofs.Turns.{Turn}
 use Rattle.derive_types.proofs.+import_type.Given as goal
 
 abbrev pub decreases-import_type : goal.decreases-import_type

@@ -2,7 +2,6 @@
 use mathlib.Core.Path.{refl}
 use native.Mathlib.Omega.{arith}
 use Rattle.function_builder.proofs.Appends.{rises, legible, room, append_full, append_done}
-use borrow.Author.Rules.{rules}
 use Rattle.function_builder.proofs.append.Goals as goal
 
 pub overflow_sub-end : goal.overflow_sub-end

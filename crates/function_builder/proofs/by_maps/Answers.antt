@@ -2,7 +2,6 @@
 use mathlib.Core.Path.{sym, ap, ◌∙◌}
 use Prim.Native.Nat.{pred}
 use Rattle.function_builder.proofs.Carries.{carries_nothing, carries_small, carries_row, carries_in, carries_own, carries_none, carries_opt_in, carries_opt, carries_copied}
-use borrow.Author.Rules.{rules}
 use Rattle.function_builder.proofs.by_maps.Goals as goal
 
 pub returns-then-u-eq-NOTHING : goal.returns-then-u-eq-NOTHING

@@ -1,7 +1,6 @@
 -- `function_builder::carried` meets its contract: a function is known by its name, any other word goes through the maps.
 use mathlib.Core.Path.{◌∙◌}
 use Rattle.function_builder.proofs.Carries.{carries_known, carries_named, carries_by}
-use borrow.Author.Rules.{rules}
 use Rattle.function_builder.proofs.carried.Goals as goal
 
 pub known-requires : goal.known-requires

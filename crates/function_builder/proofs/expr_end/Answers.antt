@@ -1,5 +1,4 @@
 use Rattle.function_builder.proofs.Stacked.{next_some, next-none}
-use borrow.Author.Rules.{rules}
 use Rattle.function_builder.proofs.expr_end.Goals as goal
 
 pub returns-then-k-ends : goal.returns-then-k-ends

@@ -3,8 +3,7 @@ use Prim.Native.Nat.{◌-◌, ◌<◌}
 use native.Mathlib.Nat.{le_of_lt}
 use native.Mathlib.Omega.{arith}
 use Rattle.function_builder.specs.Stacks.{went_of}
-use Rattle.function_builder.proofs.Sieve.{Sieving, sieve_room, sieve_fits, sieve_first, sieve_last, sieve_seat, sieve_word, sieve_within, sieve_found, sieve_more, sieve_short, sieve_hop}
-use borrow.Author.Rules.{rules}
+use Rattle.function_builder.proofs.Sieve.{sieve_room, sieve_fits, sieve_first, sieve_last, sieve_seat, sieve_word, sieve_within, sieve_found, sieve_more, sieve_short, sieve_hop}
 use Rattle.function_builder.proofs.find_equal.Goals as goal
 
 pub overflow_sub-p : goal.overflow_sub-p

@@ -1,9 +1,7 @@
 -- `function_builder::find_equal` meets its contract. What is left from expression k on is the whole, and the word at p becomes y.
-use Prim.Native.Nat.{◌-◌, ◌<◌}
-use native.Mathlib.Nat.{le_of_lt}
-use native.Mathlib.Omega.{arith}
+use Prim.Native.Nat.{◌-◌}
 use Rattle.function_builder.specs.Stacks.{went_of}
-use Rattle.function_builder.proofs.Sieve.{Sieving, sieve_room, sieve_fits, sieve_first, sieve_last, sieve_seat, sieve_word, sieve_within, sieve_found, sieve_more, sieve_short, sieve_hop}
+use Rattle.function_builder.proofs.Sieve.{Sieving}
 use Rattle.function_builder.proofs.find_equal.Given as goal
 
 abbrev pub invariant-loop-k : goal.invariant-loop-k

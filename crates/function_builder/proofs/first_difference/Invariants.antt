@@ -1,12 +1,8 @@
 -- `function_builder::first_difference` meets its contract. What is left from here is alike as the whole is.
-use mathlib.Core.Path.{refl}
 use mathlib.Core.List.{[]}
 use Prim.Native.Nat.{◌-◌, ◌≤◌}
-use native.Mathlib.Nat.{le_refl}
-use native.Mathlib.Omega.{arith}
-use borrow.Author.Tests.{not-true, not-false}
 use lib.ListN.{get_or}
-use Rattle.derive_state.proofs.Passes.{Compares, compares_begin, compares_in, compares_good, compares_not, compares_next, compares_done}
+use Rattle.derive_state.proofs.Passes.{Compares}
 use Rattle.function_references.specs.Fits.{FitN}
 use Rattle.function_builder.specs.Stacks.{went_of}
 use Rattle.function_builder.proofs.first_difference.Given as goal

@@ -2,7 +2,6 @@
 use native.Mathlib.Omega.{arith}
 use Rattle.function_builder.proofs.Stack.{made_low}
 use Rattle.function_builder.proofs.Appends.{rises, legible, merge_old, merge_new}
-use borrow.Author.Rules.{rules}
 use Rattle.function_builder.proofs.merge.Goals as goal
 
 pub find_equal-j-requires : goal.find_equal-j-requires

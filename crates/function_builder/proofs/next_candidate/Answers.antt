@@ -1,8 +1,6 @@
 use Prim.Native.Nat.{◌-◌}
 use native.Mathlib.Omega.{arith}
-use Rattle.function_builder.specs.Makes.{Hops}
 use Rattle.function_builder.proofs.Sieve.{hop_none, hop_last, hop_next}
-use borrow.Author.Rules.{rules}
 use Rattle.function_builder.proofs.next_candidate.Goals as goal
 
 pub returns-then-s-eq-SPAN : goal.returns-then-s-eq-SPAN

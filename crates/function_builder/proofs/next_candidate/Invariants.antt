@@ -1,7 +1,5 @@
 use Prim.Native.Nat.{◌-◌}
-use native.Mathlib.Omega.{arith}
 use Rattle.function_builder.specs.Makes.{Hops}
-use Rattle.function_builder.proofs.Sieve.{hop_none, hop_last, hop_next}
 use Rattle.function_builder.proofs.next_candidate.Given as goal
 
 abbrev pub invariant-loop-j : goal.invariant-loop-j

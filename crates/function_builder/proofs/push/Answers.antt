@@ -1,7 +1,6 @@
 use mathlib.Core.Path.{refl, sym, ◌∙◌}
 use mathlib.Core.Bool.{false≢true}
 use native.Mathlib.Omega.{arith}
-use borrow.Author.Rules.{rules}
 use Rattle.function_builder.proofs.push.Goals as goal
 
 pub returns-then-bodytop-eq16384 : goal.returns-then-bodytop-eq16384

@@ -2,7 +2,6 @@ use Rattle.function_references.specs.Fits.{FitN}
 use Rattle.derive_state.proofs.Classes.{undefined-other, undefined_no, undefined-next, undefined-none}
 use Rattle.derive_state.proofs.Passes.{all_here, following_some, following_none}
 use Rattle.function_builder.specs.Stacks.{went_of}
-use borrow.Author.Rules.{rules}
 use Rattle.function_builder.proofs.undefined_at.Goals as goal
 
 pub returns-then-s-ne-SPAN : goal.returns-then-s-ne-SPAN

@@ -2,8 +2,7 @@
 use Prim.Native.Nat.{◌-◌}
 use native.Mathlib.Omega.{arith}
 use Rattle.function_builder.specs.Stacks.{went_of}
-use Rattle.function_builder.proofs.Writes.{Laying, lay_begin, lay_done, lay_in, lay_word, lay_fits, lay_rest, lay_next}
-use borrow.Author.Rules.{rules}
+use Rattle.function_builder.proofs.Writes.{lay_begin, lay_done, lay_in, lay_word, lay_fits, lay_rest, lay_next}
 use Rattle.function_builder.proofs.write.Goals as goal
 
 pub loop-i-init : goal.loop-i-init

@@ -1,8 +1,7 @@
 -- `function_builder::write` meets its contract. Words and classes go to the top of the stack, one after the other.
 use Prim.Native.Nat.{◌-◌}
-use native.Mathlib.Omega.{arith}
 use Rattle.function_builder.specs.Stacks.{went_of}
-use Rattle.function_builder.proofs.Writes.{Laying, lay_begin, lay_done, lay_in, lay_word, lay_fits, lay_rest, lay_next}
+use Rattle.function_builder.proofs.Writes.{Laying}
 use Rattle.function_builder.proofs.write.Given as goal
 
 abbrev pub invariant-loop-i : goal.invariant-loop-i

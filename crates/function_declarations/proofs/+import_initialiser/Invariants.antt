@@ -1,15 +1,11 @@
 -- `import_initialiser` meets its contract: the cycle of calls {import_initialiser}. Expression e is mapped; or its words are passed one at a turn, a record of a table imported and an operand, whose number is lower, taken by `import_initialiser` itself; and then it is merged. The measure is the expression's number.
-use mathlib.Core.Path.{refl, ◌∙◌}
-use Prim.Native.Nat.{ℕ, ◌-◌, ◌<◌}
-use native.Mathlib.Omega.{arith}
-use borrow.Fn.PlainCycle.{Measures, is, falls, and}
+use Prim.Native.Nat.{◌-◌}
+use borrow.Fn.PlainCycle.{is, and}
 use Rattle.model.specs.Bodies.{import_initialiser as initialiserE}
 use Rattle.theory_passes.specs.Light.{still}
 use Rattle.derive_state.specs.Source.{mod_of}
-use Rattle.derive_lookup.proofs.Bears.{bearing}
 use Rattle.function_references.specs.Cuts.{exprs_of}
-use Rattle.function_expressions.proofs.Needs.{cells_legible, unique_idle}
-use Rattle.function_expressions.proofs.Alongs.{Alongs, along-begin, along-kept, along_under, along_in, along_number, along_record, along-lower, along_own, along-none, along-next, unique_full, unique_done}
+use Rattle.function_expressions.proofs.Alongs.{Alongs}
 use Rattle.function_declarations.proofs.+import_initialiser.Given as goal
 
 abbrev pub decreases-import_initialiser : goal.decreases-import_initialiser

@@ -2,13 +2,11 @@
 use Prim.Native.Nat.{◌-◌, ◌<◌}
 use native.Mathlib.Omega.{arith}
 use Rattle.derive_lookup.proofs.Bears.{bearing}
-use Rattle.function_words.specs.Runs.{unites}
 use Rattle.function_words.proofs.Running.{made_small}
 use Rattle.function_words.proofs.Words.{fits_all}
 use Rattle.function_words.proofs.Calm.{legible_all, unites-idle}
-use Rattle.function_declarations.proofs.Declaring.{Declaring, declare_begin, declare_in, declare_fits, declare_full, declare_over, declare_next, declare_done, unites_grow}
+use Rattle.function_declarations.proofs.Declaring.{declare_begin, declare_in, declare_fits, declare_full, declare_over, declare_next, declare_done, unites_grow}
 use Rattle.function_declarations.proofs.Declared.{declare_ran}
-use borrow.Author.Rules.{rules}
 use Rattle.function_declarations.proofs.declare.Goals as goal
 
 pub loop-i-init : goal.loop-i-init

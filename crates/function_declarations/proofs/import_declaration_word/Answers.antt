@@ -2,7 +2,6 @@
 use lib.ListN.{get_or}
 use Rattle.function_words.specs.Runs.{unites}
 use Rattle.function_words.proofs.Words.{record_low, expression_low, brings_record, brings_nothing, brings_expression}
-use borrow.Author.Rules.{rules}
 use Rattle.function_declarations.proofs.import_declaration_word.Goals as goal
 
 pub import_by_table-requires : goal.import_by_table-requires

@@ -1,7 +1,6 @@
 -- `enter` meets its contract: its function is whole on the stacks, what its head refers to is imported, and its head is above its expressions; or one of these is too large.
 use native.Mathlib.Omega.{arith}
 use Rattle.function_entry.proofs.Entry.{entry-piece, entry-nested, exprs_in, entry-stands, head_low, head_read, function_full, head_full, stacks_led, led_bears, write_full, close_may, entry_done}
-use borrow.Author.Rules.{rules}
 use Rattle.function_entry.proofs.enter.Goals as goal
 
 pub localize-got-requires : goal.localize-got-requires

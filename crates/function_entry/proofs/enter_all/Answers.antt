@@ -3,8 +3,7 @@ use native.Mathlib.Omega.{arith}
 use Prim.Native.Nat.{◌-◌, ◌<◌}
 use Rattle.model.specs.Module.{count_at}
 use Rattle.function_entry.proofs.Sources as Sources
-use Rattle.function_entry.proofs.Entering.{Turn, turn-first, turn_done, nested-entry, turn_full, turn-next}
-use borrow.Author.Rules.{rules}
+use Rattle.function_entry.proofs.Entering.{turn-first, turn_done, nested-entry, turn_full, turn-next}
 use Rattle.function_entry.proofs.enter_all.Goals as goal
 
 pub loop-i-init : goal.loop-i-init

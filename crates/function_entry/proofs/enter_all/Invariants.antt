@@ -1,9 +1,6 @@
 -- The loop over the entry points: those before i are entered, or the arrays are full.
-use native.Mathlib.Omega.{arith}
-use Prim.Native.Nat.{◌-◌, ◌<◌}
-use Rattle.model.specs.Module.{count_at}
-use Rattle.function_entry.proofs.Sources as Sources
-use Rattle.function_entry.proofs.Entering.{Turn, turn-first, turn_done, nested-entry, turn_full, turn-next}
+use Prim.Native.Nat.{◌-◌}
+use Rattle.function_entry.proofs.Entering.{Turn}
 use Rattle.function_entry.proofs.enter_all.Given as goal
 
 abbrev pub invariant-loop-i : goal.invariant-loop-i

@@ -1,6 +1,5 @@
 -- `import_operand` meets its contract: expression e is mapped, or imported.
 use Rattle.function_expressions.proofs.Needs.{need-idle}
-use borrow.Author.Rules.{rules}
 use Rattle.function_expressions.proofs.import_operand.Goals as goal
 
 pub returns-then-exprmap-e-ne0 : goal.returns-then-exprmap-e-ne0

@@ -2,15 +2,10 @@
 use mathlib.Core.Path.{refl, ◌∙◌}
 use Prim.Native.Nat.{◌-◌}
 use native.Mathlib.Omega.{arith}
-use Rattle.theory_bodies.specs.Shallow.{peek}
-use Rattle.theory_passes.specs.Light.{still}
-use Rattle.derive_state.specs.Source.{mod_of}
-use Rattle.function_references.specs.Cuts.{exprs_of}
 use Rattle.derive_names.proofs.Sources.{small_number}
 use Rattle.function_outside.proofs.Records.{lands_mapped}
 use Rattle.function_expressions.proofs.Needs.{cells_legible, first_in, glance-idle}
-use Rattle.function_expressions.proofs.Alongs.{Alongs, along-begin, along-kept, along_under, along_in, along_number, along_record, along-none, along-next, operand_in, operand-idle, operand_done, glance_full, glance_done}
-use borrow.Author.Rules.{rules}
+use Rattle.function_expressions.proofs.Alongs.{along-begin, along-kept, along_under, along_in, along_number, along_record, along-none, along-next, operand_in, operand-idle, operand_done, glance_full, glance_done}
 use Rattle.function_expressions.proofs.import_standing.Goals as goal
 
 pub returns-then-exprmap-e-ne0 : goal.returns-then-exprmap-e-ne0

@@ -2,7 +2,6 @@
 use Rattle.derive_lookup.proofs.Bears.{bearing}
 use Rattle.function_builder.proofs.Appends.{legible}
 use Rattle.function_expressions.proofs.Needs.{need-idle, brought, need_full, need_done}
-use borrow.Author.Rules.{rules}
 use Rattle.function_expressions.proofs.import_unmapped.Goals as goal
 
 pub returns-then-exprmap-e-ne0 : goal.returns-then-exprmap-e-ne0

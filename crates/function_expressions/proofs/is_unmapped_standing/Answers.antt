@@ -3,7 +3,6 @@ use mathlib.Core.Path.{sym, ap, ◌∙◌}
 use mathlib.Core.Bool.{false≢true}
 use lib.ListN.{get_or}
 use Rattle.model.specs.Operands.{standing_kind}
-use borrow.Author.Rules.{rules}
 use Rattle.function_expressions.proofs.is_unmapped_standing.Goals as goal
 
 pub returns-then-exprmap-e-ne0 : goal.returns-then-exprmap-e-ne0

@@ -1,6 +1,5 @@
 -- `function_localize::index_expressions` meets its contract: the places are cleared, then found.
 
-use borrow.Author.Rules.{rules}
 use Rattle.function_localize.proofs.index_expressions.Goals as goal
 
 pub returns : goal.returns

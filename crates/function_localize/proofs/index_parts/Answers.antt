@@ -1,7 +1,6 @@
 -- `index_parts` meets its contract: the places of expressions are filled, and the place after the last is that of the named expressions.
 use Rattle.function_localize.proofs.Locals.{exprs_in, index_in, count_in, named_in}
 use Rattle.function_localize.proofs.Sums.{place_low}
-use borrow.Author.Rules.{rules}
 use Rattle.function_localize.proofs.index_parts.Goals as goal
 
 pub expressions_at-exprs-requires : goal.expressions_at-exprs-requires

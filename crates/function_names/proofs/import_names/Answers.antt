@@ -5,8 +5,7 @@ use mathlib.Core.Path.{refl}
 use lib.ListN.{get_or}
 use Rattle.derive_state.specs.Held.{row}
 use Rattle.derive_names.proofs.Sources.{small_number}
-use Rattle.function_names.proofs.Naming.{Naming, name_first, name_in_lem, name_number, name_full, name_next, name_skip, name_done}
-use borrow.Author.Rules.{rules}
+use Rattle.function_names.proofs.Naming.{name_first, name_in_lem, name_number, name_full, name_next, name_skip, name_done}
 use Rattle.function_names.proofs.import_names.Goals as goal
 
 pub loop-i-init : goal.loop-i-init

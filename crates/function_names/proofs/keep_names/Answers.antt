@@ -3,8 +3,7 @@ use native.Mathlib.Omega.{arith}
 use Prim.Native.Nat.{◌+◌, ◌*◌, ◌-◌, ◌≤◌, ◌<◌}
 use mathlib.Core.Path.{refl}
 use lib.ListN.{get_or}
-use Rattle.function_names.proofs.Keeping.{Keeping, keep-first, keep-top, keep_few, keep_skip, keep-under, keep_there, keep_full, keep_stacks, keep-new, keep_done}
-use borrow.Author.Rules.{rules}
+use Rattle.function_names.proofs.Keeping.{keep-first, keep-top, keep_few, keep_skip, keep-under, keep_there, keep_full, keep_stacks, keep-new, keep_done}
 use Rattle.function_names.proofs.keep_names.Goals as goal
 
 pub offset_bounds-words-at : goal.offset_bounds-words-at

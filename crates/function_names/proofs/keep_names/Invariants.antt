@@ -1,9 +1,6 @@
 -- The named expressions that stay: the loop passes one record at a turn.
-use native.Mathlib.Omega.{arith}
-use Prim.Native.Nat.{◌+◌, ◌*◌, ◌-◌, ◌≤◌, ◌<◌}
-use mathlib.Core.Path.{refl}
-use lib.ListN.{get_or}
-use Rattle.function_names.proofs.Keeping.{Keeping, keep-first, keep-top, keep_few, keep_skip, keep-under, keep_there, keep_full, keep_stacks, keep-new, keep_done}
+use Prim.Native.Nat.{◌-◌}
+use Rattle.function_names.proofs.Keeping.{Keeping}
 use Rattle.function_names.proofs.keep_names.Given as goal
 
 abbrev pub invariant-loop-i : goal.invariant-loop-i

@@ -5,7 +5,6 @@ use Rattle.model.specs.Tables.{names, types, constants, overrides, globals, expr
 use Rattle.derive_state.specs.Refers.{tab_of}
 use Rattle.derive_state.specs.Source.{src_of}
 use Rattle.function_outside.proofs.Records.{asked, lands_record, lands_none}
-use borrow.Author.Rules.{rules}
 use Rattle.function_outside.proofs.import_by_table.Goals as goal
 
 pub import_name-requires : goal.import_name-requires

@@ -2,7 +2,6 @@
 use borrow.Author.Tests.{not-true}
 use Rattle.derive_names.proofs.Sources.{small_number}
 use Rattle.function_outside.proofs.Records.{lands_mapped}
-use borrow.Author.Rules.{rules}
 use mathlib.Core.Bool.{not}
 use mathlib.Core.Path.{ap}
 use Rattle.function_outside.proofs.import_record.Goals as goal

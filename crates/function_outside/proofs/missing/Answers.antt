@@ -6,7 +6,6 @@ use lib.Dec.{eqb}
 use native.Mathlib.Omega.{arith}
 use borrow.Author.Tests.{eqb-true, eqb-false}
 use Rattle.derive_state.specs.Held.{cell}
-use borrow.Author.Rules.{rules}
 use Rattle.function_outside.proofs.missing.Goals as goal
 
 some : (v : ℕ) → eqb v 0 ≡ false → 0 < v

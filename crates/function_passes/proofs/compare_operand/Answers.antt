@@ -1,8 +1,7 @@
 -- `compare_operand` meets its contract: the words that are left compare what all of them do.
 use Prim.Native.Nat.{◌-◌}
 use native.Mathlib.Omega.{arith}
-use Rattle.function_words.proofs.Words.{Comparing, compare-begin, compare-next, compare-last, compare_some, compare-other, compare_done}
-use borrow.Author.Rules.{rules}
+use Rattle.function_words.proofs.Words.{compare-begin, compare-next, compare-last, compare_some, compare-other, compare_done}
 use Rattle.function_passes.proofs.compare_operand.Goals as goal
 
 pub loop-k-init : goal.loop-k-init

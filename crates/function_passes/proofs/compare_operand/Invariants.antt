@@ -1,7 +1,6 @@
 -- `compare_operand` meets its contract: the words that are left compare what all of them do.
 use Prim.Native.Nat.{◌-◌}
-use native.Mathlib.Omega.{arith}
-use Rattle.function_words.proofs.Words.{Comparing, compare-begin, compare-next, compare-last, compare_some, compare-other, compare_done}
+use Rattle.function_words.proofs.Words.{Comparing}
 use Rattle.function_passes.proofs.compare_operand.Given as goal
 
 abbrev pub invariant-loop-k : goal.invariant-loop-k

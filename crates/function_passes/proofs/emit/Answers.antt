@@ -5,7 +5,6 @@ use Rattle.function_words.specs.Runs.{needs as needsE, glances}
 use Rattle.function_words.proofs.Running.{made_small}
 use Rattle.function_passes.proofs.Drawn.{drawn_first}
 use Rattle.function_passes.proofs.Ranges.{needs_grow, emit_stop, emit_put, emit_over, emit_done}
-use borrow.Author.Rules.{rules}
 use Rattle.function_passes.proofs.emit.Goals as goal
 
 pub returns-then-got : goal.returns-then-got

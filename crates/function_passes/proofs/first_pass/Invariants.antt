@@ -1,8 +1,7 @@
 -- `first_pass` meets its contract: one expression of the range at a turn.
 use Prim.Native.Nat.{◌-◌}
-use native.Mathlib.Omega.{arith}
 use Rattle.function_words.specs.Runs.{glances}
-use Rattle.function_passes.proofs.Ranges.{Ranging, range_begin, range_more, range_full, range_done, glances_grow}
+use Rattle.function_passes.proofs.Ranges.{Ranging}
 use Rattle.function_passes.proofs.first_pass.Given as goal
 
 abbrev pub invariant-loop-x : goal.invariant-loop-x

@@ -2,7 +2,6 @@
 use lib.ListN.{get_or}
 use Rattle.function_words.specs.Runs.{needs as needsE, glances}
 use Rattle.function_words.proofs.Words.{record_low, expression_low, brings_record, brings_nothing, brings_expression}
-use borrow.Author.Rules.{rules}
 use Rattle.function_passes.proofs.import_body_word.Goals as goal
 
 pub import_record-requires : goal.import_record-requires

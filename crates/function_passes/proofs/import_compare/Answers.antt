@@ -13,7 +13,6 @@ use Rattle.function_outside.proofs.Passing.{legible_next}
 use Rattle.function_words.specs.Runs.{needs as needsE, glances}
 use Rattle.function_words.proofs.Running.{makes_as, makes-idle}
 use Rattle.function_words.proofs.Words.{compared_as, compare_low, early-none, early-one}
-use borrow.Author.Rules.{rules}
 use mathlib.Core.Bool.{not}
 use Rattle.function_passes.proofs.import_compare.Goals as goal
 

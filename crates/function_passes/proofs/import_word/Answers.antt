@@ -8,7 +8,6 @@ use Rattle.function_words.specs.Runs.{needs as needsE, glances}
 use Rattle.function_words.proofs.Running.{made_small}
 use Rattle.function_words.proofs.Words.{fits_all}
 use Rattle.function_words.proofs.Body.{range_in, range_low, pass_from, pass-to, kind_stop, kind-put, plain_stop, plain-put}
-use borrow.Author.Rules.{rules}
 use Rattle.function_passes.proofs.import_word.Goals as goal
 
 pub bounds-words-i-then-s-eq-FROM : goal.bounds-words-i-then-s-eq-FROM

@@ -2,8 +2,7 @@
 use Prim.Native.Nat.{◌-◌}
 use native.Mathlib.Omega.{arith}
 use Rattle.derive_lookup.proofs.Bears.{bearing}
-use Rattle.function_passes.proofs.Appending.{Appending, appending, append_done, append_skip, append_full, append-more}
-use borrow.Author.Rules.{rules}
+use Rattle.function_passes.proofs.Appending.{appending, append_done, append_skip, append_full, append-more}
 use Rattle.function_passes.proofs.second_pass.Goals as goal
 
 pub loop-x-init : goal.loop-x-init

@@ -1,8 +1,6 @@
 -- `second_pass` meets its contract: one expression of the range at a turn.
 use Prim.Native.Nat.{◌-◌}
-use native.Mathlib.Omega.{arith}
-use Rattle.derive_lookup.proofs.Bears.{bearing}
-use Rattle.function_passes.proofs.Appending.{Appending, appending, append_done, append_skip, append_full, append-more}
+use Rattle.function_passes.proofs.Appending.{Appending}
 use Rattle.function_passes.proofs.second_pass.Given as goal
 
 abbrev pub invariant-loop-x : goal.invariant-loop-x

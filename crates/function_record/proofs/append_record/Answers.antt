@@ -4,7 +4,6 @@ use native.Mathlib.Omega.{arith}
 use lib.ListN.{length, get_or, length-set}
 use lib.Seq.{length-sets}
 use Rattle.function_record.proofs.Closing.{room, seated, many, long, closes}
-use borrow.Author.Rules.{rules}
 use Rattle.function_record.proofs.append_record.Goals as goal
 
 pub returns-then-count-limit : goal.returns-then-count-limit

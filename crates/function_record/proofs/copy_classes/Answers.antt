@@ -2,7 +2,7 @@
 use Prim.Native.Nat.{◌+◌, ◌-◌}
 use native.Mathlib.Omega.{arith}
 use Rattle.derive_state.specs.Held.{row}
-use Rattle.function_record.proofs.Copying.{Copying, copying_begin, copying_next, copying_done}
+use Rattle.function_record.proofs.Copying.{copying_begin, copying_next, copying_done}
 use borrow.Author.Rules.{rules}
 use Rattle.function_record.proofs.copy_classes.Goals as goal
 

@@ -1,8 +1,7 @@
 -- `copy_classes` meets its contract: what is left to copy from here is the whole, and a class fits its byte.
-use Prim.Native.Nat.{◌+◌, ◌-◌}
-use native.Mathlib.Omega.{arith}
+use Prim.Native.Nat.{◌-◌}
 use Rattle.derive_state.specs.Held.{row}
-use Rattle.function_record.proofs.Copying.{Copying, copying_begin, copying_next, copying_done}
+use Rattle.function_record.proofs.Copying.{Copying}
 use Rattle.function_record.proofs.copy_classes.Given as goal
 
 abbrev pub invariant-loop-i : goal.invariant-loop-i

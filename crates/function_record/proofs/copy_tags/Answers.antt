@@ -1,7 +1,7 @@
 -- `copy_tags` meets its contract: what is left to copy from here is the whole.
 use Prim.Native.Nat.{◌-◌}
 use native.Mathlib.Omega.{arith}
-use Rattle.function_record.proofs.Copying.{Copying, copying_begin, copying_next, copying_done}
+use Rattle.function_record.proofs.Copying.{copying_begin, copying_next, copying_done}
 use borrow.Author.Rules.{rules}
 use Rattle.function_record.proofs.copy_tags.Goals as goal
 

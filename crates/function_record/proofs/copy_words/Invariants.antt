@@ -1,8 +1,7 @@
 -- `copy_words` meets its contract: what is left to copy from here is the whole.
 use Prim.Native.Nat.{◌-◌}
-use native.Mathlib.Omega.{arith}
 use Rattle.derive_state.specs.Held.{row}
-use Rattle.function_record.proofs.Copying.{Copying, copying_begin, copying_next, copying_done}
+use Rattle.function_record.proofs.Copying.{Copying}
 use Rattle.function_record.proofs.copy_words.Given as goal
 
 abbrev pub invariant-loop-i : goal.invariant-loop-i

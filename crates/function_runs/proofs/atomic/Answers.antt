@@ -1,5 +1,4 @@
 use Rattle.function_runs.proofs.Firsts.{atomic_13, atomic_16}
-use borrow.Author.Rules.{rules}
 use Rattle.function_runs.proofs.atomic.Goals as goal
 
 pub returns-then-k-eq-ATOMIC : goal.returns-then-k-eq-ATOMIC

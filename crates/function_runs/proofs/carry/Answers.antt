@@ -3,7 +3,6 @@ use mathlib.Core.Path.{ap, ◌∙◌}
 use Prim.Native.Nat.{ℕ}
 use Rattle.model.specs.References.{target, moved}
 use Rattle.function_runs.proofs.Quiets.{becomes-made, becomes-other}
-use borrow.Author.Rules.{rules}
 use Rattle.function_runs.proofs.carry.Goals as goal
 
 pub returns-then-s-eq-TO : goal.returns-then-s-eq-TO

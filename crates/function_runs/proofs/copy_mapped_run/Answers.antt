@@ -2,9 +2,7 @@
 use Prim.Native.Nat.{◌-◌}
 use native.Mathlib.Omega.{arith}
 use borrow.Author.Tests.{not-false}
-use Rattle.function_builder.specs.Stacks.{went_by}
-use Rattle.function_runs.proofs.Quiets.{Onto, onto_begin, onto_done, onto_in, onto_fits, onto_next, numbers_low}
-use borrow.Author.Rules.{rules}
+use Rattle.function_runs.proofs.Quiets.{onto_begin, onto_done, onto_in, onto_fits, onto_next, numbers_low}
 use mathlib.Core.Bool.{not}
 use mathlib.Core.Path.{ap}
 use Rattle.function_runs.proofs.copy_mapped_run.Goals as goal

@@ -1,9 +1,7 @@
 -- `copy_mapped_run` meets its contract: at each turn one word more is written, until one imports something or there is no room.
 use Prim.Native.Nat.{◌-◌}
-use native.Mathlib.Omega.{arith}
-use borrow.Author.Tests.{not-false}
 use Rattle.function_builder.specs.Stacks.{went_by}
-use Rattle.function_runs.proofs.Quiets.{Onto, onto_begin, onto_done, onto_in, onto_fits, onto_next, numbers_low}
+use Rattle.function_runs.proofs.Quiets.{Onto}
 use Rattle.function_runs.proofs.copy_mapped_run.Given as goal
 
 abbrev pub invariant-loop-i : goal.invariant-loop-i

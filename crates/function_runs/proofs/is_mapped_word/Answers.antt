@@ -4,7 +4,6 @@ use mathlib.Core.Bool.{false≢true}
 use native.Mathlib.Omega.{arith}
 use borrow.Author.Tests.{not-true}
 use Rattle.function_runs.proofs.Quiets.{ne_zero, quiet-nothing, quiet_none, quiet_record, quiet_own, quiet-absent}
-use borrow.Author.Rules.{rules}
 use Rattle.function_runs.proofs.is_mapped_word.Goals as goal
 
 pub returns-then-s-eq-FROM : goal.returns-then-s-eq-FROM

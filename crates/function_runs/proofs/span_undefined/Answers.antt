@@ -3,7 +3,6 @@ use mathlib.Core.Path.{◌∙◌}
 use lib.ListN.{get_or}
 use Rattle.derive_state.proofs.Classes.{undefined-other, undefined-both}
 use Rattle.function_runs.proofs.Firsts.{first_some, first-none, zero_first}
-use borrow.Author.Rules.{rules}
 use Rattle.function_runs.proofs.span_undefined.Goals as goal
 
 pub returns-then-tags-i-ne-SPAN : goal.returns-then-tags-i-ne-SPAN

@@ -4,7 +4,6 @@ use Prim.Native.Nat.{ℕ}
 use lib.ListN.{get_or}
 use Rattle.model.specs.References.{target, moved}
 use Rattle.function_words.proofs.Words.{pushed_as}
-use borrow.Author.Rules.{rules}
 use Rattle.function_words.proofs.put_word.Goals as goal
 
 pub carried-w-requires : goal.carried-w-requires

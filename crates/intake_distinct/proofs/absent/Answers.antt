@@ -2,11 +2,9 @@
 use mathlib.Core.Path.{refl}
 use Prim.Native.Nat.{◌-◌}
 use native.Mathlib.Omega.{arith}
-use Rattle.model.specs.Module.{count_at}
 use Rattle.model.specs.Names.{absent}
-use Rattle.intake_distinct.specs.Listed.{listing, number_at}
-use Rattle.intake_distinct.proofs.Steps.{Over, over_from, absent_done, absent_found, absent-next}
-use borrow.Author.Rules.{rules}
+use Rattle.intake_distinct.specs.Listed.{number_at}
+use Rattle.intake_distinct.proofs.Steps.{over_from, absent_done, absent_found, absent-next}
 use Rattle.intake_distinct.proofs.absent.Goals as goal
 
 pub count-n-requires : goal.count-n-requires

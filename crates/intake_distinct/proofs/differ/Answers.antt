@@ -1,11 +1,8 @@
 -- `intake_distinct::differ` meets its contract: the invariant is that the names from number i on differ and have their marks.
 use native.Mathlib.Omega.{arith}
-use Rattle.model.specs.Module.{count_at}
 use Rattle.model.specs.Names.{differ}
-use Rattle.intake_distinct.specs.Listed.{name_at}
 use Rattle.intake_distinct.specs.Places.{hash}
-use Rattle.intake_distinct.proofs.Places.{names, Down, down_all, down_seen, down_fails, down_next, down_done}
-use borrow.Author.Rules.{rules}
+use Rattle.intake_distinct.proofs.Places.{names, down_all, down_seen, down_fails, down_next, down_done}
 use mathlib.Core.Bool.{not}
 use mathlib.Core.Path.{ap}
 use Rattle.intake_distinct.proofs.differ.Goals as goal

@@ -1,10 +1,9 @@
 -- `intake_distinct::differ` meets its contract: the invariant is that the names from number i on differ and have their marks.
-use native.Mathlib.Omega.{arith}
 use Rattle.model.specs.Module.{count_at}
 use Rattle.model.specs.Names.{differ}
 use Rattle.intake_distinct.specs.Listed.{name_at}
 use Rattle.intake_distinct.specs.Places.{hash}
-use Rattle.intake_distinct.proofs.Places.{names, Down, down_all, down_seen, down_fails, down_next, down_done}
+use Rattle.intake_distinct.proofs.Places.{names, Down}
 use Rattle.intake_distinct.proofs.differ.Given as goal
 
 abbrev pub invariant-loop-i : goal.invariant-loop-i

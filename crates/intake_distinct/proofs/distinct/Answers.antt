@@ -1,11 +1,7 @@
 -- `intake_distinct::distinct` meets its contract: the invariant is that those from number i on differ and have their marks.
 use native.Mathlib.Omega.{arith}
-use Rattle.model.specs.Module.{count_at}
-use Rattle.model.specs.Names.{distinct}
-use Rattle.intake_distinct.specs.Listed.{number_at}
 use Rattle.intake_distinct.specs.Places.{itself}
-use Rattle.intake_distinct.proofs.Places.{numbers, Down, down_all, down_seen, down_fails, down_next, down_done}
-use borrow.Author.Rules.{rules}
+use Rattle.intake_distinct.proofs.Places.{numbers, down_all, down_seen, down_fails, down_next, down_done}
 use mathlib.Core.Bool.{not}
 use mathlib.Core.Path.{ap}
 use Rattle.intake_distinct.proofs.distinct.Goals as goal

@@ -1,10 +1,9 @@
 -- `intake_distinct::distinct` meets its contract: the invariant is that those from number i on differ and have their marks.
-use native.Mathlib.Omega.{arith}
 use Rattle.model.specs.Module.{count_at}
 use Rattle.model.specs.Names.{distinct}
 use Rattle.intake_distinct.specs.Listed.{number_at}
 use Rattle.intake_distinct.specs.Places.{itself}
-use Rattle.intake_distinct.proofs.Places.{numbers, Down, down_all, down_seen, down_fails, down_next, down_done}
+use Rattle.intake_distinct.proofs.Places.{Down}
 use Rattle.intake_distinct.proofs.distinct.Given as goal
 
 abbrev pub invariant-loop-i : goal.invariant-loop-i

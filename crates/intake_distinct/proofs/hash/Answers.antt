@@ -1,7 +1,6 @@
 -- `intake_distinct::hash` meets its contract: the invariant is that the words from i on make the hash of all from the hash so far.
 use Prim.Native.Nat.{◌-◌}
-use Rattle.intake_distinct.proofs.Places.{Hashing, hash-all, hash-next, hash_done}
-use borrow.Author.Rules.{rules}
+use Rattle.intake_distinct.proofs.Places.{hash-all, hash-next, hash_done}
 use Rattle.intake_distinct.proofs.hash.Goals as goal
 
 pub loop-i-init : goal.loop-i-init

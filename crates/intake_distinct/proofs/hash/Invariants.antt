@@ -1,6 +1,6 @@
 -- `intake_distinct::hash` meets its contract: the invariant is that the words from i on make the hash of all from the hash so far.
 use Prim.Native.Nat.{◌-◌}
-use Rattle.intake_distinct.proofs.Places.{Hashing, hash-all, hash-next, hash_done}
+use Rattle.intake_distinct.proofs.Places.{Hashing}
 use Rattle.intake_distinct.proofs.hash.Given as goal
 
 abbrev pub invariant-loop-i : goal.invariant-loop-i

@@ -1,7 +1,6 @@
 -- `intake_distinct::is_name` meets its contract: names of other lengths differ; the rest is word by word.
 use native.Mathlib.Omega.{arith}
 use Rattle.intake_distinct.proofs.Steps.{names_inside, name_rising, name_other, name_within_b, name_same}
-use borrow.Author.Rules.{rules}
 use Rattle.intake_distinct.proofs.is_name.Goals as goal
 
 pub place-b-requires : goal.place-b-requires

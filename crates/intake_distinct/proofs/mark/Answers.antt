@@ -1,6 +1,5 @@
 -- `intake_distinct::mark` meets its contract: a mark that is there stays, the first of a place is the print, and after another print it is SEVERAL.
 use Rattle.intake_distinct.proofs.Places.{mark_own, mark_several, mark-first, mark-more}
-use borrow.Author.Rules.{rules}
 use Rattle.intake_distinct.proofs.mark.Goals as goal
 
 pub returns-then-old-own : goal.returns-then-old-own

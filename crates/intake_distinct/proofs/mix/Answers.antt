@@ -1,6 +1,5 @@
 -- `intake_distinct::mix` meets its contract: it computes what the definition does.
 use Rattle.intake_distinct.proofs.Places.{mix_is}
-use borrow.Author.Rules.{rules}
 use Rattle.intake_distinct.proofs.mix.Goals as goal
 
 pub returns : goal.returns

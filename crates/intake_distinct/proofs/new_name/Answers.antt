@@ -4,7 +4,6 @@ use native.Mathlib.Omega.{arith}
 use Rattle.intake_distinct.specs.Places.{hash}
 use Rattle.intake_distinct.proofs.Steps.{names_inside, part-rising, part_fits, part_is}
 use Rattle.intake_distinct.proofs.Places.{names, new-unmarked, new_scanned}
-use borrow.Author.Rules.{rules}
 use Rattle.intake_distinct.proofs.new_name.Goals as goal
 
 pub end_of-e-requires : goal.end_of-e-requires

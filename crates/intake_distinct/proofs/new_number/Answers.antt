@@ -1,7 +1,6 @@
 -- `intake_distinct::new_number` meets its contract: a number whose mark is not there is none of the later ones; any other is looked for among them.
 use mathlib.Core.Path.{◌∙◌}
 use Rattle.intake_distinct.proofs.Places.{numbers, new-unmarked, new_scanned}
-use borrow.Author.Rules.{rules}
 use Rattle.intake_distinct.proofs.new_number.Goals as goal
 
 pub returns-then-mark : goal.returns-then-mark

@@ -1,7 +1,6 @@
 -- `intake_distinct::number` meets its contract: the word at the place.
 use mathlib.Core.Path.{refl}
 use Rattle.intake_distinct.proofs.Steps.{number_is}
-use borrow.Author.Rules.{rules}
 use Rattle.intake_distinct.proofs.number.Goals as goal
 
 pub returns : goal.returns

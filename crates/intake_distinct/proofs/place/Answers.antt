@@ -1,6 +1,5 @@
 -- `intake_distinct::place` meets its contract: the place is in the words, as `Placed` says.
 use Rattle.intake_distinct.proofs.Steps.{pair-placed, record_placed}
-use borrow.Author.Rules.{rules}
 use Rattle.intake_distinct.proofs.place.Goals as goal
 
 pub returns-then-k-eq-SPECIAL : goal.returns-then-k-eq-SPECIAL

@@ -1,9 +1,6 @@
 -- `intake_distinct::same` meets its contract: the invariant is that the words from i on are equal where all are.
-use Prim.Native.Nat.{◌-◌, ◌+◌}
-use lib.Seq.{slice}
-use Rattle.model.specs.Names.{same}
-use Rattle.intake_distinct.proofs.Steps.{Both, both-all, both-none, both_fails, both-next}
-use borrow.Author.Rules.{rules}
+use Prim.Native.Nat.{◌-◌}
+use Rattle.intake_distinct.proofs.Steps.{both-all, both-none, both_fails, both-next}
 use Rattle.intake_distinct.proofs.same.Goals as goal
 
 pub loop-i-init : goal.loop-i-init

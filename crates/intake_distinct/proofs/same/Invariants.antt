@@ -2,7 +2,7 @@
 use Prim.Native.Nat.{◌-◌, ◌+◌}
 use lib.Seq.{slice}
 use Rattle.model.specs.Names.{same}
-use Rattle.intake_distinct.proofs.Steps.{Both, both-all, both-none, both_fails, both-next}
+use Rattle.intake_distinct.proofs.Steps.{Both}
 use Rattle.intake_distinct.proofs.same.Given as goal
 
 abbrev pub invariant-loop-i : goal.invariant-loop-i

@@ -2,12 +2,10 @@
 use mathlib.Core.Path.{refl}
 use Prim.Native.Nat.{◌-◌, ◌+◌}
 use native.Mathlib.Omega.{arith}
-use Rattle.model.specs.Module.{count_at}
 use lib.Seq.{slice}
 use Rattle.model.specs.Names.{unlike}
-use Rattle.intake_distinct.specs.Listed.{listing, name_at}
-use Rattle.intake_distinct.proofs.Steps.{Over, over_from, unlike_done, unlike_found, unlike-next}
-use borrow.Author.Rules.{rules}
+use Rattle.intake_distinct.specs.Listed.{name_at}
+use Rattle.intake_distinct.proofs.Steps.{over_from, unlike_done, unlike_found, unlike-next}
 use Rattle.intake_distinct.proofs.unlike.Goals as goal
 
 pub loop-i-init : goal.loop-i-init

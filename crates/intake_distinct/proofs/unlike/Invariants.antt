@@ -1,12 +1,10 @@
 -- `intake_distinct::unlike` meets its contract: the invariant is that what is left from name i on says what the whole says.
-use mathlib.Core.Path.{refl}
 use Prim.Native.Nat.{◌-◌, ◌+◌}
-use native.Mathlib.Omega.{arith}
 use Rattle.model.specs.Module.{count_at}
 use lib.Seq.{slice}
 use Rattle.model.specs.Names.{unlike}
 use Rattle.intake_distinct.specs.Listed.{listing, name_at}
-use Rattle.intake_distinct.proofs.Steps.{Over, over_from, unlike_done, unlike_found, unlike-next}
+use Rattle.intake_distinct.proofs.Steps.{Over}
 use Rattle.intake_distinct.proofs.unlike.Given as goal
 
 abbrev pub invariant-loop-i : goal.invariant-loop-i

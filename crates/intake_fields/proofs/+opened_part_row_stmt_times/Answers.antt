@@ -1,11 +1,9 @@
 -- `intake_fields::+opened_part_row_stmt_times` meets its contract.
-use Prim.Native.Nat.{◌*◌, ◌+◌, ◌-◌}
+use Prim.Native.Nat.{◌+◌, ◌-◌}
 use native.Mathlib.Omega.{arith}
 use Rattle.intake_fields.proofs.Rows.{rows_few}
-use Rattle.intake_fields.specs.Rows.{ROWS, SIZE, KIND_ROW}
-use Rattle.intake_fields.proofs.Steps.{opened-short, opened_over, opened-unknown, opened_in, opened_rows, stmt_short, stmt_misfit, stmt_strange, stmt_next, stmt_wrong, part-text, part-operands, part_stmt, part_block, part-other, part_deep, Rowing, row-begin, row_done, row_symbol, row_large, row-short, row_plain, row_misfit, row_strange, row-again, Timing, times-begin, times_done, times_misfit, times_strange, times-next}
-use Prim.Native.Nat.{ℕ, ◌<◌}
-use borrow.Fn.PlainCycle.{Measures, is, falls, and}
+use Rattle.intake_fields.specs.Rows.{SIZE, KIND_ROW}
+use Rattle.intake_fields.proofs.Steps.{opened-short, opened_over, opened-unknown, opened_in, opened_rows, stmt_short, stmt_misfit, stmt_strange, stmt_next, stmt_wrong, part-text, part-operands, part_stmt, part_block, part-other, part_deep, row-begin, row_done, row_symbol, row_large, row-short, row_plain, row_misfit, row_strange, row-again, times-begin, times_done, times_misfit, times_strange, times-next}
 use borrow.Author.Rules.{rules}
 use Rattle.intake_fields.proofs.+opened_part_row_stmt_times.Goals as goal
 

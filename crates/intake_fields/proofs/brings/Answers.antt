@@ -2,7 +2,6 @@ use Rattle.intake_fields.specs.Rows.{SIZE}
 use mathlib.Core.Path.{refl}
 use native.Mathlib.Omega.{arith}
 use Rattle.intake_fields.proofs.Rows.{brings_over, brings_list, brings_block, brings_cases, brings_none, in_group, brings_row}
-use borrow.Author.Rules.{rules}
 use Rattle.intake_fields.proofs.brings.Goals as goal
 
 pub bounds-table-k : goal.bounds-table-k

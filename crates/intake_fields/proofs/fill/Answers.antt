@@ -1,5 +1,5 @@
 use Prim.Native.Nat.{◌-◌}
-use Rattle.intake_fields.proofs.Walk.{Filling, fill_misfit, fill_begin, fill_next, fill_done}
+use Rattle.intake_fields.proofs.Walk.{fill_misfit, fill_begin, fill_next, fill_done}
 use borrow.Author.Rules.{rules}
 use Rattle.intake_fields.proofs.fill.Goals as goal
 

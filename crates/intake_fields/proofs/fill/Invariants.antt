@@ -1,5 +1,5 @@
 use Prim.Native.Nat.{◌-◌}
-use Rattle.intake_fields.proofs.Walk.{Filling, fill_misfit, fill_begin, fill_next, fill_done}
+use Rattle.intake_fields.proofs.Walk.{Filling}
 use Rattle.intake_fields.proofs.fill.Given as goal
 
 abbrev pub invariant-loop-i : goal.invariant-loop-i

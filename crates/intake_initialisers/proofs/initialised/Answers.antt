@@ -2,7 +2,6 @@ use Prim.Native.Nat.{ℕ}
 use native.Mathlib.Omega.{arith}
 use lib.ListN.{replicate, length-replicate}
 use Rattle.intake_initialisers.proofs.Reaching.{init_locals, init_exprs, init-after, init-end, init-count, init-room, init-empty, init_few, init-none, init_reach, init_done}
-use borrow.Author.Rules.{rules}
 use Rattle.intake_initialisers.proofs.initialised.Goals as goal
 
 pub offset_bounds-words-locals : goal.offset_bounds-words-locals

@@ -1,5 +1,4 @@
 use Rattle.intake_initialisers.proofs.Visiting.{operand_expr, operand_opt, operand-none}
-use borrow.Author.Rules.{rules}
 use Rattle.intake_initialisers.proofs.operand.Goals as goal
 
 pub returns-then-s-eq-EXPR : goal.returns-then-s-eq-EXPR

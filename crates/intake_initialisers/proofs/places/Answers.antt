@@ -1,5 +1,5 @@
 use Prim.Native.Nat.{◌-◌}
-use Rattle.intake_initialisers.proofs.Visiting.{Finding, places-begin, places_last_room, places-last, places-room, places-next, places_skip, places_done}
+use Rattle.intake_initialisers.proofs.Visiting.{places-begin, places_last_room, places-last, places-room, places-next, places_skip, places_done}
 use borrow.Author.Rules.{rules}
 use Rattle.intake_initialisers.proofs.places.Goals as goal
 

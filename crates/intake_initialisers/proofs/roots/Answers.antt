@@ -1,5 +1,5 @@
 use Prim.Native.Nat.{◌-◌}
-use Rattle.intake_initialisers.proofs.Visiting.{Rooting, roots-begin, roots-next, roots_done}
+use Rattle.intake_initialisers.proofs.Visiting.{roots-begin, roots-next, roots_done}
 use borrow.Author.Rules.{rules}
 use Rattle.intake_initialisers.proofs.roots.Goals as goal
 

@@ -1,5 +1,5 @@
 use Prim.Native.Nat.{◌-◌}
-use Rattle.intake_initialisers.proofs.Visiting.{Rooting, roots-begin, roots-next, roots_done}
+use Rattle.intake_initialisers.proofs.Visiting.{Rooting}
 use Rattle.intake_initialisers.proofs.roots.Given as goal
 
 abbrev pub invariant-loop-i : goal.invariant-loop-i

@@ -1,5 +1,5 @@
 use Prim.Native.Nat.{◌-◌}
-use Rattle.intake_initialisers.proofs.Visiting.{Spreading, spread_begin, spread_next, spread_done}
+use Rattle.intake_initialisers.proofs.Visiting.{spread_begin, spread_next, spread_done}
 use borrow.Author.Rules.{rules}
 use Rattle.intake_initialisers.proofs.spread.Goals as goal
 

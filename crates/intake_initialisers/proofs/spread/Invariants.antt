@@ -1,5 +1,5 @@
 use Prim.Native.Nat.{◌-◌}
-use Rattle.intake_initialisers.proofs.Visiting.{Spreading, spread_begin, spread_next, spread_done}
+use Rattle.intake_initialisers.proofs.Visiting.{Spreading}
 use Rattle.intake_initialisers.proofs.spread.Given as goal
 
 abbrev pub invariant-loop-i : goal.invariant-loop-i

@@ -1,9 +1,7 @@
 -- `intake_names::expressions` meets its contract: the invariant is that what is left from word i on, with the class before it and the marks, says what the whole says.
 use Prim.Native.Nat.{◌-◌}
 use native.Mathlib.Omega.{arith}
-use Rattle.model.specs.Between.{between}
-use Rattle.intake_names.specs.Passes.{NONE, marking}
-use Rattle.intake_names.proofs.Steps.{Marked, marked_all, marked-none, unnamed_fails, list_next, other-next, in_marks, twice, mark-next}
+use Rattle.intake_names.proofs.Steps.{marked_all, marked-none, unnamed_fails, list_next, other-next, in_marks, twice, mark-next}
 use borrow.Author.Rules.{rules}
 use Rattle.intake_names.proofs.expressions.Goals as goal
 

@@ -2,7 +2,6 @@
 use native.Mathlib.Omega.{arith}
 use Rattle.theory_image.specs.Betweens.{header_stretch}
 use Rattle.intake_names.proofs.Answer.{functions_placed, entries_placed, pairs-placed, spelled, few_functions, few_entries, functions_present, entries_present, functions_named_lem, entries_named_lem, names_differ, functions_distinct, keys_distinct, fail_1, fail_2, fail_3, fail_4, fail_5, fail_6, last}
-use borrow.Author.Rules.{rules}
 use mathlib.Core.Bool.{not}
 use mathlib.Core.Path.{ap}
 use Rattle.intake_names.proofs.named.Goals as goal

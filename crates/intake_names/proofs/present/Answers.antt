@@ -2,12 +2,10 @@
 use mathlib.Core.Path.{refl}
 use Prim.Native.Nat.{◌-◌}
 use native.Mathlib.Omega.{arith}
-use Rattle.model.specs.Module.{count_at}
 use Rattle.model.specs.Names.{present}
-use Rattle.intake_distinct.specs.Listed.{listing, number_at}
-use Rattle.intake_distinct.proofs.Steps.{Over, over_all}
+use Rattle.intake_distinct.specs.Listed.{number_at}
+use Rattle.intake_distinct.proofs.Steps.{over_all}
 use Rattle.intake_names.proofs.Steps.{present_done, present-none, present-next}
-use borrow.Author.Rules.{rules}
 use Rattle.intake_names.proofs.present.Goals as goal
 
 pub count-n-requires : goal.count-n-requires

@@ -1,12 +1,9 @@
 -- `intake_names::present` meets its contract: the invariant is that what is left from number i on says what the whole says.
-use mathlib.Core.Path.{refl}
 use Prim.Native.Nat.{◌-◌}
-use native.Mathlib.Omega.{arith}
 use Rattle.model.specs.Module.{count_at}
 use Rattle.model.specs.Names.{present}
 use Rattle.intake_distinct.specs.Listed.{listing, number_at}
-use Rattle.intake_distinct.proofs.Steps.{Over, over_all}
-use Rattle.intake_names.proofs.Steps.{present_done, present-none, present-next}
+use Rattle.intake_distinct.proofs.Steps.{Over}
 use Rattle.intake_names.proofs.present.Given as goal
 
 abbrev pub invariant-loop-i : goal.invariant-loop-i

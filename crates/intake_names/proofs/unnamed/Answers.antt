@@ -1,6 +1,5 @@
 -- `intake_names::unnamed` meets its contract: a case of the test for each return.
 use Rattle.intake_names.proofs.Steps.{unnamed-tested, unnamed-class, unnamed-before}
-use borrow.Author.Rules.{rules}
 use Rattle.intake_names.proofs.unnamed.Goals as goal
 
 pub returns-then-s-eq-NAME : goal.returns-then-s-eq-NAME

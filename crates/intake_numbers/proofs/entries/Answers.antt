@@ -1,6 +1,6 @@
 use native.Mathlib.Omega.{arith}
 use Prim.Native.Nat.{◌-◌}
-use Rattle.intake_numbers.proofs.Framing.{InEntries, entries_begin, entries_in, entries_done, entries_framed, entries_over, entries_next, entries_small}
+use Rattle.intake_numbers.proofs.Framing.{entries_begin, entries_in, entries_done, entries_framed, entries_over, entries_next, entries_small}
 use borrow.Author.Rules.{rules}
 use mathlib.Core.Bool.{not}
 use mathlib.Core.Path.{ap}

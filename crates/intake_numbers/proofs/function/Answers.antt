@@ -3,7 +3,6 @@ use mathlib.Core.Path.{refl, ap}
 use Rattle.base_views.proofs.Places.{arguments_inside}
 use native.Mathlib.Omega.{arith}
 use Rattle.intake_numbers.proofs.Framing.{function-inside, function_long, function-rising, function_small, function-listed, function_over, function_done}
-use borrow.Author.Rules.{rules}
 use mathlib.Core.Bool.{not}
 use Rattle.intake_numbers.proofs.function.Goals as goal
 

@@ -1,5 +1,5 @@
 use Prim.Native.Nat.{◌-◌}
-use Rattle.intake_numbers.proofs.Framing.{InFunctions, functions_begin, functions_in_lem, functions_done, functions_framed, functions_over, functions_next}
+use Rattle.intake_numbers.proofs.Framing.{InFunctions}
 use Rattle.intake_numbers.proofs.functions.Given as goal
 
 abbrev pub invariant-loop-j : goal.invariant-loop-j

@@ -1,6 +1,6 @@
 use native.Mathlib.Omega.{arith}
 use Prim.Native.Nat.{◌-◌}
-use Rattle.intake_numbers.proofs.Tabling.{Kinding, kinds_begin, kinds_done, kinds_record, kinds_inside, kinds_over, kinds_next}
+use Rattle.intake_numbers.proofs.Tabling.{kinds_begin, kinds_done, kinds_record, kinds_inside, kinds_over, kinds_next}
 use borrow.Author.Rules.{rules}
 use Rattle.intake_numbers.proofs.kinds.Goals as goal
 

@@ -1,6 +1,5 @@
-use native.Mathlib.Omega.{arith}
 use Prim.Native.Nat.{◌-◌}
-use Rattle.intake_numbers.proofs.Tabling.{Kinding, kinds_begin, kinds_done, kinds_record, kinds_inside, kinds_over, kinds_next}
+use Rattle.intake_numbers.proofs.Tabling.{Kinding}
 use Rattle.intake_numbers.proofs.kinds.Given as goal
 
 abbrev pub invariant-loop-j : goal.invariant-loop-j

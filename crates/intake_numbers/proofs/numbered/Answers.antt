@@ -1,5 +1,4 @@
 use Rattle.intake_numbers.proofs.Framing.{numbered-tables, numbered_kinds, numbered_functions, numbered_entries}
-use borrow.Author.Rules.{rules}
 use mathlib.Core.Bool.{not}
 use mathlib.Core.Path.{ap}
 use Rattle.intake_numbers.proofs.numbered.Goals as goal

@@ -1,5 +1,5 @@
 use Prim.Native.Nat.{◌-◌}
-use Rattle.intake_ranges.proofs.Ranging.{Leaves, checked-begin, checked_done, checked_over, checked-plain, checked_falls, checked_emit}
+use Rattle.intake_ranges.proofs.Ranging.{checked-begin, checked_done, checked_over, checked-plain, checked_falls, checked_emit}
 use borrow.Author.Rules.{rules}
 use Rattle.intake_ranges.proofs.function_in_range.Goals as goal
 

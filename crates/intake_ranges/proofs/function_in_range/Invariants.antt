@@ -1,5 +1,5 @@
 use Prim.Native.Nat.{◌-◌}
-use Rattle.intake_ranges.proofs.Ranging.{Leaves, checked-begin, checked_done, checked_over, checked-plain, checked_falls, checked_emit}
+use Rattle.intake_ranges.proofs.Ranging.{Leaves}
 use Rattle.intake_ranges.proofs.function_in_range.Given as goal
 
 abbrev pub invariant-loop-i : goal.invariant-loop-i

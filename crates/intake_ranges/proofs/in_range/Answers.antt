@@ -1,5 +1,5 @@
 use Prim.Native.Nat.{◌-◌}
-use Rattle.intake_ranges.proofs.Ranging.{Left, ranged_begin, ranged_done, ranged_over, ranged_next}
+use Rattle.intake_ranges.proofs.Ranging.{ranged_begin, ranged_done, ranged_over, ranged_next}
 use borrow.Author.Rules.{rules}
 use Rattle.intake_ranges.proofs.in_range.Goals as goal
 

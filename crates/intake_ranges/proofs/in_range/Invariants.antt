@@ -1,5 +1,5 @@
 use Prim.Native.Nat.{◌-◌}
-use Rattle.intake_ranges.proofs.Ranging.{Left, ranged_begin, ranged_done, ranged_over, ranged_next}
+use Rattle.intake_ranges.proofs.Ranging.{Left}
 use Rattle.intake_ranges.proofs.in_range.Given as goal
 
 abbrev pub invariant-loop-i : goal.invariant-loop-i

@@ -1,6 +1,6 @@
 use native.Mathlib.Omega.{arith}
 use Prim.Native.Nat.{◌-◌}
-use Rattle.intake_statements.proofs.Scopes.{Emitting, emit_begin, emit_next, emit_wrong, emit_done}
+use Rattle.intake_statements.proofs.Scopes.{emit_begin, emit_next, emit_wrong, emit_done}
 use borrow.Author.Rules.{rules}
 use Rattle.intake_statements.proofs.emit.Goals as goal
 

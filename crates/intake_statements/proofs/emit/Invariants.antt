@@ -1,6 +1,5 @@
-use native.Mathlib.Omega.{arith}
 use Prim.Native.Nat.{◌-◌}
-use Rattle.intake_statements.proofs.Scopes.{Emitting, emit_begin, emit_next, emit_wrong, emit_done}
+use Rattle.intake_statements.proofs.Scopes.{Emitting}
 use Rattle.intake_statements.proofs.emit.Given as goal
 
 abbrev pub invariant-loop-e : goal.invariant-loop-e

@@ -1,6 +1,5 @@
 use Prim.Native.Nat.{◌-◌}
-use Rattle.intake_statements.specs.Lasts.{visible_at}
-use Rattle.intake_statements.proofs.Leaves.{Reading, reads-begin, reads_wrong, reads-next, reads_done}
+use Rattle.intake_statements.proofs.Leaves.{reads-begin, reads_wrong, reads-next, reads_done}
 use borrow.Author.Rules.{rules}
 use Rattle.intake_statements.proofs.reads.Goals as goal
 

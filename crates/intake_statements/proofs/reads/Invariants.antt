@@ -1,6 +1,6 @@
 use Prim.Native.Nat.{◌-◌}
 use Rattle.intake_statements.specs.Lasts.{visible_at}
-use Rattle.intake_statements.proofs.Leaves.{Reading, reads-begin, reads_wrong, reads-next, reads_done}
+use Rattle.intake_statements.proofs.Leaves.{Reading}
 use Rattle.intake_statements.proofs.reads.Given as goal
 
 abbrev pub invariant-loop-i : goal.invariant-loop-i

@@ -1,5 +1,5 @@
 use Prim.Native.Nat.{◌-◌}
-use Rattle.intake_statements.proofs.Leaves.{Looking, look-begin, look_result, look-optional, look-next, look_done}
+use Rattle.intake_statements.proofs.Leaves.{look-begin, look_result, look-optional, look-next, look_done}
 use borrow.Author.Rules.{rules}
 use Rattle.intake_statements.proofs.result_of.Goals as goal
 

@@ -1,5 +1,5 @@
 use Prim.Native.Nat.{◌-◌}
-use Rattle.intake_statements.proofs.Leaves.{Looking, look-begin, look_result, look-optional, look-next, look_done}
+use Rattle.intake_statements.proofs.Leaves.{Looking}
 use Rattle.intake_statements.proofs.result_of.Given as goal
 
 abbrev pub invariant-loop-i : goal.invariant-loop-i

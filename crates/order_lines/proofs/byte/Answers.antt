@@ -4,7 +4,6 @@ use native.Mathlib.Omega.{arith}
 use Prim.Native.Nat.{ℕ, ◌%◌, ◌<◌}
 use mathlib.Core.Path.{◌≡◌}
 use Rattle.order_lines.proofs.Bytes.{byte_is}
-use borrow.Author.Rules.{rules}
 use Rattle.order_lines.proofs.byte.Goals as goal
 
 last : (k : ℕ) → (k % 4 ≡ 0 → ⊥) → (k % 4 ≡ 1 → ⊥) → (k % 4 ≡ 2 → ⊥) → k % 4 ≡ 3

@@ -2,7 +2,6 @@ use mathlib.Core.Path.{◌∙◌}
 use native.Mathlib.Omega.{arith}
 use Rattle.order_lines.proofs.Bytes.{puts_long}
 use Rattle.order_lines.proofs.Joining.{decimal_long, headed-end}
-use borrow.Author.Rules.{rules}
 use Rattle.order_lines.proofs.head.Goals as goal
 
 pub put_number-b-requires : goal.put_number-b-requires

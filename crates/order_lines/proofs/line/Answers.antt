@@ -1,6 +1,5 @@
 -- `order_lines::line` meets its contract: its pieces are put one after the other.
 use Rattle.order_lines.proofs.Joining.{numbers_fit, name_room, last_fits, last_long, line_end}
-use borrow.Author.Rules.{rules}
 use Rattle.order_lines.proofs.line.Goals as goal
 
 pub put_numbers-a-requires : goal.put_numbers-a-requires

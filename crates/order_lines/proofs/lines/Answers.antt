@@ -1,7 +1,6 @@
 use native.Mathlib.Omega.{arith}
-use Rattle.order_lines.proofs.Joining.{Going, lines_begin, line_asks, lines_again, lines_end}
+use Rattle.order_lines.proofs.Joining.{lines_begin, line_asks, lines_again, lines_end}
 use Prim.Native.Nat.{◌-◌}
-use borrow.Author.Rules.{rules}
 use Rattle.order_lines.proofs.lines.Goals as goal
 
 pub loop-i-init : goal.loop-i-init

@@ -1,5 +1,4 @@
-use native.Mathlib.Omega.{arith}
-use Rattle.order_lines.proofs.Joining.{Going, lines_begin, line_asks, lines_again, lines_end}
+use Rattle.order_lines.proofs.Joining.{Going}
 use Prim.Native.Nat.{◌-◌}
 use Rattle.order_lines.proofs.lines.Given as goal
 

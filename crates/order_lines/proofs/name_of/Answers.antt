@@ -1,7 +1,6 @@
 -- `order_lines::name_of` meets its contract: the first word of a function is its name.
 use Rattle.order_lines.proofs.Joining.{word_some, slot_is, place_is}
 use native.Mathlib.Omega.{arith}
-use borrow.Author.Rules.{rules}
 use Rattle.order_lines.proofs.name_of.Goals as goal
 
 pub overflow_sub-w : goal.overflow_sub-w

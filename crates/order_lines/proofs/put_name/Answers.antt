@@ -1,9 +1,7 @@
 -- `order_lines::put_name` meets its contract. The invariant: what is left of the text, put too, is the whole.
 use native.Mathlib.Omega.{arith}
 use Prim.Native.Nat.{◌-◌}
-use Rattle.order_lines.specs.Lines.{text_at}
-use Rattle.order_lines.proofs.Bytes.{Putting, begin, inside, name_again, name_finish}
-use borrow.Author.Rules.{rules}
+use Rattle.order_lines.proofs.Bytes.{begin, inside, name_again, name_finish}
 use Rattle.order_lines.proofs.put_name.Goals as goal
 
 pub loop-i-init : goal.loop-i-init

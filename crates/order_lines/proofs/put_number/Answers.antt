@@ -1,6 +1,5 @@
 -- `order_lines::put_number` meets its contract: one, two or three digits.
 use Rattle.order_lines.proofs.Bytes.{puts_one, puts_two, puts_three}
-use borrow.Author.Rules.{rules}
 use Rattle.order_lines.proofs.put_number.Goals as goal
 
 pub returns-then-x-lt10 : goal.returns-then-x-lt10

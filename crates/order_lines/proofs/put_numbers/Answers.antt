@@ -3,7 +3,6 @@ use mathlib.Core.Path.{◌∙◌}
 use native.Mathlib.Omega.{arith}
 use Rattle.order_lines.proofs.Bytes.{puts_long}
 use Rattle.order_lines.proofs.Joining.{decimal_long, numbers_long, numbers-end}
-use borrow.Author.Rules.{rules}
 use Rattle.order_lines.proofs.put_numbers.Goals as goal
 
 pub put_number-a-requires : goal.put_number-a-requires

@@ -1,9 +1,7 @@
 use native.Mathlib.Omega.{arith}
 use mathlib.Core.Path.{refl}
-use Rattle.order_lines.proofs.Bytes.{Putting, begin, again, finish}
+use Rattle.order_lines.proofs.Bytes.{begin, again, finish}
 use Prim.Native.Nat.{◌-◌}
-use lib.ListN.{length}
-use borrow.Author.Rules.{rules}
 use Rattle.order_lines.proofs.put_text.Goals as goal
 
 pub loop-i-init : goal.loop-i-init

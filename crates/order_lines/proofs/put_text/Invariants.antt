@@ -1,6 +1,4 @@
-use native.Mathlib.Omega.{arith}
-use mathlib.Core.Path.{refl}
-use Rattle.order_lines.proofs.Bytes.{Putting, begin, again, finish}
+use Rattle.order_lines.proofs.Bytes.{Putting}
 use Prim.Native.Nat.{◌-◌}
 use lib.ListN.{length}
 use Rattle.order_lines.proofs.put_text.Given as goal

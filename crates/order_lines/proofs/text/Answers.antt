@@ -1,6 +1,5 @@
 -- `order_lines::text` meets its contract: the first line, and the lines.
 use Rattle.order_lines.proofs.Joining.{text_lines, text-end}
-use borrow.Author.Rules.{rules}
 use Rattle.order_lines.proofs.text.Goals as goal
 
 pub lines-requires : goal.lines-requires

@@ -1,6 +1,5 @@
 use Prim.Native.Nat.{◌-◌}
-use lib.ListN.{length}
-use Rattle.redirect_calls.proofs.Leaves.{Omits, omits_begin, omits_yes, omits_next, omits_done}
+use Rattle.redirect_calls.proofs.Leaves.{omits_begin, omits_yes, omits_next, omits_done}
 use borrow.Author.Rules.{rules}
 use Rattle.redirect_calls.proofs.omitted.Goals as goal
 

@@ -1,6 +1,6 @@
 use Prim.Native.Nat.{◌-◌}
 use lib.ListN.{length}
-use Rattle.redirect_calls.proofs.Leaves.{Omits, omits_begin, omits_yes, omits_next, omits_done}
+use Rattle.redirect_calls.proofs.Leaves.{Omits}
 use Rattle.redirect_calls.proofs.omitted.Given as goal
 
 abbrev pub invariant-loop-i : goal.invariant-loop-i

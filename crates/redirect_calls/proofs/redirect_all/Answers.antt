@@ -1,5 +1,4 @@
 use Rattle.redirect_calls.proofs.Turning.{all-turns, all_asks}
-use borrow.Author.Rules.{rules}
 use Rattle.redirect_calls.proofs.redirect_all.Goals as goal
 
 pub redirect_fn-requires : goal.redirect_fn-requires

@@ -1,6 +1,5 @@
 use Prim.Native.Nat.{◌-◌}
-use Rattle.model.specs.Redirect.{redirecting}
-use Rattle.redirect_calls.proofs.Pass.{Left, begin, finish, next}
+use Rattle.redirect_calls.proofs.Pass.{begin, finish, next}
 use borrow.Author.Rules.{rules}
 use Rattle.redirect_calls.proofs.redirect_fn.Goals as goal
 

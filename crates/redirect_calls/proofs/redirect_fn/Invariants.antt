@@ -1,6 +1,6 @@
 use Prim.Native.Nat.{◌-◌}
 use Rattle.model.specs.Redirect.{redirecting}
-use Rattle.redirect_calls.proofs.Pass.{Left, begin, finish, next}
+use Rattle.redirect_calls.proofs.Pass.{Left}
 use Rattle.redirect_calls.proofs.redirect_fn.Given as goal
 
 abbrev pub invariant-loop-i : goal.invariant-loop-i

@@ -1,6 +1,5 @@
 use Prim.Native.Nat.{◌-◌}
-use Rattle.redirect_calls.proofs.Turning.{Turning, turning_begin, turning_asks, turning_next, turning_done}
-use borrow.Author.Rules.{rules}
+use Rattle.redirect_calls.proofs.Turning.{turning_begin, turning_asks, turning_next, turning_done}
 use Rattle.redirect_calls.proofs.redirect_functions.Goals as goal
 
 pub loop-j-init : goal.loop-j-init

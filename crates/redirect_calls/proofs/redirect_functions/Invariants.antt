@@ -1,5 +1,5 @@
 use Prim.Native.Nat.{◌-◌}
-use Rattle.redirect_calls.proofs.Turning.{Turning, turning_begin, turning_asks, turning_next, turning_done}
+use Rattle.redirect_calls.proofs.Turning.{Turning}
 use Rattle.redirect_calls.proofs.redirect_functions.Given as goal
 
 abbrev pub invariant-loop-j : goal.invariant-loop-j

@@ -2,7 +2,6 @@ use borrow.Author.Tests.{not-true, not-false}
 use native.Mathlib.Omega.{arith}
 use Rattle.redirect_calls.proofs.Places.{start_in}
 use Rattle.redirect_calls.proofs.Turning.{one-stays, one-turns, one_asks}
-use borrow.Author.Rules.{rules}
 use mathlib.Core.Bool.{not}
 use mathlib.Core.Path.{ap}
 use Rattle.redirect_calls.proofs.redirect_one.Goals as goal

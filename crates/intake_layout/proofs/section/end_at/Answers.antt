@@ -1,5 +1,4 @@
 use Rattle.intake_layout.proofs.Header.{end_at_last, end_at_next}
-use borrow.Author.Rules.{rules}
 use Rattle.intake_layout.proofs.section.end_at.Goals as goal
 
 pub returns-then-k-eq8 : goal.returns-then-k-eq8

@@ -1,5 +1,4 @@
 use Rattle.intake_layout.proofs.Header.{end_of_some, end_of_none}
-use borrow.Author.Rules.{rules}
 use Rattle.intake_layout.proofs.section.end_of.Goals as goal
 
 pub returns-then-j-n : goal.returns-then-j-n

@@ -1,5 +1,5 @@
 use Prim.Native.Nat.{◌-◌}
-use Rattle.intake_layout.proofs.Extents.{Recording, records-begin, records_bad, records_fits, records_strange, records-short, records-odd, records_done}
+use Rattle.intake_layout.proofs.Extents.{records-begin, records_bad, records_fits, records_strange, records-short, records-odd, records_done}
 use borrow.Author.Rules.{rules}
 use Rattle.intake_layout.proofs.section.records.Goals as goal
 

@@ -1,7 +1,7 @@
 use Rattle.intake_fields.specs.Rows.{SIZE}
 use native.Mathlib.Omega.{arith}
 use Prim.Native.Nat.{◌-◌}
-use Rattle.intake_layout.proofs.Sections.{Sectioning, sections-begin, sections_forth, sections-within, sections-total, sections-row, sections_bad, sections_fits, sections_strange, last_forth, last_bad, last_strange, last-odd, last_fits}
+use Rattle.intake_layout.proofs.Sections.{sections-begin, sections_forth, sections-within, sections-total, sections-row, sections_bad, sections_fits, sections_strange, last_forth, last_bad, last_strange, last-odd, last_fits}
 use borrow.Author.Rules.{rules}
 use Rattle.intake_layout.proofs.section.sections.Goals as goal
 

@@ -1,7 +1,5 @@
-use Rattle.intake_fields.specs.Rows.{SIZE}
-use native.Mathlib.Omega.{arith}
 use Prim.Native.Nat.{◌-◌}
-use Rattle.intake_layout.proofs.Sections.{Sectioning, sections-begin, sections_forth, sections-within, sections-total, sections-row, sections_bad, sections_fits, sections_strange, last_forth, last_bad, last_strange, last-odd, last_fits}
+use Rattle.intake_layout.proofs.Sections.{Sectioning}
 use Rattle.intake_layout.proofs.section.sections.Given as goal
 
 abbrev pub invariant-loop-k : goal.invariant-loop-k

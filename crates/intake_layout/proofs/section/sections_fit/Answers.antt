@@ -1,5 +1,5 @@
 use Prim.Native.Nat.{◌-◌}
-use Rattle.intake_layout.proofs.Header.{Placing, placed-begin, placed_start, placed_many, placed_back, placed_past, placed-next, placed_done}
+use Rattle.intake_layout.proofs.Header.{placed-begin, placed_start, placed_many, placed_back, placed_past, placed-next, placed_done}
 use borrow.Author.Rules.{rules}
 use Rattle.intake_layout.proofs.section.sections_fit.Goals as goal
 
