@@ -51,7 +51,8 @@ fn unknown(
         let f = i;
         i += 1;
         if has(&began, f) {
-            if known(words, tags, n, log, logtags, starts, maps, ends, f) != 0 {
+            let is_known = known(words, tags, n, log, logtags, starts, maps, ends, f) != 0;
+            if is_known {
                 leave(&mut set, f);
             }
         }

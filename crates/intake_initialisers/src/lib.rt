@@ -54,7 +54,8 @@ fn operand(s: u8, w: u32) -> usize
     if s == EXPR {
         return wide(w) + 1;
     }
-    if s == OPT_EXPR {
+    let optional = s == OPT_EXPR;
+    if optional {
         return wide(w);
     }
     0

@@ -41,7 +41,8 @@ fn visible(
     if count <= e {
         return false;
     }
-    if at < until[e] {
+    let live = at < until[e];
+    if live {
         return true;
     }
     stands(kind(words, starts, e))

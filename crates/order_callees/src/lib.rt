@@ -29,7 +29,8 @@ fn mark_callees(
     while j < end {
         let k = j;
         j += 1;
-        if tags[k] == CALLEE {
+        let calls = tags[k] == CALLEE;
+        if calls {
             order_ranks::mark(callees, i, wide(words[k]));
         }
     }

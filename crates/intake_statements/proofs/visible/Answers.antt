@@ -5,8 +5,8 @@ use Rattle.intake_statements.proofs.visible.Goals as goal
 pub returns-then-count-e : goal.returns-then-count-e
 returns-then-count-e c = search (visible_out, rules)
 
-pub returns-then-at-until : goal.returns-then-at-until
-returns-then-at-until c = search (visible_in, rules)
+pub returns-then-live : goal.returns-then-live
+returns-then-live c = search (visible_in, rules)
 
 pub kind-requires : goal.kind-requires
 kind-requires c = let zz = start_in _ _ _ c.requires c.if-count-e.false in record { e_bound = zz.0; e_bound_2 = zz.1 }

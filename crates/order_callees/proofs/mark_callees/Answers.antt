@@ -7,13 +7,13 @@ pub loop-j-init : goal.loop-j-init
 loop-j-init c = begin c.requires
 
 pub mark-requires : goal.mark-requires
-mark-requires c = (search rules, search rules, may c.requires c.loop-j.invariant c.loop-j-test.true c.if-tags-k-eq-CALLEE.true c.wide.ensures.0)
+mark-requires c = (search rules, search rules, may c.requires c.loop-j.invariant c.loop-j-test.true c.if-calls.true c.wide.ensures.0)
 
-pub loop-j-preserved-then-tags-k-eq-CALLEE : goal.loop-j-preserved-then-tags-k-eq-CALLEE
-loop-j-preserved-then-tags-k-eq-CALLEE c = again c.requires c.loop-j.invariant c.loop-j-test.true c.if-tags-k-eq-CALLEE.true c.wide.ensures.0 c.mark.ensures
+pub loop-j-preserved-then-calls : goal.loop-j-preserved-then-calls
+loop-j-preserved-then-calls c = again c.requires c.loop-j.invariant c.loop-j-test.true c.if-calls.true c.wide.ensures.0 c.mark.ensures
 
 pub loop-j-preserved : goal.loop-j-preserved
-loop-j-preserved c = pass c.requires c.loop-j.invariant c.loop-j-test.true c.if-tags-k-eq-CALLEE.false
+loop-j-preserved c = pass c.requires c.loop-j.invariant c.loop-j-test.true c.if-calls.false
 
 pub returns : goal.returns
 returns c = finish c.requires c.loop-j.invariant c.loop-j-test.false
