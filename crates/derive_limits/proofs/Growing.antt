@@ -13,7 +13,7 @@ use Rattle.model.specs.Bodies.{appended, append, follow, entered, entry_made, en
 use Rattle.theory_finish.specs.Sessions.{Keeping, Setting, function-kept, follow-kept, enter_all_kept, sourced-kept}
 use Rattle.derive_state.specs.Held.{size_r, words_of, Over, long, many, crowd, keys}
 use Rattle.derive_state.proofs.State.{size_r-append}
-use Rattle.derive_names.proofs.Growth.{Grow, stay, then, over_grow, grow_T, grow_special, grow_ray, grow_pair, grow_force}
+use Rattle.derive_imports.proofs.Growth.{Grow, stay, then, over_grow, grow_T, grow_special, grow_ray, grow_pair, grow_force}
 use Rattle.derive_limits.specs.Full.{Full, over, entries}
 
 -- ---- one function more

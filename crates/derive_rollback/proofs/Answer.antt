@@ -6,7 +6,7 @@ use native.Mathlib.Omega.{arith}
 use Rattle.derive_state.specs.Refers.{tab_of}
 use Rattle.derive_state.specs.Held.{cell}
 use Rattle.derive_state.proofs.State.{code_tab}
-use Rattle.derive_names.proofs.Turns.{map_is}
+use Rattle.derive_imports.proofs.Turns.{map_is}
 use Rattle.derive_rollback.specs.Answered.{MappedToEnsures}
 
 pub answers : (maps : List (List ℕ)) (t h i r : ℕ) → t < 6 → i ≡ h → r ≡ pred (cell maps t i) → MappedToEnsures maps t h r

@@ -14,7 +14,7 @@ use Rattle.derive_state.specs.Held.{row, ValidArrays}
 use Rattle.derive_state.specs.declared.Sizes.{Sizes}
 use Rattle.derive_state.proofs.State.{same_or}
 use Rattle.derive_state.proofs.Fresh.{rows_at}
-use Rattle.derive_names.proofs.Sources.{count_few}
+use Rattle.derive_imports.proofs.Sources.{count_few}
 use Rattle.derive_snapshot.specs.Snapshot.{Prefix, Prefixes}
 
 -- ---- a row

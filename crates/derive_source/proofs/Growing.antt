@@ -8,7 +8,7 @@ use Rattle.model.specs.Names.{field}
 use Rattle.model.specs.Tables.{types, Tables}
 use Rattle.model.specs.Imports.{Derived, import_t}
 use Rattle.model.specs.Special.{ray_to, ray, rays, keyed, pair_to, pairs}
-use Rattle.derive_names.proofs.Growth.{Grow, stay, then, grow_T, grow_force, grow_ray, grow_pair}
+use Rattle.derive_imports.proofs.Growth.{Grow, stay, then, grow_T, grow_force, grow_ray, grow_pair}
 
 grow_ray_to : (v k n o : ℕ) (T : Tables) (s : Derived) → Grow s (ray_to v k n o T s)
 unfolding ray_to

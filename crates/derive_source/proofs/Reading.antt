@@ -27,7 +27,7 @@ use Rattle.theory_finish.specs.Sessions.{specials_in}
 use Rattle.derive_state.specs.Refers.{tab_of}
 use Rattle.derive_state.specs.Flats.{pairs_at}
 use Rattle.derive_state.specs.Source.{mod_of, src_of, Source}
-use Rattle.derive_names.proofs.Sources.{count_is}
+use Rattle.derive_imports.proofs.Sources.{count_is}
 
 -- ---- cells laid out by their row are the row's classes and the words
 pair_long : {r : Cells} → Plainly (KEY ∷ TYPE ∷ []) r → length r ≡ 2

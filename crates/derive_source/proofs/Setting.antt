@@ -13,7 +13,7 @@ use Rattle.derive_state.specs.Held.{st_of, ValidArrays, Specials}
 use Rattle.derive_state.specs.declared.Sizes.{Sizes}
 use Rattle.derive_state.proofs.State.{tab_code, code_low, st_stays, kept-stays}
 use Rattle.derive_state.proofs.Fresh.{forgotten, kept_forgotten}
-use Rattle.derive_names.proofs.Sources.{count_is, few}
+use Rattle.derive_imports.proofs.Sources.{count_is, few}
 use Rattle.derive_snapshot.specs.Snapshot.{RestoreEnsures}
 use Rattle.derive_special.specs.Derives.{SpecialEnsures}
 use Rattle.derive_source.specs.SourceSet.{SourceTypesEnsures, SetSourceEnsures, Replaced}

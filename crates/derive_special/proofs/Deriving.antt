@@ -23,8 +23,8 @@ use Rattle.derive_state.specs.Held.{cell, put, table_of, maps_of, st_of, size_r,
 use Rattle.derive_state.specs.Marks.{Marks}
 use Rattle.derive_state.specs.declared.Sizes.{Sizes}
 use Rattle.derive_state.proofs.State.{tab_code, code_low, same_or, same_refl, marks_refl, pairs_long, tab_long, words_are, table_stays, kept-point}
-use Rattle.derive_names.proofs.Sources.{wf, count_is, count_few, inside, small_number}
-use Rattle.derive_names.proofs.Growth.{Grow, over_grow, grow_T}
+use Rattle.derive_imports.proofs.Sources.{wf, count_is, count_few, inside, small_number}
+use Rattle.derive_imports.proofs.Growth.{Grow, over_grow, grow_T}
 use Rattle.derive_special.specs.Derives.{Aside, SpecialEnsures}
 use Rattle.derive_special.proofs.Words.{with_pair, force_is, type_map, put_ray_is, put_pair_is, kept_paired}
 

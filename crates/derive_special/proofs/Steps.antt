@@ -14,7 +14,7 @@ use Rattle.derive_state.specs.Flats.{pairs_at, special_of}
 use Rattle.derive_state.specs.Source.{src_of, Source}
 use Rattle.derive_state.specs.Held.{cell, put, st_of, ValidArrays, Specials, ImportEnsures}
 use Rattle.derive_state.specs.declared.Sizes.{Sizes}
-use Rattle.derive_names.proofs.Growth.{grow_ray, grow_pair}
+use Rattle.derive_imports.proofs.Growth.{grow_ray, grow_pair}
 use Rattle.derive_special.specs.Derives.{pair_of, SpecialEnsures}
 use Rattle.derive_special.proofs.Keys.{keyed_low}
 use Rattle.derive_special.proofs.Words.{with_pair, ray_is}

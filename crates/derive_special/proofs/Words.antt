@@ -17,7 +17,7 @@ use Rattle.derive_state.specs.Flats.{pairs_at, special_of}
 use Rattle.derive_state.specs.Held.{cell, put, recs_of, functions_of, st_of, ValidArrays}
 use Rattle.derive_state.specs.declared.Sizes.{Sizes}
 use Rattle.derive_state.proofs.State.{maps-put}
-use Rattle.derive_names.proofs.Turns.{map_is}
+use Rattle.derive_imports.proofs.Turns.{map_is}
 
 -- ---- words elsewhere do not matter
 pairs-apart : (ws : List ℕ) (k v n i : ℕ) → ((j : ℕ) → i ≤ j → j < i + 2 * n → j ≡ k → ⊥) → pairs_at (set ws k v) i n ≡ pairs_at ws i n

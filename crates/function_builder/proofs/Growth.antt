@@ -13,7 +13,7 @@ use Rattle.model.specs.Bodies.{Builder, bring, append_expr, intern_expr}
 use Rattle.theory_passes.proofs.Growth.{Growing, longer}
 use Rattle.theory_passes.specs.Light.{still}
 use Rattle.derive_state.specs.Held.{Over, long, many, crowd, keys}
-use Rattle.derive_names.proofs.Growth.{Grow, stay, then, over_grow, grow_T}
+use Rattle.derive_imports.proofs.Growth.{Grow, stay, then, over_grow, grow_T}
 
 pub record GrowM (m m' : Builder) : Type 0 where
   pub out_grows : Grow m.out m'.out

@@ -21,7 +21,7 @@ ghost use Rattle.function_words.specs.Runs.{unites, Declares, Runs};
 use base_classes::EXPR;
 use base_views::EXPRESSIONS;
 use base_words::{Tags, Words, wide};
-use derive_names::refers_to;
+use derive_imports::refers_to;
 use derive_state::{
     Buckets, ExprMap, Log, LogTags, Maps, Places, Sizes, StackRows, Starts, Targets,
 };

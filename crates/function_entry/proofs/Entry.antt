@@ -38,8 +38,8 @@ use Rattle.derive_state.specs.Marks.{Marks}
 use Rattle.derive_state.specs.declared.Sizes.{Sizes}
 use Rattle.derive_state.proofs.Passes.{length-between}
 use Rattle.derive_state.proofs.State.{six_ext, code_low, same_then, marks_refl, marks_then, tab_long, words_are, table_stays, Joins, table_more, table_same, kept_more}
-use Rattle.derive_names.proofs.Growth.{over_grow}
-use Rattle.derive_names.proofs.Turns.{map_is}
+use Rattle.derive_imports.proofs.Growth.{over_grow}
+use Rattle.derive_imports.proofs.Turns.{map_is}
 use Rattle.derive_lookup.specs.Bearing.{Bearing}
 use Rattle.derive_lookup.proofs.Bears.{bearing}
 use Rattle.function_references.specs.Fits.{Fits, FitN, Legible}

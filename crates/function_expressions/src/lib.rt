@@ -17,7 +17,7 @@ use base_classes::EXPR;
 use base_kinds::stands;
 use base_views::EXPRESSIONS;
 use base_words::{Tags, Words, wide};
-use derive_names::refers_to;
+use derive_imports::refers_to;
 use derive_state::{
     Buckets, ExprMap, Log, LogTags, Maps, Places, Sizes, StackRows, Starts, Targets,
 };

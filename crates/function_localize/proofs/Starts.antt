@@ -25,7 +25,7 @@ use Rattle.derive_state.specs.Flats.{function_of}
 use Rattle.derive_state.specs.Source.{mod_of}
 use Rattle.derive_state.specs.Held.{row, table_of, st_of, size_r, Over, ValidArrays}
 use Rattle.derive_state.specs.declared.Sizes.{Sizes}
-use Rattle.derive_names.proofs.Growth.{Grow}
+use Rattle.derive_imports.proofs.Growth.{Grow}
 use Rattle.function_references.specs.Cuts.{cut, Rising}
 use Rattle.function_builder.specs.Stacks.{seats_of, made_of, making_of, Stacks, Under}
 use Rattle.function_builder.proofs.Growth.{GrowM, growing_by, over_more}

@@ -29,7 +29,7 @@ use Rattle.derive_state.specs.Marks.{Marks}
 use Rattle.derive_state.specs.declared.Sizes.{Sizes}
 use Rattle.derive_state.proofs.Passes.{length-between}
 use Rattle.derive_state.proofs.State.{same_then, marks_then, table_stays}
-use Rattle.derive_names.proofs.Growth.{Grow, over_grow}
+use Rattle.derive_imports.proofs.Growth.{Grow, over_grow}
 use Rattle.function_references.specs.Fits.{Legible}
 use Rattle.function_outside.proofs.Passing.{legible_next}
 use Rattle.function_builder.specs.Stacks.{making_of, Under}

@@ -23,8 +23,8 @@ use Rattle.derive_state.specs.Held.{row, cell, put, table_of, st_of, size_r, Val
 use Rattle.derive_state.specs.Marks.{Marks}
 use Rattle.derive_state.specs.declared.Sizes.{Sizes}
 use Rattle.derive_state.proofs.State.{same_refl, same_then, marks_refl, marks_then, table_stays, row_other, put-row}
-use Rattle.derive_names.proofs.Growth.{Grow, stay, then, over_grow, grow_T}
-use Rattle.derive_names.proofs.Turns.{beside_refl, beside_then, map_is}
+use Rattle.derive_imports.proofs.Growth.{Grow, stay, then, over_grow, grow_T}
+use Rattle.derive_imports.proofs.Turns.{beside_refl, beside_then, map_is}
 use Rattle.function_builder.specs.Stacks.{Stacks}
 use Rattle.function_names.specs.Named.{pairs_in, pairs_of, bare, idle, names_out, names_rows, ImportNamesEnsures}
 

@@ -10,7 +10,7 @@ ghost use Rattle.function_builder.specs.Stacks.{Stacks};
 ghost use Rattle.function_names.specs.Named.{named_records, KeepNamesEnsures, ImportNamesEnsures};
 
 use base_words::{Tags, Words, wide};
-use derive_names::import_name;
+use derive_imports::import_name;
 use derive_state::{
     Buckets, ExprMap, Log, LogTags, Maps, Sizes, StackRows, Starts, Targets, mark_full,
 };

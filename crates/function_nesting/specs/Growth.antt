@@ -21,7 +21,7 @@ use Rattle.theory_passes.proofs.Light.{still_grow_front, still_grow_body}
 use Rattle.derive_state.specs.Flats.{function_of}
 use Rattle.derive_state.specs.Held.{words_of}
 use Rattle.derive_state.proofs.State.{size_r-append}
-use Rattle.derive_names.proofs.Growth.{Grow, stay, then, grow_T}
+use Rattle.derive_imports.proofs.Growth.{Grow, stay, then, grow_T}
 use Rattle.function_nesting.specs.Nested.{declared_s, walked_s, kept_s, final_s, cells_s, append_s, follow_s}
 
 -- ---- one function more

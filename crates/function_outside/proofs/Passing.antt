@@ -25,8 +25,8 @@ use Rattle.derive_state.specs.Marks.{Marks}
 use Rattle.derive_state.specs.declared.Sizes.{Sizes}
 use Rattle.derive_state.proofs.Passes.{all_here, all-next}
 use Rattle.derive_state.proofs.State.{same_refl, same_then, marks_refl, marks_then, table_stays}
-use Rattle.derive_names.proofs.Growth.{Grow, stay, then, over_grow, grow_T}
-use Rattle.derive_names.proofs.Turns.{beside_refl, beside_then}
+use Rattle.derive_imports.proofs.Growth.{Grow, stay, then, over_grow, grow_T}
+use Rattle.derive_imports.proofs.Turns.{beside_refl, beside_then}
 use Rattle.function_references.specs.Fits.{FitN, Legible, record_of}
 use Rattle.function_outside.proofs.Cells.{outward_inner, outward-still, fit-table}
 

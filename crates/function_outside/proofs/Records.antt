@@ -15,7 +15,7 @@ use Rattle.derive_state.specs.Source.{Source, src_of}
 use Rattle.derive_state.specs.Held.{cell, st_of, ValidArrays, ImportEnsures}
 use Rattle.derive_state.specs.declared.Sizes.{Sizes}
 use Rattle.derive_state.proofs.State.{same_refl, marks_refl}
-use Rattle.derive_names.proofs.Turns.{beside_refl, turn-known}
+use Rattle.derive_imports.proofs.Turns.{beside_refl, turn-known}
 use Rattle.function_references.specs.Fits.{record_of}
 use Rattle.function_outside.proofs.Cells.{record_none}
 

@@ -16,7 +16,7 @@ use base_views::{CONSTANTS, EXPRESSIONS, GLOBALS, NAMES, OVERRIDES, TYPES};
 use base_words::{Tags, Words, wide};
 use derive_constants::{import_const, import_global_expression, import_pipeline_override};
 use derive_globals::import_global;
-use derive_names::{import_name, refers_to};
+use derive_imports::{import_name, refers_to};
 use derive_state::{Buckets, Log, LogTags, Maps, Sizes, Starts, Targets};
 use derive_types::import_type;
 

@@ -23,7 +23,7 @@ ghost use Rattle.function_words.specs.Runs.{needs, glances, Bodied, Drawn, Runs}
 use base_classes::{ATOMIC, EXPR, FROM, OPT_EXPR, STMT_KIND, TO};
 use base_views::EXPRESSIONS;
 use base_words::{Tags, Words, wide};
-use derive_names::refers_to;
+use derive_imports::refers_to;
 use derive_state::{
     Buckets, ExprMap, Log, LogTags, Maps, Places, Sizes, StackRows, Starts, Targets,
 };

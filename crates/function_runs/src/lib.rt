@@ -17,7 +17,7 @@ ghost use Rattle.function_runs.specs.Copied.{Quiet, becomes, Ran};
 use base_classes::{EXPR, FROM, SPAN, STMT_KIND, TO};
 use base_views::EXPRESSIONS;
 use base_words::{Tags, Words, wide};
-use derive_names::refers_to;
+use derive_imports::refers_to;
 use derive_state::{ExprMap, FUNCTION, Maps, NOTHING, StackRows, Targets, moved, target_of};
 use function_builder::{BODY, by_maps};
 

@@ -21,7 +21,7 @@ use Rattle.derive_state.specs.Refers.{target_of, tab_of}
 use Rattle.derive_state.specs.Source.{mod_of, src_of, Source, refers_to, number_of}
 use Rattle.derive_state.specs.Held.{put, st_of, ValidArrays, ImportEnsures}
 use Rattle.derive_state.specs.declared.Sizes.{Sizes}
-use Rattle.derive_names.proofs.Turns.{turn-known}
+use Rattle.derive_imports.proofs.Turns.{turn-known}
 use Rattle.function_references.specs.Fits.{FitN, Legible, record_of}
 use Rattle.function_references.specs.Cuts.{Expressions}
 use Rattle.function_outside.proofs.Cells.{fit_own, fit-table}

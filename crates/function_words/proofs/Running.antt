@@ -13,7 +13,7 @@ use Rattle.model.specs.Tree.{flat_all}
 use Rattle.model.specs.Bodies.{Builder}
 use Rattle.derive_state.specs.Held.{row, table_of, st_of, size_r, Over, long, ValidArrays}
 use Rattle.derive_state.specs.declared.Sizes.{Sizes}
-use Rattle.derive_names.proofs.Growth.{stay}
+use Rattle.derive_imports.proofs.Growth.{stay}
 use Rattle.derive_state.proofs.State.{same_refl, same_then, marks_refl, marks_then, table_stays, row_other, put-row}
 use Rattle.function_builder.specs.Stacks.{making_of, Stacks, Under}
 use Rattle.function_builder.specs.Makes.{Makes, Pushed}

@@ -24,7 +24,7 @@ use Rattle.intake.specs.Taken.{number_of, Accepts, TakeInEnsures}
 use Rattle.intake.specs.declared.Taken.{Taken}
 use Rattle.intake.specs.declared.Taken.TheVariants.{Accepted}
 use Rattle.intake.proofs.Refusals.{NotFirst, refused_by}
-use Rattle.derive_names.proofs.Sources.{mod_is, source_of}
+use Rattle.derive_imports.proofs.Sources.{mod_is, source_of}
 use Rattle.order_bytes.proofs.Images.{list_long, list_asks}
 use Rattle.theory_link.specs.Demand.{Linking}
 use Rattle.theory_link.proofs.OnBytes.{whole_words, not_taken, too_short}

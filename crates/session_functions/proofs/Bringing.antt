@@ -18,7 +18,7 @@ use Rattle.model.specs.Bodies.{known, append, follow}
 use Rattle.model.specs.Refusals.{NUMBER_GIVEN, NO_SOURCE, FULL, UNKNOWN_RING}
 use Rattle.model.specs.Session.{Source, Session, Answer, answered, refused, after, with_source, unless_full, meets_ring, import_function, map_function_handle}
 use Rattle.theory_sessions.specs.Operating.{does, functions, handles}
-use Rattle.derive_names.proofs.Growth.{Grow}
+use Rattle.derive_imports.proofs.Growth.{Grow}
 use Rattle.derive_limits.proofs.Growing.{function_grows, follow_grows}
 use Rattle.derive_limits.specs.Reached.{Reached, At, Public}
 use Rattle.derive_limits.proofs.Reached.{does-reached, function-at, handle_at}

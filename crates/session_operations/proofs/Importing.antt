@@ -19,8 +19,8 @@ use Rattle.derive_state.specs.Held.{st_of, ValidArrays, ImportOrUndoEnsures}
 use Rattle.derive_state.specs.declared.Sizes.{Sizes}
 use Rattle.derive_state.proofs.State.{tab_long}
 use Rattle.derive_state.proofs.Laws.{none-held}
-use Rattle.derive_names.proofs.Sources.{count_is}
-use Rattle.derive_names.proofs.Growth.{Grow, grow_T}
+use Rattle.derive_imports.proofs.Sources.{count_is}
+use Rattle.derive_imports.proofs.Growth.{Grow, grow_T}
 use Rattle.derive_rollback.specs.Answered.{MappedToEnsures}
 use Rattle.derive_special.proofs.Deriving.{specials_more}
 use Rattle.derive_session.specs.Valid.{session_of, ValidSession}

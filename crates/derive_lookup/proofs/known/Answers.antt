@@ -1,5 +1,5 @@
 use native.Mathlib.Omega.{arith}
-use Rattle.derive_names.proofs.Sources.{tape}
+use Rattle.derive_imports.proofs.Sources.{tape}
 use Rattle.derive_lookup.proofs.Finds.{head_in, some_name, name_in_lem, name_few, name_reads, knows}
 use Rattle.derive_lookup.proofs.known.Goals as goal
 

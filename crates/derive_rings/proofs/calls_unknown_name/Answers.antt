@@ -1,5 +1,5 @@
 use native.Mathlib.Omega.{arith}
-use Rattle.derive_names.proofs.Sources.{tape}
+use Rattle.derive_imports.proofs.Sources.{tape}
 use Rattle.derive_rings.specs.Rings.{unknown_by}
 use Rattle.derive_rings.proofs.Asking.{calls-any, function_scannable}
 use Rattle.derive_rings.proofs.calls_unknown_name.Goals as goal

@@ -1,7 +1,7 @@
 -- `derive_rings::entries_call` meets its contract. The invariant: whether one is called from this entry point on is whether one is called at all.
 use Prim.Native.Nat.{◌-◌}
 use native.Mathlib.Omega.{arith}
-use Rattle.derive_names.proofs.Sources.{tape}
+use Rattle.derive_imports.proofs.Sources.{tape}
 use Rattle.derive_rings.proofs.Wholes.{few}
 use Rattle.derive_rings.proofs.Asking.{widened, look, entry_in_lem, scannable, entry_hit, entry_miss, none_left}
 use Rattle.derive_rings.proofs.entries_call.Goals as goal

@@ -1,4 +1,4 @@
-use Rattle.derive_names.proofs.Sources.{tape}
+use Rattle.derive_imports.proofs.Sources.{tape}
 use Rattle.derive_rings.proofs.Wholes.{entries_not, callees-known, rings-any}
 use borrow.Author.Tests.{not-true}
 use mathlib.Core.Bool.{not}

@@ -1,5 +1,5 @@
 use native.Mathlib.Omega.{arith}
-use Rattle.derive_names.proofs.Sources.{tape}
+use Rattle.derive_imports.proofs.Sources.{tape}
 use Rattle.derive_rings.proofs.Wholes.{calls_not, callees-known, few, rings-itself, rings-callees}
 use borrow.Author.Tests.{not-true}
 use mathlib.Core.Bool.{not}

@@ -1,7 +1,7 @@
 use native.Mathlib.Omega.{arith}
 use Prim.Native.Nat.{◌-◌, ◌<◌}
 use Rattle.model.specs.Module.{count_at}
-use Rattle.derive_names.proofs.Sources.{small_number}
+use Rattle.derive_imports.proofs.Sources.{small_number}
 use Rattle.derive_special.proofs.Steps.{pair_low, pair_old, pair_full, pair-mapped, pair_many, pair_left, pair-new}
 use Rattle.derive_special.proofs.pair.Goals as goal
 

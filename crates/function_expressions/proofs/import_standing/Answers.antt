@@ -2,7 +2,7 @@
 use mathlib.Core.Path.{refl, ◌∙◌}
 use Prim.Native.Nat.{◌-◌}
 use native.Mathlib.Omega.{arith}
-use Rattle.derive_names.proofs.Sources.{small_number}
+use Rattle.derive_imports.proofs.Sources.{small_number}
 use Rattle.function_outside.proofs.Records.{lands_mapped}
 use Rattle.function_expressions.proofs.Needs.{cells_legible, first_in, glance-idle}
 use Rattle.function_expressions.proofs.Alongs.{along-begin, along-kept, along_under, along_in, along_number, along_record, along-none, along-next, operand_in, operand-idle, operand_done, glance_full, glance_done}

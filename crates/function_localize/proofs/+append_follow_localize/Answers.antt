@@ -4,7 +4,7 @@ use mathlib.Core.Bool.{false≢true}
 use Prim.Native.Nat.{◌+◌, ◌-◌}
 use native.Mathlib.Omega.{arith}
 use Rattle.derive_lookup.proofs.Bears.{bearing}
-use Rattle.derive_names.proofs.Sources.{tape}
+use Rattle.derive_imports.proofs.Sources.{tape}
 use Rattle.function_parts.specs.Exprs.{expressions}
 use Rattle.function_parts.specs.Part.{k_few}
 use Rattle.function_words.proofs.Running.{made_small}

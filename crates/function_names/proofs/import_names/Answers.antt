@@ -4,7 +4,7 @@ use Prim.Native.Nat.{◌+◌, ◌-◌}
 use mathlib.Core.Path.{refl}
 use lib.ListN.{get_or}
 use Rattle.derive_state.specs.Held.{row}
-use Rattle.derive_names.proofs.Sources.{small_number}
+use Rattle.derive_imports.proofs.Sources.{small_number}
 use Rattle.function_names.proofs.Naming.{name_first, name_in_lem, name_number, name_full, name_next, name_skip, name_done}
 use Rattle.function_names.proofs.import_names.Goals as goal
 

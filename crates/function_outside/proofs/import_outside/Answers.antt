@@ -3,7 +3,7 @@ use native.Mathlib.Omega.{arith}
 use Prim.Native.Nat.{◌-◌}
 use mathlib.Core.Path.{refl}
 use lib.ListN.{get_or}
-use Rattle.derive_names.proofs.Sources.{small_number}
+use Rattle.derive_imports.proofs.Sources.{small_number}
 use Rattle.function_outside.proofs.Records.{lands_mapped}
 use Rattle.function_outside.proofs.Passing.{pass-first, pass_in, pass_skip, pass_number, pass_full, pass-next, pass_done}
 use Rattle.function_outside.proofs.import_outside.Goals as goal

@@ -1,6 +1,6 @@
 -- `function_outside::import_record` meets its contract: what is not missing is left as it is.
 use borrow.Author.Tests.{not-true}
-use Rattle.derive_names.proofs.Sources.{small_number}
+use Rattle.derive_imports.proofs.Sources.{small_number}
 use Rattle.function_outside.proofs.Records.{lands_mapped}
 use mathlib.Core.Bool.{not}
 use mathlib.Core.Path.{ap}

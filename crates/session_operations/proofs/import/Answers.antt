@@ -1,5 +1,5 @@
 use Rattle.derive_state.specs.Refers.{tab_of}
-use Rattle.derive_names.proofs.Sources.{small_number}
+use Rattle.derive_imports.proofs.Sources.{small_number}
 use Rattle.session_operations.proofs.Importing.{below, source-held, import_unset, import_none, import_full, import_room}
 use mathlib.Core.Bool.{not}
 use mathlib.Core.Path.{ap}

@@ -1,5 +1,5 @@
 use Rattle.std.proofs.Common.{arith}
-use Rattle.derive_names.proofs.Sources.{small_number}
+use Rattle.derive_imports.proofs.Sources.{small_number}
 use Rattle.session_operations.proofs.Importing.{below, source-held, rename_unset, rename-none, rename_no_name, rename_full, rename-room}
 use mathlib.Core.Bool.{not}
 use mathlib.Core.Path.{ap}

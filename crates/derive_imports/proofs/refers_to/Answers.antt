@@ -1,6 +1,6 @@
 -- `refers_to` meets its contract: each return is one kind of class.
-use Rattle.derive_names.proofs.Steps.{to_ref, to_zero, to_none, to_opt}
-use Rattle.derive_names.proofs.refers_to.Goals as goal
+use Rattle.derive_imports.proofs.Steps.{to_ref, to_zero, to_none, to_opt}
+use Rattle.derive_imports.proofs.refers_to.Goals as goal
 
 pub returns-then-u-lt-NOTHING : goal.returns-then-u-lt-NOTHING
 returns-then-u-lt-NOTHING c = let a = c.args in let u = c.target_of-u in to_ref a.s a.w u.result u.ensures.0 c.if-u-lt-NOTHING.true

@@ -2,3 +2,6 @@ pub mod Steps
 pub mod Growth
 pub mod Sources
 pub mod Turns
+pub mod Renames
+pub mod Importing
+pub mod Renaming

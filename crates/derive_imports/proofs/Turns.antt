@@ -31,9 +31,9 @@ use Rattle.derive_state.specs.Marks.{Marks}
 use Rattle.derive_state.specs.declared.Sizes.{Sizes}
 use Rattle.derive_state.proofs.Passes.{all_here, all-next}
 use Rattle.derive_state.proofs.State.{code_tab, tab_code, code_low, same_refl, same_then, marks_refl, marks_then, table_stays}
-use Rattle.derive_names.proofs.Steps.{step_is, hit, Allowed, allowed}
-use Rattle.derive_names.proofs.Growth.{Grow, then, over_grow, grow_settle, grow_each, grow_T}
-use Rattle.derive_names.proofs.Sources.{wf, count_is, inside, stretch, record_is, record_lower}
+use Rattle.derive_imports.proofs.Steps.{step_is, hit, Allowed, allowed}
+use Rattle.derive_imports.proofs.Growth.{Grow, then, over_grow, grow_settle, grow_each, grow_T}
+use Rattle.derive_imports.proofs.Sources.{wf, count_is, inside, stretch, record_is, record_lower}
 
 -- ---- what is beside the tables
 pub beside_refl : (starts : List (List ℕ)) (e : Sizes) → Beside starts starts e e

@@ -34,9 +34,9 @@ use Rattle.derive_state.specs.Flats.{special_of}
 use Rattle.derive_state.specs.Held.{cell, recs_of, functions_of, maps_of, st_of, ValidArrays, ImportEnsures, Nameless, Readable, carried_by}
 use Rattle.derive_state.specs.declared.Sizes.{Sizes}
 use Rattle.derive_state.proofs.State.{code_low, six_ext, same_refl, marks_refl}
-use Rattle.derive_names.proofs.Growth.{Grow, then, over_grow, grow_settle, grow_each, grow_T}
-use Rattle.derive_names.proofs.Sources.{wf, count_is, inside, stretch, record_is, record_lower, small_of}
-use Rattle.derive_names.proofs.Turns.{Turn, beside_refl, lands_then, map_is, lands_known, turn_done, carried-by, turn_last}
+use Rattle.derive_imports.proofs.Growth.{Grow, then, over_grow, grow_settle, grow_each, grow_T}
+use Rattle.derive_imports.proofs.Sources.{wf, count_is, inside, stretch, record_is, record_lower, small_of}
+use Rattle.derive_imports.proofs.Turns.{Turn, beside_refl, lands_then, map_is, lands_known, turn_done, carried-by, turn_last}
 
 -- type k is taken for these cells, carried
 abbrev taken : ℕ → ℕ → Cells → Derived → Derived
