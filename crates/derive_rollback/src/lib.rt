@@ -3,15 +3,15 @@
 
 ghost use Rattle.std.specs.Prelude.{◌≡◌, false, ◌<◌};
 ghost use Rattle.model.specs.Module.{count_at};
-ghost use Rattle.model.specs.Tables.{types, constants, overrides, globals, exprs};
+ghost use Rattle.model.specs.Tables.{types};
 ghost use Rattle.model.specs.Imports.{import_t, renamed};
-ghost use Rattle.derive_state.specs.Refers.{target_bytes};
+ghost use Rattle.derive_state.specs.Refers.{target_bytes, tab_of};
 ghost use Rattle.derive_state.specs.Source.{src_of, Source};
 ghost use Rattle.derive_state.specs.Held.{ValidArrays, ImportOrUndoEnsures};
 ghost use Rattle.derive_rollback.specs.Answered.{MappedToEnsures};
 
-use base_handles::{ConstantHandle, ExpressionHandle, GlobalHandle, OverrideHandle, TypeHandle};
-use base_words::{Tags, Words, wide};
+use base_handles::TypeHandle;
+use base_words::{Tags, Words};
 use derive_snapshot::{restore, save};
 use derive_state::{Buckets, Log, LogTags, Maps, Sizes, Starts, Targets};
 
@@ -20,15 +20,11 @@ pub fn mapped_to(maps: &Maps, t: usize, h: u32) -> u32
     requires { (t < 6) × (h < 512) }
     ensures { MappedToEnsures maps.now t h result }
 {
-    let v = maps[t][wide(h)];
-    if v == 0 {
-        return 0;
-    }
-    v - 1
+    maps[t][h as usize].saturating_sub(1)
 }
 
-// Imports type h.
-pub fn import_type(
+// Imports a record of a table.
+pub fn import(
     words: &Words,
     tags: &Tags,
     targets: &Targets,
@@ -40,19 +36,20 @@ pub fn import_type(
     buckets: &mut Buckets,
     ends: Sizes,
     offset: u32,
-    h: TypeHandle,
+    table: usize,
+    number: u32,
 ) -> Sizes
     requires source { Source words.now tags.now n }
-    requires h_bound { (h.0 < count_at 1 words.now) × (ends.full ≡ false) }
+    requires number_bound { (table < 6) × (number < count_at table words.now) × (ends.full ≡ false) }
     requires targets_value { targets.now ≡ target_bytes }
     requires valid_arrays { ValidArrays log.old logtags.old starts.old maps.old buckets.old ends }
-    ensures { ImportOrUndoEnsures words.now (import_t offset (src_of words.now n) types h.0) log.old logtags.old starts.old maps.old ends result log.new logtags.new starts.new maps.new buckets.new }
+    ensures { ImportOrUndoEnsures words.now (import_t offset (src_of words.now n) (tab_of table) number) log.old logtags.old starts.old maps.old ends result log.new logtags.new starts.new maps.new buckets.new }
 {
     let mut s = [[0u32; 512]; 8];
     let mut m = [[0u32; 512]; 6];
     save(words, starts, maps, ends, &mut s, &mut m);
-    let got = derive_types::import_type(
-        words, tags, targets, n, log, logtags, starts, maps, buckets, ends, offset, h,
+    let got = derive_imports::import(
+        words, tags, targets, n, log, logtags, starts, maps, buckets, ends, offset, table, number,
     );
     restore(starts, maps, &s, &m, got.full);
     got
@@ -83,132 +80,8 @@ pub fn rename_type(
     let mut s = [[0u32; 512]; 8];
     let mut m = [[0u32; 512]; 6];
     save(words, starts, maps, ends, &mut s, &mut m);
-    let got = derive_types::rename_type(
+    let got = derive_imports::rename_type(
         words, tags, targets, n, log, logtags, starts, maps, buckets, ends, offset, h, name,
-    );
-    restore(starts, maps, &s, &m, got.full);
-    got
-}
-
-// Imports constant h.
-pub fn import_const(
-    words: &Words,
-    tags: &Tags,
-    targets: &Targets,
-    n: usize,
-    log: &mut Log,
-    logtags: &mut LogTags,
-    starts: &mut Starts,
-    maps: &mut Maps,
-    buckets: &mut Buckets,
-    ends: Sizes,
-    offset: u32,
-    h: ConstantHandle,
-) -> Sizes
-    requires source { Source words.now tags.now n }
-    requires h_bound { (h.0 < count_at 2 words.now) × (ends.full ≡ false) }
-    requires targets_value { targets.now ≡ target_bytes }
-    requires valid_arrays { ValidArrays log.old logtags.old starts.old maps.old buckets.old ends }
-    ensures { ImportOrUndoEnsures words.now (import_t offset (src_of words.now n) constants h.0) log.old logtags.old starts.old maps.old ends result log.new logtags.new starts.new maps.new buckets.new }
-{
-    let mut s = [[0u32; 512]; 8];
-    let mut m = [[0u32; 512]; 6];
-    save(words, starts, maps, ends, &mut s, &mut m);
-    let got = derive_constants::import_const(
-        words, tags, targets, n, log, logtags, starts, maps, buckets, ends, offset, h,
-    );
-    restore(starts, maps, &s, &m, got.full);
-    got
-}
-
-// Imports override h.
-pub fn import_pipeline_override(
-    words: &Words,
-    tags: &Tags,
-    targets: &Targets,
-    n: usize,
-    log: &mut Log,
-    logtags: &mut LogTags,
-    starts: &mut Starts,
-    maps: &mut Maps,
-    buckets: &mut Buckets,
-    ends: Sizes,
-    offset: u32,
-    h: OverrideHandle,
-) -> Sizes
-    requires source { Source words.now tags.now n }
-    requires h_bound { (h.0 < count_at 3 words.now) × (ends.full ≡ false) }
-    requires targets_value { targets.now ≡ target_bytes }
-    requires valid_arrays { ValidArrays log.old logtags.old starts.old maps.old buckets.old ends }
-    ensures { ImportOrUndoEnsures words.now (import_t offset (src_of words.now n) overrides h.0) log.old logtags.old starts.old maps.old ends result log.new logtags.new starts.new maps.new buckets.new }
-{
-    let mut s = [[0u32; 512]; 8];
-    let mut m = [[0u32; 512]; 6];
-    save(words, starts, maps, ends, &mut s, &mut m);
-    let got = derive_constants::import_pipeline_override(
-        words, tags, targets, n, log, logtags, starts, maps, buckets, ends, offset, h,
-    );
-    restore(starts, maps, &s, &m, got.full);
-    got
-}
-
-// Imports global h.
-pub fn import_global(
-    words: &Words,
-    tags: &Tags,
-    targets: &Targets,
-    n: usize,
-    log: &mut Log,
-    logtags: &mut LogTags,
-    starts: &mut Starts,
-    maps: &mut Maps,
-    buckets: &mut Buckets,
-    ends: Sizes,
-    offset: u32,
-    h: GlobalHandle,
-) -> Sizes
-    requires source { Source words.now tags.now n }
-    requires h_bound { (h.0 < count_at 4 words.now) × (ends.full ≡ false) }
-    requires targets_value { targets.now ≡ target_bytes }
-    requires valid_arrays { ValidArrays log.old logtags.old starts.old maps.old buckets.old ends }
-    ensures { ImportOrUndoEnsures words.now (import_t offset (src_of words.now n) globals h.0) log.old logtags.old starts.old maps.old ends result log.new logtags.new starts.new maps.new buckets.new }
-{
-    let mut s = [[0u32; 512]; 8];
-    let mut m = [[0u32; 512]; 6];
-    save(words, starts, maps, ends, &mut s, &mut m);
-    let got = derive_globals::import_global(
-        words, tags, targets, n, log, logtags, starts, maps, buckets, ends, offset, h,
-    );
-    restore(starts, maps, &s, &m, got.full);
-    got
-}
-
-// Imports global expression h.
-pub fn import_global_expression(
-    words: &Words,
-    tags: &Tags,
-    targets: &Targets,
-    n: usize,
-    log: &mut Log,
-    logtags: &mut LogTags,
-    starts: &mut Starts,
-    maps: &mut Maps,
-    buckets: &mut Buckets,
-    ends: Sizes,
-    offset: u32,
-    h: ExpressionHandle,
-) -> Sizes
-    requires source { Source words.now tags.now n }
-    requires h_bound { (h.0 < count_at 5 words.now) × (ends.full ≡ false) }
-    requires targets_value { targets.now ≡ target_bytes }
-    requires valid_arrays { ValidArrays log.old logtags.old starts.old maps.old buckets.old ends }
-    ensures { ImportOrUndoEnsures words.now (import_t offset (src_of words.now n) exprs h.0) log.old logtags.old starts.old maps.old ends result log.new logtags.new starts.new maps.new buckets.new }
-{
-    let mut s = [[0u32; 512]; 8];
-    let mut m = [[0u32; 512]; 6];
-    save(words, starts, maps, ends, &mut s, &mut m);
-    let got = derive_constants::import_global_expression(
-        words, tags, targets, n, log, logtags, starts, maps, buckets, ends, offset, h,
     );
     restore(starts, maps, &s, &m, got.full);
     got

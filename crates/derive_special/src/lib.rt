@@ -13,10 +13,10 @@ ghost use Rattle.derive_special.specs.Derives.{pair_of, SpecialEnsures};
 use base_handles::TypeHandle;
 use base_views::TYPES;
 use base_words::{Tags, Words, wide};
+use derive_imports::import;
 use derive_state::{
     Buckets, Log, LogTags, Maps, Sizes, Special, Starts, Targets, mark_full, words_left,
 };
-use derive_types::import_type;
 
 // The type derived for a key among n pairs: 0 for none, else its number plus 1.
 fn derived(special: &Special, n: usize, key: u32) -> usize
@@ -85,19 +85,8 @@ pub fn ray(
         maps[TYPES][i] = v;
         return ends;
     }
-    let got = import_type(
-        words,
-        tags,
-        targets,
-        n,
-        log,
-        logtags,
-        starts,
-        maps,
-        buckets,
-        ends,
-        offset,
-        TypeHandle(h),
+    let got = import(
+        words, tags, targets, n, log, logtags, starts, maps, buckets, ends, offset, TYPES, h,
     );
     if got.full {
         return got;
@@ -136,8 +125,8 @@ pub fn pair(
         maps[TYPES][i] = v as u32;
         return ends;
     }
-    let got = import_type(
-        words, tags, targets, n, log, logtags, starts, maps, buckets, ends, offset, h,
+    let got = import(
+        words, tags, targets, n, log, logtags, starts, maps, buckets, ends, offset, TYPES, h.0,
     );
     if got.full {
         return got;

@@ -11,16 +11,12 @@ ghost use Rattle.derive_state.specs.Held.{cell, ValidArrays, ImportEnsures};
 ghost use Rattle.function_references.specs.Fits.{Ground, Legible, record_of};
 
 use base_classes::EXPR;
-use base_handles::{ConstantHandle, ExpressionHandle, GlobalHandle, OverrideHandle, TypeHandle};
-use base_views::{CONSTANTS, EXPRESSIONS, GLOBALS, NAMES, OVERRIDES, TYPES};
-use base_words::{Tags, Words, wide};
-use derive_constants::{import_const, import_global_expression, import_pipeline_override};
-use derive_globals::import_global;
-use derive_imports::{import_name, refers_to};
+use base_views::EXPRESSIONS;
+use base_words::{Tags, Words};
+use derive_imports::{import, refers_to};
 use derive_state::{Buckets, Log, LogTags, Maps, Sizes, Starts, Targets};
-use derive_types::import_type;
 
-// Imports record h of table t, by the import that the table has; nothing where t is no table.
+// Imports record h of table t; nothing where t is no table.
 pub fn import_by_table(
     words: &Words,
     tags: &Tags,
@@ -42,92 +38,12 @@ pub fn import_by_table(
     requires valid_arrays { ValidArrays log.old logtags.old starts.old maps.old buckets.old ends }
     ensures { ImportEnsures words.now (record_of offset (src_of words.now n) t h) log.old logtags.old starts.old maps.old buckets.old ends result log.new logtags.new starts.new maps.new buckets.new }
 {
-    if t == NAMES {
-        return import_name(
-            words, tags, targets, n, log, logtags, starts, maps, buckets, ends, offset, h,
-        );
+    if EXPRESSIONS < t {
+        return ends;
     }
-    if t == TYPES {
-        return import_type(
-            words,
-            tags,
-            targets,
-            n,
-            log,
-            logtags,
-            starts,
-            maps,
-            buckets,
-            ends,
-            offset,
-            TypeHandle(h),
-        );
-    }
-    if t == CONSTANTS {
-        return import_const(
-            words,
-            tags,
-            targets,
-            n,
-            log,
-            logtags,
-            starts,
-            maps,
-            buckets,
-            ends,
-            offset,
-            ConstantHandle(h),
-        );
-    }
-    if t == OVERRIDES {
-        return import_pipeline_override(
-            words,
-            tags,
-            targets,
-            n,
-            log,
-            logtags,
-            starts,
-            maps,
-            buckets,
-            ends,
-            offset,
-            OverrideHandle(h),
-        );
-    }
-    if t == GLOBALS {
-        return import_global(
-            words,
-            tags,
-            targets,
-            n,
-            log,
-            logtags,
-            starts,
-            maps,
-            buckets,
-            ends,
-            offset,
-            GlobalHandle(h),
-        );
-    }
-    if t == EXPRESSIONS {
-        return import_global_expression(
-            words,
-            tags,
-            targets,
-            n,
-            log,
-            logtags,
-            starts,
-            maps,
-            buckets,
-            ends,
-            offset,
-            ExpressionHandle(h),
-        );
-    }
-    ends
+    import(
+        words, tags, targets, n, log, logtags, starts, maps, buckets, ends, offset, t, h,
+    )
 }
 
 // Whether record h of table t is not mapped; no where t is no table. This is tested for every word, and most records are mapped.
@@ -136,10 +52,7 @@ pub fn missing(maps: &Maps, t: usize, h: u32) -> bool
     ensures t_bound { result ≡ true → (t < 6) × (cell maps.now t h ≡ 0) }
     ensures h_nonzero { result ≡ false → t < 6 → 0 < cell maps.now t h }
 {
-    if EXPRESSIONS < t {
-        return false;
-    }
-    maps[t][wide(h)] == 0
+    t <= EXPRESSIONS && maps[t][h as usize] == 0
 }
 
 // The same as import_by_table, but tests first whether the record is mapped.
