@@ -1,15 +1,14 @@
 -- The loop of `import`, as its answers cite it: `Turn` for the import of one record of a table, whose number is not mapped.
 use mathlib.Core.Path.{◌≡◌}
 use mathlib.Core.Bool.{true, false}
-use mathlib.Core.List.{List, []}
+use mathlib.Core.List.{List}
 use Prim.Native.Nat.{ℕ, ◌+◌, ◌≤◌, ◌<◌}
-use native.Mathlib.Omega.{arith}
 use lib.ListN.{get_or}
 use Rattle.model.specs.Module.{count_at}
 use Rattle.model.specs.View.{record_at, record_end}
 use Rattle.model.specs.Tables.{rec_at}
-use Rattle.model.specs.References.{Node, target, refs, shift}
-use Rattle.model.specs.Imports.{Derived, intern, import_t}
+use Rattle.model.specs.References.{target, refs, shift}
+use Rattle.model.specs.Imports.{intern, import_t}
 use Rattle.theory_records.specs.Well.{rank}
 use Rattle.derive_state.specs.Refers.{tab_of, went_r}
 use Rattle.derive_state.specs.Source.{src_of, Source, refers_to, number_of}

@@ -1,22 +1,22 @@
 -- A type imported under another name: the import from a view of the source in which the type has it. What the type refers to is lower, so that nothing else uses the
 -- new name.
-use mathlib.Core.Path.{◌≡◌, refl, sym, ap, ap₂, ◌∙◌}
-use mathlib.Core.Bool.{Bool, true, false, false≢true}
+use mathlib.Core.Path.{◌≡◌, refl, sym, ap, ◌∙◌}
+use mathlib.Core.Bool.{true, false, false≢true}
 use mathlib.Core.List.{List, [], ◌∷◌, map}
 use Prim.Native.Nat.{ℕ, zero, suc, ◌+◌, ◌-◌, ◌*◌, ◌≤◌, ◌<◌}
-use native.Mathlib.Nat.{le_refl, le_trans}
+use native.Mathlib.Nat.{le_refl}
 use native.Mathlib.Numerals.{add-one}
 use native.Mathlib.Omega.{arith}
 use lib.ListN.{length, get_or, set, take, length-set}
-use lib.Seq.{slice, get_or-set_same, get_or-set_other}
+use lib.Seq.{get_or-set_same, get_or-set_other}
 use Rattle.model.specs.Outcome.{Cells, class}
 use Rattle.model.specs.Table.{NAME, type_row}
-use Rattle.model.specs.Module.{HEADER, count_at, offset_at, sections}
+use Rattle.model.specs.Module.{HEADER, count_at, sections}
 use Rattle.model.specs.View.{record_at, record_end}
 use Rattle.model.specs.Carry.{Lays, lays_next, carry_cells}
 use Rattle.model.specs.Between.{between, Stretch}
-use Rattle.model.specs.Tables.{Tab, names, types, constants, overrides, globals, exprs, code_t, at, upd, six, Tables, tables, rec_at, count, Maps, map_at}
-use Rattle.model.specs.References.{Place, table, own, function, target, targets, Node, node, ref_of, refs, fold_refs, through, shift}
+use Rattle.model.specs.Tables.{Tab, names, types, constants, overrides, globals, exprs, code_t, at, Tables, rec_at, count, Maps, map_at}
+use Rattle.model.specs.References.{Place, table, target, targets, node, ref_of, refs, fold_refs, through, shift}
 use Rattle.model.specs.Imports.{Derived, unless_mapped, intern, mapped_to_t, made, commit, step_t, import_f, levels, import_t, rename, renamed}
 use Rattle.theory_records.specs.RecordLaws.{All, all_map, rest_of}
 use Rattle.theory_records.specs.TableLaws.{at_same, at_other, at-six}
@@ -28,14 +28,14 @@ use Rattle.theory_image.specs.Sections.{start_of, cells_of}
 use Rattle.theory_image.specs.Views.{offset_start}
 use Rattle.theory_image.specs.FunctionViews.{taped_offset}
 use Rattle.theory_image.specs.Betweens.{between_next, between_none}
-use Rattle.derive_state.specs.Refers.{tab_of, went_r, Small, target_bytes}
+use Rattle.derive_state.specs.Refers.{tab_of, went_r, target_bytes}
 use Rattle.derive_state.specs.Source.{mod_of, src_of, Source}
 use Rattle.derive_state.specs.Flats.{special_of}
-use Rattle.derive_state.specs.Held.{cell, recs_of, functions_of, maps_of, st_of, ValidArrays, ImportEnsures, Nameless, Readable, carried_by}
+use Rattle.derive_state.specs.Held.{cell, recs_of, functions_of, maps_of, st_of, ValidArrays, ImportEnsures, Readable, carried_by}
 use Rattle.derive_state.specs.declared.Sizes.{Sizes}
 use Rattle.derive_state.proofs.State.{code_low, six_ext, same_refl, marks_refl}
 use Rattle.derive_imports.proofs.Growth.{Grow, then, over_grow, grow_settle, grow_each, grow_T}
-use Rattle.derive_imports.proofs.Sources.{wf, count_is, inside, stretch, record_is, record_lower, small_of}
+use Rattle.derive_imports.proofs.Sources.{wf, inside, stretch, record_is, small_of}
 use Rattle.derive_imports.proofs.Turns.{Turn, beside_refl, lands_then, map_is, lands_known, turn_done, carried-by, turn_last}
 
 -- type k is taken for these cells, carried
@@ -348,8 +348,3 @@ module _ (words tags : List ℕ) (n : ℕ) (src : Source words tags n) (o k : �
 
         pub rename_then : e₁.full ≡ false → (r : Sizes) (log logtags : List ℕ) (starts maps : List (List ℕ)) (buckets : List ℕ) → ImportEnsures words G log₁ logtags₁ starts₁ maps₁ buckets₁ e₁ r log logtags starts maps buckets → ImportEnsures words F log₀ logtags₀ starts₀ maps₀ buckets₀ e₀ r log logtags starts maps buckets
         rename_then q r log logtags starts maps buckets M = lands_then words log₀ logtags₀ starts₀ maps₀ buckets₀ e₀ K₀ (import_t o T names name) e₁ log₁ logtags₁ starts₁ maps₁ buckets₁ L q G r log logtags starts maps buckets M F begins
-
--- the same number, found another way
-pub renames-at : {words log₀ logtags₀ : List ℕ} {starts₀ maps₀ : List (List ℕ)} {buckets₀ : List ℕ} {e r : Sizes} {log logtags : List ℕ} {starts maps : List (List ℕ)} {buckets : List ℕ} (o : ℕ) (T : Tables) (name k m : ℕ) → k ≡ m
-    → ImportEnsures words (import_t o (renamed T k name) types k) log₀ logtags₀ starts₀ maps₀ buckets₀ e r log logtags starts maps buckets → ImportEnsures words (import_t o (renamed T m name) types m) log₀ logtags₀ starts₀ maps₀ buckets₀ e r log logtags starts maps buckets
-renames-at o T name k m q L = rw (← q) L

@@ -1,23 +1,23 @@
 -- The source that words and tags hold: how many records its tables have, where they are, and what they may refer to.
-use mathlib.Core.Path.{◌≡◌, refl, sym, ap, ◌∙◌}
+use mathlib.Core.Path.{◌≡◌, refl, ap, ◌∙◌}
 use mathlib.Core.Bool.{true}
-use mathlib.Core.List.{List, [], ◌∷◌}
-use Prim.Native.Nat.{ℕ, zero, suc, ◌+◌, ◌≤◌, ◌<◌}
+use mathlib.Core.List.{List, []}
+use Prim.Native.Nat.{ℕ, zero, suc, ◌≤◌, ◌<◌}
 use native.Mathlib.Omega.{arith}
 use lib.ListN.{length, get_or}
-use Rattle.model.specs.Outcome.{Cells, class}
+use Rattle.model.specs.Outcome.{Cells}
 use Rattle.model.specs.Table.{NAME}
 use Rattle.model.specs.Module.{Module, read, count_at, flat_module}
 use Rattle.model.specs.View.{record_at, record_end, tables as tablesL}
-use Rattle.model.specs.Carry.{WellFormed, Each, each_none, each_next}
+use Rattle.model.specs.Carry.{WellFormed, each_none, each_next}
 use Rattle.model.specs.Taped.{Taped, Tape}
 use Rattle.model.specs.Numbers.{numbered}
 use Rattle.model.specs.Lower.{lower}
 use Rattle.model.specs.Between.{between, Stretch}
-use Rattle.model.specs.Tables.{Tab, names, types, constants, overrides, globals, exprs, at, Tables, tables, rec_at, count}
+use Rattle.model.specs.Tables.{Tab, names, types, constants, overrides, globals, exprs, at, tables, rec_at, count}
 use Rattle.model.specs.References.{Place, Node, copied, target, targets, refs}
 use Rattle.theory_records.specs.RecordLaws.{All, all_map}
-use Rattle.theory_records.specs.Well.{home, WF, rank, Lower, falls, May}
+use Rattle.theory_records.specs.Well.{home, WF, Lower, falls, May}
 use Rattle.theory_records.specs.Kinds.{KindOf, is_copied, is_span, is_upto, is_name, is_type, is_constant, is_override, is_init, is_opt_init, is_expr, is_opt_expr, Kinds, no_kinds, kinds}
 use Rattle.theory_records.specs.Tested.{tested_wf, kinds_at}
 use Rattle.theory_image.specs.FunctionViews.{Part, taped_length}

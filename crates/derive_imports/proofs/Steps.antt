@@ -1,6 +1,5 @@
 -- What a word refers to: the step of the import, and that ranks fall.
 use mathlib.Core.Path.{◌≡◌, refl, ◌∙◌}
-use mathlib.Core.Logic.{◌⊎◌, inl, inr, ⊎_elim}
 use mathlib.Core.Bool.{Bool, true, false, cond}
 use mathlib.Core.List.{List, []}
 use Prim.Native.Nat.{ℕ, zero, suc, ◌-◌, ◌≤◌, ◌<◌, pred}
@@ -8,10 +7,10 @@ use native.Mathlib.Omega.{arith}
 use lib.Dec.{ltb}
 use borrow.Author.Tests.{lt-ltb, le-ltb}
 use Rattle.model.specs.Tables.{Tab, names, types, constants, overrides, globals, exprs, code_t, Tables, count}
-use Rattle.model.specs.References.{Place, table, own, function, Target, copied, start, upto, ref, opt, target, Node, ref_of, fold_refs}
+use Rattle.model.specs.References.{table, own, function, Target, copied, start, upto, ref, opt, target, Node, ref_of, fold_refs}
 use Rattle.model.specs.Imports.{Derived, step_t}
 use Rattle.theory_records.specs.RecordLaws.{All}
-use Rattle.theory_records.specs.Well.{home, rank, Lower, May, type_name, type_type, const_name, const_type, const_init, over_name, over_type, over_init, global_name, global_type, global-init, expr_type, expr_const, expr_over, expr_own}
+use Rattle.theory_records.specs.Well.{home, rank, Lower}
 use Rattle.derive_state.specs.Refers.{code_p, target_of, tab_of}
 use Rattle.derive_state.specs.Source.{if_some, refers_to, less, number_of}
 
@@ -74,87 +73,6 @@ hit T t k (opt own) zero a h = absurd (omega arith)
 hit T t k (opt own) (suc w) a h = (a.0.0, a.0.1)
 hit T t k (opt function) zero a h = absurd (omega arith)
 hit T t k (opt function) (suc w) a h = absurd (omega arith)
-
--- ---- the tables that a record may refer to, by their codes
-unfoldable pub Allowed : Tab → ℕ → Type 0
-Allowed names u = ⊥
-Allowed types u = (u ≡ 0) ⊎ (u ≡ 1)
-Allowed constants u = (u ≡ 0) ⊎ ((u ≡ 1) ⊎ (u ≡ 5))
-Allowed overrides u = (u ≡ 0) ⊎ ((u ≡ 1) ⊎ (u ≡ 5))
-Allowed globals u = (u ≡ 0) ⊎ ((u ≡ 1) ⊎ (u ≡ 5))
-Allowed exprs u = (u ≡ 1) ⊎ ((u ≡ 2) ⊎ ((u ≡ 3) ⊎ (u ≡ 5)))
-
-may_code : {t : Tab} {p : Place} → May t p → Allowed t (code_p p)
-unfolding Allowed code_p code_t
-may_code type_name = inl refl
-may_code type_type = inr refl
-may_code const_name = inl refl
-may_code const_type = inr (inl refl)
-may_code const_init = inr (inr refl)
-may_code over_name = inl refl
-may_code over_type = inr (inl refl)
-may_code over_init = inr (inr refl)
-may_code global_name = inl refl
-may_code global_type = inr (inl refl)
-may_code global-init = inr (inr refl)
-may_code expr_type = inl refl
-may_code expr_const = inr (inl refl)
-may_code expr_over = inr (inr (inl refl))
-may_code expr_own = inr (inr (inr refl))
-
-pub allowed : (T : Tables) (t : Tab) (k : ℕ) (g : Target) (w : ℕ) → All (Lower T t k) (ref_of g w []) → refers_to g w < 6 → Allowed t (refers_to g w)
-unfolding ref_of refers_to if_some target_of code_p code_t Lower
-allowed T t k copied w a h = absurd (omega arith)
-allowed T t k start w a h = absurd (omega arith)
-allowed T t k upto w a h = absurd (omega arith)
-allowed T t k (ref (table names)) w a h = may_code a.0.2
-allowed T t k (ref (table types)) w a h = may_code a.0.2
-allowed T t k (ref (table constants)) w a h = may_code a.0.2
-allowed T t k (ref (table overrides)) w a h = may_code a.0.2
-allowed T t k (ref (table globals)) w a h = may_code a.0.2
-allowed T t k (ref (table exprs)) w a h = may_code a.0.2
-allowed T t k (ref own) w a h = may_code a.0.2
-allowed T t k (ref function) w a h = absurd (omega arith)
-allowed T t k (opt (table names)) zero a h = absurd (omega arith)
-allowed T t k (opt (table names)) (suc w) a h = may_code a.0.2
-allowed T t k (opt (table types)) zero a h = absurd (omega arith)
-allowed T t k (opt (table types)) (suc w) a h = may_code a.0.2
-allowed T t k (opt (table constants)) zero a h = absurd (omega arith)
-allowed T t k (opt (table constants)) (suc w) a h = may_code a.0.2
-allowed T t k (opt (table overrides)) zero a h = absurd (omega arith)
-allowed T t k (opt (table overrides)) (suc w) a h = may_code a.0.2
-allowed T t k (opt (table globals)) zero a h = absurd (omega arith)
-allowed T t k (opt (table globals)) (suc w) a h = may_code a.0.2
-allowed T t k (opt (table exprs)) zero a h = absurd (omega arith)
-allowed T t k (opt (table exprs)) (suc w) a h = may_code a.0.2
-allowed T t k (opt own) zero a h = absurd (omega arith)
-allowed T t k (opt own) (suc w) a h = may_code a.0.2
-allowed T t k (opt function) zero a h = absurd (omega arith)
-allowed T t k (opt function) (suc w) a h = absurd (omega arith)
-
--- a word that refers to none of these refers to nothing
-pub past_type : (u : ℕ) → (u < 6 → Allowed types u) → (u ≡ 0 → ⊥) → (u ≡ 1 → ⊥) → 6 ≤ u
-unfolding Allowed
-past_type u a x y = let z : u < 6 → ⊥ = λ h. ⊎_elim x y (a h) in omega arith
-
-past_three : (u : ℕ) → (u < 6 → (u ≡ 0) ⊎ ((u ≡ 1) ⊎ (u ≡ 5))) → (u ≡ 0 → ⊥) → (u ≡ 1 → ⊥) → (u ≡ 5 → ⊥) → 6 ≤ u
-past_three u a x y w = let z : u < 6 → ⊥ = λ h. ⊎_elim x (λ b. ⊎_elim y w b) (a h) in omega arith
-
-pub past_const : (u : ℕ) → (u < 6 → Allowed constants u) → (u ≡ 0 → ⊥) → (u ≡ 1 → ⊥) → (u ≡ 5 → ⊥) → 6 ≤ u
-unfolding Allowed
-past_const u a x y w = past_three u a x y w
-
-pub past_override : (u : ℕ) → (u < 6 → Allowed overrides u) → (u ≡ 0 → ⊥) → (u ≡ 1 → ⊥) → (u ≡ 5 → ⊥) → 6 ≤ u
-unfolding Allowed
-past_override u a x y w = past_three u a x y w
-
-pub past_global : (u : ℕ) → (u < 6 → Allowed globals u) → (u ≡ 0 → ⊥) → (u ≡ 1 → ⊥) → (u ≡ 5 → ⊥) → 6 ≤ u
-unfolding Allowed
-past_global u a x y w = past_three u a x y w
-
-pub past_expr : (u : ℕ) → (u < 6 → Allowed exprs u) → (u ≡ 1 → ⊥) → (u ≡ 2 → ⊥) → (u ≡ 3 → ⊥) → (u ≡ 5 → ⊥) → 6 ≤ u
-unfolding Allowed
-past_expr u a x y w v = let z : u < 6 → ⊥ = λ h. ⊎_elim x (λ b. ⊎_elim y (λ c. ⊎_elim w v c) b) (a h) in omega arith
 
 -- ---- the code's tests
 some_is : (w u : ℕ) → (w ≡ 0 → ⊥) → u ≡ if_some w u

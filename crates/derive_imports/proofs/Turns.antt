@@ -1,14 +1,14 @@
 -- The import of a record as the code does it: the loop over the record's words, and its end. What is left of the references, from the state that the arrays hold, gives
 -- what all of them give from the first state.
-use mathlib.Core.Path.{◌≡◌, refl, sym, ap, ap₂, ◌∙◌}
-use mathlib.Core.Bool.{Bool, true, false, cond, false≢true}
-use mathlib.Core.List.{List, [], ◌∷◌}
-use Prim.Native.Nat.{ℕ, zero, suc, ◌+◌, ◌-◌, ◌≤◌, ◌<◌}
+use mathlib.Core.Path.{◌≡◌, refl, sym, ap, ◌∙◌}
+use mathlib.Core.Bool.{true, false, cond, false≢true}
+use mathlib.Core.List.{List, []}
+use Prim.Native.Nat.{ℕ, suc, ◌+◌, ◌≤◌, ◌<◌}
 use native.Mathlib.Nat.{le_refl, le_trans}
 use native.Mathlib.Numerals.{add-one}
 use native.Mathlib.Omega.{arith}
-use lib.Dec.{eqb, ltb}
-use lib.ListN.{length, get_or, take, get_or-eq_default}
+use lib.Dec.{ltb}
+use lib.ListN.{get_or, take, get_or-eq_default}
 use lib.Seq.{get_or-take}
 use borrow.Author.Tests.{lt-ltb, le-ltb}
 use Rattle.model.specs.Outcome.{Cells}
@@ -16,22 +16,22 @@ use Rattle.model.specs.Module.{count_at}
 use Rattle.model.specs.View.{record_at, record_end}
 use Rattle.model.specs.Carry.{carry_cells}
 use Rattle.model.specs.Between.{between, Stretch}
-use Rattle.model.specs.Tables.{Tab, names, types, constants, overrides, globals, exprs, code_t, at, six, Tables, rec_at, count, Maps, map_at}
-use Rattle.model.specs.References.{Place, table, own, function, Target, target, Node, ref_of, refs, fold_refs, through, shift}
+use Rattle.model.specs.Tables.{Tab, exprs, code_t, Tables, rec_at, count, map_at}
+use Rattle.model.specs.References.{Place, table, own, function, target, Node, ref_of, refs, fold_refs, through, shift}
 use Rattle.model.specs.Imports.{Derived, unless_mapped, intern, mapped_to_t, made, commit, step_t, import_t}
 use Rattle.theory_records.specs.RecordLaws.{All, all_map, carry_same}
 use Rattle.theory_records.specs.TableLaws.{at-six}
-use Rattle.theory_records.specs.Well.{home, WF, rank, Lower, falls, May}
+use Rattle.theory_records.specs.Well.{home, rank, Lower, falls}
 use Rattle.theory_records.specs.Trace.{import_is, once_is}
 use Rattle.theory_image.specs.Betweens.{between_none, between_next}
-use Rattle.derive_state.specs.Refers.{code_p, tab_of, went_r, Small}
+use Rattle.derive_state.specs.Refers.{code_p, tab_of, went_r}
 use Rattle.derive_state.specs.Source.{src_of, Source, refers_to, number_of}
-use Rattle.derive_state.specs.Held.{row, cell, table_of, maps_of, st_of, size_r, Over, ValidArrays, Same, Beside, ImportEnsures, carried_by}
+use Rattle.derive_state.specs.Held.{cell, table_of, maps_of, st_of, size_r, ValidArrays, Same, Beside, ImportEnsures, carried_by}
 use Rattle.derive_state.specs.Marks.{Marks}
 use Rattle.derive_state.specs.declared.Sizes.{Sizes}
 use Rattle.derive_state.proofs.Passes.{all_here, all-next}
 use Rattle.derive_state.proofs.State.{code_tab, tab_code, code_low, same_refl, same_then, marks_refl, marks_then, table_stays}
-use Rattle.derive_imports.proofs.Steps.{step_is, hit, Allowed, allowed}
+use Rattle.derive_imports.proofs.Steps.{step_is, hit}
 use Rattle.derive_imports.proofs.Growth.{Grow, then, over_grow, grow_settle, grow_each, grow_T}
 use Rattle.derive_imports.proofs.Sources.{wf, count_is, inside, stretch, record_is, record_lower}
 
@@ -46,11 +46,6 @@ beside_then a b c e f g x y = record {
   pairs-same = y.pairs-same ∙ x.pairs-same;
   tops_same = (y.tops_same.0 ∙ x.tops_same.0, y.tops_same.1 ∙ x.tops_same.1, y.tops_same.2 ∙ x.tops_same.2);
 }
-
--- the same number, found another way
-pub lands_at : {words log₀ logtags₀ : List ℕ} {starts₀ maps₀ : List (List ℕ)} {buckets₀ : List ℕ} {e r : Sizes} {log logtags : List ℕ} {starts maps : List (List ℕ)} {buckets : List ℕ} (o : ℕ) (T : Tables) (t : Tab) (k m : ℕ) → k ≡ m
-    → ImportEnsures words (import_t o T t k) log₀ logtags₀ starts₀ maps₀ buckets₀ e r log logtags starts maps buckets → ImportEnsures words (import_t o T t m) log₀ logtags₀ starts₀ maps₀ buckets₀ e r log logtags starts maps buckets
-lands_at o T t k m q L = rw (← q) L
 
 -- one operation after another
 pub lands_then : (words log₀ logtags₀ : List ℕ) (starts₀ maps₀ : List (List ℕ)) (buckets₀ : List ℕ) (e₀ : Sizes) → ValidArrays log₀ logtags₀ starts₀ maps₀ buckets₀ e₀
@@ -75,25 +70,11 @@ lands_then words log₀ logtags₀ starts₀ maps₀ buckets₀ e₀ K₀ f e₁
         rw ((L.beside q).entries_same.0, (L.beside q).entries_same.1)
         (ap size_r (table_stays log₀ logtags₀ log₁ logtags₁ starts₀ maps₀ buckets₀ buckets₁ e₀ K₀ L.below L.log_long L.tags_long L.marks_stay 7 (omega arith)))
 
--- types fall by their numbers
-pub type_falls : (T : Tables) (m k : ℕ) → rank T types m < rank T types k → m < k
-unfolding rank
-type_falls T m k h = omega arith
-
 -- ---- the maps as rows
 pub map_is : (words log logtags : List ℕ) (starts maps : List (List ℕ)) (special : List ℕ) (e : Sizes) (u : Tab) (k : ℕ) → k < count_at (code_t u) words → map_at (st_of words log logtags starts maps special e).maps u k ≡ cell maps (code_t u) k
 unfolding st_of maps_of map_at
 map_is words log logtags starts maps special e u k h =
     rw (at-six u (λ t. take (count_at (code_t t) words) (get_or maps (code_t t) []))) (get_or-take (count_at (code_t u) words) (get_or maps (code_t u) []) k 0 h)
-
--- a name's record has no references
-no_refs : (T : Tables) (k : ℕ) (js : List Node) → All (Lower T (tab_of 0) k) js → js ≡ []
-unfolding Lower tab_of
-no_refs T k [] a = refl
-no_refs T k (j ∷ js) a = never a.0.2
-  where
-    never : {A : Type 0} {p : Place} → May names p → A
-    never = elim [ ]
 
 -- ---- the loop over words whose references are all that is left of js; f is the whole, which ends with them
 pub record Turn (words tags : List ℕ) (n o t k : ℕ) (js : List Node) (log₀ logtags₀ : List ℕ) (starts₀ maps₀ : List (List ℕ)) (buckets₀ : List ℕ) (e₀ : Sizes) (end : ℕ) (log logtags : List ℕ) (starts maps : List (List ℕ)) (buckets : List ℕ) (e : Sizes) (i : ℕ) : Type 0 where
@@ -176,9 +157,6 @@ module _ (words tags : List ℕ) (n : ℕ) (src : Source words tags n) (o t k : 
 
           lower-here : All (Lower T (tab_of t) k) (ref_of (target (get_or tags i 0)) (get_or words i 0) [])
           lower-here = all_here tags words i end less st.in_tags st.in_words (Lower T (tab_of t) k) inv.lower
-
-          pub turn_allowed : u < 6 → Allowed (tab_of t) u
-          turn_allowed h = rw hu (allowed T (tab_of t) k (target (get_or tags i 0)) (get_or words i 0) lower-here (rw hu at h))
 
           -- a word that refers to nothing
           pub turn_skip : 6 ≤ u → Turn words tags n o t k js log₀ logtags₀ starts₀ maps₀ buckets₀ e₀ end log logtags starts maps buckets e (i + 1)
@@ -293,26 +271,3 @@ module _ (words tags : List ℕ) (n : ℕ) (src : Source words tags n) (o t k : 
           → ImportEnsures words (intern (tab_of t) k (shift (carried_by (went_r maps) tags words begin end) o false)) log logtags starts maps buckets e r log' logtags' starts' maps' buckets'
           → ImportEnsures words (import_t o T (tab_of t) k) log₀ logtags₀ starts₀ maps₀ buckets₀ e₀ r log' logtags' starts' maps' buckets'
       turn_settled = turn_last (import_t o T (tab_of t) k) J ends_in begin end hb he log logtags starts maps buckets e i inv (shift (carried_by (went_r maps) tags words begin end) o false) settled
-
-    -- a name refers to nothing
-    pub name_settled : t ≡ 0 → (r : Sizes) (log' logtags' : List ℕ) (starts' maps' : List (List ℕ)) (buckets' : List ℕ)
-        → ImportEnsures words (intern (tab_of t) k (shift (carried_by (went_r maps₀) tags words begin end) o false)) log₀ logtags₀ starts₀ maps₀ buckets₀ e₀ r log' logtags' starts' maps' buckets'
-        → ImportEnsures words (import_t o T (tab_of t) k) log₀ logtags₀ starts₀ maps₀ buckets₀ e₀ r log' logtags' starts' maps' buckets'
-    unfolding refs
-    name_settled e r log' logtags' starts' maps' buckets' L = turn_settled log₀ logtags₀ starts₀ maps₀ buckets₀ e₀ end last_turn (le_refl _) r log' logtags' starts' maps' buckets' L
-      where
-        none : refs (between tags words begin end) ≡ []
-        none = no_refs T k (refs (between tags words begin end)) (rw e at (record_lower words tags n src t k ht hk begin end hb he))
-
-        last_turn : Turn words tags n o t k J log₀ logtags₀ starts₀ maps₀ buckets₀ e₀ end log₀ logtags₀ starts₀ maps₀ buckets₀ e₀ end
-        last_turn = record {
-          more = le_refl _;
-          below = same_refl e₀.loglen log₀ logtags₀;
-          beside = beside_refl starts₀ e₀;
-          marks_stay = marks_refl buckets₀ K₀.marks_long;
-          within = le_refl _;
-          going = nf;
-          kept = K₀;
-          lower = rw (between_none tags words end end (le_refl _)) tt;
-          same = λ special. rw (between_none tags words end end (le_refl _), ← record_is words tags n src t k ht hk begin end hb he, none) refl;
-        }

@@ -9,8 +9,9 @@ ghost use Rattle.function_references.specs.Fits.{Ground};
 ghost use Rattle.function_builder.specs.Stacks.{Stacks};
 ghost use Rattle.function_names.specs.Named.{named_records, KeepNamesEnsures, ImportNamesEnsures};
 
+use base_views::NAMES;
 use base_words::{Tags, Words, wide};
-use derive_imports::import_name;
+use derive_imports::import;
 use derive_state::{
     Buckets, ExprMap, Log, LogTags, Maps, Sizes, StackRows, Starts, Targets, mark_full,
 };
@@ -90,7 +91,7 @@ pub fn import_names(
         i += 2;
         let w = stacks[BODY][j];
         if w != 0 {
-            e = import_name(
+            e = import(
                 words,
                 tags,
                 targets,
@@ -102,12 +103,13 @@ pub fn import_names(
                 buckets,
                 e,
                 offset,
+                NAMES,
                 w - 1,
             );
             if e.full {
                 return e;
             }
-            stacks[BODY][j] = maps[0][wide(w - 1)];
+            stacks[BODY][j] = maps[NAMES][wide(w - 1)];
         }
     }
     e

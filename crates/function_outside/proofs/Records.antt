@@ -48,10 +48,6 @@ lands_idle words log logtags starts maps buckets e nf K f idle = record {
   marks_stay = marks_refl buckets K.marks_long;
 }
 
--- h is in the table that is found
-pub asked : (words : List ℕ) (t u h : ℕ) → t ≡ u → u < 6 → (t < 6 → h < count_at t words) → h < count_at u words
-asked words t u h e l a = rw e at (a (rw e l))
-
 module _ (o : ℕ) (T : Tables) (t h : ℕ) where
   -- record h of the table u, whose code is t
   pub lands_record : {words log₀ logtags₀ : List ℕ} {starts₀ maps₀ : List (List ℕ)} {buckets₀ : List ℕ} {e r : Sizes} {log logtags : List ℕ} {starts maps : List (List ℕ)} {buckets : List ℕ} (u : Tab) → t < 6 → tab_of t ≡ u

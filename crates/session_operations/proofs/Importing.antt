@@ -60,22 +60,6 @@ module _ (x : Source) (s : Derived) where
 pub below : {a b c h : ℕ} → a ≡ c → b ≡ h → b < a → h < c
 below p q l = omega arith
 
-pub in_table : (t k : ℕ) → t ≡ k → (words : List ℕ) (h : ℕ) → h < count_at t words → h < count_at k words
-in_table t k q words h l = rw q at l
-
-pub of_table : (t k : ℕ) → t ≡ k → (o : ℕ) (T : Tables) (h : ℕ) → {words log logtags : List ℕ} {starts maps : List (List ℕ)} {e r : Sizes} {log' logtags' : List ℕ} {starts' maps' : List (List ℕ)} {buckets' : List ℕ}
-    → ImportOrUndoEnsures words (import_t o T (tab_of k) h) log logtags starts maps e r log' logtags' starts' maps' buckets' → ImportOrUndoEnsures words (import_t o T (tab_of t) h) log logtags starts maps e r log' logtags' starts' maps' buckets'
-of_table t k q o T h w = rw q w
-
-pub fifth : (t : ℕ) → 1 ≤ t → t < 6 → (t ≡ 1 → ⊥) → (t ≡ 2 → ⊥) → (t ≡ 3 → ⊥) → (t ≡ 4 → ⊥) → t ≡ 5
-fifth zero a b c d e f = absurd (omega arith)
-fifth (suc zero) a b c d e f = absurd (c refl)
-fifth (suc (suc zero)) a b c d e f = absurd (d refl)
-fifth (suc (suc (suc zero))) a b c d e f = absurd (e refl)
-fifth (suc (suc (suc (suc zero)))) a b c d e f = absurd (f refl)
-fifth (suc (suc (suc (suc (suc zero))))) a b c d e f = refl
-fifth (suc (suc (suc (suc (suc (suc t)))))) a b c d e f = absurd (omega arith)
-
 public_tab : (t : ℕ) → 1 ≤ t → is_t (tab_of t) names ≡ false
 unfolding is_t tab_of code_t
 public_tab zero h = absurd (omega arith)

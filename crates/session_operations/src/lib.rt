@@ -4,18 +4,15 @@
 
 ghost use Rattle.std.specs.Prelude.{◌≡◌, ℕ, ◌<◌, ◌≤◌, false, length};
 ghost use Rattle.base_words.specs.Words.{words_of};
-ghost use Rattle.model.specs.Module.{count_at};
-ghost use Rattle.model.specs.Imports.{import_t};
 ghost use Rattle.model.specs.Session.{importing, rename_type, set as setOf, finish as finishOf};
-ghost use Rattle.derive_state.specs.Refers.{target_bytes, tab_of};
-ghost use Rattle.derive_state.specs.Source.{src_of, Source};
-ghost use Rattle.derive_state.specs.Held.{ValidArrays, Specials, ImportOrUndoEnsures};
+ghost use Rattle.derive_state.specs.Refers.{tab_of};
+ghost use Rattle.derive_state.specs.Held.{Specials};
 ghost use Rattle.derive_session.specs.Valid.{session_of, ValidSession};
 ghost use Rattle.session_operations.specs.Operations.{OperationEnsures, MapSpanEnsures, RequiredEnsures, FinishEnsures};
 
-use base_handles::{ConstantHandle, ExpressionHandle, GlobalHandle, OverrideHandle, TypeHandle};
+use base_handles::TypeHandle;
 use base_refusals::{FULL, NO_SOURCE, NUMBER_GIVEN};
-use base_views::{CONSTANTS, GLOBALS, NAMES, OVERRIDES, TYPES, count};
+use base_views::{NAMES, TYPES, count};
 use base_words::{Tags, Words, wide};
 use derive_finish::finish;
 use derive_rollback::mapped_to;
@@ -32,108 +29,6 @@ pub struct Answer {
     pub refusal: u32,
     pub value: u32,
     pub ends: Sizes,
-}
-
-// Imports record h of table t, one of the five tables after that of names.
-fn import_record(
-    words: &Words,
-    tags: &Tags,
-    targets: &Targets,
-    n: usize,
-    log: &mut Log,
-    logtags: &mut LogTags,
-    starts: &mut Starts,
-    maps: &mut Maps,
-    buckets: &mut Buckets,
-    ends: Sizes,
-    offset: u32,
-    t: usize,
-    h: u32,
-) -> Sizes
-    requires source { Source words.now tags.now n }
-    requires le_t { (1 ≤ t) × (t < 6) × (h < count_at t words.now) × (ends.full ≡ false) }
-    requires targets_value { targets.now ≡ target_bytes }
-    requires valid_arrays { ValidArrays log.old logtags.old starts.old maps.old buckets.old ends }
-    ensures { ImportOrUndoEnsures words.now (import_t offset (src_of words.now n) (tab_of t) h) log.old logtags.old starts.old maps.old ends result log.new logtags.new starts.new maps.new buckets.new }
-{
-    if t == TYPES {
-        return derive_rollback::import_type(
-            words,
-            tags,
-            targets,
-            n,
-            log,
-            logtags,
-            starts,
-            maps,
-            buckets,
-            ends,
-            offset,
-            TypeHandle(h),
-        );
-    }
-    if t == CONSTANTS {
-        return derive_rollback::import_const(
-            words,
-            tags,
-            targets,
-            n,
-            log,
-            logtags,
-            starts,
-            maps,
-            buckets,
-            ends,
-            offset,
-            ConstantHandle(h),
-        );
-    }
-    if t == OVERRIDES {
-        return derive_rollback::import_pipeline_override(
-            words,
-            tags,
-            targets,
-            n,
-            log,
-            logtags,
-            starts,
-            maps,
-            buckets,
-            ends,
-            offset,
-            OverrideHandle(h),
-        );
-    }
-    if t == GLOBALS {
-        return derive_rollback::import_global(
-            words,
-            tags,
-            targets,
-            n,
-            log,
-            logtags,
-            starts,
-            maps,
-            buckets,
-            ends,
-            offset,
-            GlobalHandle(h),
-        );
-    }
-    derive_rollback::import_global_expression(
-        words,
-        tags,
-        targets,
-        n,
-        log,
-        logtags,
-        starts,
-        maps,
-        buckets,
-        ends,
-        offset,
-        ExpressionHandle(h),
-    )
 }
 
 // import_type, import_const, import_pipeline_override, import_global, import_global_expression: record h of table t.
@@ -173,7 +68,7 @@ pub fn import(
             ends: ends,
         };
     }
-    let imported = import_record(
+    let imported = derive_rollback::import(
         words, tags, targets, n, log, logtags, starts, maps, buckets, ends, offset, t, h,
     );
     if imported.full {

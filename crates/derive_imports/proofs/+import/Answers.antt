@@ -1,5 +1,5 @@
 -- `derive_imports::import` meets its contract: it passes the record's words as `Turn` says, and then interns the record.
-use Rattle.std.proofs.Common.{◌≡◌, ◌<◌, ◌≤◌, arith}
+use Rattle.std.proofs.Common.{arith}
 use Rattle.derive_imports.proofs.Sources.{tape, small_number, readable, plain_name}
 use Rattle.derive_imports.proofs.Turns.{turn-known, turn-first}
 use Rattle.derive_imports.proofs.Importing.{word_in, past, number_in, lower, fails, goes_on, ends}
@@ -48,7 +48,7 @@ pub loop-j-preserved : goal.loop-j-preserved
 loop-j-preserved t c =
     let q = c.refers_to-r.ensures in
     elim c.if-r-lt-NOTHING.branch [
-      then-r-lt-NOTHING+else-e w ↦ rw (w.log-is, w.logtags-is, w.starts-is, w.maps-is, w.buckets-is, w.e-is) (goes_on c.requires.source c.requires.number_bound c.requires.valid_arrays c.if-maps-table-ne0.false c.record_at-at.ensures c.record_end-end.ensures c.loop-j.invariant c.loop-j-test.true q.0 w.if-r-lt-NOTHING.true q.1 w.import-e.ensures w.if-e.false)
+      | then-r-lt-NOTHING+else-e w ↦ rw (w.log-is, w.logtags-is, w.starts-is, w.maps-is, w.buckets-is, w.e-is) (goes_on c.requires.source c.requires.number_bound c.requires.valid_arrays c.if-maps-table-ne0.false c.record_at-at.ensures c.record_end-end.ensures c.loop-j.invariant c.loop-j-test.true q.0 w.if-r-lt-NOTHING.true q.1 w.import-e.ensures w.if-e.false)
       | else-r-lt-NOTHING w ↦ rw (w.log-is, w.logtags-is, w.starts-is, w.maps-is, w.buckets-is, w.e-is) (past c.requires.source c.requires.number_bound c.requires.valid_arrays c.if-maps-table-ne0.false c.record_at-at.ensures c.record_end-end.ensures c.loop-j.invariant c.loop-j-test.true q.0 w.if-r-lt-NOTHING.false)
     ]
 

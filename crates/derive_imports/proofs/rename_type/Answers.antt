@@ -1,5 +1,5 @@
 -- `derive_imports::rename_type` meets its contract: the new name, what follows the name in the record, and then the record under its new name.
-use Rattle.std.proofs.Common.{◌≡◌, ◌<◌, ◌≤◌, refl, arith}
+use Rattle.std.proofs.Common.{refl, arith}
 use Rattle.derive_state.specs.Refers.{tab_of}
 use Rattle.derive_imports.proofs.Sources.{tape, small_number, count_few}
 use Rattle.derive_imports.proofs.Renames.{next_word, rename-known, rename_full, rename-first, rename_then, rename_settled, view_readable, view_count}
@@ -57,7 +57,7 @@ pub loop-j-preserved : goal.loop-j-preserved
 loop-j-preserved c =
     let q = c.refers_to-r.ensures in
     elim c.if-r-lt-NOTHING.branch [
-      then-r-lt-NOTHING+else-e-2 w ↦ rw (w.log-is, w.logtags-is, w.starts-is, w.maps-is, w.buckets-is, w.e-is) (goes_on c.requires.source c.requires.h_bound.0 c.requires.h_bound.1 c.record_at-at.ensures c.record_end-end.ensures c.if-e.false (c.import-e.ensures.kept c.if-e.false) c.loop-j.invariant c.loop-j-test.true q.0 w.if-r-lt-NOTHING.true q.1 w.import-e-then-r-lt-NOTHING.ensures w.if-e-2.false)
+      | then-r-lt-NOTHING+else-e-2 w ↦ rw (w.log-is, w.logtags-is, w.starts-is, w.maps-is, w.buckets-is, w.e-is) (goes_on c.requires.source c.requires.h_bound.0 c.requires.h_bound.1 c.record_at-at.ensures c.record_end-end.ensures c.if-e.false (c.import-e.ensures.kept c.if-e.false) c.loop-j.invariant c.loop-j-test.true q.0 w.if-r-lt-NOTHING.true q.1 w.import-e-then-r-lt-NOTHING.ensures w.if-e-2.false)
       | else-r-lt-NOTHING w ↦ rw (w.log-is, w.logtags-is, w.starts-is, w.maps-is, w.buckets-is, w.e-is) (past c.requires.source c.requires.h_bound.0 c.requires.h_bound.1 c.record_at-at.ensures c.record_end-end.ensures c.if-e.false (c.import-e.ensures.kept c.if-e.false) c.loop-j.invariant c.loop-j-test.true q.0 w.if-r-lt-NOTHING.false)
     ]
 
@@ -72,11 +72,11 @@ offset_bounds-view-at c = let z = next_word _ _ _ c.requires.source c.args.offse
 
 pub intern-requires : goal.intern-requires
 intern-requires c = record {
-    readable = view_readable _ _ _ c.requires.source c.args.offset c.args.h.0 c.requires.h_bound.0 c.args.name c.requires.h_bound.1 c.record_at-at.result c.record_end-end.result c.record_at-at.ensures c.record_end-end.ensures _ c.requires.targets_value;
-    t_bound = (omega arith, rw (view_count _ _ _ c.requires.source c.args.offset c.args.h.0 c.requires.h_bound.0 c.args.name c.requires.h_bound.1 c.record_at-at.result c.record_end-end.result c.record_at-at.ensures c.record_end-end.ensures 1 (omega arith)) c.requires.h_bound.0, small_number _ _ _ c.requires.source 1 c.args.h.0 (omega arith) c.requires.h_bound.0, c.loop-j.invariant.going);
-    nameless = λ e. absurd (omega arith);
-    valid_arrays = c.loop-j.invariant.kept;
-  }
+  readable = view_readable _ _ _ c.requires.source c.args.offset c.args.h.0 c.requires.h_bound.0 c.args.name c.requires.h_bound.1 c.record_at-at.result c.record_end-end.result c.record_at-at.ensures c.record_end-end.ensures _ c.requires.targets_value;
+  t_bound = (omega arith, rw (view_count _ _ _ c.requires.source c.args.offset c.args.h.0 c.requires.h_bound.0 c.args.name c.requires.h_bound.1 c.record_at-at.result c.record_end-end.result c.record_at-at.ensures c.record_end-end.ensures 1 (omega arith)) c.requires.h_bound.0, small_number _ _ _ c.requires.source 1 c.args.h.0 (omega arith) c.requires.h_bound.0, c.loop-j.invariant.going);
+  nameless = λ e. absurd (omega arith);
+  valid_arrays = c.loop-j.invariant.kept;
+}
 
 pub returns : goal.returns
 unfolding tab_of

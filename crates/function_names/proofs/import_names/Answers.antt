@@ -4,6 +4,7 @@ use Prim.Native.Nat.{◌+◌, ◌-◌}
 use mathlib.Core.Path.{refl}
 use lib.ListN.{get_or}
 use Rattle.derive_state.specs.Held.{row}
+use Rattle.derive_state.specs.Refers.{tab_of}
 use Rattle.derive_imports.proofs.Sources.{small_number}
 use Rattle.function_names.proofs.Naming.{name_first, name_in_lem, name_number, name_full, name_next, name_skip, name_done}
 use Rattle.function_names.proofs.import_names.Goals as goal
@@ -26,11 +27,12 @@ bounds-stacks-j c = let a = c.args in let l = c.loop-i in let z = name_in_lem a.
 pub overflow_sub-w : goal.overflow_sub-w
 overflow_sub-w c = let h = c.if-w-ne0.true in omega arith
 
-pub import_name-e-requires : goal.import_name-e-requires
-import_name-e-requires c = let a = c.args in let l = c.loop-i in let h = name_number a.words.now a.n a.offset a.b a.log.now a.logtags.now a.starts.now a.maps.now a.buckets.now a.stacks.now a.ends c.requires.valid_arrays l.log l.logtags l.starts l.maps l.buckets l.stacks l.e l.i l.invariant c.loop-i-test.true (get_or (row l.stacks 3) (l.i + 1) 0) ((get_or (row l.stacks 3) (l.i + 1) 0) - 1) refl c.if-w-ne0.true refl in record { source = c.requires.ground.source; h_bound = (h, l.invariant.going); targets_value = c.requires.ground.targets_are; valid_arrays = l.invariant.kept }
+pub import-e-requires : goal.import-e-requires
+import-e-requires c = let a = c.args in let l = c.loop-i in let h = name_number a.words.now a.n a.offset a.b a.log.now a.logtags.now a.starts.now a.maps.now a.buckets.now a.stacks.now a.ends c.requires.valid_arrays l.log l.logtags l.starts l.maps l.buckets l.stacks l.e l.i l.invariant c.loop-i-test.true (get_or (row l.stacks 3) (l.i + 1) 0) ((get_or (row l.stacks 3) (l.i + 1) 0) - 1) refl c.if-w-ne0.true refl in record { source = c.requires.ground.source; number_bound = (omega arith, h, l.invariant.going); targets_value = c.requires.ground.targets_are; valid_arrays = l.invariant.kept }
 
 pub returns-then-e : goal.returns-then-e
-returns-then-e c = let a = c.args in let l = c.loop-i in let h = name_number a.words.now a.n a.offset a.b a.log.now a.logtags.now a.starts.now a.maps.now a.buckets.now a.stacks.now a.ends c.requires.valid_arrays l.log l.logtags l.starts l.maps l.buckets l.stacks l.e l.i l.invariant c.loop-i-test.true (get_or (row l.stacks 3) (l.i + 1) 0) ((get_or (row l.stacks 3) (l.i + 1) 0) - 1) refl c.if-w-ne0.true refl in let u = c.import_name-e in name_full a.words.now a.n a.offset a.b a.log.now a.logtags.now a.starts.now a.maps.now a.buckets.now a.stacks.now a.ends c.requires.valid_arrays l.log l.logtags l.starts l.maps l.buckets l.stacks l.e l.i l.invariant c.loop-i-test.true (get_or (row l.stacks 3) (l.i + 1) 0) ((get_or (row l.stacks 3) (l.i + 1) 0) - 1) refl c.if-w-ne0.true refl u.result c.import_name-e.new.log c.import_name-e.new.logtags c.import_name-e.new.starts c.import_name-e.new.maps c.import_name-e.new.buckets c.import_name-e.ensures c.if-e.true
+unfolding tab_of
+returns-then-e c = let a = c.args in let l = c.loop-i in let h = name_number a.words.now a.n a.offset a.b a.log.now a.logtags.now a.starts.now a.maps.now a.buckets.now a.stacks.now a.ends c.requires.valid_arrays l.log l.logtags l.starts l.maps l.buckets l.stacks l.e l.i l.invariant c.loop-i-test.true (get_or (row l.stacks 3) (l.i + 1) 0) ((get_or (row l.stacks 3) (l.i + 1) 0) - 1) refl c.if-w-ne0.true refl in let u = c.import-e in name_full a.words.now a.n a.offset a.b a.log.now a.logtags.now a.starts.now a.maps.now a.buckets.now a.stacks.now a.ends c.requires.valid_arrays l.log l.logtags l.starts l.maps l.buckets l.stacks l.e l.i l.invariant c.loop-i-test.true (get_or (row l.stacks 3) (l.i + 1) 0) ((get_or (row l.stacks 3) (l.i + 1) 0) - 1) refl c.if-w-ne0.true refl u.result c.import-e.new.log c.import-e.new.logtags c.import-e.new.starts c.import-e.new.maps c.import-e.new.buckets c.import-e.ensures c.if-e.true
 
 pub overflow_sub-w-then-w-ne0 : goal.overflow_sub-w-then-w-ne0
 overflow_sub-w-then-w-ne0 c = let h = c.if-w-ne0.true in omega arith
@@ -51,7 +53,8 @@ pub loop-i-smaller-then-w-ne0 : goal.loop-i-smaller-then-w-ne0
 loop-i-smaller-then-w-ne0 c = let h = c.loop-i-test.true in omega arith
 
 pub loop-i-preserved-then-w-ne0 : goal.loop-i-preserved-then-w-ne0
-loop-i-preserved-then-w-ne0 c = let a = c.args in let l = c.loop-i in let h = name_number a.words.now a.n a.offset a.b a.log.now a.logtags.now a.starts.now a.maps.now a.buckets.now a.stacks.now a.ends c.requires.valid_arrays l.log l.logtags l.starts l.maps l.buckets l.stacks l.e l.i l.invariant c.loop-i-test.true (get_or (row l.stacks 3) (l.i + 1) 0) ((get_or (row l.stacks 3) (l.i + 1) 0) - 1) refl c.if-w-ne0.true refl in let u = c.import_name-e in name_next a.words.now a.n a.offset a.b a.log.now a.logtags.now a.starts.now a.maps.now a.buckets.now a.stacks.now a.ends c.requires.valid_arrays l.log l.logtags l.starts l.maps l.buckets l.stacks l.e l.i l.invariant c.loop-i-test.true (get_or (row l.stacks 3) (l.i + 1) 0) ((get_or (row l.stacks 3) (l.i + 1) 0) - 1) refl c.if-w-ne0.true refl u.result c.import_name-e.new.log c.import_name-e.new.logtags c.import_name-e.new.starts c.import_name-e.new.maps c.import_name-e.new.buckets c.import_name-e.ensures c.if-e.false c.wide.result c.wide.ensures.0 _ refl
+unfolding tab_of
+loop-i-preserved-then-w-ne0 c = let a = c.args in let l = c.loop-i in let h = name_number a.words.now a.n a.offset a.b a.log.now a.logtags.now a.starts.now a.maps.now a.buckets.now a.stacks.now a.ends c.requires.valid_arrays l.log l.logtags l.starts l.maps l.buckets l.stacks l.e l.i l.invariant c.loop-i-test.true (get_or (row l.stacks 3) (l.i + 1) 0) ((get_or (row l.stacks 3) (l.i + 1) 0) - 1) refl c.if-w-ne0.true refl in let u = c.import-e in name_next a.words.now a.n a.offset a.b a.log.now a.logtags.now a.starts.now a.maps.now a.buckets.now a.stacks.now a.ends c.requires.valid_arrays l.log l.logtags l.starts l.maps l.buckets l.stacks l.e l.i l.invariant c.loop-i-test.true (get_or (row l.stacks 3) (l.i + 1) 0) ((get_or (row l.stacks 3) (l.i + 1) 0) - 1) refl c.if-w-ne0.true refl u.result c.import-e.new.log c.import-e.new.logtags c.import-e.new.starts c.import-e.new.maps c.import-e.new.buckets c.import-e.ensures c.if-e.false c.wide.result c.wide.ensures.0 _ refl
 
 pub loop-i-smaller : goal.loop-i-smaller
 loop-i-smaller c = let h = c.loop-i-test.true in omega arith
