@@ -68,15 +68,12 @@ fn find(
     requires by_index { (k : ℕ) → k < n → cell starts.now t k + suc (get_or log.now (cell starts.now t k) 0) ≤ 16384 }
     ensures { result ≡ index_of (recs_at log.now logtags.now (take n (row starts.now t))) (carried_by (went_r maps.now) tags.now words.now at end) }
 {
-    let mut k = 0;
-    while k < n {
-        let j = k;
-        k += 1;
+    for j in 0..n {
         let s = wide(starts[t][j]);
         if equals_record(words, tags, targets, log, logtags, maps, at, end, s) {
             return j;
         }
-    }
+        }
     n
 }
 

@@ -36,17 +36,14 @@ fn equals_name(
     if wide(log[s]) != end - at {
         return false;
     }
-    let mut i = at;
     let mut p = s + 1;
-    while i < end {
-        let j = i;
+    for j in at..end {
         let q = p;
-        i += 1;
         p += 1;
         if !alike_cell(logtags[q], log[q], tags[j], words[j]) {
             return false;
         }
-    }
+        }
     true
 }
 
@@ -65,15 +62,12 @@ fn find_name(
     requires names { Names log.now logtags.now starts.now n }
     ensures { (result ≡ index_of (recs_at log.now logtags.now (take n starts.now)) (between tags.now words.now at end)) × (result ≤ 512) }
 {
-    let mut k = 0;
-    while k < n {
-        let j = k;
-        k += 1;
+    for j in 0..n {
         let s = wide(starts[j]);
         if equals_name(words, tags, log, logtags, at, end, s) {
             return j;
         }
-    }
+        }
     n
 }
 

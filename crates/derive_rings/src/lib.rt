@@ -46,17 +46,14 @@ fn unknown(
 {
     let functions = count(words, FUNCTIONS);
     let mut set = began;
-    let mut i = 0;
-    while i < functions {
-        let f = i;
-        i += 1;
+    for f in 0..functions {
         if has(&began, f) {
             let is_known = known(words, tags, n, log, logtags, starts, maps, ends, f) != 0;
             if is_known {
                 leave(&mut set, f);
             }
         }
-    }
+        }
     set
 }
 
@@ -90,16 +87,13 @@ fn calls_one(words: &Words, tags: &Tags, at: usize, end: usize, set: &[u64; 4]) 
     requires { Scannable words.now tags.now at end 256 }
     ensures { result ≡ any (picked words.now tags.now at end) (λ i. any (members set.now) (eqb i)) }
 {
-    let mut j = at;
-    while j < end {
-        let k = j;
-        j += 1;
+    for k in at..end {
         if tags[k] == CALLEE {
             if has(set, wide(words[k])) {
                 return true;
             }
         }
-    }
+        }
     false
 }
 
@@ -109,16 +103,13 @@ fn entries_call(words: &Words, tags: &Tags, n: usize, set: &[u64; 4]) -> bool
     ensures { result ≡ any (calleesOfAll (mod_of words.now n).entries) (λ i. any (members set.now) (eqb i)) }
 {
     let entries = count(words, ENTRIES);
-    let mut j = 0;
-    while j < entries {
-        let e = j;
-        j += 1;
+    for e in 0..entries {
         let at = entry_function(words, tags, n, e);
         let end = record_end(words, tags, n, ENTRIES, e);
         if calls_one(words, tags, at, end, set) {
             return true;
         }
-    }
+        }
     false
 }
 
@@ -141,17 +132,14 @@ fn calls_unknown(
     requires scannable { Scannable words.now tags.now at end (count_at 6 words.now) }
     ensures { result ≡ any (picked words.now tags.now at end) (unknown_by words.now n log.now logtags.now starts.now ends) }
 {
-    let mut j = at;
-    while j < end {
-        let k = j;
-        j += 1;
+    for k in at..end {
         if tags[k] == CALLEE {
             let f = wide(words[k]);
             if known(words, tags, n, log, logtags, starts, maps, ends, f) == 0 {
                 return true;
             }
         }
-    }
+        }
     false
 }
 
@@ -255,16 +243,13 @@ fn entries_lead(
     ensures { result ≡ any (calleesOfAll (mod_of words.now n).entries) (unknown_by words.now n log.now logtags.now starts.now ends) }
 {
     let entries = count(words, ENTRIES);
-    let mut j = 0;
-    while j < entries {
-        let e = j;
-        j += 1;
+    for e in 0..entries {
         let at = entry_function(words, tags, n, e);
         let end = record_end(words, tags, n, ENTRIES, e);
         if calls_unknown(words, tags, n, log, logtags, starts, maps, ends, at, end) {
             return true;
         }
-    }
+        }
     false
 }
 

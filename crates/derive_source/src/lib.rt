@@ -41,10 +41,7 @@ fn rays(
 {
     let at = base_views::offset(words, SPECIAL);
     let mut e = ends;
-    let mut k = 0;
-    while k < 3 {
-        let j = k;
-        k += 1;
+    for j in 0..3 {
         e = ray(
             words,
             tags,
@@ -64,7 +61,7 @@ fn rays(
         if e.full {
             return e;
         }
-    }
+        }
     e
 }
 

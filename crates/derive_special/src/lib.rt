@@ -23,14 +23,11 @@ fn derived(special: &Special, n: usize, key: u32) -> usize
     requires { (n ≤ 512) × (length special.now ≡ 1027) }
     ensures { result ≡ keyed (pairs_at special.now 3 n) key }
 {
-    let mut i = 0;
-    while i < n {
-        let j = i;
-        i += 1;
+    for j in 0..n {
         if special[3 + 2 * j] == key {
             return wide(special[4 + 2 * j]) + 1;
         }
-    }
+        }
     0
 }
 

@@ -238,19 +238,16 @@ pub fn alike(
     if wide(log[s]) != end - at {
         return false;
     }
-    let mut i = at;
     let mut p = s + 1;
-    while i < end {
-        let j = i;
+    for j in at..end {
         let q = p;
-        i += 1;
         p += 1;
         let b = tags[j];
         let y = carried(targets, maps, b, words[j]);
         if !alike_cell(logtags[q], log[q], b, y) {
             return false;
         }
-    }
+        }
     true
 }
 
@@ -282,13 +279,10 @@ fn hash(
     ensures { result ≡ hash_r t (carried_by (went_r maps.now) tags.now words.now at end) }
 {
     let mut h = t;
-    let mut i = at;
-    while i < end {
-        let j = i;
-        i += 1;
+    for j in at..end {
         let s = tags[j];
         h = mix(h, bare_word(s, carried(targets, maps, s, words[j])));
-    }
+        }
     h
 }
 
@@ -370,18 +364,15 @@ pub fn write(
     requires at_bound { (to + (end - at) ≤ 16384) × (length log.old ≡ 16384) × (length logtags.old ≡ 16384) × (length maps.now ≡ 6) }
     ensures { Written (shift (carried_by (went_r maps.now) tags.now words.now at end) offset false) to log.old logtags.old log.new logtags.new }
 {
-    let mut i = at;
     let mut p = to;
     let mut u = false;
-    while i < end {
-        let j = i;
+    for j in at..end {
         let q = p;
-        i += 1;
         p += 1;
         let s = tags[j];
         let w = carried(targets, maps, s, words[j]);
-        u = undefined_at(words, tags, targets, maps, s, w, i, end, u);
+        u = undefined_at(words, tags, targets, maps, s, w, j + 1, end, u);
         log[q] = moved(s, w, offset, u);
         logtags[q] = s;
-    }
+        }
 }

@@ -64,10 +64,7 @@ pub fn index(tags: &Tags, at: usize, end: usize, places: &mut Places)
     ensures { places.new ≡ sets places.old 0 (finds at (slice at end tags.now)) }
 {
     let mut k = 0;
-    let mut i = at;
-    while i < end {
-        let j = i;
-        i += 1;
+    for j in at..end {
         let s = tags[j];
         if s == NAMED {
             places[k] = j as u16;
@@ -77,7 +74,7 @@ pub fn index(tags: &Tags, at: usize, end: usize, places: &mut Places)
             places[k] = j as u16;
             k += 1;
         }
-    }
+        }
 }
 
 // A word carried through the maps, of a class that names no function.
@@ -196,24 +193,21 @@ pub fn write(
     requires stacks { (Stacks stacks.old ends) × (ends.exprtop + (end - at) ≤ 16384) }
     ensures { Wrote (shift (carried_by (went_of words.now n log.now logtags.now starts.now maps.now ends exprmap.now) tags.now words.now at end) offset false) ends.exprtop stacks.old stacks.new }
 {
-    let mut i = at;
     let mut p = ends.exprtop as usize;
     let mut u = false;
-    while i < end {
-        let j = i;
+    for j in at..end {
         let q = p;
-        i += 1;
         p += 1;
         let s = tags[j];
         let w = carried(
             words, tags, targets, n, log, logtags, starts, maps, exprmap, ends, s, words[j],
         );
         u = undefined_at(
-            words, tags, targets, n, log, logtags, starts, maps, exprmap, ends, s, w, i, end, u,
+            words, tags, targets, n, log, logtags, starts, maps, exprmap, ends, s, w, j + 1, end, u,
         );
         stacks[WORDS][q] = moved(s, w, offset, u);
         stacks[CLASSES][q] = class_word(s);
-    }
+        }
 }
 
 // Appends expression e, of k.
@@ -309,12 +303,9 @@ fn first_difference(
     requires stacks { (Stacks stacks.now ends) × (a ≤ b) × (b ≤ 16384) × (b - a ≡ end - at) }
     ensures { Apart at end (alike (between (row stacks.now 1) (row stacks.now 0) a b) (carried_by (went_of words.now n log.now logtags.now starts.now maps.now ends exprmap.now) tags.now words.now at end)) result }
 {
-    let mut i = at;
     let mut p = a;
-    while i < end {
-        let j = i;
+    for j in at..end {
         let q = p;
-        i += 1;
         p += 1;
         let s = tags[j];
         let y = carried(
@@ -323,7 +314,7 @@ fn first_difference(
         if !alike_cell(stacks[CLASSES][q], stacks[WORDS][q], s, y) {
             return j;
         }
-    }
+        }
     end
 }
 
@@ -357,17 +348,14 @@ fn next_candidate(
     if s == UPTO {
         return k;
     }
-    let mut j = k;
-    while j < made {
-        let h = j;
-        j += 1;
+    for h in k..made {
         let q = wide(stacks[SEATS][e1 + h]) + i;
         if q < 16384 {
             if stacks[WORDS][q] == y {
                 return h;
             }
         }
-    }
+        }
     made
 }
 

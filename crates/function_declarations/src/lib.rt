@@ -62,10 +62,7 @@ fn import_initialiser(
     }
     let end = slot(places[e + 1]);
     let mut got = ends;
-    let mut i = slot(places[e]);
-    while i < end {
-        let j = i;
-        i += 1;
+    for j in slot(places[e])..end {
         let s = tags[j];
         let r = refers_to(targets, s, words[j]);
         if s < EXPR {
@@ -100,7 +97,7 @@ fn import_initialiser(
                 return got;
             }
         }
-    }
+        }
     merge(
         words, tags, targets, n, places, log, logtags, starts, maps, exprmap, stacks, got, offset,
         e1, k, e,

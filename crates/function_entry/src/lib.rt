@@ -133,10 +133,7 @@ pub fn enter_all(
     let all = count(words, ENTRIES);
     let room = count(words, FUNCTIONS);
     let mut e = ends;
-    let mut i = 0;
-    while i < all {
-        let j = i;
-        i += 1;
+    for j in 0..all {
         e = enter(
             words, tags, targets, n, log, logtags, starts, maps, buckets, stacks, e, offset, j,
             room,
@@ -144,6 +141,6 @@ pub fn enter_all(
         if e.full {
             return e;
         }
-    }
+        }
     e
 }

@@ -148,10 +148,7 @@ pub fn import_standing(
     }
     let end = slot(places[e + 1]);
     let mut got = ends;
-    let mut i = slot(places[e]);
-    while i < end {
-        let j = i;
-        i += 1;
+    for j in slot(places[e])..end {
         let s = tags[j];
         let r = refers_to(targets, s, words[j]);
         if s < EXPR {
@@ -176,6 +173,6 @@ pub fn import_standing(
                 }
             }
         }
-    }
+        }
     got
 }

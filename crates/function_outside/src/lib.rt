@@ -108,10 +108,7 @@ pub fn import_outside(
     ensures { ImportEnsures words.now (outward offset (mod_of words.now n) still (between tags.now words.now at end)) log.old logtags.old starts.old maps.old buckets.old ends result log.new logtags.new starts.new maps.new buckets.new }
 {
     let mut e = ends;
-    let mut i = at;
-    while i < end {
-        let j = i;
-        i += 1;
+    for j in at..end {
         let s = tags[j];
         if s < EXPR {
             let r = refers_to(targets, s, words[j]);
@@ -125,6 +122,6 @@ pub fn import_outside(
                 }
             }
         }
-    }
+        }
     e
 }

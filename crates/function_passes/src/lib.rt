@@ -123,10 +123,7 @@ fn first_pass(
     ensures { Makes words.now k (each_e (in_range (record { from = a; to = b })) (glances offset words.now tags.now n places.now k)) log.old logtags.old starts.old maps.old buckets.old exprmap.old stacks.old e1 ends result log.new logtags.new starts.new maps.new buckets.new exprmap.new stacks.new }
 {
     let mut e = ends;
-    let mut x = a;
-    while x < b {
-        let y = x;
-        x += 1;
+    for y in a..b {
         e = import_standing(
             words, tags, targets, n, places, log, logtags, starts, maps, buckets, exprmap, stacks,
             e, offset, e1, k, y,
@@ -134,7 +131,7 @@ fn first_pass(
         if e.full {
             return e;
         }
-    }
+        }
     e
 }
 
@@ -168,10 +165,7 @@ fn second_pass(
     ensures { Lays words.now k (each_e (in_range (record { from = a; to = b })) (needs offset words.now tags.now n places.now k)) log.now logtags.now starts.now maps.now exprmap.old stacks.old e1 ends result exprmap.new stacks.new }
 {
     let mut e = ends;
-    let mut x = a;
-    while x < b {
-        let y = x;
-        x += 1;
+    for y in a..b {
         if exprmap[y] == 0 {
             e = append(
                 words, tags, targets, n, places, log, logtags, starts, maps, exprmap, stacks, e,
@@ -181,7 +175,7 @@ fn second_pass(
                 return e;
             }
         }
-    }
+        }
     e
 }
 
@@ -237,20 +231,17 @@ fn compare_operand(words: &Words, tags: &Tags, i: usize, end: usize) -> u32
     requires { Stretch words.now tags.now i end }
     ensures { optional result [] ≡ compares_of (between tags.now words.now (i) end) }
 {
-    let mut k = i;
-    while k < end {
-        let j = k;
-        k += 1;
+    for j in i..end {
         if tags[j] == ATOMIC {
-            if end <= k {
+            if end <= j + 1 {
                 return 0;
             }
-            if tags[k] == OPT_EXPR {
-                return words[k];
+            if tags[j + 1] == OPT_EXPR {
+                return words[j + 1];
             }
             return 0;
         }
-    }
+        }
     0
 }
 

@@ -20,12 +20,9 @@ fn copy_words(stacks: &StackRows, t: usize, a: usize, count: usize, log: &mut Lo
     requires { (t < 4) × (a + count ≤ 16384) × (p + count ≤ 16384) × (length log.old ≡ 16384) × (length (row stacks.now t) ≡ 16384) }
     ensures { log.new ≡ sets log.old p (slice a (a + count) (row stacks.now t)) }
 {
-    let mut i = 0;
-    while i < count {
-        let j = i;
-        i += 1;
+    for j in 0..count {
         log[p + j] = stacks[t][a + j];
-    }
+        }
 }
 
 // Copies the classes of the source's words from a on.
@@ -33,12 +30,9 @@ fn copy_tags(tags: &Tags, a: usize, count: usize, logtags: &mut LogTags, p: usiz
     requires { (a + count ≤ 16384) × (p + count ≤ 16384) × (length tags.now ≡ 16384) × (length logtags.old ≡ 16384) }
     ensures { logtags.new ≡ sets logtags.old p (slice a (a + count) tags.now) }
 {
-    let mut i = 0;
-    while i < count {
-        let j = i;
-        i += 1;
+    for j in 0..count {
         logtags[p + j] = tags[a + j];
-    }
+        }
 }
 
 // Copies the classes of expressions, from a on.
@@ -47,12 +41,9 @@ fn copy_classes(stacks: &StackRows, a: usize, count: usize, logtags: &mut LogTag
     requires by_index { (i : ℕ) → a ≤ i → i < a + count → get_or (row stacks.now 1) i 0 < 256 }
     ensures { logtags.new ≡ sets logtags.old p (slice a (a + count) (row stacks.now 1)) }
 {
-    let mut i = 0;
-    while i < count {
-        let j = i;
-        i += 1;
+    for j in 0..count {
         logtags[p + j] = stacks[CLASSES][a + j] as u8;
-    }
+        }
 }
 
 // Writes the classes of `count` named expressions.
@@ -60,13 +51,10 @@ fn name_classes(logtags: &mut LogTags, p: usize, count: usize)
     requires { (p + 2 * count ≤ 16384) × (length logtags.old ≡ 16384) }
     ensures { logtags.new ≡ sets logtags.old p (named_classes count) }
 {
-    let mut i = 0;
-    while i < count {
-        let j = i;
-        i += 1;
+    for j in 0..count {
         logtags[p + 2 * j] = NAMED_EXPR;
         logtags[p + 2 * j + 1] = NAME;
-    }
+        }
 }
 
 // Copies `count` words of expressions with their classes, from a on.

@@ -45,10 +45,7 @@ fn append_all(
 {
     let mut e = ends;
     let mut places = [0u16; 1025];
-    let mut i = 0;
-    while i < all {
-        let j = i;
-        i += 1;
+    for j in 0..all {
         e = append(
             words,
             tags,
@@ -66,7 +63,7 @@ fn append_all(
             wide(order[j]),
             all,
         );
-    }
+        }
     e
 }
 

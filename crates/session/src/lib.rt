@@ -66,10 +66,7 @@ pub fn session_in(
     let mut offset = 0;
     let mut first: u64 = 0;
     let count = steps.len() / 4;
-    let mut i = 0;
-    while i < count {
-        let j = i;
-        i += 1;
+    for j in 0..count {
         let step = Step {
             operation: steps[4 * j],
             a: steps[4 * j + 1],
@@ -103,7 +100,7 @@ pub fn session_in(
         tell(answers, 3 * j + 1, said.first);
         tell(answers, 3 * j + 2, said.second);
         first = first_of(first, said.refusal, j);
-    }
+        }
     first
 }
 

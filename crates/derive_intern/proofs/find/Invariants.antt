@@ -6,8 +6,5 @@ use Prim.Native.Nat.{◌-◌}
 use Rattle.derive_state.proofs.Passes.{Seeks}
 use Rattle.derive_intern.proofs.find.Given as goal
 
-abbrev pub invariant-loop-k : goal.invariant-loop-k
-invariant-loop-k l = Seeks l.log l.logtags (get_or l.starts l.t []) (carried_by (went_r l.maps) l.tags l.words l.at l.end) l.n l.k
-
-abbrev pub decreases-loop-k : goal.decreases-loop-k
-decreases-loop-k l = l.n - l.k
+abbrev pub invariant-loop-j : goal.invariant-loop-j
+invariant-loop-j l = Seeks l.log l.logtags (get_or l.starts l.t []) (carried_by (went_r l.maps) l.tags l.words l.at l.end) l.n l.j

@@ -5,8 +5,5 @@ use Rattle.derive_rings.specs.Rings.{unknown_by}
 use Rattle.derive_rings.proofs.Asking.{Asking}
 use Rattle.derive_rings.proofs.calls_unknown.Given as goal
 
-abbrev pub invariant-loop-j : goal.invariant-loop-j
-invariant-loop-j l = Asking l.words l.tags l.at l.end (count_at 6 l.words) (unknown_by l.words l.n l.log l.logtags l.starts l.ends) l.j
-
-abbrev pub decreases-loop-j : goal.decreases-loop-j
-decreases-loop-j l = l.end - l.j
+abbrev pub invariant-loop-k : goal.invariant-loop-k
+invariant-loop-k l = Asking l.words l.tags l.at l.end (count_at 6 l.words) (unknown_by l.words l.n l.log l.logtags l.starts l.ends) l.k

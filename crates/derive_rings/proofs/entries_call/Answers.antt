@@ -6,23 +6,23 @@ use Rattle.derive_rings.proofs.Wholes.{few}
 use Rattle.derive_rings.proofs.Asking.{widened, look, entry_in_lem, scannable, entry_hit, entry_miss, none_left}
 use Rattle.derive_rings.proofs.entries_call.Goals as goal
 
-pub loop-j-init : goal.loop-j-init
-loop-j-init c = look _ _
+pub loop-e-init : goal.loop-e-init
+loop-e-init c = look _ _
 
 pub entry_function-at-requires : goal.entry_function-at-requires
-entry_function-at-requires c = let a = c.args in let p = c.requires in record { tape = tape a.words.now a.tags.now a.n (p); j_bound = entry_in_lem p c.count-entries.ensures.0 c.loop-j-test.true }
+entry_function-at-requires c = let a = c.args in let p = c.requires in record { tape = tape a.words.now a.tags.now a.n (p); j_bound = entry_in_lem p c.count-entries.ensures.0 c.loop-e-test.true }
 
 pub record_end-end-requires : goal.record_end-end-requires
-record_end-end-requires c = let a = c.args in let p = c.requires in record { tape = tape a.words.now a.tags.now a.n (p); k_bound = omega arith; j_bound = entry_in_lem p c.count-entries.ensures.0 c.loop-j-test.true }
+record_end-end-requires c = let a = c.args in let p = c.requires in record { tape = tape a.words.now a.tags.now a.n (p); k_bound = omega arith; j_bound = entry_in_lem p c.count-entries.ensures.0 c.loop-e-test.true }
 
 pub calls_one-requires : goal.calls_one-requires
-calls_one-requires c = let p = c.requires in widened (few p) (scannable p c.count-entries.ensures.0 c.loop-j-test.true c.entry_function-at.ensures c.record_end-end.ensures)
+calls_one-requires c = let p = c.requires in widened (few p) (scannable p c.count-entries.ensures.0 c.loop-e-test.true c.entry_function-at.ensures c.record_end-end.ensures)
 
 pub returns-then-calls_one : goal.returns-then-calls_one
-returns-then-calls_one c = entry_hit c.requires c.count-entries.ensures.0 c.loop-j-test.true c.entry_function-at.ensures c.record_end-end.ensures c.loop-j.invariant c.calls_one.ensures c.if-calls_one.true
+returns-then-calls_one c = entry_hit c.requires c.count-entries.ensures.0 c.loop-e-test.true c.entry_function-at.ensures c.record_end-end.ensures c.loop-e.invariant c.calls_one.ensures c.if-calls_one.true
 
-pub loop-j-preserved : goal.loop-j-preserved
-loop-j-preserved c = entry_miss c.requires c.count-entries.ensures.0 c.loop-j-test.true c.entry_function-at.ensures c.record_end-end.ensures c.loop-j.invariant c.calls_one.ensures c.if-calls_one.false
+pub loop-e-preserved : goal.loop-e-preserved
+loop-e-preserved c = entry_miss c.requires c.count-entries.ensures.0 c.loop-e-test.true c.entry_function-at.ensures c.record_end-end.ensures c.loop-e.invariant c.calls_one.ensures c.if-calls_one.false
 
 pub returns : goal.returns
-returns c = none_left c.requires c.count-entries.ensures.0 c.loop-j.invariant c.loop-j-test.false
+returns c = none_left c.requires c.count-entries.ensures.0 c.loop-e.invariant c.loop-e-test.false

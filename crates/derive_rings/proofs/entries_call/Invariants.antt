@@ -4,8 +4,5 @@ use Rattle.derive_state.specs.Source.{mod_of}
 use Rattle.derive_rings.proofs.Asking.{is_of, Looking}
 use Rattle.derive_rings.proofs.entries_call.Given as goal
 
-abbrev pub invariant-loop-j : goal.invariant-loop-j
-invariant-loop-j l = Looking (mod_of l.words l.n).entries (is_of l.set) l.j
-
-abbrev pub decreases-loop-j : goal.decreases-loop-j
-decreases-loop-j l = l.entries - l.j
+abbrev pub invariant-loop-e : goal.invariant-loop-e
+invariant-loop-e l = Looking (mod_of l.words l.n).entries (is_of l.set) l.e

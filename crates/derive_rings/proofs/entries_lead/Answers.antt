@@ -5,23 +5,23 @@ use Rattle.derive_imports.proofs.Sources.{tape}
 use Rattle.derive_rings.proofs.Asking.{look, entry_in_lem, scannable, entry_hit, entry_miss, none_left}
 use Rattle.derive_rings.proofs.entries_lead.Goals as goal
 
-pub loop-j-init : goal.loop-j-init
-loop-j-init c = look _ _
+pub loop-e-init : goal.loop-e-init
+loop-e-init c = look _ _
 
 pub entry_function-at-requires : goal.entry_function-at-requires
-entry_function-at-requires c = let a = c.args in record { tape = tape a.words.now a.tags.now a.n c.requires.source; j_bound = entry_in_lem c.requires.source c.count-entries.ensures.0 c.loop-j-test.true }
+entry_function-at-requires c = let a = c.args in record { tape = tape a.words.now a.tags.now a.n c.requires.source; j_bound = entry_in_lem c.requires.source c.count-entries.ensures.0 c.loop-e-test.true }
 
 pub record_end-end-requires : goal.record_end-end-requires
-record_end-end-requires c = let a = c.args in record { tape = tape a.words.now a.tags.now a.n c.requires.source; k_bound = omega arith; j_bound = entry_in_lem c.requires.source c.count-entries.ensures.0 c.loop-j-test.true }
+record_end-end-requires c = let a = c.args in record { tape = tape a.words.now a.tags.now a.n c.requires.source; k_bound = omega arith; j_bound = entry_in_lem c.requires.source c.count-entries.ensures.0 c.loop-e-test.true }
 
 pub calls_unknown-requires : goal.calls_unknown-requires
-calls_unknown-requires c = record { source = c.requires.source; n_value = c.requires.n_value; bearing = c.requires.bearing; scannable = scannable c.requires.source c.count-entries.ensures.0 c.loop-j-test.true c.entry_function-at.ensures c.record_end-end.ensures }
+calls_unknown-requires c = record { source = c.requires.source; n_value = c.requires.n_value; bearing = c.requires.bearing; scannable = scannable c.requires.source c.count-entries.ensures.0 c.loop-e-test.true c.entry_function-at.ensures c.record_end-end.ensures }
 
 pub returns-then-calls_unknown : goal.returns-then-calls_unknown
-returns-then-calls_unknown c = entry_hit c.requires.source c.count-entries.ensures.0 c.loop-j-test.true c.entry_function-at.ensures c.record_end-end.ensures c.loop-j.invariant c.calls_unknown.ensures c.if-calls_unknown.true
+returns-then-calls_unknown c = entry_hit c.requires.source c.count-entries.ensures.0 c.loop-e-test.true c.entry_function-at.ensures c.record_end-end.ensures c.loop-e.invariant c.calls_unknown.ensures c.if-calls_unknown.true
 
-pub loop-j-preserved : goal.loop-j-preserved
-loop-j-preserved c = entry_miss c.requires.source c.count-entries.ensures.0 c.loop-j-test.true c.entry_function-at.ensures c.record_end-end.ensures c.loop-j.invariant c.calls_unknown.ensures c.if-calls_unknown.false
+pub loop-e-preserved : goal.loop-e-preserved
+loop-e-preserved c = entry_miss c.requires.source c.count-entries.ensures.0 c.loop-e-test.true c.entry_function-at.ensures c.record_end-end.ensures c.loop-e.invariant c.calls_unknown.ensures c.if-calls_unknown.false
 
 pub returns : goal.returns
-returns c = none_left c.requires.source c.count-entries.ensures.0 c.loop-j.invariant c.loop-j-test.false
+returns c = none_left c.requires.source c.count-entries.ensures.0 c.loop-e.invariant c.loop-e-test.false

@@ -5,8 +5,5 @@ use Rattle.derive_rings.specs.Rings.{unknown_by}
 use Rattle.derive_rings.proofs.Asking.{Looking}
 use Rattle.derive_rings.proofs.entries_lead.Given as goal
 
-abbrev pub invariant-loop-j : goal.invariant-loop-j
-invariant-loop-j l = Looking (mod_of l.words l.n).entries (unknown_by l.words l.n l.log l.logtags l.starts l.ends) l.j
-
-abbrev pub decreases-loop-j : goal.decreases-loop-j
-decreases-loop-j l = l.entries - l.j
+abbrev pub invariant-loop-e : goal.invariant-loop-e
+invariant-loop-e l = Looking (mod_of l.words l.n).entries (unknown_by l.words l.n l.log l.logtags l.starts l.ends) l.e

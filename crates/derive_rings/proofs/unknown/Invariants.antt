@@ -4,8 +4,5 @@ use Rattle.derive_rings.proofs.Sieving.{Sieve}
 use Rattle.derive_rings.proofs.Wholes.{is_unknown}
 use Rattle.derive_rings.proofs.unknown.Given as goal
 
-abbrev pub invariant-loop-i : goal.invariant-loop-i
-invariant-loop-i l = Sieve (is_unknown l.words l.n l.log l.logtags l.starts l.ends) l.functions l.began l.set l.i
-
-abbrev pub decreases-loop-i : goal.decreases-loop-i
-decreases-loop-i l = l.functions - l.i
+abbrev pub invariant-loop-f : goal.invariant-loop-f
+invariant-loop-f l = Sieve (is_unknown l.words l.n l.log l.logtags l.starts l.ends) l.functions l.began l.set l.f

@@ -2,8 +2,5 @@ use Prim.Native.Nat.{◌-◌}
 use Rattle.derive_source.proofs.Loops.{Raying}
 use Rattle.derive_source.proofs.rays.Given as goal
 
-abbrev pub invariant-loop-k : goal.invariant-loop-k
-invariant-loop-k l = Raying l.words l.n l.offset l.initial.log l.initial.logtags l.initial.starts l.initial.maps l.initial.buckets l.initial.special l.initial.e l.log l.logtags l.starts l.maps l.buckets l.special l.e l.k
-
-abbrev pub decreases-loop-k : goal.decreases-loop-k
-decreases-loop-k l = 3 - l.k
+abbrev pub invariant-loop-j : goal.invariant-loop-j
+invariant-loop-j l = Raying l.words l.n l.offset l.initial.log l.initial.logtags l.initial.starts l.initial.maps l.initial.buckets l.initial.special l.initial.e l.log l.logtags l.starts l.maps l.buckets l.special l.e l.j

@@ -3,8 +3,5 @@ use Rattle.derive_state.specs.Refers.{went_r}
 use Rattle.derive_state.proofs.Passes.{Comparing}
 use Rattle.derive_state.proofs.alike.Given as goal
 
-abbrev pub invariant-loop-i : goal.invariant-loop-i
-invariant-loop-i l = Comparing l.words l.tags l.log l.logtags (went_r l.maps) l.at l.end l.s l.i l.p
-
-abbrev pub decreases-loop-i : goal.decreases-loop-i
-decreases-loop-i l = l.end - l.i
+abbrev pub invariant-loop-j : goal.invariant-loop-j
+invariant-loop-j l = Comparing l.words l.tags l.log l.logtags (went_r l.maps) l.at l.end l.s l.j l.p

@@ -3,8 +3,5 @@ use Rattle.derive_state.specs.Refers.{went_r, Small}
 use Rattle.derive_state.proofs.Passes.{Writing}
 use Rattle.derive_state.proofs.write.Given as goal
 
-abbrev pub invariant-loop-i : goal.invariant-loop-i
-invariant-loop-i l = Writing Small l.words l.tags (went_r l.maps) l.at l.end l.to l.offset l.initial.log l.initial.logtags l.log l.logtags l.i l.p l.u
-
-abbrev pub decreases-loop-i : goal.decreases-loop-i
-decreases-loop-i l = l.end - l.i
+abbrev pub invariant-loop-j : goal.invariant-loop-j
+invariant-loop-j l = Writing Small l.words l.tags (went_r l.maps) l.at l.end l.to l.offset l.initial.log l.initial.logtags l.log l.logtags l.j l.p l.u

@@ -7,8 +7,5 @@ use Rattle.function_references.specs.Fits.{FitN}
 use Rattle.function_builder.specs.Stacks.{went_of}
 use Rattle.function_builder.proofs.first_difference.Given as goal
 
-abbrev pub invariant-loop-i : goal.invariant-loop-i
-invariant-loop-i l = (Compares (FitN l.words 1024) l.words l.tags (get_or l.stacks 0 []) (get_or l.stacks 1 []) (went_of l.words l.n l.log l.logtags l.starts l.maps l.ends l.exprmap) l.at l.end l.a l.b l.i l.p) × (l.at ≤ l.i)
-
-abbrev pub decreases-loop-i : goal.decreases-loop-i
-decreases-loop-i l = l.end - l.i
+abbrev pub invariant-loop-j : goal.invariant-loop-j
+invariant-loop-j l = (Compares (FitN l.words 1024) l.words l.tags (get_or l.stacks 0 []) (get_or l.stacks 1 []) (went_of l.words l.n l.log l.logtags l.starts l.maps l.ends l.exprmap) l.at l.end l.a l.b l.j l.p) × (l.at ≤ l.j)

@@ -3,8 +3,5 @@ use Prim.Native.Nat.{◌-◌}
 use Rattle.intake_initialisers.proofs.Visiting.{Finding}
 use Rattle.function_builder.proofs.index.Given as goal
 
-abbrev pub invariant-loop-i : goal.invariant-loop-i
-invariant-loop-i l = Finding l.tags l.at l.end l.initial.places l.k l.i l.places
-
-abbrev pub decreases-loop-i : goal.decreases-loop-i
-decreases-loop-i l = l.end - l.i
+abbrev pub invariant-loop-j : goal.invariant-loop-j
+invariant-loop-j l = Finding l.tags l.at l.end l.initial.places l.k l.j l.places

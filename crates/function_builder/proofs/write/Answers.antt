@@ -5,41 +5,41 @@ use Rattle.function_builder.specs.Stacks.{went_of}
 use Rattle.function_builder.proofs.Writes.{lay_begin, lay_done, lay_in, lay_word, lay_fits, lay_rest, lay_next}
 use Rattle.function_builder.proofs.write.Goals as goal
 
-pub loop-i-init : goal.loop-i-init
-loop-i-init c = let a = c.args in lay_begin a.words.now a.tags.now (went_of a.words.now a.n a.log.now a.logtags.now a.starts.now a.maps.now a.ends a.exprmap.now) a.at a.end a.offset a.stacks.now a.ends c.requires.legible c.requires.stacks.0 c.requires.stacks.1
+pub loop-j-init : goal.loop-j-init
+loop-j-init c = let a = c.args in lay_begin a.words.now a.tags.now (went_of a.words.now a.n a.log.now a.logtags.now a.starts.now a.maps.now a.ends a.exprmap.now) a.at a.end a.offset a.stacks.now a.ends c.requires.legible c.requires.stacks.0 c.requires.stacks.1
 
 pub overflow_add-p : goal.overflow_add-p
-overflow_add-p c = let a = c.args in let l = c.loop-i in let q = lay_in a.words.now a.tags.now (went_of a.words.now a.n a.log.now a.logtags.now a.starts.now a.maps.now a.ends a.exprmap.now) a.at a.end a.offset a.stacks.now a.ends c.requires.legible c.requires.stacks.0 c.requires.stacks.1 l.stacks l.i l.p l.u l.invariant c.loop-i-test.true in omega arith
+overflow_add-p c = let a = c.args in let l = c.loop-j in let q = lay_in a.words.now a.tags.now (went_of a.words.now a.n a.log.now a.logtags.now a.starts.now a.maps.now a.ends a.exprmap.now) a.at a.end a.offset a.stacks.now a.ends c.requires.legible c.requires.stacks.0 c.requires.stacks.1 l.stacks l.j l.p l.u l.invariant c.loop-j-test.true in omega arith
 
 pub bounds-tags-j : goal.bounds-tags-j
-bounds-tags-j c = let a = c.args in let l = c.loop-i in lay_word a.words.now a.tags.now (went_of a.words.now a.n a.log.now a.logtags.now a.starts.now a.maps.now a.ends a.exprmap.now) a.at a.end a.offset a.stacks.now a.ends c.requires.legible c.requires.stacks.0 c.requires.stacks.1 l.stacks l.i l.p l.u l.invariant c.loop-i-test.true
+bounds-tags-j c = let a = c.args in let l = c.loop-j in lay_word a.words.now a.tags.now (went_of a.words.now a.n a.log.now a.logtags.now a.starts.now a.maps.now a.ends a.exprmap.now) a.at a.end a.offset a.stacks.now a.ends c.requires.legible c.requires.stacks.0 c.requires.stacks.1 l.stacks l.j l.p l.u l.invariant c.loop-j-test.true
 
 pub offset_bounds-words-j : goal.offset_bounds-words-j
-offset_bounds-words-j c = let a = c.args in let l = c.loop-i in let q = lay_word a.words.now a.tags.now (went_of a.words.now a.n a.log.now a.logtags.now a.starts.now a.maps.now a.ends a.exprmap.now) a.at a.end a.offset a.stacks.now a.ends c.requires.legible c.requires.stacks.0 c.requires.stacks.1 l.stacks l.i l.p l.u l.invariant c.loop-i-test.true in omega arith
+offset_bounds-words-j c = let a = c.args in let l = c.loop-j in let q = lay_word a.words.now a.tags.now (went_of a.words.now a.n a.log.now a.logtags.now a.starts.now a.maps.now a.ends a.exprmap.now) a.at a.end a.offset a.stacks.now a.ends c.requires.legible c.requires.stacks.0 c.requires.stacks.1 l.stacks l.j l.p l.u l.invariant c.loop-j-test.true in omega arith
 
 pub bounds-words-j : goal.bounds-words-j
-bounds-words-j c = let a = c.args in let l = c.loop-i in lay_word a.words.now a.tags.now (went_of a.words.now a.n a.log.now a.logtags.now a.starts.now a.maps.now a.ends a.exprmap.now) a.at a.end a.offset a.stacks.now a.ends c.requires.legible c.requires.stacks.0 c.requires.stacks.1 l.stacks l.i l.p l.u l.invariant c.loop-i-test.true
+bounds-words-j c = let a = c.args in let l = c.loop-j in lay_word a.words.now a.tags.now (went_of a.words.now a.n a.log.now a.logtags.now a.starts.now a.maps.now a.ends a.exprmap.now) a.at a.end a.offset a.stacks.now a.ends c.requires.legible c.requires.stacks.0 c.requires.stacks.1 l.stacks l.j l.p l.u l.invariant c.loop-j-test.true
 
 pub carried-w-requires : goal.carried-w-requires
-carried-w-requires c = let a = c.args in let l = c.loop-i in record { ground = c.requires.ground; bearing = c.requires.bearing; maps_len = c.requires.maps_len; all = lay_fits a.words.now a.tags.now (went_of a.words.now a.n a.log.now a.logtags.now a.starts.now a.maps.now a.ends a.exprmap.now) a.at a.end a.offset a.stacks.now a.ends c.requires.legible c.requires.stacks.0 c.requires.stacks.1 l.stacks l.i l.p l.u l.invariant c.loop-i-test.true }
+carried-w-requires c = let a = c.args in let l = c.loop-j in record { ground = c.requires.ground; bearing = c.requires.bearing; maps_len = c.requires.maps_len; all = lay_fits a.words.now a.tags.now (went_of a.words.now a.n a.log.now a.logtags.now a.starts.now a.maps.now a.ends a.exprmap.now) a.at a.end a.offset a.stacks.now a.ends c.requires.legible c.requires.stacks.0 c.requires.stacks.1 l.stacks l.j l.p l.u l.invariant c.loop-j-test.true }
 
 pub undefined_at-u-requires : goal.undefined_at-u-requires
-undefined_at-u-requires c = let a = c.args in let l = c.loop-i in record { ground = c.requires.ground; bearing = c.requires.bearing; maps_len = c.requires.maps_len; legible = lay_rest a.words.now a.tags.now (went_of a.words.now a.n a.log.now a.logtags.now a.starts.now a.maps.now a.ends a.exprmap.now) a.at a.end a.offset a.stacks.now a.ends c.requires.legible c.requires.stacks.0 c.requires.stacks.1 l.stacks l.i l.p l.u l.invariant c.loop-i-test.true }
+undefined_at-u-requires c = let a = c.args in let l = c.loop-j in record { ground = c.requires.ground; bearing = c.requires.bearing; maps_len = c.requires.maps_len; legible = lay_rest a.words.now a.tags.now (went_of a.words.now a.n a.log.now a.logtags.now a.starts.now a.maps.now a.ends a.exprmap.now) a.at a.end a.offset a.stacks.now a.ends c.requires.legible c.requires.stacks.0 c.requires.stacks.1 l.stacks l.j l.p l.u l.invariant c.loop-j-test.true }
 
 pub offset_bounds-stacks-q : goal.offset_bounds-stacks-q
-offset_bounds-stacks-q c = let a = c.args in let l = c.loop-i in let q = lay_in a.words.now a.tags.now (went_of a.words.now a.n a.log.now a.logtags.now a.starts.now a.maps.now a.ends a.exprmap.now) a.at a.end a.offset a.stacks.now a.ends c.requires.legible c.requires.stacks.0 c.requires.stacks.1 l.stacks l.i l.p l.u l.invariant c.loop-i-test.true in omega arith
+offset_bounds-stacks-q c = let a = c.args in let l = c.loop-j in let q = lay_in a.words.now a.tags.now (went_of a.words.now a.n a.log.now a.logtags.now a.starts.now a.maps.now a.ends a.exprmap.now) a.at a.end a.offset a.stacks.now a.ends c.requires.legible c.requires.stacks.0 c.requires.stacks.1 l.stacks l.j l.p l.u l.invariant c.loop-j-test.true in omega arith
 
 pub bounds-stacks-q : goal.bounds-stacks-q
-bounds-stacks-q c = let a = c.args in let l = c.loop-i in lay_in a.words.now a.tags.now (went_of a.words.now a.n a.log.now a.logtags.now a.starts.now a.maps.now a.ends a.exprmap.now) a.at a.end a.offset a.stacks.now a.ends c.requires.legible c.requires.stacks.0 c.requires.stacks.1 l.stacks l.i l.p l.u l.invariant c.loop-i-test.true
+bounds-stacks-q c = let a = c.args in let l = c.loop-j in lay_in a.words.now a.tags.now (went_of a.words.now a.n a.log.now a.logtags.now a.starts.now a.maps.now a.ends a.exprmap.now) a.at a.end a.offset a.stacks.now a.ends c.requires.legible c.requires.stacks.0 c.requires.stacks.1 l.stacks l.j l.p l.u l.invariant c.loop-j-test.true
 
-pub offset_bounds-stacks-q-in-loop-i : goal.offset_bounds-stacks-q-in-loop-i
-offset_bounds-stacks-q-in-loop-i c = let a = c.args in let l = c.loop-i in let q = lay_in a.words.now a.tags.now (went_of a.words.now a.n a.log.now a.logtags.now a.starts.now a.maps.now a.ends a.exprmap.now) a.at a.end a.offset a.stacks.now a.ends c.requires.legible c.requires.stacks.0 c.requires.stacks.1 l.stacks l.i l.p l.u l.invariant c.loop-i-test.true in omega arith
+pub offset_bounds-stacks-q-in-loop-j : goal.offset_bounds-stacks-q-in-loop-j
+offset_bounds-stacks-q-in-loop-j c = let a = c.args in let l = c.loop-j in let q = lay_in a.words.now a.tags.now (went_of a.words.now a.n a.log.now a.logtags.now a.starts.now a.maps.now a.ends a.exprmap.now) a.at a.end a.offset a.stacks.now a.ends c.requires.legible c.requires.stacks.0 c.requires.stacks.1 l.stacks l.j l.p l.u l.invariant c.loop-j-test.true in omega arith
 
-pub bounds-stacks-q-in-loop-i : goal.bounds-stacks-q-in-loop-i
-bounds-stacks-q-in-loop-i c = let a = c.args in let l = c.loop-i in lay_in a.words.now a.tags.now (went_of a.words.now a.n a.log.now a.logtags.now a.starts.now a.maps.now a.ends a.exprmap.now) a.at a.end a.offset a.stacks.now a.ends c.requires.legible c.requires.stacks.0 c.requires.stacks.1 l.stacks l.i l.p l.u l.invariant c.loop-i-test.true
+pub bounds-stacks-q-in-loop-j : goal.bounds-stacks-q-in-loop-j
+bounds-stacks-q-in-loop-j c = let a = c.args in let l = c.loop-j in lay_in a.words.now a.tags.now (went_of a.words.now a.n a.log.now a.logtags.now a.starts.now a.maps.now a.ends a.exprmap.now) a.at a.end a.offset a.stacks.now a.ends c.requires.legible c.requires.stacks.0 c.requires.stacks.1 l.stacks l.j l.p l.u l.invariant c.loop-j-test.true
 
-pub loop-i-preserved : goal.loop-i-preserved
-loop-i-preserved c = let a = c.args in let l = c.loop-i in lay_next a.words.now a.tags.now (went_of a.words.now a.n a.log.now a.logtags.now a.starts.now a.maps.now a.ends a.exprmap.now) a.at a.end a.offset a.stacks.now a.ends c.requires.legible c.requires.stacks.0 c.requires.stacks.1 l.stacks l.i l.p l.u l.invariant c.loop-i-test.true _ c.carried-w.ensures _ c.undefined_at-u.ensures _ c.moved.ensures _ c.class_word.ensures
+pub loop-j-preserved : goal.loop-j-preserved
+loop-j-preserved c = let a = c.args in let l = c.loop-j in lay_next a.words.now a.tags.now (went_of a.words.now a.n a.log.now a.logtags.now a.starts.now a.maps.now a.ends a.exprmap.now) a.at a.end a.offset a.stacks.now a.ends c.requires.legible c.requires.stacks.0 c.requires.stacks.1 l.stacks l.j l.p l.u l.invariant c.loop-j-test.true _ c.carried-w.ensures _ c.undefined_at-u.ensures _ c.moved.ensures _ c.class_word.ensures
 
 pub returns : goal.returns
-returns c = let a = c.args in let l = c.loop-i in lay_done a.words.now a.tags.now (went_of a.words.now a.n a.log.now a.logtags.now a.starts.now a.maps.now a.ends a.exprmap.now) a.at a.end a.offset a.stacks.now a.ends c.requires.legible c.requires.stacks.0 c.requires.stacks.1 l.stacks l.i l.p l.u l.invariant c.loop-i-test.false
+returns c = let a = c.args in let l = c.loop-j in lay_done a.words.now a.tags.now (went_of a.words.now a.n a.log.now a.logtags.now a.starts.now a.maps.now a.ends a.exprmap.now) a.at a.end a.offset a.stacks.now a.ends c.requires.legible c.requires.stacks.0 c.requires.stacks.1 l.stacks l.j l.p l.u l.invariant c.loop-j-test.false

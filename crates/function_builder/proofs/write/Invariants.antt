@@ -4,8 +4,5 @@ use Rattle.function_builder.specs.Stacks.{went_of}
 use Rattle.function_builder.proofs.Writes.{Laying}
 use Rattle.function_builder.proofs.write.Given as goal
 
-abbrev pub invariant-loop-i : goal.invariant-loop-i
-invariant-loop-i l = Laying l.words l.tags (went_of l.words l.n l.log l.logtags l.starts l.maps l.ends l.exprmap) l.at l.end l.offset l.initial.stacks l.ends l.stacks l.i l.p l.u
-
-abbrev pub decreases-loop-i : goal.decreases-loop-i
-decreases-loop-i l = l.end - l.i
+abbrev pub invariant-loop-j : goal.invariant-loop-j
+invariant-loop-j l = Laying l.words l.tags (went_of l.words l.n l.log l.logtags l.starts l.maps l.ends l.exprmap) l.at l.end l.offset l.initial.stacks l.ends l.stacks l.j l.p l.u

@@ -11,71 +11,71 @@ use Rattle.function_expressions.proofs.import_standing.Goals as goal
 pub returns-then-exprmap-e-ne0 : goal.returns-then-exprmap-e-ne0
 returns-then-exprmap-e-ne0 c = let a = c.args in glance-idle c.requires.expressions a.n a.offset c.requires.e_lt_k.1 c.requires.valid_arrays c.requires.under c.requires.e_lt_k.0 c.if-exprmap-e-ne0.true
 
-pub loop-i-init : goal.loop-i-init
-loop-i-init c = along-begin c.requires.valid_arrays (cells_legible c.requires.expressions c.requires.e_lt_k.0 c.slot-i.ensures.0 c.slot-end.ensures.0) c.requires.e_lt_k.1 c.requires.under
+pub loop-j-init : goal.loop-j-init
+loop-j-init c = along-begin c.requires.valid_arrays (cells_legible c.requires.expressions c.requires.e_lt_k.0 c.slot-i.ensures.0 c.slot-end.ensures.0) c.requires.e_lt_k.1 c.requires.under
 
 pub overflow_add-i : goal.overflow_add-i
-overflow_add-i c = let z = along_in c.requires.valid_arrays c.loop-i.invariant c.loop-i-test.true in omega arith
+overflow_add-i c = let z = along_in c.requires.valid_arrays c.loop-j.invariant c.loop-j-test.true in omega arith
 
 pub bounds-tags-j : goal.bounds-tags-j
-bounds-tags-j c = along_in c.requires.valid_arrays c.loop-i.invariant c.loop-i-test.true
+bounds-tags-j c = along_in c.requires.valid_arrays c.loop-j.invariant c.loop-j-test.true
 
 pub offset_bounds-words-j : goal.offset_bounds-words-j
-offset_bounds-words-j c = let z = along_in c.requires.valid_arrays c.loop-i.invariant c.loop-i-test.true in omega arith
+offset_bounds-words-j c = let z = along_in c.requires.valid_arrays c.loop-j.invariant c.loop-j-test.true in omega arith
 
 pub bounds-words-j : goal.bounds-words-j
-bounds-words-j c = along_in c.requires.valid_arrays c.loop-i.invariant c.loop-i-test.true
+bounds-words-j c = along_in c.requires.valid_arrays c.loop-j.invariant c.loop-j-test.true
 
 pub refers_to-r-requires : goal.refers_to-r-requires
 refers_to-r-requires c = c.requires.ground.targets_are
 
 pub missing-requires : goal.missing-requires
-missing-requires c = λ l. let a = c.args in let inv = c.loop-i.invariant in let less = c.loop-i-test.true in let r = c.refers_to-r in small_number a.words.now a.tags.now a.n c.requires.ground.source r.result.table r.result.number l (along_number c.requires.valid_arrays inv less refl c.refers_to-r.ensures.0 c.refers_to-r.ensures.1 c.if-s-lt-EXPR.true l)
+missing-requires c = λ l. let a = c.args in let inv = c.loop-j.invariant in let less = c.loop-j-test.true in let r = c.refers_to-r in small_number a.words.now a.tags.now a.n c.requires.ground.source r.result.table r.result.number l (along_number c.requires.valid_arrays inv less refl c.refers_to-r.ensures.0 c.refers_to-r.ensures.1 c.if-s-lt-EXPR.true l)
 
 pub import_by_table-got-requires : goal.import_by_table-got-requires
-import_by_table-got-requires c = let inv = c.loop-i.invariant in let less = c.loop-i-test.true in let t = c.refers_to-r.ensures in record { ground = c.requires.ground; h_bound = along_number c.requires.valid_arrays inv less refl t.0 t.1 c.if-s-lt-EXPR.true; full_value = inv.going; valid_arrays = along-kept c.requires.valid_arrays inv }
+import_by_table-got-requires c = let inv = c.loop-j.invariant in let less = c.loop-j-test.true in let t = c.refers_to-r.ensures in record { ground = c.requires.ground; h_bound = along_number c.requires.valid_arrays inv less refl t.0 t.1 c.if-s-lt-EXPR.true; full_value = inv.going; valid_arrays = along-kept c.requires.valid_arrays inv }
 
 pub returns-then-got : goal.returns-then-got
-returns-then-got c = let a = c.args in let inv = c.loop-i.invariant in let less = c.loop-i-test.true in let t = c.refers_to-r.ensures in glance_full c.requires.expressions a.n a.offset c.requires.e_lt_k.1 c.requires.valid_arrays c.requires.under c.requires.e_lt_k.0 c.if-exprmap-e-ne0.false c.slot-i.ensures.0 c.slot-end.ensures.0 inv less (along_record c.requires.valid_arrays inv less refl t.0 t.1 c.if-s-lt-EXPR.true c.import_by_table-got.ensures) c.if-got.true
+returns-then-got c = let a = c.args in let inv = c.loop-j.invariant in let less = c.loop-j-test.true in let t = c.refers_to-r.ensures in glance_full c.requires.expressions a.n a.offset c.requires.e_lt_k.1 c.requires.valid_arrays c.requires.under c.requires.e_lt_k.0 c.if-exprmap-e-ne0.false c.slot-i.ensures.0 c.slot-end.ensures.0 inv less (along_record c.requires.valid_arrays inv less refl t.0 t.1 c.if-s-lt-EXPR.true c.import_by_table-got.ensures) c.if-got.true
 
-pub loop-i-smaller-else-got : goal.loop-i-smaller-else-got
-loop-i-smaller-else-got c = let h = c.loop-i-test.true in omega arith
+pub loop-j-smaller-else-got : goal.loop-j-smaller-else-got
+loop-j-smaller-else-got c = let h = c.loop-j-test.true in omega arith
 
-pub loop-i-preserved-else-got : goal.loop-i-preserved-else-got
-loop-i-preserved-else-got c = let inv = c.loop-i.invariant in let less = c.loop-i-test.true in let t = c.refers_to-r.ensures in along-next c.requires.valid_arrays inv less (along_record c.requires.valid_arrays inv less refl t.0 t.1 c.if-s-lt-EXPR.true c.import_by_table-got.ensures) c.if-got.false
+pub loop-j-preserved-else-got : goal.loop-j-preserved-else-got
+loop-j-preserved-else-got c = let inv = c.loop-j.invariant in let less = c.loop-j-test.true in let t = c.refers_to-r.ensures in along-next c.requires.valid_arrays inv less (along_record c.requires.valid_arrays inv less refl t.0 t.1 c.if-s-lt-EXPR.true c.import_by_table-got.ensures) c.if-got.false
 
-pub loop-i-smaller-else-missing : goal.loop-i-smaller-else-missing
-loop-i-smaller-else-missing c = let h = c.loop-i-test.true in omega arith
+pub loop-j-smaller-else-missing : goal.loop-j-smaller-else-missing
+loop-j-smaller-else-missing c = let h = c.loop-j-test.true in omega arith
 
-pub loop-i-preserved-else-missing : goal.loop-i-preserved-else-missing
-loop-i-preserved-else-missing c = let a = c.args in let inv = c.loop-i.invariant in let less = c.loop-i-test.true in let t = c.refers_to-r.ensures in along-next c.requires.valid_arrays inv less (along_record c.requires.valid_arrays inv less refl t.0 t.1 c.if-s-lt-EXPR.true (lands_mapped c.requires.ground.source a.offset (along_number c.requires.valid_arrays inv less refl t.0 t.1 c.if-s-lt-EXPR.true) inv.going (along-kept c.requires.valid_arrays inv) (c.missing.ensures.h_nonzero c.if-missing.false))) inv.going
+pub loop-j-preserved-else-missing : goal.loop-j-preserved-else-missing
+loop-j-preserved-else-missing c = let a = c.args in let inv = c.loop-j.invariant in let less = c.loop-j-test.true in let t = c.refers_to-r.ensures in along-next c.requires.valid_arrays inv less (along_record c.requires.valid_arrays inv less refl t.0 t.1 c.if-s-lt-EXPR.true (lands_mapped c.requires.ground.source a.offset (along_number c.requires.valid_arrays inv less refl t.0 t.1 c.if-s-lt-EXPR.true) inv.going (along-kept c.requires.valid_arrays inv) (c.missing.ensures.h_nonzero c.if-missing.false))) inv.going
 
 pub is_unmapped_standing-requires : goal.is_unmapped_standing-requires
-is_unmapped_standing-requires c = let inv = c.loop-i.invariant in let less = c.loop-i-test.true in let t = c.refers_to-r.ensures in let h = operand_in c.requires.expressions c.requires.e_lt_k.0 c.requires.valid_arrays inv less refl t.0 (c.wide-x.ensures.0 ∙ t.1) c.if-s-lt-EXPR.false c.if-r-eq-EXPRESSIONS.true in let few = c.requires.expressions.few in (omega arith, first_in c.requires.expressions h)
+is_unmapped_standing-requires c = let inv = c.loop-j.invariant in let less = c.loop-j-test.true in let t = c.refers_to-r.ensures in let h = operand_in c.requires.expressions c.requires.e_lt_k.0 c.requires.valid_arrays inv less refl t.0 (c.wide-x.ensures.0 ∙ t.1) c.if-s-lt-EXPR.false c.if-r-eq-EXPRESSIONS.true in let few = c.requires.expressions.few in (omega arith, first_in c.requires.expressions h)
 
 pub import_unmapped-got-requires : goal.import_unmapped-got-requires
-import_unmapped-got-requires c = let inv = c.loop-i.invariant in let less = c.loop-i-test.true in let t = c.refers_to-r.ensures in record { ground = c.requires.ground; expressions = c.requires.expressions; e_lt_k = (operand_in c.requires.expressions c.requires.e_lt_k.0 c.requires.valid_arrays inv less refl t.0 (c.wide-x.ensures.0 ∙ t.1) c.if-s-lt-EXPR.false c.if-r-eq-EXPRESSIONS.true, inv.going); valid_arrays = along-kept c.requires.valid_arrays inv; under = along_under c.requires.valid_arrays inv }
+import_unmapped-got-requires c = let inv = c.loop-j.invariant in let less = c.loop-j-test.true in let t = c.refers_to-r.ensures in record { ground = c.requires.ground; expressions = c.requires.expressions; e_lt_k = (operand_in c.requires.expressions c.requires.e_lt_k.0 c.requires.valid_arrays inv less refl t.0 (c.wide-x.ensures.0 ∙ t.1) c.if-s-lt-EXPR.false c.if-r-eq-EXPRESSIONS.true, inv.going); valid_arrays = along-kept c.requires.valid_arrays inv; under = along_under c.requires.valid_arrays inv }
 
 pub returns-then-got-2 : goal.returns-then-got-2
-returns-then-got-2 c = let a = c.args in let inv = c.loop-i.invariant in let less = c.loop-i-test.true in let t = c.refers_to-r.ensures in glance_full c.requires.expressions a.n a.offset c.requires.e_lt_k.1 c.requires.valid_arrays c.requires.under c.requires.e_lt_k.0 c.if-exprmap-e-ne0.false c.slot-i.ensures.0 c.slot-end.ensures.0 inv less (operand_done c.requires.expressions c.requires.e_lt_k.0 c.requires.valid_arrays inv less refl t.0 (c.wide-x.ensures.0 ∙ t.1) c.if-s-lt-EXPR.false c.if-r-eq-EXPRESSIONS.true (c.is_unmapped_standing.ensures.e_value c.if-is_unmapped_standing.true).1 c.import_unmapped-got.ensures) c.if-got-2.true
+returns-then-got-2 c = let a = c.args in let inv = c.loop-j.invariant in let less = c.loop-j-test.true in let t = c.refers_to-r.ensures in glance_full c.requires.expressions a.n a.offset c.requires.e_lt_k.1 c.requires.valid_arrays c.requires.under c.requires.e_lt_k.0 c.if-exprmap-e-ne0.false c.slot-i.ensures.0 c.slot-end.ensures.0 inv less (operand_done c.requires.expressions c.requires.e_lt_k.0 c.requires.valid_arrays inv less refl t.0 (c.wide-x.ensures.0 ∙ t.1) c.if-s-lt-EXPR.false c.if-r-eq-EXPRESSIONS.true (c.is_unmapped_standing.ensures.e_value c.if-is_unmapped_standing.true).1 c.import_unmapped-got.ensures) c.if-got-2.true
 
-pub loop-i-smaller-else-got-2 : goal.loop-i-smaller-else-got-2
-loop-i-smaller-else-got-2 c = let h = c.loop-i-test.true in omega arith
+pub loop-j-smaller-else-got-2 : goal.loop-j-smaller-else-got-2
+loop-j-smaller-else-got-2 c = let h = c.loop-j-test.true in omega arith
 
-pub loop-i-preserved-else-got-2 : goal.loop-i-preserved-else-got-2
-loop-i-preserved-else-got-2 c = let inv = c.loop-i.invariant in let less = c.loop-i-test.true in let t = c.refers_to-r.ensures in along-next c.requires.valid_arrays inv less (operand_done c.requires.expressions c.requires.e_lt_k.0 c.requires.valid_arrays inv less refl t.0 (c.wide-x.ensures.0 ∙ t.1) c.if-s-lt-EXPR.false c.if-r-eq-EXPRESSIONS.true (c.is_unmapped_standing.ensures.e_value c.if-is_unmapped_standing.true).1 c.import_unmapped-got.ensures) c.if-got-2.false
+pub loop-j-preserved-else-got-2 : goal.loop-j-preserved-else-got-2
+loop-j-preserved-else-got-2 c = let inv = c.loop-j.invariant in let less = c.loop-j-test.true in let t = c.refers_to-r.ensures in along-next c.requires.valid_arrays inv less (operand_done c.requires.expressions c.requires.e_lt_k.0 c.requires.valid_arrays inv less refl t.0 (c.wide-x.ensures.0 ∙ t.1) c.if-s-lt-EXPR.false c.if-r-eq-EXPRESSIONS.true (c.is_unmapped_standing.ensures.e_value c.if-is_unmapped_standing.true).1 c.import_unmapped-got.ensures) c.if-got-2.false
 
-pub loop-i-smaller-else-is_unmapped_standing : goal.loop-i-smaller-else-is_unmapped_standing
-loop-i-smaller-else-is_unmapped_standing c = let h = c.loop-i-test.true in omega arith
+pub loop-j-smaller-else-is_unmapped_standing : goal.loop-j-smaller-else-is_unmapped_standing
+loop-j-smaller-else-is_unmapped_standing c = let h = c.loop-j-test.true in omega arith
 
-pub loop-i-preserved-else-is_unmapped_standing : goal.loop-i-preserved-else-is_unmapped_standing
-loop-i-preserved-else-is_unmapped_standing c = let inv = c.loop-i.invariant in let less = c.loop-i-test.true in let t = c.refers_to-r.ensures in along-next c.requires.valid_arrays inv less (operand-idle c.requires.expressions c.requires.e_lt_k.0 c.requires.valid_arrays inv less refl t.0 (c.wide-x.ensures.0 ∙ t.1) c.if-s-lt-EXPR.false c.if-r-eq-EXPRESSIONS.true (c.is_unmapped_standing.ensures.e_value_2 c.if-is_unmapped_standing.false)) inv.going
+pub loop-j-preserved-else-is_unmapped_standing : goal.loop-j-preserved-else-is_unmapped_standing
+loop-j-preserved-else-is_unmapped_standing c = let inv = c.loop-j.invariant in let less = c.loop-j-test.true in let t = c.refers_to-r.ensures in along-next c.requires.valid_arrays inv less (operand-idle c.requires.expressions c.requires.e_lt_k.0 c.requires.valid_arrays inv less refl t.0 (c.wide-x.ensures.0 ∙ t.1) c.if-s-lt-EXPR.false c.if-r-eq-EXPRESSIONS.true (c.is_unmapped_standing.ensures.e_value_2 c.if-is_unmapped_standing.false)) inv.going
 
-pub loop-i-smaller : goal.loop-i-smaller
-loop-i-smaller c = let h = c.loop-i-test.true in omega arith
+pub loop-j-smaller : goal.loop-j-smaller
+loop-j-smaller c = let h = c.loop-j-test.true in omega arith
 
-pub loop-i-preserved : goal.loop-i-preserved
-loop-i-preserved c = let K = c.requires.valid_arrays in let inv = c.loop-i.invariant in let less = c.loop-i-test.true in let t = c.refers_to-r.ensures in along-next K inv less (along-none K inv less refl t.0 t.1 c.if-s-lt-EXPR.false c.if-r-eq-EXPRESSIONS.false) inv.going
+pub loop-j-preserved : goal.loop-j-preserved
+loop-j-preserved c = let K = c.requires.valid_arrays in let inv = c.loop-j.invariant in let less = c.loop-j-test.true in let t = c.refers_to-r.ensures in along-next K inv less (along-none K inv less refl t.0 t.1 c.if-s-lt-EXPR.false c.if-r-eq-EXPRESSIONS.false) inv.going
 
 pub returns : goal.returns
-returns c = let a = c.args in glance_done c.requires.expressions a.n a.offset c.requires.e_lt_k.1 c.requires.valid_arrays c.requires.under c.requires.e_lt_k.0 c.if-exprmap-e-ne0.false c.slot-i.ensures.0 c.slot-end.ensures.0 c.loop-i.invariant c.loop-i-test.false
+returns c = let a = c.args in glance_done c.requires.expressions a.n a.offset c.requires.e_lt_k.1 c.requires.valid_arrays c.requires.under c.requires.e_lt_k.0 c.if-exprmap-e-ne0.false c.slot-i.ensures.0 c.slot-end.ensures.0 c.loop-j.invariant c.loop-j-test.false

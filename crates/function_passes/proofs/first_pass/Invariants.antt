@@ -4,8 +4,5 @@ use Rattle.function_words.specs.Runs.{glances}
 use Rattle.function_passes.proofs.Ranges.{Ranging}
 use Rattle.function_passes.proofs.first_pass.Given as goal
 
-abbrev pub invariant-loop-x : goal.invariant-loop-x
-invariant-loop-x l = Ranging l.words l.k (glances l.offset l.words l.tags l.n l.places l.k) l.a l.b l.initial.log l.initial.logtags l.initial.starts l.initial.maps l.initial.buckets l.initial.exprmap l.initial.stacks l.e1 l.initial.e l.e l.log l.logtags l.starts l.maps l.buckets l.exprmap l.stacks l.x
-
-abbrev pub decreases-loop-x : goal.decreases-loop-x
-decreases-loop-x l = l.b - l.x
+abbrev pub invariant-loop-y : goal.invariant-loop-y
+invariant-loop-y l = Ranging l.words l.k (glances l.offset l.words l.tags l.n l.places l.k) l.a l.b l.initial.log l.initial.logtags l.initial.starts l.initial.maps l.initial.buckets l.initial.exprmap l.initial.stacks l.e1 l.initial.e l.e l.log l.logtags l.starts l.maps l.buckets l.exprmap l.stacks l.y

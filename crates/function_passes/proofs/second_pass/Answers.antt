@@ -5,35 +5,35 @@ use Rattle.derive_lookup.proofs.Bears.{bearing}
 use Rattle.function_passes.proofs.Appending.{appending, append_done, append_skip, append_full, append-more}
 use Rattle.function_passes.proofs.second_pass.Goals as goal
 
-pub loop-x-init : goal.loop-x-init
-loop-x-init c = appending c.requires.under c.requires.full_value c.requires.drawn
+pub loop-y-init : goal.loop-y-init
+loop-y-init c = appending c.requires.under c.requires.full_value c.requires.drawn
 
 pub overflow_add-x : goal.overflow_add-x
-overflow_add-x c = let f = c.requires.expressions.few in let l = c.requires.b_le_k in let h = c.loop-x-test.true in omega arith
+overflow_add-x c = let f = c.requires.expressions.few in let l = c.requires.b_le_k in let h = c.loop-y-test.true in omega arith
 
 pub offset_bounds-exprmap-y : goal.offset_bounds-exprmap-y
-offset_bounds-exprmap-y c = let f = c.requires.expressions.few in let l = c.requires.b_le_k in let h = c.loop-x-test.true in omega arith
+offset_bounds-exprmap-y c = let f = c.requires.expressions.few in let l = c.requires.b_le_k in let h = c.loop-y-test.true in omega arith
 
 pub bounds-exprmap-y : goal.bounds-exprmap-y
-bounds-exprmap-y c = let f = c.requires.expressions.few in let l = c.requires.b_le_k in let h = c.loop-x-test.true in omega arith
+bounds-exprmap-y c = let f = c.requires.expressions.few in let l = c.requires.b_le_k in let h = c.loop-y-test.true in omega arith
 
 pub append-e-requires : goal.append-e-requires
-append-e-requires c = let q = c.requires.by_index in let R = c.loop-x.invariant.ranging q.0 q.1 in let l = c.requires.b_le_k in let h = c.loop-x-test.true in record { ground = c.requires.ground; bearing = bearing (R.makes.kept R.going); maps_len = q.1.maps-six; expressions = c.requires.expressions; e_lt_k = (omega arith, R.going); under = R.makes.under R.going }
+append-e-requires c = let q = c.requires.by_index in let R = c.loop-y.invariant.ranging q.0 q.1 in let l = c.requires.b_le_k in let h = c.loop-y-test.true in record { ground = c.requires.ground; bearing = bearing (R.makes.kept R.going); maps_len = q.1.maps-six; expressions = c.requires.expressions; e_lt_k = (omega arith, R.going); under = R.makes.under R.going }
 
 pub returns-then-e : goal.returns-then-e
-returns-then-e c = append_full c.loop-x.invariant c.requires.expressions c.requires.b_le_k c.loop-x-test.true c.if-exprmap-y-eq0.true c.append-e.ensures c.if-e.true
+returns-then-e c = append_full c.loop-y.invariant c.requires.expressions c.requires.b_le_k c.loop-y-test.true c.if-exprmap-y-eq0.true c.append-e.ensures c.if-e.true
 
-pub loop-x-smaller-else-e : goal.loop-x-smaller-else-e
-loop-x-smaller-else-e c = let h = c.loop-x-test.true in omega arith
+pub loop-y-smaller-else-e : goal.loop-y-smaller-else-e
+loop-y-smaller-else-e c = let h = c.loop-y-test.true in omega arith
 
-pub loop-x-preserved-else-e : goal.loop-x-preserved-else-e
-loop-x-preserved-else-e c = append-more c.loop-x.invariant c.requires.expressions c.requires.b_le_k c.loop-x-test.true c.if-exprmap-y-eq0.true c.append-e.ensures c.requires.by_index c.if-e.false
+pub loop-y-preserved-else-e : goal.loop-y-preserved-else-e
+loop-y-preserved-else-e c = append-more c.loop-y.invariant c.requires.expressions c.requires.b_le_k c.loop-y-test.true c.if-exprmap-y-eq0.true c.append-e.ensures c.requires.by_index c.if-e.false
 
-pub loop-x-smaller : goal.loop-x-smaller
-loop-x-smaller c = let h = c.loop-x-test.true in omega arith
+pub loop-y-smaller : goal.loop-y-smaller
+loop-y-smaller c = let h = c.loop-y-test.true in omega arith
 
-pub loop-x-preserved : goal.loop-x-preserved
-loop-x-preserved c = append_skip c.loop-x.invariant c.requires.expressions c.requires.b_le_k c.loop-x-test.true c.if-exprmap-y-eq0.false
+pub loop-y-preserved : goal.loop-y-preserved
+loop-y-preserved c = append_skip c.loop-y.invariant c.requires.expressions c.requires.b_le_k c.loop-y-test.true c.if-exprmap-y-eq0.false
 
 pub returns : goal.returns
-returns c = append_done c.loop-x.invariant c.loop-x-test.false
+returns c = append_done c.loop-y.invariant c.loop-y-test.false

@@ -6,14 +6,14 @@ use Rattle.function_record.proofs.Copying.{copying_begin, copying_next, copying_
 use borrow.Author.Rules.{rules}
 use Rattle.function_record.proofs.copy_classes.Goals as goal
 
-pub loop-i-init : goal.loop-i-init
-loop-i-init c = search (copying_begin, rules)
+pub loop-j-init : goal.loop-j-init
+loop-j-init c = search (copying_begin, rules)
 
 pub overflow_cast-logtags : goal.overflow_cast-logtags
-overflow_cast-logtags c = let h = c.loop-i-test.true in let r = c.requires.by_index (c.args.a + c.loop-i.i) (omega arith) (omega arith) in search (r, rules)
+overflow_cast-logtags c = let h = c.loop-j-test.true in let r = c.requires.by_index (c.args.a + c.loop-j.j) (omega arith) (omega arith) in search (r, rules)
 
-pub loop-i-preserved : goal.loop-i-preserved
-loop-i-preserved c = let x = c.args in copying_next (row x.stacks.now 1) x.a x.count x.logtags.now x.p c.loop-i.logtags c.loop-i.i c.loop-i.invariant (omega (arith, c.requires.count_bound)) c.loop-i-test.true
+pub loop-j-preserved : goal.loop-j-preserved
+loop-j-preserved c = let x = c.args in copying_next (row x.stacks.now 1) x.a x.count x.logtags.now x.p c.loop-j.logtags c.loop-j.j c.loop-j.invariant (omega (arith, c.requires.count_bound)) c.loop-j-test.true
 
 pub returns : goal.returns
 returns c = search (copying_done, rules)

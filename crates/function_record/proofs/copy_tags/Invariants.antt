@@ -3,8 +3,5 @@ use Prim.Native.Nat.{◌-◌}
 use Rattle.function_record.proofs.Copying.{Copying}
 use Rattle.function_record.proofs.copy_tags.Given as goal
 
-abbrev pub invariant-loop-i : goal.invariant-loop-i
-invariant-loop-i l = Copying l.tags l.a l.count l.initial.logtags l.p l.logtags l.i
-
-abbrev pub decreases-loop-i : goal.decreases-loop-i
-decreases-loop-i l = l.count - l.i
+abbrev pub invariant-loop-j : goal.invariant-loop-j
+invariant-loop-j l = Copying l.tags l.a l.count l.initial.logtags l.p l.logtags l.j

@@ -6,11 +6,11 @@ use Rattle.function_record.proofs.Copying.{copying_begin, copying_next, copying_
 use borrow.Author.Rules.{rules}
 use Rattle.function_record.proofs.copy_words.Goals as goal
 
-pub loop-i-init : goal.loop-i-init
-loop-i-init c = search (copying_begin, rules)
+pub loop-j-init : goal.loop-j-init
+loop-j-init c = search (copying_begin, rules)
 
-pub loop-i-preserved : goal.loop-i-preserved
-loop-i-preserved c = let x = c.args in copying_next (row x.stacks.now x.t) x.a x.count x.log.now x.p c.loop-i.log c.loop-i.i c.loop-i.invariant (omega (arith, c.requires)) c.loop-i-test.true
+pub loop-j-preserved : goal.loop-j-preserved
+loop-j-preserved c = let x = c.args in copying_next (row x.stacks.now x.t) x.a x.count x.log.now x.p c.loop-j.log c.loop-j.j c.loop-j.invariant (omega (arith, c.requires)) c.loop-j-test.true
 
 pub returns : goal.returns
 returns c = search (copying_done, rules)

@@ -4,8 +4,5 @@ use Rattle.derive_state.specs.Held.{row}
 use Rattle.function_record.proofs.Copying.{Copying}
 use Rattle.function_record.proofs.copy_words.Given as goal
 
-abbrev pub invariant-loop-i : goal.invariant-loop-i
-invariant-loop-i l = Copying (row l.stacks l.t) l.a l.count l.initial.log l.p l.log l.i
-
-abbrev pub decreases-loop-i : goal.decreases-loop-i
-decreases-loop-i l = l.count - l.i
+abbrev pub invariant-loop-j : goal.invariant-loop-j
+invariant-loop-j l = Copying (row l.stacks l.t) l.a l.count l.initial.log l.p l.log l.j

@@ -4,11 +4,11 @@ use Rattle.function_record.proofs.Copying.{naming-begin, naming-next, naming_don
 use borrow.Author.Rules.{rules}
 use Rattle.function_record.proofs.name_classes.Goals as goal
 
-pub loop-i-init : goal.loop-i-init
-loop-i-init c = search (naming-begin, rules)
+pub loop-j-init : goal.loop-j-init
+loop-j-init c = search (naming-begin, rules)
 
-pub loop-i-preserved : goal.loop-i-preserved
-loop-i-preserved c = let x = c.args in naming-next x.count x.logtags.now x.p c.loop-i.logtags c.loop-i.i c.loop-i.invariant c.loop-i-test.true
+pub loop-j-preserved : goal.loop-j-preserved
+loop-j-preserved c = let x = c.args in naming-next x.count x.logtags.now x.p c.loop-j.logtags c.loop-j.j c.loop-j.invariant c.loop-j-test.true
 
 pub returns : goal.returns
 returns c = search (naming_done, rules)

@@ -6,8 +6,5 @@ use Rattle.derive_state.specs.Held.{st_of}
 use Rattle.link_words.proofs.Appending.{Turn}
 use Rattle.link_words.proofs.append_all.Given as goal
 
-abbrev pub invariant-loop-i : goal.invariant-loop-i
-invariant-loop-i l = Turn l.words l.tags l.targets l.n l.order l.all (append_all (take l.all l.order) 0 (mod_of l.words l.n) (st_of l.words l.initial.log l.initial.logtags l.initial.starts l.initial.maps l.special l.initial.e)) l.i l.log l.logtags l.starts l.maps l.buckets l.special l.stacks l.e
-
-abbrev pub decreases-loop-i : goal.decreases-loop-i
-decreases-loop-i l = l.all - l.i
+abbrev pub invariant-loop-j : goal.invariant-loop-j
+invariant-loop-j l = Turn l.words l.tags l.targets l.n l.order l.all (append_all (take l.all l.order) 0 (mod_of l.words l.n) (st_of l.words l.initial.log l.initial.logtags l.initial.starts l.initial.maps l.special l.initial.e)) l.j l.log l.logtags l.starts l.maps l.buckets l.special l.stacks l.e
