@@ -62,7 +62,8 @@ fn import_initialiser(
     }
     let end = slot(places[e + 1]);
     let mut got = ends;
-    for j in slot(places[e])..end {
+    let at = slot(places[e]);
+    for j in at..end {
         let s = tags[j];
         let r = refers_to(targets, s, words[j]);
         if s < EXPR {
