@@ -73,7 +73,7 @@ fn find(
         if equals_record(words, tags, targets, log, logtags, maps, at, end, s) {
             return j;
         }
-        }
+    }
     n
 }
 

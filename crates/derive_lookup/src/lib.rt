@@ -43,7 +43,7 @@ fn equals_name(
         if !alike_cell(logtags[q], log[q], tags[j], words[j]) {
             return false;
         }
-        }
+    }
     true
 }
 
@@ -67,7 +67,7 @@ fn find_name(
         if equals_name(words, tags, log, logtags, at, end, s) {
             return j;
         }
-        }
+    }
     n
 }
 

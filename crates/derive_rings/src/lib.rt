@@ -53,7 +53,7 @@ fn unknown(
                 leave(&mut set, f);
             }
         }
-        }
+    }
     set
 }
 
@@ -93,7 +93,7 @@ fn calls_one(words: &Words, tags: &Tags, at: usize, end: usize, set: &[u64; 4]) 
                 return true;
             }
         }
-        }
+    }
     false
 }
 
@@ -109,7 +109,7 @@ fn entries_call(words: &Words, tags: &Tags, n: usize, set: &[u64; 4]) -> bool
         if calls_one(words, tags, at, end, set) {
             return true;
         }
-        }
+    }
     false
 }
 
@@ -139,7 +139,7 @@ fn calls_unknown(
                 return true;
             }
         }
-        }
+    }
     false
 }
 
@@ -249,7 +249,7 @@ fn entries_lead(
         if calls_unknown(words, tags, n, log, logtags, starts, maps, ends, at, end) {
             return true;
         }
-        }
+    }
     false
 }
 

@@ -61,7 +61,7 @@ fn rays(
         if e.full {
             return e;
         }
-        }
+    }
     e
 }
 

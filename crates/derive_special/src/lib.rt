@@ -27,7 +27,7 @@ fn derived(special: &Special, n: usize, key: u32) -> usize
         if special[3 + 2 * j] == key {
             return wide(special[4 + 2 * j]) + 1;
         }
-        }
+    }
     0
 }
 

@@ -247,7 +247,7 @@ pub fn alike(
         if !alike_cell(logtags[q], log[q], b, y) {
             return false;
         }
-        }
+    }
     true
 }
 
@@ -282,7 +282,7 @@ fn hash(
     for j in at..end {
         let s = tags[j];
         h = mix(h, bare_word(s, carried(targets, maps, s, words[j])));
-        }
+    }
     h
 }
 
@@ -374,5 +374,5 @@ pub fn write(
         u = undefined_at(words, tags, targets, maps, s, w, j + 1, end, u);
         log[q] = moved(s, w, offset, u);
         logtags[q] = s;
-        }
+    }
 }

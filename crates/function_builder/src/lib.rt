@@ -74,7 +74,7 @@ pub fn index(tags: &Tags, at: usize, end: usize, places: &mut Places)
             places[k] = j as u16;
             k += 1;
         }
-        }
+    }
 }
 
 // A word carried through the maps, of a class that names no function.
@@ -203,11 +203,25 @@ pub fn write(
             words, tags, targets, n, log, logtags, starts, maps, exprmap, ends, s, words[j],
         );
         u = undefined_at(
-            words, tags, targets, n, log, logtags, starts, maps, exprmap, ends, s, w, j + 1, end, u,
+            words,
+            tags,
+            targets,
+            n,
+            log,
+            logtags,
+            starts,
+            maps,
+            exprmap,
+            ends,
+            s,
+            w,
+            j + 1,
+            end,
+            u,
         );
         stacks[WORDS][q] = moved(s, w, offset, u);
         stacks[CLASSES][q] = class_word(s);
-        }
+    }
 }
 
 // Appends expression e, of k.
@@ -314,7 +328,7 @@ fn first_difference(
         if !alike_cell(stacks[CLASSES][q], stacks[WORDS][q], s, y) {
             return j;
         }
-        }
+    }
     end
 }
 
@@ -355,7 +369,7 @@ fn next_candidate(
                 return h;
             }
         }
-        }
+    }
     made
 }
 

@@ -98,7 +98,7 @@ fn import_initialiser(
                 return got;
             }
         }
-        }
+    }
     merge(
         words, tags, targets, n, places, log, logtags, starts, maps, exprmap, stacks, got, offset,
         e1, k, e,

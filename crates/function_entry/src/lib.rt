@@ -141,6 +141,6 @@ pub fn enter_all(
         if e.full {
             return e;
         }
-        }
+    }
     e
 }

@@ -174,6 +174,6 @@ pub fn import_standing(
                 }
             }
         }
-        }
+    }
     got
 }

@@ -122,6 +122,6 @@ pub fn import_outside(
                 }
             }
         }
-        }
+    }
     e
 }

@@ -131,7 +131,7 @@ fn first_pass(
         if e.full {
             return e;
         }
-        }
+    }
     e
 }
 
@@ -175,7 +175,7 @@ fn second_pass(
                 return e;
             }
         }
-        }
+    }
     e
 }
 
@@ -233,15 +233,16 @@ fn compare_operand(words: &Words, tags: &Tags, i: usize, end: usize) -> u32
 {
     for j in i..end {
         if tags[j] == ATOMIC {
-            if end <= j + 1 {
+            let k = j + 1;
+            if end <= k {
                 return 0;
             }
-            if tags[j + 1] == OPT_EXPR {
-                return words[j + 1];
+            if tags[k] == OPT_EXPR {
+                return words[k];
             }
             return 0;
         }
-        }
+    }
     0
 }
 

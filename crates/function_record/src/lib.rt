@@ -22,7 +22,7 @@ fn copy_words(stacks: &StackRows, t: usize, a: usize, count: usize, log: &mut Lo
 {
     for j in 0..count {
         log[p + j] = stacks[t][a + j];
-        }
+    }
 }
 
 // Copies the classes of the source's words from a on.
@@ -32,7 +32,7 @@ fn copy_tags(tags: &Tags, a: usize, count: usize, logtags: &mut LogTags, p: usiz
 {
     for j in 0..count {
         logtags[p + j] = tags[a + j];
-        }
+    }
 }
 
 // Copies the classes of expressions, from a on.
@@ -43,7 +43,7 @@ fn copy_classes(stacks: &StackRows, a: usize, count: usize, logtags: &mut LogTag
 {
     for j in 0..count {
         logtags[p + j] = stacks[CLASSES][a + j] as u8;
-        }
+    }
 }
 
 // Writes the classes of `count` named expressions.
@@ -54,7 +54,7 @@ fn name_classes(logtags: &mut LogTags, p: usize, count: usize)
     for j in 0..count {
         logtags[p + 2 * j] = NAMED_EXPR;
         logtags[p + 2 * j + 1] = NAME;
-        }
+    }
 }
 
 // Copies `count` words of expressions with their classes, from a on.

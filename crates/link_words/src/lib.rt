@@ -63,7 +63,7 @@ fn append_all(
             wide(order[j]),
             all,
         );
-        }
+    }
     e
 }
 

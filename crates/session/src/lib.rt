@@ -100,7 +100,7 @@ pub fn session_in(
         tell(answers, 3 * j + 1, said.first);
         tell(answers, 3 * j + 2, said.second);
         first = first_of(first, said.refusal, j);
-        }
+    }
     first
 }
 

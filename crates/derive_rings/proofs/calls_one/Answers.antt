@@ -17,7 +17,7 @@ returns-then-has c = hit (is_of c.args.set.now) c.requires c.loop-k.invariant c.
 pub loop-k-preserved : goal.loop-k-preserved
 loop-k-preserved c =
     elim c.if-tags-k-eq-CALLEE.branch [
-      then-tags-k-eq-CALLEE+else-has w ↦ miss (is_of c.args.set.now) c.requires c.loop-k.invariant c.loop-k-test.true w.if-tags-k-eq-CALLEE.true _ w.wide.ensures.0 (sym (holds_is c.args.set.now _ (may (is_of c.args.set.now) c.requires c.loop-k.invariant c.loop-k-test.true w.if-tags-k-eq-CALLEE.true _ w.wide.ensures.0)) ∙ sym w.has.ensures ∙ w.if-has.false)
+      | then-tags-k-eq-CALLEE+else-has w ↦ miss (is_of c.args.set.now) c.requires c.loop-k.invariant c.loop-k-test.true w.if-tags-k-eq-CALLEE.true _ w.wide.ensures.0 (sym (holds_is c.args.set.now _ (may (is_of c.args.set.now) c.requires c.loop-k.invariant c.loop-k-test.true w.if-tags-k-eq-CALLEE.true _ w.wide.ensures.0)) ∙ sym w.has.ensures ∙ w.if-has.false)
       | else-tags-k-eq-CALLEE w ↦ pass (is_of c.args.set.now) c.requires c.loop-k.invariant c.loop-k-test.true w.if-tags-k-eq-CALLEE.false
     ]
 

@@ -22,7 +22,7 @@ leave-requires c = (let i = c.loop-f.invariant in i.long, (let h = few_at c.requ
 pub loop-f-preserved : goal.loop-f-preserved
 loop-f-preserved c =
     elim c.if-has.branch [
-      then-has+then-is_known w ↦ rw (w.set-is) (drops _ _ _ (few_at c.requires.source c.count-functions.ensures.0) (below_at _ c.count-functions.ensures.0 c.requires.began_len.1) _ _ c.loop-f.invariant c.loop-f-test.true (sym c.has.ensures ∙ w.if-has.true) (is_known c.args.words.now c.args.n c.args.log.now c.args.logtags.now c.args.starts.now c.args.ends _ _ w.known-is_known.ensures w.if-is_known.true) _ w.leave.ensures)
+      | then-has+then-is_known w ↦ rw (w.set-is) (drops _ _ _ (few_at c.requires.source c.count-functions.ensures.0) (below_at _ c.count-functions.ensures.0 c.requires.began_len.1) _ _ c.loop-f.invariant c.loop-f-test.true (sym c.has.ensures ∙ w.if-has.true) (is_known c.args.words.now c.args.n c.args.log.now c.args.logtags.now c.args.starts.now c.args.ends _ _ w.known-is_known.ensures w.if-is_known.true) _ w.leave.ensures)
       | then-has+else-is_known w ↦ rw (w.set-is) (stays _ _ _ (few_at c.requires.source c.count-functions.ensures.0) (below_at _ c.count-functions.ensures.0 c.requires.began_len.1) _ _ c.loop-f.invariant c.loop-f-test.true (sym c.has.ensures ∙ w.if-has.true) (is_unknown_lem c.args.words.now c.args.n c.args.log.now c.args.logtags.now c.args.starts.now c.args.ends _ _ w.known-is_known.ensures w.if-is_known.false))
       | else-has w ↦ rw (w.set-is) (passes _ _ _ (few_at c.requires.source c.count-functions.ensures.0) (below_at _ c.count-functions.ensures.0 c.requires.began_len.1) _ _ c.loop-f.invariant c.loop-f-test.true (sym c.has.ensures ∙ w.if-has.false))
     ]

@@ -20,7 +20,7 @@ bounds-places-k-then-s-eq-EXPR_KIND c = search (places-room, rules)
 pub loop-j-preserved : goal.loop-j-preserved
 loop-j-preserved c =
     elim c.if-s-eq-EXPR_KIND.branch [
-      then-s-eq-EXPR_KIND w ↦ rw (w.places-is, w.k-is) (search (places-next, rules))
+      | then-s-eq-EXPR_KIND w ↦ rw (w.places-is, w.k-is) (search (places-next, rules))
       | else-s-eq-EXPR_KIND w ↦ rw (w.places-is, w.k-is) (search (places_skip, rules))
     ]
 

@@ -36,7 +36,7 @@ returns-then-got t c = let a = c.args in let inv = c.loop-j.invariant in let les
 pub loop-j-preserved : goal.loop-j-preserved
 loop-j-preserved t c =
     elim c.if-s-lt-EXPR.branch [
-      then-s-lt-EXPR+else-got w ↦ rw (w.log-is, w.logtags-is, w.starts-is, w.maps-is, w.buckets-is, w.exprmap-is, w.stacks-is, w.got-is) (let inv = c.loop-j.invariant in let less = c.loop-j-test.true in let f = c.refers_to-r.ensures in along-next c.requires.valid_arrays inv less (along_record c.requires.valid_arrays inv less refl f.0 f.1 w.if-s-lt-EXPR.true w.import_record-got.ensures) w.if-got.false)
+      | then-s-lt-EXPR+else-got w ↦ rw (w.log-is, w.logtags-is, w.starts-is, w.maps-is, w.buckets-is, w.exprmap-is, w.stacks-is, w.got-is) (let inv = c.loop-j.invariant in let less = c.loop-j-test.true in let f = c.refers_to-r.ensures in along-next c.requires.valid_arrays inv less (along_record c.requires.valid_arrays inv less refl f.0 f.1 w.if-s-lt-EXPR.true w.import_record-got.ensures) w.if-got.false)
       | else-s-lt-EXPR+then-r-eq-EXPRESSIONS+else-got-2 w ↦ rw (w.log-is, w.logtags-is, w.starts-is, w.maps-is, w.buckets-is, w.exprmap-is, w.stacks-is, w.got-is) (let inv = c.loop-j.invariant in let less = c.loop-j-test.true in let f = c.refers_to-r.ensures in along-next c.requires.valid_arrays inv less (along_own c.requires.valid_arrays inv less refl f.0 (w.wide.ensures.0 ∙ f.1) w.if-s-lt-EXPR.false w.if-r-eq-EXPRESSIONS.true w.import_initialiser-got.ensures) w.if-got-2.false)
       | else-s-lt-EXPR+else-r-eq-EXPRESSIONS w ↦ rw (w.log-is, w.logtags-is, w.starts-is, w.maps-is, w.buckets-is, w.exprmap-is, w.stacks-is, w.got-is) (let K = c.requires.valid_arrays in let inv = c.loop-j.invariant in let less = c.loop-j-test.true in let f = c.refers_to-r.ensures in along-next K inv less (along-none K inv less refl f.0 f.1 w.if-s-lt-EXPR.false w.if-r-eq-EXPRESSIONS.false) inv.going)
     ]

@@ -9,9 +9,6 @@ use Rattle.function_entry.proofs.enter_all.Goals as goal
 pub loop-j-init : goal.loop-j-init
 loop-j-init c = let a = c.args in let L = c.requires.valid_session in let S = c.requires.stacks in let q = c.requires.ends_value in turn-first a.n a.offset a.words.now a.tags.now a.targets.now a.log.now a.logtags.now a.starts.now a.maps.now a.buckets.now a.special.now a.ends L q a.stacks.now S
 
-pub overflow_add-i : goal.overflow_add-i
-overflow_add-i c = let z = c.count-all.ensures.1 in let y = c.loop-j-test.true in omega arith
-
 pub enter-e-requires : goal.enter-e-requires
 enter-e-requires c = let a = c.args in let L = c.requires.valid_session in let S = c.requires.stacks in let q = c.requires.ends_value in let l = c.loop-j in let h = c.loop-j-test.true in let k = c.count-room.ensures.0 in let k7 = c.count-all.ensures.0 in let i : l.j < count_at 7 a.words.now = omega arith in record { ground = Sources.ground a.n a.offset a.words.now a.tags.now a.targets.now a.log.now a.logtags.now a.starts.now a.maps.now a.buckets.now a.special.now a.ends L; j_bound = (i, Sources.scope a.n a.offset a.words.now a.tags.now a.targets.now a.log.now a.logtags.now a.starts.now a.maps.now a.buckets.now a.special.now a.ends L); nested_e = nested-entry a.n a.offset a.words.now a.tags.now a.targets.now a.log.now a.logtags.now a.starts.now a.maps.now a.buckets.now a.special.now a.ends L l.log l.logtags l.starts l.maps l.buckets l.stacks l.e l.j l.invariant i _ k; full_value = (l.invariant.going, l.invariant.stacks_are); valid_arrays = l.invariant.kept }
 

@@ -39,7 +39,7 @@ returns-then-got c = let a = c.args in let inv = c.loop-j.invariant in let less 
 pub loop-j-preserved : goal.loop-j-preserved
 loop-j-preserved c =
     elim c.if-s-lt-EXPR.branch [
-      then-s-lt-EXPR+then-missing+else-got w ↦ rw (w.log-is, w.logtags-is, w.starts-is, w.maps-is, w.buckets-is, w.exprmap-is, w.stacks-is, w.got-is) (let inv = c.loop-j.invariant in let less = c.loop-j-test.true in let t = c.refers_to-r.ensures in along-next c.requires.valid_arrays inv less (along_record c.requires.valid_arrays inv less refl t.0 t.1 w.if-s-lt-EXPR.true w.import_by_table-got.ensures) w.if-got.false)
+      | then-s-lt-EXPR+then-missing+else-got w ↦ rw (w.log-is, w.logtags-is, w.starts-is, w.maps-is, w.buckets-is, w.exprmap-is, w.stacks-is, w.got-is) (let inv = c.loop-j.invariant in let less = c.loop-j-test.true in let t = c.refers_to-r.ensures in along-next c.requires.valid_arrays inv less (along_record c.requires.valid_arrays inv less refl t.0 t.1 w.if-s-lt-EXPR.true w.import_by_table-got.ensures) w.if-got.false)
       | then-s-lt-EXPR+else-missing w ↦ rw (w.log-is, w.logtags-is, w.starts-is, w.maps-is, w.buckets-is, w.exprmap-is, w.stacks-is, w.got-is) (let a = c.args in let inv = c.loop-j.invariant in let less = c.loop-j-test.true in let t = c.refers_to-r.ensures in along-next c.requires.valid_arrays inv less (along_record c.requires.valid_arrays inv less refl t.0 t.1 w.if-s-lt-EXPR.true (lands_mapped c.requires.ground.source a.offset (along_number c.requires.valid_arrays inv less refl t.0 t.1 w.if-s-lt-EXPR.true) inv.going (along-kept c.requires.valid_arrays inv) (w.missing.ensures.h_nonzero w.if-missing.false))) inv.going)
       | else-s-lt-EXPR+then-r-eq-EXPRESSIONS+then-is_unmapped_standing+else-got-2 w ↦ rw (w.log-is, w.logtags-is, w.starts-is, w.maps-is, w.buckets-is, w.exprmap-is, w.stacks-is, w.got-is) (let inv = c.loop-j.invariant in let less = c.loop-j-test.true in let t = c.refers_to-r.ensures in along-next c.requires.valid_arrays inv less (operand_done c.requires.expressions c.requires.e_lt_k.0 c.requires.valid_arrays inv less refl t.0 (w.wide-x.ensures.0 ∙ t.1) w.if-s-lt-EXPR.false w.if-r-eq-EXPRESSIONS.true (w.is_unmapped_standing.ensures.e_value w.if-is_unmapped_standing.true).1 w.import_unmapped-got.ensures) w.if-got-2.false)
       | else-s-lt-EXPR+then-r-eq-EXPRESSIONS+else-is_unmapped_standing w ↦ rw (w.log-is, w.logtags-is, w.starts-is, w.maps-is, w.buckets-is, w.exprmap-is, w.stacks-is, w.got-is) (let inv = c.loop-j.invariant in let less = c.loop-j-test.true in let t = c.refers_to-r.ensures in along-next c.requires.valid_arrays inv less (operand-idle c.requires.expressions c.requires.e_lt_k.0 c.requires.valid_arrays inv less refl t.0 (w.wide-x.ensures.0 ∙ t.1) w.if-s-lt-EXPR.false w.if-r-eq-EXPRESSIONS.true (w.is_unmapped_standing.ensures.e_value_2 w.if-is_unmapped_standing.false)) inv.going)

@@ -36,7 +36,7 @@ returns-then-e c = let a = c.args in let l = c.loop-j in let t = c.refers_to-r i
 pub loop-j-preserved : goal.loop-j-preserved
 loop-j-preserved c =
     elim c.if-s-lt-EXPR.branch [
-      then-s-lt-EXPR+then-missing+else-e w ↦ rw (w.log-is, w.logtags-is, w.starts-is, w.maps-is, w.buckets-is, w.e-is) (let a = c.args in let l = c.loop-j in let t = w.refers_to-r in let u = w.import_by_table-e in pass-next a.words.now a.tags.now a.n a.offset a.at a.end a.log.now a.logtags.now a.starts.now a.maps.now a.buckets.now a.ends c.requires.valid_arrays l.log l.logtags l.starts l.maps l.buckets l.e l.j l.invariant c.loop-j-test.true (get_or a.tags.now l.j 0) refl w.if-s-lt-EXPR.true t.result.table t.result.number w.refers_to-r.ensures.0 w.refers_to-r.ensures.1 u.result w.import_by_table-e.new.log w.import_by_table-e.new.logtags w.import_by_table-e.new.starts w.import_by_table-e.new.maps w.import_by_table-e.new.buckets w.import_by_table-e.ensures w.if-e.false)
+      | then-s-lt-EXPR+then-missing+else-e w ↦ rw (w.log-is, w.logtags-is, w.starts-is, w.maps-is, w.buckets-is, w.e-is) (let a = c.args in let l = c.loop-j in let t = w.refers_to-r in let u = w.import_by_table-e in pass-next a.words.now a.tags.now a.n a.offset a.at a.end a.log.now a.logtags.now a.starts.now a.maps.now a.buckets.now a.ends c.requires.valid_arrays l.log l.logtags l.starts l.maps l.buckets l.e l.j l.invariant c.loop-j-test.true (get_or a.tags.now l.j 0) refl w.if-s-lt-EXPR.true t.result.table t.result.number w.refers_to-r.ensures.0 w.refers_to-r.ensures.1 u.result w.import_by_table-e.new.log w.import_by_table-e.new.logtags w.import_by_table-e.new.starts w.import_by_table-e.new.maps w.import_by_table-e.new.buckets w.import_by_table-e.ensures w.if-e.false)
       | then-s-lt-EXPR+else-missing w ↦ rw (w.log-is, w.logtags-is, w.starts-is, w.maps-is, w.buckets-is, w.e-is) (let a = c.args in let l = c.loop-j in let t = w.refers_to-r in pass-next a.words.now a.tags.now a.n a.offset a.at a.end a.log.now a.logtags.now a.starts.now a.maps.now a.buckets.now a.ends c.requires.valid_arrays l.log l.logtags l.starts l.maps l.buckets l.e l.j l.invariant c.loop-j-test.true (get_or a.tags.now l.j 0) refl w.if-s-lt-EXPR.true t.result.table t.result.number w.refers_to-r.ensures.0 w.refers_to-r.ensures.1 l.e l.log l.logtags l.starts l.maps l.buckets (lands_mapped c.requires.ground.source a.offset (pass_number a.words.now a.tags.now a.n a.offset a.at a.end a.log.now a.logtags.now a.starts.now a.maps.now a.buckets.now a.ends c.requires.valid_arrays l.log l.logtags l.starts l.maps l.buckets l.e l.j l.invariant c.loop-j-test.true (get_or a.tags.now l.j 0) refl w.if-s-lt-EXPR.true t.result.table t.result.number w.refers_to-r.ensures.0 w.refers_to-r.ensures.1) l.invariant.going l.invariant.kept (w.missing.ensures.h_nonzero w.if-missing.false)) l.invariant.going)
       | else-s-lt-EXPR w ↦ rw (w.log-is, w.logtags-is, w.starts-is, w.maps-is, w.buckets-is, w.e-is) (let a = c.args in let l = c.loop-j in pass_skip a.words.now a.tags.now a.n a.offset a.at a.end a.log.now a.logtags.now a.starts.now a.maps.now a.buckets.now a.ends c.requires.valid_arrays l.log l.logtags l.starts l.maps l.buckets l.e l.j l.invariant c.loop-j-test.true (get_or a.tags.now l.j 0) refl w.if-s-lt-EXPR.false)
     ]

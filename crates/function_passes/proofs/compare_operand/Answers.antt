@@ -7,9 +7,6 @@ use Rattle.function_passes.proofs.compare_operand.Goals as goal
 pub loop-j-init : goal.loop-j-init
 loop-j-init c = compare-begin c.requires
 
-pub overflow_add-k : goal.overflow_add-k
-overflow_add-k c = let S = c.loop-j.invariant.left in omega arith
-
 pub bounds-tags-j : goal.bounds-tags-j
 bounds-tags-j c = let S = c.loop-j.invariant.left in omega arith
 
@@ -30,9 +27,6 @@ returns-then-tags-k-eq-OPT_EXPR c = compare_some c.loop-j.invariant c.loop-j-tes
 
 pub returns-then-tags-j-eq-ATOMIC : goal.returns-then-tags-j-eq-ATOMIC
 returns-then-tags-j-eq-ATOMIC c = compare-other c.loop-j.invariant c.loop-j-test.true c.if-tags-j-eq-ATOMIC.true c.if-end-k.false c.if-tags-k-eq-OPT_EXPR.false
-
-pub loop-j-smaller : goal.loop-j-smaller
-loop-j-smaller c = let h = c.loop-j-test.true in omega arith
 
 pub loop-j-preserved : goal.loop-j-preserved
 loop-j-preserved c = compare-next c.loop-j.invariant c.loop-j-test.true c.if-tags-j-eq-ATOMIC.false

@@ -3,13 +3,11 @@ use Prim.Native.Nat.{◌-◌}
 use native.Mathlib.Omega.{arith}
 use Rattle.derive_lookup.proofs.Bears.{bearing}
 use Rattle.function_passes.proofs.Appending.{appending, append_done, append_skip, append_full, append-more}
+use Rattle.function_passes.proofs.second_pass.Goals.{then-exprmap-y-eq0+else-e, else-exprmap-y-eq0}
 use Rattle.function_passes.proofs.second_pass.Goals as goal
 
 pub loop-y-init : goal.loop-y-init
 loop-y-init c = appending c.requires.under c.requires.full_value c.requires.drawn
-
-pub overflow_add-x : goal.overflow_add-x
-overflow_add-x c = let f = c.requires.expressions.few in let l = c.requires.b_le_k in let h = c.loop-y-test.true in omega arith
 
 pub offset_bounds-exprmap-y : goal.offset_bounds-exprmap-y
 offset_bounds-exprmap-y c = let f = c.requires.expressions.few in let l = c.requires.b_le_k in let h = c.loop-y-test.true in omega arith
@@ -23,17 +21,12 @@ append-e-requires c = let q = c.requires.by_index in let R = c.loop-y.invariant.
 pub returns-then-e : goal.returns-then-e
 returns-then-e c = append_full c.loop-y.invariant c.requires.expressions c.requires.b_le_k c.loop-y-test.true c.if-exprmap-y-eq0.true c.append-e.ensures c.if-e.true
 
-pub loop-y-smaller-else-e : goal.loop-y-smaller-else-e
-loop-y-smaller-else-e c = let h = c.loop-y-test.true in omega arith
-
-pub loop-y-preserved-else-e : goal.loop-y-preserved-else-e
-loop-y-preserved-else-e c = append-more c.loop-y.invariant c.requires.expressions c.requires.b_le_k c.loop-y-test.true c.if-exprmap-y-eq0.true c.append-e.ensures c.requires.by_index c.if-e.false
-
-pub loop-y-smaller : goal.loop-y-smaller
-loop-y-smaller c = let h = c.loop-y-test.true in omega arith
-
 pub loop-y-preserved : goal.loop-y-preserved
-loop-y-preserved c = append_skip c.loop-y.invariant c.requires.expressions c.requires.b_le_k c.loop-y-test.true c.if-exprmap-y-eq0.false
+loop-y-preserved c =
+    elim c.if-exprmap-y-eq0.branch [
+      | then-exprmap-y-eq0+else-e w ↦ rw (w.exprmap-is, w.stacks-is, w.e-is) (append-more c.loop-y.invariant c.requires.expressions c.requires.b_le_k c.loop-y-test.true w.if-exprmap-y-eq0.true w.append-e.ensures c.requires.by_index w.if-e.false)
+      | else-exprmap-y-eq0 w ↦ rw (w.exprmap-is, w.stacks-is, w.e-is) (append_skip c.loop-y.invariant c.requires.expressions c.requires.b_le_k c.loop-y-test.true w.if-exprmap-y-eq0.false)
+    ]
 
 pub returns : goal.returns
 returns c = append_done c.loop-y.invariant c.loop-y-test.false
