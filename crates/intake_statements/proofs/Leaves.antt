@@ -3,25 +3,22 @@ use mathlib.Core.Path.{◌≡◌, refl, sym, ap, ◌∙◌}
 use mathlib.Core.Bool.{Bool, true, false, ◌&&◌, not}
 use mathlib.Core.List.{List, [], ◌∷◌, ◌++◌}
 use mathlib.Core.Option.{none, some}
-use Prim.Native.Nat.{ℕ, zero, suc, ◌+◌, ◌-◌, ◌^◌, ◌≤◌, ◌<◌}
+use Prim.Native.Nat.{ℕ, zero, suc, ◌+◌, ◌-◌, ◌≤◌, ◌<◌}
 use native.Mathlib.Numerals.{add-one}
 use native.Mathlib.Omega.{arith}
 use lib.Dec.{eqb}
 use lib.ListN.{length, get_or}
 use borrow.Author.Tests.{eq-eqb, ne_eqb, lt-ltb, le-ltb, not-true, not-false}
+use Rattle.std.specs.Prelude.{SomeIff, Some, None}
+use Rattle.std.specs.declared.option.Option as code
 use Rattle.theory_lists.specs.Booleans.{and_right}
 use Rattle.model.specs.Outcome.{Cells}
-use Rattle.model.specs.Tree.{opt_of, word_of}
+use Rattle.model.specs.Tree.{opt_of}
 use Rattle.model.specs.Operands.{optional, operand, ops_of, result_of, standing_kind}
 use Rattle.model.specs.Between.{between}
 use Rattle.theory_image.specs.Betweens.{between_none, between_next}
-use Rattle.theory_image.specs.Words.{word_of_lem}
 use Rattle.intake_statements.specs.Tape.{cells_from, cells_in, Placed}
-use Rattle.intake_statements.specs.Lasts.{visible_at, all_seen}
-
--- ---- the kind of an expression
-pub kind_is : (ws : List ℕ) (p q : ℕ) → (p ≡ q) × (p < 2 ^ 32) → get_or ws p 0 ≡ get_or ws q 0
-kind_is ws p q h = ap (λ i. get_or ws i 0) h.0
+use Rattle.intake_statements.specs.Lasts.{visible_at, all_seen, option_of}
 
 -- ---- visible
 module _ (ws st u : List ℕ) (count at e : ℕ) where
@@ -77,18 +74,18 @@ pub operand-other : (s w : ℕ) (xs : List ℕ) → (s ≡ 93 → ⊥) → (s �
 unfolding operand
 operand-other s w xs n m = rw (operand, ne_eqb s 93 n, ne_eqb s 94 m)
 
-module _ (s w v : ℕ) (is : (v ≡ w) × (v < 2 ^ 32)) (f : ℕ → Bool) where
-  pub read_expr : s ≡ 93 → (r : Bool) → r ≡ f v → r ≡ all_seen (operand s w []) f
+module _ (s w : ℕ) (f : ℕ → Bool) where
+  pub read_expr : s ≡ 93 → (r : Bool) → r ≡ f w → r ≡ all_seen (operand s w []) f
   unfolding all_seen
-  read_expr e r h = h ∙ ap f is.0 ∙ sym (ap (λ l. all_seen l f) (operand_expr s w [] e) ∙ and_right (f w))
+  read_expr e r h = h ∙ sym (ap (λ l. all_seen l f) (operand_expr s w [] e) ∙ and_right (f w))
 
-  pub read_none : (s ≡ 93 → ⊥) → s ≡ 94 → v ≡ 0 → true ≡ all_seen (operand s w []) f
+  pub read_none : s ≡ 94 → w ≡ 0 → true ≡ all_seen (operand s w []) f
   unfolding all_seen optional
-  read_none n e z = let k : w ≡ 0 = omega (arith, is.0) in sym (ap (λ l. all_seen l f) (operand-optional s w [] e) ∙ ap (λ x. all_seen (optional x []) f) k)
+  read_none e z = sym (ap (λ l. all_seen l f) (operand-optional s w [] e) ∙ ap (λ x. all_seen (optional x []) f) z)
 
-  pub read_some : (s ≡ 93 → ⊥) → s ≡ 94 → (v ≡ 0 → ⊥) → (r : Bool) → r ≡ f (v - 1) → r ≡ all_seen (operand s w []) f
+  pub read_some : s ≡ 94 → (w ≡ 0 → ⊥) → (r : Bool) → r ≡ f (w - 1) → r ≡ all_seen (operand s w []) f
   unfolding all_seen optional
-  read_some n e z r h = let k : w ≡ suc (v - 1) = omega (arith, is.0) in h ∙ sym (ap (λ l. all_seen l f) (operand-optional s w [] e) ∙ ap (λ x. all_seen (optional x []) f) k ∙ and_right (f (v - 1)))
+  read_some e z r h = let k : w ≡ suc (w - 1) = omega arith in h ∙ sym (ap (λ l. all_seen l f) (operand-optional s w [] e) ∙ ap (λ x. all_seen (optional x []) f) k ∙ and_right (f (w - 1)))
 
 pub read-other : (s w : ℕ) (f : ℕ → Bool) → (s ≡ 93 → ⊥) → (s ≡ 94 → ⊥) → true ≡ all_seen (operand s w []) f
 unfolding all_seen
@@ -159,13 +156,12 @@ result_later : (s w : ℕ) (cs : Cells) → (s ≡ 99 → ⊥) → (s ≡ 100 �
 unfolding result_of
 result_later s w cs n m = rw (result_of, ne_eqb s 99 n, ne_eqb s 100 m)
 
-word_some : (w : ℕ) → word_of (some w) ≡ suc w
-unfolding word_of
-word_some w = refl
-
-word_none : word_of none ≡ 0
-unfolding word_of
-word_none = refl
+one_less : (w : ℕ) (o : code.Option ℕ) → SomeIff o (1 ≤ w) (w - 1) → o ≡ option_of (opt_of w)
+unfolding option_of opt_of
+one_less zero None is = refl
+one_less zero (Some x) is = absurd (omega (arith, is.0))
+one_less (suc w) None is = absurd (is (omega arith))
+one_less (suc w) (Some x) is = let q : x ≡ w = omega (arith, is.1) in ap Some q
 
 result_none : result_of [] ≡ none
 unfolding result_of
@@ -180,15 +176,17 @@ module _ (ws ts : List ℕ) (from to : ℕ) where
     here : i < to → result_of (cells_in ws ts from to) ≡ result_of ((get_or ts i 0, get_or ws i 0) ∷ cells_from (to - (i + 1)) ws ts (i + 1))
     here h = sym inv.same ∙ ap result_of (cells_next ws ts i to h)
 
-    module _ (h : i < to) (w : ℕ) (is : (w ≡ get_or ws i 0) × (w < 2 ^ 32)) where
-      pub look_result : get_or ts i 0 ≡ 99 → w + 1 ≡ word_of (result_of (cells_in ws ts from to))
-      look_result e = rw (add-one w) (ap suc is.0 ∙ sym (ap word_of (here h ∙ result_here (get_or ts i 0) (get_or ws i 0) _ e) ∙ word_some (get_or ws i 0)))
+    module _ (h : i < to) where
+      pub look_result : get_or ts i 0 ≡ 99 → Some (get_or ws i 0) ≡ option_of (result_of (cells_in ws ts from to))
+      unfolding option_of
+      look_result e = sym (ap option_of (here h ∙ result_here (get_or ts i 0) (get_or ws i 0) _ e))
 
-      pub look-optional : (get_or ts i 0 ≡ 99 → ⊥) → get_or ts i 0 ≡ 100 → w ≡ word_of (result_of (cells_in ws ts from to))
-      look-optional n e = is.0 ∙ sym (ap word_of (here h ∙ result_optional (get_or ts i 0) (get_or ws i 0) _ e) ∙ word_of_lem (get_or ws i 0))
+      pub look-optional : get_or ts i 0 ≡ 100 → (o : code.Option ℕ) → SomeIff o (1 ≤ get_or ws i 0) (get_or ws i 0 - 1) → o ≡ option_of (result_of (cells_in ws ts from to))
+      look-optional e o is = one_less (get_or ws i 0) o is ∙ sym (ap option_of (here h ∙ result_optional (get_or ts i 0) (get_or ws i 0) _ e))
 
     pub look-next : i < to → (get_or ts i 0 ≡ 99 → ⊥) → (get_or ts i 0 ≡ 100 → ⊥) → Looking ws ts from to (i + 1)
     look-next h n m = record { same = sym (here h ∙ result_later (get_or ts i 0) (get_or ws i 0) _ n m) }
 
-    pub look_done : to ≤ i → 0 ≡ word_of (result_of (cells_in ws ts from to))
-    look_done h = sym (ap word_of (sym inv.same ∙ ap result_of (cells_none ws ts i to h) ∙ result_none) ∙ word_none)
+    pub look_done : to ≤ i → None ≡ option_of (result_of (cells_in ws ts from to))
+    unfolding option_of
+    look_done h = sym (ap option_of (sym inv.same ∙ ap result_of (cells_none ws ts i to h) ∙ result_none))
