@@ -1,11 +1,12 @@
-use Rattle.intake_initialisers.proofs.Visiting.{operand_expr, operand_opt, operand-none}
+use borrow.Author.Rules.{rules}
+use Rattle.intake_initialisers.proofs.Visiting.{less_one, operand_expr, operand_opt, operand-none}
 use Rattle.intake_initialisers.proofs.operand.Goals as goal
 
-pub returns-then-s-eq-EXPR : goal.returns-then-s-eq-EXPR
-returns-then-s-eq-EXPR c = operand_expr _ _ _ c.if-s-eq-EXPR.true c.wide.ensures.0 c.wide.ensures.1
+pub returns-in-93 : goal.returns-in-93
+returns-in-93 c = operand_expr _ _ c.in-93.is
 
-pub returns-then-optional : goal.returns-then-optional
-returns-then-optional c = operand_opt _ _ _ c.if-s-eq-EXPR.false c.if-optional.true c.wide-then-optional.ensures.0 c.wide-then-optional.ensures.1
+pub returns-in-94 : goal.returns-in-94
+returns-in-94 c = operand_opt _ _ _ c.in-94.is (less_one _ _ c.checked_sub.ensures)
 
-pub returns : goal.returns
-returns c = operand-none _ _ c.if-s-eq-EXPR.false c.if-optional.false
+pub returns-in_default : goal.returns-in_default
+returns-in_default c = operand-none _ _ (search rules) (search rules)
