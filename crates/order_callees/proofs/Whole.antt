@@ -18,7 +18,9 @@ use Rattle.model.specs.Calls.{any}
 use Rattle.model.specs.Callees.{callees, callees_at, calls, order_of}
 use Rattle.order_ranks.specs.Marks.{marked, NoCalls}
 use Rattle.order_ranks.specs.Placing.{Orders}
-use Rattle.order_ranks.specs.declared.Ordered.{Ordered}
+use Rattle.base_refusals.specs.declared.Refusal.{Refusal}
+use Rattle.std.specs.Prelude.{Result}
+use Rattle.model.specs.Image.{order_ended}
 use Rattle.theory_image.specs.Views.{view_length, view_within}
 use Rattle.theory_image.specs.FunctionViews.{part_words, part_tags, taped_write, taped_length, taped_offset, taped_functions, taped_function, table_least}
 use Rattle.theory_image.specs.Members.{looked_each}
@@ -138,10 +140,10 @@ finish {words} {tags} {callees} {i} n g h =
     record { long = g.long; is = λ m t k l b. g.is k l b ∙ ap (λ x. cond (ltb k x) (among (called_by words tags k) l) false) e ∙ calls_is t k l }
 
 -- ---- the order
-pub lists : {words tags callees out out' : List ℕ} {n c : ℕ} {r : Ordered} → c ≡ count_at 6 words → Gathered words tags n callees → Orders (marked callees) c out r out' → Listed words tags n out r out'
+pub lists : {words tags callees out out' : List ℕ} {n c : ℕ} {r : Result (Unit {0}) Refusal} → c ≡ count_at 6 words → Gathered words tags n callees → Orders (marked callees) c out r out' → Listed words tags n out r out'
 unfolding order_of
 lists {words} {tags} {callees} {out} {out'} {n} {c} {r} e g o =
     record {
-      is = λ m t. let q = e ∙ taped_functions t in rw (← q) (o.is ∙ order_ext c (marked callees) (calls m) (λ i j h k. g.is m t i j (omega (arith, few t))));
+      is = λ m t. let q = e ∙ taped_functions t in rw (← q) (o.is ∙ ap order_ended (order_ext c (marked callees) (calls m) (λ i j h k. g.is m t i j (omega (arith, few t)))));
       rest = λ m t. let q = e ∙ taped_functions t in rw (← q) o.rest;
     }

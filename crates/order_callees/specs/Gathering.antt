@@ -1,5 +1,5 @@
 -- The callees of functions as they are in words and tags: the words of the class CALLEE between two places, and what marking them does.
-use Rattle.std.specs.Prelude.{◌≡◌, true, cond, ◌&&◌, List, ℕ, ◌+◌, ◌≤◌, ◌<◌, eqb, length, take, drop}
+use Rattle.std.specs.Prelude.{◌≡◌, true, cond, ◌&&◌, List, ℕ, ◌+◌, ◌≤◌, ◌<◌, eqb, length, take, drop, Result}
 use Rattle.std.proofs.Math.Seq.{slice}
 use Rattle.model.specs.Module.{Module, count_at, offset_at}
 use Rattle.model.specs.View.{record_at, record_end}
@@ -7,10 +7,11 @@ use Rattle.model.specs.Taped.{Taped}
 use Rattle.model.specs.Carry.{Each}
 use Rattle.model.specs.Calls.{any}
 use Rattle.model.specs.Callees.{calls, order_of, CalleesKnown}
+use Rattle.model.specs.Image.{order_ended}
 use Rattle.theory_order.specs.Cells.{picks}
 use Rattle.order_ranks.specs.Marks.{marked}
 use Rattle.order_ranks.specs.Placing.{shown}
-use Rattle.order_ranks.specs.declared.Ordered.{Ordered}
+use Rattle.base_refusals.specs.declared.Refusal.{Refusal}
 
 -- ---- callees in words and tags
 -- the words of the class CALLEE from one place to another
@@ -62,6 +63,6 @@ pub record Gathered (words tags : List ℕ) (n : ℕ) (callees : List ℕ) : Typ
   pub is : (m : Module) → Taped words tags n m → (i j : ℕ) → j < 256 → marked callees i j ≡ calls m i j
 
 -- the answer, and as many of the first words of `out` as there are functions, are the module's order; the words after them stay
-pub record Listed (words tags : List ℕ) (n : ℕ) (out : List ℕ) (answer : Ordered) (out' : List ℕ) : Type 0 where
-  pub is : (m : Module) → Taped words tags n m → shown answer (take (length m.functions) out') ≡ order_of m
+pub record Listed (words tags : List ℕ) (n : ℕ) (out : List ℕ) (answer : Result (Unit {0}) Refusal) (out' : List ℕ) : Type 0 where
+  pub is : (m : Module) → Taped words tags n m → shown answer (take (length m.functions) out') ≡ order_ended (order_of m)
   pub rest : (m : Module) → Taped words tags n m → drop (length m.functions) out' ≡ drop (length m.functions) out

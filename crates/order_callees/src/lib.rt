@@ -9,9 +9,9 @@ ghost use Rattle.order_ranks.specs.Marks.{NoCalls};
 ghost use Rattle.order_callees.specs.Gathering.{picked, called_by, Markable, Framed, Known, Marks, Gathered, Listed};
 
 use base_classes::CALLEE;
+use base_refusals::Refusal;
 use base_views::{FUNCTIONS, count, end_of, start_of};
-use base_words::{Tags, Words, wide};
-use order_ranks::Ordered;
+use base_words::{Tags, Words};
 
 // Function i calls what the words from `at` to `end` call.
 fn mark_callees(
@@ -25,15 +25,12 @@ fn mark_callees(
     requires { Markable words.now tags.now at end i callees.old }
     ensures { Marks callees.old i (picked words.now tags.now at end) callees.new }
 {
-    let mut j = at;
-    while j < end {
-        let k = j;
-        j += 1;
+    for k in at..end {
         let calls = tags[k] == CALLEE;
         if calls {
-            order_ranks::mark(callees, i, wide(words[k]));
+            order_ranks::mark(callees, i, words[k] as usize);
         }
-    }
+        }
 }
 
 // Function i calls what its record calls.
@@ -55,16 +52,13 @@ pub fn gather_requirements(words: &Words, tags: &Tags, n: usize, callees: &mut [
     ensures { Gathered words.now tags.now n callees.new }
 {
     let count = count(words, FUNCTIONS);
-    let mut i = 0;
-    while i < count {
-        let f = i;
-        i += 1;
+    for f in 0..count {
         function(words, tags, f, callees);
-    }
+        }
 }
 
-// The order of the module's functions, as their source numbers, goes to the start of `out`.
-pub fn order_of(words: &Words, tags: &Tags, n: usize, out: &mut [u32; 256]) -> Ordered
+// The order of the module's functions, as their source numbers, goes to the start of `out`; or a ring is refused.
+pub fn order_of(words: &Words, tags: &Tags, n: usize, out: &mut [u32; 256]) -> Result<(), Refusal>
     requires tape { Tape words.now tags.now n }
     requires known { Known words.now tags.now n }
     requires out_len { length out.old ≡ 256 }

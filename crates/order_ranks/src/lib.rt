@@ -10,13 +10,7 @@ ghost use Rattle.order_ranks.specs.Marks.{bit, ones_of, meets, holds, marked, me
 ghost use Rattle.order_ranks.specs.Placing.{Placeable, Placed, Leaves, Orders};
 
 use base_handles::FunctionHandle;
-
-// All functions have their place; or this many are left waiting for a ring.
-#[derive(Clone, Copy)]
-pub enum Ordered {
-    All,
-    Ring(u32),
-}
+use base_refusals::Refusal;
 
 // What a round leaves waiting, and where the output goes on.
 #[derive(Clone, Copy)]
@@ -175,8 +169,8 @@ pub fn left(callees: &[u64; 1024], n: usize, began: [u64; 4]) -> [u64; 4]
     }
 }
 
-// The order of the n functions, as their source numbers, goes to the first n of `out`.
-pub fn order(callees: &[u64; 1024], n: usize, out: &mut [u32; 256]) -> Ordered
+// The order of the n functions, as their source numbers, goes to the first n of `out`; or the refusal has the count of those left waiting for a ring.
+pub fn order(callees: &[u64; 1024], n: usize, out: &mut [u32; 256]) -> Result<(), Refusal>
     requires { (n ≤ 256) × (length out.old ≡ 256) }
     ensures { Orders (marked callees.now) n out.old result out.new }
 {
@@ -186,11 +180,11 @@ pub fn order(callees: &[u64; 1024], n: usize, out: &mut [u32; 256]) -> Ordered
         let round = place(callees, n, waiting, out, at);
         let next = round.at;
         if next == at {
-            return Ordered::Ring(count(&waiting));
+            return Err(Refusal::Ring(count(&waiting)));
         }
         let left = round.waiting;
         waiting = left;
         at = next;
     }
-    Ordered::All
+    Ok(())
 }
