@@ -16,9 +16,10 @@ use Rattle.model.specs.Refusals.{done, refused, ringed, answer_by, packed}
 use Rattle.model.specs.Link.{Linked, in_order, link_module, link, link_by, output_after, link_image, link_answer}
 use Rattle.theory_image.specs.FunctionViews.{taped_functions}
 use Rattle.theory_image.specs.Modules.{sized_read_write}
-use Rattle.order_ranks.specs.Placing.{shown}
-use Rattle.order_ranks.specs.declared.Ordered.{Ordered}
-use Rattle.order_ranks.specs.declared.Ordered.TheVariants.{All, Ring}
+use Rattle.order_ranks.proofs.Answers.{all_is, ring_is}
+use Rattle.base_refusals.specs.Numbers.{number_of as refusal_number, count_of}
+use Rattle.base_refusals.specs.declared.Refusal.{Refusal}
+use Rattle.std.specs.Prelude.{Result, Ok, Err}
 use Rattle.order_callees.specs.Gathering.{Known, Listed}
 use Rattle.intake.specs.Taken.{number_of, Accepts, TakeInEnsures}
 use Rattle.intake.specs.declared.Taken.{Taken}
@@ -78,12 +79,11 @@ module _ (image words tags : List ℕ) (t : Taken) (got : TakeInEnsures t words 
     linked_as output h = rw (link_image, link, on_words, accepted, after_intake, reads, of_laid, link_module, le-ltb (length output) (length image) h)
 
     -- ---- what order_of gives
-    module _ (order₀ order : List ℕ) (a : Ordered) (o : Listed words tags n order₀ a order) where
+    module _ (order₀ order : List ℕ) (a : Result (Unit {0}) Refusal) (o : Listed words tags n order₀ a order) where
       -- an order
-      module _ (q : a ≡ All) where
+      module _ (q : a ≡ Ok tt) where
         ordered_so : order_of (mod_of words n) ≡ ordered (take (count_at 6 words) order)
-        unfolding shown
-        ordered_so = sym (rw q at (o.is (mod_of words n) taped)) ∙ ap (λ (k : ℕ). ordered (take k order)) (sym (taped_functions taped))
+        ordered_so = all_is (order_of (mod_of words n)) _ (rw q at (o.is (mod_of words n) taped)) ∙ ap (λ (k : ℕ). ordered (take k order)) (sym (taped_functions taped))
 
         pub by_asks : length order₀ ≡ 256 → (output : List ℕ) → length image ≤ length output → Linkable words tags n order output
         by_asks long output h =
@@ -98,6 +98,8 @@ module _ (image words tags : List ℕ) (t : Taken) (got : TakeInEnsures t words 
         by_tells output₀ h r output l = links_as image output₀ (done (write (link_by (take (count_at 6 words) order) (mod_of words n)))) (linked_as output₀ h ∙ ap (λ (x : Order). in_order x (mod_of words n)) ordered_so) r output l.answer l.left
 
       -- a ring
-      pub ring_tells : (k : ℕ) → a ≡ Ring k → (output : List ℕ) → length image ≤ length output → (r : ℕ) → r ≡ packed 12 k → LinkEnsures r output output image
-      unfolding shown in_order answer_by output_after
-      ring_tells k q output h r is = links_as image output (ringed k) (linked_as output h ∙ ap (λ (x : Order). in_order x (mod_of words n)) (sym (rw q at (o.is (mod_of words n) taped)))) r output is refl
+      pub ring_tells : (refusal : Refusal) → a ≡ Err refusal → (output : List ℕ) → length image ≤ length output → (r : ℕ) → r ≡ packed (refusal_number refusal) (count_of refusal) → LinkEnsures r output output image
+      unfolding in_order answer_by output_after
+      ring_tells refusal q output h r is =
+          let s = ring_is (order_of (mod_of words n)) refusal _ (rw q at (o.is (mod_of words n) taped)) in
+          links_as image output (ringed s.0) (linked_as output h ∙ ap (λ (x : Order). in_order x (mod_of words n)) s.2) r output (is ∙ ap (λ (x : Refusal). packed (refusal_number x) (count_of x)) s.1) refl

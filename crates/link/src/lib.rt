@@ -4,13 +4,12 @@
 ghost use Rattle.std.specs.Prelude.{◌≡◌, length};
 ghost use Rattle.model.specs.Image.{ScratchLengths, LinkEnsures};
 
-use base_refusals::{RING, SHORT_OUTPUT, pack};
+use base_refusals::{SHORT_OUTPUT, pack};
 use base_words::{Tags, Words};
 use derive_state::{Buckets, Log, LogTags, Maps, StackRows, Starts};
 use intake::Taken;
 use link_words::link_in_order;
 use order_callees::order_of;
-use order_ranks::Ordered;
 
 // The image linked into the output, in arrays that the caller provides: low half the refusal, 0 accepted; high half the bytes written, or with 12 the functions
 // left. They may hold anything before, and hold anything after. Nothing is required of `maps` and `buckets`: they are overwritten before use.
@@ -38,13 +37,13 @@ pub fn link_in(
         let mut order = [0u32; 256];
         let found = order_of(words, tags, n, &mut order);
         match found {
-            Ordered::All => {
+            Ok(()) => {
                 return link_in_order(
                     words, tags, n, &order, output, log, logtags, starts, maps, buckets, stacks,
                 );
             }
-            Ordered::Ring(k) => {
-                return pack(RING, k);
+            Err(refusal) => {
+                return pack(refusal.number(), refusal.count());
             }
         }
     }

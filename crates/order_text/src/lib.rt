@@ -9,7 +9,6 @@ ghost use Rattle.order_text.specs.Telling.{telling_of, Passed, TellEnsures, Tell
 use base_words::{Tags, Words};
 use intake::Taken;
 use order_lines::{head, text};
-use order_ranks::Ordered;
 
 // How many bytes the text has, the number of the refusal or 0, and how many functions a ring leaves.
 #[derive(Clone, Copy)]
@@ -29,7 +28,7 @@ pub fn tell(words: &Words, tags: &Tags, n: usize, out: &mut [u8; 65536]) -> Said
     let mut order = [0u32; 256];
     let answer = order_callees::order_of(words, tags, n, &mut order);
     match answer {
-        Ordered::All => {
+        Ok(()) => {
             let functions = base_views::count(words, base_views::FUNCTIONS);
             Said {
                 count: text(words, &order, functions, out),
@@ -37,11 +36,15 @@ pub fn tell(words: &Words, tags: &Tags, n: usize, out: &mut [u8; 65536]) -> Said
                 left: 0,
             }
         }
-        Ordered::Ring(left) => Said {
-            count: head(b"refused 12 left ", base_words::wide(left), out),
-            refusal: base_refusals::RING,
-            left,
-        },
+        // Only a ring is refused.
+        Err(refusal) => {
+            let left = refusal.count();
+            Said {
+                count: head(b"refused 12 left ", left as usize, out),
+                refusal: refusal.number(),
+                left,
+            }
+        }
     }
 }
 
