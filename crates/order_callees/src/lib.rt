@@ -30,7 +30,7 @@ fn mark_callees(
         if calls {
             order_ranks::mark(callees, i, words[k] as usize);
         }
-        }
+    }
 }
 
 // Function i calls what its record calls.
@@ -54,7 +54,7 @@ pub fn gather_requirements(words: &Words, tags: &Tags, n: usize, callees: &mut [
     let count = count(words, FUNCTIONS);
     for f in 0..count {
         function(words, tags, f, callees);
-        }
+    }
 }
 
 // The order of the module's functions, as their source numbers, goes to the start of `out`; or a ring is refused.

@@ -1,5 +1,5 @@
 -- What a caller of `order` has of its answer: the words written are the order, or the refusal is a ring's, and its count is that of the ring.
-use mathlib.Core.Path.{◌≡◌, refl, sym, ap, ◌∙◌}
+use mathlib.Core.Path.{◌≡◌, refl}
 use mathlib.Core.Logic.{◌⊎◌, inl, inr}
 use mathlib.Core.List.{List}
 use Prim.Native.Nat.{ℕ}

@@ -1,5 +1,4 @@
 -- `order_callees::gather_requirements` meets its contract. The invariant: the functions passed call what their records call, and the others nothing.
-use Prim.Native.Nat.{◌-◌}
 use Rattle.order_callees.proofs.Whole.{Going}
 use Rattle.order_callees.proofs.gather_requirements.Given as goal
 

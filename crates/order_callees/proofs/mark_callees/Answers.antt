@@ -14,8 +14,8 @@ mark-requires c = (search rules, search rules, may c.requires c.loop-k.invariant
 pub loop-k-preserved : goal.loop-k-preserved
 loop-k-preserved c =
     elim c.if-calls.branch [
-      then-calls w ↦ rw w.callees-is (again c.requires c.loop-k.invariant c.loop-k-test.true w.if-calls.true refl w.mark.ensures)
-    | else-calls w ↦ rw w.callees-is (pass c.requires c.loop-k.invariant c.loop-k-test.true w.if-calls.false)
+      | then-calls w ↦ rw w.callees-is (again c.requires c.loop-k.invariant c.loop-k-test.true w.if-calls.true refl w.mark.ensures)
+      | else-calls w ↦ rw w.callees-is (pass c.requires c.loop-k.invariant c.loop-k-test.true w.if-calls.false)
     ]
 
 pub returns : goal.returns

@@ -1,5 +1,4 @@
 -- `order_callees::mark_callees` meets its contract. The invariant: what is left, marked too, is what is there from the start on.
-use Prim.Native.Nat.{◌-◌}
 use Rattle.order_callees.proofs.Marking.{Scanning}
 use Rattle.order_callees.proofs.mark_callees.Given as goal
 
