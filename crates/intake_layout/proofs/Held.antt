@@ -17,7 +17,7 @@ use Rattle.model.specs.Taped.{Taped}
 use Rattle.theory_image.specs.Modules.{read-write, read_well}
 use Rattle.theory_image.specs.Views.{length-write}
 use Rattle.intake_layout.specs.Layout.{Answer, fits, size, shows, held, layout_of, LayOutEnsures}
-use Rattle.intake_layout.specs.declared.Layout.TheVariants.{Fits}
+use Rattle.std.specs.Prelude.{Ok}
 
 -- the image is sized, and its words hold a module
 pub record HoldsImage (bytes words tags : List ℕ) (n : ℕ) : Type 0 where
@@ -85,7 +85,7 @@ module _ (bytes words tags words₁ tags₁ : List ℕ) (n : ℕ) (words_long : 
   inside_strange g = let z : ◌≡◌ {A = ℕ} 0 1 = cc in absurd (omega arith)
 
   -- an image that fits is held by words and tags
-  pub holds : LayOutEnsures (Fits n) words₁ tags₁ bytes words tags → HoldsImage bytes words₁ tags₁ n
+  pub holds : LayOutEnsures (Ok n) words₁ tags₁ bytes words tags → HoldsImage bytes words₁ tags₁ n
   unfolding shows layout_of
   holds l = go (sized (length bytes) (words_of bytes)) refl l.same
     where

@@ -1,5 +1,6 @@
+-- `intake_fields::operands` meets its contract.
+use Rattle.std.proofs.Common.{rules}
 use Rattle.intake_fields.proofs.Walk.{run_misfit, operands-walk}
-use borrow.Author.Rules.{rules}
 use Rattle.intake_fields.proofs.operands.Goals as goal
 
 pub returns-then-end-at : goal.returns-then-end-at
