@@ -17,10 +17,12 @@ use Rattle.model.specs.Scope.{in_scope}
 use Rattle.model.specs.Intake.{tested, verdict, intake_of, Passes}
 use Rattle.intake_numbers.specs.Passes.{TestEnsures}
 use Rattle.intake_scope.specs.Functions.{InRange}
-use Rattle.intake_layout.specs.Layout.{LayOutEnsures, size, misfit, unknown, shows, held, layout_of}
-use Rattle.intake_layout.specs.declared.Layout.{Layout}
-use Rattle.intake_layout.specs.declared.Layout.TheVariants.{Fits, Size as LaidSize, Misfit as LaidMisfit, Strange}
-use Rattle.intake_layout.proofs.Held.{HoldsImage, holds}
+use Rattle.std.specs.Prelude.{Ok, Err}
+use Rattle.base_refusals.specs.Numbers.{number_of as refusal_number}
+use Rattle.base_refusals.specs.declared.Refusal.{Refusal}
+use Rattle.base_refusals.specs.declared.Refusal.TheVariants.{BadSize, BadLayout, BadRange}
+use Rattle.intake_layout.specs.Layout.{Layout, Answer, refused as refused_answer, size, shows, held, layout_of, LayOutEnsures}
+use Rattle.intake_layout.proofs.Held.{HoldsImage, holds, refused_by}
 use Rattle.model.specs.Image.{wuldgisp_intake, IntakeEnsures}
 use Rattle.intake.specs.Taken.{number_of, Tested, TakeInEnsures}
 use Rattle.intake.specs.declared.Taken.{Taken}
@@ -100,49 +102,29 @@ module _ (bytes words tags words₁ tags₁ : List ℕ) (words_long : length wor
   none : (q : Taken) → ((k : ℕ) → q ≡ Accepted k → ⊥) → number_of q ≡ intake_of (length bytes) (words_of bytes) → TakeInEnsures q words₁ tags₁ bytes
   none q f e = record { same = e; held = λ n g. absurd (f n g) }
 
-  of_size : (b : Bool) → sized (length bytes) (words_of bytes) ≡ b → shows r words₁ tags₁ ≡ elim b [ true ↦ held (words_of bytes) words tags (read (words_of bytes)) | false ↦ size ] → r ≡ LaidSize → 1 ≡ intake_of (length bytes) (words_of bytes)
-  unfolding shows intake_of held
-  of_size true s g e = absurd (not_held (read (words_of bytes)) (rw e at g))
+  refused_as : (e : Refusal) → r ≡ Err e → refusal_number e ≡ intake_of (length bytes) (words_of bytes)
+  refused_as e h = refused_by bytes words tags words₁ tags₁ 0 words_long tags_long e (rw h at got)
+
+  pub size_fails : (e : Refusal) → r ≡ Err e → e ≡ BadSize → TakeInEnsures Size words₁ tags₁ bytes
+  size_fails e h f = none Size (λ k q. cc) (rw f at (refused_as e h))
+
+  pub misfit_fails : (e : Refusal) → r ≡ Err e → e ≡ BadLayout → TakeInEnsures TakenLayout words₁ tags₁ bytes
+  misfit_fails e h f = none TakenLayout (λ k q. cc) (rw f at (refused_as e h))
+
+  pub strange_fails : (e : Refusal) → r ≡ Err e → (e ≡ BadSize → ⊥) → (e ≡ BadLayout → ⊥) → TakeInEnsures Range words₁ tags₁ bytes
+  unfolding shows layout_of held
+  strange_fails e h f g = none Range (λ k q. cc) (rw (go (sized (length bytes) (words_of bytes)) (sym (ap (λ q. shows q words₁ tags₁) h) ∙ got.same)) at (refused_as e h))
     where
-      not_held : (x : Laid Module) → size ≡ held (words_of bytes) words tags x → ⊥
-      not_held (laid m) q = let z : ◌≡◌ {A = ℕ} 0 1 = cc in omega arith
-      not_held bad q = let z : ◌≡◌ {A = ℕ} 0 1 = cc in omega arith
-      not_held strange q = let z : ◌≡◌ {A = ℕ} 0 1 = cc in omega arith
-  of_size false s g e = rw (intake_of, s)
+      inside : (x : Laid Module) → ◌≡◌ {A = Answer} (refused_answer e) (held (words_of bytes) words tags x) → e ≡ BadRange
+      inside (laid m) q = cc
+      inside bad q = let k : e ≡ BadLayout = cc in absurd (g k)
+      inside strange q = cc
 
-  pub size_fails : r ≡ LaidSize → TakeInEnsures Size words₁ tags₁ bytes
-  unfolding layout_of
-  size_fails e = none Size (λ k q. let z : ◌≡◌ {A = ℕ} 0 1 = cc in omega arith) (of_size (sized (length bytes) (words_of bytes)) refl got.same e)
+      go : (b : Bool) → ◌≡◌ {A = Answer} (refused_answer e) (elim b [ true ↦ held (words_of bytes) words tags (read (words_of bytes)) | false ↦ size ]) → e ≡ BadRange
+      go true q = inside (read (words_of bytes)) q
+      go false q = let k : e ≡ BadSize = cc in absurd (f k)
 
-  of_misfit : (b : Bool) → sized (length bytes) (words_of bytes) ≡ b → shows r words₁ tags₁ ≡ elim b [ true ↦ held (words_of bytes) words tags (read (words_of bytes)) | false ↦ size ] → r ≡ LaidMisfit → 2 ≡ intake_of (length bytes) (words_of bytes)
-  unfolding shows intake_of held verdict
-  of_misfit true s g e = rw (intake_of, s) (go (read (words_of bytes)) (rw e at g))
-    where
-      go : (x : Laid Module) → misfit ≡ held (words_of bytes) words tags x → 2 ≡ verdict x
-      go (laid m) q = let z : ◌≡◌ {A = ℕ} 0 1 = cc in absurd (omega arith)
-      go bad q = refl
-      go strange q = let z : ◌≡◌ {A = ℕ} 0 1 = cc in absurd (omega arith)
-  of_misfit false s g e = let k : misfit ≡ size = rw e at g in let z : ◌≡◌ {A = ℕ} 0 1 = cc in absurd (omega arith)
-
-  pub misfit_fails : r ≡ LaidMisfit → TakeInEnsures TakenLayout words₁ tags₁ bytes
-  unfolding layout_of
-  misfit_fails e = none TakenLayout (λ k q. let z : ◌≡◌ {A = ℕ} 0 1 = cc in omega arith) (of_misfit (sized (length bytes) (words_of bytes)) refl got.same e)
-
-  of_strange : (b : Bool) → sized (length bytes) (words_of bytes) ≡ b → shows r words₁ tags₁ ≡ elim b [ true ↦ held (words_of bytes) words tags (read (words_of bytes)) | false ↦ size ] → r ≡ Strange → 3 ≡ intake_of (length bytes) (words_of bytes)
-  unfolding shows intake_of held verdict
-  of_strange true s g e = rw (intake_of, s) (go (read (words_of bytes)) (rw e at g))
-    where
-      go : (x : Laid Module) → unknown ≡ held (words_of bytes) words tags x → 3 ≡ verdict x
-      go (laid m) q = let z : ◌≡◌ {A = ℕ} 0 1 = cc in absurd (omega arith)
-      go bad q = let z : ◌≡◌ {A = ℕ} 0 1 = cc in absurd (omega arith)
-      go strange q = refl
-  of_strange false s g e = let k : unknown ≡ size = rw e at g in let z : ◌≡◌ {A = ℕ} 0 1 = cc in absurd (omega arith)
-
-  pub strange_fails : r ≡ Strange → TakeInEnsures Range words₁ tags₁ bytes
-  unfolding layout_of
-  strange_fails e = none Range (λ k q. let z : ◌≡◌ {A = ℕ} 0 1 = cc in omega arith) (of_strange (sized (length bytes) (words_of bytes)) refl got.same e)
-
-  module _ (n : ℕ) (e : r ≡ Fits n) where
+  module _ (n : ℕ) (e : r ≡ Ok n) where
     held_so : HoldsImage bytes words₁ tags₁ n
     held_so = holds bytes words tags words₁ tags₁ n words_long tags_long (rw e at got)
 

@@ -6,8 +6,8 @@ ghost use Rattle.model.specs.Taped.{Tape};
 ghost use Rattle.model.specs.Image.{IntakeEnsures};
 ghost use Rattle.intake.specs.Taken.{number_of, Tested, TakeInEnsures};
 
+use base_refusals::Refusal;
 use base_words::{Tags, Words};
-use intake_layout::Layout;
 
 // The answer: the image is accepted, with its count of words; or the test that failed, by document 01's numbers 1 to 6.
 #[derive(Clone, Copy)]
@@ -47,12 +47,13 @@ pub fn take_in(image: &[u8], words: &mut Words, tags: &mut Tags) -> Taken
     requires tags_len { length tags.old ≡ 16384 }
     ensures { TakeInEnsures result words.new tags.new image.now }
 {
-    let r = intake_layout::lay_out(image, words, tags);
-    match r {
-        Layout::Fits(n) => test(words, tags, n),
-        Layout::Size => Taken::Size,
-        Layout::Misfit => Taken::Layout,
-        Layout::Strange => Taken::Range,
+    match intake_layout::lay_out(image, words, tags) {
+        Ok(n) => test(words, tags, n),
+        Err(refusal) => match refusal {
+            Refusal::BadSize => Taken::Size,
+            Refusal::BadLayout => Taken::Layout,
+            _ => Taken::Range,
+        },
     }
 }
 

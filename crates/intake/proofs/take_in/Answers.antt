@@ -5,14 +5,14 @@ use Rattle.intake.proofs.take_in.Goals as goal
 pub test-requires : goal.test-requires
 test-requires c = search (tape_so, rules)
 
-pub returns-in-Fits : goal.returns-in-Fits
-returns-in-Fits c = search (tested_so, rules)
+pub returns-in-Ok : goal.returns-in-Ok
+returns-in-Ok c = search (tested_so, rules)
 
-pub returns-in-Size : goal.returns-in-Size
-returns-in-Size c = search (size_fails, rules)
+pub returns-in-BadSize : goal.returns-in-BadSize
+returns-in-BadSize c = search (size_fails, rules)
 
-pub returns-in-Misfit : goal.returns-in-Misfit
-returns-in-Misfit c = search (misfit_fails, rules)
+pub returns-in-BadLayout : goal.returns-in-BadLayout
+returns-in-BadLayout c = search (misfit_fails, rules)
 
-pub returns-in-Strange : goal.returns-in-Strange
-returns-in-Strange c = search (strange_fails, rules)
+pub returns-in_default : goal.returns-in_default
+returns-in_default c = search (strange_fails, rules)
