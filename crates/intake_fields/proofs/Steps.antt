@@ -10,6 +10,7 @@ use lib.Dec.{eqb, ltb}
 use lib.ListN.{length, get_or, set}
 use lib.Seq.{slice, sets, slice-cons, length-slice}
 use Rattle.std.specs.Prelude.{Result, Ok, Err}
+use Rattle.std.proofs.lemmas.Bool.{eqb-false}
 use borrow.Author.Tests.{eq-eqb, ne_eqb, ltb-true, ltb-false, eqb-true}
 use Rattle.model.specs.Outcome.{Cells, class, Outcome, fits, misfit, unknown, map_o}
 use Rattle.model.specs.Table.{Row, PAD, LENGTH, STMT_KIND, run}
@@ -22,19 +23,6 @@ use Rattle.intake_fields.proofs.Flat.{piece-field, piece-length, piece_list, pie
 use Rattle.intake_fields.proofs.Reading.{Reads, reads-piece, reads-pieces}
 use Rattle.intake_fields.proofs.Rows.{ended, further, row_next, symbol, large}
 use Rattle.intake_fields.proofs.Walk.{Taken, taken, chain_err, chain_next, final-word, eat-none, eat_some, run_short, told}
-
--- ---- tests
-below : (a b : ℕ) → ltb a b ≡ true → a < b
-below a b e = ltb-true a b e
-
-above : (a b : ℕ) → ltb a b ≡ false → b ≤ a
-above a b e = ltb-false a b e
-
-is : (a b : ℕ) → eqb a b ≡ true → a ≡ b
-is a b e = eqb-true a b e
-
-isnt : (a b : ℕ) → eqb a b ≡ false → a ≡ b → ⊥
-isnt a b e q = let z : true ≡ false = sym (eq-eqb a b q) ∙ e in let y : ◌≡◌ {A = ℕ} 0 1 = cc in omega arith
 
 one_word_is : (words : List ℕ) (i end s : ℕ) → i < end → end ≤ length words → s < PAD → run (slice i end words) (s ∷ []) ≡ fits ((s, get_or words i 0) ∷ []) (slice (i + 1) end words)
 one_word_is words i end s h enough l = ap (λ ws. run ws (s ∷ [])) (slice-cons i end words 0 h enough) ∙ rw (add-one i) (run-word s (get_or words i 0) (slice (suc i) end words) l)
@@ -170,10 +158,10 @@ module _ (words tags : List ℕ) (i end s left : ℕ) (r : Walked) (tags₁ : Li
       ws = slice i end words
 
       go : (a : Bool) → ltb s 115 ≡ a → (b : Bool) → ltb s 122 ≡ b → (c : Bool) → eqb s 123 ≡ c → piece left s ws ≡ opening left s ws
-      go true a b e₂ c e₃ = piece_list left s ws (omega arith) (below s 115 a)
-      go false a true b c e₃ = piece-variant left s ws (above s 115 a) (below s 122 b)
-      go false a false b true c = let e : s ≡ 123 = is s 123 c in rw e (piece-cases left ws)
-      go false a false b false c = let e : s ≡ 125 = omega (arith, above s 122 b, isnt s 123 c) in rw e (piece_stmt_kind left ws)
+      go true a b e₂ c e₃ = piece_list left s ws (omega arith) (ltb-true s 115 a)
+      go false a true b c e₃ = piece-variant left s ws (ltb-false s 115 a) (ltb-true s 122 b)
+      go false a false b true c = let e : s ≡ 123 = eqb-true s 123 c in rw e (piece-cases left ws)
+      go false a false b false c = let e : s ≡ 125 = omega (arith, ltb-false s 122 b, eqb-false s 123 c) in rw e (piece_stmt_kind left ws)
 
   pub part-other : (s ≡ 108 → ⊥) → (s ≡ 109 → ⊥) → (s ≡ 124 → ⊥) → (s ≡ 122 → ⊥) → 108 ≤ s → s < 126 → RowEnsures r tags₁ tags i end (opening left s (slice i end words)) → RowEnsures r tags₁ tags i end (piece left s (slice i end words))
   part-other n₁ n₂ n₃ n₄ low high got = as_piece _ (other n₁ n₂ n₃ n₄ low high) got

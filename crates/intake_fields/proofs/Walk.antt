@@ -82,8 +82,8 @@ module _ (words tags : List ℕ) (i end : ℕ) (enough : end ≤ length words) (
       let k : i + length cs ≡ n = omega (arith, all, n_is, h) in
       let rest_is : rest ≡ slice n end words = sym (rw (length-map) at (drop-append_seam (map word cs) rest)) ∙ (ap (drop (length cs)) (sym e) ∙ drop-drop (length cs) i (take end words) ∙ ap (λ m. slice m end words) k) in
       record { cells = cs; is = ap (fits cs) rest_is; at = k; end-at = omega (arith, n_is); tagged = cc }
-  taken misfit rd tags₁ n g = let z : ◌≡◌ {A = ℕ} 0 1 = cc in absurd (omega arith)
-  taken unknown rd tags₁ n g = let z : ◌≡◌ {A = ℕ} 0 1 = cc in absurd (omega arith)
+  taken misfit rd tags₁ n g = cc
+  taken unknown rd tags₁ n g = cc
 
   module _ (o : Outcome Cells) (rd : Reads (slice i end words) o) (r : Walked) (tags₁ : List ℕ) (got : RowEnsures r tags₁ tags i end o) (p : Reader) where
     pub chain_err : (e : Misread) → r ≡ Err e → final tags i end (join o p) ≡ stopped e

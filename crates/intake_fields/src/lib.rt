@@ -222,7 +222,7 @@ fn part(
     }
 }
 
-// The row at pc.
+// The row at pc. It is no `for`: a row ends at a 0, and a range from pc on would need an end that is never reached.
 #[cycle(opened_part_row_stmt_times)]
 pub fn row(
     words: &Words,

@@ -152,9 +152,9 @@ after_bad false = refl
 module _ (tags : List ℕ) (at : ℕ) (x : Laid Classes) (r : Held) (tags₁ : List ℕ) (got : Covers r tags₁ tags at x) (b : Bool) (rest : Laid Classes) where
   is_bad : (x : Laid Classes) → r ≡ Err Misfit → shown r tags₁ ≡ ending tags at x → x ≡ bad
   unfolding shown stopped ending
-  is_bad (laid c) e g = let k : refused ≡ done _ = rw e at g in let z : ◌≡◌ {A = ℕ} 0 1 = cc in absurd (omega arith)
+  is_bad (laid c) e g = let k : refused ≡ done _ = rw e at g in cc
   is_bad bad e g = refl
-  is_bad strange e g = let k : refused ≡ odd = rw e at g in let z : ◌≡◌ {A = ℕ} 0 1 = cc in absurd (omega arith)
+  is_bad strange e g = let k : refused ≡ odd = rw e at g in cc
 
   pub then_bad : r ≡ Err Misfit → refused ≡ ending tags at (after b (both ◌++◌ x rest))
   unfolding ending
@@ -162,8 +162,8 @@ module _ (tags : List ℕ) (at : ℕ) (x : Laid Classes) (r : Held) (tags₁ : L
 
   is_strange : (x : Laid Classes) → r ≡ Err Strange → shown r tags₁ ≡ ending tags at x → x ≡ strange
   unfolding shown stopped ending
-  is_strange (laid c) e g = let k : odd ≡ done _ = rw e at g in let z : ◌≡◌ {A = ℕ} 0 1 = cc in absurd (omega arith)
-  is_strange bad e g = let k : odd ≡ refused = rw e at g in let z : ◌≡◌ {A = ℕ} 0 1 = cc in absurd (omega arith)
+  is_strange (laid c) e g = let k : odd ≡ done _ = rw e at g in cc
+  is_strange bad e g = let k : odd ≡ refused = rw e at g in cc
   is_strange strange e g = refl
 
   pub then_strange : r ≡ Err Strange → (k : ℕ) → ending tags₁ k (after true rest) ≡ ending tags at (after b (both ◌++◌ x rest))
@@ -192,8 +192,8 @@ module _ (tags : List ℕ) (at : ℕ) (x : Laid Classes) (r : Held) (tags₁ : L
       go false (laid d) u = ap done (ap (λ t. sets t k d) u ∙ ap (λ j. sets (sets tags at c) j d) (sym (l c refl)) ∙ sym (sets-append c tags at d))
       go false bad u = refl
       go false strange u = refl
-  laid_is bad e g k l = let t : done tags₁ ≡ refused = rw e at g in let z : ◌≡◌ {A = ℕ} 0 1 = cc in absurd (omega arith)
-  laid_is strange e g k l = let t : done tags₁ ≡ odd = rw e at g in let z : ◌≡◌ {A = ℕ} 0 1 = cc in absurd (omega arith)
+  laid_is bad e g k l = let t : done tags₁ ≡ refused = rw e at g in cc
+  laid_is strange e g k l = let t : done tags₁ ≡ odd = rw e at g in cc
 
   pub then_fits : r ≡ Ok tt → (k : ℕ) → ((cs : Classes) → x ≡ laid cs → at + length cs ≡ k) → ending tags₁ k (after b rest) ≡ ending tags at (after b (both ◌++◌ x rest))
   then_fits e k l = laid_is x e got.same k l
@@ -223,13 +223,13 @@ module _ (p : Reader) (rd : Reading p) (words : List ℕ) (start at end stop : �
       let same : cs ≡ classes ds = cc in
       let l : length cs ≡ length ds = ap length same ∙ length-map ds class in
       omega (arith, all, long, l, h)
-  filled-length (fits ds (w ∷ ws)) r h k cs q = let z : ◌≡◌ {A = ℕ} 0 1 = cc in absurd (omega arith)
-  filled-length misfit r h k cs q = let z : ◌≡◌ {A = ℕ} 0 1 = cc in absurd (omega arith)
-  filled-length unknown r h k cs q = let z : ◌≡◌ {A = ℕ} 0 1 = cc in absurd (omega arith)
+  filled-length (fits ds (w ∷ ws)) r h k cs q = cc
+  filled-length misfit r h k cs q = cc
+  filled-length unknown r h k cs q = cc
 
   pub extent-length : (cs : Classes) → extent p start at end stop (slice at stop words) ≡ laid cs → at + length cs ≡ end
   extent-length cs q =
-      let b : Bounds = bounds (λ e. let z : ◌≡◌ {A = ℕ} 0 1 = cc in omega arith) in
+      let b : Bounds = bounds (λ e. cc) in
       filled-length (p (slice at end words)) (rd (slice at end words)) b.forth b.within cs (sym (extent_is p words words start at end stop b.starts b.forth b.within) ∙ q)
 
 -- ---- the records of a section
@@ -308,7 +308,7 @@ module _ (p : Reader) (words : List ℕ) (base stop n : ℕ) where
         and_second : (a b c : Bool) → true ≡ (a && (b && c)) → b ≡ true
         and_second true true c q = refl
         and_second true false c q = sym q
-        and_second false b c q = let z : ◌≡◌ {A = ℕ} 0 1 = cc in absurd (omega arith)
+        and_second false b c q = cc
 
         forth : at ≤ base + e
         forth = leb-true at (base + e) (and_second (eqb (base + o) at) (leb at (base + e)) (leb (base + e) stop) q)
@@ -370,7 +370,7 @@ module _ (words tags₀ : List ℕ) (base stop n pc : ℕ) (room : base + n ≤ 
       bounded n = bounds (pieces 32 (row_at pc)) (reads-pieces 32 (row_at pc)) words start at end stop enough (not_bad _ n got.same)
 
       pub records_fits : r ≡ Ok tt → Recording words tags₀ base stop n pc tags₁ end (j + 1) b
-      records_fits e = let k = bounded (λ q. let z : ◌≡◌ {A = ℕ} 0 1 = cc in omega arith) in record {
+      records_fits e = let k = bounded (λ q. cc) in record {
         some_left = omega arith;
         low = omega (arith, inv.low, k.forth);
         high = k.within;
@@ -378,7 +378,7 @@ module _ (words tags₀ : List ℕ) (base stop n pc : ℕ) (room : base + n ≤ 
       }
 
       pub records_strange : r ≡ Err Strange → Recording words tags₀ base stop n pc tags₁ end (j + 1) true
-      records_strange e = let k = bounded (λ q. let z : ◌≡◌ {A = ℕ} 0 1 = cc in omega arith) in record {
+      records_strange e = let k = bounded (λ q. cc) in record {
         some_left = omega arith;
         low = omega (arith, inv.low, k.forth);
         high = k.within;
@@ -516,7 +516,7 @@ fill_room tags tags₁ i end c n r got k e = go (leb (i + n) end) refl (rw e at 
   where
     go : (b : Bool) → leb (i + n) end ≡ b → ◌≡◌ {A = Final} (next-final k tags₁) (elim b [ true ↦ next-final (i + n) (sets tags i (replicate n c)) | false ↦ refused-final ]) → (i + n ≤ end) × (tags₁ ≡ sets tags i (replicate n c))
     go true q g = (leb-true (i + n) end q, cc)
-    go false q g = let z : ◌≡◌ {A = ℕ} 0 1 = cc in absurd (omega arith)
+    go false q g = cc
 
 fill_none : (tags tags₁ : List ℕ) (i end c n : ℕ) (r : Walked) → Fills r tags₁ tags i end c n → (e : Misread) → r ≡ Err e → (end < i + n) × (e ≡ Misfit)
 unfolding seen stopped-final filled

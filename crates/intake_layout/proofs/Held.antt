@@ -82,11 +82,11 @@ module _ (bytes words tags words₁ tags₁ : List ℕ) (n : ℕ) (words_long : 
 
   inside_bad : fits n words₁ tags₁ ≡ held (words_of bytes) words tags bad → HoldsImage bytes words₁ tags₁ n
   unfolding held
-  inside_bad g = let z : ◌≡◌ {A = ℕ} 0 1 = cc in absurd (omega arith)
+  inside_bad g = cc
 
   inside_strange : fits n words₁ tags₁ ≡ held (words_of bytes) words tags strange → HoldsImage bytes words₁ tags₁ n
   unfolding held
-  inside_strange g = let z : ◌≡◌ {A = ℕ} 0 1 = cc in absurd (omega arith)
+  inside_strange g = cc
 
   -- an image that fits is held by words and tags
   pub holds : LayOutEnsures (Ok n) words₁ tags₁ bytes words tags → HoldsImage bytes words₁ tags₁ n
@@ -100,7 +100,7 @@ module _ (bytes words tags words₁ tags₁ : List ℕ) (n : ℕ) (words_long : 
 
       go : (b : Bool) → sized (length bytes) (words_of bytes) ≡ b → ◌≡◌ {A = Answer} (fits n words₁ tags₁) (elim b [ true ↦ held (words_of bytes) words tags (read (words_of bytes)) | false ↦ size ]) → HoldsImage bytes words₁ tags₁ n
       go true s g = inside s (read (words_of bytes)) refl g
-      go false s g = let z : ◌≡◌ {A = ℕ} 0 1 = cc in absurd (omega arith)
+      go false s g = cc
 
   -- the refusal of an image that does not fit is intake's
   pub refused_by : (e : Refusal) → LayOutEnsures (Err e) words₁ tags₁ bytes words tags → number_of e ≡ intake_of (length bytes) (words_of bytes)

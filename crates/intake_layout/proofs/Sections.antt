@@ -69,8 +69,8 @@ pub record LaidAs {A B : Type 0} (f : A → B) (x : Laid A) (b : B) : Type 0 whe
 pub laid_as : {A B : Type 0} (f : A → B) (x : Laid A) (b : B) → map_l f x ≡ laid b → LaidAs f x b
 unfolding map_l
 laid_as f (laid a) b q = record { value = a; laid-at = refl; is = cc }
-laid_as f bad b q = let z : ◌≡◌ {A = ℕ} 0 1 = cc in absurd (omega arith)
-laid_as f strange b q = let z : ◌≡◌ {A = ℕ} 0 1 = cc in absurd (omega arith)
+laid_as f bad b q = cc
+laid_as f strange b q = cc
 
 exact-length : (ws : List ℕ) (o : Outcome Cells) → Reads ws o → (cs : Cells) → exact o ≡ laid cs → length cs ≡ length ws
 unfolding exact
@@ -78,9 +78,9 @@ exact-length ws (fits ds []) (reads e) cs q =
     let same : cs ≡ ds = cc in
     let l : length ds + 0 ≡ length ws = rw (length-append, length-map) at (sym (ap length e)) in
     ap length same ∙ omega (arith, l)
-exact-length ws (fits ds (v ∷ vs)) r cs q = let z : ◌≡◌ {A = ℕ} 0 1 = cc in absurd (omega arith)
-exact-length ws misfit r cs q = let z : ◌≡◌ {A = ℕ} 0 1 = cc in absurd (omega arith)
-exact-length ws unknown r cs q = let z : ◌≡◌ {A = ℕ} 0 1 = cc in absurd (omega arith)
+exact-length ws (fits ds (v ∷ vs)) r cs q = cc
+exact-length ws misfit r cs q = cc
+exact-length ws unknown r cs q = cc
 
 abbrev any : Cells → Type 0
 any cs = cs ≡ cs
