@@ -38,7 +38,11 @@ fn visible(
     requires { Placed starts.now count }
     ensures { result ≡ visible_at words.now starts.now until.now count at e }
 {
-    e < count && (at < until[e] || stands(kind(words, starts, e)))
+    if count <= e {
+        return false;
+    }
+    let live = at < until[e];
+    live || stands(kind(words, starts, e))
 }
 
 // Does the word j read only what is in scope at the word `at`?

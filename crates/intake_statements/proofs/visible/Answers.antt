@@ -2,14 +2,14 @@ use Rattle.intake_statements.proofs.Leaves.{visible_out, visible_in, visible_kin
 use borrow.Author.Rules.{rules}
 use Rattle.intake_statements.proofs.visible.Goals as goal
 
-pub returns-else-e-count : goal.returns-else-e-count
-returns-else-e-count c = search (visible_out, rules)
+pub returns-then-count-e : goal.returns-then-count-e
+returns-then-count-e c = search (visible_out, rules)
 
-pub returns-then-at-until : goal.returns-then-at-until
-returns-then-at-until c = search (visible_in, rules)
+pub returns-then-live : goal.returns-then-live
+returns-then-live c = search (visible_in, rules)
 
 pub kind-requires : goal.kind-requires
-kind-requires c = let zz = start_in _ _ _ c.requires c.if-e-count.true in record { e_bound = zz.0; e_bound_2 = zz.1 }
+kind-requires c = let zz = start_in _ _ _ c.requires c.if-count-e.false in record { e_bound = zz.0; e_bound_2 = zz.1 }
 
-pub returns-else-at-until : goal.returns-else-at-until
-returns-else-at-until c = search (visible_kind, rules)
+pub returns-else-live : goal.returns-else-live
+returns-else-live c = search (visible_kind, rules)
