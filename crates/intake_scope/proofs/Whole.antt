@@ -24,7 +24,7 @@ use Rattle.theory_image.specs.Members.{each_at}
 use Rattle.intake_initialisers.specs.Lists.{Lists, Listed}
 use Rattle.intake_numbers.specs.Passes.{Framed}
 use Rattle.intake_initialisers.specs.Marks.{finds, on, inits, Visits, Work, Starting, Reaching, Reaches}
-use Rattle.intake_initialisers.proofs.Reaching.{all, starting, begun, many_is, many_few, end_in}
+use Rattle.intake_initialisers.proofs.Reaching.{init_locals, init_exprs, init-after, init-end, all, starting, begun, many_is, many_few, end_in}
 use Rattle.intake_numbers.proofs.Framing.{lists_are}
 use Rattle.intake_statements.specs.Fine.{fine_b}
 use Rattle.intake_statements.specs.Tape.{cells_from, cells_in, block_of, HoldsB, Ends, record_of, table_from, exprs_of, Placed, Exprs, marks}
@@ -161,6 +161,12 @@ module _ {ws ts : List ℕ} {locals exprs end e : ℕ} {st : List ℕ} (f : Func
 module _ (words tags : List ℕ) (locals exprs end : ℕ) (pre : Known words tags locals exprs end) where
   pub known-listed : Listed words tags locals exprs end
   known-listed = record { function = pre.function; lists = pre.lists }
+
+  pub known_low : (locals < 16384) × (exprs < 16384)
+  known_low = (init_locals words tags locals exprs end known-listed, init_exprs words tags locals exprs end known-listed)
+
+  pub known_ends : (exprs + 1 ≤ end) × (end ≤ 16384)
+  known_ends = (init-after words tags locals exprs end known-listed, init-end words tags locals exprs end known-listed)
 
   module _ (count e : ℕ) (count_is : count ≡ get_or words locals 0) (e-is : e ≡ get_or words exprs 0) where
     pub known_few : e ≤ 1024

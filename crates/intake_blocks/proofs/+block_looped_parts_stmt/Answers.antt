@@ -3,7 +3,6 @@ use mathlib.Core.Bool.{true}
 use mathlib.Core.List.{[]}
 use native.Mathlib.Omega.{arith}
 use mathlib.Core.Path.{refl}
-use Rattle.intake_blocks.proofs.Trees.{skip_low}
 use Rattle.intake_blocks.proofs.Blocks.{block_begin, block_far, block_on, block_stmt, block_wrong, block_next, block_done}
 use Rattle.intake_blocks.proofs.Inner.{parts-begin, parts_skip, parts_far, parts-on, parts_block, parts_wrong, parts_next, word_wrong, word_next, parts_done}
 use Rattle.intake_blocks.proofs.Statements.{loop_skip, loop_mid, loop_body, loop_skip₂, loop_wrong, loop_late, loop_continuing, loop_wrong₂, loop_end, stmt_low, emit_asks, stmt_emit, stmt_break, stmt_continue, stmt_switch, stmt_simple, stmt_no_return}
@@ -16,17 +15,8 @@ use lib.ListN.{get_or}
 use borrow.Author.Tests.{not-true, not-false}
 use Prim.Native.Nat.{◌+◌, ◌<◌}
 
-pub block-overflow_add-i : goal.block-overflow_add-i
-block-overflow_add-i t c = let h = skip_low _ _ _ _ _ c.requires.holds in search rules
-
 pub block-loop-i-init : goal.block-loop-i-init
 block-loop-i-init t c = block_begin _ _ _ _ _ _ _ _ _ _ c.requires
-
-pub block-offset_bounds-words-i : goal.block-offset_bounds-words-i
-block-offset_bounds-words-i t c = let h = c.requires.holds.within in search rules
-
-pub block-bounds-words-i : goal.block-bounds-words-i
-block-bounds-words-i t c = let h = c.requires.holds.within in search rules
 
 pub block-stmt-requires : goal.block-stmt-requires
 block-stmt-requires t c = let f = block_far _ _ _ _ _ _ _ _ _ _ c.requires _ _ _ c.loop-i.invariant c.loop-i-test.true _ refl in let p = c.loop-i.invariant.past in let l = c.loop-i-test.true in (search rules, block_stmt _ _ _ _ _ _ _ _ _ _ c.requires _ _ _ c.loop-i.invariant c.loop-i-test.true _ refl _ c.kept-kept.ensures)
@@ -42,9 +32,6 @@ block-loop-i-preserved t c = block_next _ _ _ _ _ _ _ _ _ _ c.requires _ _ _ c.l
 
 pub block-returns : goal.block-returns
 block-returns t c = block_done _ _ _ _ _ _ _ _ _ _ c.requires _ _ _ c.loop-i.invariant c.loop-i-test.false
-
-pub looped-overflow_add-body : goal.looped-overflow_add-body
-looped-overflow_add-body t c = let h = loop_skip _ _ _ [] [] _ _ _ _ true c.requires.stmt_here c.requires.at_value in search rules
 
 pub looped-skip-continuing-requires : goal.looped-skip-continuing-requires
 looped-skip-continuing-requires t c = let zz = loop_skip _ _ _ [] [] _ _ _ _ true c.requires.stmt_here c.requires.at_value in record { at_bound = zz.0; steps = zz.1 }
@@ -70,14 +57,8 @@ looped-read-requires t c = let n = loop_late _ _ _ _ _ _ _ _ _ _ c.requires.stmt
 pub looped-returns : goal.looped-returns
 looped-returns t c = loop_end _ _ _ _ _ _ _ _ _ _ c.requires.stmt_here c.requires.at_value _ c.skip-continuing.ensures _ _ c.block.ensures _ c.in_ok-block.was _ c.skip-break_if.ensures _ _ c.block-2.ensures _ c.in_ok-block-2.was _ c.read.ensures _ (c.then_some.ensures ∙ found_is _) _ _
 
-pub parts-overflow_add-i : goal.parts-overflow_add-i
-parts-overflow_add-i t c = let h = stmt_low _ _ _ [] [] _ _ _ _ c.requires.stmt_here in let k = c.requires.stmt_here.holds.within in search rules
-
 pub parts-loop-i-init : goal.parts-loop-i-init
 parts-loop-i-init t c = parts-begin _ _ _ _ _ _ _ _ _ _ c.requires.stmt_here c.requires.nonzero.0 c.requires.nonzero.1 c.requires.breaks_value
-
-pub parts-bounds-tags-i : goal.parts-bounds-tags-i
-parts-bounds-tags-i t c = let h = c.requires.stmt_here.holds.within in search rules
 
 pub parts-skip-fin-requires : goal.parts-skip-fin-requires
 parts-skip-fin-requires t c = let zz = parts_skip _ _ _ _ _ _ _ _ _ _ c.requires.stmt_here _ _ _ c.loop-i.invariant c.loop-i-test.true c.if-tags-i-eq-BLOCK.true in record { at_bound = zz.0; steps = zz.1 }
@@ -94,17 +75,8 @@ parts-loop-i-smaller-then-tags-i-eq-BLOCK t c = let f = parts_far _ _ _ _ _ _ _ 
 pub parts-loop-i-preserved-then-tags-i-eq-BLOCK : goal.parts-loop-i-preserved-then-tags-i-eq-BLOCK
 parts-loop-i-preserved-then-tags-i-eq-BLOCK t c = parts_next _ _ _ _ _ _ _ _ _ _ c.requires.stmt_here _ _ _ c.loop-i.invariant c.loop-i-test.true c.if-tags-i-eq-BLOCK.true _ c.skip-fin.ensures _ _ c.block.ensures _ c.in_ok-block.was _ c.then-flow.ensures
 
-pub parts-overflow_add-i-then-read : goal.parts-overflow_add-i-then-read
-parts-overflow_add-i-then-read t c = let h = c.requires.stmt_here.holds.within in search rules
-
-pub parts-read-requires : goal.parts-read-requires
-parts-read-requires t c = let h = c.requires.stmt_here.holds.within in let l = c.loop-i-test.true in record { placed = c.requires.stmt_here.exprs.placed; j_bound = search rules }
-
 pub parts-returns-else-read : goal.parts-returns-else-read
 parts-returns-else-read t c = word_wrong _ _ _ _ _ _ _ _ _ _ c.requires.stmt_here _ _ _ c.loop-i.invariant c.loop-i-test.true c.if-tags-i-eq-BLOCK.false _ c.read.ensures c.if-read.false
-
-pub parts-loop-i-smaller : goal.parts-loop-i-smaller
-parts-loop-i-smaller t c = let l = c.loop-i-test.true in search rules
 
 pub parts-loop-i-preserved : goal.parts-loop-i-preserved
 parts-loop-i-preserved t c = word_next _ _ _ _ _ _ _ _ _ _ c.requires.stmt_here _ _ _ c.loop-i.invariant c.loop-i-test.true c.if-tags-i-eq-BLOCK.false _ c.read.ensures c.if-read.true

@@ -1,5 +1,5 @@
 use Rattle.intake_numbers.proofs.Framing.{function-inside}
-use Rattle.intake_scope.proofs.Whole.{stated_framed, stated-known, stated-scoped}
+use Rattle.intake_scope.proofs.Whole.{stated_framed, stated-known}
 use Rattle.intake_scope.proofs.function.Goals as goal
 
 pub locals_at-locals-requires : goal.locals_at-locals-requires
@@ -10,6 +10,3 @@ expressions_at-exprs-requires c = function-inside _ _ _ _ _ (stated_framed _ _ _
 
 pub scoped-requires : goal.scoped-requires
 scoped-requires c = stated-known _ _ _ _ _ c.requires _ _ c.locals_at-locals.ensures.0 c.expressions_at-exprs.ensures.0
-
-pub returns : goal.returns
-returns c = stated-scoped _ _ _ _ _ c.requires _ _ c.locals_at-locals.ensures.0 c.expressions_at-exprs.ensures.0 _ c.scoped.ensures

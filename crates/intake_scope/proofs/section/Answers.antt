@@ -4,17 +4,8 @@ use Rattle.intake_scope.proofs.Images.{section_low, section_begin, section_done,
 use borrow.Author.Rules.{rules}
 use Rattle.intake_scope.proofs.section.Goals as goal
 
-pub count-j-end-requires : goal.count-j-end-requires
-count-j-end-requires c = let k = (section_low _ _ _ c.requires.in_range c.requires.section).0 in omega (arith, k)
-
 pub loop-j-init : goal.loop-j-init
 loop-j-init c = λ s. section_begin _ _ _ c.requires.in_range s
-
-pub record_at-at-requires : goal.record_at-at-requires
-record_at-at-requires c = record { tape = c.requires.tape; k_bound = (section_low _ _ _ c.requires.in_range c.requires.section).0; j_bound = omega (arith, c.count-j-end.ensures.0, c.loop-j-test.true) }
-
-pub record_end-end-requires : goal.record_end-end-requires
-record_end-end-requires c = record { tape = c.requires.tape; k_bound = (section_low _ _ _ c.requires.in_range c.requires.section).0; j_bound = omega (arith, c.count-j-end.ensures.0, c.loop-j-test.true) }
 
 pub overflow_add-at : goal.overflow_add-at
 overflow_add-at c = let p = section_stated _ _ _ c.requires.in_range c.requires.section _ _ c.count-j-end.ensures (c.loop-j.invariant c.requires.section) c.loop-j-test.true _ _ c.record_at-at.ensures c.record_end-end.ensures c.requires.tape in let q = (section_low _ _ _ c.requires.in_range c.requires.section).1 in let h : c.record_at-at.result ≤ 16384 = omega (arith, p.frame.whole.rising, p.frame.whole.within, p.frame.small) in search rules

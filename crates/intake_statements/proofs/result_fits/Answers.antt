@@ -1,10 +1,6 @@
-use Rattle.intake_statements.proofs.Leaves.{start_in}
 use Rattle.intake_statements.proofs.Results.{function_in_lem, fits_call, fits_no_call, fits_load, fits_atomic}
 use borrow.Author.Rules.{rules}
 use Rattle.intake_statements.proofs.result_fits.Goals as goal
-
-pub kind-k-requires : goal.kind-k-requires
-kind-k-requires c = let zz = start_in _ _ _ c.requires.exprs.placed c.requires.e_lt_count in record { e_bound = zz.0; e_bound_2 = zz.1 }
 
 pub bounds-words-starts : goal.bounds-words-starts
 bounds-words-starts c = function_in_lem _ _ _ _ _ c.requires.exprs c.requires.e_lt_count _ c.kind-k.ensures c.if-k-eq-CALL_RESULT.true
