@@ -10,6 +10,7 @@ use Rattle.theory_lists.specs.Stores.{sets-append}
 use Rattle.theory_lists.specs.Lists.{length_none}
 use Rattle.model.specs.Calls.{numbers, free, held, Rounds, ring, answer, order}
 use Rattle.model.specs.Refusals.{done}
+use Rattle.order_ranks.specs.declared.FunctionSet.{FunctionSet}
 use Rattle.order_ranks.specs.Marks.{members, marked, Firsts, Below}
 use Rattle.order_ranks.specs.Placing.{Placeable, Placed, Orders, shown}
 use Rattle.model.specs.Image.{order_ended}
@@ -33,7 +34,7 @@ unfolding answer
 answer_ring placed [] h = absurd (omega arith)
 answer_ring placed (i ∷ is) h = refl
 
-module _ (cs : List ℕ) (n : ℕ) (out₀ : List ℕ) where
+module _ (cs : List FunctionSet) (n : ℕ) (out₀ : List ℕ) where
   abbrev whole : Rounds
   whole = all (marked cs) (numbers n 0)
 
