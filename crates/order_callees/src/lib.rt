@@ -12,6 +12,7 @@ use base_classes::CALLEE;
 use base_refusals::Refusal;
 use base_views::{FUNCTIONS, count, end_of, start_of};
 use base_words::{Tags, Words};
+use order_ranks::FunctionSet;
 
 // Function i calls what the words from `at` to `end` call.
 fn mark_callees(
@@ -20,7 +21,7 @@ fn mark_callees(
     at: usize,
     end: usize,
     i: usize,
-    callees: &mut [u64; 1024],
+    callees: &mut [FunctionSet; 256],
 )
     requires { Markable words.now tags.now at end i callees.old }
     ensures { Marks callees.old i (picked words.now tags.now at end) callees.new }
@@ -28,15 +29,15 @@ fn mark_callees(
     for k in at..end {
         let calls = tags[k] == CALLEE;
         if calls {
-            order_ranks::mark(callees, i, words[k] as usize);
+            callees[i].join(words[k] as usize);
         }
     }
 }
 
 // Function i calls what its record calls.
-fn function(words: &Words, tags: &Tags, i: usize, callees: &mut [u64; 1024])
+fn function(words: &Words, tags: &Tags, i: usize, callees: &mut [FunctionSet; 256])
     requires framed { Framed words.now tags.now }
-    requires i_bound { (i < count_at 6 words.now) × (length callees.old ≡ 1024) }
+    requires i_bound { i < count_at 6 words.now }
     ensures { Marks callees.old i (called_by words.now tags.now i) callees.new }
 {
     let from = start_of(words, FUNCTIONS, i);
@@ -45,14 +46,13 @@ fn function(words: &Words, tags: &Tags, i: usize, callees: &mut [u64; 1024])
 }
 
 // What every table function calls.
-pub fn gather_requirements(words: &Words, tags: &Tags, n: usize, callees: &mut [u64; 1024])
+pub fn gather_requirements(words: &Words, tags: &Tags, n: usize, callees: &mut [FunctionSet; 256])
     requires tape { Tape words.now tags.now n }
     requires known { Known words.now tags.now n }
     requires no_calls { NoCalls callees.old }
     ensures { Gathered words.now tags.now n callees.new }
 {
-    let count = count(words, FUNCTIONS);
-    for f in 0..count {
+    for f in 0..count(words, FUNCTIONS) {
         function(words, tags, f, callees);
     }
 }

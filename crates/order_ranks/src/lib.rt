@@ -63,14 +63,24 @@ impl FunctionSet {
     pub fn count(&self) -> u32
         ensures { result ≡ length (members self.now.0) }
     {
-        self.0.iter().map(|word| word.count_ones()).sum()
+        // no chain: of the words that it goes over nothing says that they are below 2 ^ 64
+        self.0[0].count_ones()
+            + self.0[1].count_ones()
+            + self.0[2].count_ones()
+            + self.0[3].count_ones()
     }
 
     // Whether a function is in both sets.
     pub fn meets(&self, other: &FunctionSet) -> bool
         ensures { result ≡ any (members other.now.0) (holds self.now.0) }
     {
-        self.0.iter().zip(&other.0).any(|(a, b)| a & b != 0)
+        // no chain: of the words that it goes over nothing says that they are below 2 ^ 64
+        for w in 0..4 {
+            if self.0[w] & other.0[w] != 0 {
+                return true;
+            }
+        }
+        false
     }
 }
 
@@ -123,11 +133,7 @@ pub fn left(callees: &[FunctionSet; 256], n: usize, began: FunctionSet) -> Funct
 
 // The order of the n functions, as their source numbers, goes to the first n of `out`; or the refusal has the
 // count of those left waiting for a ring.
-pub fn order(
-    callees: &[FunctionSet; 256],
-    n: usize,
-    out: &mut [u32; 256],
-) -> Result<(), Refusal>
+pub fn order(callees: &[FunctionSet; 256], n: usize, out: &mut [u32; 256]) -> Result<(), Refusal>
     requires { n ≤ 256 }
     ensures { Orders (marked callees.now) n out.old result out.new }
 {

@@ -5,7 +5,7 @@ use Rattle.derive_rings.proofs.Asking.{is_of, Looking}
 use Rattle.derive_rings.proofs.entries_call.Given as goal
 
 abbrev pub invariant-loop-j : goal.invariant-loop-j
-invariant-loop-j l = Looking (mod_of l.words l.n).entries (is_of l.set) l.j
+invariant-loop-j l = Looking (mod_of l.words l.n).entries (is_of l.set.0) l.j
 
 abbrev pub decreases-loop-j : goal.decreases-loop-j
 decreases-loop-j l = l.entries - l.j

@@ -5,7 +5,7 @@ use Rattle.derive_rings.proofs.Wholes.{is_unknown}
 use Rattle.derive_rings.proofs.unknown.Given as goal
 
 abbrev pub invariant-loop-i : goal.invariant-loop-i
-invariant-loop-i l = Sieve (is_unknown l.words l.n l.log l.logtags l.starts l.ends) l.functions l.began l.set l.i
+invariant-loop-i l = Sieve (is_unknown l.words l.n l.log l.logtags l.starts l.ends) l.functions l.began.0 l.set.0 l.i
 
 abbrev pub decreases-loop-i : goal.decreases-loop-i
 decreases-loop-i l = l.functions - l.i

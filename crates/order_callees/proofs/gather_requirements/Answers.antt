@@ -7,10 +7,10 @@ pub loop-f-init : goal.loop-f-init
 loop-f-init c = begin _ _ c.requires.no_calls
 
 pub function-requires : goal.function-requires
-function-requires c = record { framed = framed c.requires.tape c.requires.known; i_bound = (omega (arith, c.count-count.ensures.0), c.loop-f.invariant.long) }
+function-requires c = record { framed = framed c.requires.tape c.requires.known; i_bound = omega (arith, c.count-f-end.ensures.0) }
 
 pub loop-f-preserved : goal.loop-f-preserved
-loop-f-preserved c = again c.loop-f.invariant (omega (arith, c.count-count.ensures.0)) c.function.ensures
+loop-f-preserved c = again c.loop-f.invariant (omega (arith, c.count-f-end.ensures.0)) c.function.ensures
 
 pub returns : goal.returns
-returns c = finish _ c.loop-f.invariant (omega (arith, c.count-count.ensures.0))
+returns c = finish _ c.loop-f.invariant (omega (arith, c.count-f-end.ensures.0))
