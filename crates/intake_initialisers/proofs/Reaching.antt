@@ -127,8 +127,8 @@ module _ (words tags starts m₀ l₀ : List ℕ) (t₀ e : ℕ) where
         pub reach_below : x < e
         reach_below = rw x_is (below pre.function e m l t this h)
 
-        pub reach_few : e ≤ 1024
-        reach_few = this.room.few
+        pub reach_start : x < 1024
+        reach_start = omega (arith, reach_below, this.room.few)
 
         module _ (at : ℕ) (at-is : at ≡ get_or starts x 0) where
           -- where the expression is

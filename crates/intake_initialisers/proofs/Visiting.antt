@@ -20,10 +20,6 @@ use Rattle.theory_image.specs.Betweens.{between_none, between_cons}
 use Rattle.intake_initialisers.specs.Marks.{finds, before, reads, on, blank, inits, Visits, Room}
 
 -- ---- what a word reads
-pub operand_expr : (s w : ℕ) → s ≡ 93 → Some w ≡ reads s w
-unfolding reads
-operand_expr s w e = rw e
-
 -- a number less 1, if it is not 0
 pub less_one : (o : Option ℕ) (w : ℕ) → SomeIff o (1 ≤ w) (w - 1) → o ≡ before w
 unfolding before
@@ -31,14 +27,6 @@ less_one None zero h = refl
 less_one None (suc w) h = absurd (h (omega arith))
 less_one (Some x) zero h = absurd (omega (arith, h.0))
 less_one (Some x) (suc w) h = let q : x ≡ w = omega (arith, h.1) in rw q
-
-pub operand_opt : (s w : ℕ) (r : Option ℕ) → s ≡ 94 → r ≡ before w → r ≡ reads s w
-unfolding reads
-operand_opt s w r e q = rw e q
-
-pub operand-none : (s w : ℕ) → (s ≡ 93 → ⊥) → (s ≡ 94 → ⊥) → None ≡ reads s w
-unfolding reads
-operand-none s w n k = rw (reads, ne_eqb s 93 n, ne_eqb s 94 k)
 
 -- what is read, before the numbers xs
 first : Option ℕ → List ℕ → List ℕ

@@ -40,6 +40,7 @@ pub fn places(tags: &Tags, at: usize, end: usize, starts: &mut [u32; 1025])
 }
 
 // The expression that a word of the class s reads, if it reads one: an optional operand is 0, or the number plus 1.
+#[tactic(auto, unfolding(crate::specs::Marks::reads, crate::specs::Marks::before))]
 fn operand(s: u8, w: u32) -> Option<u32>
     ensures { result ≡ reads s w }
 {

@@ -2,14 +2,13 @@
 use mathlib.Core.Path.{◌≡◌, refl, sym, ap, ◌∙◌}
 use mathlib.Core.Bool.{Bool, true, false, ◌&&◌}
 use mathlib.Core.Option.{Option, none, some}
-use mathlib.Core.List.{List, [], ◌∷◌, map}
+use mathlib.Core.List.{List, map}
 use Prim.Native.Nat.{ℕ, zero, suc, ◌+◌, ◌-◌, ◌^◌, ◌≤◌, ◌<◌}
 use native.Mathlib.Numerals.{add-one}
 use native.Mathlib.Omega.{arith}
-use lib.Dec.{ltb, leb}
+use lib.Dec.{ltb}
 use lib.ListN.{get_or, set}
-use borrow.Author.Tests.{lt-ltb, eq-eqb, ne_eqb}
-use Rattle.model.specs.Outcome.{Cells}
+use borrow.Author.Tests.{lt-ltb}
 use Rattle.model.specs.Module.{count_at}
 use Rattle.model.specs.Numbers.{Bounds, caps, bound, below, within, rising, ordered}
 use Rattle.model.specs.Between.{between, Long}
@@ -32,24 +31,6 @@ cap-below : (o : Option ℕ) (w : ℕ) → w < 2 ^ 32 → ltb w (cap o) ≡ belo
 unfolding cap below
 cap-below none w h = lt-ltb w (2 ^ 32) h
 cap-below (some n) w h = refl
-
--- ---- Emit's start
-module _ (words tags : List ℕ) (i end : ℕ) where
-  pub rising-other : (get_or tags i 0 ≡ 97 → ⊥) → true ≡ rising (get_or tags i 0, get_or words i 0) (between tags words (i + 1) end)
-  unfolding rising
-  rising-other ne = go (between tags words (i + 1) end)
-    where
-      go : (cs : Cells) → true ≡ rising (get_or tags i 0, get_or words i 0) cs
-      go [] = refl
-      go (d ∷ cs) = rw (rising, ne_eqb (get_or tags i 0) 97 ne)
-
-  pub rising-last : end ≤ i + 1 → true ≡ rising (get_or tags i 0, get_or words i 0) (between tags words (i + 1) end)
-  unfolding rising
-  rising-last h = rw (between_none tags words (i + 1) end h)
-
-  pub rising-tested : get_or tags i 0 ≡ 97 → i + 1 < end → Long words tags → end ≤ 16384 → leb (get_or words i 0) (get_or words (i + 1) 0) ≡ rising (get_or tags i 0, get_or words i 0) (between tags words (i + 1) end)
-  unfolding rising
-  rising-tested e h long ok = rw (between_cons tags words (i + 1) end h long ok, rising, eq-eqb (get_or tags i 0) 97 e)
 
 -- ---- each word in turn
 -- the table is that of the bounds b; a word has 32 bits, and a class 8

@@ -82,6 +82,7 @@ fn bounded(words: &Words, tags: &Tags, t: &[u64; 256], i: usize) -> bool
 }
 
 // Whether the word at i, if it is Emit's start, is at most the word after it.
+#[tactic(auto, using(theory_image::specs::Betweens::between_none, theory_image::specs::Betweens::between_cons), unfolding(model::specs::Numbers::rising))]
 fn emit_in_order(words: &Words, tags: &Tags, i: usize, end: usize) -> bool
     requires long { Long words.now tags.now }
     requires i_lt_end { i < end }

@@ -1,5 +1,5 @@
 use native.Mathlib.Omega.{arith}
-use Rattle.intake_initialisers.proofs.Reaching.{reach_begin, reach_done, reach_list, reach_below, reach_few, reach_at, reach_barred, reach_rising, reach_small, reach_long, reach_room, reach_less, reach_next}
+use Rattle.intake_initialisers.proofs.Reaching.{reach_begin, reach_done, reach_list, reach_start, reach_at, reach_barred, reach_rising, reach_small, reach_long, reach_room, reach_less, reach_next}
 use mathlib.Core.Bool.{not}
 use mathlib.Core.Path.{refl, ap}
 use Rattle.intake_initialisers.proofs.reach.Goals as goal
@@ -14,10 +14,10 @@ pub bounds-list-n : goal.bounds-list-n
 bounds-list-n c = reach_list _ _ _ _ _ _ _ _ _ _ c.loop-top.invariant c.requires c.loop-top-test.true
 
 pub offset_bounds-starts-x : goal.offset_bounds-starts-x
-offset_bounds-starts-x c = omega (arith, reach_below _ _ _ _ _ _ _ _ _ _ c.loop-top.invariant c.requires c.loop-top-test.true _ refl, reach_few _ _ _ _ _ _ _ _ _ _ c.loop-top.invariant c.requires c.loop-top-test.true _ refl)
+offset_bounds-starts-x c = omega (arith, reach_start _ _ _ _ _ _ _ _ _ _ c.loop-top.invariant c.requires c.loop-top-test.true _ refl)
 
 pub bounds-starts-x : goal.bounds-starts-x
-bounds-starts-x c = omega (arith, reach_below _ _ _ _ _ _ _ _ _ _ c.loop-top.invariant c.requires c.loop-top-test.true _ refl, reach_few _ _ _ _ _ _ _ _ _ _ c.loop-top.invariant c.requires c.loop-top-test.true _ refl)
+bounds-starts-x c = omega (arith, reach_start _ _ _ _ _ _ _ _ _ _ c.loop-top.invariant c.requires c.loop-top-test.true _ refl)
 
 pub offset_bounds-words-at : goal.offset_bounds-words-at
 offset_bounds-words-at c = omega (arith, reach_at _ _ _ _ _ _ _ _ _ _ c.loop-top.invariant c.requires c.loop-top-test.true _ refl _ refl)
@@ -29,13 +29,13 @@ pub returns-then-not-constant : goal.returns-then-not-constant
 returns-then-not-constant c = reach_barred _ _ _ _ _ _ _ _ _ _ c.loop-top.invariant c.requires c.loop-top-test.true _ refl _ refl _ c.constant.ensures (ap not c.if-not-constant.true)
 
 pub overflow_add-to : goal.overflow_add-to
-overflow_add-to c = omega (arith, reach_below _ _ _ _ _ _ _ _ _ _ c.loop-top.invariant c.requires c.loop-top-test.true _ refl, reach_few _ _ _ _ _ _ _ _ _ _ c.loop-top.invariant c.requires c.loop-top-test.true _ refl)
+overflow_add-to c = omega (arith, reach_start _ _ _ _ _ _ _ _ _ _ c.loop-top.invariant c.requires c.loop-top-test.true _ refl)
 
 pub offset_bounds-starts-x-in-loop-top : goal.offset_bounds-starts-x-in-loop-top
-offset_bounds-starts-x-in-loop-top c = omega (arith, reach_below _ _ _ _ _ _ _ _ _ _ c.loop-top.invariant c.requires c.loop-top-test.true _ refl, reach_few _ _ _ _ _ _ _ _ _ _ c.loop-top.invariant c.requires c.loop-top-test.true _ refl)
+offset_bounds-starts-x-in-loop-top c = omega (arith, reach_start _ _ _ _ _ _ _ _ _ _ c.loop-top.invariant c.requires c.loop-top-test.true _ refl)
 
 pub bounds-starts-x-in-loop-top : goal.bounds-starts-x-in-loop-top
-bounds-starts-x-in-loop-top c = omega (arith, reach_below _ _ _ _ _ _ _ _ _ _ c.loop-top.invariant c.requires c.loop-top-test.true _ refl, reach_few _ _ _ _ _ _ _ _ _ _ c.loop-top.invariant c.requires c.loop-top-test.true _ refl)
+bounds-starts-x-in-loop-top c = omega (arith, reach_start _ _ _ _ _ _ _ _ _ _ c.loop-top.invariant c.requires c.loop-top-test.true _ refl)
 
 pub spread-top-requires : goal.spread-top-requires
 spread-top-requires c = record { long = reach_long _ _ _ _ _ _ _ _ _ _ c.loop-top.invariant c.requires c.loop-top-test.true _ refl _ refl _ c.constant.ensures (ap not c.if-not-constant.false) _ refl; at_le_end = reach_rising _ _ _ _ _ _ _ _ _ _ c.loop-top.invariant c.requires c.loop-top-test.true _ refl _ refl _ c.constant.ensures (ap not c.if-not-constant.false) _ refl; end_bound = reach_small _ _ _ _ _ _ _ _ _ _ c.loop-top.invariant c.requires c.loop-top-test.true _ refl _ refl _ c.constant.ensures (ap not c.if-not-constant.false) _ refl; room = reach_room _ _ _ _ _ _ _ _ _ _ c.loop-top.invariant c.requires c.loop-top-test.true _ refl _ refl _ c.constant.ensures (ap not c.if-not-constant.false) _ refl }
