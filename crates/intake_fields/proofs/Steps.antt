@@ -16,13 +16,13 @@ use Rattle.model.specs.Outcome.{Cells, class, Outcome, fits, misfit, unknown, ma
 use Rattle.model.specs.Table.{Row, PAD, LENGTH, STMT_KIND, run}
 use Rattle.intake_fields.specs.Parts.{join, times, check, statement_of, read_b, piece, pieces, Brings, rows, over, nothing, brings_of, brought, opening}
 use Rattle.intake_fields.specs.Rows.{ROWS, numbers, SIZE, KIND_ROW, row, row_at, MoreIs}
-use Rattle.intake_fields.specs.Walks.{Walked, next, stopped, seen, final, RowEnsures}
+use Rattle.intake_fields.specs.Walks.{Walked, next, stopped, seen, final, RowEnsures, Takes}
 use Rattle.intake_fields.specs.declared.Misread.{Misread}
 use Rattle.intake_fields.specs.declared.Misread.TheVariants.{Misfit, Strange}
 use Rattle.intake_fields.proofs.Flat.{piece-field, piece-length, piece_list, piece-variant, piece-cases, piece_stmt_kind, piece_block, piece_block_none, statement-kind, run-word}
 use Rattle.intake_fields.proofs.Reading.{Reads, reads-piece, reads-pieces}
 use Rattle.intake_fields.proofs.Rows.{ended, further, row_next, symbol, large}
-use Rattle.intake_fields.proofs.Walk.{Taken, taken, chain_err, chain_next, final-word, eat-none, eat_some, run_short, told}
+use Rattle.intake_fields.proofs.Walk.{no_word, Taken, taken, chain_err, chain_next, final-word, eat-none, eat_some, run_short, told}
 
 one_word_is : (words : List ℕ) (i end s : ℕ) → i < end → end ≤ length words → s < PAD → run (slice i end words) (s ∷ []) ≡ fits ((s, get_or words i 0) ∷ []) (slice (i + 1) end words)
 one_word_is words i end s h enough l = ap (λ ws. run ws (s ∷ [])) (slice-cons i end words 0 h enough) ∙ rw (add-one i) (run-word s (get_or words i 0) (slice (suc i) end words) l)
@@ -35,31 +35,31 @@ final-brought tags i end s w over f = refl
 final-brought tags i end s w nothing f = refl
 
 module _ (words tags : List ℕ) (i end s left : ℕ) where
-  pub opened-short : end ≤ i → RowEnsures (Err Misfit) tags tags i end (opening left s (slice i end words))
-  unfolding opening seen stopped final
-  opened-short h = record { same = sym (ap (final tags i end) (eat-none words i end _ h)) }
+  pub opened-short : (e : Misread) (tags₁ : List ℕ) → (end ≤ i) × (e ≡ Misfit) → RowEnsures (Err e) tags₁ tags i end (opening left s (slice i end words))
+  unfolding opening
+  opened-short e tags₁ h = no_word _ (eat-none words i end _ h.0) e h.1
 
-  module _ (h : i < end) (enough : end ≤ length words) (m : Result (ℕ × ℕ) Misread) (more : MoreIs s (get_or words i 0) m) where
-    inside : final tags i end (opening left s (slice i end words)) ≡ final (set tags i s) (i + 1) end (brought (brings_of s (get_or words i 0)) λ n r. times n (pieces left r) (slice (i + 1) end words))
+  module _ (enough : end ≤ length words) (w : ℕ) (tags' : List ℕ) (t : Takes (Ok w) tags' tags words i end s) (m : Result (ℕ × ℕ) Misread) (more : MoreIs s w m) where
+    inside : final tags i end (opening left s (slice i end words)) ≡ final tags' (i + 1) end (brought (brings_of s w) λ n r. times n (pieces left r) (slice (i + 1) end words))
     unfolding opening
-    inside = ap (final tags i end) (eat_some words i end _ h enough) ∙ final-brought tags i end s (get_or words i 0) (brings_of s (get_or words i 0)) _
+    inside = rw (t.2, t.1) (ap (final tags i end) (eat_some words i end _ t.0 enough) ∙ final-brought tags i end s (get_or words i 0) (brings_of s (get_or words i 0)) _)
 
-    brought_as : (b : Brings) → brings_of s (get_or words i 0) ≡ b → final tags i end (opening left s (slice i end words)) ≡ final (set tags i s) (i + 1) end (brought b λ n r. times n (pieces left r) (slice (i + 1) end words))
-    brought_as b e = inside ∙ ap (λ q. final (set tags i s) (i + 1) end (brought q λ n r. times n (pieces left r) (slice (i + 1) end words))) e
+    brought_as : (b : Brings) → brings_of s w ≡ b → final tags i end (opening left s (slice i end words)) ≡ final tags' (i + 1) end (brought b λ n r. times n (pieces left r) (slice (i + 1) end words))
+    brought_as b e = inside ∙ ap (λ q. final tags' (i + 1) end (brought q λ n r. times n (pieces left r) (slice (i + 1) end words))) e
 
-    pub opened_err : (e : Misread) → m ≡ Err e → RowEnsures (Err e) (set tags i s) tags i end (opening left s (slice i end words))
+    pub opened_err : (e : Misread) → m ≡ Err e → RowEnsures (Err e) tags' tags i end (opening left s (slice i end words))
     unfolding seen stopped final brought
     opened_err Misfit e = record { same = sym (brought_as over (rw e at more)) }
     opened_err Strange e = record { same = sym (brought_as nothing (rw e at more)) }
 
     module _ (pc n : ℕ) (e : m ≡ Ok (pc, n)) where
-      got-rows : (pc < ROWS) × (brings_of s (get_or words i 0) ≡ rows n (row_at pc))
+      got-rows : (pc < ROWS) × (brings_of s w ≡ rows n (row_at pc))
       got-rows = rw e at more
 
       pub opened_in : pc < ROWS
       opened_in = got-rows.0
 
-      pub opened_rows : (r : Walked) (tags₁ : List ℕ) → RowEnsures r tags₁ (set tags i s) (i + 1) end (times n (pieces left (row_at pc)) (slice (i + 1) end words)) → RowEnsures r tags₁ tags i end (opening left s (slice i end words))
+      pub opened_rows : (r : Walked) (tags₁ : List ℕ) → RowEnsures r tags₁ tags' (i + 1) end (times n (pieces left (row_at pc)) (slice (i + 1) end words)) → RowEnsures r tags₁ tags i end (opening left s (slice i end words))
       unfolding brought
       opened_rows r tags₁ got = record { same = got.same ∙ sym (brought_as (rows n (row_at pc)) got-rows.1) }
 
@@ -77,26 +77,29 @@ unfolding check
 check_no w cs rest e = rw (check, ne_eqb w (suc (length cs)) e)
 
 module _ (words tags : List ℕ) (i end left : ℕ) where
-  pub stmt_short : end ≤ i → RowEnsures (Err Misfit) tags tags i end (statement_of (read_b left) (slice i end words))
-  unfolding statement_of seen stopped final
-  stmt_short h = record { same = sym (ap (final tags i end) (eat-none words i end _ h)) }
+  pub stmt_short : (e : Misread) (tags₁ : List ℕ) → (end ≤ i) × (e ≡ Misfit) → RowEnsures (Err e) tags₁ tags i end (statement_of (read_b left) (slice i end words))
+  unfolding statement_of
+  stmt_short e tags₁ h = no_word _ (eat-none words i end _ h.0) e h.1
 
-  module _ (h : i < end) (enough : end ≤ length words) (r : Walked) (tags₁ : List ℕ) (got : RowEnsures r tags₁ (set tags i 124) (i + 1) end (pieces left (row_at KIND_ROW) (slice (i + 1) end words))) where
+  module _ (enough : end ≤ length words) (w : ℕ) (tags' : List ℕ) (t : Takes (Ok w) tags' tags words i end 124) (r : Walked) (tags₁ : List ℕ) (got : RowEnsures r tags₁ tags' (i + 1) end (pieces left (row_at KIND_ROW) (slice (i + 1) end words))) where
+    h : i < end
+    h = t.0
+
     inner : Outcome Cells
     inner = pieces left (STMT_KIND ∷ []) (slice (i + 1) end words)
 
-    stated : statement_of (read_b left) (slice i end words) ≡ check (get_or words i 0) inner
+    stated : statement_of (read_b left) (slice i end words) ≡ check w inner
     unfolding inner
-    stated = ap (statement_of (read_b left)) (slice-cons i end words 0 h enough) ∙ rw (add-one i) (statement-kind left (get_or words i 0) (slice (suc i) end words))
+    stated = rw t.1 (ap (statement_of (read_b left)) (slice-cons i end words 0 t.0 enough) ∙ rw (add-one i) (statement-kind left (get_or words i 0) (slice (suc i) end words)))
 
-    head : final tags i end (statement_of (read_b left) (slice i end words)) ≡ final tags i end (check (get_or words i 0) inner)
+    head : final tags i end (statement_of (read_b left) (slice i end words)) ≡ final tags i end (check w inner)
     head = ap (final tags i end) stated
 
-    got_same : seen r tags₁ ≡ final (set tags i 124) (i + 1) end inner
+    got_same : seen r tags₁ ≡ final tags' (i + 1) end inner
     unfolding inner
     got_same = rw kind_row at got.same
 
-    ended_so : (e : Misread) (o : Outcome Cells) → stopped e ≡ final (set tags i 124) (i + 1) end o → stopped e ≡ final tags i end (check (get_or words i 0) o)
+    ended_so : (e : Misread) (o : Outcome Cells) → stopped e ≡ final tags' (i + 1) end o → stopped e ≡ final tags i end (check w o)
     unfolding stopped final check
     ended_so Misfit (fits cs rest) g = cc
     ended_so Strange (fits cs rest) g = cc
@@ -108,29 +111,29 @@ module _ (words tags : List ℕ) (i end left : ℕ) where
     stmt_err e h = record { same = ended_so e inner (sym (ap (λ q. seen q tags₁) h) ∙ got_same) ∙ sym head }
 
     module _ (k : ℕ) (e : r ≡ Ok k) where
-      took : Taken words (set tags i 124) (i + 1) end tags₁ k inner
+      took : Taken words tags' (i + 1) end tags₁ k inner
       unfolding seen inner
-      took = taken words (set tags i 124) (i + 1) end enough (omega arith) inner (reads-pieces left (STMT_KIND ∷ []) (slice (i + 1) end words)) tags₁ k (rw e at got_same)
+      took = taken words tags' (i + 1) end enough (omega arith) inner (reads-pieces left (STMT_KIND ∷ []) (slice (i + 1) end words)) tags₁ k (rw e at got_same)
 
-      pub stmt_next : (n : ℕ) → n ≡ get_or words i 0 → i + n ≡ k → RowEnsures (Ok k) tags₁ tags i end (statement_of (read_b left) (slice i end words))
+      pub stmt_next : (n : ℕ) → n ≡ w → i + n ≡ k → RowEnsures (Ok k) tags₁ tags i end (statement_of (read_b left) (slice i end words))
       unfolding seen final
       stmt_next n is l = good took
         where
-          ended_at : (cs : Cells) → end - length (slice k end words) ≡ k → tags₁ ≡ sets (set tags i 124) (i + 1) (map class cs) → final tags i end (fits ((LENGTH, get_or words i 0) ∷ cs) (slice k end words)) ≡ seen (Ok k) tags₁
-          ended_at cs z t = ap (λ x. next x (sets (set tags i 124) (suc i) (map class cs))) z ∙ ap (next k) (sym (rw (add-one i) at t))
+          ended_at : (cs : Cells) → end - length (slice k end words) ≡ k → tags₁ ≡ sets tags' (i + 1) (map class cs) → final tags i end (fits ((LENGTH, w) ∷ cs) (slice k end words)) ≡ seen (Ok k) tags₁
+          ended_at cs z q = ap (λ x. next x (sets (set tags i 124) (suc i) (map class cs))) z ∙ ap (next k) (sym (rw (add-one i, t.2) at q))
 
-          good : Taken words (set tags i 124) (i + 1) end tags₁ k inner → RowEnsures (Ok k) tags₁ tags i end (statement_of (read_b left) (slice i end words))
-          good t =
-              let w : get_or words i 0 ≡ suc (length t.cells) = omega (arith, t.at, is, l) in
-              let z : end - length (slice k end words) ≡ k = omega (arith, length-slice k end words enough, t.end-at) in
-              record { same = sym (head ∙ ap (λ q. final tags i end (check (get_or words i 0) q)) t.is ∙ ap (final tags i end) (check_yes _ t.cells (slice k end words) w) ∙ ended_at t.cells z t.tagged) }
+          good : Taken words tags' (i + 1) end tags₁ k inner → RowEnsures (Ok k) tags₁ tags i end (statement_of (read_b left) (slice i end words))
+          good g =
+              let long : w ≡ suc (length g.cells) = omega (arith, g.at, is, l) in
+              let z : end - length (slice k end words) ≡ k = omega (arith, length-slice k end words enough, g.end-at) in
+              record { same = sym (head ∙ ap (λ q. final tags i end (check w q)) g.is ∙ ap (final tags i end) (check_yes _ g.cells (slice k end words) long) ∙ ended_at g.cells z g.tagged) }
 
-      pub stmt_wrong : (n : ℕ) → n ≡ get_or words i 0 → (i + n ≡ k → ⊥) → RowEnsures (Err Misfit) tags₁ tags i end (statement_of (read_b left) (slice i end words))
+      pub stmt_wrong : (n : ℕ) → n ≡ w → (i + n ≡ k → ⊥) → RowEnsures (Err Misfit) tags₁ tags i end (statement_of (read_b left) (slice i end words))
       unfolding seen stopped final
       stmt_wrong n is l = bad took
         where
-          bad : Taken words (set tags i 124) (i + 1) end tags₁ k inner → RowEnsures (Err Misfit) tags₁ tags i end (statement_of (read_b left) (slice i end words))
-          bad t = record { same = sym (head ∙ ap (λ q. final tags i end (check (get_or words i 0) q)) t.is ∙ ap (final tags i end) (check_no _ t.cells (slice k end words) (λ w. l (omega (arith, t.at, is, w))))) }
+          bad : Taken words tags' (i + 1) end tags₁ k inner → RowEnsures (Err Misfit) tags₁ tags i end (statement_of (read_b left) (slice i end words))
+          bad g = record { same = sym (head ∙ ap (λ q. final tags i end (check w q)) g.is ∙ ap (final tags i end) (check_no _ g.cells (slice k end words) (λ e. l (omega (arith, g.at, is, e))))) }
 
 -- ---- a piece
 module _ (words tags : List ℕ) (i end s left : ℕ) (r : Walked) (tags₁ : List ℕ) where
@@ -206,17 +209,17 @@ module _ (words tags₀ : List ℕ) (at end pc left : ℕ) where
       plain-piece : s < 105 → (ws : List ℕ) → piece left s ws ≡ run ws (s ∷ [])
       plain-piece l ws = piece-field left s ws (omega arith)
 
-      pub row-short : s < 105 → end ≤ i → RowEnsures (Err Misfit) tags tags₀ at end (pieces left (row_at pc) (slice at end words))
+      pub row-short : s < 105 → (e : Misread) (tags₁ : List ℕ) → (end ≤ i) × (e ≡ Misfit) → RowEnsures (Err e) tags₁ tags₀ at end (pieces left (row_at pc) (slice at end words))
       unfolding seen stopped final join
-      row-short l h = record { same = sym (ap (λ o. final tags i end (join o (pieces left (row_at (p + 1))))) (plain-piece l (slice i end words) ∙ run_short words i end s [] h)) ∙ opened }
+      row-short l e tags₁ h = record { same = rw h.1 (sym (ap (λ o. final tags i end (join o (pieces left (row_at (p + 1))))) (plain-piece l (slice i end words) ∙ run_short words i end s [] h.0)) ∙ opened) }
 
-      pub row_plain : s < 105 → i < end → Rowing words tags₀ at end pc left (set tags i s) (i + 1) (p + 1)
+      pub row_plain : s < 105 → (w : ℕ) (tags' : List ℕ) → Takes (Ok w) tags' tags words i end s → Rowing words tags₀ at end pc left tags' (i + 1) (p + 1)
       unfolding join
-      row_plain l h = record {
+      row_plain l w tags' t = let h : i < end = t.0 in record {
         in_rows = row_next p inv.in_rows ne';
         from = omega (arith, inv.from);
         within = omega arith;
-        same = sym (ap (λ o. final tags i end (join o (pieces left (row_at (p + 1))))) (plain-piece l (slice i end words) ∙ one_word_is words i end s h enough l) ∙ final-word tags i end s (get_or words i 0) (pieces left (row_at (p + 1)) (slice (i + 1) end words))) ∙ opened;
+        same = rw t.2 (sym (ap (λ o. final tags i end (join o (pieces left (row_at (p + 1))))) (plain-piece l (slice i end words) ∙ one_word_is words i end s h enough l) ∙ final-word tags i end s (get_or words i 0) (pieces left (row_at (p + 1)) (slice (i + 1) end words))) ∙ opened);
       }
 
       module _ (r : Walked) (tags₁ : List ℕ) (got : RowEnsures r tags₁ tags i end (piece left s (slice i end words))) where

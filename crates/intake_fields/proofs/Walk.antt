@@ -20,7 +20,7 @@ use Rattle.model.specs.Outcome.{Cells, class, word, Outcome, fits, misfit, unkno
 use Rattle.model.specs.Table.{Row, WORD, EXPR, PAD, TEXT, OPERANDS, brings, over, repeat, text, more, follow, run}
 use Rattle.theory_image.specs.Betweens.{slice-none}
 use Rattle.intake_fields.specs.Parts.{Reader, join}
-use Rattle.intake_fields.specs.Walks.{Walked, Final, next, refused, stopped, seen, final, RowEnsures, filled, Fills}
+use Rattle.intake_fields.specs.Walks.{Walked, Final, next, refused, stopped, seen, final, RowEnsures, Takes, filled, Fills}
 use Rattle.intake_fields.specs.declared.Misread.{Misread}
 use Rattle.intake_fields.specs.declared.Misread.TheVariants.{Misfit, Strange}
 use Rattle.intake_fields.proofs.Flat.{run_none, run-append, plain_more}
@@ -165,10 +165,14 @@ fill_walks : (words tags : List ℕ) (i end c n : ℕ) → end ≤ length words 
 fill_walks words tags i end c n enough plain h r tags₁ got = record { same = got.same ∙ sym (run_fill n words end c enough plain tags i h) }
 
 -- ---- one word, and the fields that follow because of it
+-- where no word is left
+pub no_word : {tags₁ tags : List ℕ} {i end : ℕ} (o : Outcome Cells) → o ≡ misfit → (e : Misread) → e ≡ Misfit → RowEnsures (Err e) tags₁ tags i end o
+unfolding seen stopped final
+no_word o h e f = record { same = rw (h, f) }
+
 module _ (words tags : List ℕ) (i end s : ℕ) where
-  pub run_misfit : end ≤ i → RowEnsures (Err Misfit) tags tags i end (run (slice i end words) (s ∷ []))
-  unfolding seen stopped final
-  run_misfit h = record { same = rw (run_short words i end s [] h) }
+  pub run_misfit : (e : Misread) (tags₁ : List ℕ) → (end ≤ i) × (e ≡ Misfit) → RowEnsures (Err e) tags₁ tags i end (run (slice i end words) (s ∷ []))
+  run_misfit e tags₁ h = no_word _ (run_short words i end s [] h.0) e h.1
 
   module _ (h : i < end) (enough : end ≤ length words) where
     pub run_opens : final tags i end (run (slice i end words) (s ∷ [])) ≡ final (set tags i s) (i + 1) end (follow (more s (get_or words i 0)) [] (run (slice (i + 1) end words)))
@@ -185,19 +189,23 @@ pad_more k w h l =
     let e : 104 + k - 104 ≡ k = omega arith in
     rw (more, le-ltb (104 + k) PAD (omega arith), lt-ltb (104 + k) TEXT (omega arith), e)
 
-module _ (words tags : List ℕ) (i end k : ℕ) (low : 0 < k) (high : k < 4) (h : i < end) (enough : end ≤ length words) (c most : ℕ) (is_c : c ≡ 104 + k) (is : most ≡ 256 ^ k) where
-  pub pad_wrong : most ≤ get_or words i 0 → RowEnsures (Err Misfit) (set tags i c) tags i end (run (slice i end words) ((104 + k) ∷ []))
+module _ (words tags : List ℕ) (i end k : ℕ) (low : 0 < k) (high : k < 4) (enough : end ≤ length words) (c most : ℕ) (is_c : c ≡ 104 + k) (is : most ≡ 256 ^ k) (w : ℕ) (tags' : List ℕ) (t : Takes (Ok w) tags' tags words i end c) where
+  tagged : tags' ≡ set tags i (104 + k)
+  tagged = rw is_c at t.2
+
+  pub pad_wrong : most ≤ w → RowEnsures (Err Misfit) tags' tags i end (run (slice i end words) ((104 + k) ∷ []))
   unfolding seen stopped final follow
   pad_wrong g =
-      let e : more (104 + k) (get_or words i 0) ≡ over = pad_more k (get_or words i 0) low high ∙ rw (le-ltb (get_or words i 0) (256 ^ k) (rw is at g)) in
-      record { same = sym (run_opens words tags i end (104 + k) h enough ∙ ap (λ m. final (set tags i (104 + k)) (i + 1) end (follow m [] (run (slice (i + 1) end words)))) e) }
+      let e : more (104 + k) (get_or words i 0) ≡ over = pad_more k (get_or words i 0) low high ∙ rw (le-ltb (get_or words i 0) (256 ^ k) (rw (is, t.1) at g)) in
+      record { same = sym (run_opens words tags i end (104 + k) t.0 enough ∙ ap (λ m. final (set tags i (104 + k)) (i + 1) end (follow m [] (run (slice (i + 1) end words)))) e) }
 
-  pub pad_right : get_or words i 0 < most → RowEnsures (Ok (i + 1)) (set tags i c) tags i end (run (slice i end words) ((104 + k) ∷ []))
+  pub pad_right : w < most → RowEnsures (Ok (i + 1)) tags' tags i end (run (slice i end words) ((104 + k) ∷ []))
   unfolding seen final
   pad_right g =
-      let e : more (104 + k) (get_or words i 0) ≡ brings [] = pad_more k (get_or words i 0) low high ∙ rw (lt-ltb (get_or words i 0) (256 ^ k) (rw is at g)) in
+      let e : more (104 + k) (get_or words i 0) ≡ brings [] = pad_more k (get_or words i 0) low high ∙ rw (lt-ltb (get_or words i 0) (256 ^ k) (rw (is, t.1) at g)) in
+      let h : i < end = t.0 in
       let z : end - length (slice (i + 1) end words) ≡ i + 1 = omega (arith, length-slice (i + 1) end words enough) in
-      record { same = rw is_c (sym (run_brings words tags i end (104 + k) h enough [] e ∙ ap (final (set tags i (104 + k)) (i + 1) end) (run_none (slice (i + 1) end words)) ∙ ap (λ x. next x (set tags i (104 + k))) z)) }
+      record { same = rw tagged (sym (run_brings words tags i end (104 + k) h enough [] e ∙ ap (final (set tags i (104 + k)) (i + 1) end) (run_none (slice (i + 1) end words)) ∙ ap (λ x. next x (set tags i (104 + k))) z)) }
 
 -- ---- operands
 repeat-one : (n c : ℕ) → repeat n (c ∷ []) ≡ replicate n c
@@ -209,10 +217,12 @@ operands-bring : (w : ℕ) → more OPERANDS w ≡ brings (replicate w EXPR)
 unfolding more
 operands-bring w = ap brings (repeat-one w EXPR)
 
-pub operands-walk : (words tags : List ℕ) (i end : ℕ) → i < end → end ≤ length words → (r : Walked) (tags₁ : List ℕ) → Fills r tags₁ (set tags i 109) (i + 1) end 93 (get_or words i 0) → RowEnsures r tags₁ tags i end (run (slice i end words) (109 ∷ []))
-operands-walk words tags i end h enough r tags₁ got = record {
-  same = got.same ∙ sym (run_brings words tags i end 109 h enough (replicate (get_or words i 0) 93) (operands-bring (get_or words i 0)) ∙ run_fill (get_or words i 0) words end 93 enough (omega arith) (set tags i 109) (i + 1) (omega arith));
-}
+pub operands-walk : (words tags : List ℕ) (i end : ℕ) → end ≤ length words → (w : ℕ) (tags' : List ℕ) → Takes (Ok w) tags' tags words i end 109 → (r : Walked) (tags₁ : List ℕ) → Fills r tags₁ tags' (i + 1) end 93 w → RowEnsures r tags₁ tags i end (run (slice i end words) (109 ∷ []))
+operands-walk words tags i end enough w tags' t r tags₁ got =
+    let h : i < end = t.0 in
+    record {
+      same = (rw (t.2, t.1) at got.same) ∙ sym (run_brings words tags i end 109 h enough (replicate (get_or words i 0) 93) (operands-bring (get_or words i 0)) ∙ run_fill (get_or words i 0) words end 93 enough (omega arith) (set tags i 109) (i + 1) (omega arith));
+    }
 
 -- ---- the bytes of a name
 tail : ℕ → Row
@@ -230,38 +240,35 @@ tail_some : (b : ℕ) → (b % 4 ≡ 0 → ⊥) → tail b ≡ (104 + b % 4) ∷
 unfolding tail
 tail_some b n = rw (tail, ne_eqb (b % 4) 0 n) (ap (λ (x : ℕ). x ∷ []) (omega arith))
 
-module _ (words tags : List ℕ) (i end : ℕ) (h : i < end) (enough : end ≤ length words) (r : Walked) (tags₁ : List ℕ) (got : Fills r tags₁ (set tags i 108) (i + 1) end 80 (get_or words i 0 / 4)) where
-  b : ℕ
-  b = get_or words i 0
+module _ (words tags : List ℕ) (i end w : ℕ) (tags' : List ℕ) (t : Takes (Ok w) tags' tags words i end 108) (enough : end ≤ length words) (r : Walked) (tags₁ : List ℕ) (got : Fills r tags₁ tags' (i + 1) end 80 (w / 4)) where
+  h : i < end
+  h = t.0
 
-  whole : final tags i end (run (slice i end words) (108 ∷ [])) ≡ final (set tags i 108) (i + 1) end (join (run (slice (i + 1) end words) (replicate (b / 4) 80)) (λ ws. run ws (tail b)))
-  unfolding b
-  whole = run_brings words tags i end 108 h enough _ (text-more (get_or words i 0)) ∙ ap (final (set tags i 108) (i + 1) end) (run-append (slice (i + 1) end words) (replicate (b / 4) 80) (tail b))
+  whole : final tags i end (run (slice i end words) (108 ∷ [])) ≡ final tags' (i + 1) end (join (run (slice (i + 1) end words) (replicate (w / 4) 80)) (λ ws. run ws (tail w)))
+  whole = rw (t.2, t.1) (run_brings words tags i end 108 t.0 enough _ (text-more (get_or words i 0)) ∙ ap (final (set tags i 108) (i + 1) end) (run-append (slice (i + 1) end words) (replicate (get_or words i 0 / 4) 80) (tail (get_or words i 0))))
 
-  bytes : RowEnsures r tags₁ (set tags i 108) (i + 1) end (run (slice (i + 1) end words) (replicate (b / 4) 80))
-  unfolding b
-  bytes = fill_walks words (set tags i 108) (i + 1) end 80 (b / 4) enough (omega arith) (omega arith) r tags₁ got
+  bytes : RowEnsures r tags₁ tags' (i + 1) end (run (slice (i + 1) end words) (replicate (w / 4) 80))
+  bytes = fill_walks words tags' (i + 1) end 80 (w / 4) enough (omega arith) (omega (arith, h)) r tags₁ got
 
   pub text_err : (e : Misread) → r ≡ Err e → RowEnsures (Err e) tags₁ tags i end (run (slice i end words) (108 ∷ []))
   unfolding seen
-  text_err e is = record { same = sym (whole ∙ chain_err words (set tags i 108) (i + 1) end enough (omega arith) _ (reads-run _ _) r tags₁ bytes (λ ws. run ws (tail b)) e is) }
+  text_err e is = record { same = sym (whole ∙ chain_err words tags' (i + 1) end enough (omega (arith, h)) _ (reads-run _ _) r tags₁ bytes (λ ws. run ws (tail w)) e is) }
 
   module _ (n : ℕ) (e : r ≡ Ok n) where
-    then_tail : Onto words (i + 1) end n (final (set tags i 108) (i + 1) end (join (run (slice (i + 1) end words) (replicate (b / 4) 80)) (λ ws. run ws (tail b)))) (final tags₁ n end (run (slice n end words) (tail b)))
-    then_tail = chain_next words (set tags i 108) (i + 1) end enough (omega arith) _ (reads-run _ _) r tags₁ bytes (λ ws. run ws (tail b)) n e
+    then_tail : Onto words (i + 1) end n (final tags' (i + 1) end (join (run (slice (i + 1) end words) (replicate (w / 4) 80)) (λ ws. run ws (tail w)))) (final tags₁ n end (run (slice n end words) (tail w)))
+    then_tail = chain_next words tags' (i + 1) end enough (omega (arith, h)) _ (reads-run _ _) r tags₁ bytes (λ ws. run ws (tail w)) n e
 
     pub text-within : n ≤ end
     text-within = then_tail.within
 
-    pub text_done : get_or words i 0 % 4 ≡ 0 → RowEnsures (Ok n) tags₁ tags i end (run (slice i end words) (108 ∷ []))
-    unfolding seen final b
+    pub text_done : w % 4 ≡ 0 → RowEnsures (Ok n) tags₁ tags i end (run (slice i end words) (108 ∷ []))
+    unfolding seen final
     text_done z =
         let k : end - length (slice n end words) ≡ n = omega (arith, length-slice n end words enough, then_tail.within) in
-        record { same = sym (whole ∙ then_tail.same ∙ ap (λ l. final tags₁ n end (run (slice n end words) l)) (tail_none b z) ∙ ap (final tags₁ n end) (run_none (slice n end words)) ∙ ap (λ x. next x tags₁) k) }
+        record { same = sym (whole ∙ then_tail.same ∙ ap (λ l. final tags₁ n end (run (slice n end words) l)) (tail_none w z) ∙ ap (final tags₁ n end) (run_none (slice n end words)) ∙ ap (λ x. next x tags₁) k) }
 
-    pub text-padded : (get_or words i 0 % 4 ≡ 0 → ⊥) → (q : Walked) (tags₂ : List ℕ) → RowEnsures q tags₂ tags₁ n end (run (slice n end words) ((104 + get_or words i 0 % 4) ∷ [])) → RowEnsures q tags₂ tags i end (run (slice i end words) (108 ∷ []))
-    unfolding b
-    text-padded z q tags₂ w = record { same = w.same ∙ sym (whole ∙ then_tail.same ∙ ap (λ l. final tags₁ n end (run (slice n end words) l)) (tail_some b z)) }
+    pub text-padded : (w % 4 ≡ 0 → ⊥) → (q : Walked) (tags₂ : List ℕ) → RowEnsures q tags₂ tags₁ n end (run (slice n end words) ((104 + w % 4) ∷ [])) → RowEnsures q tags₂ tags i end (run (slice i end words) (108 ∷ []))
+    text-padded z q tags₂ padded = record { same = padded.same ∙ sym (whole ∙ then_tail.same ∙ ap (λ l. final tags₁ n end (run (slice n end words) l)) (tail_some w z)) }
 
 -- ---- what a padded word stays below
 pub below_pad : (k : ℕ) → 0 < k → k < 4 → 1 * 2 ^ (8 * k) % 2 ^ 32 ≡ 256 ^ k

@@ -1,5 +1,5 @@
 -- What a walk over words leaves: its answer and, where they fit, the tags. Nothing is promised about the tags of a refused walk.
-use Rattle.std.specs.Prelude.{◌≡◌, true, false, List, map, ℕ, ◌+◌, ◌-◌, leb, length, replicate, Result, Ok, Err}
+use Rattle.std.specs.Prelude.{◌≡◌, true, false, List, slice_set, map, ℕ, ◌+◌, ◌-◌, ◌<◌, ◌≤◌, leb, length, get_or, replicate, Result, Ok, Err}
 use Rattle.std.proofs.lemmas.List.Edits.{sets}
 use Rattle.model.specs.Outcome.{Cells, class, Outcome, fits, misfit, unknown}
 use Rattle.base_refusals.specs.declared.Refusal.{Refusal}
@@ -37,6 +37,11 @@ final tags i end unknown = strange
 
 pub record RowEnsures (r : Walked) (tags₁ tags : List ℕ) (i end : ℕ) (o : Outcome Cells) : Type 0 where
   pub same : seen r tags₁ ≡ final tags i end o
+
+-- one word of the class c, with its tag, or there is none left
+abbrev pub Takes : Result ℕ Misread → List ℕ → List ℕ → List ℕ → ℕ → ℕ → ℕ → Type 0
+Takes (Ok w) tags₁ tags words i end c = (i < end) × (w ≡ get_or words i 0) × (tags₁ ≡ slice_set tags i c)
+Takes (Err e) tags₁ tags words i end c = (end ≤ i) × (e ≡ Misfit)
 
 unfoldable pub filled : List ℕ → ℕ → ℕ → ℕ → ℕ → Final
 filled tags i end c n = elim (leb (i + n) end) [ true ↦ next (i + n) (sets tags i (replicate n c)) | false ↦ refused ]

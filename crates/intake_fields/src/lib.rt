@@ -9,7 +9,7 @@ ghost use Rattle.std.proofs.Math.Seq.{slice};
 ghost use Rattle.model.specs.Table.{run};
 ghost use Rattle.intake_fields.specs.Parts.{read_b, statement_of, piece, pieces, times as timesOf, opening};
 ghost use Rattle.intake_fields.specs.Rows.{ROWS, numbers, row_at, MoreIs};
-ghost use Rattle.intake_fields.specs.Walks.{refusal_of, RowEnsures, Fills};
+ghost use Rattle.intake_fields.specs.Walks.{refusal_of, Takes, RowEnsures, Fills};
 
 use base_refusals::Refusal;
 use base_words::{Tags, Words};
@@ -65,6 +65,18 @@ pub fn fill(tags: &mut Tags, at: usize, end: usize, c: u8, n: u32) -> Result<usi
     Ok(at + n)
 }
 
+// The word at `at`, which is of the class c.
+fn word(words: &Words, tags: &mut Tags, at: usize, end: usize, c: u8) -> Result<u32, Misread>
+    requires { end ≤ 16384 }
+    ensures { Takes result tags.new tags.old words.now at end c }
+{
+    if end <= at {
+        return Err(Misread::Misfit);
+    }
+    tags[at] = c;
+    Ok(words[at])
+}
+
 // The last word of a name, of which k bytes are used: the others are zero.
 fn padded(words: &Words, tags: &mut Tags, at: usize, end: usize, k: u32) -> Result<usize, Misread>
     requires at_le_end { at ≤ end }
@@ -73,12 +85,9 @@ fn padded(words: &Words, tags: &mut Tags, at: usize, end: usize, k: u32) -> Resu
     requires k_nonzero { (0 < k) × (k < 4) }
     ensures { RowEnsures result tags.new tags.old at end (run (slice at end words.now) ((104 + k) ∷ [])) }
 {
-    if end <= at {
-        return Err(Misread::Misfit);
-    }
-    tags[at] = base_classes::PAD - 1 + k as u8;
+    let last = word(words, tags, at, end, base_classes::PAD - 1 + k as u8)?;
     let most = 1 << (8 * k);
-    if most <= words[at] {
+    if most <= last {
         return Err(Misread::Misfit);
     }
     Ok(at + 1)
@@ -91,11 +100,7 @@ fn text(words: &Words, tags: &mut Tags, at: usize, end: usize) -> Result<usize, 
     requires end_bound { end ≤ 16384 }
     ensures { RowEnsures result tags.new tags.old at end (run (slice at end words.now) (108 ∷ [])) }
 {
-    if end <= at {
-        return Err(Misread::Misfit);
-    }
-    tags[at] = base_classes::TEXT;
-    let bytes = words[at];
+    let bytes = word(words, tags, at, end, base_classes::TEXT)?;
     let i = fill(tags, at + 1, end, base_classes::WORD, bytes / 4)?;
     match bytes % 4 {
         0 => Ok(i),
@@ -110,11 +115,8 @@ fn operands(words: &Words, tags: &mut Tags, at: usize, end: usize) -> Result<usi
     requires end_bound { end ≤ 16384 }
     ensures { RowEnsures result tags.new tags.old at end (run (slice at end words.now) (109 ∷ [])) }
 {
-    if end <= at {
-        return Err(Misread::Misfit);
-    }
-    tags[at] = base_classes::OPERANDS;
-    fill(tags, at + 1, end, base_classes::EXPR, words[at])
+    let n = word(words, tags, at, end, base_classes::OPERANDS)?;
+    fill(tags, at + 1, end, base_classes::EXPR, n)
 }
 
 // What the table has for a symbol from MEMBERS on: its row and limit, or where its group starts and how many it has.
@@ -167,11 +169,8 @@ fn opened(
     requires fact { s ≡ 124 → ⊥ }
     ensures { RowEnsures result tags.new tags.old at end (opening left s (slice at end words.now)) }
 {
-    if end <= at {
-        return Err(Misread::Misfit);
-    }
-    tags[at] = s as u8;
-    let (pc, count) = brings(s, words[at])?;
+    let w = word(words, tags, at, end, s as u8)?;
+    let (pc, count) = brings(s, w)?;
     times(words, tags, at + 1, end, pc, count, left)
 }
 
@@ -183,13 +182,9 @@ fn stmt(words: &Words, tags: &mut Tags, at: usize, end: usize, left: u32) -> Res
     requires end_bound { end ≤ 16384 }
     ensures { RowEnsures result tags.new tags.old at end (statement_of (read_b left) (slice at end words.now)) }
 {
-    if end <= at {
-        return Err(Misread::Misfit);
-    }
-    tags[at] = base_classes::LENGTH;
-    let n = words[at] as usize;
+    let n = word(words, tags, at, end, base_classes::LENGTH)?;
     let i = row(words, tags, at + 1, end, KIND_ROW, left)?;
-    if at + n == i {
+    if at + n as usize == i {
         Ok(i)
     } else {
         Err(Misread::Misfit)
@@ -245,13 +240,11 @@ pub fn row(
         if s == 0 {
             return Ok(i);
         }
-        if PAD <= s {
-            i = part(words, tags, i, end, s, left)?;
-        } else if i < end {
-            tags[i] = s as u8;
+        if s < PAD {
+            word(words, tags, i, end, s as u8)?;
             i += 1;
         } else {
-            return Err(Misread::Misfit);
+            i = part(words, tags, i, end, s, left)?;
         }
         p += 1;
     }

@@ -5,16 +5,16 @@ use Rattle.intake_fields.proofs.Rows.{rows_few}
 use Rattle.intake_fields.proofs.Walk.{exit}
 use Rattle.intake_fields.proofs.Steps.{opened-short, opened_err, opened_rows, stmt_short, stmt_err, stmt_next, stmt_wrong, part-text, part-operands, part_stmt, part_block, part-other, part_deep, row_done, row_symbol, row_large, row-short, row_plain, row_err, row-again, times_done, times_err, times-next}
 use Rattle.intake_fields.proofs.+opened_part_row_stmt_times.Goals as goal
-use Rattle.intake_fields.proofs.+opened_part_row_stmt_times.Goals.{row-then-s-ge-PAD+in_ok-i, row-else-s-ge-PAD+then-i-end}
+use Rattle.intake_fields.proofs.+opened_part_row_stmt_times.Goals.{row-then-s-lt-PAD+in_ok-word, row-else-s-lt-PAD+in_ok-i}
 
-pub opened-returns-then-end-at : goal.opened-returns-then-end-at
-opened-returns-then-end-at t c = search (opened-short, rules)
+pub opened-returns-in_err-w : goal.opened-returns-in_err-w
+opened-returns-in_err-w t c = rw (exit _ c.in_err-w.field-0.0 c.from_residual.ensures.1) (opened-short _ _ _ _ _ _ _ _ c.in_err-w.ensures)
 
 pub opened-returns-in_err-pc : goal.opened-returns-in_err-pc
-opened-returns-in_err-pc t c = let w = c.in_err-pc.was in rw (exit _ c.in_err-pc.field-0.0 c.from_residual.ensures.1) (search (opened_err, rules))
+opened-returns-in_err-pc t c = let u = c.in_ok-w.ensures in let w = c.in_err-pc.was in rw (exit _ c.in_err-pc.field-0.0 c.from_residual-in_err-pc.ensures.1) (search (opened_err, rules))
 
 pub opened-returns : goal.opened-returns
-opened-returns t c = let w = c.in_ok-pc.was in search (opened_rows, rules)
+opened-returns t c = let u = c.in_ok-w.ensures in let w = c.in_ok-pc.was in search (opened_rows, rules)
 
 pub part-returns-in-108 : goal.part-returns-in-108
 part-returns-in-108 t c = search (part-text, rules)
@@ -44,22 +44,22 @@ pub row-part-requires : goal.row-part-requires
 row-part-requires t c = (search rules, (search rules, (search rules, (search rules, (search (row_large, rules), search (row_symbol, rules))))))
 
 pub row-returns-in_err-i : goal.row-returns-in_err-i
-row-returns-in_err-i t c = let w = c.in_err-i.was in rw (exit _ c.in_err-i.field-0.0 c.from_residual.ensures.1) (search (row_err, rules))
+row-returns-in_err-i t c = let w = c.in_err-i.was in rw (exit _ c.in_err-i.field-0.0 c.from_residual-in_err-i.ensures.1) (search (row_err, rules))
 
-pub row-returns-else-i-end : goal.row-returns-else-i-end
-row-returns-else-i-end t c = search (row-short, rules)
+pub row-returns-in_err-word : goal.row-returns-in_err-word
+row-returns-in_err-word t c = let u = c.in_err-word.ensures in rw (exit _ c.in_err-word.field-0.0 c.from_residual.ensures.1) (search (row-short, rules))
 
 pub row-overflow_add-p : goal.row-overflow_add-p
 row-overflow_add-p t c = let h = rows_few in let y = c.loop-at.invariant.in_rows in omega arith
 
 pub row-loop-at-preserved : goal.row-loop-at-preserved
-row-loop-at-preserved t c = elim c.if-s-ge-PAD.branch [
-  | row-then-s-ge-PAD+in_ok-i w ↦ let e = w.in_ok-i.was in rw (w.tags-is, w.i-is) (search (row-again, rules))
-  | row-else-s-ge-PAD+then-i-end w ↦ rw (w.tags-is, w.i-is) (search (row_plain, rules))
+row-loop-at-preserved t c = elim c.if-s-lt-PAD.branch [
+  | row-then-s-lt-PAD+in_ok-word w ↦ let e = w.in_ok-word.ensures in rw (w.tags-is, w.i-is) (search (row_plain, rules))
+  | row-else-s-lt-PAD+in_ok-i w ↦ let e = w.in_ok-i.was in rw (w.tags-is, w.i-is) (search (row-again, rules))
 ]
 
-pub stmt-returns-then-end-at : goal.stmt-returns-then-end-at
-stmt-returns-then-end-at t c = search (stmt_short, rules)
+pub stmt-returns-in_err-n : goal.stmt-returns-in_err-n
+stmt-returns-in_err-n t c = rw (exit _ c.in_err-n.field-0.0 c.from_residual.ensures.1) (stmt_short _ _ _ _ _ _ _ c.in_err-n.ensures)
 
 pub stmt-row-requires : goal.stmt-row-requires
 unfolding SIZE KIND_ROW
@@ -67,15 +67,15 @@ stmt-row-requires t c = (search rules, (search rules, (search rules, (search rul
 
 pub stmt-returns-in_err-i : goal.stmt-returns-in_err-i
 unfolding SIZE KIND_ROW
-stmt-returns-in_err-i t c = let w = c.in_err-i.was in rw (exit _ c.in_err-i.field-0.0 c.from_residual.ensures.1) (search (stmt_err, rules))
+stmt-returns-in_err-i t c = let u = c.in_ok-n.ensures in let w = c.in_err-i.was in rw (exit _ c.in_err-i.field-0.0 c.from_residual-in_err-i.ensures.1) (search (stmt_err, rules))
 
 pub stmt-returns-then-at-n : goal.stmt-returns-then-at-n
 unfolding SIZE KIND_ROW
-stmt-returns-then-at-n t c = let w = c.in_ok-i.was in search (stmt_next, rules)
+stmt-returns-then-at-n t c = let u = c.in_ok-n.ensures in let w = c.in_ok-i.was in search (stmt_next, rules)
 
 pub stmt-returns-else-at-n : goal.stmt-returns-else-at-n
 unfolding SIZE KIND_ROW
-stmt-returns-else-at-n t c = let w = c.in_ok-i.was in search (stmt_wrong, rules)
+stmt-returns-else-at-n t c = let u = c.in_ok-n.ensures in let w = c.in_ok-i.was in search (stmt_wrong, rules)
 
 pub times-returns-in_err-i : goal.times-returns-in_err-i
 times-returns-in_err-i t c = let w = c.in_err-i.was in rw (exit _ c.in_err-i.field-0.0 c.from_residual.ensures.1) (search (times_err, rules))
