@@ -22,9 +22,9 @@ use Rattle.base_refusals.specs.declared.Refusal.{Refusal}
 use Rattle.std.specs.Prelude.{Result, Ok, Err}
 use Rattle.order_callees.specs.Gathering.{Known, Listed}
 use Rattle.intake.specs.Taken.{number_of, Accepts, TakeInEnsures}
-use Rattle.intake.specs.declared.Taken.{Taken}
-use Rattle.intake.specs.declared.Taken.TheVariants.{Accepted}
-use Rattle.intake.proofs.Refusals.{NotFirst, refused_by}
+use Rattle.std.specs.Prelude.{Ok, Err}
+use Rattle.base_refusals.specs.declared.Refusal.{Refusal}
+use Rattle.intake.proofs.Refusals.{refused_by}
 use Rattle.derive_names.proofs.Sources.{mod_is, source_of}
 use Rattle.order_bytes.proofs.Images.{list_long, list_asks}
 use Rattle.theory_link.specs.Demand.{Linking}
@@ -38,21 +38,21 @@ links_as : (image output₀ : List ℕ) (x : Linked) → (link_image image outpu
 unfolding wuldgisp_link link_image
 links_as image output₀ x e r output a b = record { answer = a ∙ sym (ap link_answer e); left = b ∙ sym (ap (λ (y : Linked). output_after y output₀) e) }
 
-module _ (image words tags : List ℕ) (t : Taken) (got : TakeInEnsures t words tags image) where
+module _ (image words tags : List ℕ) where
   -- ---- refused by intake
-  pub intake_refuses : NotFirst t → (k : ℕ) → k ≡ number_of t → (output : List ℕ) → LinkEnsures k output output image
+  pub intake_refuses : (e : Refusal) → TakeInEnsures (Err e) words tags image → (k : ℕ) → k ≡ number_of (Err e) → (output : List ℕ) → LinkEnsures k output output image
   unfolding answer_by output_after
-  intake_refuses h k e output =
-      let x = refused_by t h in
+  intake_refuses e got k h output =
+      let x = refused_by e in
       let i = not_taken image output x.0 (sym got.same ∙ x.1) in
-      links_as image output (refused (suc x.0)) (ap (λ p. p.0) i) k output (e ∙ x.1) refl
+      links_as image output (refused (suc x.0)) (ap (λ p. p.0) i) k output (h ∙ x.1) refl
 
-  module _ (n : ℕ) (e : t ≡ Accepted n) where
+  module _ (n : ℕ) (got : TakeInEnsures (Ok n) words tags image) where
     held : Accepts image words tags n
-    held = got.held n e
+    held = got.held n refl
 
     accepted : intake_of (length image) (words_of image) ≡ 0
-    accepted = sym got.same ∙ ap number_of e
+    accepted = sym got.same
 
     -- ---- 7
     pub short_refuses : (output : List ℕ) → length output < length image → LinkEnsures 7 output output image
@@ -60,7 +60,7 @@ module _ (image words tags : List ℕ) (t : Taken) (got : TakeInEnsures t words 
     short_refuses output h = links_as image output (refused 7) (ap (λ p. p.0) (too_short image output accepted held.holds held.reads h)) 7 output refl refl
 
     pub order_asks : Tape words tags n × Known words tags n
-    order_asks = list_asks image words tags t got n e
+    order_asks = list_asks image words tags n got
 
     is : mod_of words n ≡ held.holds
     is = mod_is held.taped

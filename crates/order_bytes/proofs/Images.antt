@@ -1,5 +1,5 @@
 -- From intake's answer and the order of a module to the promise on all bytes.
-use mathlib.Core.Path.{◌≡◌, sym, ap, ◌∙◌, subst}
+use mathlib.Core.Path.{◌≡◌, refl, sym, ap, ◌∙◌, subst}
 use mathlib.Core.Bool.{Bool, true}
 use mathlib.Core.List.{List, [], ◌∷◌}
 use Prim.Native.Nat.{ℕ, suc, ◌+◌, ◌≤◌}
@@ -17,7 +17,6 @@ use Rattle.base_words.specs.Words.{words_of}
 use Rattle.theory_image.specs.OnWords.{on_refused, on_module}
 use Rattle.theory_image.specs.FunctionViews.{taped_functions}
 use Rattle.theory_image.specs.Tapes.{taped_same}
-use Rattle.order_ranks.specs.Placing.{shown}
 use Rattle.order_ranks.proofs.Answers.{all_is, ring_is}
 use Rattle.base_refusals.specs.Numbers.{number_of as refusal_number, count_of}
 use Rattle.base_refusals.specs.declared.Refusal.{Refusal}
@@ -28,9 +27,9 @@ use Rattle.order_callees.specs.Gathering.{Known, Listed}
 use Rattle.order_callees.proofs.Numbered.{passed-known}
 use Rattle.order_callees.proofs.Whole.{few}
 use Rattle.intake.specs.Taken.{number_of, Accepts, TakeInEnsures}
-use Rattle.intake.specs.declared.Taken.{Taken}
-use Rattle.intake.specs.declared.Taken.TheVariants.{Accepted}
-use Rattle.intake.proofs.Refusals.{NotFirst, refused_by}
+use Rattle.std.specs.Prelude.{Ok, Err}
+use Rattle.base_refusals.specs.declared.Refusal.{Refusal}
+use Rattle.intake.proofs.Refusals.{refused_by}
 use Rattle.order_bytes.specs.Listing.{ListEnsures}
 
 -- ---- an order has as many numbers as there are functions
@@ -86,17 +85,17 @@ module _ (words tags : List ℕ) (n : ℕ) (h : Tape words tags n) where
         rings m t = ring_is (order_of m) e _ (rw is at (got.is m t))
 
 -- ---- order
-module _ (image words tags : List ℕ) (t : Taken) (got : TakeInEnsures t words tags image) where
-  pub intake_refuses : NotFirst t → (k : ℕ) → k ≡ number_of t → (out : List ℕ) → OrderEnsures k out out image
+module _ (image words tags : List ℕ) where
+  pub intake_refuses : (e : Refusal) → TakeInEnsures (Err e) words tags image → (k : ℕ) → k ≡ number_of (Err e) → (out : List ℕ) → OrderEnsures k out out image
   unfolding wuldgisp_order order_image on_image answer_by order_after
-  intake_refuses h k e out =
-      let x = refused_by t h in
+  intake_refuses e got k h out =
+      let x = refused_by e in
       let i : order_image image ≡ refused (suc x.0) = on_refused (λ m. order_ended (order_of m)) refused (length image) (words_of image) x.0 (sym got.same ∙ x.1) in
-      record { answer = e ∙ x.1 ∙ sym (ap order_answer i); left = sym (ap (λ y. order_after y out) i) }
+      record { answer = h ∙ x.1 ∙ sym (ap order_answer i); left = sym (ap (λ y. order_after y out) i) }
 
-  module _ (n : ℕ) (e : t ≡ Accepted n) where
+  module _ (n : ℕ) (got : TakeInEnsures (Ok n) words tags image) where
     held : Accepts image words tags n
-    held = got.held n e
+    held = got.held n refl
 
     pub list_asks : Tape words tags n × Known words tags n
     list_asks =
@@ -107,5 +106,5 @@ module _ (image words tags : List ℕ) (t : Taken) (got : TakeInEnsures t words 
     unfolding wuldgisp_order order_image on_image
     list_tells r out₀ out l =
         let m = held.holds in
-        let i : order_image image ≡ order_ended (order_of m) = on_module (λ m. order_ended (order_of m)) refused (length image) (words_of image) m (sym got.same ∙ ap number_of e) held.reads in
+        let i : order_image image ≡ order_ended (order_of m) = on_module (λ m. order_ended (order_of m)) refused (length image) (words_of image) m (sym got.same) held.reads in
         record { answer = l.answer m held.taped ∙ sym (ap order_answer i); left = l.left m held.taped ∙ sym (ap (λ y. order_after y out₀) i) }

@@ -10,7 +10,6 @@ ghost use Rattle.order_bytes.specs.Listing.{ListEnsures};
 
 use base_refusals::pack;
 use base_words::{Tags, Words};
-use intake::Taken;
 
 // The first `count` numbers go to the start of `out`, as far as there is room.
 fn copy(order: &[u32; 256], count: usize, out: &mut [u32])
@@ -54,9 +53,8 @@ pub fn order(image: &[u8], out: &mut [u32]) -> u64
 {
     let mut words = intake::fresh_words();
     let mut tags = intake::fresh_tags();
-    let taken = intake::take_in(image, &mut words, &mut tags);
-    if let Taken::Accepted(n) = taken {
-        return list(&words, &tags, n, out);
+    match intake::take_in(image, &mut words, &mut tags) {
+        Ok(n) => list(&words, &tags, n, out),
+        Err(refusal) => refusal.number() as u64,
     }
-    intake::number(taken) as u64
 }

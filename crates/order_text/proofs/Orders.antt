@@ -10,7 +10,6 @@ use lib.ListN.{length, get_or, take, replicate, length-replicate}
 use lib.Seq.{get_or-take, length-take-le}
 use borrow.Author.Tests.{eq-eqb, ltb-true, ltb-false}
 use Rattle.theory_lists.specs.Booleans.{either}
-use Rattle.model.specs.Refusals.{RING}
 use Rattle.model.specs.Module.{Module, count_at}
 use Rattle.model.specs.Taped.{Taped, Tape}
 use Rattle.model.specs.Calls.{In, here, later, times, numbers, rounds, answer, ordered, ring, order}
@@ -29,9 +28,10 @@ use Rattle.theory_image.specs.FunctionViews.{taped_functions}
 use Rattle.order_callees.specs.Gathering.{Listed}
 use Rattle.order_callees.proofs.Whole.{few}
 use Rattle.intake.specs.Taken.{number_of, Accepts, TakeInEnsures}
-use Rattle.intake.specs.declared.Taken.{Taken}
-use Rattle.intake.specs.declared.Taken.TheVariants.{Accepted, Size, Layout, Range, Reference, Names, Scope}
-use Rattle.intake.proofs.Refusals.{NotFirst, refused_by}
+use Rattle.std.specs.Prelude.{Ok, Err}
+use Rattle.base_refusals.specs.declared.Refusal.{Refusal}
+use Rattle.base_refusals.specs.declared.Refusal.TheVariants as refusal
+use Rattle.intake.proofs.Refusals.{refused_by}
 use Rattle.order_bytes.proofs.Images.{count_few, list_long}
 use Rattle.order_lines.specs.Lines.{name_of, line_text, lines_text, headed, FUNCTIONS, ordered_text, name_is, TextEnsures, Text}
 use Rattle.order_text.specs.Telling.{REFUSED, RINGS, refusing, telling, telling_of, Passed, TellEnsures, Tells}
@@ -174,22 +174,28 @@ pub tells_ring : {words tags : List ℕ} {n : ℕ} {before order : List ℕ} {a 
 tells_ring e l i h u = ring_tells (rw e at l) i h u
 
 -- ---- any bytes
-pub refused_few : (t : Taken) {k : ℕ} → k ≡ number_of t → k < 1000
-refused_few t e = omega (arith, small t)
-  where
-    small : (t : Taken) → number_of t < 1000
-    small (Accepted n) = omega arith
-    small Size = omega arith
-    small Layout = omega arith
-    small Range = omega arith
-    small Reference = omega arith
-    small Names = omega arith
-    small Scope = omega arith
+pub refused_few : (e : Refusal) → number_of (Err e) < 1000
+refused_few refusal.BadSize = omega arith
+refused_few refusal.BadLayout = omega arith
+refused_few refusal.BadRange = omega arith
+refused_few refusal.BadReference = omega arith
+refused_few refusal.BadNames = omega arith
+refused_few refusal.BadScope = omega arith
+refused_few refusal.ShortOutput = omega arith
+refused_few refusal.OriginalNotFound = omega arith
+refused_few refusal.ReplacementNotFound = omega arith
+refused_few refusal.ArgumentTypes = omega arith
+refused_few refusal.ResultTypes = omega arith
+refused_few (refusal.Ring left) = omega arith
+refused_few refusal.NumberGiven = omega arith
+refused_few refusal.NoSource = omega arith
+refused_few refusal.Full = omega arith
+refused_few refusal.UnknownRing = omega arith
 
-module _ {image words tags : List ℕ} {t : Taken} (got : TakeInEnsures t words tags image) where
-  module _ {n : ℕ} (e : t ≡ Accepted n) where
+module _ {image words tags : List ℕ} where
+  module _ {n : ℕ} (got : TakeInEnsures (Ok n) words tags image) where
     held : Accepts image words tags n
-    held = got.held n e
+    held = got.held n refl
 
     pub held_tape : Tape words tags n
     held_tape = record { holds = held.holds; taped = held.taped }
@@ -200,14 +206,14 @@ module _ {image words tags : List ℕ} {t : Taken} (got : TakeInEnsures t words 
     pub accepted_says : {out out' : List ℕ} {r k left : ℕ} → Tells words tags n out out' r k left → TellEnsures (telling_of image) out out' r k left
     unfolding telling_of on_image
     accepted_says {out} {out'} {r} {k} {left} l =
-        let i : telling_of image ≡ telling held.holds (order_of held.holds) = on_module (λ m. telling m (order_of m)) refusing (length image) (words_of image) held.holds (sym got.same ∙ ap number_of e) held.reads in
+        let i : telling_of image ≡ telling held.holds (order_of held.holds) = on_module (λ m. telling m (order_of m)) refusing (length image) (words_of image) held.holds (sym got.same) held.reads in
         subst (λ x. TellEnsures x out out' r k left) (sym i) (l.same held.holds held.taped)
 
-  pub refused_says : NotFirst t → {k : ℕ} → k ≡ number_of t → {out out' : List ℕ} {x r : ℕ} → x ≡ k → length out ≡ 65536 → TextEnsures out 0 (headed REFUSED x) out' r → TellEnsures (telling_of image) out out' r k 0
+  pub refused_says : {e : Refusal} → TakeInEnsures (Err e) words tags image → {k : ℕ} → k ≡ number_of (Err e) → {out out' : List ℕ} {x r : ℕ} → x ≡ k → length out ≡ 65536 → TextEnsures out 0 (headed REFUSED x) out' r → TellEnsures (telling_of image) out out' r k 0
   unfolding telling_of on_image refusing
-  refused_says h {k} e {out} {out'} {x} {r} f g u =
-      let y = refused_by t h in
-      let j : k ≡ suc y.0 = e ∙ y.1 in
+  refused_says {e} got {k} q {out} {out'} {x} {r} f g u =
+      let y = refused_by e in
+      let j : k ≡ suc y.0 = q ∙ y.1 in
       let i : telling_of image ≡ refusing (suc y.0) = on_refused (λ m. telling m (order_of m)) refusing (length image) (words_of image) y.0 (sym got.same ∙ y.1) in
       let v : TextEnsures out 0 (headed REFUSED (suc y.0)) out' r = rw (f ∙ j) at u in
       subst (λ z. TellEnsures z out out' r k 0) (sym i) (record { puts = v; within = omega (arith, v.ends, headed_long REFUSED (suc y.0), (decimal_long (suc y.0)).1, puts_long v); refusal_is = j; left_is = refl })

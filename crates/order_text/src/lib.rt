@@ -7,7 +7,6 @@ ghost use Rattle.model.specs.Taped.{Tape};
 ghost use Rattle.order_text.specs.Telling.{telling_of, Passed, TellEnsures, Tells};
 
 use base_words::{Tags, Words};
-use intake::Taken;
 use order_lines::{head, text};
 
 // How many bytes the text has, the number of the refusal or 0, and how many functions a ring leaves.
@@ -55,14 +54,15 @@ pub fn tell_of(image: &[u8], out: &mut [u8; 65536]) -> Said
 {
     let mut words = intake::fresh_words();
     let mut tags = intake::fresh_tags();
-    let taken = intake::take_in(image, &mut words, &mut tags);
-    if let Taken::Accepted(n) = taken {
-        return tell(&words, &tags, n, out);
-    }
-    let refusal = intake::number(taken);
-    Said {
-        count: head(b"refused ", base_words::wide(refusal), out),
-        refusal,
-        left: 0,
+    match intake::take_in(image, &mut words, &mut tags) {
+        Ok(n) => tell(&words, &tags, n, out),
+        Err(refusal) => {
+            let number = refusal.number();
+            Said {
+                count: head(b"refused ", number as usize, out),
+                refusal: number,
+                left: 0,
+            }
+        }
     }
 }

@@ -14,8 +14,9 @@ use Rattle.model.specs.Intake.{intake_of}
 use Rattle.model.specs.Redirect.{Answer, redirected, outside, no_original, no_replacement, arguments_differ, results_differ, redirect_function}
 use Rattle.theory_image.specs.Modules.{read_well}
 use Rattle.intake.specs.Taken.{number_of, Accepts, TakeInEnsures}
-use Rattle.intake.specs.declared.Taken.{Taken}
-use Rattle.intake.specs.declared.Taken.TheVariants.{Accepted, Size, Layout, Range, Reference, Names, Scope}
+use Rattle.std.specs.Prelude.{Ok, Err}
+use Rattle.base_refusals.specs.declared.Refusal.{Refusal}
+use Rattle.intake.proofs.Refusals.{refused_by}
 use Rattle.model.specs.Refusals.{Ended, done, refused, packed, answer_by}
 use Rattle.model.specs.Intake.{of_laid, after_intake, on_words}
 use Rattle.model.specs.Image.{on_image, redirect_ended, redirect_after, redirect_image, redirect_answer, wuldgisp_redirect, RedirectEnsures}
@@ -31,16 +32,6 @@ use Rattle.redirect_bytes.specs.declared.Answer as declared
 use Rattle.redirect_bytes.specs.declared.Answer.TheVariants.{Done as Told-done, Refused}
 use Rattle.redirect_bytes.proofs.Sizes.{image_long}
 
--- ---- intake refuses
-refused_by : (t : Taken) → ((n : ℕ) → t ≡ Accepted n → ⊥) → (k : ℕ) × (number_of t ≡ suc k)
-refused_by (Accepted n) h = absurd (h n refl)
-refused_by Size h = (0, refl)
-refused_by Layout h = (1, refl)
-refused_by Range h = (2, refl)
-refused_by Reference h = (3, refl)
-refused_by Names h = (4, refl)
-refused_by Scope h = (5, refl)
-
 module _ (image : List ℕ) (o p : ℕ) (omit : List ℕ) where
   -- what comes of a module
   abbrev of_module : Module → Ended (ℕ × ℕ) × List ℕ
@@ -54,17 +45,18 @@ module _ (image : List ℕ) (o p : ℕ) (omit : List ℕ) where
   unfolding redirect_image on_image
   by_module m e r = on_module of_module (λ k. (refused k, image)) (length image) (words_of image) m e r
 
-  module _ (words tags : List ℕ) (t : Taken) (got : TakeInEnsures t words tags image) where
-    pub intake_refuses : ((n : ℕ) → t ≡ Accepted n → ⊥) → (k : ℕ) → k ≡ number_of t → RedirectFunctionEnsures (Refused k) image image o p omit
+  module _ (words tags : List ℕ) where
+    -- ---- intake refuses
+    pub intake_refuses : (e : Refusal) → TakeInEnsures (Err e) words tags image → (k : ℕ) → k ≡ number_of (Err e) → RedirectFunctionEnsures (Refused k) image image o p omit
     unfolding shown
-    intake_refuses h k e =
-        let x = refused_by t h in
-        record { same = ap (λ i. (refused i, image)) (e ∙ x.1) ∙ sym (by_intake x.0 (sym got.same ∙ x.1)) }
+    intake_refuses e got k h =
+        let x = refused_by e in
+        record { same = ap (λ i. (refused i, image)) (h ∙ x.1) ∙ sym (by_intake x.0 (sym got.same ∙ x.1)) }
 
     -- ---- intake accepts
-    module _ (n : ℕ) (e : t ≡ Accepted n) where
+    module _ (n : ℕ) (got : TakeInEnsures (Ok n) words tags image) where
       held : Accepts image words tags n
-      held = got.held n e
+      held = got.held n refl
 
       pub loaded_asks : Tape words tags n × (length image ≡ 4 * n)
       loaded_asks = (record { holds = held.holds; taped = held.taped }, image_long image held.sized_right ∙ ap (4 *◌) (sym held.long))
@@ -72,7 +64,7 @@ module _ (image : List ℕ) (o p : ℕ) (omit : List ℕ) where
       pub loaded_tells : (r : Redirected) (image₁ : List ℕ) → Stores r image₁ image words tags n o p omit → (a : declared.Answer) → shown a ≡ after r → RedirectFunctionEnsures a image image₁ o p omit
       loaded_tells r image₁ s a q =
           let m = held.holds in
-          record { same = ap₂ (λ x y. (x, y)) (q ∙ s.answer m held.taped) (s.bytes_are m held.taped) ∙ sym (by_module m (sym got.same ∙ ap number_of e) held.reads) }
+          record { same = ap₂ (λ x y. (x, y)) (q ∙ s.answer m held.taped) (s.bytes_are m held.taped) ∙ sym (by_module m (sym got.same) held.reads) }
 
   -- ---- room for both numbers
   told_small : (m : Module) → length m.functions ≤ 256 → (x : Answer) → redirect_function m o p omit ≡ x → Small (redirect_ended x)

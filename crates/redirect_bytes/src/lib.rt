@@ -7,7 +7,6 @@ ghost use Rattle.redirect_bytes.specs.Answers.{shown, after, Small, RedirectFunc
 
 use base_handles::FunctionHandle;
 use base_refusals::pack;
-use intake::Taken;
 use redirect_words::Redirected;
 
 // Both functions, the original first; or document 01's number of the refusal.
@@ -37,9 +36,9 @@ pub fn redirect_function(image: &mut [u8], original: u32, replacement: u32, omit
 {
     let mut words = intake::fresh_words();
     let mut tags = intake::fresh_tags();
-    let taken = intake::take_in(image, &mut words, &mut tags);
-    let Taken::Accepted(n) = taken else {
-        return Answer::Refused(intake::number(taken));
+    let n = match intake::take_in(image, &mut words, &mut tags) {
+        Ok(n) => n,
+        Err(refusal) => return Answer::Refused(refusal.number()),
     };
     let r = redirect_words::redirect_loaded(
         image,

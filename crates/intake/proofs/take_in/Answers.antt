@@ -1,18 +1,12 @@
-use Rattle.intake.proofs.Tests.{size_fails, misfit_fails, strange_fails, tape_so, tested_so}
-use borrow.Author.Rules.{rules}
+use Rattle.intake.proofs.Tests.{tape_so, tested_so, not_laid}
+use Rattle.std.proofs.lemmas.Result.{err_from_is_err_and}
 use Rattle.intake.proofs.take_in.Goals as goal
 
 pub test-requires : goal.test-requires
-test-requires c = search (tape_so, rules)
+test-requires c = tape_so _ _ _ _ _ c.requires.words_len c.requires.tags_len _ c.in_ok-n.ensures
 
-pub returns-in-Ok : goal.returns-in-Ok
-returns-in-Ok c = search (tested_so, rules)
+pub returns-in_err-n : goal.returns-in_err-n
+returns-in_err-n c = let p = err_from_is_err_and c.from_residual.result c.from_residual.ensures.1 in rw (p.1, p.2) (not_laid _ _ _ _ _ c.requires.words_len c.requires.tags_len _ c.in_err-n.ensures)
 
-pub returns-in-BadSize : goal.returns-in-BadSize
-returns-in-BadSize c = search (size_fails, rules)
-
-pub returns-in-BadLayout : goal.returns-in-BadLayout
-returns-in-BadLayout c = search (misfit_fails, rules)
-
-pub returns-in_default : goal.returns-in_default
-returns-in_default c = search (strange_fails, rules)
+pub returns : goal.returns
+returns c = tested_so _ _ _ _ _ c.requires.words_len c.requires.tags_len _ c.in_ok-n.ensures _ c.test.ensures

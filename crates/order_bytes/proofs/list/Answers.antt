@@ -2,7 +2,6 @@
 use Rattle.order_bytes.proofs.Images.{count_few, list_long, listed-all, listed_ring}
 use lib.ListN.{replicate, length-replicate}
 use Prim.Native.Nat.{ℕ}
-use borrow.Author.Rules.{rules}
 use mathlib.Core.Path.{◌≡◌}
 use Rattle.model.specs.Refusals.{packed}
 use Rattle.base_refusals.specs.Numbers.{number_of, count_of}
