@@ -22,6 +22,7 @@ fn names() -> [u32; 512]
 }
 
 // A number and one more digit; none where that is no number of 32 bits.
+#[tactic(auto, unfolding(crate::specs::Numbers::stepped))]
 fn step(x: u32, digit: u8) -> Option<u32>
     ensures { result ≡ stepped x digit }
 {
