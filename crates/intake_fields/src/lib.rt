@@ -240,13 +240,13 @@ pub fn row(
         if s == 0 {
             return Ok(i);
         }
+        p += 1;
         if s < PAD {
             word(words, tags, i, end, s as u8)?;
             i += 1;
         } else {
             i = part(words, tags, i, end, s, left)?;
         }
-        p += 1;
     }
 }
 

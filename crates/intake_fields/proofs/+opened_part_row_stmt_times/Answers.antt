@@ -5,7 +5,6 @@ use Rattle.intake_fields.proofs.Rows.{rows_few}
 use Rattle.intake_fields.proofs.Walk.{exit}
 use Rattle.intake_fields.proofs.Steps.{opened-short, opened_err, opened_rows, stmt_short, stmt_err, stmt_next, stmt_wrong, part-text, part-operands, part_stmt, part_block, part-other, part_deep, row_done, row_symbol, row_large, row-short, row_plain, row_err, row-again, times_done, times_err, times-next}
 use Rattle.intake_fields.proofs.+opened_part_row_stmt_times.Goals as goal
-use Rattle.intake_fields.proofs.+opened_part_row_stmt_times.Goals.{row-then-s-lt-PAD+in_ok-word, row-else-s-lt-PAD+in_ok-i}
 
 pub opened-returns-in_err-w : goal.opened-returns-in_err-w
 opened-returns-in_err-w t c = rw (exit _ c.in_err-w.field-0.0 c.from_residual.ensures.1) (opened-short _ _ _ _ _ _ _ _ c.in_err-w.ensures)
@@ -52,11 +51,11 @@ row-returns-in_err-word t c = let u = c.in_err-word.ensures in rw (exit _ c.in_e
 pub row-overflow_add-p : goal.row-overflow_add-p
 row-overflow_add-p t c = let h = rows_few in let y = c.loop-at.invariant.in_rows in omega arith
 
+pub row-loop-at-preserved-then-s-lt-PAD : goal.row-loop-at-preserved-then-s-lt-PAD
+row-loop-at-preserved-then-s-lt-PAD t c = let u = c.in_ok-word.ensures in search (row_plain, rules)
+
 pub row-loop-at-preserved : goal.row-loop-at-preserved
-row-loop-at-preserved t c = elim c.if-s-lt-PAD.branch [
-  | row-then-s-lt-PAD+in_ok-word w ↦ let e = w.in_ok-word.ensures in rw (w.tags-is, w.i-is) (search (row_plain, rules))
-  | row-else-s-lt-PAD+in_ok-i w ↦ let e = w.in_ok-i.was in rw (w.tags-is, w.i-is) (search (row-again, rules))
-]
+row-loop-at-preserved t c = let w = c.in_ok-i.was in search (row-again, rules)
 
 pub stmt-returns-in_err-n : goal.stmt-returns-in_err-n
 stmt-returns-in_err-n t c = rw (exit _ c.in_err-n.field-0.0 c.from_residual.ensures.1) (stmt_short _ _ _ _ _ _ _ c.in_err-n.ensures)
