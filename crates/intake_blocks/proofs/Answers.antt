@@ -48,7 +48,7 @@ found_is true = refl
 found_is false = refl
 
 other : Through ≡ Continues → ⊥
-other e = let z : ◌≡◌ {A = ℕ} 0 1 = cc in omega arith
+other e = cc
 
 pub then_through : (b : Flow) (h g : Bool) → Through ≡ flow_of h → b ≡ flow_of g → b ≡ flow_of (h || g)
 unfolding flow_of

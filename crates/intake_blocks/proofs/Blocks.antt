@@ -2,6 +2,7 @@
 use mathlib.Core.Path.{◌≡◌, refl, sym, ap, ◌∙◌, subst}
 use mathlib.Core.Logic.{◌⊎◌, inl, inr}
 use mathlib.Core.Bool.{Bool, true, false, ◌||◌}
+use Rattle.std.proofs.Math.Bool.{or_assoc}
 use mathlib.Core.List.{List, []}
 use Prim.Native.Nat.{ℕ, ◌+◌, ◌≤◌, ◌<◌}
 use native.Mathlib.Omega.{arith}
@@ -175,10 +176,6 @@ cut-end dr false ρ κ q = q refl
 aside : Bool → List ℕ → List ℕ → List ℕ
 aside true κ ρ = κ
 aside false κ ρ = ρ
-
-pub or_assoc : (a b c : Bool) → ((a || b) || c) ≡ (a || (b || c))
-or_assoc true b c = refl
-or_assoc false b c = refl
 
 -- ---- a block that is left: what lasted lasts on, and what it evaluated does not last longer than its end
 pub leave : {count q k : ℕ} {ρ δ u : List ℕ} (q' : ℕ) (u₁ ρ₁ δ₁ : List ℕ) {q₁ k₁ : ℕ} → Scope count q k ρ δ u → q ≤ q' → 0 < k → Kept q' u u₁ → Scope count q₁ k₁ ρ₁ δ₁ u₁ → Scope count q' k ρ δ₁ u₁

@@ -2,6 +2,7 @@
 use mathlib.Core.Path.{◌≡◌, refl, sym, ap, ◌∙◌, subst}
 use mathlib.Core.Logic.{◌⊎◌, inl, inr, ⊎_elim}
 use mathlib.Core.Bool.{Bool, true, false, ◌&&◌, ◌||◌}
+use Rattle.std.proofs.Math.Bool.{or_assoc, or-false}
 use mathlib.Core.List.{List, [], ◌∷◌, ◌++◌, append-nil, append_assoc}
 use mathlib.Core.Option.{some}
 use Prim.Native.Nat.{ℕ, zero, suc, ◌+◌, ◌≤◌, ◌<◌}
@@ -28,7 +29,7 @@ use Rattle.intake_statements.proofs.Leaves.{operand_expr, operand-other}
 use Rattle.intake_statements.proofs.Scopes.{seen_is, scope_on, scope_less, kept-all, kept_more, kept_then}
 use Rattle.intake_statements.proofs.Results.{brings_one, plain}
 use Rattle.intake_blocks.proofs.Trees.{Runs, runs_word, runs_split, runs_between, between_runs, block_is, block_held, ends_in, skip_low, skip_ok, skip_is}
-use Rattle.intake_blocks.proofs.Blocks.{told_yes, told_no, told_some, finds-none, leave, or_assoc}
+use Rattle.intake_blocks.proofs.Blocks.{told_yes, told_no, told_some, finds-none, leave}
 
 -- ---- words and blocks
 pub data Parts : Type 0 where
@@ -76,7 +77,7 @@ unfolding more variants variant values
 value_row zero row e = inl (cc)
 value_row (suc zero) row e = inl (cc)
 value_row (suc (suc zero)) row e = inr (cc)
-value_row (suc (suc (suc w))) row e = let z : ◌≡◌ {A = ℕ} 0 1 = cc in absurd (omega arith)
+value_row (suc (suc (suc w))) row e = cc
 
 word-quiet : {cs : Cells} → Lays (WORD ∷ []) cs → Each Quiet cs
 word-quiet (lays_next {w = w} e l) = go (rw (brings_one e (plain WORD w (omega arith))) at l)
@@ -172,20 +173,20 @@ module _ (xs : List Cells) (dr : ℕ → Bool) where
 -- ---- an effect is none of the other kinds
 effect_low : (k : ℕ) (ss : Row) → get_elem? statements k ≡ some (s_effect ss) → 9 ≤ k
 unfolding statements
-effect_low zero ss e = let z : ◌≡◌ {A = ℕ} 0 1 = cc in absurd (omega arith)
-effect_low (suc zero) ss e = let z : ◌≡◌ {A = ℕ} 0 1 = cc in absurd (omega arith)
-effect_low (suc (suc zero)) ss e = let z : ◌≡◌ {A = ℕ} 0 1 = cc in absurd (omega arith)
-effect_low (suc (suc (suc zero))) ss e = let z : ◌≡◌ {A = ℕ} 0 1 = cc in absurd (omega arith)
-effect_low (suc (suc (suc (suc zero)))) ss e = let z : ◌≡◌ {A = ℕ} 0 1 = cc in absurd (omega arith)
-effect_low (suc (suc (suc (suc (suc zero))))) ss e = let z : ◌≡◌ {A = ℕ} 0 1 = cc in absurd (omega arith)
-effect_low (suc (suc (suc (suc (suc (suc zero)))))) ss e = let z : ◌≡◌ {A = ℕ} 0 1 = cc in absurd (omega arith)
-effect_low (suc (suc (suc (suc (suc (suc (suc zero))))))) ss e = let z : ◌≡◌ {A = ℕ} 0 1 = cc in absurd (omega arith)
-effect_low (suc (suc (suc (suc (suc (suc (suc (suc zero)))))))) ss e = let z : ◌≡◌ {A = ℕ} 0 1 = cc in absurd (omega arith)
+effect_low zero ss e = cc
+effect_low (suc zero) ss e = cc
+effect_low (suc (suc zero)) ss e = cc
+effect_low (suc (suc (suc zero))) ss e = cc
+effect_low (suc (suc (suc (suc zero)))) ss e = cc
+effect_low (suc (suc (suc (suc (suc zero))))) ss e = cc
+effect_low (suc (suc (suc (suc (suc (suc zero)))))) ss e = cc
+effect_low (suc (suc (suc (suc (suc (suc (suc zero))))))) ss e = cc
+effect_low (suc (suc (suc (suc (suc (suc (suc (suc zero)))))))) ss e = cc
 effect_low (suc (suc (suc (suc (suc (suc (suc (suc (suc k))))))))) ss e = omega arith
 
 effect_no_call : (k : ℕ) (ss : Row) → get_elem? statements k ≡ some (s_effect ss) → k ≡ 15 → ⊥
 unfolding statements
-effect_no_call k ss e q = let w : some s_call ≡ some (s_effect ss) = rw q at e in let z : ◌≡◌ {A = ℕ} 0 1 = cc in omega arith
+effect_no_call k ss e q = let w : some s_call ≡ some (s_effect ss) = rw q at e in cc
 
 pub effect_kind : {d k : ℕ} {cs : Cells} → OkF d (effect k cs) → (9 ≤ k) × (k ≡ 15 → ⊥)
 effect_kind {k = k} (ok_effect {ss = ss} e l) = (effect_low k ss e, effect_no_call k ss e)
@@ -208,10 +209,6 @@ pub record Parted (xs : List Cells) (dr : ℕ → Bool) (f : Form Range) (p : Pl
   pub holds : holds_f (expand_f f dr) ≡ holds_p dr (parts_f f)
   pub adds : (ρ : List ℕ) → add_f (expand_f f dr) ρ ≡ ρ
 
-or_false : (a : Bool) → (a || false) ≡ a
-or_false true = refl
-or_false false = refl
-
 module _ (xs : List Cells) (dr : ℕ → Bool) where
   see_one : (c : ℕ) (ρ : List ℕ) → all_vis (standing xs) ρ (operand EXPR c []) ≡ vis (standing xs) ρ c
   unfolding all_vis
@@ -229,7 +226,7 @@ module _ (xs : List Cells) (dr : ℕ → Bool) where
     ok = okp_inner o okp_nothing;
     fine = λ ρ δ. sym (and_right (fine_b xs dr x p ρ δ));
     done = λ δ. refl;
-    holds = sym (or_false (holds_b (expand x dr)));
+    holds = sym (or-false (holds_b (expand x dr)));
     adds = λ ρ. refl;
   }
   parted (branch c x y) p (ok_branch o q) a b s = record {
@@ -237,7 +234,7 @@ module _ (xs : List Cells) (dr : ℕ → Bool) where
     ok = okp_cell expr_no_block (okp_inner o (okp_inner q okp_nothing));
     fine = λ ρ δ. sym (rw (see_one c ρ, and_right (fine_b xs dr y p ρ (done_b x δ))) refl);
     done = λ δ. add_e-append (evals_b (expand x keep_all)) (evals_b (expand y keep_all)) δ;
-    holds = ap (holds_b (expand x dr) ||◌) (sym (or_false (holds_b (expand y dr))));
+    holds = ap (holds_b (expand x dr) ||◌) (sym (or-false (holds_b (expand y dr))));
     adds = λ ρ. refl;
   }
   parted (switch c ks) p (ok_switch o) a b s = record {
@@ -412,7 +409,7 @@ nil_done δ = refl
 
 nil_holds : (dr : ℕ → Bool) (h : Bool) → (h || holds_p dr nothing) ≡ h
 unfolding holds_p
-nil_holds dr h = or_false h
+nil_holds dr h = or-false h
 
 module _ (ws ts st ini u₀ : List ℕ) (count at stop keep : ℕ) (p : Place) (here : StmtHere ws ts st count at stop keep) where
   abbrev S : Stmt Range

@@ -389,7 +389,7 @@ switch_place xs dr (effect x y) b c r ρ δ o k = absurd (omega (arith, (effect_
 
 fine-form : (xs : List Cells) (dr : ℕ → Bool) (a b : ℕ) (f : Form Range) (p : Place) (ρ δ : List ℕ) → fine_s xs dr (stmt a b f) p ρ δ ≡ fine_f xs dr f p ρ δ
 unfolding fine_s
-fine-form xs dr a b f p ρ δ = refl
+fine-form _ _ a b f p ρ δ = refl
 
 continue_is : (c : Bool) → then_some c Continues ≡ told c true
 unfolding told flow_of

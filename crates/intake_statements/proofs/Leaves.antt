@@ -1,6 +1,7 @@
 -- Kinds, reads and results. At every turn of a loop, what is left to do gives the answer of the whole.
 use mathlib.Core.Path.{◌≡◌, refl, sym, ap, ◌∙◌}
 use mathlib.Core.Bool.{Bool, true, false, ◌&&◌, not}
+use Rattle.std.proofs.Math.Bool.{and_assoc}
 use mathlib.Core.List.{List, [], ◌∷◌, ◌++◌}
 use mathlib.Core.Option.{none, some}
 use Prim.Native.Nat.{ℕ, zero, suc, ◌+◌, ◌-◌, ◌≤◌, ◌<◌}
@@ -42,11 +43,7 @@ start_in st count e p h = (omega (arith, p.few), omega (arith, p.rising e h, p.w
 seen-append : (xs ys : List ℕ) (f : ℕ → Bool) → all_seen (xs ++ ys) f ≡ (all_seen xs f && all_seen ys f)
 unfolding all_seen
 seen-append [] ys f = refl
-seen-append (x ∷ xs) ys f = ap (f x &&◌) (seen-append xs ys f) ∙ assoc (f x) (all_seen xs f) (all_seen ys f)
-  where
-    assoc : (a b c : Bool) → (a && (b && c)) ≡ ((a && b) && c)
-    assoc true b c = refl
-    assoc false b c = refl
+seen-append (x ∷ xs) ys f = ap (f x &&◌) (seen-append xs ys f) ∙ sym (and_assoc (f x) (all_seen xs f) (all_seen ys f))
 
 optional-append : (w : ℕ) (xs : List ℕ) → optional w xs ≡ optional w [] ++ xs
 unfolding optional

@@ -57,14 +57,14 @@ called_of (lays_next {w = a} e l) = second a (rw (brings_one e (plain 81 a (omeg
 -- three cells of a run
 run-three : (n : ℕ) (ws ts : List ℕ) (i : ℕ) (c₁ c₂ c₃ : Cell) → cells_from n ws ts i ≡ c₁ ∷ c₂ ∷ c₃ ∷ [] → (n ≡ 3) × (get_or ws (i + 2) 0 ≡ word c₃)
 unfolding cells_from
-run-three zero ws ts i c₁ c₂ c₃ e = let z : ◌≡◌ {A = ℕ} 0 1 = cc in absurd (omega arith)
-run-three (suc zero) ws ts i c₁ c₂ c₃ e = let z : ◌≡◌ {A = ℕ} 0 1 = cc in absurd (omega arith)
-run-three (suc (suc zero)) ws ts i c₁ c₂ c₃ e = let z : ◌≡◌ {A = ℕ} 0 1 = cc in absurd (omega arith)
+run-three zero ws ts i c₁ c₂ c₃ e = cc
+run-three (suc zero) ws ts i c₁ c₂ c₃ e = cc
+run-three (suc (suc zero)) ws ts i c₁ c₂ c₃ e = cc
 run-three (suc (suc (suc zero))) ws ts i c₁ c₂ c₃ e =
     let q : (get_or ts (suc (suc i)) 0, get_or ws (suc (suc i)) 0) ≡ c₃ = cc in
     let s : i + 2 ≡ suc (suc i) = omega arith in
     (refl, rw s (ap word q))
-run-three (suc (suc (suc (suc n)))) ws ts i c₁ c₂ c₃ e = let z : ◌≡◌ {A = ℕ} 0 1 = cc in absurd (omega arith)
+run-three (suc (suc (suc (suc n)))) ws ts i c₁ c₂ c₃ e = cc
 
 function-later : (s w : ℕ) (cs : Cells) → s ≡ EXPR_KIND → function_of ((s, w) ∷ cs) ≡ function_of cs
 unfolding function_of

@@ -2,6 +2,7 @@
 use mathlib.Core.Path.{◌≡◌, refl, sym, ap, ◌∙◌, subst}
 use mathlib.Core.Logic.{◌⊎◌, inl, inr}
 use mathlib.Core.Bool.{Bool, true, false, ◌&&◌, ◌||◌, false≢true}
+use Rattle.std.proofs.Math.Bool.{or_assoc}
 use mathlib.Core.List.{List, [], ◌∷◌}
 use Prim.Native.Nat.{ℕ, zero, suc, ◌+◌, ◌-◌, ◌≤◌, ◌<◌}
 use native.Mathlib.Numerals.{add-one}
@@ -48,11 +49,7 @@ has_there x ρ e h = rw (ne_eqb x e h)
 vis-has : (f : ℕ → Bool) (ρ : List ℕ) (e : ℕ) → vis f ρ e ≡ (has ρ e || f e)
 unfolding vis has
 vis-has f [] e = refl
-vis-has f (x ∷ ρ) e = ap (eqb e x ||◌) (vis-has f ρ e) ∙ assoc (eqb e x) (has ρ e) (f e)
-  where
-    assoc : (a b c : Bool) → (a || (b || c)) ≡ ((a || b) || c)
-    assoc true b c = refl
-    assoc false b c = refl
+vis-has f (x ∷ ρ) e = ap (eqb e x ||◌) (vis-has f ρ e) ∙ sym (or_assoc (eqb e x) (has ρ e) (f e))
 
 -- ---- the table of expressions
 module _ (ws ts st : List ℕ) where
