@@ -129,11 +129,11 @@ module _ {A : Type 0} {f : List A → Bool} {said : List A → A → Bool} (pair
         marked = rw z (each_next {a = at i} (rw (← is) left.own) (each_map (λ x. left.others (hashes x % size) (hashes x)) (rw (add-one i) at s.marked)));
       }
 
-  pub new-unmarked : b ≡ true → New said hashes size at n i marks₁ true
+  pub new-unmarked : b ≡ true → New said hashes size at n i marks₁ b
   new-unmarked t =
       let bare : stands marks (hashes (at i) % size) (hashes (at i)) ≡ false = rw (← is) (not-true (stands marks (h % size) h) (sym left.answer ∙ t)) in
       record {
-        answer = sym (pairs.apart (listing at (n - (i + 1)) (i + 1)) (at i) (each_map (λ y m e. never m (ap (λ x. stands marks (hashes x % size) (hashes x)) (sym e) ∙ bare)) s.marked));
+        answer = t ∙ sym (pairs.apart (listing at (n - (i + 1)) (i + 1)) (at i) (each_map (λ y m e. never m (ap (λ x. stands marks (hashes x % size) (hashes x)) (sym e) ∙ bare)) s.marked));
         seen = seen_next;
       }
 

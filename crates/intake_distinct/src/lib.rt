@@ -76,6 +76,7 @@ fn mark(seen: &mut [u8], at: usize, h: usize) -> bool
     true
 }
 
+// Numbers here and names below have functions of their own: a trait that says what an item, its hash and its equals are would be longer than the three.
 // Whether number j of section k is none of the later ones, which have left their marks; it leaves its own.
 fn new_number(words: &Words, seen: &mut [u8], k: usize, j: usize) -> bool
     requires placed { Placed words.now k }
@@ -86,10 +87,7 @@ fn new_number(words: &Words, seen: &mut [u8], k: usize, j: usize) -> bool
 {
     let x = number(words, k, j);
     let h = x as usize;
-    if mark(seen, h % 1024, h) {
-        return true;
-    }
-    absent(words, k, j + 1, x)
+    mark(seen, h % 1024, h) || absent(words, k, j + 1, x)
 }
 
 // Whether those of section k differ.
@@ -161,10 +159,7 @@ fn new_name(words: &Words, seen: &mut [u8], j: usize) -> bool
 {
     let x = name(words, j);
     let h = hash(x);
-    if mark(seen, h % 4096, h) {
-        return true;
-    }
-    unlike(words, j + 1, x)
+    mark(seen, h % 4096, h) || unlike(words, j + 1, x)
 }
 
 // Whether the names differ.

@@ -73,6 +73,7 @@ pub fn named(words: &Words, tags: &Tags, n: usize) -> bool
     let functions = offset(words, FUNCTIONS);
     let entries = offset(words, ENTRIES);
     let special = offset(words, SPECIAL);
+    // a ladder: of one `&&` of the seven tests the proof goes through six joins, at both its ends
     if !present(words, FUNCTIONS) {
         return false;
     }

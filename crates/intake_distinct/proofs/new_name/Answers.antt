@@ -11,5 +11,5 @@ returns-then-mark c = new-unmarked names c.requires.seen c.requires.j_bound (c.h
 pub unlike-requires : goal.unlike-requires
 unlike-requires c = record { spelled = c.requires.spelled; from_bound = omega arith }
 
-pub returns : goal.returns
-returns c = new_scanned names c.requires.seen c.requires.j_bound (c.hash-h.ensures ∙ ap hash c.name-x.ensures) c.mark.ensures _ c.name-x.ensures _ c.unlike.ensures
+pub returns-else-mark : goal.returns-else-mark
+returns-else-mark c = new_scanned names c.requires.seen c.requires.j_bound (c.hash-h.ensures ∙ ap hash c.name-x.ensures) c.mark.ensures _ c.name-x.ensures _ c.unlike.ensures

@@ -5,5 +5,5 @@ use Rattle.intake_distinct.proofs.new_number.Goals as goal
 pub returns-then-mark : goal.returns-then-mark
 returns-then-mark c = new-unmarked numbers c.requires.seen c.requires.j_bound c.number-x.ensures c.mark.ensures c.if-mark.true
 
-pub returns : goal.returns
-returns c = new_scanned numbers c.requires.seen c.requires.j_bound c.number-x.ensures c.mark.ensures _ c.number-x.ensures _ c.absent.ensures
+pub returns-else-mark : goal.returns-else-mark
+returns-else-mark c = new_scanned numbers c.requires.seen c.requires.j_bound c.number-x.ensures c.mark.ensures _ c.number-x.ensures _ c.absent.ensures
