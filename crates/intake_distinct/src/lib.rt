@@ -76,7 +76,7 @@ fn mark(seen: &mut [u8], at: usize, h: usize) -> bool
     true
 }
 
-// Numbers here and names below have functions of their own: a trait that says what an item, its hash and its equals are would be longer than the three.
+// Numbers have functions of their own, and are no slices of one word to be taken with the names below: they are their own hashes, with fewer marks, and are compared as words.
 // Whether number j of section k is none of the later ones, which have left their marks; it leaves its own.
 fn new_number(words: &Words, seen: &mut [u8], k: usize, j: usize) -> bool
     requires placed { Placed words.now k }
