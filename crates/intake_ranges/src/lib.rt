@@ -8,20 +8,17 @@ ghost use Rattle.intake_ranges.specs.Ranges.{table, codes, headed, InRangeEnsure
 
 use base_classes::{
     ARGUMENT, CALLEE, CONSTANT, EXPR, FROM, FUNCTION, GLOBAL, INIT, LOCAL, LOCAL_INIT, NAME,
-    NAMED_EXPR, OPT_EXPR, OPT_INIT, OPT_RESULT, OPT_TYPE, OVERRIDE, RESULT, TO, TYPE,
+    NAMED_EXPR, OPT_EXPR, OPT_INIT, OPT_RESULT, OPT_TYPE, OVERRIDE, RESULT, TO, TYPE, WORD,
 };
 use base_views::{CONSTANTS, EXPRESSIONS, FUNCTIONS, GLOBALS, NAMES, OVERRIDES, TYPES, count};
 use base_words::{Tags, Words};
 
-// Classes below this one are codes: each word of such a class is below the class.
-const CODES: usize = 80;
-
-// What a word of each class stays below: a code below its class, and any other word below 4,294,967,296 until `module_bounds` and `function_bounds` say more.
+// What a word of each class stays below: a code, whose class is below WORD, below its class, and any other word below 4,294,967,296 until `module_bounds` and `function_bounds` say more.
 pub fn code_bounds() -> [u64; 256]
     ensures { result ≡ codes }
 {
     let mut t = [4294967296u64; 256];
-    for i in 0..CODES {
+    for i in 0..WORD as usize {
         t[i] = i as u64;
     }
     t
