@@ -1,4 +1,4 @@
--- The passes that compare each word with the bound of its class, and each Emit's start with its end: what is left to test from word i on is the whole.
+-- The passes that compare each word with the bound of its class, and each Emit's start with its end: the test of each word in turn is the definition on its cells.
 use mathlib.Core.Path.{◌≡◌, refl, sym, ap, ◌∙◌}
 use mathlib.Core.Bool.{Bool, true, false, ◌&&◌}
 use mathlib.Core.Option.{Option, none, some}

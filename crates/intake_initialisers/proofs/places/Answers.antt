@@ -1,12 +1,9 @@
 use native.Mathlib.Omega.{arith}
 use mathlib.Core.Path.{refl}
-use Rattle.intake_initialisers.proofs.Visiting.{places-begin, places_last_room, places-last, places-room, places-next, places_skip, places_done}
+use Rattle.intake_initialisers.proofs.Visiting.{places_last_room, places-last, places-room, places-next, places_skip, places_done}
 use borrow.Author.Rules.{rules}
 use Rattle.intake_initialisers.proofs.places.Goals.{in-116, in_default}
 use Rattle.intake_initialisers.proofs.places.Goals as goal
-
-pub loop-j-init : goal.loop-j-init
-loop-j-init c = search (places-begin, rules)
 
 pub bounds-starts-k : goal.bounds-starts-k
 bounds-starts-k c = search (places_last_room, rules)

@@ -1,11 +1,8 @@
 use mathlib.Core.Path.{sym, ◌∙◌}
-use Rattle.intake_initialisers.proofs.Visiting.{less_one, roots-begin, roots-next, roots_skip, roots_done}
+use Rattle.intake_initialisers.proofs.Visiting.{less_one, roots-next, roots_skip, roots_done}
 use borrow.Author.Rules.{rules}
 use Rattle.intake_initialisers.proofs.roots.Goals.{in-Some, in_default}
 use Rattle.intake_initialisers.proofs.roots.Goals as goal
-
-pub loop-j-init : goal.loop-j-init
-loop-j-init c = search (roots-begin, rules)
 
 pub loop-j-preserved : goal.loop-j-preserved
 loop-j-preserved c = elim c.match-checked_sub.branch [

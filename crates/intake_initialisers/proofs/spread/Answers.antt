@@ -1,11 +1,8 @@
 use mathlib.Core.Path.{sym, ◌∙◌}
-use Rattle.intake_initialisers.proofs.Visiting.{spread_begin, spread_next, spread_skip, spread_done}
+use Rattle.intake_initialisers.proofs.Visiting.{spread_next, spread_skip, spread_done}
 use borrow.Author.Rules.{rules}
 use Rattle.intake_initialisers.proofs.spread.Goals.{in-Some, in_default}
 use Rattle.intake_initialisers.proofs.spread.Goals as goal
-
-pub loop-j-init : goal.loop-j-init
-loop-j-init c = search (spread_begin, rules)
 
 pub loop-j-preserved : goal.loop-j-preserved
 loop-j-preserved c = elim c.match-operand.branch [

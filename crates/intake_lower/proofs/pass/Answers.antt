@@ -1,12 +1,6 @@
 -- `intake_lower::pass` meets its contract: what is left from word j on, with the records that have begun, says what the whole says.
-use Rattle.intake_lower.proofs.Steps.{pass_begin, pass_done, pass_room, pass_fails, pass_next}
+use Rattle.intake_lower.proofs.Steps.{pass_done, pass_room, pass_fails, pass_next}
 use Rattle.intake_lower.proofs.pass.Goals as goal
-
-pub loop-j-init : goal.loop-j-init
-loop-j-init g c = pass_begin _ _ _ _ _ _ c.requires.stretch
-
-pub next-count-requires : goal.next-count-requires
-next-count-requires g c = c.requires.counts _ _ (c.fits-tags _) (pass_room _ _ _ _ _ _ c.requires.stretch _ _ c.loop-j.invariant c.loop-j-test.true)
 
 pub returns-then-not-ok : goal.returns-then-not-ok
 returns-then-not-ok g c =

@@ -1,7 +1,4 @@
-use mathlib.Core.Path.{ap, ◌∙◌}
-use lib.ListN.{get_or}
 use native.Mathlib.Omega.{arith}
-use Rattle.model.specs.Operands.{constant_kind}
 use Rattle.intake_numbers.proofs.Tabling.{kinds_inside}
 use Rattle.intake_numbers.proofs.constant_at.Goals as goal
 
@@ -10,6 +7,3 @@ offset_bounds-words-record_at c = omega (arith, c.record_at.ensures, kinds_insid
 
 pub bounds-words-record_at : goal.bounds-words-record_at
 bounds-words-record_at c = omega (arith, c.record_at.ensures, kinds_inside _ _ _ c.requires.tape _ c.requires.i_bound)
-
-pub returns : goal.returns
-returns c = c.constant.ensures ∙ ap (λ o. constant_kind (get_or c.args.words.now o 0)) c.record_at.ensures
