@@ -1,6 +1,6 @@
--- Kinds, reads and results. At every turn of a loop, what is left to do gives the answer of the whole.
+-- Reads and results: what the words from here on read, and what is left to look at where a result is looked for.
 use mathlib.Core.Path.{◌≡◌, refl, sym, ap, ◌∙◌}
-use mathlib.Core.Bool.{Bool, true, false, ◌&&◌, not}
+use mathlib.Core.Bool.{Bool, true, false, ◌&&◌}
 use Rattle.std.proofs.Math.Bool.{and_assoc}
 use mathlib.Core.List.{List, [], ◌∷◌, ◌++◌}
 use mathlib.Core.Option.{none, some}
@@ -9,7 +9,8 @@ use native.Mathlib.Numerals.{add-one}
 use native.Mathlib.Omega.{arith}
 use lib.Dec.{eqb}
 use lib.ListN.{length, get_or}
-use borrow.Author.Tests.{eq-eqb, ne_eqb, lt-ltb, le-ltb, not-true, not-false}
+use borrow.Author.Tests.{eq-eqb, ne_eqb, lt-ltb, le-ltb}
+use Rattle.std.specs.List.{list_all, range_with_len}
 use Rattle.std.specs.Prelude.{SomeIff, Some, None}
 use Rattle.std.specs.declared.option.Option as code
 use Rattle.theory_lists.specs.Booleans.{and_right}
@@ -108,34 +109,19 @@ cells_between ws ts from to h w t = go (to - from) from (omega arith)
     go zero i e = sym (between_none ts ws i to (omega arith))
     go (suc n) i e = ap ((get_or ts i 0, get_or ws i 0) ∷◌) (go n (suc i) (omega arith)) ∙ sym (between_next ts ws i to (omega arith) t w)
 
--- ---- the loop of reads
-pub record Reading (ws ts : List ℕ) (from to : ℕ) (f : ℕ → Bool) (i : ℕ) : Type 0 where
-  pub same : all_seen (ops_of (cells_from (to - i) ws ts i)) f ≡ all_seen (ops_of (cells_in ws ts from to)) f
+-- ---- the reads of a run
+module _ (ws ts : List ℕ) (f : ℕ → Bool) where
+  reads_from : (n i : ℕ) → list_all (λ j. all_seen (operand (get_or ts j 0) (get_or ws j 0) []) f) (range_with_len i n) ≡ all_seen (ops_of (cells_from n ws ts i)) f
+  unfolding cells_from ops_of all_seen
+  reads_from zero i = refl
+  reads_from (suc n) i =
+      ap (all_seen (operand (get_or ts i 0) (get_or ws i 0) []) f &&◌) (ap (λ k. list_all (λ j. all_seen (operand (get_or ts j 0) (get_or ws j 0) []) f) (range_with_len k n)) (add-one i) ∙ reads_from n (suc i))
+      ∙ sym (seen-append (operand (get_or ts i 0) (get_or ws i 0) []) (ops_of (cells_from n ws ts (suc i))) f)
+      ∙ ap (λ l. all_seen l f) (sym (operand-append (get_or ts i 0) (get_or ws i 0) (ops_of (cells_from n ws ts (suc i)))))
 
-module _ (ws ts : List ℕ) (from to : ℕ) (f : ℕ → Bool) where
-  pub reads-begin : Reading ws ts from to f from
+  pub reads_are : (from to : ℕ) → list_all (λ j. all_seen (operand (get_or ts j 0) (get_or ws j 0) []) f) (range_with_len from (to - from)) ≡ all_seen (ops_of (cells_in ws ts from to)) f
   unfolding cells_in
-  reads-begin = record { same = refl }
-
-  module _ (i : ℕ) (inv : Reading ws ts from to f i) where
-    opened : i < to → (all_seen (operand (get_or ts i 0) (get_or ws i 0) []) f && all_seen (ops_of (cells_from (to - (i + 1)) ws ts (i + 1))) f) ≡ all_seen (ops_of (cells_in ws ts from to)) f
-    unfolding ops_of
-    opened h =
-        sym (seen-append (operand (get_or ts i 0) (get_or ws i 0) []) (ops_of (cells_from (to - (i + 1)) ws ts (i + 1))) f)
-        ∙ ap (λ l. all_seen l f) (sym (operand-append (get_or ts i 0) (get_or ws i 0) (ops_of (cells_from (to - (i + 1)) ws ts (i + 1)))))
-        ∙ ap (λ l. all_seen (ops_of l) f) (sym (cells_next ws ts i to h))
-        ∙ inv.same
-
-    module _ (h : i < to) (r : Bool) (is : r ≡ all_seen (operand (get_or ts i 0) (get_or ws i 0) []) f) where
-      pub reads_wrong : not r ≡ true → false ≡ all_seen (ops_of (cells_in ws ts from to)) f
-      reads_wrong e = ap (◌&& all_seen (ops_of (cells_from (to - (i + 1)) ws ts (i + 1))) f) (sym (not-true r e) ∙ is) ∙ opened h
-
-      pub reads-next : not r ≡ false → Reading ws ts from to f (i + 1)
-      reads-next e = record { same = ap (◌&& all_seen (ops_of (cells_from (to - (i + 1)) ws ts (i + 1))) f) (sym (not-false r e) ∙ is) ∙ opened h }
-
-    pub reads_done : to ≤ i → true ≡ all_seen (ops_of (cells_in ws ts from to)) f
-    unfolding ops_of all_seen
-    reads_done h = ap (λ l. all_seen (ops_of l) f) (sym (cells_none ws ts i to h)) ∙ inv.same
+  reads_are from to = reads_from (to - from) from
 
 -- ---- the loop that looks for a result
 pub record Looking (ws ts : List ℕ) (from to i : ℕ) : Type 0 where

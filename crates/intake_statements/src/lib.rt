@@ -82,12 +82,7 @@ fn reads(
     requires to_bound { to ≤ 16384 }
     ensures { result ≡ all_seen (ops_of (cells_in words.now tags.now from to)) (visible_at words.now starts.now until.now count at) }
 {
-    for j in from..to {
-        if !read(words, tags, starts, until, count, at, j) {
-            return false;
-        }
-    }
-    true
+    (from..to).all(|j| read(words, tags, starts, until, count, at, j))
 }
 
 // Expression e of an Emit at the word `at`, in scope up to the word `keep`.
