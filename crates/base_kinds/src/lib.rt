@@ -1,4 +1,4 @@
-// The kinds of expressions and statements by name, those that code compares, and what document 01 says of the kinds of expressions: which ones are standing,
+// The kinds of expressions and statements by name, those that code compares, and which kinds of expressions are standing,
 // which are emitted and which are allowed outside functions.
 #![tactic(auto)]
 
@@ -49,47 +49,26 @@ pub const CALL: u32 = 15;
 
 pub const IMAGE_ATOMIC: u32 = 16;
 
-// "Standing: 0 to 3 and 9 to 11."
+// Whether a kind stands without an emit: 0 to 3 and 9 to 11.
+#[tactic(auto, unfolding(model::specs::Operands::standing_kind))]
 pub fn stands(k: u32) -> bool
     ensures { result ≡ standing_kind k }
 {
-    if k <= ZERO_VALUE {
-        return true;
-    }
-    if k < FUNCTION_ARGUMENT {
-        return false;
-    }
-    k <= LOCAL_VARIABLE
+    matches!(k, 0..=ZERO_VALUE | FUNCTION_ARGUMENT..=LOCAL_VARIABLE)
 }
 
-// "Results: 23 to 25. The rest are emitted."
+// Whether a kind is emitted: all but the standing ones and the results, 23 to 25.
+#[tactic(auto, unfolding(model::specs::Operands::emitted_kind, model::specs::Operands::result_kind))]
 pub fn emits(k: u32) -> bool
     ensures { result ≡ emitted_kind k }
 {
-    if stands(k) {
-        return false;
-    }
-    if k < CALL_RESULT {
-        return true;
-    }
-    WORK_GROUP_UNIFORM_LOAD_RESULT < k
+    !stands(k) && !matches!(k, CALL_RESULT..=WORK_GROUP_UNIFORM_LOAD_RESULT)
 }
 
-// "Global expressions use only 0 to 8, 16 to 18 and 20 to 22."
+// Whether a kind may stand outside functions: 0 to 8, 16 to 18 and 20 to 22.
+#[tactic(auto, unfolding(model::specs::Operands::constant_kind))]
 pub fn constant(k: u32) -> bool
     ensures { result ≡ constant_kind k }
 {
-    if k <= SWIZZLE {
-        return true;
-    }
-    if k < UNARY {
-        return false;
-    }
-    if k <= SELECT {
-        return true;
-    }
-    if k < RELATIONAL {
-        return false;
-    }
-    k <= AS
+    matches!(k, 0..=SWIZZLE | UNARY..=SELECT | RELATIONAL..=AS)
 }

@@ -1,11 +1,15 @@
 -- The loops: at every turn, what is left to write completes the whole.
 use mathlib.Core.Path.{◌≡◌, refl, sym, ap, ◌∙◌}
 use mathlib.Core.List.{List, [], ◌∷◌}
-use Prim.Native.Nat.{ℕ, suc, ◌+◌, ◌*◌, ◌/◌, ◌%◌, ◌≤◌, ◌<◌}
+use Prim.Native.Nat.{ℕ, suc, ◌+◌, ◌*◌, ◌/◌, ◌≤◌, ◌<◌}
 use native.Mathlib.Numerals.{add-one}
 use native.Mathlib.Omega.{arith}
+use borrow.Rule.Slice.PartMut.{put_mid}
+use Rattle.std.proofs.Common.{append_assoc}
+use Rattle.std.proofs.lemmas.List.Edits.{paste_all}
+use Rattle.std.proofs.lemmas.Slice.{put_mid-paste}
 use lib.ListN.{length, get_or, set, take, drop, length-set, drop_of_length-le}
-use lib.Seq.{sets, slice, slice-cons, slice_empty, drop-cons, length-sets}
+use lib.Seq.{sets, sets-eq, slice, slice-cons, slice_empty, drop-cons, length-sets}
 use Rattle.base_words.specs.Words.{words_of, bytes_of, word_at}
 use Rattle.base_words.proofs.Laws.{length_words_of, word_is}
 
@@ -36,15 +40,12 @@ module _ (bytes words₀ : List ℕ) where
         let e : drop i (words_of bytes) ≡ [] = drop_of_length-le (words_of bytes) {i = i} (omega (arith, length_words_of bytes)) in
         rw e at inv.same
 
--- ---- put_word: four stores
-pub put : (bytes : List ℕ) (at w : ℕ)
-    → set (set (set (set bytes at (w % 256)) (at + 1) (w / 256 % 256)) (at + 2) (w / 65536 % 256)) (at + 3) (w / 16777216 % 256) ≡ sets bytes at (bytes_of (w ∷ []))
-unfolding bytes_of
-put bytes at w =
-    let e₁ : at + 1 ≡ suc at = omega arith in
-    let e₂ : at + 2 ≡ suc (suc at) = omega arith in
-    let e₃ : at + 3 ≡ suc (suc (suc at)) = omega arith in
-    rw (e₁, e₂, e₃)
+-- ---- put_word: what is copied to a part of the bytes is stored there
+pub put : (at k : ℕ) (bytes part vs : List ℕ) → part ≡ vs → k ≡ length vs → at + k ≤ length bytes → put_mid at k bytes part ≡ sets bytes at vs
+put at k bytes part vs is long fits =
+    put_mid-paste at k bytes part vs (length vs) is (omega arith) refl
+    ∙ paste_all bytes at vs (length vs) refl
+    ∙ sym (sets-eq vs bytes at (omega arith) ∙ append_assoc (take at bytes) vs (drop (at + length vs) bytes))
 
 -- ---- store: the bytes of the words before i are in place
 pub record Storing (words : List ℕ) (n : ℕ) (bytes₀ bytes : List ℕ) (i : ℕ) : Type 0 where

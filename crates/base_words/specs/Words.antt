@@ -1,4 +1,4 @@
--- Little-endian 32-bit words and their bytes. Document 01: "Little-endian 32-bit words in a byte slice".
+-- Little-endian 32-bit words and their bytes, in a list of bytes.
 use Rattle.std.specs.Prelude.{List, [], ◌∷◌, ℕ, ◌+◌, ◌*◌, ◌/◌, ◌%◌, ◌<◌, length, get_or}
 
 -- each number of the list is below k

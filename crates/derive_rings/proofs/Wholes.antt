@@ -19,6 +19,7 @@ use Rattle.model.specs.Imports.{Derived}
 use Rattle.model.specs.Bodies.{known}
 use Rattle.model.specs.Session.{unknown, stuck, meets_ring}
 use Rattle.theory_image.specs.FunctionViews.{taped_functions}
+use Rattle.order_ranks.specs.declared.FunctionSet.{FunctionSet}
 use Rattle.order_ranks.specs.Marks.{holds, members, marked, Firsts, Below}
 use Rattle.order_ranks.specs.Placing.{Leaves}
 use Rattle.theory_order.specs.Lists.{any_in, in_any, numbers_in, keep_in, keep_ext, length-numbers}
@@ -138,14 +139,14 @@ module _ (words : List ℕ) (n : ℕ) (log logtags : List ℕ) (starts : List (L
         pub calls_not : RingsEnsures (f ∷ callees (function (mod_of words n) f)) words n log logtags starts e false
         calls_not = free_not (f ∷ callees (function (mod_of words n) f)) (free-itself (callees (function (mod_of words n) f)) (known-all (callees (function (mod_of words n) f)) (sym hb ∙ no)))
 
-  module _ (tags : List ℕ) (src : Source words tags n) (cs : List ℕ) (g : Gathered words tags n cs) where
+  module _ (tags : List ℕ) (src : Source words tags n) (cs : List FunctionSet) (g : Gathered words tags n cs) where
     -- ---- the stuck ones
     module _ (c : ℕ) (hc : c ≡ count_at 6 words) (every : List ℕ) (fs : Firsts c every) where
       small : c ≤ 256
       small = omega (arith, few src)
 
-      pub all_asks : (c ≤ 256) × (length every ≡ 4) × Below c every
-      all_asks = (small, fs.long, firsts-below every c fs)
+      pub all_asks : (c ≤ 256) × Below c every
+      all_asks = (small, firsts-below every c fs)
 
       module _ (led : List ℕ) (l : Leaves (marked cs) c (members every) led) where
         led_is : members led ≡ (rounds (marked cs) c (numbers c 0)).left
@@ -157,8 +158,8 @@ module _ (words : List ℕ) (n : ℕ) (log logtags : List ℕ) (starts : List (L
           waiting_is : members waiting ≡ keep (rounds (marked cs) c (numbers c 0)).left is_unknown
           waiting_is = w.is [] [] ∙ ap (λ (x : List ℕ). keep x is_unknown) led_is
 
-          pub waiting_asks : (c ≤ 256) × (length waiting ≡ 4) × Below c waiting
-          waiting_asks = (small, w.long, rw hc w.low)
+          pub waiting_asks : (c ≤ 256) × Below c waiting
+          waiting_asks = (small, rw hc w.low)
 
           pub stuck_is : (set : List ℕ) → Leaves (marked cs) c (members waiting) set → Stuck words n log logtags starts e set
           unfolding stuck

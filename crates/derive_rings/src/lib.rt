@@ -4,7 +4,7 @@
 // there is no such ring.
 #![tactic(auto)]
 
-ghost use Rattle.std.specs.Prelude.{◌≡◌, true, [], ◌∷◌, ◌<◌, eqb, length};
+ghost use Rattle.std.specs.Prelude.{◌≡◌, true, [], ◌∷◌, ◌<◌, eqb};
 ghost use Rattle.model.specs.Module.{count_at};
 ghost use Rattle.model.specs.Names.{named};
 ghost use Rattle.model.specs.Calls.{any};
@@ -18,13 +18,12 @@ ghost use Rattle.derive_lookup.specs.Bearing.{Bearing};
 ghost use Rattle.derive_rings.specs.Rings.{unknown_by, Unknowns, Stuck, RingsEnsures, Scannable};
 
 use base_classes::CALLEE;
-use base_handles::FunctionHandle;
 use base_views::{ENTRIES, FUNCTIONS, count, entry_function, record_at, record_end};
 use base_words::{Tags, Words, wide};
 use derive_lookup::known;
 use derive_state::{Log, LogTags, Maps, Sizes, Starts};
 use order_callees::gather_requirements;
-use order_ranks::{clear, first, has, leave, left, waits};
+use order_ranks::{FunctionSet, clear, left};
 
 // Those of a set whose names are unknown.
 fn unknown(
@@ -36,24 +35,24 @@ fn unknown(
     starts: &Starts,
     maps: &Maps,
     ends: Sizes,
-    began: [u64; 4],
-) -> [u64; 4]
+    began: FunctionSet,
+) -> FunctionSet
     requires source { Source words.now tags.now n }
     requires n_value { named (mod_of words.now n) ≡ true }
     requires bearing { Bearing log.now logtags.now starts.now ends }
-    requires began_len { (length began ≡ 4) × Below (count_at 6 words.now) began }
-    ensures { Unknowns words.now n log.now logtags.now starts.now ends began result }
+    requires began_len { Below (count_at 6 words.now) began.0 }
+    ensures { Unknowns words.now n log.now logtags.now starts.now ends began.0 result.0 }
 {
     let functions = count(words, FUNCTIONS);
     let mut set = began;
     for f in 0..functions {
-        if has(&began, f) {
+        if began.has(f) {
             let is_known = known(words, tags, n, log, logtags, starts, maps, ends, f) != 0;
             if is_known {
-                leave(&mut set, f);
+                set.leave(f);
             }
         }
-    }
+        }
     set
 }
 
@@ -67,40 +66,40 @@ pub fn unknown_in_ring(
     starts: &Starts,
     maps: &Maps,
     ends: Sizes,
-    callees: &[u64; 1024],
-) -> [u64; 4]
+    callees: &[FunctionSet; 256],
+) -> FunctionSet
     requires source { Source words.now tags.now n }
     requires n_value { named (mod_of words.now n) ≡ true }
     requires bearing { Bearing log.now logtags.now starts.now ends }
     requires gathered { Gathered words.now tags.now n callees.now }
-    ensures { Stuck words.now n log.now logtags.now starts.now ends result }
+    ensures { Stuck words.now n log.now logtags.now starts.now ends result.0 }
 {
     let functions = count(words, FUNCTIONS);
-    let all = first(functions);
+    let all = FunctionSet::first(functions);
     let led = left(callees, functions, all);
     let waiting = unknown(words, tags, n, log, logtags, starts, maps, ends, led);
     left(callees, functions, waiting)
 }
 
 // Whether the words from `at` to `end` call one of a set.
-fn calls_one(words: &Words, tags: &Tags, at: usize, end: usize, set: &[u64; 4]) -> bool
+fn calls_one(words: &Words, tags: &Tags, at: usize, end: usize, set: &FunctionSet) -> bool
     requires { Scannable words.now tags.now at end 256 }
-    ensures { result ≡ any (picked words.now tags.now at end) (λ i. any (members set.now) (eqb i)) }
+    ensures { result ≡ any (picked words.now tags.now at end) (λ i. any (members set.now.0) (eqb i)) }
 {
     for k in at..end {
         if tags[k] == CALLEE {
-            if has(set, wide(words[k])) {
+            if set.has(wide(words[k])) {
                 return true;
             }
         }
-    }
+        }
     false
 }
 
 // Whether the function of an entry point calls one of a set.
-fn entries_call(words: &Words, tags: &Tags, n: usize, set: &[u64; 4]) -> bool
+fn entries_call(words: &Words, tags: &Tags, n: usize, set: &FunctionSet) -> bool
     requires { Source words.now tags.now n }
-    ensures { result ≡ any (calleesOfAll (mod_of words.now n).entries) (λ i. any (members set.now) (eqb i)) }
+    ensures { result ≡ any (calleesOfAll (mod_of words.now n).entries) (λ i. any (members set.now.0) (eqb i)) }
 {
     let entries = count(words, ENTRIES);
     for e in 0..entries {
@@ -109,7 +108,7 @@ fn entries_call(words: &Words, tags: &Tags, n: usize, set: &[u64; 4]) -> bool
         if calls_one(words, tags, at, end, set) {
             return true;
         }
-    }
+        }
     false
 }
 
@@ -139,7 +138,7 @@ fn calls_unknown(
                 return true;
             }
         }
-    }
+        }
     false
 }
 
@@ -190,10 +189,10 @@ pub fn import_rings(
     let mut callees = clear();
     gather_requirements(words, tags, n, &mut callees);
     let set = unknown_in_ring(words, tags, n, log, logtags, starts, maps, ends, &callees);
-    if has(&set, f) {
+    if set.has(f) {
         return true;
     }
-    waits(&callees, FunctionHandle(f as u32), &set)
+    callees[f].meets(&set)
 }
 
 // Refusal 22 of map_function_handle: function f is stuck.
@@ -223,7 +222,7 @@ pub fn follow_rings(
     let mut callees = clear();
     gather_requirements(words, tags, n, &mut callees);
     let set = unknown_in_ring(words, tags, n, log, logtags, starts, maps, ends, &callees);
-    has(&set, f)
+    set.has(f)
 }
 
 // Whether the function of an entry point calls one of unknown name.
@@ -249,7 +248,7 @@ fn entries_lead(
         if calls_unknown(words, tags, n, log, logtags, starts, maps, ends, at, end) {
             return true;
         }
-    }
+        }
     false
 }
 

@@ -1,6 +1,7 @@
 -- Names in the order of first appearance, and their places.
 use mathlib.Core.Path.{◌≡◌, refl, sym, ap, ◌∙◌}
 use mathlib.Core.Bool.{cond}
+use mathlib.Core.Logic.{◌⊎◌, inl, inr}
 use mathlib.Core.List.{List, [], ◌∷◌, ◌++◌}
 use Prim.Native.Nat.{ℕ, zero, suc, ◌+◌, ◌-◌, ◌≤◌, ◌<◌}
 use native.Mathlib.Numerals.{add-one}
@@ -117,13 +118,10 @@ module _ (names : ℕ) (order places : List ℕ) (n s w : ℕ) where
   abbrev After : List ℕ → List ℕ → ℕ → Type 0
   After order₁ places₁ n₁ = AppearingEnsures names (firsts (names_in ((s, w) ∷ [])) (take n order)) order₁ places₁ n₁
 
-  pub word-plain : AppearingEnsures names (take n order) order places n → (s ≡ NAME → ⊥) → After order places n
+  pub word_none : AppearingEnsures names (take n order) order places n → ((s ≡ NAME → ⊥) ⊎ (w ≡ 0)) → After order places n
   unfolding firsts
-  word-plain v h = rw (names_none s w h) v
-
-  pub word_zero : AppearingEnsures names (take n order) order places n → w ≡ 0 → After order places n
-  unfolding firsts
-  word_zero v h = rw (names_zero s w h) v
+  word_none v (inl h) = rw (names_none s w h) v
+  word_none v (inr h) = rw (names_zero s w h) v
 
   pub word_low : (s ≡ NAME → w ≤ names) → s ≡ NAME → (w ≡ 0 → ⊥) → (m : ℕ) → m ≡ w - 1 → m < names
   word_low f e h m q = let g = f e in omega arith

@@ -1,9 +1,11 @@
 -- The loops that write records, offsets and tables: at every turn, what is left completes the whole.
 use mathlib.Core.Path.{◌≡◌, refl, sym, ap, ◌∙◌}
 use mathlib.Core.List.{List, [], ◌∷◌, map}
-use Prim.Native.Nat.{ℕ, suc, ◌+◌, ◌*◌, ◌-◌, ◌≤◌, ◌<◌}
+use mathlib.Core.Logic.{◌⊎◌, inl, inr}
+use lib.Dec.{eqb}
+use Rattle.theory_finish.specs.Firsts.{either}
+use Prim.Native.Nat.{ℕ, zero, suc, ◌+◌, ◌*◌, ◌-◌, ◌≤◌, ◌<◌}
 use native.Mathlib.Nat.{add-zero}
-use native.Mathlib.Numerals.{add-one}
 use native.Mathlib.Omega.{arith}
 use lib.ListN.{length, get_or, set, take, drop, length-set, length-map}
 use lib.Seq.{sets, slice, length-sets, length-slice, length-take-le}
@@ -22,20 +24,21 @@ use Rattle.derive_sections.proofs.Notes.{recs_next, recs_none}
 
 -- ---- a word
 module _ (ps : List ℕ) (s w : ℕ) where
-  pub renamed-plain : (s ≡ NAME → ⊥) → w ≡ named ps (s, w)
-  unfolding named
-  renamed-plain h = rw (named, ne_eqb s NAME h)
-
-  pub renamed_zero : s ≡ NAME → w ≡ 0 → 0 ≡ named ps (s, w)
+  pub renamed-plain : ((s ≡ NAME → ⊥) ⊎ (w ≡ 0)) → w ≡ named ps (s, w)
   unfolding named behind
-  renamed_zero e h = rw (e, h)
+  renamed-plain (inl h) = rw (named, ne_eqb s NAME h)
+  renamed-plain (inr h) = rw h (either (eqb s NAME) (λ e. rw (named, e)) λ e. rw (named, e))
 
-  pub renamed_name : s ≡ NAME → (w ≡ 0 → ⊥) → (m : ℕ) → m ≡ w - 1 → get_or ps m 0 ≡ named ps (s, w)
+  pub renamed_name : s ≡ NAME → (w ≡ 0 → ⊥) → get_or ps (w - 1) 0 ≡ named ps (s, w)
   unfolding named behind
-  renamed_name e h m q = let z : w ≡ suc m = omega arith in rw (e, z)
+  renamed_name e h = rw (e, named) (go w h)
+    where
+      go : (v : ℕ) → (v ≡ 0 → ⊥) → get_or ps (v - 1) 0 ≡ behind ps v
+      go zero q = absurd (q refl)
+      go (suc v) q = let y : suc v - 1 ≡ v = omega arith in rw y
 
-  pub renamed_low : (s ≡ NAME → w ≤ 512) → s ≡ NAME → (w ≡ 0 → ⊥) → (m : ℕ) → m ≡ w - 1 → m < 512
-  renamed_low f e h m q = let g = f e in omega arith
+  pub renamed_low : (s ≡ NAME → w ≤ 512) → s ≡ NAME → (w ≡ 0 → ⊥) → w - 1 < 512
+  renamed_low f e h = let g = f e in omega arith
 
 -- ---- lengths
 
@@ -53,40 +56,29 @@ length-offsets [] at = refl
 length-offsets (r ∷ rs) at = ap suc (length-offsets rs (at + length r))
 
 -- ---- a record
-pub record Copying (log logtags ps out₀ : List ℕ) (s at end : ℕ) (out : List ℕ) (i p : ℕ) : Type 0 where
-  pub start : s < i
-  pub level : end ≡ suc s + get_or log s 0
-  pub within : i ≤ end
-  pub room : p + (end - i) ≡ at + get_or log s 0
+pub record Copying (log logtags ps out₀ : List ℕ) (s at : ℕ) (out : List ℕ) (i : ℕ) : Type 0 where
   pub long : length out ≡ 16384
-  pub same : sets out p (map (named ps) (between logtags log i end)) ≡ sets out₀ at (map (named ps) (rec_at log logtags s))
+  pub same : sets out (at + i) (map (named ps) (between logtags log (suc s + i) (suc s + get_or log s 0))) ≡ sets out₀ at (map (named ps) (rec_at log logtags s))
 
-module _ (log logtags ps out₀ : List ℕ) (s at : ℕ) (rec : Rec 512 log logtags s) (fit : at + get_or log s 0 ≤ 16384) where
-  pub copying_begin : length out₀ ≡ 16384 → (e : ℕ) → e ≡ get_or log s 0 → Copying log logtags ps out₀ s at (s + 1 + e) out₀ (s + 1) at
+module _ (log logtags ps out₀ : List ℕ) (s at : ℕ) (rec : Rec 512 log logtags s) where
+  pub copying_begin : length out₀ ≡ 16384 → Copying log logtags ps out₀ s at out₀ 0
   unfolding rec_at
-  copying_begin l e q = let z : s + 1 + e ≡ suc s + get_or log s 0 = omega arith in record { start = omega arith; level = z; within = omega arith; room = omega arith; long = l; same = rw (z, add-one s) }
+  copying_begin l = let y : at + 0 ≡ at = omega arith in let z : suc s + 0 ≡ suc s = omega arith in record { long = l; same = rw (y, z) }
 
-  module _ (end : ℕ) (out : List ℕ) (i p : ℕ) (inv : Copying log logtags ps out₀ s at end out i p) where
-    pub copying_low : i < end → get_or logtags i 0 ≡ NAME → get_or log i 0 ≤ 512
-    copying_low h = rec.low i inv.start (rw (← inv.level) h)
+  pub copying_low : (i : ℕ) → i < get_or log s 0 → get_or logtags (s + 1 + i) 0 ≡ NAME → get_or log (s + 1 + i) 0 ≤ 512
+  copying_low i h = rec.low (s + 1 + i) (omega arith) (omega arith)
 
-    pub copying_in : i < end → p < 16384
-    copying_in h = omega (arith, inv.room)
-
-    pub copying_next : i < end → (w : ℕ) → w ≡ named ps (get_or logtags i 0, get_or log i 0) → Copying log logtags ps out₀ s at end (set out p w) (i + 1) (p + 1)
+  module _ (out : List ℕ) (i : ℕ) (inv : Copying log logtags ps out₀ s at out i) where
+    pub copying_next : i < get_or log s 0 → (w : ℕ) → w ≡ named ps (get_or logtags (s + 1 + i) 0, get_or log (s + 1 + i) 0) → Copying log logtags ps out₀ s at (set out (at + i) w) (i + 1)
     copying_next h w e =
-        let b = between_next logtags log i end h (omega (arith, inv.level, rec.within, rec.tags_long)) (omega (arith, inv.level, rec.within, rec.log_long)) in
-        record {
-          start = let z = inv.start in omega arith;
-          level = inv.level;
-          within = omega arith;
-          room = let z = inv.room in omega arith;
-          long = length-set out p w ∙ inv.long;
-          same = rw (add-one i, add-one p, e) (rw b at inv.same);
-        }
+        let b = between_next logtags log (suc s + i) (suc s + get_or log s 0) (omega arith) (omega (arith, rec.within, rec.tags_long)) (omega (arith, rec.within, rec.log_long)) in
+        let x : s + 1 + i ≡ suc s + i = omega arith in
+        let y : at + (i + 1) ≡ suc (at + i) = omega arith in
+        let z : suc s + (i + 1) ≡ suc (suc s + i) = omega arith in
+        record { long = length-set out (at + i) w ∙ inv.long; same = rw (y, z, e, x) (rw b at inv.same) }
 
-    pub copying_done : end ≤ i → (out ≡ sets out₀ at (map (named ps) (rec_at log logtags s))) × (p ≡ at + get_or log s 0)
-    copying_done h = (rw (between_none logtags log i end h) at inv.same, (let z = inv.room in let y = inv.within in omega arith))
+    pub copying_done : get_or log s 0 ≤ i → out ≡ sets out₀ at (map (named ps) (rec_at log logtags s))
+    copying_done h = rw (between_none logtags log (suc s + i) (suc s + get_or log s 0) (omega arith)) at inv.same
 
 module _ (log logtags ss : List ℕ) (count : ℕ) where
   pub record Offering (out₀ : List ℕ) (at : ℕ) (out : List ℕ) (i o : ℕ) : Type 0 where

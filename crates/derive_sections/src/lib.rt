@@ -12,10 +12,9 @@ ghost use Rattle.derive_sections.specs.Rows.{tabs_of, Rec, Row, Rows, AppearingE
 
 use base_classes::NAME;
 use base_views::HEADER;
-use base_words::wide;
 use derive_state::{Log, LogTags, Starts};
 
-// Notes one name: after the n that were met, unless it is among them.
+// Notes one name: after the n that were met, unless it is among them. Its place is the word that will name it: its new number plus 1, or 0 for none yet.
 fn note(order: &mut [u32; 512], places: &mut [u32; 512], names: usize, n: usize, m: usize) -> usize
     requires { (m < names) × AppearingEnsures names (take n order.old) order.old places.old n }
     ensures { AppearingEnsures names (keep_n (take n order.old) m) order.new places.new result }
@@ -41,13 +40,11 @@ fn note_word(
     requires appearing_ensures { AppearingEnsures names (take n order.old) order.old places.old n }
     ensures { AppearingEnsures names (firsts (names_in ((s, w) ∷ [])) (take n order.old)) order.new places.new result }
 {
-    if s != NAME {
-        return n;
+    if s == NAME && w != 0 {
+        note(order, places, names, n, w as usize - 1)
+    } else {
+        n
     }
-    if w == 0 {
-        return n;
-    }
-    note(order, places, names, n, wide(w - 1))
 }
 
 // Notes the names of the record at s.
@@ -64,12 +61,9 @@ fn note_record(
     requires appearing_ensures { AppearingEnsures names (take n order.old) order.old places.old n }
     ensures { AppearingEnsures names (firsts (names_in (rec_at log.now logtags.now s)) (take n order.old)) order.new places.new result }
 {
-    let end = s + 1 + wide(log[s]);
-    let mut i = s + 1;
+    let end = s + 1 + log[s] as usize;
     let mut k = n;
-    while i < end {
-        let j = i;
-        i += 1;
+    for j in s + 1..end {
         k = note_word(order, places, names, k, logtags[j], log[j]);
     }
     k
@@ -90,12 +84,9 @@ fn note_table(
     requires appearing_ensures { AppearingEnsures names (take n order.old) order.old places.old n }
     ensures { AppearingEnsures names (firsts_r (recs_at log.now logtags.now (take count row.now)) (take n order.old)) order.new places.new result }
 {
-    let mut i = 0;
     let mut k = n;
-    while i < count {
-        let j = i;
-        i += 1;
-        k = note_record(log, logtags, order, places, names, k, wide(row[j]));
+    for j in 0..count {
+        k = note_record(log, logtags, order, places, names, k, row[j] as usize);
     }
     k
 }
@@ -114,12 +105,9 @@ pub fn appearing(
     requires appearing_ensures { AppearingEnsures names [] order.old places.old 0 }
     ensures { AppearingEnsures names (firsts_t (tabs_of log.now logtags.now (drop 1 starts.now) (drop 1 counts)) []) order.new places.new result }
 {
-    let mut t = 1;
     let mut k = 0;
-    while t < 8 {
-        let u = t;
-        t += 1;
-        k = note_table(log, logtags, &starts[u], counts[u], order, places, names, k);
+    for t in 1..8 {
+        k = note_table(log, logtags, &starts[t], counts[t], order, places, names, k);
     }
     k
 }
@@ -129,13 +117,11 @@ fn renamed(places: &[u32; 512], s: u8, w: u32) -> u32
     requires { s ≡ NAME → w ≤ 512 }
     ensures { result ≡ named places.now (s, w) }
 {
-    if s != NAME {
-        return w;
+    if s == NAME && w != 0 {
+        places[w as usize - 1]
+    } else {
+        w
     }
-    if w == 0 {
-        return 0;
-    }
-    places[wide(w - 1)]
 }
 
 // Writes the record at s, from `at` on; answers where it ends.
@@ -151,17 +137,11 @@ fn write_record(
     requires s_bound { (at + get_or log.now s 0 ≤ 16384) × (length out.old ≡ 16384) }
     ensures { (out.new ≡ sets out.old at (map (named places.now) (rec_at log.now logtags.now s))) × (result ≡ at + get_or log.now s 0) }
 {
-    let end = s + 1 + wide(log[s]);
-    let mut i = s + 1;
-    let mut p = at;
-    while i < end {
-        let j = i;
-        let q = p;
-        i += 1;
-        p += 1;
-        out[q] = renamed(places, logtags[j], log[j]);
+    let count = log[s] as usize;
+    for i in 0..count {
+        out[at + i] = renamed(places, logtags[s + 1 + i], log[s + 1 + i]);
     }
-    p
+    at + count
 }
 
 // Writes the offsets of a table's records, from `at` on.
@@ -177,13 +157,10 @@ fn write_offsets(
     requires count_bound { (at + count ≤ 16384) × (length out.old ≡ 16384) }
     ensures { out.new ≡ sets out.old at (offsets (recs_at log.now logtags.now (take count row.now)) count) }
 {
-    let mut i = 0;
     let mut o = count;
-    while i < count {
-        let j = i;
-        i += 1;
+    for j in 0..count {
         out[at + j] = o as u32;
-        o += wide(log[wide(row[j])]);
+        o += log[row[j] as usize] as usize;
     }
 }
 
@@ -201,12 +178,9 @@ fn write_records(
     requires row_bound { (at + lengths (recs_at log.now logtags.now (take count row.now)) ≤ 16384) × (length out.old ≡ 16384) }
     ensures { (out.new ≡ sets out.old at (joined (named places.now) (recs_at log.now logtags.now (take count row.now)))) × (result ≡ at + lengths (recs_at log.now logtags.now (take count row.now))) }
 {
-    let mut i = 0;
     let mut p = at;
-    while i < count {
-        let j = i;
-        i += 1;
-        p = write_record(log, logtags, places, out, wide(row[j]), p);
+    for j in 0..count {
+        p = write_record(log, logtags, places, out, row[j] as usize, p);
     }
     p
 }
@@ -234,12 +208,9 @@ fn table_size(log: &Log, logtags: &LogTags, row: &[u32; 512], count: usize) -> u
     requires { Row 512 log.now logtags.now row.now count }
     ensures { (result ≡ table_size (recs_at log.now logtags.now (take count row.now))) × (result ≤ 512 * 16384) }
 {
-    let mut i = 0;
     let mut o = count;
-    while i < count {
-        let j = i;
-        i += 1;
-        o += wide(log[wide(row[j])]);
+    for j in 0..count {
+        o += log[row[j] as usize] as usize;
     }
     o
 }
@@ -258,12 +229,9 @@ pub fn write_tables(
     requires counts_bound { (at + sizes (tabs_of log.now logtags.now starts.now counts) ≤ 16384) × (length out.old ≡ 16384) }
     ensures { (out.new ≡ sets out.old at (tables (named places.now) (tabs_of log.now logtags.now starts.now counts))) × (result ≡ at + sizes (tabs_of log.now logtags.now starts.now counts)) }
 {
-    let mut t = 0;
     let mut p = at;
-    while t < 8 {
-        let u = t;
-        t += 1;
-        p = write_table(log, logtags, places, &starts[u], counts[u], out, p);
+    for t in 0..8 {
+        p = write_table(log, logtags, places, &starts[t], counts[t], out, p);
     }
     p
 }
@@ -273,12 +241,9 @@ pub fn all_sizes(log: &Log, logtags: &LogTags, starts: &Starts, counts: [usize; 
     requires { Rows 512 log.now logtags.now starts.now counts }
     ensures { (result ≡ sizes (tabs_of log.now logtags.now starts.now counts)) × (result ≤ 4096 * 16384) }
 {
-    let mut t = 0;
     let mut p = 0;
-    while t < 8 {
-        let u = t;
-        t += 1;
-        p += table_size(log, logtags, &starts[u], counts[u]);
+    for t in 0..8 {
+        p += table_size(log, logtags, &starts[t], counts[t]);
     }
     p
 }
@@ -296,14 +261,11 @@ pub fn write_heads(
     requires out_len { length out.old ≡ 16384 }
     ensures { out.new ≡ sets out.old 2 (heads (tabs_of log.now logtags.now starts.now counts) 20 pairs) }
 {
-    let mut t = 0;
     let mut p = HEADER;
-    while t < 8 {
-        let u = t;
-        t += 1;
-        out[2 + 2 * u] = counts[u] as u32;
-        out[3 + 2 * u] = p as u32;
-        p += table_size(log, logtags, &starts[u], counts[u]);
+    for t in 0..8 {
+        out[2 + 2 * t] = counts[t] as u32;
+        out[3 + 2 * t] = p as u32;
+        p += table_size(log, logtags, &starts[t], counts[t]);
     }
     out[18] = pairs;
     out[19] = p as u32;

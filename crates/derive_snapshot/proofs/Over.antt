@@ -1,6 +1,5 @@
 -- An operation that restores what was saved where it does not fit leaves the state as it was there.
-use mathlib.Core.Path.{◌≡◌, refl, sym, ◌∙◌}
-use mathlib.Core.Bool.{Bool, true, false, false≢true}
+use mathlib.Core.Path.{◌∙◌}
 use mathlib.Core.List.{List}
 use Prim.Native.Nat.{ℕ}
 use Rattle.model.specs.Imports.{Derived}
@@ -9,12 +8,6 @@ use Rattle.derive_state.specs.declared.Sizes.{Sizes}
 use Rattle.derive_state.proofs.State.{st_stays, kept-stays}
 use Rattle.derive_snapshot.specs.Snapshot.{SaveEnsures, RestoreEnsures}
 use Rattle.derive_snapshot.proofs.Saved.{st_saved, kept_saved}
-
-pub restored : (full : Bool) (starts maps s m : List (List ℕ)) → full ≡ true → RestoreEnsures full starts maps s m starts maps
-restored full starts maps s m q = record { stays = λ z. (refl, refl); taken = λ z. absurd (false≢true (sym z ∙ q)) }
-
-pub not_restored : (full : Bool) (starts maps s m : List (List ℕ)) → full ≡ false → RestoreEnsures full starts maps s m s m
-not_restored full starts maps s m q = record { stays = λ z. absurd (false≢true (sym q ∙ z)); taken = λ z. (refl, refl) }
 
 pub whole_of : (words log₀ logtags₀ : List ℕ) (starts₀ maps₀ : List (List ℕ)) (buckets₀ : List ℕ) (e : Sizes) → ValidArrays log₀ logtags₀ starts₀ maps₀ buckets₀ e
     → (s₀ m₀ : List (List ℕ)) → SaveEnsures words starts₀ maps₀ e s₀ m₀

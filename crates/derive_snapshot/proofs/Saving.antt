@@ -1,13 +1,11 @@
--- The loops that save starts and maps: word by word, and row by row.
-use mathlib.Core.Path.{◌≡◌, refl, sym, ap, ◌∙◌}
+-- The loops that save starts and maps, row by row.
+use mathlib.Core.Path.{◌≡◌, ap, ◌∙◌}
 use mathlib.Core.Logic.{⊎_elim}
-use mathlib.Core.List.{List, [], ◌∷◌, ◌++◌}
+use mathlib.Core.List.{List, []}
 use Prim.Native.Nat.{ℕ, zero, suc, ◌+◌, ◌≤◌, ◌<◌}
-use native.Mathlib.Nat.{le_refl}
-use native.Mathlib.Numerals.{add-one}
 use native.Mathlib.Omega.{arith}
-use lib.ListN.{length, get_or, set, take, replicate, length-set, length-replicate}
-use lib.Seq.{take-suc, take-suc-set, take-take, get_or-set_same, get_or-set_other}
+use lib.ListN.{length, get_or, set, replicate, length-set, length-replicate}
+use lib.Seq.{get_or-set_same, get_or-set_other}
 use Rattle.model.specs.Module.{count_at}
 use Rattle.derive_state.specs.Source.{Source}
 use Rattle.derive_state.specs.Held.{row, ValidArrays}
@@ -16,23 +14,6 @@ use Rattle.derive_state.proofs.State.{same_or}
 use Rattle.derive_state.proofs.Fresh.{rows_at}
 use Rattle.derive_imports.proofs.Sources.{count_few}
 use Rattle.derive_snapshot.specs.Snapshot.{Prefix, Prefixes}
-
--- ---- a row
-pub row-begin : (from to : List ℕ) → length to ≡ 512 → Prefix 0 from to to
-row-begin from to h = record { long = h; same = refl; low = λ l. l }
-
-module _ (from to₀ to : List ℕ) (i : ℕ) (P : Prefix i from to₀ to) where
-  pub row_next : (n : ℕ) → length from ≡ 512 → n ≤ 512 → i < n → Prefix (i + 1) from to₀ (set to i (get_or from i 0))
-  row_next n h f l =
-      let b = P.long in
-      record {
-        long = length-set to i (get_or from i 0) ∙ b;
-        same = rw (add-one i) (take-suc-set to i (get_or from i 0) (omega arith) ∙ ap (λ (xs : List ℕ). xs ++ (get_or from i 0 ∷ [])) P.same ∙ sym (take-suc from i 0 (omega arith)));
-        low = λ z k. ⊎_elim (λ (q : k ≡ i). rw (q, get_or-set_same to i (get_or from i 0) 0 (omega arith)) (le_refl _)) (λ (ne : k ≡ i → ⊥). rw (get_or-set_other to i k (get_or from i 0) 0 ne) (P.low z k)) (same_or k i);
-      }
-
-  pub row_done : (n : ℕ) → n ≤ i → Prefix n from to₀ to
-  row_done n h = record { long = P.long; same = sym (take-take n i to h) ∙ ap (take n) P.same ∙ take-take n i from h; low = P.low }
 
 -- ---- the rows
 module _ (n t : ℕ) (c : ℕ → ℕ) (from to : List (List ℕ)) (P : Prefixes n t c from to) where

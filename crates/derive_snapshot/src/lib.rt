@@ -15,11 +15,7 @@ fn save_row(row: &[u32; 512], n: usize, to: &mut [u32; 512])
     requires { (length row.now ≡ 512) × (length to.old ≡ 512) × (n ≤ 512) }
     ensures { Prefix n row.now to.old to.new }
 {
-    let mut i = 0;
-    while i < n {
-        to[i] = row[i];
-        i += 1;
-    }
+    to[..n].copy_from_slice(&row[..n]);
 }
 
 // Saves the starts of the derived records.
@@ -27,10 +23,7 @@ fn save_starts(starts: &Starts, ends: Sizes, s: &mut [[u32; 512]; 8])
     requires { Prefixes 8 0 (λ t. get_or ends.counts t 0) starts.now s.old }
     ensures { Prefixes 8 8 (λ t. get_or ends.counts t 0) starts.now s.new }
 {
-    let mut i = 0;
-    while i < 8 {
-        let t = i;
-        i += 1;
+    for t in 0..8 {
         save_row(&starts[t], ends.counts[t] as usize, &mut s[t]);
     }
 }
@@ -40,10 +33,7 @@ fn save_maps(words: &Words, maps: &Maps, m: &mut [[u32; 512]; 6])
     requires { Prefixes 6 0 (λ t. count_at t words.now) maps.now m.old }
     ensures { Prefixes 6 6 (λ t. count_at t words.now) maps.now m.new }
 {
-    let mut i = 0;
-    while i < 6 {
-        let t = i;
-        i += 1;
+    for t in 0..6 {
         save_row(&maps[t], count(words, t), &mut m[t]);
     }
 }

@@ -1,18 +1,24 @@
--- An answer that is not the first is a refusal, and its number is not 0.
+-- No refusal's number is 0.
 use mathlib.Core.Path.{◌≡◌, refl}
 use Prim.Native.Nat.{ℕ, suc}
-use Rattle.intake.specs.Taken.{number_of}
-use Rattle.intake.specs.declared.Taken.{Taken}
-use Rattle.intake.specs.declared.Taken.TheVariants.{Accepted, Size, Layout, Range, Reference, Names, Scope}
+use Rattle.base_refusals.specs.Numbers.{number_of}
+use Rattle.base_refusals.specs.declared.Refusal.{Refusal}
+use Rattle.base_refusals.specs.declared.Refusal.TheVariants as refusal
 
-abbrev pub NotFirst : Taken → Type 0
-NotFirst t = (n : ℕ) → t ≡ Accepted n → ⊥
-
-pub refused_by : (t : Taken) → NotFirst t → (k : ℕ) × (number_of t ≡ suc k)
-refused_by (Accepted n) h = absurd (h n refl)
-refused_by Size h = (0, refl)
-refused_by Layout h = (1, refl)
-refused_by Range h = (2, refl)
-refused_by Reference h = (3, refl)
-refused_by Names h = (4, refl)
-refused_by Scope h = (5, refl)
+pub refused_by : (e : Refusal) → (k : ℕ) × (number_of e ≡ suc k)
+refused_by refusal.BadSize = (0, refl)
+refused_by refusal.BadLayout = (1, refl)
+refused_by refusal.BadRange = (2, refl)
+refused_by refusal.BadReference = (3, refl)
+refused_by refusal.BadNames = (4, refl)
+refused_by refusal.BadScope = (5, refl)
+refused_by refusal.ShortOutput = (6, refl)
+refused_by refusal.OriginalNotFound = (7, refl)
+refused_by refusal.ReplacementNotFound = (8, refl)
+refused_by refusal.ArgumentTypes = (9, refl)
+refused_by refusal.ResultTypes = (10, refl)
+refused_by (refusal.Ring left) = (11, refl)
+refused_by refusal.NumberGiven = (12, refl)
+refused_by refusal.NoSource = (19, refl)
+refused_by refusal.Full = (20, refl)
+refused_by refusal.UnknownRing = (21, refl)

@@ -6,9 +6,7 @@ use Prim.Native.Nat.{ℕ}
 use native.Mathlib.Omega.{arith}
 use lib.ListN.{length}
 use borrow.Author.Tests.{not-true, not-false}
-use Rattle.base_words.specs.Words.{words_of}
-use Rattle.model.specs.Outcome.{Laid, laid, bad, strange}
-use Rattle.model.specs.Module.{Module, read, sized}
+use Rattle.model.specs.Module.{Module}
 use Rattle.model.specs.Taped.{Taped, Tape}
 use Rattle.model.specs.Numbers.{numbered}
 use Rattle.model.specs.Lower.{lower}
@@ -17,14 +15,13 @@ use Rattle.model.specs.Scope.{in_scope}
 use Rattle.model.specs.Intake.{tested, verdict, intake_of, Passes}
 use Rattle.intake_numbers.specs.Passes.{TestEnsures}
 use Rattle.intake_scope.specs.Functions.{InRange}
-use Rattle.intake_layout.specs.Layout.{LayOutEnsures, size, misfit, unknown, shows, held, layout_of}
-use Rattle.intake_layout.specs.declared.Layout.{Layout}
-use Rattle.intake_layout.specs.declared.Layout.TheVariants.{Fits, Size as LaidSize, Misfit as LaidMisfit, Strange}
-use Rattle.intake_layout.proofs.Held.{HoldsImage, holds}
+use Rattle.intake_layout.specs.Layout.{LayOutEnsures}
+use Rattle.intake_layout.proofs.Held.{HoldsImage, holds, refused_by}
 use Rattle.model.specs.Image.{wuldgisp_intake, IntakeEnsures}
 use Rattle.intake.specs.Taken.{number_of, Tested, TakeInEnsures}
-use Rattle.intake.specs.declared.Taken.{Taken}
-use Rattle.intake.specs.declared.Taken.TheVariants.{Accepted, Size, Layout as TakenLayout, Range, Reference, Names, Scope}
+use Rattle.std.specs.Prelude.{Result, Ok, Err}
+use Rattle.base_refusals.specs.declared.Refusal.{Refusal}
+use Rattle.base_refusals.specs.declared.Refusal.TheVariants.{BadRange, BadReference, BadNames, BadScope}
 use Rattle.intake.proofs.Few.{numbers_few}
 
 -- a test of the module that words and tags hold
@@ -32,11 +29,8 @@ abbrev pub Of : List ℕ → List ℕ → ℕ → Bool → (Module → Bool) →
 Of words tags n b f = (m : Module) → Taped words tags n m → b ≡ f m
 
 module _ (words tags : List ℕ) (n : ℕ) where
-  refused : (r : Taken) → ((k : ℕ) → r ≡ Accepted k → k ≡ n) → ((m : Module) → Taped words tags n m → number_of r ≡ tested m) → Tested r words tags n
-  refused r f g = record { same = g; many = f }
-
   module _ (b₃ : Bool) (t₃ : TestEnsures b₃ words tags n numbered) where
-    pub number_fails : not b₃ ≡ true → Tested Range words tags n
+    pub number_fails : not b₃ ≡ true → Tested (Err BadRange) words tags n
     unfolding tested
     number_fails e = record { same = λ m t. rw (tested, sym (t₃.same m t) ∙ not-true b₃ e); many = λ k q. let z : ◌≡◌ {A = ℕ} 0 1 = cc in absurd (omega arith) }
 
@@ -54,7 +48,7 @@ module _ (words tags : List ℕ) (n : ℕ) where
       scope_ready = record { holds = first }
 
       module _ (b₄ : Bool) (t₄ : Of words tags n b₄ lower) where
-        pub order_fails : not b₄ ≡ true → Tested Reference words tags n
+        pub order_fails : not b₄ ≡ true → Tested (Err BadReference) words tags n
         unfolding tested
         order_fails e = record { same = λ m t. rw (tested, first m t, sym (t₄ m t) ∙ not-true b₄ e); many = λ k q. let z : ◌≡◌ {A = ℕ} 0 1 = cc in absurd (omega arith) }
 
@@ -66,7 +60,7 @@ module _ (words tags : List ℕ) (n : ℕ) where
           lowers_right = second
 
           module _ (b₅ : Bool) (t₅ : Of words tags n b₅ named) where
-            pub name_fails : not b₅ ≡ true → Tested Names words tags n
+            pub name_fails : not b₅ ≡ true → Tested (Err BadNames) words tags n
             unfolding tested
             name_fails e = record { same = λ m t. rw (tested, first m t, second m t, sym (t₅ m t) ∙ not-true b₅ e); many = λ k q. let z : ◌≡◌ {A = ℕ} 0 1 = cc in absurd (omega arith) }
 
@@ -75,11 +69,11 @@ module _ (words tags : List ℕ) (n : ℕ) where
               third m t = sym (t₅ m t) ∙ not-false b₅ y₅
 
               module _ (b₆ : Bool) (t₆ : TestEnsures b₆ words tags n in_scope) where
-                pub scope_fails : not b₆ ≡ true → Tested Scope words tags n
+                pub scope_fails : not b₆ ≡ true → Tested (Err BadScope) words tags n
                 unfolding tested
                 scope_fails e = record { same = λ m t. rw (tested, first m t, second m t, third m t, sym (t₆.same m t) ∙ not-true b₆ e); many = λ k q. let z : ◌≡◌ {A = ℕ} 0 1 = cc in absurd (omega arith) }
 
-                pub all_pass : not b₆ ≡ false → Tested (Accepted n) words tags n
+                pub all_pass : not b₆ ≡ false → Tested (Ok n) words tags n
                 unfolding tested
                 all_pass e = record { same = λ m t. sym (rw (tested, first m t, second m t, third m t, sym (t₆.same m t) ∙ not-false b₆ e)); many = λ k q. cc }
 
@@ -96,60 +90,18 @@ passes m h = go (numbered m) refl (lower m) refl (named m) refl (in_scope m) ref
     go false a b e c f d g h = absurd (omega arith)
 
 -- ---- from bytes
-module _ (bytes words tags words₁ tags₁ : List ℕ) (words_long : length words ≡ 16384) (tags_long : length tags ≡ 16384) (r : Layout) (got : LayOutEnsures r words₁ tags₁ bytes words tags) where
-  none : (q : Taken) → ((k : ℕ) → q ≡ Accepted k → ⊥) → number_of q ≡ intake_of (length bytes) (words_of bytes) → TakeInEnsures q words₁ tags₁ bytes
-  none q f e = record { same = e; held = λ n g. absurd (f n g) }
+module _ (bytes words tags words₁ tags₁ : List ℕ) (words_long : length words ≡ 16384) (tags_long : length tags ≡ 16384) where
+  pub not_laid : (e : Refusal) → LayOutEnsures (Err e) words₁ tags₁ bytes words tags → TakeInEnsures (Err e) words₁ tags₁ bytes
+  not_laid e got = record { same = refused_by bytes words tags words₁ tags₁ 0 words_long tags_long e got; held = λ n q. cc }
 
-  of_size : (b : Bool) → sized (length bytes) (words_of bytes) ≡ b → shows r words₁ tags₁ ≡ elim b [ true ↦ held (words_of bytes) words tags (read (words_of bytes)) | false ↦ size ] → r ≡ LaidSize → 1 ≡ intake_of (length bytes) (words_of bytes)
-  unfolding shows intake_of held
-  of_size true s g e = absurd (not_held (read (words_of bytes)) (rw e at g))
-    where
-      not_held : (x : Laid Module) → size ≡ held (words_of bytes) words tags x → ⊥
-      not_held (laid m) q = let z : ◌≡◌ {A = ℕ} 0 1 = cc in omega arith
-      not_held bad q = let z : ◌≡◌ {A = ℕ} 0 1 = cc in omega arith
-      not_held strange q = let z : ◌≡◌ {A = ℕ} 0 1 = cc in omega arith
-  of_size false s g e = rw (intake_of, s)
-
-  pub size_fails : r ≡ LaidSize → TakeInEnsures Size words₁ tags₁ bytes
-  unfolding layout_of
-  size_fails e = none Size (λ k q. let z : ◌≡◌ {A = ℕ} 0 1 = cc in omega arith) (of_size (sized (length bytes) (words_of bytes)) refl got.same e)
-
-  of_misfit : (b : Bool) → sized (length bytes) (words_of bytes) ≡ b → shows r words₁ tags₁ ≡ elim b [ true ↦ held (words_of bytes) words tags (read (words_of bytes)) | false ↦ size ] → r ≡ LaidMisfit → 2 ≡ intake_of (length bytes) (words_of bytes)
-  unfolding shows intake_of held verdict
-  of_misfit true s g e = rw (intake_of, s) (go (read (words_of bytes)) (rw e at g))
-    where
-      go : (x : Laid Module) → misfit ≡ held (words_of bytes) words tags x → 2 ≡ verdict x
-      go (laid m) q = let z : ◌≡◌ {A = ℕ} 0 1 = cc in absurd (omega arith)
-      go bad q = refl
-      go strange q = let z : ◌≡◌ {A = ℕ} 0 1 = cc in absurd (omega arith)
-  of_misfit false s g e = let k : misfit ≡ size = rw e at g in let z : ◌≡◌ {A = ℕ} 0 1 = cc in absurd (omega arith)
-
-  pub misfit_fails : r ≡ LaidMisfit → TakeInEnsures TakenLayout words₁ tags₁ bytes
-  unfolding layout_of
-  misfit_fails e = none TakenLayout (λ k q. let z : ◌≡◌ {A = ℕ} 0 1 = cc in omega arith) (of_misfit (sized (length bytes) (words_of bytes)) refl got.same e)
-
-  of_strange : (b : Bool) → sized (length bytes) (words_of bytes) ≡ b → shows r words₁ tags₁ ≡ elim b [ true ↦ held (words_of bytes) words tags (read (words_of bytes)) | false ↦ size ] → r ≡ Strange → 3 ≡ intake_of (length bytes) (words_of bytes)
-  unfolding shows intake_of held verdict
-  of_strange true s g e = rw (intake_of, s) (go (read (words_of bytes)) (rw e at g))
-    where
-      go : (x : Laid Module) → unknown ≡ held (words_of bytes) words tags x → 3 ≡ verdict x
-      go (laid m) q = let z : ◌≡◌ {A = ℕ} 0 1 = cc in absurd (omega arith)
-      go bad q = let z : ◌≡◌ {A = ℕ} 0 1 = cc in absurd (omega arith)
-      go strange q = refl
-  of_strange false s g e = let k : unknown ≡ size = rw e at g in let z : ◌≡◌ {A = ℕ} 0 1 = cc in absurd (omega arith)
-
-  pub strange_fails : r ≡ Strange → TakeInEnsures Range words₁ tags₁ bytes
-  unfolding layout_of
-  strange_fails e = none Range (λ k q. let z : ◌≡◌ {A = ℕ} 0 1 = cc in omega arith) (of_strange (sized (length bytes) (words_of bytes)) refl got.same e)
-
-  module _ (n : ℕ) (e : r ≡ Fits n) where
+  module _ (n : ℕ) (got : LayOutEnsures (Ok n) words₁ tags₁ bytes words tags) where
     held_so : HoldsImage bytes words₁ tags₁ n
-    held_so = holds bytes words tags words₁ tags₁ n words_long tags_long (rw e at got)
+    held_so = holds bytes words tags words₁ tags₁ n words_long tags_long got
 
     pub tape_so : Tape words₁ tags₁ n
     tape_so = record { holds = held_so.module_of_lem; taped = held_so.taped }
 
-    pub tested_so : (q : Taken) → Tested q words₁ tags₁ n → TakeInEnsures q words₁ tags₁ bytes
+    pub tested_so : (q : Result ℕ Refusal) → Tested q words₁ tags₁ n → TakeInEnsures q words₁ tags₁ bytes
     unfolding intake_of verdict
     tested_so q t =
         let m = held_so.module_of_lem in
@@ -166,6 +118,6 @@ module _ (bytes words tags words₁ tags₁ : List ℕ) (words_long : length wor
           };
         }
 
-pub answer_so : (bytes words tags : List ℕ) (q : Taken) (r : ℕ) → TakeInEnsures q words tags bytes → r ≡ number_of q → IntakeEnsures r bytes
+pub answer_so : (bytes words tags : List ℕ) (q : Result ℕ Refusal) (r : ℕ) → TakeInEnsures q words tags bytes → r ≡ number_of q → IntakeEnsures r bytes
 unfolding wuldgisp_intake
 answer_so bytes words tags q r t e = record { answer = e ∙ t.same }

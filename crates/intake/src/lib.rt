@@ -1,74 +1,43 @@
-// Intake: the six tests of document 01 in sequence, on any bytes. Every exported function begins with it.
+// Intake: the six tests of an image in sequence, on any bytes. Every exported function begins with it.
 #![tactic(auto)]
 
 ghost use Rattle.std.specs.Prelude.{◌≡◌, length};
 ghost use Rattle.model.specs.Taped.{Tape};
 ghost use Rattle.model.specs.Image.{IntakeEnsures};
-ghost use Rattle.intake.specs.Taken.{number_of, Tested, TakeInEnsures};
+ghost use Rattle.intake.specs.Taken.{Tested, TakeInEnsures};
 
+use base_refusals::Refusal;
 use base_words::{Tags, Words};
-use intake_layout::Layout;
 
-// The answer: the image is accepted, with its count of words; or the test that failed, by document 01's numbers 1 to 6.
-#[derive(Clone, Copy)]
-pub enum Taken {
-    Accepted(usize),
-    Size,
-    Layout,
-    Range,
-    Reference,
-    Names,
-    Scope,
-}
-
-// Tests 3 to 6, of words and tags that hold an image.
-fn test(words: &Words, tags: &Tags, n: usize) -> Taken
+// Tests 3 to 6, of words and tags that hold an image of n words.
+fn test(words: &Words, tags: &Tags, n: usize) -> Result<usize, Refusal>
     requires { Tape words.now tags.now n }
     ensures { Tested result words.now tags.now n }
 {
     if !intake_numbers::numbered(words, tags, n) {
-        return Taken::Range;
+        return Err(Refusal::BadRange);
     }
     if !intake_lower::lower(words, tags, n) {
-        return Taken::Reference;
+        return Err(Refusal::BadReference);
     }
     if !intake_names::named(words, tags, n) {
-        return Taken::Names;
+        return Err(Refusal::BadNames);
     }
     if !intake_scope::in_scope(words, tags, n) {
-        return Taken::Scope;
+        return Err(Refusal::BadScope);
     }
-    Taken::Accepted(n)
+    Ok(n)
 }
 
-// Takes an image in. If it is accepted, words and tags hold it; if it is refused, nothing is promised about them.
-pub fn take_in(image: &[u8], words: &mut Words, tags: &mut Tags) -> Taken
+// Takes an image in: its count of words, or the refusal of the first test that fails. If it is accepted, words and tags hold it; if it is refused, nothing is
+// promised about them.
+pub fn take_in(image: &[u8], words: &mut Words, tags: &mut Tags) -> Result<usize, Refusal>
     requires words_len { length words.old ≡ 16384 }
     requires tags_len { length tags.old ≡ 16384 }
     ensures { TakeInEnsures result words.new tags.new image.now }
 {
-    let r = intake_layout::lay_out(image, words, tags);
-    match r {
-        Layout::Fits(n) => test(words, tags, n),
-        Layout::Size => Taken::Size,
-        Layout::Misfit => Taken::Layout,
-        Layout::Strange => Taken::Range,
-    }
-}
-
-// The refusal of each answer; 0 is accepted.
-pub fn number(taken: Taken) -> u32
-    ensures { result ≡ number_of taken }
-{
-    match taken {
-        Taken::Accepted(_) => 0,
-        Taken::Size => base_refusals::BAD_SIZE,
-        Taken::Layout => base_refusals::BAD_LAYOUT,
-        Taken::Range => base_refusals::BAD_RANGE,
-        Taken::Reference => base_refusals::BAD_REFERENCE,
-        Taken::Names => base_refusals::BAD_NAMES,
-        Taken::Scope => base_refusals::BAD_SCOPE,
-    }
+    let n = intake_layout::lay_out(image, words, tags)?;
+    test(words, tags, n)
 }
 
 // Words and tags, to take an image in with.
@@ -84,11 +53,14 @@ pub fn fresh_tags() -> [u8; 16384]
     [0; 16384]
 }
 
-// Intake's number for an image.
+// Intake's number for an image: 0 if it is accepted, else that of the refusal.
 pub fn intake(image: &[u8]) -> u32
     ensures { IntakeEnsures result image.now }
 {
     let mut words = fresh_words();
     let mut tags = fresh_tags();
-    number(take_in(image, &mut words, &mut tags))
+    match take_in(image, &mut words, &mut tags) {
+        Ok(_) => 0,
+        Err(refusal) => refusal.number(),
+    }
 }

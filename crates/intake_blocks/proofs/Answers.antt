@@ -1,77 +1,71 @@
 -- The way through a block, and answers. At every turn of a loop, what is left to do gives the answer of the whole.
-use mathlib.Core.Path.{◌≡◌, refl}
+use mathlib.Core.Path.{◌≡◌, refl, sym, ap}
 use mathlib.Core.Bool.{Bool, true, false, ◌||◌}
 use mathlib.Core.List.{List}
-use Prim.Native.Nat.{ℕ, suc, ◌+◌, ◌-◌, ◌^◌, ◌≤◌, ◌<◌}
-use native.Mathlib.Nat.{le_refl}
+use Prim.Native.Nat.{ℕ, suc, ◌+◌, ◌-◌, ◌≤◌, ◌<◌}
 use native.Mathlib.Omega.{arith}
 use lib.ListN.{get_or}
 use Rattle.intake_statements.specs.Tape.{Steps, steps_next, stepped}
-use Rattle.intake_blocks.specs.Found.{told, kept_of}
+use Rattle.std.specs.Bool.{then_some}
+use Rattle.intake_blocks.specs.declared.Flow.{Flow}
+use Rattle.intake_blocks.specs.declared.Flow.TheVariants.{Through, Continues}
+use Rattle.intake_blocks.specs.Found.{flow_of, told, kept_of}
 
 -- ---- through a block
-pub record Skipping (ws : List ℕ) (n₀ i₀ n i : ℕ) : Type 0 where
-  pub left : Steps ws n i
-  pub same : stepped n ws i ≡ stepped n₀ ws i₀
+pub record Skipping (ws : List ℕ) (n₀ i₀ k i : ℕ) : Type 0 where
+  pub left : Steps ws (n₀ - k) i
+  pub same : stepped (n₀ - k) ws i ≡ stepped n₀ ws i₀
 
 steps_split : {ws : List ℕ} {m i : ℕ} → Steps ws (suc m) i → (i < 16384) × ((i + get_or ws i 0 ≤ 16384) × Steps ws m (i + get_or ws i 0))
 steps_split (steps_next a b s) = (a, (b, s))
 
 module _ (ws : List ℕ) (n₀ i₀ : ℕ) where
-  pub skip_begin : Steps ws n₀ i₀ → Skipping ws n₀ i₀ n₀ i₀
-  skip_begin s = record { left = s; same = refl }
+  pub skip_begin : Steps ws n₀ i₀ → Skipping ws n₀ i₀ 0 i₀
+  skip_begin s = let e : n₀ - 0 ≡ n₀ = omega arith in record { left = rw e s; same = ap (λ n. stepped n ws i₀) e }
 
-  module _ (n i : ℕ) (inv : Skipping ws n₀ i₀ n i) where
-    pub skip_in : 0 < n → i < 16384
-    skip_in h = let e : n ≡ suc (n - 1) = omega arith in (steps_split (rw e at inv.left)).0
+  module _ (k i : ℕ) (inv : Skipping ws n₀ i₀ k i) (h : k < n₀) where
+    next : n₀ - k ≡ suc (n₀ - (k + 1))
+    next = omega arith
 
-    pub skip_far : 0 < n → i + get_or ws i 0 ≤ 16384
-    skip_far h = let e : n ≡ suc (n - 1) = omega arith in (steps_split (rw e at inv.left)).1.0
+    pub skip_in : i < 16384
+    skip_in = (steps_split (rw next at inv.left)).0
 
-    pub skip_next : 0 < n → (w : ℕ) → (w ≡ get_or ws i 0) × (w < 2 ^ 32) → Skipping ws n₀ i₀ (n - 1) (i + w)
+    pub skip_far : i + get_or ws i 0 ≤ 16384
+    skip_far = (steps_split (rw next at inv.left)).1.0
+
+    pub skip_next : Skipping ws n₀ i₀ (k + 1) (i + get_or ws i 0)
     unfolding stepped
-    skip_next h w is =
-        let e : n ≡ suc (n - 1) = omega arith in
-        record {
-          left = rw is.0 (steps_split (rw e at inv.left)).1.1;
-          same = rw is.0 (rw e at inv.same);
-        }
+    skip_next = record { left = (steps_split (rw next at inv.left)).1.1; same = rw next at inv.same }
 
-    pub skip_done : n ≤ 0 → i ≡ stepped n₀ ws i₀
-    unfolding stepped
-    skip_done h = let e : n ≡ 0 = omega arith in rw e at inv.same
+  pub skip_done : (k i : ℕ) → Skipping ws n₀ i₀ k i → n₀ ≤ k → i ≡ stepped n₀ ws i₀
+  unfolding stepped
+  skip_done k i inv h = let e : n₀ - k ≡ 0 = omega arith in rw e at inv.same
 
 -- ---- answers
-pub told-fine : (b : Bool) → b ≡ true → 1 ≡ told b false
-unfolding told
-told-fine b h = rw h
+pub found_is : (b : Bool) → then_some b Through ≡ told b false
+unfolding told flow_of
+found_is true = refl
+found_is false = refl
 
-pub told_wrong : (b : Bool) → b ≡ false → 0 ≡ told b false
-unfolding told
-told_wrong b h = rw h
+other : Through ≡ Continues → ⊥
+other e = cc
 
-pub joined-cut : (a b : ℕ) → a ≡ 2 → (h g : Bool) → a ≡ told true h → b ≡ told true g → 2 ≡ told true (h || g)
-unfolding told
-joined-cut a b e true g p q = refl
-joined-cut a b e false g p q = absurd (omega arith)
+pub then_through : (b : Flow) (h g : Bool) → Through ≡ flow_of h → b ≡ flow_of g → b ≡ flow_of (h || g)
+unfolding flow_of
+then_through b true g p q = absurd (other p)
+then_through b false g p q = q
 
-pub joined-rest : (a b : ℕ) → (a ≡ 2 → ⊥) → (h g : Bool) → a ≡ told true h → b ≡ told true g → b ≡ told true (h || g)
-unfolding told
-joined-rest a b n true g p q = absurd (n p)
-joined-rest a b n false g p q = q
+pub then_continues : (h g : Bool) → Continues ≡ flow_of h → Continues ≡ flow_of (h || g)
+unfolding flow_of
+then_continues true g p = refl
+then_continues false g p = absurd (other (sym p))
 
-pub kept-cut : (cut keep fin : ℕ) → cut ≡ 2 → ((h : Bool) → cut ≡ told true h → fin ≡ kept_of h keep fin) × (fin ≤ keep → fin ≤ fin)
-unfolding told kept_of
-kept-cut cut keep fin e = (go, λ q. le_refl fin)
-  where
-    go : (h : Bool) → cut ≡ told true h → fin ≡ kept_of h keep fin
-    go true p = refl
-    go false p = absurd (omega arith)
+pub kept_through : (keep fin : ℕ) (h : Bool) → Through ≡ flow_of h → keep ≡ kept_of h keep fin
+unfolding flow_of kept_of
+kept_through keep fin true p = absurd (other p)
+kept_through keep fin false p = refl
 
-pub kept-rest : (cut keep fin : ℕ) → (cut ≡ 2 → ⊥) → ((h : Bool) → cut ≡ told true h → keep ≡ kept_of h keep fin) × (fin ≤ keep → fin ≤ keep)
-unfolding told kept_of
-kept-rest cut keep fin n = (go, λ q. q)
-  where
-    go : (h : Bool) → cut ≡ told true h → keep ≡ kept_of h keep fin
-    go true p = absurd (n p)
-    go false p = refl
+pub kept_continues : (keep fin : ℕ) (h : Bool) → Continues ≡ flow_of h → fin ≡ kept_of h keep fin
+unfolding flow_of kept_of
+kept_continues keep fin true p = refl
+kept_continues keep fin false p = absurd (other (sym p))

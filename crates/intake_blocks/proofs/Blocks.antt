@@ -2,8 +2,9 @@
 use mathlib.Core.Path.{◌≡◌, refl, sym, ap, ◌∙◌, subst}
 use mathlib.Core.Logic.{◌⊎◌, inl, inr}
 use mathlib.Core.Bool.{Bool, true, false, ◌||◌}
+use Rattle.std.proofs.Math.Bool.{or_assoc}
 use mathlib.Core.List.{List, []}
-use Prim.Native.Nat.{ℕ, ◌+◌, ◌^◌, ◌≤◌, ◌<◌}
+use Prim.Native.Nat.{ℕ, ◌+◌, ◌≤◌, ◌<◌}
 use native.Mathlib.Omega.{arith}
 use lib.ListN.{length, get_or, length-append}
 use Rattle.model.specs.Outcome.{Cells}
@@ -13,28 +14,36 @@ use Rattle.model.specs.Scope.{Place, XBlock, expand_s, expand_f, expand, evals_s
 use Rattle.intake_statements.specs.Fine.{keep_all, done_b, done_s, fine_s, fine_b}
 use Rattle.intake_statements.specs.Tape.{block_of, HoldsS, exprs_of, marks}
 use Rattle.intake_statements.specs.Lasts.{Scope, Kept}
-use Rattle.intake_blocks.specs.Found.{told, Finds, kept_of, StmtHere, BlockHere, FindsS, FindsB, FoundS, FoundB}
+use Rattle.std.specs.Prelude.{Some, None}
+use Rattle.std.specs.declared.option.Option as code
+use Rattle.intake_blocks.specs.declared.Flow.{Flow}
+use Rattle.intake_blocks.specs.declared.Flow.TheVariants.{Through}
+use Rattle.std.proofs.lemmas.Option.{none-some, same_Some}
+use Rattle.intake_blocks.specs.Found.{flow_of, told, Finds, kept_of, StmtHere, BlockHere, FindsS, FindsB, FoundS, FoundB}
 use Rattle.intake_statements.proofs.Restated.{add_e-append}
 use Rattle.intake_statements.proofs.Scopes.{either, absurd_bool, scope_on, scope_less, kept-all, kept_more, kept_then}
 use Rattle.intake_blocks.proofs.Trees.{Runs, runs_split, between_runs, up_s_lem, down_b, down_bs, stmt_is, stmt_held, ends_in, stmt_long, stmt_length, block_body, block_long}
 
 -- ---- answers
-pub told_yes : (ok h : Bool) (r : ℕ) → r ≡ told ok h → (r ≡ 0 → ⊥) → ok ≡ true
+pub told_yes : (ok h : Bool) (r : code.Option Flow) (f : Flow) → r ≡ told ok h → r ≡ Some f → (ok ≡ true) × (f ≡ flow_of h)
 unfolding told
-told_yes true h r e n = refl
-told_yes false h r e n = absurd (n e)
+told_yes true h r f e n = (refl, same_Some f (flow_of h) (sym n ∙ e))
+told_yes false h r f e n = absurd (none-some f (sym e ∙ n))
 
-pub told_no : (ok h : Bool) (r : ℕ) → r ≡ told ok h → r ≡ 0 → ok ≡ false
+pub told_no : (ok h : Bool) (r : code.Option Flow) → r ≡ told ok h → r ≡ None → ok ≡ false
 unfolding told
-told_no true true r e z = absurd (omega arith)
-told_no true false r e z = absurd (omega arith)
+told_no true h r e z = absurd (none-some (flow_of h) (sym z ∙ e))
 told_no false h r e z = refl
 
-pub told_none : (ok h : Bool) → ok ≡ false → 0 ≡ told ok h
+pub told_none : (ok h : Bool) → ok ≡ false → None ≡ told ok h
 unfolding told
 told_none ok h e = rw e
 
-pub finds-none : {count q k : ℕ} {u₀ u : List ℕ} {ok h : Bool} {ρ δ : List ℕ} → ok ≡ false → Finds count q k u₀ u 0 ok h ρ δ
+pub told_some : (h : Bool) (f : Flow) → f ≡ flow_of h → Some f ≡ told true h
+unfolding told
+told_some h f e = ap Some e
+
+pub finds-none : {count q k : ℕ} {u₀ u : List ℕ} {ok h : Bool} {ρ δ : List ℕ} → ok ≡ false → Finds count q k u₀ u None ok h ρ δ
 finds-none {ok = ok} {h = h} e = record { says = told_none ok h e; scope = λ g. absurd_bool g e; kept = λ g. absurd_bool g e }
 
 -- ---- a statement with a Continue adds nothing to the scope of its block
@@ -60,9 +69,9 @@ unfoldable pub cut_b : Bool → XBlock → List ℕ → List ℕ → List ℕ
 cut_b true b ρ κ = κ
 cut_b false b ρ κ = cont_b b ρ
 
-pub record Goes (ws ts st ini u₀ : List ℕ) (count at fin keep : ℕ) (p : Place) (b rest : Block Range) (ρ δ u : List ℕ) (i cut : ℕ) : Type 0 where
+pub record Goes (ws ts st ini u₀ : List ℕ) (count at fin keep : ℕ) (p : Place) (b rest : Block Range) (ρ δ u : List ℕ) (i : ℕ) (cut : Flow) : Type 0 where
   pub h : Bool
-  pub cut_is : cut ≡ told true h
+  pub cut_is : cut ≡ flow_of h
   pub ρ' : List ℕ
   pub δ' : List ℕ
   pub κ : List ℕ
@@ -77,7 +86,7 @@ pub record Goes (ws ts st ini u₀ : List ℕ) (count at fin keep : ℕ) (p : Pl
   pub dones : done_b rest δ' ≡ done_b b δ
   pub holds : (h || holds_b (expand rest (marks ws ts st count ini))) ≡ holds_b (expand b (marks ws ts st count ini))
 
-pub record Walking (ws ts st ini u₀ : List ℕ) (count at fin keep : ℕ) (p : Place) (u : List ℕ) (i cut : ℕ) : Type 0 where
+pub record Walking (ws ts st ini u₀ : List ℕ) (count at fin keep : ℕ) (p : Place) (u : List ℕ) (i : ℕ) (cut : Flow) : Type 0 where
   pub rest : Block Range
   pub runs : Runs ws ts i (flat_b rest)
   pub long : i + length (flat_b rest) ≡ fin
@@ -168,10 +177,6 @@ aside : Bool → List ℕ → List ℕ → List ℕ
 aside true κ ρ = κ
 aside false κ ρ = ρ
 
-pub or_assoc : (a b c : Bool) → ((a || b) || c) ≡ (a || (b || c))
-or_assoc true b c = refl
-or_assoc false b c = refl
-
 -- ---- a block that is left: what lasted lasts on, and what it evaluated does not last longer than its end
 pub leave : {count q k : ℕ} {ρ δ u : List ℕ} (q' : ℕ) (u₁ ρ₁ δ₁ : List ℕ) {q₁ k₁ : ℕ} → Scope count q k ρ δ u → q ≤ q' → 0 < k → Kept q' u u₁ → Scope count q₁ k₁ ρ₁ δ₁ u₁ → Scope count q' k ρ δ₁ u₁
 leave {count} {q} {k} {ρ} {δ} {u} q' u₁ ρ₁ δ₁ s h l p t = record {
@@ -198,8 +203,8 @@ module _ (ws ts st ini u₀ : List ℕ) (count at fin keep : ℕ) (p : Place) (h
   abbrev dr : ℕ → Bool
   dr = marks ws ts st count ini
 
-  pub block_begin : Walking ws ts st ini u₀ count at fin keep p u₀ (at + 1) 1
-  unfolding told kept_of cut_b
+  pub block_begin : Walking ws ts st ini u₀ count at fin keep p u₀ (at + 1) Through
+  unfolding flow_of kept_of cut_b
   block_begin = record {
     rest = B;
     runs = block_body ws ts at fin B here.holds;
@@ -225,13 +230,13 @@ module _ (ws ts st ini u₀ : List ℕ) (count at fin keep : ℕ) (p : Place) (h
     };
   }
 
-  module _ (u : List ℕ) (i cut : ℕ) (inv : Walking ws ts st ini u₀ count at fin keep p u i cut) where
+  module _ (u : List ℕ) (i : ℕ) (cut : Flow) (inv : Walking ws ts st ini u₀ count at fin keep p u i cut) where
     next : i < fin → Ahead ws ts i fin inv.rest
     next l = ahead ws ts i fin inv.rest inv.runs inv.long inv.ok here.holds.within l
 
-    module _ (l : i < fin) (w : ℕ) (w-is : (w ≡ get_or ws i 0) × (w < 2 ^ 32)) where
+    module _ (l : i < fin) (w : ℕ) (w-is : w ≡ get_or ws i 0) where
       w_long : w ≡ length (flat_s (next l).s)
-      w_long = w-is.0 ∙ (next l).word
+      w_long = w-is ∙ (next l).word
 
       pub block_far : i + w ≤ fin
       block_far = omega (arith, w_long, (next l).long)
@@ -242,7 +247,7 @@ module _ (ws ts st ini u₀ : List ℕ) (count at fin keep : ℕ) (p : Place) (h
       held : HoldsS ws ts i (i + w) (next l).s
       held = subst (λ x. HoldsS ws ts i (i + x) (next l).s) (sym w_long) (next l).holds
 
-      module _ (k : ℕ) (k_is : ((h : Bool) → cut ≡ told true h → k ≡ kept_of h keep fin) × (fin ≤ keep → fin ≤ k)) where
+      module _ (k : ℕ) (k_is : ((h : Bool) → cut ≡ flow_of h → k ≡ kept_of h keep fin) × (fin ≤ keep → fin ≤ k)) where
         kept_high : (h : Bool) → kept_of h keep fin ≤ keep
         unfolding kept_of
         kept_high true = here.keeps
@@ -259,14 +264,14 @@ module _ (ws ts st ini u₀ : List ℕ) (count at fin keep : ℕ) (p : Place) (h
               keeps = omega (arith, block_far);
             }
 
-        module _ (u₁ : List ℕ) (r : ℕ) (got : FoundS ws ts st ini count i (i + w) k p u u₁ r) where
+        module _ (u₁ : List ℕ) (r : code.Option Flow) (got : FoundS ws ts st ini count i (i + w) k p u u₁ r) where
           finds : (ρ δ : List ℕ) (g : Goes ws ts st ini u₀ count at fin keep p B inv.rest ρ δ u i cut) → FindsS ws ts st ini count i (i + w) (kept_of g.h keep fin) p u u₁ r (next l).s g.ρ' g.δ'
           finds ρ δ g =
               let q : k ≡ kept_of g.h keep fin = k_is.0 g.h g.cut_is in
               subst (λ x. FindsS ws ts st ini count i (i + w) x p u u₁ r (next l).s g.ρ' g.δ') q
               (subst (λ x. FindsS ws ts st ini count i (i + w) k p u u₁ r x g.ρ' g.δ') (stmt_is ws ts i (i + w) (next l).s held) (got.found g.ρ' g.δ' (rw q g.scope)))
 
-          pub block_wrong : r ≡ 0 → FoundB ws ts st ini count at fin keep p u₀ u₁ 0
+          pub block_wrong : r ≡ None → FoundB ws ts st ini count at fin keep p u₀ u₁ None
           block_wrong z = record { found = λ ρ δ s. finds-none (bad ρ δ (inv.going ρ δ s)) }
             where
               bad : (ρ δ : List ℕ) → Goes ws ts st ini u₀ count at fin keep p B inv.rest ρ δ u i cut → fine_b xs dr B p ρ δ ≡ false
@@ -278,12 +283,12 @@ module _ (ws ts st ini u₀ : List ℕ) (count at fin keep : ℕ) (p : Place) (h
           abbrev hs : Bool
           hs = holds_s (expand_s (next l).s dr)
 
-          module _ (n : r ≡ 0 → ⊥) (ρ δ : List ℕ) (g : Goes ws ts st ini u₀ count at fin keep p B inv.rest ρ δ u i cut) where
+          module _ (go-on : Flow) (n : r ≡ Some go-on) (ρ δ : List ℕ) (g : Goes ws ts st ini u₀ count at fin keep p B inv.rest ρ δ u i cut) where
             f : FindsS ws ts st ini count i (i + w) (kept_of g.h keep fin) p u u₁ r (next l).s g.ρ' g.δ'
             f = finds ρ δ g
 
             fine : fine_s xs dr (next l).s p g.ρ' g.δ' ≡ true
-            fine = told_yes (fine_s xs dr (next l).s p g.ρ' g.δ') hs r f.says n
+            fine = (told_yes (fine_s xs dr (next l).s p g.ρ' g.δ') hs r go-on f.says n).0
 
             ρ'' : List ℕ
             ρ'' = add_s (expand_s (next l).s dr) g.ρ'
@@ -347,11 +352,11 @@ module _ (ws ts st ini u₀ : List ℕ) (count at fin keep : ℕ) (p : Place) (h
                 go true q = absurd_bool refl q
                 go false q = refl
 
-            step : (cut' : ℕ) → ((h g : Bool) → cut ≡ told true h → r ≡ told true g → cut' ≡ told true (h || g)) → Goes ws ts st ini u₀ count at fin keep p B (next l).b ρ δ u₁ (i + w) cut'
+            step : (cut' : Flow) → ((h g : Bool) → cut ≡ flow_of h → go-on ≡ flow_of g → cut' ≡ flow_of (h || g)) → Goes ws ts st ini u₀ count at fin keep p B (next l).b ρ δ u₁ (i + w) cut'
             unfolding ρ''
             step cut' is = record {
               h = g.h || hs;
-              cut_is = is g.h hs g.cut_is (f.says ∙ ap (λ x. told x hs) fine);
+              cut_is = is g.h hs g.cut_is (told_yes (fine_s xs dr (next l).s p g.ρ' g.δ') hs r go-on f.says n).1;
               ρ' = ρ'';
               δ' = done_s (next l).s g.δ';
               κ = κ';
@@ -367,30 +372,30 @@ module _ (ws ts st ini u₀ : List ℕ) (count at fin keep : ℕ) (p : Place) (h
               holds = or_assoc g.h hs (holds_b (expand (next l).b dr)) ∙ sym (ap (λ b. g.h || holds_b (expand b dr)) (next l).is ∙ ap (g.h ||◌) (holds_then xs dr (next l).s (next l).b)) ∙ g.holds;
             }
 
-          pub block_next : (r ≡ 0 → ⊥) → (cut' : ℕ) → ((h g : Bool) → cut ≡ told true h → r ≡ told true g → cut' ≡ told true (h || g)) → Walking ws ts st ini u₀ count at fin keep p u₁ (i + w) cut'
-          block_next n cut' is = record {
+          pub block_next : (go-on : Flow) → r ≡ Some go-on → (cut' : Flow) → ((h g : Bool) → cut ≡ flow_of h → go-on ≡ flow_of g → cut' ≡ flow_of (h || g)) → Walking ws ts st ini u₀ count at fin keep p u₁ (i + w) cut'
+          block_next go-on n cut' is = record {
             rest = (next l).b;
             runs = subst (λ x. Runs ws ts (i + x) (flat_b (next l).b)) (sym w_long) (next l).runs;
             long = omega (arith, (next l).long, w_long);
             ok = (next l).ok;
             past = omega (arith, inv.past);
-            going = λ ρ δ s. step n ρ δ (inv.going ρ δ s) cut' is;
+            going = λ ρ δ s. step go-on n ρ δ (inv.going ρ δ s) cut' is;
           }
 
-    pub block_done : fin ≤ i → FoundB ws ts st ini count at fin keep p u₀ u cut
+    pub block_done : fin ≤ i → FoundB ws ts st ini count at fin keep p u₀ u (Some cut)
     block_done h = record { found = λ ρ δ s. done ρ δ (inv.going ρ δ s) }
       where
         nil : inv.rest ≡ end
         nil = block_nil inv.rest (omega (arith, inv.long))
 
-        done : (ρ δ : List ℕ) → Goes ws ts st ini u₀ count at fin keep p B inv.rest ρ δ u i cut → FindsB ws ts st ini count at fin keep p u₀ u cut B ρ δ
+        done : (ρ δ : List ℕ) → Goes ws ts st ini u₀ count at fin keep p B inv.rest ρ δ u i cut → FindsB ws ts st ini count at fin keep p u₀ u (Some cut) B ρ δ
         done ρ δ g =
             let fine : true ≡ fine_b xs dr B p ρ δ = sym (fine_end xs dr p g.ρ' g.δ') ∙ ap (λ b. fine_b xs dr b p g.ρ' g.δ') (sym nil) ∙ g.left in
             let holding : g.h ≡ holds_b (expand B dr) = sym (holds-end dr g.h) ∙ ap (λ b. g.h || holds_b (expand b dr)) (sym nil) ∙ g.holds in
             let kappa : g.κ ≡ cont_b (expand B dr) ρ = cut-end dr g.h g.ρ' g.κ g.uncut ∙ ap (λ b. cut_b g.h (expand b dr) g.ρ' g.κ) (sym nil) ∙ g.conts in
             let delta : g.δ' ≡ done_b B δ = sym (done_end g.δ') ∙ ap (λ b. done_b b g.δ') (sym nil) ∙ g.dones in
             record {
-              says = g.cut_is ∙ ap (λ x. told x g.h) fine ∙ ap (told (fine_b xs dr B p ρ δ)) holding;
+              says = told_some g.h cut g.cut_is ∙ ap (λ x. told x g.h) fine ∙ ap (told (fine_b xs dr B p ρ δ)) holding;
               scope = λ q. subst (λ x. Scope count fin keep x (done_b B δ) u) kappa (subst (λ x. Scope count fin keep g.κ x u) delta (record {
                 long = g.scope.long;
                 later = omega (arith, here.later, block_long ws ts at fin B here.holds);

@@ -1,14 +1,14 @@
 -- A statement with blocks that is no Loop, seen as words and blocks one after the other: what is left from here is the whole.
 use mathlib.Core.Path.{◌≡◌, refl, sym, ap, ◌∙◌, subst}
 use mathlib.Core.Logic.{◌⊎◌, inl, inr, ⊎_elim}
-use mathlib.Core.Bool.{Bool, true, false, ◌&&◌, ◌||◌, not}
+use mathlib.Core.Bool.{Bool, true, false, ◌&&◌, ◌||◌}
+use Rattle.std.proofs.Math.Bool.{or_assoc, or-false}
 use mathlib.Core.List.{List, [], ◌∷◌, ◌++◌, append-nil, append_assoc}
 use mathlib.Core.Option.{some}
 use Prim.Native.Nat.{ℕ, zero, suc, ◌+◌, ◌≤◌, ◌<◌}
 use native.Mathlib.Numerals.{add-one}
 use native.Mathlib.Omega.{arith}
 use lib.ListN.{length, get_or, length-append, get_elem?}
-use borrow.Author.Tests.{not-true, not-false}
 use Rattle.theory_lists.specs.Booleans.{and_right}
 use Rattle.model.specs.Outcome.{Cell, Cells, class, word}
 use Rattle.model.specs.Table.{Row, EXPR, OPT_EXPR, WORD, VALUE, BLOCK, CASES, values, variants, variant, brings, more, statements, s_call, s_effect}
@@ -19,13 +19,17 @@ use Rattle.model.specs.Scope.{Place, in_switch, expand_s, expand_f, expand, expa
 use Rattle.intake_statements.specs.Fine.{keep_all, done_b, done_s, done_k, done_c, fine_s, fine_f, fine_b, fine_k, fine_c}
 use Rattle.intake_statements.specs.Tape.{stmt_of, HoldsB, HoldsS, exprs_of, Steps, stepped, marks}
 use Rattle.intake_statements.specs.Lasts.{Scope, Kept, visible_at, all_seen}
-use Rattle.intake_blocks.specs.Found.{told, place_of, StmtHere, BlockHere, FindsS, FindsB, FoundS, FoundB}
+use Rattle.std.specs.Prelude.{Some, None}
+use Rattle.std.specs.declared.option.Option as code
+use Rattle.intake_blocks.specs.declared.Flow.{Flow}
+use Rattle.intake_blocks.specs.declared.Flow.TheVariants.{Through}
+use Rattle.intake_blocks.specs.Found.{flow_of, told, place_of, StmtHere, BlockHere, FindsS, FindsB, FoundS, FoundB}
 use Rattle.intake_statements.proofs.Restated.{add_e-append}
 use Rattle.intake_statements.proofs.Leaves.{operand_expr, operand-other}
 use Rattle.intake_statements.proofs.Scopes.{seen_is, scope_on, scope_less, kept-all, kept_more, kept_then}
 use Rattle.intake_statements.proofs.Results.{brings_one, plain}
 use Rattle.intake_blocks.proofs.Trees.{Runs, runs_word, runs_split, runs_between, between_runs, block_is, block_held, ends_in, skip_low, skip_ok, skip_is}
-use Rattle.intake_blocks.proofs.Blocks.{told_yes, told_no, finds-none, leave, or_assoc}
+use Rattle.intake_blocks.proofs.Blocks.{told_yes, told_no, told_some, finds-none, leave}
 
 -- ---- words and blocks
 pub data Parts : Type 0 where
@@ -73,7 +77,7 @@ unfolding more variants variant values
 value_row zero row e = inl (cc)
 value_row (suc zero) row e = inl (cc)
 value_row (suc (suc zero)) row e = inr (cc)
-value_row (suc (suc (suc w))) row e = let z : ◌≡◌ {A = ℕ} 0 1 = cc in absurd (omega arith)
+value_row (suc (suc (suc w))) row e = cc
 
 word-quiet : {cs : Cells} → Lays (WORD ∷ []) cs → Each Quiet cs
 word-quiet (lays_next {w = w} e l) = go (rw (brings_one e (plain WORD w (omega arith))) at l)
@@ -169,20 +173,20 @@ module _ (xs : List Cells) (dr : ℕ → Bool) where
 -- ---- an effect is none of the other kinds
 effect_low : (k : ℕ) (ss : Row) → get_elem? statements k ≡ some (s_effect ss) → 9 ≤ k
 unfolding statements
-effect_low zero ss e = let z : ◌≡◌ {A = ℕ} 0 1 = cc in absurd (omega arith)
-effect_low (suc zero) ss e = let z : ◌≡◌ {A = ℕ} 0 1 = cc in absurd (omega arith)
-effect_low (suc (suc zero)) ss e = let z : ◌≡◌ {A = ℕ} 0 1 = cc in absurd (omega arith)
-effect_low (suc (suc (suc zero))) ss e = let z : ◌≡◌ {A = ℕ} 0 1 = cc in absurd (omega arith)
-effect_low (suc (suc (suc (suc zero)))) ss e = let z : ◌≡◌ {A = ℕ} 0 1 = cc in absurd (omega arith)
-effect_low (suc (suc (suc (suc (suc zero))))) ss e = let z : ◌≡◌ {A = ℕ} 0 1 = cc in absurd (omega arith)
-effect_low (suc (suc (suc (suc (suc (suc zero)))))) ss e = let z : ◌≡◌ {A = ℕ} 0 1 = cc in absurd (omega arith)
-effect_low (suc (suc (suc (suc (suc (suc (suc zero))))))) ss e = let z : ◌≡◌ {A = ℕ} 0 1 = cc in absurd (omega arith)
-effect_low (suc (suc (suc (suc (suc (suc (suc (suc zero)))))))) ss e = let z : ◌≡◌ {A = ℕ} 0 1 = cc in absurd (omega arith)
+effect_low zero ss e = cc
+effect_low (suc zero) ss e = cc
+effect_low (suc (suc zero)) ss e = cc
+effect_low (suc (suc (suc zero))) ss e = cc
+effect_low (suc (suc (suc (suc zero)))) ss e = cc
+effect_low (suc (suc (suc (suc (suc zero))))) ss e = cc
+effect_low (suc (suc (suc (suc (suc (suc zero)))))) ss e = cc
+effect_low (suc (suc (suc (suc (suc (suc (suc zero))))))) ss e = cc
+effect_low (suc (suc (suc (suc (suc (suc (suc (suc zero)))))))) ss e = cc
 effect_low (suc (suc (suc (suc (suc (suc (suc (suc (suc k))))))))) ss e = omega arith
 
 effect_no_call : (k : ℕ) (ss : Row) → get_elem? statements k ≡ some (s_effect ss) → k ≡ 15 → ⊥
 unfolding statements
-effect_no_call k ss e q = let w : some s_call ≡ some (s_effect ss) = rw q at e in let z : ◌≡◌ {A = ℕ} 0 1 = cc in omega arith
+effect_no_call k ss e q = let w : some s_call ≡ some (s_effect ss) = rw q at e in cc
 
 pub effect_kind : {d k : ℕ} {cs : Cells} → OkF d (effect k cs) → (9 ≤ k) × (k ≡ 15 → ⊥)
 effect_kind {k = k} (ok_effect {ss = ss} e l) = (effect_low k ss e, effect_no_call k ss e)
@@ -205,10 +209,6 @@ pub record Parted (xs : List Cells) (dr : ℕ → Bool) (f : Form Range) (p : Pl
   pub holds : holds_f (expand_f f dr) ≡ holds_p dr (parts_f f)
   pub adds : (ρ : List ℕ) → add_f (expand_f f dr) ρ ≡ ρ
 
-or_false : (a : Bool) → (a || false) ≡ a
-or_false true = refl
-or_false false = refl
-
 module _ (xs : List Cells) (dr : ℕ → Bool) where
   see_one : (c : ℕ) (ρ : List ℕ) → all_vis (standing xs) ρ (operand EXPR c []) ≡ vis (standing xs) ρ c
   unfolding all_vis
@@ -226,7 +226,7 @@ module _ (xs : List Cells) (dr : ℕ → Bool) where
     ok = okp_inner o okp_nothing;
     fine = λ ρ δ. sym (and_right (fine_b xs dr x p ρ δ));
     done = λ δ. refl;
-    holds = sym (or_false (holds_b (expand x dr)));
+    holds = sym (or-false (holds_b (expand x dr)));
     adds = λ ρ. refl;
   }
   parted (branch c x y) p (ok_branch o q) a b s = record {
@@ -234,7 +234,7 @@ module _ (xs : List Cells) (dr : ℕ → Bool) where
     ok = okp_cell expr_no_block (okp_inner o (okp_inner q okp_nothing));
     fine = λ ρ δ. sym (rw (see_one c ρ, and_right (fine_b xs dr y p ρ (done_b x δ))) refl);
     done = λ δ. add_e-append (evals_b (expand x keep_all)) (evals_b (expand y keep_all)) δ;
-    holds = ap (holds_b (expand x dr) ||◌) (sym (or_false (holds_b (expand y dr))));
+    holds = ap (holds_b (expand x dr) ||◌) (sym (or-false (holds_b (expand y dr))));
     adds = λ ρ. refl;
   }
   parted (switch c ks) p (ok_switch o) a b s = record {
@@ -279,9 +279,9 @@ header ws ts at stop (stmt a b f) h =
     down (ok_stmt o) = o
 
 -- ---- the loop over the parts
-pub record Passes (ws ts st ini u₀ : List ℕ) (count at stop keep : ℕ) (p : Place) (s : Stmt Range) (rest : Parts) (ρ δ u : List ℕ) (i cut : ℕ) : Type 0 where
+pub record Passes (ws ts st ini u₀ : List ℕ) (count at stop keep : ℕ) (p : Place) (s : Stmt Range) (rest : Parts) (ρ δ u : List ℕ) (i : ℕ) (cut : Flow) : Type 0 where
   pub h : Bool
-  pub cut_is : cut ≡ told true h
+  pub cut_is : cut ≡ flow_of h
   pub δ' : List ℕ
   pub scope : Scope count i keep ρ δ' u
   pub kept : Kept stop u₀ u
@@ -290,7 +290,7 @@ pub record Passes (ws ts st ini u₀ : List ℕ) (count at stop keep : ℕ) (p :
   pub holds : (h || holds_p (marks ws ts st count ini) rest) ≡ holds_s (expand_s s (marks ws ts st count ini))
   pub adds : add_s (expand_s s (marks ws ts st count ini)) ρ ≡ ρ
 
-pub record Passing (ws ts st ini u₀ : List ℕ) (count at stop keep : ℕ) (p : Place) (u : List ℕ) (i cut : ℕ) : Type 0 where
+pub record Passing (ws ts st ini u₀ : List ℕ) (count at stop keep : ℕ) (p : Place) (u : List ℕ) (i : ℕ) (cut : Flow) : Type 0 where
   pub rest : Parts
   pub runs : Runs ws ts i (flat_p rest)
   pub long : i + length (flat_p rest) ≡ stop
@@ -298,8 +298,8 @@ pub record Passing (ws ts st ini u₀ : List ℕ) (count at stop keep : ℕ) (p 
   pub past : at < i
   pub going : (ρ δ : List ℕ) → Scope count at keep ρ δ u₀ → Passes ws ts st ini u₀ count at stop keep p (stmt_of ws ts at stop) rest ρ δ u i cut
 
-pub parts-begin : (ws ts st ini u₀ : List ℕ) (count at stop keep : ℕ) (p : Place) → StmtHere ws ts st count at stop keep → 0 < get_or ws (at + 1) 0 → get_or ws (at + 1) 0 < 4 → (get_or ws (at + 1) 0 ≡ 3 → p.breaks ≡ true) → Passing ws ts st ini u₀ count at stop keep p u₀ (at + 4) 1
-unfolding told expand_s evals_s add_s holds_s fine_s done_s
+pub parts-begin : (ws ts st ini u₀ : List ℕ) (count at stop keep : ℕ) (p : Place) → StmtHere ws ts st count at stop keep → 0 < get_or ws (at + 1) 0 → get_or ws (at + 1) 0 < 4 → (get_or ws (at + 1) 0 ≡ 3 → p.breaks ≡ true) → Passing ws ts st ini u₀ count at stop keep p u₀ (at + 4) Through
+unfolding flow_of expand_s evals_s add_s holds_s fine_s done_s
 parts-begin ws ts st ini u₀ count at stop keep p here a b s =
     let g = header ws ts at stop (stmt_of ws ts at stop) here.holds in
     let d = parted (exprs_of ws ts st count) (marks ws ts st count ini) g.f p g.ok (omega (arith, g.kind)) (omega (arith, g.kind)) (λ e. s (g.kind ∙ e)) in
@@ -309,7 +309,7 @@ parts-begin ws ts st ini u₀ count at stop keep p here a b s =
       long = rw d.flat g.long;
       ok = d.ok;
       past = omega arith;
-      going = λ ρ δ t. subst (λ x. Passes ws ts st ini u₀ count at stop keep p x (parts_f g.f) ρ δ u₀ (at + 4) 1) (sym g.is) (record {
+      going = λ ρ δ t. subst (λ x. Passes ws ts st ini u₀ count at stop keep p x (parts_f g.f) ρ δ u₀ (at + 4) Through) (sym g.is) (record {
         h = false;
         cut_is = refl;
         δ' = δ;
@@ -409,7 +409,7 @@ nil_done δ = refl
 
 nil_holds : (dr : ℕ → Bool) (h : Bool) → (h || holds_p dr nothing) ≡ h
 unfolding holds_p
-nil_holds dr h = or_false h
+nil_holds dr h = or-false h
 
 module _ (ws ts st ini u₀ : List ℕ) (count at stop keep : ℕ) (p : Place) (here : StmtHere ws ts st count at stop keep) where
   abbrev S : Stmt Range
@@ -421,7 +421,7 @@ module _ (ws ts st ini u₀ : List ℕ) (count at stop keep : ℕ) (p : Place) (
   abbrev dr : ℕ → Bool
   dr = marks ws ts st count ini
 
-  module _ (u : List ℕ) (i cut : ℕ) (inv : Passing ws ts st ini u₀ count at stop keep p u i cut) (l : i < stop) where
+  module _ (u : List ℕ) (i : ℕ) (cut : Flow) (inv : Passing ws ts st ini u₀ count at stop keep p u i cut) (l : i < stop) where
     -- a block
     module _ (t : get_or ts i 0 ≡ BLOCK) where
       d : Deeper ws ts i stop inv.rest
@@ -456,13 +456,13 @@ module _ (ws ts st ini u₀ : List ℕ) (count at stop keep : ℕ) (p : Place) (
           keeps = omega arith;
         }
 
-        module _ (u₁ : List ℕ) (r : ℕ) (got : FoundB ws ts st ini count i fin fin p u u₁ r) where
+        module _ (u₁ : List ℕ) (r : code.Option Flow) (got : FoundB ws ts st ini count i fin fin p u u₁ r) where
           finds : (ρ δ : List ℕ) (g : Passes ws ts st ini u₀ count at stop keep p S inv.rest ρ δ u i cut) → FindsB ws ts st ini count i fin fin p u u₁ r d.b ρ g.δ'
           finds ρ δ g =
               let q : fin ≤ keep = omega (arith, parts_far, here.keeps) in
               subst (λ x. FindsB ws ts st ini count i fin fin p u u₁ r x ρ g.δ') (block_is ws ts i fin d.b held) (got.found ρ g.δ' (scope_less fin q g.scope))
 
-          pub parts_wrong : r ≡ 0 → FoundS ws ts st ini count at stop keep p u₀ u₁ 0
+          pub parts_wrong : r ≡ None → FoundS ws ts st ini count at stop keep p u₀ u₁ None
           parts_wrong z = record { found = λ ρ δ s. finds-none (bad ρ δ (inv.going ρ δ s)) }
             where
               bad : (ρ δ : List ℕ) → Passes ws ts st ini u₀ count at stop keep p S inv.rest ρ δ u i cut → fine_s xs dr S p ρ δ ≡ false
@@ -471,8 +471,8 @@ module _ (ws ts st ini u₀ : List ℕ) (count at stop keep : ℕ) (p : Place) (
                   ∙ ap (λ x. fine_p xs dr x p ρ g.δ') d.is
                   ∙ inner_stop xs dr d.b d.ps p ρ g.δ' (told_no (fine_b xs dr d.b p ρ g.δ') (holds_b (expand d.b dr)) r (finds ρ δ g).says z)
 
-          pub parts_next : (r ≡ 0 → ⊥) → (cut' : ℕ) → ((h g : Bool) → cut ≡ told true h → r ≡ told true g → cut' ≡ told true (h || g)) → Passing ws ts st ini u₀ count at stop keep p u₁ fin cut'
-          parts_next n cut' is = record {
+          pub parts_next : (go-on : Flow) → r ≡ Some go-on → (cut' : Flow) → ((h g : Bool) → cut ≡ flow_of h → go-on ≡ flow_of g → cut' ≡ flow_of (h || g)) → Passing ws ts st ini u₀ count at stop keep p u₁ fin cut'
+          parts_next go-on n cut' is = record {
             rest = d.ps;
             runs = subst (λ x. Runs ws ts x (flat_p d.ps)) (sym fin-at) d.runs;
             long = omega (arith, fin-at, d.long);
@@ -485,10 +485,11 @@ module _ (ws ts st ini u₀ : List ℕ) (count at stop keep : ℕ) (p : Place) (
               step ρ δ g =
                   let f = finds ρ δ g in
                   let hb = holds_b (expand d.b dr) in
-                  let fine : fine_b xs dr d.b p ρ g.δ' ≡ true = told_yes (fine_b xs dr d.b p ρ g.δ') (holds_b (expand d.b dr)) r f.says n in
+                  let yes = told_yes (fine_b xs dr d.b p ρ g.δ') (holds_b (expand d.b dr)) r go-on f.says n in
+                  let fine : fine_b xs dr d.b p ρ g.δ' ≡ true = yes.0 in
                   record {
                     h = g.h || holds_b (expand d.b dr);
-                    cut_is = is g.h (holds_b (expand d.b dr)) g.cut_is (f.says ∙ ap (λ x. told x (holds_b (expand d.b dr))) fine);
+                    cut_is = is g.h (holds_b (expand d.b dr)) g.cut_is yes.1;
                     δ' = done_b d.b g.δ';
                     scope = leave fin u₁ (cont_b (expand d.b dr) ρ) (done_b d.b g.δ') g.scope (omega (arith, parts-on)) (omega (arith, here.keeps, l)) (f.kept fine) (f.scope fine);
                     kept = kept_then g.kept (kept_more stop parts_far (f.kept fine));
@@ -509,10 +510,10 @@ module _ (ws ts st ini u₀ : List ℕ) (count at stop keep : ℕ) (p : Place) (
           ∙ cell_then xs dr (get_or ts i 0) (get_or ws i 0) w.ps p ρ g.δ' r (sym (seen_is ws ts st count here.exprs u ρ g.δ' i keep g.scope (omega (arith, here.keeps)) (operand (get_or ts i 0) (get_or ws i 0) [])) ∙ sym r-is))
           ∙ g.left
 
-      pub word_wrong : not r ≡ true → FoundS ws ts st ini count at stop keep p u₀ u 0
-      word_wrong n = record { found = λ ρ δ s. finds-none (sym (split ρ δ (inv.going ρ δ s)) ∙ ap (◌&& fine_p xs dr w.ps p ρ (inv.going ρ δ s).δ') (not-true r n)) }
+      pub word_wrong : r ≡ false → FoundS ws ts st ini count at stop keep p u₀ u None
+      word_wrong n = record { found = λ ρ δ s. finds-none (sym (split ρ δ (inv.going ρ δ s)) ∙ ap (◌&& fine_p xs dr w.ps p ρ (inv.going ρ δ s).δ') n) }
 
-      pub word_next : not r ≡ false → Passing ws ts st ini u₀ count at stop keep p u (i + 1) cut
+      pub word_next : r ≡ true → Passing ws ts st ini u₀ count at stop keep p u (i + 1) cut
       word_next n = record {
         rest = w.ps;
         runs = w.runs;
@@ -529,26 +530,26 @@ module _ (ws ts st ini u₀ : List ℕ) (count at stop keep : ℕ) (p : Place) (
             δ' = g.δ';
             scope = scope_on (i + 1) (omega arith) g.scope;
             kept = g.kept;
-            left = ap (◌&& fine_p xs dr w.ps p ρ g.δ') (sym (not-false r n)) ∙ split ρ δ g;
+            left = ap (◌&& fine_p xs dr w.ps p ρ g.δ') (sym n) ∙ split ρ δ g;
             dones = sym (ap (λ x. done_p x g.δ') w.is ∙ cell_done (get_or ts i 0) (get_or ws i 0) w.ps g.δ') ∙ g.dones;
             holds = sym (ap (λ x. g.h || holds_p dr x) w.is ∙ ap (g.h ||◌) (cell_holds dr (get_or ts i 0) (get_or ws i 0) w.ps)) ∙ g.holds;
             adds = g.adds;
           }
 
-  pub parts_done : (u : List ℕ) (i cut : ℕ) → Passing ws ts st ini u₀ count at stop keep p u i cut → stop ≤ i → FoundS ws ts st ini count at stop keep p u₀ u cut
+  pub parts_done : (u : List ℕ) (i : ℕ) (cut : Flow) → Passing ws ts st ini u₀ count at stop keep p u i cut → stop ≤ i → FoundS ws ts st ini count at stop keep p u₀ u (Some cut)
   parts_done u i cut inv h = record { found = λ ρ δ s. done ρ δ (inv.going ρ δ s) }
     where
       nil : inv.rest ≡ nothing
       nil = parts_nil inv.rest (omega (arith, inv.long))
 
-      done : (ρ δ : List ℕ) → Passes ws ts st ini u₀ count at stop keep p S inv.rest ρ δ u i cut → FindsS ws ts st ini count at stop keep p u₀ u cut S ρ δ
+      done : (ρ δ : List ℕ) → Passes ws ts st ini u₀ count at stop keep p S inv.rest ρ δ u i cut → FindsS ws ts st ini count at stop keep p u₀ u (Some cut) S ρ δ
       done ρ δ g =
           let fine : true ≡ fine_s xs dr S p ρ δ = sym (nil_fine xs dr p ρ g.δ') ∙ ap (λ x. fine_p xs dr x p ρ g.δ') (sym nil) ∙ g.left in
           let holding : g.h ≡ holds_s (expand_s S dr) = sym (nil_holds dr g.h) ∙ ap (λ x. g.h || holds_p dr x) (sym nil) ∙ g.holds in
           let delta : g.δ' ≡ done_s S δ = sym (nil_done g.δ') ∙ ap (λ x. done_p x g.δ') (sym nil) ∙ g.dones in
           let e : i ≡ stop = omega (arith, inv.long) in
           record {
-            says = g.cut_is ∙ ap (λ x. told x g.h) fine ∙ ap (told (fine_s xs dr S p ρ δ)) holding;
+            says = told_some g.h cut g.cut_is ∙ ap (λ x. told x g.h) fine ∙ ap (told (fine_s xs dr S p ρ δ)) holding;
             scope = λ q. subst (λ x. Scope count stop keep x (done_s S δ) u) (sym g.adds) (subst (λ x. Scope count stop keep ρ x u) delta (subst (λ x. Scope count x keep ρ g.δ' u) e g.scope));
             kept = λ q. kept_more keep here.keeps g.kept;
           }

@@ -18,7 +18,12 @@ use Rattle.theory_image.specs.Words.{opt_of_lem}
 use Rattle.intake_statements.specs.Fine.{keep_all, done_b, done_s, done_k, fresh, fine_s, fine_f, fine_b, fine_k, fine_c}
 use Rattle.intake_statements.specs.Tape.{cells_in, stmt_of, HoldsB, HoldsS, exprs_of, Steps, stepped, marks}
 use Rattle.intake_statements.specs.Lasts.{Scope, Kept, visible_at, all_seen, fits_result, range_of, FoundR, FoundL}
-use Rattle.intake_blocks.specs.Found.{told, Finds, place_of, StmtHere, BlockHere, FindsS, FindsB, FoundS, FoundB}
+use Rattle.std.specs.Prelude.{Some, None}
+use Rattle.std.specs.declared.option.Option as code
+use Rattle.intake_blocks.specs.declared.Flow.{Flow}
+use Rattle.intake_blocks.specs.declared.Flow.TheVariants.{Continues}
+use Rattle.std.specs.Bool.{then_some}
+use Rattle.intake_blocks.specs.Found.{flow_of, told, Finds, place_of, StmtHere, BlockHere, FindsS, FindsB, FoundS, FoundB}
 use Rattle.intake_statements.proofs.Restated.{add_e-append, live_all}
 use Rattle.intake_statements.proofs.Leaves.{operand-optional}
 use Rattle.intake_statements.proofs.Scopes.{absurd_bool, seen_is, scope_on, scope_less, kept-all, kept_more, kept_then}
@@ -198,16 +203,16 @@ module _ (ws ts st ini u₀ : List ℕ) (count at stop keep : ℕ) (ret : Bool) 
     pub loop_skip₂ : (fa < 16384) × Steps ws (get_or ws fa 0) (fa + 1)
     loop_skip₂ = (skip_low ws ts fa _ L.b held-b, skip_ok ws ts fa _ L.b held-b)
 
-    module _ (u₁ : List ℕ) (r : ℕ) (got : FoundB ws ts st ini count (at + 4) fa stop (place_of true true ret) u₀ u₁ r) where
+    module _ (u₁ : List ℕ) (r : code.Option Flow) (got : FoundB ws ts st ini count (at + 4) fa stop (place_of true true ret) u₀ u₁ r) where
       finds-a : (ρ δ : List ℕ) → Scope count at keep ρ δ u₀ → FindsB ws ts st ini count (at + 4) fa stop (place_of true true ret) u₀ u₁ r L.a ρ δ
       finds-a ρ δ s = subst (λ x. FindsB ws ts st ini count (at + 4) fa stop (place_of true true ret) u₀ u₁ r x ρ δ) (block_is ws ts (at + 4) fa L.a held-a) (got.found ρ δ (scope_on (at + 4) (omega arith) (scope_less stop here.keeps s)))
 
-      pub loop_wrong : r ≡ 0 → (b c : Bool) → FoundS ws ts st ini count at stop keep (place_of b c ret) u₀ u₁ 0
+      pub loop_wrong : r ≡ None → (b c : Bool) → FoundS ws ts st ini count at stop keep (place_of b c ret) u₀ u₁ None
       loop_wrong z b c = record {
         found = λ ρ δ s. finds-none (rw L.is (loop_stop xs dr L.a L.b L.o L.c L.e (place_of b c ret) ρ δ (told_no (fine_b xs dr L.a (place_of true true ret) ρ δ) (holds_b (expand L.a dr)) r (finds-a ρ δ s).says z)));
       }
 
-      module _ (y : r ≡ 0 → ⊥) (fb : ℕ) (fb-is : fb ≡ stepped (get_or ws fa 0) ws (fa + 1)) where
+      module _ (go-a : Flow) (y : r ≡ Some go-a) (fb : ℕ) (fb-is : fb ≡ stepped (get_or ws fa 0) ws (fa + 1)) where
         fb_at : fb ≡ fa + length (flat_block L.b)
         fb_at = fb-is ∙ skip_is ws ts fa _ L.b held-b
 
@@ -228,23 +233,23 @@ module _ (ws ts st ini u₀ : List ℕ) (count at stop keep : ℕ) (ret : Bool) 
         }
 
         fine-a : (ρ δ : List ℕ) → Scope count at keep ρ δ u₀ → fine_b xs dr L.a (place_of true true ret) ρ δ ≡ true
-        fine-a ρ δ s = told_yes (fine_b xs dr L.a (place_of true true ret) ρ δ) (holds_b (expand L.a dr)) r (finds-a ρ δ s).says y
+        fine-a ρ δ s = (told_yes (fine_b xs dr L.a (place_of true true ret) ρ δ) (holds_b (expand L.a dr)) r go-a (finds-a ρ δ s).says y).0
 
-        module _ (u₂ : List ℕ) (q : ℕ) (got₂ : FoundB ws ts st ini count fa fb stop (place_of false false false) u₁ u₂ q) where
+        module _ (u₂ : List ℕ) (q : code.Option Flow) (got₂ : FoundB ws ts st ini count fa fb stop (place_of false false false) u₁ u₂ q) where
           finds-b : (ρ δ : List ℕ) → Scope count at keep ρ δ u₀ → FindsB ws ts st ini count fa fb stop (place_of false false false) u₁ u₂ q L.b (cont_b (expand L.a dr) ρ) (done_b L.a δ)
           finds-b ρ δ s =
               subst (λ x. FindsB ws ts st ini count fa fb stop (place_of false false false) u₁ u₂ q x (cont_b (expand L.a dr) ρ) (done_b L.a δ)) (block_is ws ts fa fb L.b held-c)
               (got₂.found (cont_b (expand L.a dr) ρ) (done_b L.a δ) ((finds-a ρ δ s).scope (fine-a ρ δ s)))
 
-          pub loop_wrong₂ : q ≡ 0 → (b c : Bool) → FoundS ws ts st ini count at stop keep (place_of b c ret) u₀ u₂ 0
+          pub loop_wrong₂ : q ≡ None → (b c : Bool) → FoundS ws ts st ini count at stop keep (place_of b c ret) u₀ u₂ None
           loop_wrong₂ z b c = record {
             found = λ ρ δ s. finds-none (rw L.is (loop_stop₂ xs dr L.a L.b L.o L.c L.e (place_of b c ret) ρ δ (fine-a ρ δ s) (told_no (fine_b xs dr L.b (place_of false false false) (cont_b (expand L.a dr) ρ) (done_b L.a δ)) (holds_b (expand L.b dr)) q (finds-b ρ δ s).says z)));
           }
 
-          module _ (x : q ≡ 0 → ⊥) (v : Bool) (v-is : v ≡ all_seen (operand (get_or ts fb 0) (get_or ws fb 0) []) (visible_at ws st u₂ count fb)) (n : ℕ) (n_is : n ≡ told v false) where
+          module _ (go-b : Flow) (x : q ≡ Some go-b) (v : Bool) (v-is : v ≡ all_seen (operand (get_or ts fb 0) (get_or ws fb 0) []) (visible_at ws st u₂ count fb)) (n : code.Option Flow) (n_is : n ≡ told v false) where
             module _ (ρ δ : List ℕ) (s : Scope count at keep ρ δ u₀) where
               fine-b : fine_b xs dr L.b (place_of false false false) (cont_b (expand L.a dr) ρ) (done_b L.a δ) ≡ true
-              fine-b = told_yes (fine_b xs dr L.b (place_of false false false) (cont_b (expand L.a dr) ρ) (done_b L.a δ)) (holds_b (expand L.b dr)) q (finds-b ρ δ s).says x
+              fine-b = (told_yes (fine_b xs dr L.b (place_of false false false) (cont_b (expand L.a dr) ρ) (done_b L.a δ)) (holds_b (expand L.b dr)) q go-b (finds-b ρ δ s).says x).0
 
               -- a continuing block has no Continue, so break_if sees all of its top level
               top : cont_b (expand L.b dr) (cont_b (expand L.a dr) ρ) ≡ top_b (expand L.b dr) (cont_b (expand L.a dr) ρ)
@@ -322,7 +327,7 @@ module _ (ws ts st ini u₀ : List ℕ) (count at stop keep : ℕ) (here : StmtH
     pub emit_asks : (at < keep) × ((at + 5 < 16384) × (get_or ws (at + 5) 0 ≤ count))
     emit_asks = (omega (arith, E.long, here.keeps), (omega (arith, E.long, here.holds.within), here.ends.low (at + 5) (omega arith) (omega (arith, E.long)) E.to_tag))
 
-    pub stmt_emit : (p : Place) (u : List ℕ) (v : Bool) → FoundR ws ts st ini count at keep (get_or ws (at + 4) 0) (get_or ws (at + 5) 0) u₀ u v → (n : ℕ) → n ≡ told v false → FoundS ws ts st ini count at stop keep p u₀ u n
+    pub stmt_emit : (p : Place) (u : List ℕ) (v : Bool) → FoundR ws ts st ini count at keep (get_or ws (at + 4) 0) (get_or ws (at + 5) 0) u₀ u v → (n : code.Option Flow) → n ≡ told v false → FoundS ws ts st ini count at stop keep p u₀ u n
     unfolding fine_s holds_s expand_s add_s add_f done_s evals_s
     stmt_emit p u v got n n_is = record { found = λ ρ δ s. subst (λ z. FindsS ws ts st ini count at stop keep p u₀ u n z ρ δ) (sym E.is) (made ρ δ s) }
       where
@@ -384,7 +389,12 @@ switch_place xs dr (effect x y) b c r ρ δ o k = absurd (omega (arith, (effect_
 
 fine-form : (xs : List Cells) (dr : ℕ → Bool) (a b : ℕ) (f : Form Range) (p : Place) (ρ δ : List ℕ) → fine_s xs dr (stmt a b f) p ρ δ ≡ fine_f xs dr f p ρ δ
 unfolding fine_s
-fine-form xs dr a b f p ρ δ = refl
+fine-form _ _ a b f p ρ δ = refl
+
+continue_is : (c : Bool) → then_some c Continues ≡ told c true
+unfolding told flow_of
+continue_is true = refl
+continue_is false = refl
 
 module _ (ws ts st ini u₀ : List ℕ) (count at stop keep : ℕ) (here : StmtHere ws ts st count at stop keep) where
   abbrev T : Header ws ts at stop (stmt_of ws ts at stop)
@@ -393,25 +403,19 @@ module _ (ws ts st ini u₀ : List ℕ) (count at stop keep : ℕ) (here : StmtH
   on : {ρ δ u : List ℕ} → Scope count at keep ρ δ u → Scope count stop keep ρ δ u
   on s = scope_on stop (omega (arith, T.long)) s
 
-  pub stmt_break : get_or ws (at + 1) 0 ≡ 5 → (b c r : Bool) (n : ℕ) → n ≡ told b false → FoundS ws ts st ini count at stop keep (place_of b c r) u₀ u₀ n
+  pub stmt_break : get_or ws (at + 1) 0 ≡ 5 → (b c r : Bool) (n : code.Option Flow) → n ≡ told b false → FoundS ws ts st ini count at stop keep (place_of b c r) u₀ u₀ n
   unfolding fine_s holds_s expand_s add_s add_f done_s evals_s add_e
   stmt_break k b c r n is =
       let e : stmt_of ws ts at stop ≡ stmt T.a T.b break = T.is ∙ ap (stmt T.a T.b) (is_break T.f T.ok (sym T.kind ∙ k)) in
       record { found = λ ρ δ s. subst (λ z. FindsS ws ts st ini count at stop keep (place_of b c r) u₀ u₀ n z ρ δ) (sym e) (record { says = is; scope = λ g. on s; kept = λ g. kept-all keep u₀ }) }
 
-  pub stmt_continue : get_or ws (at + 1) 0 ≡ 6 → (b c r : Bool) → c ≡ true → FoundS ws ts st ini count at stop keep (place_of b c r) u₀ u₀ 2
-  unfolding fine_s holds_s expand_s add_s add_f done_s evals_s add_e told
-  stmt_continue k b c r is =
+  pub stmt_continue : get_or ws (at + 1) 0 ≡ 6 → (b c r : Bool) → FoundS ws ts st ini count at stop keep (place_of b c r) u₀ u₀ (then_some c Continues)
+  unfolding fine_s holds_s expand_s add_s add_f done_s evals_s add_e
+  stmt_continue k b c r =
       let e : stmt_of ws ts at stop ≡ stmt T.a T.b continue = T.is ∙ ap (stmt T.a T.b) (is_continue T.f T.ok (sym T.kind ∙ k)) in
-      record { found = λ ρ δ s. subst (λ z. FindsS ws ts st ini count at stop keep (place_of b c r) u₀ u₀ 2 z ρ δ) (sym e) (record { says = rw is; scope = λ g. on s; kept = λ g. kept-all keep u₀ }) }
+      record { found = λ ρ δ s. subst (λ z. FindsS ws ts st ini count at stop keep (place_of b c r) u₀ u₀ (then_some c Continues) z ρ δ) (sym e) (record { says = continue_is c; scope = λ g. on s; kept = λ g. kept-all keep u₀ }) }
 
-  pub stmt_no_continue : get_or ws (at + 1) 0 ≡ 6 → (b c r : Bool) → c ≡ false → FoundS ws ts st ini count at stop keep (place_of b c r) u₀ u₀ 0
-  unfolding fine_s
-  stmt_no_continue k b c r is =
-      let e : stmt_of ws ts at stop ≡ stmt T.a T.b continue = T.is ∙ ap (stmt T.a T.b) (is_continue T.f T.ok (sym T.kind ∙ k)) in
-      record { found = λ ρ δ s. finds-none (rw e is) }
-
-  pub stmt_switch : get_or ws (at + 1) 0 ≡ 3 → (b c r : Bool) (u : List ℕ) (n : ℕ) → FoundS ws ts st ini count at stop keep (place_of true c r) u₀ u n → FoundS ws ts st ini count at stop keep (place_of b c r) u₀ u n
+  pub stmt_switch : get_or ws (at + 1) 0 ≡ 3 → (b c r : Bool) (u : List ℕ) (n : code.Option Flow) → FoundS ws ts st ini count at stop keep (place_of true c r) u₀ u n → FoundS ws ts st ini count at stop keep (place_of b c r) u₀ u n
   stmt_switch k b c r u n got = record { found = λ ρ δ s. subst (λ z. Finds count stop keep u₀ u n z (holds_s (expand_s (stmt_of ws ts at stop) (marks ws ts st count ini))) (add_s (expand_s (stmt_of ws ts at stop) (marks ws ts st count ini)) ρ) (done_s (stmt_of ws ts at stop) δ)) (same ρ δ) (got.found ρ δ s) }
     where
       same : (ρ δ : List ℕ) → fine_s (exprs_of ws ts st count) (marks ws ts st count ini) (stmt_of ws ts at stop) (place_of true c r) ρ δ ≡ fine_s (exprs_of ws ts st count) (marks ws ts st count ini) (stmt_of ws ts at stop) (place_of b c r) ρ δ
@@ -499,7 +503,7 @@ module _ (ws ts st ini u₀ : List ℕ) (count at stop keep : ℕ) (here : StmtH
   fields : cells_in ws ts (at + 4) stop ≡ flat_f H.f
   fields = between_runs ws ts (at + 4) stop (flat_f H.f) H.runs H.long
 
-  pub stmt_simple : (b c r : Bool) (u : List ℕ) (v : Bool) → FoundL ws ts st count at stop keep u₀ u v → (n : ℕ) → n ≡ told v false → (get_or ws (at + 1) 0 ≡ 7 → r ≡ true) → FoundS ws ts st ini count at stop keep (place_of b c r) u₀ u n
+  pub stmt_simple : (b c r : Bool) (u : List ℕ) (v : Bool) → FoundL ws ts st count at stop keep u₀ u v → (n : code.Option Flow) → n ≡ told v false → (get_or ws (at + 1) 0 ≡ 7 → r ≡ true) → FoundS ws ts st ini count at stop keep (place_of b c r) u₀ u n
   unfolding fine_s holds_s expand_s add_s done_s evals_s
   stmt_simple b c r u v got n n_is q = record { found = λ ρ δ s. subst (λ z. FindsS ws ts st ini count at stop keep (place_of b c r) u₀ u n z ρ δ) (sym H.is) (made ρ δ s) }
     where
@@ -513,7 +517,7 @@ module _ (ws ts st ini u₀ : List ℕ) (count at stop keep : ℕ) (here : StmtH
             kept = λ g. t.kept (sym e ∙ g);
           }
 
-  pub stmt_no_return : (b c r : Bool) → get_or ws (at + 1) 0 ≡ 7 → r ≡ false → FoundS ws ts st ini count at stop keep (place_of b c r) u₀ u₀ 0
+  pub stmt_no_return : (b c r : Bool) → get_or ws (at + 1) 0 ≡ 7 → r ≡ false → FoundS ws ts st ini count at stop keep (place_of b c r) u₀ u₀ None
   stmt_no_return b c r e h = record {
     found = λ ρ δ s. finds-none (ap (λ z. fine_s (exprs_of ws ts st count) (marks ws ts st count ini) z (place_of b c r) ρ δ) H.is ∙ fine-form (exprs_of ws ts st count) (marks ws ts st count ini) H.a H.b H.f (place_of b c r) ρ δ ∙ return_no (exprs_of ws ts st count) (marks ws ts st count ini) H.f b c r ρ δ H.ok (sym H.kind ∙ e) h);
   }

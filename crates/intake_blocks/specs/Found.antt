@@ -1,5 +1,8 @@
 -- What the functions on a body require, and what they find: the answer of Fine.antt, whether a Continue of the Loop around was met, and how long each expression then stays in scope.
-use Rattle.std.specs.Prelude.{◌≡◌, Bool, true, false, List, ℕ, ◌≤◌, ◌<◌, length, get_or}
+use Rattle.std.specs.Prelude.{◌≡◌, Bool, true, false, List, ℕ, ◌≤◌, ◌<◌, length, get_or, Some, None}
+use Rattle.std.specs.declared.option.Option.{Option}
+use Rattle.intake_blocks.specs.declared.Flow.{Flow}
+use Rattle.intake_blocks.specs.declared.Flow.TheVariants.{Through, Continues}
 use Rattle.model.specs.Tree.{Stmt, Block, Range}
 use Rattle.model.specs.Scope.{Place, expand_s, expand, add_s, holds_s, holds_b, cont_b}
 use Rattle.intake_statements.specs.Fine.{done_b, done_s, fine_s, fine_b}
@@ -12,14 +15,18 @@ pub record Cleared (u : List ℕ) (count : ℕ) : Type 0 where
   pub none : (e : ℕ) → e < count → get_or u e 0 ≡ 0
 
 -- ---- answers
--- 0: out of scope; 1: in scope; 2: in scope, with a Continue of the Loop around it
-unfoldable pub told : Bool → Bool → ℕ
-told false h = 0
-told true false = 1
-told true true = 2
+-- whether there is a Continue of the Loop around
+unfoldable pub flow_of : Bool → Flow
+flow_of false = Through
+flow_of true = Continues
+
+-- out of scope, or in scope, with a Continue of the Loop around or not
+unfoldable pub told : Bool → Bool → Option Flow
+told false h = None
+told true h = Some (flow_of h)
 
 -- the answer, and where it is good the scope that is left
-pub record Finds (count q k : ℕ) (u₀ u : List ℕ) (r : ℕ) (ok holds : Bool) (ρ δ : List ℕ) : Type 0 where
+pub record Finds (count q k : ℕ) (u₀ u : List ℕ) (r : Option Flow) (ok holds : Bool) (ρ δ : List ℕ) : Type 0 where
   pub says : r ≡ told ok holds
   pub scope : ok ≡ true → Scope count q k ρ δ u
   pub kept : ok ≡ true → Kept k u₀ u
@@ -46,16 +53,16 @@ pub record BlockHere (ws ts st : List ℕ) (count at fin keep : ℕ) : Type 0 wh
   pub later : 0 < at
   pub keeps : fin ≤ keep
 
-abbrev pub FindsS : List ℕ → List ℕ → List ℕ → List ℕ → ℕ → ℕ → ℕ → ℕ → Place → List ℕ → List ℕ → ℕ → Stmt Range → List ℕ → List ℕ → Type 0
+abbrev pub FindsS : List ℕ → List ℕ → List ℕ → List ℕ → ℕ → ℕ → ℕ → ℕ → Place → List ℕ → List ℕ → Option Flow → Stmt Range → List ℕ → List ℕ → Type 0
 FindsS ws ts st ini count at stop keep p u₀ u r s ρ δ =
     Finds count stop keep u₀ u r (fine_s (exprs_of ws ts st count) (marks ws ts st count ini) s p ρ δ) (holds_s (expand_s s (marks ws ts st count ini))) (add_s (expand_s s (marks ws ts st count ini)) ρ) (done_s s δ)
 
-abbrev pub FindsB : List ℕ → List ℕ → List ℕ → List ℕ → ℕ → ℕ → ℕ → ℕ → Place → List ℕ → List ℕ → ℕ → Block Range → List ℕ → List ℕ → Type 0
+abbrev pub FindsB : List ℕ → List ℕ → List ℕ → List ℕ → ℕ → ℕ → ℕ → ℕ → Place → List ℕ → List ℕ → Option Flow → Block Range → List ℕ → List ℕ → Type 0
 FindsB ws ts st ini count at fin keep p u₀ u r b ρ δ =
     Finds count fin keep u₀ u r (fine_b (exprs_of ws ts st count) (marks ws ts st count ini) b p ρ δ) (holds_b (expand b (marks ws ts st count ini))) (cont_b (expand b (marks ws ts st count ini)) ρ) (done_b b δ)
 
-pub record FoundS (ws ts st ini : List ℕ) (count at stop keep : ℕ) (p : Place) (u₀ u : List ℕ) (r : ℕ) : Type 0 where
+pub record FoundS (ws ts st ini : List ℕ) (count at stop keep : ℕ) (p : Place) (u₀ u : List ℕ) (r : Option Flow) : Type 0 where
   pub found : (ρ δ : List ℕ) → Scope count at keep ρ δ u₀ → FindsS ws ts st ini count at stop keep p u₀ u r (stmt_of ws ts at stop) ρ δ
 
-pub record FoundB (ws ts st ini : List ℕ) (count at fin keep : ℕ) (p : Place) (u₀ u : List ℕ) (r : ℕ) : Type 0 where
+pub record FoundB (ws ts st ini : List ℕ) (count at fin keep : ℕ) (p : Place) (u₀ u : List ℕ) (r : Option Flow) : Type 0 where
   pub found : (ρ δ : List ℕ) → Scope count at keep ρ δ u₀ → FindsB ws ts st ini count at fin keep p u₀ u r (block_of ws ts at fin) ρ δ

@@ -1,17 +1,56 @@
 // Scope in one pass over a body. What a block evaluates stays until the block's end, and what a Loop's body evaluates before its first Continue, like
 // what its continuing block evaluates, until the end of the Loop.
+//
+// Blocks and statements are walked by `while`: each says where the next one starts, which no range does.
 #![tactic(auto)]
 
 ghost use Rattle.std.specs.Prelude.{◌≡◌, Bool, true, false, ◌||◌, [], ◌+◌, ◌-◌, ◌≤◌, ◌<◌, length, get_or};
 ghost use Rattle.model.specs.Scope.{in_body};
 ghost use Rattle.intake_statements.specs.Fine.{fine_b};
 ghost use Rattle.intake_statements.specs.Tape.{block_of, Steps, stepped, exprs_of, marks};
-ghost use Rattle.intake_blocks.specs.Found.{Cleared, place_of, kept_of, told, StmtHere, BlockHere, FoundS, FoundB};
+ghost use Rattle.intake_blocks.specs.Found.{Cleared, place_of, kept_of, flow_of, told, StmtHere, BlockHere, FoundS, FoundB};
 
 use base_classes::BLOCK;
 use base_kinds::{BREAK, CONTINUE, EMIT, LOOP, RETURN, SWITCH};
-use base_words::{Tags, Words, wide};
+use base_words::{Tags, Words};
 use intake_statements::{emit, read, simple};
+
+// Which statements may stand at a place: a Break, a Continue, a Return.
+#[derive(Clone, Copy)]
+struct Place {
+    breaks: bool,
+    continues: bool,
+    returns: bool,
+}
+
+// What is found of statements in scope: whether a Continue of the Loop around them is among them.
+#[derive(Clone, Copy)]
+enum Flow {
+    Through,
+    Continues,
+}
+
+impl Flow {
+    // The same of these statements and the next ones.
+    fn then(self, next: Flow) -> Flow
+        ensures { (h g : Bool) → self ≡ flow_of h → next ≡ flow_of g → result ≡ flow_of (h || g) }
+    {
+        match self {
+            Flow::Through => next,
+            Flow::Continues => self,
+        }
+    }
+
+    // How long a block keeps what it evaluates next.
+    fn kept(self, keep: usize, fin: usize) -> usize
+        ensures { ((h : Bool) → self ≡ flow_of h → result ≡ kept_of h keep fin) × (fin ≤ keep → fin ≤ result) }
+    {
+        match self {
+            Flow::Through => keep,
+            Flow::Continues => fin,
+        }
+    }
+}
 
 // Where the block at the word `at` ends.
 fn skip(words: &Words, at: usize) -> usize
@@ -19,42 +58,11 @@ fn skip(words: &Words, at: usize) -> usize
     requires steps { Steps words.now (get_or words.now at 0) (at + 1) }
     ensures { result ≡ stepped (get_or words.now at 0) words.now (at + 1) }
 {
-    let mut n = words[at];
     let mut i = at + 1;
-    while 0 < n {
-        n -= 1;
-        i += wide(words[i]);
+    for _n in 0..words[at] {
+        i += words[i] as usize;
     }
     i
-}
-
-// What is found of statements: 0, out of scope; 1, in scope; 2, in scope, with a Continue of the Loop around them.
-fn found(fine: bool) -> u8
-    ensures { result ≡ told fine false }
-{
-    if fine {
-        return 1;
-    }
-    0
-}
-
-fn joined(a: u8, b: u8) -> u8
-    ensures { (h g : Bool) → a ≡ told true h → b ≡ told true g → result ≡ told true (h || g) }
-{
-    if a == 2 {
-        return 2;
-    }
-    b
-}
-
-// How long a block keeps what it evaluates next.
-fn kept(cut: u8, keep: usize, fin: usize) -> usize
-    ensures { ((h : Bool) → cut ≡ told true h → result ≡ kept_of h keep fin) × (fin ≤ keep → fin ≤ result) }
-{
-    if cut == 2 {
-        return fin;
-    }
-    keep
 }
 
 // A statement with blocks that is no Loop: its reads, and its blocks.
@@ -69,40 +77,32 @@ fn parts(
     at: usize,
     stop: usize,
     keep: usize,
-    breaks: bool,
-    continues: bool,
-    returns: bool,
-) -> u8
+    place: Place,
+) -> Option<Flow>
     requires stmt_here { StmtHere words.now tags.now starts.now count at stop keep }
     requires nonzero { (0 < get_or words.now (at + 1) 0) × (get_or words.now (at + 1) 0 < 4) }
-    requires breaks_value { get_or words.now (at + 1) 0 ≡ 3 → breaks ≡ true }
-    ensures { FoundS words.now tags.now starts.now initial.now count at stop keep (place_of breaks continues returns) until.old until.new result }
+    requires breaks_value { get_or words.now (at + 1) 0 ≡ 3 → place.breaks ≡ true }
+    ensures { FoundS words.now tags.now starts.now initial.now count at stop keep (place_of place.breaks place.continues place.returns) until.old until.new result }
 {
     let mut i = at + 4;
-    let mut cut: u8 = 1;
+    let mut flow = Flow::Through;
     while i < stop {
-        let j = i;
-        if tags[j] == BLOCK {
-            let fin = skip(words, j);
+        if tags[i] == BLOCK {
+            let fin = skip(words, i);
+            flow = flow.then(block(
+                words, tags, starts, initial, until, count, i, fin, fin, place,
+            )?);
             i = fin;
-            let r = block(
-                words, tags, starts, initial, until, count, j, fin, fin, breaks, continues, returns,
-            );
-            if r == 0 {
-                return 0;
-            }
-            cut = joined(cut, r);
+        } else if read(words, tags, starts, until, count, i, i) {
+            i += 1;
         } else {
-            i = j + 1;
-            if !read(words, tags, starts, until, count, j, j) {
-                return 0;
-            }
+            return None;
         }
     }
-    cut
+    Some(flow)
 }
 
-// A Loop.
+// A Loop: its body, its continuing block, in which none of the three may stand, and what its break_if reads.
 #[cycle(block_looped_parts_stmt)]
 fn looped(
     words: &Words,
@@ -114,30 +114,32 @@ fn looped(
     at: usize,
     stop: usize,
     keep: usize,
-    returns: bool,
-) -> u8
+    place: Place,
+) -> Option<Flow>
     requires stmt_here { StmtHere words.now tags.now starts.now count at stop keep }
     requires at_value { get_or words.now (at + 1) 0 ≡ 4 }
-    ensures { (b c : Bool) → FoundS words.now tags.now starts.now initial.now count at stop keep (place_of b c returns) until.old until.new result }
+    ensures { FoundS words.now tags.now starts.now initial.now count at stop keep (place_of place.breaks place.continues place.returns) until.old until.new result }
 {
+    let inside = Place {
+        breaks: true,
+        continues: true,
+        ..place
+    };
+    let bare = Place {
+        breaks: false,
+        continues: false,
+        returns: false,
+    };
     let body = at + 4;
     let continuing = skip(words, body);
-    let r = block(
-        words, tags, starts, initial, until, count, body, continuing, stop, true, true, returns,
-    );
-    if r == 0 {
-        return 0;
-    }
+    block(
+        words, tags, starts, initial, until, count, body, continuing, stop, inside,
+    )?;
     let break_if = skip(words, continuing);
-    let breaks = false;
-    let q = block(
-        words, tags, starts, initial, until, count, continuing, break_if, stop, breaks, false,
-        false,
-    );
-    if q == 0 {
-        return 0;
-    }
-    found(read(words, tags, starts, until, count, break_if, break_if))
+    block(
+        words, tags, starts, initial, until, count, continuing, break_if, stop, bare,
+    )?;
+    read(words, tags, starts, until, count, break_if, break_if).then_some(Flow::Through)
 }
 
 // The statement from the word `at` to the word `stop`.
@@ -152,48 +154,34 @@ fn stmt(
     at: usize,
     stop: usize,
     keep: usize,
-    breaks: bool,
-    continues: bool,
-    returns: bool,
-) -> u8
+    place: Place,
+) -> Option<Flow>
     requires { StmtHere words.now tags.now starts.now count at stop keep }
-    ensures { FoundS words.now tags.now starts.now initial.now count at stop keep (place_of breaks continues returns) until.old until.new result }
+    ensures { FoundS words.now tags.now starts.now initial.now count at stop keep (place_of place.breaks place.continues place.returns) until.old until.new result }
 {
-    let k = words[at + 1];
-    if k == EMIT {
-        return found(emit(words, tags, starts, initial, until, count, at, keep));
-    }
-    if k < SWITCH {
-        return parts(
-            words, tags, starts, initial, until, count, at, stop, keep, breaks, continues, returns,
-        );
-    }
-    if k == SWITCH {
-        return parts(
-            words, tags, starts, initial, until, count, at, stop, keep, true, continues, returns,
-        );
-    }
-    if k == LOOP {
-        return looped(
-            words, tags, starts, initial, until, count, at, stop, keep, returns,
-        );
-    }
-    if k == BREAK {
-        return found(breaks);
-    }
-    if k == CONTINUE {
-        if continues {
-            return 2;
+    match words[at + 1] {
+        EMIT => emit(words, tags, starts, initial, until, count, at, keep).then_some(Flow::Through),
+        // A Block or an If.
+        ..SWITCH => parts(
+            words, tags, starts, initial, until, count, at, stop, keep, place,
+        ),
+        SWITCH => {
+            let inside = Place {
+                breaks: true,
+                ..place
+            };
+            parts(
+                words, tags, starts, initial, until, count, at, stop, keep, inside,
+            )
         }
-        return 0;
+        LOOP => looped(
+            words, tags, starts, initial, until, count, at, stop, keep, place,
+        ),
+        BREAK => place.breaks.then_some(Flow::Through),
+        CONTINUE => place.continues.then_some(Flow::Continues),
+        RETURN if !place.returns => None,
+        _ => simple(words, tags, starts, until, count, at, stop, keep).then_some(Flow::Through),
     }
-    if k == RETURN {
-        if returns {
-            return found(simple(words, tags, starts, until, count, at, stop, keep));
-        }
-        return 0;
-    }
-    found(simple(words, tags, starts, until, count, at, stop, keep))
 }
 
 // The block from the word `at` to the word `fin`, whose evaluations stay up to the word `keep`, or up to its end from its first Continue on.
@@ -208,45 +196,26 @@ fn block(
     at: usize,
     fin: usize,
     keep: usize,
-    breaks: bool,
-    continues: bool,
-    returns: bool,
-) -> u8
+    place: Place,
+) -> Option<Flow>
     requires { BlockHere words.now tags.now starts.now count at fin keep }
-    ensures { FoundB words.now tags.now starts.now initial.now count at fin keep (place_of breaks continues returns) until.old until.new result }
+    ensures { FoundB words.now tags.now starts.now initial.now count at fin keep (place_of place.breaks place.continues place.returns) until.old until.new result }
 {
     let mut i = at + 1;
-    let mut cut: u8 = 1;
+    let mut flow = Flow::Through;
     while i < fin {
-        let j = i;
-        i = j + wide(words[j]);
-        let k = kept(cut, keep, fin);
-        let r = stmt(
-            words, tags, starts, initial, until, count, j, i, k, breaks, continues, returns,
-        );
-        if r == 0 {
-            return 0;
-        }
-        cut = joined(cut, r);
+        let stop = i + words[i] as usize;
+        let kept = flow.kept(keep, fin);
+        flow = flow.then(stmt(
+            words, tags, starts, initial, until, count, i, stop, kept, place,
+        )?);
+        i = stop;
     }
-    cut
+    Some(flow)
 }
 
-// Nothing is evaluated: 0 for each of the first `count` expressions. What follows them is left from another function, and is not read.
-fn clear(until: &mut [usize; 1024], count: usize)
-    requires count_bound { count ≤ 1024 }
-    requires until_len { length until.old ≡ 1024 }
-    ensures { Cleared until.new count }
-{
-    let mut i = 0;
-    while i < count {
-        let j = i;
-        i += 1;
-        until[j] = 0;
-    }
-}
-
-// Is the body from the word `at` to the word `end` in scope?
+// Is the body from the word `at` to the word `end` in scope? Nothing is evaluated where it begins. What `until` has past its first `count` numbers is left
+// from another function, and is not read.
 pub fn body(
     words: &Words,
     tags: &Tags,
@@ -258,13 +227,16 @@ pub fn body(
     end: usize,
 ) -> bool
     requires block_here { BlockHere words.now tags.now starts.now count at end end }
-    requires until_len { length until.old ≡ 1024 }
-    ensures value { result ≡ fine_b (exprs_of words.now tags.now starts.now count) (marks words.now tags.now starts.now count initial.now) (block_of words.now tags.now at end) in_body [] [] }
-    ensures until_len_2 { result ≡ true → length until.new ≡ 1024 }
+    ensures { result ≡ fine_b (exprs_of words.now tags.now starts.now count) (marks words.now tags.now starts.now count initial.now) (block_of words.now tags.now at end) in_body [] [] }
 {
-    clear(until, count);
-    let r = block(
-        words, tags, starts, initial, until, count, at, end, end, false, false, true,
-    );
-    r != 0
+    let place = Place {
+        breaks: false,
+        continues: false,
+        returns: true,
+    };
+    until[..count].fill(0);
+    block(
+        words, tags, starts, initial, until, count, at, end, end, place,
+    )
+    .is_some()
 }

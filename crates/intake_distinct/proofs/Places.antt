@@ -7,15 +7,14 @@ use native.Mathlib.Numerals.{add-one}
 use native.Mathlib.Nat.{mod-lt}
 use native.Mathlib.Omega.{arith}
 use lib.Dec.{eqb}
-use lib.ListN.{length, get_or, set, replicate, length-set, length-replicate}
-use lib.Seq.{slice, slice-cons, get_or-set_same, get_or-set_other}
+use lib.ListN.{length, drop, drop_of_length-le, get_or, set, replicate, length-set, length-replicate}
+use lib.Seq.{drop-cons, get_or-set_same, get_or-set_other}
 use borrow.Author.Tests.{eqb-true, eqb-false, eq-eqb, ne_eqb, not-true, not-false}
 use Rattle.model.specs.Carry.{Each, each_none, each_next}
-use Rattle.model.specs.Names.{absent, distinct, same, unlike, differ}
-use Rattle.theory_image.specs.Betweens.{slice-none}
+use Rattle.model.specs.Names.{absent, distinct, unlike, differ}
 use Rattle.theory_image.specs.Quiet.{each_map}
-use Rattle.theory_image.specs.Same.{same_true}
 use Rattle.intake_distinct.specs.Listed.{listing}
+use Rattle.intake_distinct.proofs.Steps.{same-other}
 use Rattle.intake_distinct.specs.Places.{mix, mixed, hash, print, SEVERAL, shows, stands, Leaves, Seen, New}
 
 -- ---- the hash, word by word
@@ -23,28 +22,23 @@ pub mix_is : (h w x : ℕ) → x ≡ w → ((h + x) * 2654435769 / 1048576 % 167
 unfolding mix
 mix_is h w x e = (rw e refl, mod-lt _ (omega arith))
 
-pub record Hashing (ws : List ℕ) (a n h i : ℕ) : Type 0 where
-  pub within : i ≤ n
+pub record Hashing (name : List ℕ) (h i : ℕ) : Type 0 where
   pub small : h < 2 ^ 24
-  pub left : mixed (slice (a + i) (a + n) ws) h ≡ hash (slice a (a + n) ws)
+  pub left : mixed (drop i name) h ≡ hash name
 
-module _ (ws : List ℕ) (a n : ℕ) where
-  pub hash-all : Hashing ws a n 0 0
+module _ (name : List ℕ) where
+  pub hash-all : Hashing name 0 0
   unfolding hash
-  hash-all = let z : a + 0 ≡ a = omega arith in record { within = omega arith; small = omega arith; left = rw z refl }
+  hash-all = record { small = omega arith; left = refl }
 
-  module _ (h i : ℕ) (o : Hashing ws a n h i) where
-    pub hash_done : n ≤ i → h ≡ hash (slice a (a + n) ws)
+  module _ (h i : ℕ) (o : Hashing name h i) where
+    pub hash_done : length name ≤ i → h ≡ hash name
     unfolding mixed
-    hash_done l = rw (slice-none (a + i) (a + n) ws (omega arith)) at o.left
+    hash_done l = rw (drop_of_length-le name l) at o.left
 
-    pub hash-next : i < n → length ws ≡ 16384 → a + n ≤ 16384 → (r : ℕ) → (r ≡ mix h (get_or ws (a + i) 0)) × (r < 2 ^ 24) → Hashing ws a n r (i + 1)
+    pub hash-next : i < length name → (r : ℕ) → (r ≡ mix h (get_or name i 0)) × (r < 2 ^ 24) → Hashing name r (i + 1)
     unfolding mixed
-    hash-next l long fits r is =
-        let x : a + i < a + n = omega arith in
-        let y : a + n ≤ length ws = omega arith in
-        let z : a + (i + 1) ≡ suc (a + i) = omega arith in
-        record { within = omega arith; small = is.1; left = rw (z, is.0) (rw (slice-cons (a + i) (a + n) ws 0 x y) at o.left) }
+    hash-next l r is = record { small = is.1; left = rw (add-one i, is.0) (rw (drop-cons name i 0 l) at o.left) }
 
 never : {A : Type 0} {b : Bool} → b ≡ true → b ≡ false → A
 never t f = let z : ◌≡◌ {A = ℕ} 0 1 = cc in absurd (omega arith)
@@ -64,13 +58,6 @@ absent-apart (y ∷ ys) x (each_next d ds) = rw (absent, ne_eqb x y d) (absent-a
 pub numbers : Pairwise distinct absent
 unfolding distinct
 numbers = record { none = refl; next = λ x xs. refl; apart = absent-apart }
-
-same-other : (xs ys : List ℕ) → (xs ≡ ys → ⊥) → same xs ys ≡ false
-same-other xs ys d = go (same xs ys) refl
-  where
-    go : (b : Bool) → same xs ys ≡ b → b ≡ false
-    go true t = absurd (d (same_true xs ys t))
-    go false t = refl
 
 unlike-apart : (xs : List (List ℕ)) (x : List ℕ) → Each (λ y. x ≡ y → ⊥) xs → unlike xs x ≡ true
 unfolding unlike
@@ -142,11 +129,11 @@ module _ {A : Type 0} {f : List A → Bool} {said : List A → A → Bool} (pair
         marked = rw z (each_next {a = at i} (rw (← is) left.own) (each_map (λ x. left.others (hashes x % size) (hashes x)) (rw (add-one i) at s.marked)));
       }
 
-  pub new-unmarked : b ≡ true → New said hashes size at n i marks₁ true
+  pub new-unmarked : b ≡ true → New said hashes size at n i marks₁ b
   new-unmarked t =
       let bare : stands marks (hashes (at i) % size) (hashes (at i)) ≡ false = rw (← is) (not-true (stands marks (h % size) h) (sym left.answer ∙ t)) in
       record {
-        answer = sym (pairs.apart (listing at (n - (i + 1)) (i + 1)) (at i) (each_map (λ y m e. never m (ap (λ x. stands marks (hashes x % size) (hashes x)) (sym e) ∙ bare)) s.marked));
+        answer = t ∙ sym (pairs.apart (listing at (n - (i + 1)) (i + 1)) (at i) (each_map (λ y m e. never m (ap (λ x. stands marks (hashes x % size) (hashes x)) (sym e) ∙ bare)) s.marked));
         seen = seen_next;
       }
 

@@ -1,19 +1,27 @@
 -- The steps of the passes: one lemma for each return, each turn of a loop and each call.
 use mathlib.Core.Path.{◌≡◌, refl, sym, ap, ap₂, ◌∙◌}
-use mathlib.Core.Bool.{Bool, true, false, ◌&&◌}
+use mathlib.Core.Bool.{Bool, true, false}
 use mathlib.Core.List.{List, [], ◌∷◌}
 use Prim.Native.Nat.{ℕ, suc, ◌+◌, ◌-◌, ◌*◌, ◌≤◌, ◌<◌}
 use native.Mathlib.Numerals.{add-one}
 use native.Mathlib.Omega.{arith}
-use lib.Dec.{eqb}
-use lib.ListN.{length, get_or}
-use lib.Seq.{slice, slice-cons, length-slice}
+use lib.ListN.{get_or, take, drop}
+use lib.Seq.{slice}
 use borrow.Author.Tests.{eq-eqb, ne_eqb}
 use Rattle.model.specs.Module.{count_at, offset_at}
 use Rattle.model.specs.View.{record_at, record_end}
 use Rattle.model.specs.Names.{absent, same, unlike}
-use Rattle.theory_image.specs.Betweens.{slice-none}
+use Rattle.theory_image.specs.Sections.{slice-take}
+use Rattle.theory_image.specs.Same.{same_true, same_self}
 use Rattle.intake_distinct.specs.Listed.{listing, place_of, number_at, Placed, name_at, Spelled}
+
+-- names that are not the same
+pub same-other : (xs ys : List ℕ) → (xs ≡ ys → ⊥) → same xs ys ≡ false
+same-other xs ys d = go (same xs ys) refl
+  where
+    go : (b : Bool) → same xs ys ≡ b → b ≡ false
+    go true t = absurd (d (same_true xs ys t))
+    go false t = refl
 
 -- ---- places
 module _ (ws : List ℕ) (k j r : ℕ) (p : Placed ws k) (h : j < count_at k ws) where
@@ -77,55 +85,11 @@ module _ (ws : List ℕ) (k n i y : ℕ) (whole : Bool) (o : Over (λ l. absent 
 pub names_inside : {ws : List ℕ} → Spelled ws → {j : ℕ} → j < count_at 0 ws → offset_at 0 ws + count_at 0 ws ≤ 16384
 names_inside {ws} s h = omega (arith, s.placed.offset (count_at 0 ws - 1) (omega arith) (λ e. omega arith))
 
--- words one by one
-pub record Both (ws : List ℕ) (a b n i : ℕ) (whole : Bool) : Type 0 where
-  pub within : i ≤ n
-  pub same_left : same (slice (a + i) (a + n) ws) (slice (b + i) (b + n) ws) ≡ whole
-
-module _ (ws : List ℕ) (a b n : ℕ) where
-  pub both-all : Both ws a b n 0 (same (slice a (a + n) ws) (slice b (b + n) ws))
-  both-all = let y : a + 0 ≡ a = omega arith in let z : b + 0 ≡ b = omega arith in record { within = omega arith; same_left = rw (y, z) refl }
-
-  module _ (i : ℕ) (whole : Bool) (s : Both ws a b n i whole) where
-    pub both-none : n ≤ i → true ≡ whole
-    unfolding same
-    both-none h = rw (slice-none (a + i) (a + n) ws (omega arith), slice-none (b + i) (b + n) ws (omega arith)) at s.same_left
-
-    module _ (h : i < n) (long : length ws ≡ 16384) (fits : (a + n ≤ 16384) × (b + n ≤ 16384)) where
-      opened : eqb (get_or ws (a + i) 0) (get_or ws (b + i) 0) && same (slice (suc (a + i)) (a + n) ws) (slice (suc (b + i)) (b + n) ws) ≡ whole
-      unfolding same
-      opened =
-          let k : a + i < a + n = omega arith in
-          let l : b + i < b + n = omega arith in
-          let x : a + n ≤ length ws = omega (arith, fits.0) in
-          let y : b + n ≤ length ws = omega (arith, fits.1) in
-          rw (slice-cons (a + i) (a + n) ws 0 k x, slice-cons (b + i) (b + n) ws 0 l y) at s.same_left
-
-      pub both_fails : (get_or ws (a + i) 0 ≡ get_or ws (b + i) 0 → ⊥) → false ≡ whole
-      both_fails e = rw (ne_eqb (get_or ws (a + i) 0) (get_or ws (b + i) 0) e) at opened
-
-      pub both-next : get_or ws (a + i) 0 ≡ get_or ws (b + i) 0 → Both ws a b n (i + 1) whole
-      both-next e =
-          let x : a + (i + 1) ≡ suc (a + i) = omega arith in
-          let y : b + (i + 1) ≡ suc (b + i) = omega arith in
-          record { within = omega arith; same_left = rw (x, y) (rw (eq-eqb (get_or ws (a + i) 0) (get_or ws (b + i) 0) e) at opened) }
-
--- lists of other lengths
-pub same_long : (xs ys : List ℕ) → (length xs ≡ length ys → ⊥) → same xs ys ≡ false
-unfolding same
-same_long [] [] e = absurd (e refl)
-same_long [] (y ∷ ys) e = refl
-same_long (x ∷ xs) [] e = refl
-same_long (x ∷ xs) (y ∷ ys) e = go (eqb x y) (same_long xs ys λ q. e (ap suc q))
-  where
-    go : (b : Bool) → same xs ys ≡ false → b && same xs ys ≡ false
-    go true q = q
-    go false q = refl
-
-module _ (ws : List ℕ) (a n j b e : ℕ) (s : Spelled ws) (fits : a + n ≤ 16384) (h : j < count_at 0 ws) (starts : b ≡ place_of ws 0 j) (ends : e ≡ record_end 0 j ws) where
-  name_is_lem : slice b e ws ≡ name_at ws j
+-- a name by its first word and where it ends
+module _ {ws : List ℕ} {j b e : ℕ} (s : Spelled ws) (h : j < count_at 0 ws) (starts : b ≡ place_of ws 0 j) (ends : e ≡ record_end 0 j ws) where
+  pub name_is : slice b e ws ≡ name_at ws j
   unfolding name_at place_of
-  name_is_lem = ap₂ (λ x y. slice x y ws) starts ends
+  name_is = ap₂ (λ x y. slice x y ws) starts ends
 
   pub name_rising : b ≤ e
   unfolding place_of
@@ -134,36 +98,16 @@ module _ (ws : List ℕ) (a n j b e : ℕ) (s : Spelled ws) (fits : a + n ≤ 16
   pub name_within : e ≤ 16384
   name_within = rw ends (s.within j h)
 
-  pub name_other : (e - b ≡ n → ⊥) → false ≡ same (slice a (a + n) ws) (name_at ws j)
-  name_other d =
-      let x : a + n ≤ length ws = omega (arith, s.long) in
-      let y : e ≤ length ws = omega (arith, s.long, name_within) in
-      let l : length (slice a (a + n) ws) ≡ n = length-slice a (a + n) ws x ∙ omega arith in
-      let k : length (name_at ws j) ≡ e - b = sym (ap length name_is_lem) ∙ length-slice b e ws y in
-      sym (same_long (slice a (a + n) ws) (name_at ws j) λ q. d (omega arith))
+  pub name_cut : take (e - b) (drop b ws) ≡ name_at ws j
+  name_cut =
+      let z : b + (e - b) ≡ e = omega (arith, name_rising) in
+      sym (slice-take ws b (e - b) (omega (arith, s.long, name_rising, name_within))) ∙ ap (λ x. slice b x ws) z ∙ name_is
 
-  pub name_within_b : e - b ≡ n → b + n ≤ 16384
-  name_within_b d = omega (arith, name_rising, name_within)
-
-  pub name_same : e - b ≡ n → (r : Bool) → r ≡ same (slice a (a + n) ws) (slice b (b + n) ws) → r ≡ same (slice a (a + n) ws) (name_at ws j)
-  name_same d r q = let z : b + n ≡ e = omega (arith, name_rising) in q ∙ ap (same (slice a (a + n) ws)) (ap (λ x. slice b x ws) z ∙ name_is_lem)
-
-module _ (ws : List ℕ) (n i : ℕ) (x : List ℕ) (whole : Bool) (o : Over (λ l. unlike l x) (name_at ws) whole n i) (h : i < n) (b : Bool) (is : b ≡ same x (name_at ws i)) where
-  pub unlike_found : b ≡ true → false ≡ whole
+module _ (ws : List ℕ) (n i : ℕ) (x : List ℕ) (whole : Bool) (o : Over (λ l. unlike l x) (name_at ws) whole n i) (h : i < n) (y : List ℕ) (is : y ≡ name_at ws i) where
+  pub unlike_found : x ≡ y → false ≡ whole
   unfolding unlike
-  unlike_found e = rw (sym is ∙ e) at (over_next (λ l. unlike l x) (name_at ws) whole n i o h)
+  unlike_found e = rw (ap (same x) (sym (e ∙ is)) ∙ same_self x) at (over_next (λ l. unlike l x) (name_at ws) whole n i o h)
 
-  pub unlike-next : b ≡ false → Over (λ l. unlike l x) (name_at ws) whole n (i + 1)
+  pub unlike-next : (x ≡ y → ⊥) → Over (λ l. unlike l x) (name_at ws) whole n (i + 1)
   unfolding unlike
-  unlike-next e = over_on (λ l. unlike l x) (name_at ws) whole n i o h (rw (unlike, sym is ∙ e))
-
--- a name by its first word and its length
-module _ {ws : List ℕ} {i a e : ℕ} (s : Spelled ws) (below : i < count_at 0 ws) (starts : a ≡ place_of ws 0 i) (ends : e ≡ record_end 0 i ws) where
-  pub part-rising : a ≤ e
-  part-rising = name_rising ws 0 0 i a e s (omega arith) below starts ends
-
-  pub part_fits : a + (e - a) ≤ 16384
-  part_fits = omega (arith, part-rising, name_within ws 0 0 i a e s (omega arith) below starts ends)
-
-  pub part_is : slice a (a + (e - a)) ws ≡ name_at ws i
-  part_is = let z : a + (e - a) ≡ e = omega (arith, part-rising) in ap (λ x. slice a x ws) z ∙ name_is_lem ws 0 0 i a e s (omega arith) below starts ends
+  unlike-next e = over_on (λ l. unlike l x) (name_at ws) whole n i o h (rw (unlike, same-other x (name_at ws i) λ z. e (z ∙ sym is)))

@@ -6,14 +6,13 @@
 #![tactic(auto)]
 
 ghost use Rattle.std.specs.Prelude.{◌≡◌, ◌+◌, ◌-◌, ◌^◌, ◌≤◌, ◌<◌, length};
-ghost use Rattle.std.proofs.Math.Seq.{slice};
 ghost use Rattle.model.specs.Module.{count_at};
-ghost use Rattle.model.specs.Names.{absent as absentOf, distinct as distinctOf, same as sameOf, unlike as unlikeOf, differ as differOf};
+ghost use Rattle.model.specs.Names.{absent as absentOf, distinct as distinctOf, unlike as unlikeOf, differ as differOf};
 ghost use Rattle.intake_distinct.specs.Listed.{listing, place_of, number_at, Placed, name_at, Spelled};
 ghost use Rattle.intake_distinct.specs.Places.{mix as mixOf, hash as hashOf, itself, print as printOf, Leaves, Seen, New};
 
 use base_views::{NAMES, SPECIAL, count, end_of, pair_at, start_of};
-use base_words::{Words, wide};
+use base_words::Words;
 
 // Where record j of section k starts, or pair j of the special types.
 fn place(words: &Words, k: usize, j: usize) -> usize
@@ -45,17 +44,16 @@ fn absent(words: &Words, k: usize, from: usize, x: u32) -> bool
     requires from_bound { from ≤ count_at k words.now }
     ensures { result ≡ absentOf (listing (number_at words.now k) (count_at k words.now - from) from) x }
 {
-    let n = count(words, k);
-    let mut i = from;
-    while i < n {
-        let j = i;
-        i += 1;
+    for j in from..count(words, k) {
         if x == number(words, k, j) {
             return false;
         }
     }
     true
 }
+
+// The mark of a place at which hashes of other prints meet.
+const SEVERAL: u8 = 255;
 
 // The mark that a hash leaves.
 fn print(h: usize) -> u8
@@ -71,20 +69,14 @@ fn mark(seen: &mut [u8], at: usize, h: usize) -> bool
 {
     let own = print(h);
     let old = seen[at];
-    if old == own {
+    if old == own || old == SEVERAL {
         return false;
     }
-    if old == 255 {
-        return false;
-    }
-    if old == 0 {
-        seen[at] = own;
-        return true;
-    }
-    seen[at] = 255;
+    seen[at] = if old == 0 { own } else { SEVERAL };
     true
 }
 
+// Numbers have functions of their own, and are no slices of one word to be taken with the names below: they are their own hashes, with fewer marks, and are compared as words.
 // Whether number j of section k is none of the later ones, which have left their marks; it leaves its own.
 fn new_number(words: &Words, seen: &mut [u8], k: usize, j: usize) -> bool
     requires placed { Placed words.now k }
@@ -94,11 +86,8 @@ fn new_number(words: &Words, seen: &mut [u8], k: usize, j: usize) -> bool
     ensures { New absentOf itself 1024 (number_at words.now k) (count_at k words.now) j seen.new result }
 {
     let x = number(words, k, j);
-    let h = wide(x);
-    if mark(seen, h % 1024, h) {
-        return true;
-    }
-    absent(words, k, j + 1, x)
+    let h = x as usize;
+    mark(seen, h % 1024, h) || absent(words, k, j + 1, x)
 }
 
 // Whether those of section k differ.
@@ -107,62 +96,34 @@ pub fn distinct(words: &Words, k: usize) -> bool
     ensures { result ≡ distinctOf (listing (number_at words.now k) (count_at k words.now) 0) }
 {
     let mut seen = [0u8; 1024];
-    let mut i = count(words, k);
-    while 0 < i {
-        i -= 1;
-        if !new_number(words, &mut seen, k, i) {
+    for j in (0..count(words, k)).rev() {
+        if !new_number(words, &mut seen, k, j) {
             return false;
         }
     }
     true
 }
 
-// Whether the n words from a and the n words from b are equal.
-fn same(words: &Words, a: usize, b: usize, n: usize) -> bool
-    requires words_len { length words.now ≡ 16384 }
-    requires n_bound { (a + n ≤ 16384) × (b + n ≤ 16384) }
-    ensures { result ≡ sameOf (slice a (a + n) words.now) (slice b (b + n) words.now) }
-{
-    let mut i = 0;
-    while i < n {
-        let j = i;
-        i += 1;
-        if words[a + j] != words[b + j] {
-            return false;
-        }
-    }
-    true
-}
-
-// Whether the n words from a are name j.
-fn is_name(words: &Words, a: usize, n: usize, j: usize) -> bool
+// Name j, as words.
+fn name(words: &Words, j: usize) -> &[u32]
     requires spelled { Spelled words.now }
-    requires n_bound { a + n ≤ 16384 }
     requires j_bound { j < count_at 0 words.now }
     requires j_bound_2 { j < 2 ^ 32 }
-    ensures { result ≡ sameOf (slice a (a + n) words.now) (name_at words.now j) }
+    ensures { result.now ≡ name_at words.now j }
 {
-    let b = place(words, NAMES, j);
-    let e = end_of(words, NAMES, j);
-    if e - b != n {
-        return false;
-    }
-    same(words, a, b, n)
+    let start = place(words, NAMES, j);
+    let end = end_of(words, NAMES, j);
+    &words[start..end]
 }
 
-// Whether none of the names from a number on is the n words from a.
-fn unlike(words: &Words, from: usize, a: usize, n: usize) -> bool
+// Whether none of the names from a number on is x.
+fn unlike(words: &Words, from: usize, x: &[u32]) -> bool
     requires spelled { Spelled words.now }
-    requires n_bound { a + n ≤ 16384 }
     requires from_bound { from ≤ count_at 0 words.now }
-    ensures { result ≡ unlikeOf (listing (name_at words.now) (count_at 0 words.now - from) from) (slice a (a + n) words.now) }
+    ensures { result ≡ unlikeOf (listing (name_at words.now) (count_at 0 words.now - from) from) x.now }
 {
-    let most = count(words, NAMES);
-    let mut i = from;
-    while i < most {
-        let j = i;
-        i += 1;
-        if is_name(words, a, n, j) {
+    for j in from..count(words, NAMES) {
+        if x == name(words, j) {
             return false;
         }
     }
@@ -174,21 +135,16 @@ pub fn mix(h: usize, w: u32) -> usize
     requires { h < 2 ^ 24 }
     ensures { (result ≡ mixOf h w) × (result < 2 ^ 24) }
 {
-    (h + wide(w)) * 2654435769 / 1048576 % 16777216
+    (h + w as usize) * 2654435769 / 1048576 % 16777216
 }
 
-// The hash of the n words from a.
-fn hash(words: &Words, a: usize, n: usize) -> usize
-    requires words_len { length words.now ≡ 16384 }
-    requires n_bound { a + n ≤ 16384 }
-    ensures { result ≡ hashOf (slice a (a + n) words.now) }
+// The hash of a name.
+fn hash(name: &[u32]) -> usize
+    ensures { result ≡ hashOf name.now }
 {
     let mut h = 0;
-    let mut i = 0;
-    while i < n {
-        let j = i;
-        i += 1;
-        h = mix(h, words[a + j]);
+    for w in name {
+        h = mix(h, *w);
     }
     h
 }
@@ -201,14 +157,9 @@ fn new_name(words: &Words, seen: &mut [u8], j: usize) -> bool
     requires seen { Seen hashOf 4096 (name_at words.now) (count_at 0 words.now) (j + 1) seen.old }
     ensures { New unlikeOf hashOf 4096 (name_at words.now) (count_at 0 words.now) j seen.new result }
 {
-    let a = place(words, NAMES, j);
-    let e = end_of(words, NAMES, j);
-    let n = e - a;
-    let h = hash(words, a, n);
-    if mark(seen, h % 4096, h) {
-        return true;
-    }
-    unlike(words, j + 1, a, n)
+    let x = name(words, j);
+    let h = hash(x);
+    mark(seen, h % 4096, h) || unlike(words, j + 1, x)
 }
 
 // Whether the names differ.
@@ -217,10 +168,8 @@ pub fn differ(words: &Words) -> bool
     ensures { result ≡ differOf (listing (name_at words.now) (count_at 0 words.now) 0) }
 {
     let mut seen = [0u8; 4096];
-    let mut i = count(words, NAMES);
-    while 0 < i {
-        i -= 1;
-        if !new_name(words, &mut seen, i) {
+    for j in (0..count(words, NAMES)).rev() {
+        if !new_name(words, &mut seen, j) {
             return false;
         }
     }

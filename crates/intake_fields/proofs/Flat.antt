@@ -293,7 +293,7 @@ run-parts B (s ∷ ss) ws h = go (ltb s BLOCK) refl h (λ ws k. run-parts B ss w
   where
     go : (b : Bool) → ltb s BLOCK ≡ b → elim b [ true ↦ below? BLOCK ss | false ↦ false ] ≡ true → ((ws : List ℕ) → below? BLOCK ss ≡ true → run ws ss ≡ parts B ss ws) → run ws (s ∷ ss) ≡ join (part B s ws) (parts B ss)
     go true e h ih = run-append ws (s ∷ []) ss ∙ ap (λ o. join o (λ ws. run ws ss)) (sym (part_field B s ws e)) ∙ join-same (part B s ws) _ _ (λ ws. ih ws h)
-    go false e h ih = let z : ◌≡◌ {A = ℕ} 0 1 = cc in absurd (omega arith)
+    go false e h ih = cc
 
 module _ (B : List ℕ → Outcome (Block Range)) where
   -- B, flat
@@ -365,11 +365,11 @@ all-fine? i (sh ∷ l) = elim (fine? sh i) [ true ↦ all-fine? (suc i) l | fals
 
 both_true : (a b : Bool) → elim a [ true ↦ b | false ↦ false ] ≡ true → (a ≡ true) × (b ≡ true)
 both_true true b h = (refl, h)
-both_true false b h = let z : ◌≡◌ {A = ℕ} 0 1 = cc in absurd (omega arith)
+both_true false b h = cc
 
 looked : (l : List Shape) (i k : ℕ) (sh : Shape) → all-fine? i l ≡ true → get_elem? l k ≡ some sh → fine? sh (i + k) ≡ true
 unfolding all-fine?
-looked [] i k sh h e = let z : ◌≡◌ {A = ℕ} 0 1 = cc in absurd (omega arith)
+looked [] i k sh h e = cc
 looked (x ∷ l) i zero sh h e = let q : x ≡ sh = cc in rw (← q, add-zero i) (both_true (fine? x i) _ h).0
 looked (x ∷ l) i (suc k) sh h e = rw (add-suc i k, ← suc-add i k) (looked l (suc i) k sh (both_true (fine? x i) _ h).1 e)
 
@@ -494,7 +494,7 @@ module _ (d : ℕ) where
     where
       go : (b : Bool) → ltb s LENGTH ≡ b → elim b [ true ↦ below? LENGTH ss | false ↦ false ] ≡ true → ((ws : List ℕ) → below? LENGTH ss ≡ true → parts (read_b d) ss ws ≡ pieces d ss ws) → join (part (read_b d) s ws) (parts (read_b d) ss) ≡ join (piece d s ws) (pieces d ss)
       go true e h ih = ap (λ o. join o (parts (read_b d) ss)) (sym (piece-part s ws (ltb-true s LENGTH e))) ∙ join-same (piece d s ws) _ _ (λ ws. ih ws h)
-      go false e h ih = let z : ◌≡◌ {A = ℕ} 0 1 = cc in absurd (omega arith)
+      go false e h ih = cc
 
   below_less : (ss : Row) → below? BLOCK ss ≡ true → below? LENGTH ss ≡ true
   unfolding below?
@@ -503,7 +503,7 @@ module _ (d : ℕ) where
     where
       go : (b : Bool) → ltb s BLOCK ≡ b → elim b [ true ↦ below? BLOCK ss | false ↦ false ] ≡ true → (below? BLOCK ss ≡ true → below? LENGTH ss ≡ true) → elim (ltb s LENGTH) [ true ↦ below? LENGTH ss | false ↦ false ] ≡ true
       go true e h ih = rw (lt-ltb s LENGTH (omega (arith, ltb-true s BLOCK e))) (ih h)
-      go false e h ih = let z : ◌≡◌ {A = ℕ} 0 1 = cc in absurd (omega arith)
+      go false e h ih = cc
 
   pub run-pieces : (ss : Row) (ws : List ℕ) → below? BLOCK ss ≡ true → run ws ss ≡ pieces d ss ws
   run-pieces ss ws h = run-parts (read_b d) ss ws h ∙ parts-pieces ss ws (below_less ss h)
@@ -530,7 +530,7 @@ all_below? m (r ∷ l) = elim (below? m r) [ true ↦ all_below? m l | false ↦
 
 looked_row : (m : ℕ) (l : List Row) (k : ℕ) (r : Row) → all_below? m l ≡ true → get_elem? l k ≡ some r → below? m r ≡ true
 unfolding all_below?
-looked_row m [] k r h e = let z : ◌≡◌ {A = ℕ} 0 1 = cc in absurd (omega arith)
+looked_row m [] k r h e = cc
 looked_row m (x ∷ l) zero r h e = let q : x ≡ r = cc in rw (← q) (both_true (below? m x) _ h).0
 looked_row m (x ∷ l) (suc k) r h e = looked_row m l k r (both_true (below? m x) _ h).1 e
 

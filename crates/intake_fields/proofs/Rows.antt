@@ -1,6 +1,7 @@
 -- The code's table is the model's: its rows, where they start, and what follows a word. A table's rule is a test that is computed once over the whole table.
 use mathlib.Core.Path.{◌≡◌, refl, sym, ap, ◌∙◌, subst}
 use mathlib.Core.Bool.{Bool, true, false}
+use Rattle.std.proofs.Common.{◌⊎◌, inl, inr}
 use mathlib.Core.Option.{some}
 use mathlib.Core.List.{List, [], ◌∷◌, ◌++◌, map}
 use Prim.Native.Nat.{ℕ, zero, suc, ◌+◌, ◌*◌, ◌-◌, ◌≤◌, ◌<◌}
@@ -233,15 +234,14 @@ entry_of = eight Entry
     (record { is_from = refl; is_most = refl; fits = omega arith; are = refl; each = tt; long = refl })
 
 -- ---- what the code looks up
-module _ (t : List ℕ) (table : t ≡ numbers) (s w place k from most n : ℕ) (low : 110 ≤ s) (high : s < 126) (is-place : place ≡ s) (is-k : k ≡ SYMBOLS + 2 * (place - 110)) (is_from : from ≡ get_or t k 0) (is_most : most ≡ get_or t (k + 1) 0) (is-n : n ≡ w) where
-  k_is : k ≡ SYMBOLS + 2 * (s - 110)
-  k_is = rw is-place at is-k
-
+module _ (s w from most : ℕ) (low : 110 ≤ s) (high : s < 126) (is_from : from ≡ get_or numbers (468 + 2 * (s - 110)) 0) (is_most : most ≡ get_or numbers (468 + 2 * (s - 110) + 1) 0) where
   from_is : from ≡ get_or numbers (SYMBOLS + 2 * (s - 110)) 0
-  from_is = rw (table, k_is) at is_from
+  unfolding SIZE
+  from_is = is_from
 
   most_is : most ≡ get_or numbers (SYMBOLS + 2 * (s - 110) + 1) 0
-  most_is = rw (table, k_is) at is_most
+  unfolding SIZE
+  most_is = is_most
 
   module _ (h : s < 115) where
     listing : brings_of s w ≡ elim (leb w (limit s)) [ true ↦ rows w (counted s) | false ↦ over ]
@@ -251,21 +251,18 @@ module _ (t : List ℕ) (table : t ≡ numbers) (s w place k from most n : ℕ) 
     limit_is : most ≡ limit s
     limit_is = most_is ∙ list_limit s low h
 
-    pub brings_over : most < n → brings_of s w ≡ over
-    brings_over g = listing ∙ rw (lt-leb w (limit s) (omega (arith, limit_is, is-n)))
+    pub brings_over : most < w → brings_of s w ≡ over
+    brings_over g = listing ∙ rw (lt-leb w (limit s) (omega (arith, limit_is)))
 
-    pub brings_list : n ≤ most → (from < ROWS) × (brings_of s w ≡ rows w (row_at from))
+    pub brings_list : w ≤ most → (from < ROWS) × (brings_of s w ≡ rows w (row_at from))
     brings_list g =
         let e = list_entry s low h in
-        (rw from_is e.start, rw from_is (listing ∙ rw (le-leb w (limit s) (omega (arith, limit_is, is-n))) (ap (rows w) (sym e.is))))
+        (rw from_is e.start, rw from_is (listing ∙ rw (le-leb w (limit s) (omega (arith, limit_is))) (ap (rows w) (sym e.is))))
 
-  pub brings_block : s ≡ 122 → (from < ROWS) × (brings_of s w ≡ rows w (row_at from))
+  pub brings_block : (s ≡ 122) ⊎ ((s ≡ 122 → ⊥) × (s ≡ 123)) → (from < ROWS) × (brings_of s w ≡ rows w (row_at from))
   unfolding brings_of
-  brings_block e = (rw (from_is, e) block_entry.start, rw (from_is, e) (ap (rows w) (sym block_entry.is)))
-
-  pub brings_cases : s ≡ 123 → (from < ROWS) × (brings_of s w ≡ rows w (row_at from))
-  unfolding brings_of
-  brings_cases e = (rw (from_is, e) cases-entry.start, rw (from_is, e) (ap (rows w) (sym cases-entry.is)))
+  brings_block (inl e) = (rw (from_is, e) block_entry.start, rw (from_is, e) (ap (rows w) (sym block_entry.is)))
+  brings_block (inr e) = (rw (from_is, e.1) cases-entry.start, rw (from_is, e.1) (ap (rows w) (sym cases-entry.is)))
 
   f : ℕ
   f = get_or numbers (SYMBOLS + 2 * (s - 110)) 0
@@ -274,8 +271,8 @@ module _ (t : List ℕ) (table : t ≡ numbers) (s w place k from most n : ℕ) 
   m = get_or numbers (SYMBOLS + 2 * (s - 110) + 1) 0
 
   module _ (h : 115 ≤ s) (n₁ : s ≡ 122 → ⊥) (n₂ : s ≡ 123 → ⊥) (n₃ : s ≡ 124 → ⊥) where
-    entry : Entry s
-    entry = entry_of s h high n₁ n₂ n₃
+    group_entry : Entry s
+    group_entry = entry_of s h high n₁ n₂ n₃
 
     grouped : brings_of s w ≡ once (get_elem? (group s) w)
     unfolding brings_of group
@@ -287,26 +284,26 @@ module _ (t : List ℕ) (table : t ≡ numbers) (s w place k from most n : ℕ) 
 
     group_long : length (group s) ≡ most
     unfolding f m
-    group_long = sym (ap length entry.are) ∙ length-map (starts_of f m) row_at ∙ entry.long ∙ sym most_is
+    group_long = sym (ap length group_entry.are) ∙ length-map (starts_of f m) row_at ∙ group_entry.long ∙ sym most_is
 
-    pub brings_none : most ≤ n → brings_of s w ≡ nothing
+    pub brings_none : most ≤ w → brings_of s w ≡ nothing
     unfolding once
-    brings_none g = grouped ∙ ap once (missed (group s) w (omega (arith, group_long, is-n)))
+    brings_none g = grouped ∙ ap once (missed (group s) w (omega (arith, group_long)))
 
-    pub in_group : n < most → from + n < SIZE
-    in_group g = omega (arith, entry.fits, from_is, most_is)
+    pub in_group : w < most → from + w < SIZE
+    in_group g = omega (arith, group_entry.fits, from_is, most_is)
 
-    start_is : n < most → get_or (starts_of f m) w 0 ≡ get_or t (from + n) 0
+    start_is : w < most → get_or (starts_of f m) w 0 ≡ get_or numbers (from + w) 0
     unfolding starts_of f m
     start_is g =
-        let l : w < m = omega (arith, most_is, is-n) in
-        get_or-take m (drop f numbers) w 0 l ∙ get_or-drop f numbers w 0 ∙ ap (λ x. get_or numbers (x + w) 0) (sym from_is) ∙ ap (λ x. get_or numbers (from + x) 0) (sym is-n) ∙ ap (λ l. get_or l (from + n) 0) (sym table)
+        let l : w < m = omega (arith, most_is) in
+        get_or-take m (drop f numbers) w 0 l ∙ get_or-drop f numbers w 0 ∙ ap (λ x. get_or numbers (x + w) 0) (sym from_is)
 
-    pub brings_row : (pc : ℕ) → pc ≡ get_or t (from + n) 0 → n < most → (pc < ROWS) × (brings_of s w ≡ rows 1 (row_at pc))
+    pub brings_row : (pc : ℕ) → pc ≡ get_or numbers (from + w) 0 → w < most → (pc < ROWS) × (brings_of s w ≡ rows 1 (row_at pc))
     unfolding once f m
     brings_row pc is g =
-        let l : w < length (starts_of f m) = omega (arith, entry.long, most_is, is-n) in
+        let l : w < length (starts_of f m) = omega (arith, group_entry.long, most_is) in
         let e : get_or (starts_of f m) w 0 ≡ pc = start_is g ∙ sym is in (
-          rw e at (ltb→lt (get_or (starts_of f m) w 0) ROWS (at (λ i x. ltb x ROWS) (starts_of f m) entry.each w l)),
-          grouped ∙ ap (λ q. once (get_elem? q w)) (sym entry.are) ∙ ap once (get_elem?_map row_at (starts_of f m) w l) ∙ ap (λ x. rows 1 (row_at x)) e,
+          rw e at (ltb→lt (get_or (starts_of f m) w 0) ROWS (at (λ i x. ltb x ROWS) (starts_of f m) group_entry.each w l)),
+          grouped ∙ ap (λ q. once (get_elem? q w)) (sym group_entry.are) ∙ ap once (get_elem?_map row_at (starts_of f m) w l) ∙ ap (λ x. rows 1 (row_at x)) e,
         )

@@ -9,33 +9,20 @@ use native.Mathlib.Omega.{arith}
 use lib.Dec.{eqb, ltb}
 use lib.ListN.{length, get_or, set}
 use lib.Seq.{slice, sets, slice-cons, length-slice}
+use Rattle.std.specs.Prelude.{Result, Ok, Err}
+use Rattle.std.proofs.lemmas.Bool.{eqb-false}
 use borrow.Author.Tests.{eq-eqb, ne_eqb, ltb-true, ltb-false, eqb-true}
 use Rattle.model.specs.Outcome.{Cells, class, Outcome, fits, misfit, unknown, map_o}
 use Rattle.model.specs.Table.{Row, PAD, LENGTH, STMT_KIND, run}
 use Rattle.intake_fields.specs.Parts.{join, times, check, statement_of, read_b, piece, pieces, Brings, rows, over, nothing, brings_of, brought, opening}
 use Rattle.intake_fields.specs.Rows.{ROWS, numbers, SIZE, KIND_ROW, row, row_at, MoreIs}
-use Rattle.intake_fields.specs.Walks.{next, refused, strange, seen, final, RowEnsures}
-use Rattle.intake_fields.specs.declared.Walked.{Walked}
-use Rattle.intake_fields.specs.declared.Walked.TheVariants.{Next, Misfit, Strange}
-use Rattle.intake_fields.specs.declared.More.{More}
-use Rattle.intake_fields.specs.declared.More.TheVariants.{Rows, Over, Unknown}
+use Rattle.intake_fields.specs.Walks.{Walked, next, stopped, seen, final, RowEnsures, Takes}
+use Rattle.intake_fields.specs.declared.Misread.{Misread}
+use Rattle.intake_fields.specs.declared.Misread.TheVariants.{Misfit, Strange}
 use Rattle.intake_fields.proofs.Flat.{piece-field, piece-length, piece_list, piece-variant, piece-cases, piece_stmt_kind, piece_block, piece_block_none, statement-kind, run-word}
 use Rattle.intake_fields.proofs.Reading.{Reads, reads-piece, reads-pieces}
 use Rattle.intake_fields.proofs.Rows.{ended, further, row_next, symbol, large}
-use Rattle.intake_fields.proofs.Walk.{Taken, taken, chain_misfit, chain_strange, chain_next, final-word, eat-none, eat_some, run_short, told}
-
--- ---- tests
-below : (a b : ℕ) → ltb a b ≡ true → a < b
-below a b e = ltb-true a b e
-
-above : (a b : ℕ) → ltb a b ≡ false → b ≤ a
-above a b e = ltb-false a b e
-
-is : (a b : ℕ) → eqb a b ≡ true → a ≡ b
-is a b e = eqb-true a b e
-
-isnt : (a b : ℕ) → eqb a b ≡ false → a ≡ b → ⊥
-isnt a b e q = let z : true ≡ false = sym (eq-eqb a b q) ∙ e in let y : ◌≡◌ {A = ℕ} 0 1 = cc in omega arith
+use Rattle.intake_fields.proofs.Walk.{no_word, Taken, taken, chain_err, chain_next, final-word, eat-none, eat_some, run_short, told}
 
 one_word_is : (words : List ℕ) (i end s : ℕ) → i < end → end ≤ length words → s < PAD → run (slice i end words) (s ∷ []) ≡ fits ((s, get_or words i 0) ∷ []) (slice (i + 1) end words)
 one_word_is words i end s h enough l = ap (λ ws. run ws (s ∷ [])) (slice-cons i end words 0 h enough) ∙ rw (add-one i) (run-word s (get_or words i 0) (slice (suc i) end words) l)
@@ -48,33 +35,33 @@ final-brought tags i end s w over f = refl
 final-brought tags i end s w nothing f = refl
 
 module _ (words tags : List ℕ) (i end s left : ℕ) where
-  pub opened-short : end ≤ i → RowEnsures Misfit tags tags i end (opening left s (slice i end words))
-  unfolding opening seen final
-  opened-short h = record { same = sym (ap (final tags i end) (eat-none words i end _ h)) }
+  pub opened-short : (e : Misread) (tags₁ : List ℕ) → (end ≤ i) × (e ≡ Misfit) → RowEnsures (Err e) tags₁ tags i end (opening left s (slice i end words))
+  unfolding opening
+  opened-short e tags₁ h = no_word _ (eat-none words i end _ h.0) e h.1
 
-  module _ (h : i < end) (enough : end ≤ length words) (c : ℕ) (is_c : c ≡ s) (m : More) (more : MoreIs s (get_or words i 0) m) where
-    inside : final tags i end (opening left s (slice i end words)) ≡ final (set tags i s) (i + 1) end (brought (brings_of s (get_or words i 0)) λ n r. times n (pieces left r) (slice (i + 1) end words))
+  module _ (enough : end ≤ length words) (w : ℕ) (tags' : List ℕ) (t : Takes (Ok w) tags' tags words i end s) (m : Result (ℕ × ℕ) Misread) (more : MoreIs s w m) where
+    inside : final tags i end (opening left s (slice i end words)) ≡ final tags' (i + 1) end (brought (brings_of s w) λ n r. times n (pieces left r) (slice (i + 1) end words))
     unfolding opening
-    inside = ap (final tags i end) (eat_some words i end _ h enough) ∙ final-brought tags i end s (get_or words i 0) (brings_of s (get_or words i 0)) _
+    inside = rw (t.2, t.1) (ap (final tags i end) (eat_some words i end _ t.0 enough) ∙ final-brought tags i end s (get_or words i 0) (brings_of s (get_or words i 0)) _)
 
-    pub opened_over : m ≡ Over → RowEnsures Misfit (set tags i c) tags i end (opening left s (slice i end words))
-    unfolding seen final brought
-    opened_over e = let k : brings_of s (get_or words i 0) ≡ over = rw e at more in record { same = sym (inside ∙ ap (λ q. final (set tags i s) (i + 1) end (brought q λ n r. times n (pieces left r) (slice (i + 1) end words))) k) }
+    brought_as : (b : Brings) → brings_of s w ≡ b → final tags i end (opening left s (slice i end words)) ≡ final tags' (i + 1) end (brought b λ n r. times n (pieces left r) (slice (i + 1) end words))
+    brought_as b e = inside ∙ ap (λ q. final tags' (i + 1) end (brought q λ n r. times n (pieces left r) (slice (i + 1) end words))) e
 
-    pub opened-unknown : m ≡ Unknown → RowEnsures Strange (set tags i c) tags i end (opening left s (slice i end words))
-    unfolding seen final brought
-    opened-unknown e = let k : brings_of s (get_or words i 0) ≡ nothing = rw e at more in record { same = sym (inside ∙ ap (λ q. final (set tags i s) (i + 1) end (brought q λ n r. times n (pieces left r) (slice (i + 1) end words))) k) }
+    pub opened_err : (e : Misread) → m ≡ Err e → RowEnsures (Err e) tags' tags i end (opening left s (slice i end words))
+    unfolding seen stopped final brought
+    opened_err Misfit e = record { same = sym (brought_as over (rw e at more)) }
+    opened_err Strange e = record { same = sym (brought_as nothing (rw e at more)) }
 
-    module _ (pc n : ℕ) (e : m ≡ Rows pc n) where
-      got-rows : (pc < ROWS) × (brings_of s (get_or words i 0) ≡ rows n (row_at pc))
+    module _ (pc n : ℕ) (e : m ≡ Ok (pc, n)) where
+      got-rows : (pc < ROWS) × (brings_of s w ≡ rows n (row_at pc))
       got-rows = rw e at more
 
       pub opened_in : pc < ROWS
       opened_in = got-rows.0
 
-      pub opened_rows : (r : Walked) (tags₁ : List ℕ) → RowEnsures r tags₁ (set tags i c) (i + 1) end (times n (pieces left (row_at pc)) (slice (i + 1) end words)) → RowEnsures r tags₁ tags i end (opening left s (slice i end words))
+      pub opened_rows : (r : Walked) (tags₁ : List ℕ) → RowEnsures r tags₁ tags' (i + 1) end (times n (pieces left (row_at pc)) (slice (i + 1) end words)) → RowEnsures r tags₁ tags i end (opening left s (slice i end words))
       unfolding brought
-      opened_rows r tags₁ got = record { same = (rw is_c at got.same) ∙ sym (inside ∙ ap (λ q. final (set tags i s) (i + 1) end (brought q λ n r. times n (pieces left r) (slice (i + 1) end words))) got-rows.1) }
+      opened_rows r tags₁ got = record { same = got.same ∙ sym (brought_as (rows n (row_at pc)) got-rows.1) }
 
 -- ---- a statement
 kind_row : row_at KIND_ROW ≡ STMT_KIND ∷ []
@@ -90,69 +77,63 @@ unfolding check
 check_no w cs rest e = rw (check, ne_eqb w (suc (length cs)) e)
 
 module _ (words tags : List ℕ) (i end left : ℕ) where
-  pub stmt_short : end ≤ i → RowEnsures Misfit tags tags i end (statement_of (read_b left) (slice i end words))
-  unfolding statement_of seen final
-  stmt_short h = record { same = sym (ap (final tags i end) (eat-none words i end _ h)) }
+  pub stmt_short : (e : Misread) (tags₁ : List ℕ) → (end ≤ i) × (e ≡ Misfit) → RowEnsures (Err e) tags₁ tags i end (statement_of (read_b left) (slice i end words))
+  unfolding statement_of
+  stmt_short e tags₁ h = no_word _ (eat-none words i end _ h.0) e h.1
 
-  module _ (h : i < end) (enough : end ≤ length words) (r : Walked) (tags₁ : List ℕ) (got : RowEnsures r tags₁ (set tags i 124) (i + 1) end (pieces left (row_at KIND_ROW) (slice (i + 1) end words))) where
+  module _ (enough : end ≤ length words) (w : ℕ) (tags' : List ℕ) (t : Takes (Ok w) tags' tags words i end 124) (r : Walked) (tags₁ : List ℕ) (got : RowEnsures r tags₁ tags' (i + 1) end (pieces left (row_at KIND_ROW) (slice (i + 1) end words))) where
+    h : i < end
+    h = t.0
+
     inner : Outcome Cells
     inner = pieces left (STMT_KIND ∷ []) (slice (i + 1) end words)
 
-    stated : statement_of (read_b left) (slice i end words) ≡ check (get_or words i 0) inner
+    stated : statement_of (read_b left) (slice i end words) ≡ check w inner
     unfolding inner
-    stated = ap (statement_of (read_b left)) (slice-cons i end words 0 h enough) ∙ rw (add-one i) (statement-kind left (get_or words i 0) (slice (suc i) end words))
+    stated = rw t.1 (ap (statement_of (read_b left)) (slice-cons i end words 0 t.0 enough) ∙ rw (add-one i) (statement-kind left (get_or words i 0) (slice (suc i) end words)))
 
-    head : final tags i end (statement_of (read_b left) (slice i end words)) ≡ final tags i end (check (get_or words i 0) inner)
+    head : final tags i end (statement_of (read_b left) (slice i end words)) ≡ final tags i end (check w inner)
     head = ap (final tags i end) stated
 
-    got_same : seen r tags₁ ≡ final (set tags i 124) (i + 1) end inner
+    got_same : seen r tags₁ ≡ final tags' (i + 1) end inner
     unfolding inner
     got_same = rw kind_row at got.same
 
-    stopped : (o : Outcome Cells) → r ≡ Misfit → seen r tags₁ ≡ final (set tags i 124) (i + 1) end o → refused ≡ final tags i end (check (get_or words i 0) o)
-    unfolding seen final check
-    stopped (fits cs rest) e g = let k : refused ≡ next _ _ = rw e at g in let z : ◌≡◌ {A = ℕ} 0 1 = cc in absurd (omega arith)
-    stopped misfit e g = refl
-    stopped unknown e g = let k : refused ≡ strange = rw e at g in let z : ◌≡◌ {A = ℕ} 0 1 = cc in absurd (omega arith)
+    ended_so : (e : Misread) (o : Outcome Cells) → stopped e ≡ final tags' (i + 1) end o → stopped e ≡ final tags i end (check w o)
+    unfolding stopped final check
+    ended_so Misfit (fits cs rest) g = cc
+    ended_so Strange (fits cs rest) g = cc
+    ended_so e misfit g = g
+    ended_so e unknown g = g
 
-    pub stmt_misfit : r ≡ Misfit → RowEnsures Misfit tags₁ tags i end (statement_of (read_b left) (slice i end words))
+    pub stmt_err : (e : Misread) → r ≡ Err e → RowEnsures (Err e) tags₁ tags i end (statement_of (read_b left) (slice i end words))
     unfolding seen
-    stmt_misfit e = record { same = stopped inner e got_same ∙ sym head }
+    stmt_err e h = record { same = ended_so e inner (sym (ap (λ q. seen q tags₁) h) ∙ got_same) ∙ sym head }
 
-    lost : (o : Outcome Cells) → r ≡ Strange → seen r tags₁ ≡ final (set tags i 124) (i + 1) end o → strange ≡ final tags i end (check (get_or words i 0) o)
-    unfolding seen final check
-    lost (fits cs rest) e g = let k : strange ≡ next _ _ = rw e at g in let z : ◌≡◌ {A = ℕ} 0 1 = cc in absurd (omega arith)
-    lost unknown e g = refl
-    lost misfit e g = let k : strange ≡ refused = rw e at g in let z : ◌≡◌ {A = ℕ} 0 1 = cc in absurd (omega arith)
-
-    pub stmt_strange : r ≡ Strange → RowEnsures Strange tags₁ tags i end (statement_of (read_b left) (slice i end words))
-    unfolding seen
-    stmt_strange e = record { same = lost inner e got_same ∙ sym head }
-
-    module _ (k : ℕ) (e : r ≡ Next k) where
-      took : Taken words (set tags i 124) (i + 1) end tags₁ k inner
+    module _ (k : ℕ) (e : r ≡ Ok k) where
+      took : Taken words tags' (i + 1) end tags₁ k inner
       unfolding seen inner
-      took = taken words (set tags i 124) (i + 1) end enough (omega arith) inner (reads-pieces left (STMT_KIND ∷ []) (slice (i + 1) end words)) tags₁ k (rw e at got_same)
+      took = taken words tags' (i + 1) end enough (omega arith) inner (reads-pieces left (STMT_KIND ∷ []) (slice (i + 1) end words)) tags₁ k (rw e at got_same)
 
-      pub stmt_next : (n : ℕ) → n ≡ get_or words i 0 → i + n ≡ k → RowEnsures (Next k) tags₁ tags i end (statement_of (read_b left) (slice i end words))
+      pub stmt_next : (n : ℕ) → n ≡ w → i + n ≡ k → RowEnsures (Ok k) tags₁ tags i end (statement_of (read_b left) (slice i end words))
       unfolding seen final
       stmt_next n is l = good took
         where
-          ended_at : (cs : Cells) → end - length (slice k end words) ≡ k → tags₁ ≡ sets (set tags i 124) (i + 1) (map class cs) → final tags i end (fits ((LENGTH, get_or words i 0) ∷ cs) (slice k end words)) ≡ seen (Next k) tags₁
-          ended_at cs z t = ap (λ x. next x (sets (set tags i 124) (suc i) (map class cs))) z ∙ ap (next k) (sym (rw (add-one i) at t))
+          ended_at : (cs : Cells) → end - length (slice k end words) ≡ k → tags₁ ≡ sets tags' (i + 1) (map class cs) → final tags i end (fits ((LENGTH, w) ∷ cs) (slice k end words)) ≡ seen (Ok k) tags₁
+          ended_at cs z q = ap (λ x. next x (sets (set tags i 124) (suc i) (map class cs))) z ∙ ap (next k) (sym (rw (add-one i, t.2) at q))
 
-          good : Taken words (set tags i 124) (i + 1) end tags₁ k inner → RowEnsures (Next k) tags₁ tags i end (statement_of (read_b left) (slice i end words))
-          good t =
-              let w : get_or words i 0 ≡ suc (length t.cells) = omega (arith, t.at, is, l) in
-              let z : end - length (slice k end words) ≡ k = omega (arith, length-slice k end words enough, t.end-at) in
-              record { same = sym (head ∙ ap (λ q. final tags i end (check (get_or words i 0) q)) t.is ∙ ap (final tags i end) (check_yes _ t.cells (slice k end words) w) ∙ ended_at t.cells z t.tagged) }
+          good : Taken words tags' (i + 1) end tags₁ k inner → RowEnsures (Ok k) tags₁ tags i end (statement_of (read_b left) (slice i end words))
+          good g =
+              let long : w ≡ suc (length g.cells) = omega (arith, g.at, is, l) in
+              let z : end - length (slice k end words) ≡ k = omega (arith, length-slice k end words enough, g.end-at) in
+              record { same = sym (head ∙ ap (λ q. final tags i end (check w q)) g.is ∙ ap (final tags i end) (check_yes _ g.cells (slice k end words) long) ∙ ended_at g.cells z g.tagged) }
 
-      pub stmt_wrong : (n : ℕ) → n ≡ get_or words i 0 → (i + n ≡ k → ⊥) → RowEnsures Misfit tags₁ tags i end (statement_of (read_b left) (slice i end words))
-      unfolding seen final
+      pub stmt_wrong : (n : ℕ) → n ≡ w → (i + n ≡ k → ⊥) → RowEnsures (Err Misfit) tags₁ tags i end (statement_of (read_b left) (slice i end words))
+      unfolding seen stopped final
       stmt_wrong n is l = bad took
         where
-          bad : Taken words (set tags i 124) (i + 1) end tags₁ k inner → RowEnsures Misfit tags₁ tags i end (statement_of (read_b left) (slice i end words))
-          bad t = record { same = sym (head ∙ ap (λ q. final tags i end (check (get_or words i 0) q)) t.is ∙ ap (final tags i end) (check_no _ t.cells (slice k end words) (λ w. l (omega (arith, t.at, is, w))))) }
+          bad : Taken words tags' (i + 1) end tags₁ k inner → RowEnsures (Err Misfit) tags₁ tags i end (statement_of (read_b left) (slice i end words))
+          bad g = record { same = sym (head ∙ ap (λ q. final tags i end (check w q)) g.is ∙ ap (final tags i end) (check_no _ g.cells (slice k end words) (λ e. l (omega (arith, g.at, is, e))))) }
 
 -- ---- a piece
 module _ (words tags : List ℕ) (i end s left : ℕ) (r : Walked) (tags₁ : List ℕ) where
@@ -180,16 +161,16 @@ module _ (words tags : List ℕ) (i end s left : ℕ) (r : Walked) (tags₁ : Li
       ws = slice i end words
 
       go : (a : Bool) → ltb s 115 ≡ a → (b : Bool) → ltb s 122 ≡ b → (c : Bool) → eqb s 123 ≡ c → piece left s ws ≡ opening left s ws
-      go true a b e₂ c e₃ = piece_list left s ws (omega arith) (below s 115 a)
-      go false a true b c e₃ = piece-variant left s ws (above s 115 a) (below s 122 b)
-      go false a false b true c = let e : s ≡ 123 = is s 123 c in rw e (piece-cases left ws)
-      go false a false b false c = let e : s ≡ 125 = omega (arith, above s 122 b, isnt s 123 c) in rw e (piece_stmt_kind left ws)
+      go true a b e₂ c e₃ = piece_list left s ws (omega arith) (ltb-true s 115 a)
+      go false a true b c e₃ = piece-variant left s ws (ltb-false s 115 a) (ltb-true s 122 b)
+      go false a false b true c = let e : s ≡ 123 = eqb-true s 123 c in rw e (piece-cases left ws)
+      go false a false b false c = let e : s ≡ 125 = omega (arith, ltb-false s 122 b, eqb-false s 123 c) in rw e (piece_stmt_kind left ws)
 
   pub part-other : (s ≡ 108 → ⊥) → (s ≡ 109 → ⊥) → (s ≡ 124 → ⊥) → (s ≡ 122 → ⊥) → 108 ≤ s → s < 126 → RowEnsures r tags₁ tags i end (opening left s (slice i end words)) → RowEnsures r tags₁ tags i end (piece left s (slice i end words))
   part-other n₁ n₂ n₃ n₄ low high got = as_piece _ (other n₁ n₂ n₃ n₄ low high) got
 
-pub part_deep : (words tags : List ℕ) (i end s left : ℕ) → s ≡ 122 → left ≡ 0 → RowEnsures Misfit tags tags i end (piece left s (slice i end words))
-unfolding seen final
+pub part_deep : (words tags : List ℕ) (i end s left : ℕ) → s ≡ 122 → left ≡ 0 → RowEnsures (Err Misfit) tags tags i end (piece left s (slice i end words))
+unfolding seen stopped final
 part_deep words tags i end s left e z = told (piece left s (slice i end words)) misfit (rw (e, z) (piece_block_none (slice i end words))) (record { same = refl })
 
 -- ---- a row
@@ -199,64 +180,57 @@ pub record Rowing (words tags₀ : List ℕ) (at end pc left : ℕ) (tags : List
   pub within : i ≤ end
   pub same : final tags i end (pieces left (row_at p) (slice i end words)) ≡ final tags₀ at end (pieces left (row_at pc) (slice at end words))
 
-module _ (words tags₀ t : List ℕ) (table : t ≡ numbers) (at end pc left : ℕ) where
+module _ (words tags₀ : List ℕ) (at end pc left : ℕ) where
   pub row-begin : at ≤ end → pc < ROWS → Rowing words tags₀ at end pc left tags₀ at pc
   row-begin h k = record { in_rows = k; from = le_refl at; within = h; same = refl }
 
-  module _ (enough : end ≤ length words) (tags : List ℕ) (i p : ℕ) (inv : Rowing words tags₀ at end pc left tags i p) where
-    pub row_done : get_or t p 0 ≡ 0 → RowEnsures (Next i) tags tags₀ at end (pieces left (row_at pc) (slice at end words))
+  module _ (enough : end ≤ length words) (tags : List ℕ) (i p : ℕ) (inv : Rowing words tags₀ at end pc left tags i p) (s : ℕ) (is_s : s ≡ get_or numbers p 0) where
+    pub row_done : s ≡ 0 → RowEnsures (Ok i) tags tags₀ at end (pieces left (row_at pc) (slice at end words))
     unfolding seen final pieces
     row_done z =
         let k : end - length (slice i end words) ≡ i = omega (arith, length-slice i end words enough, inv.within) in
-        record { same = sym (ap (λ x. next x tags) k) ∙ rw (ended p inv.in_rows (rw table at z)) at inv.same }
+        record { same = sym (ap (λ x. next x tags) k) ∙ rw (ended p inv.in_rows (sym is_s ∙ z)) at inv.same }
 
-    module _ (ne : get_or t p 0 ≡ 0 → ⊥) where
+    module _ (ne : s ≡ 0 → ⊥) where
       ne' : get_or numbers p 0 ≡ 0 → ⊥
-      ne' = rw table at ne
+      ne' = rw is_s at ne
 
-      pub row_symbol : get_or t p 0 < 126
-      row_symbol = rw table (symbol p inv.in_rows ne')
+      pub row_symbol : s < 126
+      row_symbol = rw is_s (symbol p inv.in_rows ne')
 
-      pub row_large : 105 ≤ get_or t p 0 → 108 ≤ get_or t p 0
-      row_large h = rw table (large p inv.in_rows ne' (rw table at h))
+      pub row_large : 105 ≤ s → 108 ≤ s
+      row_large h = rw is_s (large p inv.in_rows ne' (rw is_s at h))
 
-      opened : final tags i end (join (piece left (get_or t p 0) (slice i end words)) (pieces left (row_at (p + 1)))) ≡ final tags₀ at end (pieces left (row_at pc) (slice at end words))
+      opened : final tags i end (join (piece left s (slice i end words)) (pieces left (row_at (p + 1)))) ≡ final tags₀ at end (pieces left (row_at pc) (slice at end words))
       unfolding pieces
-      opened = rw table (rw (further p inv.in_rows ne') at inv.same)
+      opened = rw is_s (rw (further p inv.in_rows ne') at inv.same)
 
       -- one word
-      plain-piece : get_or t p 0 < 105 → (ws : List ℕ) → piece left (get_or t p 0) ws ≡ run ws (get_or t p 0 ∷ [])
-      plain-piece l ws = piece-field left (get_or t p 0) ws (omega arith)
+      plain-piece : s < 105 → (ws : List ℕ) → piece left s ws ≡ run ws (s ∷ [])
+      plain-piece l ws = piece-field left s ws (omega arith)
 
-      pub row-short : get_or t p 0 < 105 → end ≤ i → RowEnsures Misfit tags tags₀ at end (pieces left (row_at pc) (slice at end words))
-      unfolding seen final join
-      row-short l h = record { same = sym (ap (λ o. final tags i end (join o (pieces left (row_at (p + 1))))) (plain-piece l (slice i end words) ∙ run_short words i end (get_or t p 0) [] h)) ∙ opened }
+      pub row-short : s < 105 → (e : Misread) (tags₁ : List ℕ) → (end ≤ i) × (e ≡ Misfit) → RowEnsures (Err e) tags₁ tags₀ at end (pieces left (row_at pc) (slice at end words))
+      unfolding seen stopped final join
+      row-short l e tags₁ h = record { same = rw h.1 (sym (ap (λ o. final tags i end (join o (pieces left (row_at (p + 1))))) (plain-piece l (slice i end words) ∙ run_short words i end s [] h.0)) ∙ opened) }
 
-      pub row_plain : get_or t p 0 < 105 → i < end → (c : ℕ) → c ≡ get_or t p 0 → Rowing words tags₀ at end pc left (set tags i c) (i + 1) (p + 1)
+      pub row_plain : s < 105 → (w : ℕ) (tags' : List ℕ) → Takes (Ok w) tags' tags words i end s → Rowing words tags₀ at end pc left tags' (i + 1) (p + 1)
       unfolding join
-      row_plain l h c is = record {
+      row_plain l w tags' t = let h : i < end = t.0 in record {
         in_rows = row_next p inv.in_rows ne';
         from = omega (arith, inv.from);
         within = omega arith;
-        same = rw is (sym (ap (λ o. final tags i end (join o (pieces left (row_at (p + 1))))) (plain-piece l (slice i end words) ∙ one_word (get_or t p 0) l) ∙ final-word tags i end (get_or t p 0) (get_or words i 0) (pieces left (row_at (p + 1)) (slice (i + 1) end words))) ∙ opened);
+        same = rw t.2 (sym (ap (λ o. final tags i end (join o (pieces left (row_at (p + 1))))) (plain-piece l (slice i end words) ∙ one_word_is words i end s h enough l) ∙ final-word tags i end s (get_or words i 0) (pieces left (row_at (p + 1)) (slice (i + 1) end words))) ∙ opened);
       }
-        where
-          one_word : (s : ℕ) → s < 105 → run (slice i end words) (s ∷ []) ≡ fits ((s, get_or words i 0) ∷ []) (slice (i + 1) end words)
-          one_word s l = one_word_is words i end s h enough l
 
-      module _ (r : Walked) (tags₁ : List ℕ) (got : RowEnsures r tags₁ tags i end (piece left (get_or t p 0) (slice i end words))) where
-        rdp : Reads (slice i end words) (piece left (get_or t p 0) (slice i end words))
-        rdp = reads-piece left (get_or t p 0) (slice i end words)
+      module _ (r : Walked) (tags₁ : List ℕ) (got : RowEnsures r tags₁ tags i end (piece left s (slice i end words))) where
+        rdp : Reads (slice i end words) (piece left s (slice i end words))
+        rdp = reads-piece left s (slice i end words)
 
-        pub row_misfit : r ≡ Misfit → RowEnsures Misfit tags₁ tags₀ at end (pieces left (row_at pc) (slice at end words))
+        pub row_err : (e : Misread) → r ≡ Err e → RowEnsures (Err e) tags₁ tags₀ at end (pieces left (row_at pc) (slice at end words))
         unfolding seen
-        row_misfit e = record { same = sym (chain_misfit words tags i end enough inv.within _ rdp r tags₁ got (pieces left (row_at (p + 1))) e) ∙ opened }
+        row_err e h = record { same = sym (chain_err words tags i end enough inv.within _ rdp r tags₁ got (pieces left (row_at (p + 1))) e h) ∙ opened }
 
-        pub row_strange : r ≡ Strange → RowEnsures Strange tags₁ tags₀ at end (pieces left (row_at pc) (slice at end words))
-        unfolding seen
-        row_strange e = record { same = sym (chain_strange words tags i end enough inv.within _ rdp r tags₁ got (pieces left (row_at (p + 1))) e) ∙ opened }
-
-        pub row-again : (k : ℕ) → r ≡ Next k → Rowing words tags₀ at end pc left tags₁ k (p + 1)
+        pub row-again : (k : ℕ) → r ≡ Ok k → Rowing words tags₀ at end pc left tags₁ k (p + 1)
         row-again k e = let o = chain_next words tags i end enough inv.within _ rdp r tags₁ got (pieces left (row_at (p + 1))) k e in record {
           in_rows = row_next p inv.in_rows ne';
           from = omega (arith, inv.from, o.forth);
@@ -275,7 +249,7 @@ module _ (words tags₀ : List ℕ) (at count end pc left : ℕ) where
   times-begin h = record { from = le_refl at; within = h; same = refl }
 
   module _ (enough : end ≤ length words) (tags : List ℕ) (i n : ℕ) (inv : Timing words tags₀ at count end pc left tags i n) where
-    pub times_done : n ≤ 0 → RowEnsures (Next i) tags tags₀ at end (times count (pieces left (row_at pc)) (slice at end words))
+    pub times_done : n ≤ 0 → RowEnsures (Ok i) tags tags₀ at end (times count (pieces left (row_at pc)) (slice at end words))
     unfolding seen final times
     times_done h =
         let z : n ≡ 0 = omega arith in
@@ -290,15 +264,11 @@ module _ (words tags₀ : List ℕ) (at count end pc left : ℕ) where
       rd : Reads (slice i end words) (pieces left (row_at pc) (slice i end words))
       rd = reads-pieces left (row_at pc) (slice i end words)
 
-      pub times_misfit : r ≡ Misfit → RowEnsures Misfit tags₁ tags₀ at end (times count (pieces left (row_at pc)) (slice at end words))
+      pub times_err : (e : Misread) → r ≡ Err e → RowEnsures (Err e) tags₁ tags₀ at end (times count (pieces left (row_at pc)) (slice at end words))
       unfolding seen
-      times_misfit e = record { same = sym (split ∙ chain_misfit words tags i end enough inv.within _ rd r tags₁ got (times (n - 1) (pieces left (row_at pc))) e) ∙ inv.same }
+      times_err e h = record { same = sym (split ∙ chain_err words tags i end enough inv.within _ rd r tags₁ got (times (n - 1) (pieces left (row_at pc))) e h) ∙ inv.same }
 
-      pub times_strange : r ≡ Strange → RowEnsures Strange tags₁ tags₀ at end (times count (pieces left (row_at pc)) (slice at end words))
-      unfolding seen
-      times_strange e = record { same = sym (split ∙ chain_strange words tags i end enough inv.within _ rd r tags₁ got (times (n - 1) (pieces left (row_at pc))) e) ∙ inv.same }
-
-      pub times-next : (k : ℕ) → r ≡ Next k → Timing words tags₀ at count end pc left tags₁ k (n - 1)
+      pub times-next : (k : ℕ) → r ≡ Ok k → Timing words tags₀ at count end pc left tags₁ k (n - 1)
       times-next k e = let o = chain_next words tags i end enough inv.within _ rd r tags₁ got (times (n - 1) (pieces left (row_at pc))) k e in record {
         from = omega (arith, inv.from, o.forth);
         within = o.within;

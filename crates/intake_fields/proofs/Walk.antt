@@ -2,13 +2,17 @@
 use mathlib.Core.Path.{◌≡◌, refl, sym, ap, ◌∙◌}
 use mathlib.Core.Bool.{Bool, true, false}
 use mathlib.Core.List.{List, [], ◌∷◌, ◌++◌, map, append-nil}
-use Prim.Native.Nat.{ℕ, zero, suc, ◌+◌, ◌-◌, ◌/◌, ◌%◌, ◌^◌, ◌≤◌, ◌<◌}
-use native.Mathlib.Nat.{le_refl}
+use Prim.Native.Nat.{ℕ, zero, suc, ◌+◌, ◌-◌, ◌*◌, ◌/◌, ◌%◌, ◌^◌, ◌≤◌, ◌<◌}
 use native.Mathlib.Numerals.{add-one}
 use native.Mathlib.Omega.{arith}
 use lib.Dec.{eqb, ltb, leb}
-use lib.ListN.{length, get_or, set, drop, take, replicate, length-append, length-map}
-use lib.Seq.{slice, sets, slice-cons, drop-drop, length-slice, drop-append_seam}
+use lib.ListN.{length, get_or, set, drop, take, replicate, length-append, length-map, length-drop, length-replicate}
+use borrow.Rule.Slice.PartMut.{put_mid, mid_of}
+use Rattle.base_words.proofs.Loops.{put}
+use lib.Seq.{slice, sets, slice-cons, drop-drop, length-slice, length-take-le, drop-append_seam}
+use Rattle.std.specs.Prelude.{Result, Ok, Err}
+use Rattle.std.specs.Result.{IsErrAnd}
+use Rattle.std.proofs.lemmas.Result.{err_from_is_err_and}
 use borrow.Author.Tests.{le-leb, lt-leb, leb-true, leb-false, lt-ltb, le-ltb, eq-eqb, ne_eqb}
 use Rattle.theory_lists.specs.Stores.{sets-append}
 use Rattle.theory_lists.specs.Lists.{map-append}
@@ -16,48 +20,30 @@ use Rattle.model.specs.Outcome.{Cells, class, word, Outcome, fits, misfit, unkno
 use Rattle.model.specs.Table.{Row, WORD, EXPR, PAD, TEXT, OPERANDS, brings, over, repeat, text, more, follow, run}
 use Rattle.theory_image.specs.Betweens.{slice-none}
 use Rattle.intake_fields.specs.Parts.{Reader, join}
-use Rattle.intake_fields.specs.Walks.{Final, next, refused, strange, seen, final, RowEnsures, filled, Fills}
-use Rattle.intake_fields.specs.declared.Walked.{Walked}
-use Rattle.intake_fields.specs.declared.Walked.TheVariants.{Next, Misfit, Strange}
+use Rattle.intake_fields.specs.Walks.{Walked, Final, next, refused, stopped, seen, final, RowEnsures, Takes, filled, Fills}
+use Rattle.intake_fields.specs.declared.Misread.{Misread}
+use Rattle.intake_fields.specs.declared.Misread.TheVariants.{Misfit, Strange}
 use Rattle.intake_fields.proofs.Flat.{run_none, run-append, plain_more}
 use Rattle.intake_fields.proofs.Reading.{Reads, reads, reads-run}
 
+-- the exit of a `?` returns the error that it met
+pub exit : {T E : Type 0} (q : Result T E) (e : E) → IsErrAnd q (λ x. x ≡ e) → q ≡ Err e
+exit q e h = let p = err_from_is_err_and q h in p.1 ∙ ap Err p.2
+
 -- ---- filling
-pub record Filling (tags₀ : List ℕ) (at stop c : ℕ) (tags : List ℕ) (i : ℕ) : Type 0 where
-  pub from : at ≤ i
-  pub to : i ≤ stop
-  pub same : sets tags i (replicate (stop - i) c) ≡ sets tags₀ at (replicate (stop - at) c)
+pub part_filled : (tags part : List ℕ) (at k n c : ℕ) → k ≡ n → at + n ≤ length tags → part ≡ replicate (length (mid_of at k tags)) c → put_mid at k tags part ≡ sets tags at (replicate n c)
+part_filled tags part at k n c e h is =
+    let long : length (mid_of at k tags) ≡ n = length-take-le k (drop at tags) (omega (arith, length-drop at tags)) ∙ e in
+    put at k tags part (replicate n c) (is ∙ ap (λ m. replicate m c) long) (e ∙ sym (length-replicate n c)) (omega arith)
 
-module _ (tags₀ : List ℕ) (at end c n : ℕ) (m : ℕ) (is : m ≡ n) where
-  pub fill_misfit : at ≤ end → end - at < m → Fills Misfit tags₀ tags₀ at end c n
+module _ (tags₀ : List ℕ) (at end c n : ℕ) (h : at ≤ end) where
+  pub fill_misfit : end - at < n → Fills (Err Misfit) tags₀ tags₀ at end c n
+  unfolding seen stopped filled
+  fill_misfit k = record { same = rw (filled, lt-leb (at + n) end (omega arith)) }
+
+  pub fill_done : n ≤ end - at → (tags : List ℕ) → tags ≡ sets tags₀ at (replicate n c) → Fills (Ok (at + n)) tags tags₀ at end c n
   unfolding seen filled
-  fill_misfit h k = record { same = rw (filled, lt-leb (at + n) end (omega arith)) }
-
-  module _ (stop : ℕ) (at-stop : stop ≡ at + m) where
-    pub fill_begin : Filling tags₀ at stop c tags₀ at
-    fill_begin = record { from = le_refl at; to = omega arith; same = refl }
-
-    module _ (tags : List ℕ) (i : ℕ) (inv : Filling tags₀ at stop c tags i) where
-      pub fill_next : i < stop → Filling tags₀ at stop c (set tags i c) (i + 1)
-      fill_next h =
-          let e : stop - i ≡ suc (stop - (i + 1)) = omega arith in
-          record {
-            from = omega (arith, inv.from);
-            to = omega arith;
-            same = rw (add-one i) (rw (e, add-one i) at inv.same);
-          }
-
-      pub fill_done : at ≤ end → m ≤ end - at → stop ≤ i → Fills (Next i) tags tags₀ at end c n
-      unfolding seen filled
-      fill_done h g k =
-          let e : i ≡ at + n = omega (arith, inv.to) in
-          let z : stop - i ≡ 0 = omega arith in
-          let w : stop - at ≡ n = omega arith in
-          record {
-            same = rw (filled, le-leb (at + n) end (omega arith)) (ap (λ x. next x tags) e ∙ ap (next (at + n)) (rw (z, w) at inv.same));
-          }
-
--- ---- lists
+  fill_done k tags is = record { same = rw (filled, le-leb (at + n) end (omega arith)) (ap (next (at + n)) is) }
 
 -- ---- outcomes, seen from where they start
 pub final-word : (tags : List ℕ) (i end s w : ℕ) (o : Outcome Cells) → final tags i end (map_o ((s, w) ∷◌) o) ≡ final (set tags i s) (i + 1) end o
@@ -96,27 +82,19 @@ module _ (words tags : List ℕ) (i end : ℕ) (enough : end ≤ length words) (
       let k : i + length cs ≡ n = omega (arith, all, n_is, h) in
       let rest_is : rest ≡ slice n end words = sym (rw (length-map) at (drop-append_seam (map word cs) rest)) ∙ (ap (drop (length cs)) (sym e) ∙ drop-drop (length cs) i (take end words) ∙ ap (λ m. slice m end words) k) in
       record { cells = cs; is = ap (fits cs) rest_is; at = k; end-at = omega (arith, n_is); tagged = cc }
-  taken misfit rd tags₁ n g = let z : ◌≡◌ {A = ℕ} 0 1 = cc in absurd (omega arith)
-  taken unknown rd tags₁ n g = let z : ◌≡◌ {A = ℕ} 0 1 = cc in absurd (omega arith)
+  taken misfit rd tags₁ n g = cc
+  taken unknown rd tags₁ n g = cc
 
   module _ (o : Outcome Cells) (rd : Reads (slice i end words) o) (r : Walked) (tags₁ : List ℕ) (got : RowEnsures r tags₁ tags i end o) (p : Reader) where
-    pub chain_misfit : r ≡ Misfit → final tags i end (join o p) ≡ refused
-    unfolding seen final join
-    chain_misfit e = go o (rw e at got.same)
+    pub chain_err : (e : Misread) → r ≡ Err e → final tags i end (join o p) ≡ stopped e
+    unfolding seen stopped final join
+    chain_err e is = go o e (rw is at got.same)
       where
-        go : (o : Outcome Cells) → seen Misfit tags₁ ≡ final tags i end o → final tags i end (join o p) ≡ refused
-        go (fits cs rest) g = let z : ◌≡◌ {A = ℕ} 0 1 = cc in absurd (omega arith)
-        go misfit g = refl
-        go unknown g = let z : ◌≡◌ {A = ℕ} 0 1 = cc in absurd (omega arith)
-
-    pub chain_strange : r ≡ Strange → final tags i end (join o p) ≡ strange
-    unfolding seen final join
-    chain_strange e = go o (rw e at got.same)
-      where
-        go : (o : Outcome Cells) → seen Strange tags₁ ≡ final tags i end o → final tags i end (join o p) ≡ strange
-        go (fits cs rest) g = let z : ◌≡◌ {A = ℕ} 0 1 = cc in absurd (omega arith)
-        go unknown g = refl
-        go misfit g = let z : ◌≡◌ {A = ℕ} 0 1 = cc in absurd (omega arith)
+        go : (o : Outcome Cells) (e : Misread) → stopped e ≡ final tags i end o → final tags i end (join o p) ≡ stopped e
+        go (fits cs rest) Misfit g = cc
+        go (fits cs rest) Strange g = cc
+        go misfit e g = sym g
+        go unknown e g = sym g
 
     onto : (n : ℕ) → Taken words tags i end tags₁ n o → Onto words i end n (final tags i end (join o p)) (final tags₁ n end (p (slice n end words)))
     unfolding join
@@ -129,7 +107,7 @@ module _ (words tags : List ℕ) (i end : ℕ) (enough : end ≤ length words) (
           ∙ ap (λ k. final tags₁ k end (p (slice n end words))) t.at;
     }
 
-    pub chain_next : (n : ℕ) → r ≡ Next n → Onto words i end n (final tags i end (join o p)) (final tags₁ n end (p (slice n end words)))
+    pub chain_next : (n : ℕ) → r ≡ Ok n → Onto words i end n (final tags i end (join o p)) (final tags₁ n end (p (slice n end words)))
     unfolding seen
     chain_next n e = onto n (taken o rd tags₁ n (rw e at got.same))
 
@@ -187,10 +165,14 @@ fill_walks : (words tags : List ℕ) (i end c n : ℕ) → end ≤ length words 
 fill_walks words tags i end c n enough plain h r tags₁ got = record { same = got.same ∙ sym (run_fill n words end c enough plain tags i h) }
 
 -- ---- one word, and the fields that follow because of it
+-- where no word is left
+pub no_word : {tags₁ tags : List ℕ} {i end : ℕ} (o : Outcome Cells) → o ≡ misfit → (e : Misread) → e ≡ Misfit → RowEnsures (Err e) tags₁ tags i end o
+unfolding seen stopped final
+no_word o h e f = record { same = rw (h, f) }
+
 module _ (words tags : List ℕ) (i end s : ℕ) where
-  pub run_misfit : end ≤ i → RowEnsures Misfit tags tags i end (run (slice i end words) (s ∷ []))
-  unfolding seen final
-  run_misfit h = record { same = rw (run_short words i end s [] h) }
+  pub run_misfit : (e : Misread) (tags₁ : List ℕ) → (end ≤ i) × (e ≡ Misfit) → RowEnsures (Err e) tags₁ tags i end (run (slice i end words) (s ∷ []))
+  run_misfit e tags₁ h = no_word _ (run_short words i end s [] h.0) e h.1
 
   module _ (h : i < end) (enough : end ≤ length words) where
     pub run_opens : final tags i end (run (slice i end words) (s ∷ [])) ≡ final (set tags i s) (i + 1) end (follow (more s (get_or words i 0)) [] (run (slice (i + 1) end words)))
@@ -207,19 +189,23 @@ pad_more k w h l =
     let e : 104 + k - 104 ≡ k = omega arith in
     rw (more, le-ltb (104 + k) PAD (omega arith), lt-ltb (104 + k) TEXT (omega arith), e)
 
-module _ (words tags : List ℕ) (i end k : ℕ) (low : 0 < k) (high : k < 4) (h : i < end) (enough : end ≤ length words) (c most : ℕ) (is_c : c ≡ 104 + k) (is : most ≡ 256 ^ k) where
-  pub pad_wrong : most ≤ get_or words i 0 → RowEnsures Misfit (set tags i c) tags i end (run (slice i end words) ((104 + k) ∷ []))
-  unfolding seen final follow
-  pad_wrong g =
-      let e : more (104 + k) (get_or words i 0) ≡ over = pad_more k (get_or words i 0) low high ∙ rw (le-ltb (get_or words i 0) (256 ^ k) (rw is at g)) in
-      record { same = sym (run_opens words tags i end (104 + k) h enough ∙ ap (λ m. final (set tags i (104 + k)) (i + 1) end (follow m [] (run (slice (i + 1) end words)))) e) }
+module _ (words tags : List ℕ) (i end k : ℕ) (low : 0 < k) (high : k < 4) (enough : end ≤ length words) (c most : ℕ) (is_c : c ≡ 104 + k) (is : most ≡ 256 ^ k) (w : ℕ) (tags' : List ℕ) (t : Takes (Ok w) tags' tags words i end c) where
+  tagged : tags' ≡ set tags i (104 + k)
+  tagged = rw is_c at t.2
 
-  pub pad_right : get_or words i 0 < most → RowEnsures (Next (i + 1)) (set tags i c) tags i end (run (slice i end words) ((104 + k) ∷ []))
+  pub pad_wrong : most ≤ w → RowEnsures (Err Misfit) tags' tags i end (run (slice i end words) ((104 + k) ∷ []))
+  unfolding seen stopped final follow
+  pad_wrong g =
+      let e : more (104 + k) (get_or words i 0) ≡ over = pad_more k (get_or words i 0) low high ∙ rw (le-ltb (get_or words i 0) (256 ^ k) (rw (is, t.1) at g)) in
+      record { same = sym (run_opens words tags i end (104 + k) t.0 enough ∙ ap (λ m. final (set tags i (104 + k)) (i + 1) end (follow m [] (run (slice (i + 1) end words)))) e) }
+
+  pub pad_right : w < most → RowEnsures (Ok (i + 1)) tags' tags i end (run (slice i end words) ((104 + k) ∷ []))
   unfolding seen final
   pad_right g =
-      let e : more (104 + k) (get_or words i 0) ≡ brings [] = pad_more k (get_or words i 0) low high ∙ rw (lt-ltb (get_or words i 0) (256 ^ k) (rw is at g)) in
+      let e : more (104 + k) (get_or words i 0) ≡ brings [] = pad_more k (get_or words i 0) low high ∙ rw (lt-ltb (get_or words i 0) (256 ^ k) (rw (is, t.1) at g)) in
+      let h : i < end = t.0 in
       let z : end - length (slice (i + 1) end words) ≡ i + 1 = omega (arith, length-slice (i + 1) end words enough) in
-      record { same = rw is_c (sym (run_brings words tags i end (104 + k) h enough [] e ∙ ap (final (set tags i (104 + k)) (i + 1) end) (run_none (slice (i + 1) end words)) ∙ ap (λ x. next x (set tags i (104 + k))) z)) }
+      record { same = rw tagged (sym (run_brings words tags i end (104 + k) h enough [] e ∙ ap (final (set tags i (104 + k)) (i + 1) end) (run_none (slice (i + 1) end words)) ∙ ap (λ x. next x (set tags i (104 + k))) z)) }
 
 -- ---- operands
 repeat-one : (n c : ℕ) → repeat n (c ∷ []) ≡ replicate n c
@@ -231,10 +217,12 @@ operands-bring : (w : ℕ) → more OPERANDS w ≡ brings (replicate w EXPR)
 unfolding more
 operands-bring w = ap brings (repeat-one w EXPR)
 
-pub operands-walk : (words tags : List ℕ) (i end : ℕ) → i < end → end ≤ length words → (r : Walked) (tags₁ : List ℕ) → Fills r tags₁ (set tags i 109) (i + 1) end 93 (get_or words i 0) → RowEnsures r tags₁ tags i end (run (slice i end words) (109 ∷ []))
-operands-walk words tags i end h enough r tags₁ got = record {
-  same = got.same ∙ sym (run_brings words tags i end 109 h enough (replicate (get_or words i 0) 93) (operands-bring (get_or words i 0)) ∙ run_fill (get_or words i 0) words end 93 enough (omega arith) (set tags i 109) (i + 1) (omega arith));
-}
+pub operands-walk : (words tags : List ℕ) (i end : ℕ) → end ≤ length words → (w : ℕ) (tags' : List ℕ) → Takes (Ok w) tags' tags words i end 109 → (r : Walked) (tags₁ : List ℕ) → Fills r tags₁ tags' (i + 1) end 93 w → RowEnsures r tags₁ tags i end (run (slice i end words) (109 ∷ []))
+operands-walk words tags i end enough w tags' t r tags₁ got =
+    let h : i < end = t.0 in
+    record {
+      same = (rw (t.2, t.1) at got.same) ∙ sym (run_brings words tags i end 109 h enough (replicate (get_or words i 0) 93) (operands-bring (get_or words i 0)) ∙ run_fill (get_or words i 0) words end 93 enough (omega arith) (set tags i 109) (i + 1) (omega arith));
+    }
 
 -- ---- the bytes of a name
 tail : ℕ → Row
@@ -252,49 +240,40 @@ tail_some : (b : ℕ) → (b % 4 ≡ 0 → ⊥) → tail b ≡ (104 + b % 4) ∷
 unfolding tail
 tail_some b n = rw (tail, ne_eqb (b % 4) 0 n) (ap (λ (x : ℕ). x ∷ []) (omega arith))
 
-module _ (words tags : List ℕ) (i end : ℕ) (h : i < end) (enough : end ≤ length words) (r : Walked) (tags₁ : List ℕ) (got : Fills r tags₁ (set tags i 108) (i + 1) end 80 (get_or words i 0 / 4)) where
-  b : ℕ
-  b = get_or words i 0
+module _ (words tags : List ℕ) (i end w : ℕ) (tags' : List ℕ) (t : Takes (Ok w) tags' tags words i end 108) (enough : end ≤ length words) (r : Walked) (tags₁ : List ℕ) (got : Fills r tags₁ tags' (i + 1) end 80 (w / 4)) where
+  h : i < end
+  h = t.0
 
-  whole : final tags i end (run (slice i end words) (108 ∷ [])) ≡ final (set tags i 108) (i + 1) end (join (run (slice (i + 1) end words) (replicate (b / 4) 80)) (λ ws. run ws (tail b)))
-  unfolding b
-  whole = run_brings words tags i end 108 h enough _ (text-more (get_or words i 0)) ∙ ap (final (set tags i 108) (i + 1) end) (run-append (slice (i + 1) end words) (replicate (b / 4) 80) (tail b))
+  whole : final tags i end (run (slice i end words) (108 ∷ [])) ≡ final tags' (i + 1) end (join (run (slice (i + 1) end words) (replicate (w / 4) 80)) (λ ws. run ws (tail w)))
+  whole = rw (t.2, t.1) (run_brings words tags i end 108 t.0 enough _ (text-more (get_or words i 0)) ∙ ap (final (set tags i 108) (i + 1) end) (run-append (slice (i + 1) end words) (replicate (get_or words i 0 / 4) 80) (tail (get_or words i 0))))
 
-  bytes : RowEnsures r tags₁ (set tags i 108) (i + 1) end (run (slice (i + 1) end words) (replicate (b / 4) 80))
-  unfolding b
-  bytes = fill_walks words (set tags i 108) (i + 1) end 80 (b / 4) enough (omega arith) (omega arith) r tags₁ got
+  bytes : RowEnsures r tags₁ tags' (i + 1) end (run (slice (i + 1) end words) (replicate (w / 4) 80))
+  bytes = fill_walks words tags' (i + 1) end 80 (w / 4) enough (omega arith) (omega (arith, h)) r tags₁ got
 
-  pub text_misfit : r ≡ Misfit → RowEnsures Misfit tags₁ tags i end (run (slice i end words) (108 ∷ []))
+  pub text_err : (e : Misread) → r ≡ Err e → RowEnsures (Err e) tags₁ tags i end (run (slice i end words) (108 ∷ []))
   unfolding seen
-  text_misfit e = record { same = sym (whole ∙ chain_misfit words (set tags i 108) (i + 1) end enough (omega arith) _ (reads-run _ _) r tags₁ bytes (λ ws. run ws (tail b)) e) }
+  text_err e is = record { same = sym (whole ∙ chain_err words tags' (i + 1) end enough (omega (arith, h)) _ (reads-run _ _) r tags₁ bytes (λ ws. run ws (tail w)) e is) }
 
-  pub text_strange : r ≡ Strange → RowEnsures Strange tags₁ tags i end (run (slice i end words) (108 ∷ []))
-  unfolding seen
-  text_strange e = record { same = sym (whole ∙ chain_strange words (set tags i 108) (i + 1) end enough (omega arith) _ (reads-run _ _) r tags₁ bytes (λ ws. run ws (tail b)) e) }
-
-  module _ (n : ℕ) (e : r ≡ Next n) where
-    then_tail : Onto words (i + 1) end n (final (set tags i 108) (i + 1) end (join (run (slice (i + 1) end words) (replicate (b / 4) 80)) (λ ws. run ws (tail b)))) (final tags₁ n end (run (slice n end words) (tail b)))
-    then_tail = chain_next words (set tags i 108) (i + 1) end enough (omega arith) _ (reads-run _ _) r tags₁ bytes (λ ws. run ws (tail b)) n e
+  module _ (n : ℕ) (e : r ≡ Ok n) where
+    then_tail : Onto words (i + 1) end n (final tags' (i + 1) end (join (run (slice (i + 1) end words) (replicate (w / 4) 80)) (λ ws. run ws (tail w)))) (final tags₁ n end (run (slice n end words) (tail w)))
+    then_tail = chain_next words tags' (i + 1) end enough (omega (arith, h)) _ (reads-run _ _) r tags₁ bytes (λ ws. run ws (tail w)) n e
 
     pub text-within : n ≤ end
     text-within = then_tail.within
 
-    pub text_done : get_or words i 0 % 4 ≡ 0 → RowEnsures (Next n) tags₁ tags i end (run (slice i end words) (108 ∷ []))
-    unfolding seen final b
+    pub text_done : w % 4 ≡ 0 → RowEnsures (Ok n) tags₁ tags i end (run (slice i end words) (108 ∷ []))
+    unfolding seen final
     text_done z =
         let k : end - length (slice n end words) ≡ n = omega (arith, length-slice n end words enough, then_tail.within) in
-        record { same = sym (whole ∙ then_tail.same ∙ ap (λ l. final tags₁ n end (run (slice n end words) l)) (tail_none b z) ∙ ap (final tags₁ n end) (run_none (slice n end words)) ∙ ap (λ x. next x tags₁) k) }
+        record { same = sym (whole ∙ then_tail.same ∙ ap (λ l. final tags₁ n end (run (slice n end words) l)) (tail_none w z) ∙ ap (final tags₁ n end) (run_none (slice n end words)) ∙ ap (λ x. next x tags₁) k) }
 
-    pub text-padded : (get_or words i 0 % 4 ≡ 0 → ⊥) → (q : Walked) (tags₂ : List ℕ) → RowEnsures q tags₂ tags₁ n end (run (slice n end words) ((104 + get_or words i 0 % 4) ∷ [])) → RowEnsures q tags₂ tags i end (run (slice i end words) (108 ∷ []))
-    unfolding b
-    text-padded z q tags₂ w = record { same = w.same ∙ sym (whole ∙ then_tail.same ∙ ap (λ l. final tags₁ n end (run (slice n end words) l)) (tail_some b z)) }
+    pub text-padded : (w % 4 ≡ 0 → ⊥) → (q : Walked) (tags₂ : List ℕ) → RowEnsures q tags₂ tags₁ n end (run (slice n end words) ((104 + w % 4) ∷ [])) → RowEnsures q tags₂ tags i end (run (slice i end words) (108 ∷ []))
+    text-padded z q tags₂ padded = record { same = padded.same ∙ sym (whole ∙ then_tail.same ∙ ap (λ l. final tags₁ n end (run (slice n end words) l)) (tail_some w z)) }
 
 -- ---- what a padded word stays below
-pub room-one : (k : ℕ) → k ≡ 1 → 256 ≡ 256 ^ k
-room-one k e = rw e
-
-pub room-two : (k : ℕ) → k ≡ 2 → 65536 ≡ 256 ^ k
-room-two k e = rw e
-
-pub room-three : (k : ℕ) → (k ≡ 1 → ⊥) → (k ≡ 2 → ⊥) → 0 < k → k < 4 → 16777216 ≡ 256 ^ k
-room-three k a b h l = let e : k ≡ 3 = omega arith in rw e
+pub below_pad : (k : ℕ) → 0 < k → k < 4 → 1 * 2 ^ (8 * k) % 2 ^ 32 ≡ 256 ^ k
+below_pad zero h l = absurd (omega arith)
+below_pad (suc zero) h l = refl
+below_pad (suc (suc zero)) h l = refl
+below_pad (suc (suc (suc zero))) h l = refl
+below_pad (suc (suc (suc (suc k)))) h l = absurd (omega arith)

@@ -1,10 +1,10 @@
--- The field table as the code has it, computed from the model's rows: the rows, each ended by 0; where the rows of each group of codes start; for each symbol from MEMBERS on its row and limit, or its group and the number of codes; and where the rows of the tables' records start. The code's array is compared with it by computation (table::numbers).
-use Rattle.std.specs.Prelude.{◌≡◌, List, [], ◌∷◌, ◌++◌, ℕ, zero, suc, ◌+◌, ◌*◌, ◌-◌, ◌<◌, length, get_or, drop}
+-- The field table as the code has it, computed from the model's rows: the rows, each ended by 0; where the rows of each group of codes start; for each symbol from MEMBERS on its row and limit, or its group and the number of codes; and where the rows of the tables' records start. The code's array is compared with it by computation (table::entry).
+use Rattle.std.specs.Prelude.{◌≡◌, List, [], ◌∷◌, ◌++◌, ℕ, zero, suc, ◌+◌, ◌*◌, ◌-◌, ◌<◌, length, get_or, drop, Result, Ok, Err}
 use Rattle.model.specs.Table.{Row, MEMBERS, ARGUMENTS, LOCALS, EXPRESSIONS, NAMED, LENGTH, STMT_KIND, limit, counted, types, expressions, levels, queries, values, atomics, results, statements, name_row, type_row, constant_row, override_row, global_row, expression_row, function_head, entry_head}
 use Rattle.model.specs.Module.{rays_row, pair_row}
 use Rattle.intake_fields.specs.Parts.{case_row, row_of, row_as, statement_rows, function_row, entry_row, table_rows, brings_of, rows, over, nothing}
-use Rattle.intake_fields.specs.declared.More.{More}
-use Rattle.intake_fields.specs.declared.More.TheVariants.{Rows, Over, Unknown}
+use Rattle.intake_fields.specs.declared.Misread.{Misread}
+use Rattle.intake_fields.specs.declared.Misread.TheVariants.{Misfit, Strange}
 
 -- ---- rows
 -- one after the other, each ended by 0
@@ -106,7 +106,8 @@ row (suc s ∷ ns) = suc s ∷ row ns
 unfoldable pub row_at : ℕ → Row
 row_at pc = row (drop pc numbers)
 
-abbrev pub MoreIs : ℕ → ℕ → More → Type 0
-MoreIs s w (Rows pc n) = (pc < ROWS) × (brings_of s w ≡ rows n (row_at pc))
-MoreIs s w Over = brings_of s w ≡ over
-MoreIs s w Unknown = brings_of s w ≡ nothing
+-- what the code finds to follow the word w of the class s: a row, a number of times, or why none does
+abbrev pub MoreIs : ℕ → ℕ → Result (ℕ × ℕ) Misread → Type 0
+MoreIs s w (Ok p) = (p.0 < ROWS) × (brings_of s w ≡ rows p.1 (row_at p.0))
+MoreIs s w (Err Misfit) = brings_of s w ≡ over
+MoreIs s w (Err Strange) = brings_of s w ≡ nothing

@@ -1,21 +1,22 @@
-// Laying out a record: one class for each word, by one table and recursion. A walk starts at a word and ends after the record, or finds a misfit (refusal 2) or
-// a code that is none of the listed (refusal 3). The tags have the class of each word that was passed.
+// Laying out a record: one class for each word, by one table and recursion. A walk starts at a word and ends after the record, or finds a misfit or a code that
+// is none of the listed. The tags have the class of each word that was passed.
 #![tactic(auto)]
 
 pub mod table;
 
-ghost use Rattle.std.specs.Prelude.{◌≡◌, [], ◌∷◌, ◌+◌, ◌*◌, ◌%◌, ◌^◌, ◌≤◌, ◌<◌, length};
+ghost use Rattle.std.specs.Prelude.{◌≡◌, [], ◌∷◌, ◌+◌, ◌-◌, ◌*◌, ◌%◌, ◌≤◌, ◌<◌, length, get_or};
 ghost use Rattle.std.proofs.Math.Seq.{slice};
 ghost use Rattle.model.specs.Table.{run};
 ghost use Rattle.intake_fields.specs.Parts.{read_b, statement_of, piece, pieces, times as timesOf, opening};
 ghost use Rattle.intake_fields.specs.Rows.{ROWS, numbers, row_at, MoreIs};
-ghost use Rattle.intake_fields.specs.Walks.{RowEnsures, Fills};
+ghost use Rattle.intake_fields.specs.Walks.{refusal_of, Takes, RowEnsures, Fills};
 
-use base_words::{Tags, Words, wide};
-use table::{KIND_ROW, SYMBOLS};
+use base_refusals::Refusal;
+use base_words::{Tags, Words};
+use table::{KIND_ROW, SYMBOLS, entry};
 
 // Classes as the table has them.
-const MEMBERS: usize = base_classes::MEMBERS as usize;
+const MEMBERS: u16 = base_classes::MEMBERS as u16;
 
 const PAD: u16 = base_classes::PAD as u16;
 
@@ -31,171 +32,124 @@ const CASES: u16 = base_classes::CASES as u16;
 
 const LENGTH: u16 = base_classes::LENGTH as u16;
 
-#[derive(Clone, Copy)]
-pub enum Walked {
-    Next(usize),
+// Why words cannot be read: they do not fit, or a code is none of the listed.
+#[derive(Clone, Copy, Debug, PartialEq, Eq)]
+pub enum Misread {
     Misfit,
     Strange,
 }
 
-// What follows a word: the row at a place of the table, a number of times.
-#[derive(Clone, Copy)]
-pub enum More {
-    Rows(usize, u32),
-    Over,
-    Unknown,
-}
+// The refusal of an image that cannot be read.
+impl From<Misread> for Refusal {
+    ghost from_gives = { λ misread refusal. refusal ≡ refusal_of misread };
 
-pub fn place(x: u16) -> usize
-    ensures { result ≡ x }
-{
-    x as usize
-}
-
-fn narrow(x: u16) -> u8
-    requires { x < 256 }
-    ensures { result ≡ x }
-{
-    x as u8
+    fn from(misread: Misread) -> Refusal {
+        match misread {
+            Misread::Misfit => Refusal::BadLayout,
+            Misread::Strange => Refusal::BadRange,
+        }
+    }
 }
 
 // n words of the class c.
-pub fn fill(tags: &mut Tags, at: usize, end: usize, c: u8, n: u32) -> Walked
+pub fn fill(tags: &mut Tags, at: usize, end: usize, c: u8, n: u32) -> Result<usize, Misread>
     requires at_le_end { at ≤ end }
     requires end_bound { end ≤ 16384 }
     ensures { Fills result tags.new tags.old at end c n }
 {
-    let m = wide(n);
-    if end - at < m {
-        return Walked::Misfit;
+    let n = n as usize;
+    if end - at < n {
+        return Err(Misread::Misfit);
     }
-    let stop = at + m;
-    let mut i = at;
-    while i < stop {
-        let j = i;
-        i += 1;
-        tags[j] = c;
-    }
-    Walked::Next(i)
+    tags[at..at + n].fill(c);
+    Ok(at + n)
 }
 
-// What the last word of a name stays below, of which k bytes are used.
-fn room(k: u32) -> u32
-    requires { (0 < k) × (k < 4) }
-    ensures { result ≡ 256 ^ k }
+// The word at `at`, which is of the class c.
+fn word(words: &Words, tags: &mut Tags, at: usize, end: usize, c: u8) -> Result<u32, Misread>
+    requires { end ≤ 16384 }
+    ensures { Takes result tags.new tags.old words.now at end c }
 {
-    if k == 1 {
-        return 256;
+    if end <= at {
+        return Err(Misread::Misfit);
     }
-    if k == 2 {
-        return 65536;
-    }
-    16777216
-}
-
-// The class of a name's last word, of which k bytes are used.
-fn pad(k: u32) -> u8
-    requires { (0 < k) × (k < 4) }
-    ensures { result ≡ 104 + k }
-{
-    if k == 1 {
-        return base_classes::PAD;
-    }
-    if k == 2 {
-        return base_classes::PAD + 1;
-    }
-    base_classes::PAD + 2
+    tags[at] = c;
+    Ok(words[at])
 }
 
 // The last word of a name, of which k bytes are used: the others are zero.
-fn padded(words: &Words, tags: &mut Tags, at: usize, end: usize, k: u32) -> Walked
+fn padded(words: &Words, tags: &mut Tags, at: usize, end: usize, k: u32) -> Result<usize, Misread>
     requires at_le_end { at ≤ end }
     requires end_in_bounds { end ≤ length words.now }
     requires end_bound { end ≤ 16384 }
     requires k_nonzero { (0 < k) × (k < 4) }
     ensures { RowEnsures result tags.new tags.old at end (run (slice at end words.now) ((104 + k) ∷ [])) }
 {
-    if end <= at {
-        return Walked::Misfit;
+    let last = word(words, tags, at, end, base_classes::PAD - 1 + k as u8)?;
+    let most = 1 << (8 * k);
+    if most <= last {
+        return Err(Misread::Misfit);
     }
-    tags[at] = pad(k);
-    let w = words[at];
-    let most = room(k);
-    if most <= w {
-        return Walked::Misfit;
-    }
-    Walked::Next(at + 1)
+    Ok(at + 1)
 }
 
 // The bytes of a name, after their number.
-fn text(words: &Words, tags: &mut Tags, at: usize, end: usize) -> Walked
+fn text(words: &Words, tags: &mut Tags, at: usize, end: usize) -> Result<usize, Misread>
     requires at_le_end { at ≤ end }
     requires end_in_bounds { end ≤ length words.now }
     requires end_bound { end ≤ 16384 }
     ensures { RowEnsures result tags.new tags.old at end (run (slice at end words.now) (108 ∷ [])) }
 {
-    if end <= at {
-        return Walked::Misfit;
-    }
-    tags[at] = base_classes::TEXT;
-    let b = words[at];
-    let k = b % 4;
-    let r = fill(tags, at + 1, end, base_classes::WORD, b / 4);
-    match r {
-        Walked::Next(i) => {
-            if k == 0 {
-                return Walked::Next(i);
-            }
-            padded(words, tags, i, end, k)
-        }
-        Walked::Misfit => Walked::Misfit,
-        Walked::Strange => Walked::Strange,
+    let bytes = word(words, tags, at, end, base_classes::TEXT)?;
+    let i = fill(tags, at + 1, end, base_classes::WORD, bytes / 4)?;
+    match bytes % 4 {
+        0 => Ok(i),
+        k => padded(words, tags, i, end, k),
     }
 }
 
 // Operands, after their number.
-fn operands(words: &Words, tags: &mut Tags, at: usize, end: usize) -> Walked
+fn operands(words: &Words, tags: &mut Tags, at: usize, end: usize) -> Result<usize, Misread>
     requires at_le_end { at ≤ end }
     requires end_in_bounds { end ≤ length words.now }
     requires end_bound { end ≤ 16384 }
     ensures { RowEnsures result tags.new tags.old at end (run (slice at end words.now) (109 ∷ [])) }
 {
-    if end <= at {
-        return Walked::Misfit;
-    }
-    tags[at] = base_classes::OPERANDS;
-    let n = words[at];
+    let n = word(words, tags, at, end, base_classes::OPERANDS)?;
     fill(tags, at + 1, end, base_classes::EXPR, n)
 }
 
-// What follows the word w of a list, a variant, a block, cases or a statement's kind.
-fn brings(table: &[u16; 510], s: u16, w: u32) -> More
-    requires table_value { table.now ≡ numbers }
+// What the table has for a symbol from MEMBERS on: its row and limit, or where its group starts and how many it has.
+fn pair(s: u16) -> (usize, u32)
+    requires { (110 ≤ s) × (s < 126) }
+    ensures row_or_group { result.0 ≡ get_or numbers (SYMBOLS + 2 * (s - 110)) 0 }
+    ensures limit_or_count { result.1 ≡ get_or numbers (SYMBOLS + 2 * (s - 110) + 1) 0 }
+{
+    let at = SYMBOLS + 2 * usize::from(s - MEMBERS);
+    (usize::from(entry(at)), u32::from(entry(at + 1)))
+}
+
+// What follows the word w of a list, a variant, a block, cases or a statement's kind: the row at a place of the table, a number of times.
+fn brings(s: u16, w: u32) -> Result<(usize, u32), Misread>
     requires le_s { (110 ≤ s) × (s < 126) }
     requires fact { s ≡ 124 → ⊥ }
     ensures { MoreIs s w result }
 {
-    let k = SYMBOLS + 2 * (place(s) - MEMBERS);
-    let from = place(table[k]);
-    let most = place(table[k + 1]);
-    let n = wide(w);
+    let (from, most) = pair(s);
+    if s == BLOCK || s == CASES {
+        return Ok((from, w));
+    }
     if s < TYPE_KIND {
-        if most < n {
-            return More::Over;
-        }
-        return More::Rows(from, w);
+        return if w <= most {
+            Ok((from, w))
+        } else {
+            Err(Misread::Misfit)
+        };
     }
-    if s == BLOCK {
-        return More::Rows(from, w);
+    if most <= w {
+        return Err(Misread::Strange);
     }
-    if s == CASES {
-        return More::Rows(from, w);
-    }
-    if most <= n {
-        return More::Unknown;
-    }
-    let pc = place(table[from + n]);
-    More::Rows(pc, 1)
+    Ok((usize::from(entry(from + w as usize)), 1))
 }
 
 // A word of the class s, and what follows because of it, with `left` levels of blocks left.
@@ -203,64 +157,37 @@ fn brings(table: &[u16; 510], s: u16, w: u32) -> More
 fn opened(
     words: &Words,
     tags: &mut Tags,
-    table: &[u16; 510],
     at: usize,
     end: usize,
     s: u16,
     left: u32,
-) -> Walked
+) -> Result<usize, Misread>
     requires at_le_end { at ≤ end }
     requires end_in_bounds { end ≤ length words.now }
     requires end_bound { end ≤ 16384 }
-    requires table_value { table.now ≡ numbers }
     requires le_s { (110 ≤ s) × (s < 126) }
     requires fact { s ≡ 124 → ⊥ }
     ensures { RowEnsures result tags.new tags.old at end (opening left s (slice at end words.now)) }
 {
-    if end <= at {
-        return Walked::Misfit;
-    }
-    tags[at] = narrow(s);
-    let w = words[at];
-    let more = brings(table, s, w);
-    match more {
-        More::Rows(pc, n) => times(words, tags, table, at + 1, end, pc, n, left),
-        More::Over => Walked::Misfit,
-        More::Unknown => Walked::Strange,
-    }
+    let w = word(words, tags, at, end, s as u8)?;
+    let (pc, count) = brings(s, w)?;
+    times(words, tags, at + 1, end, pc, count, left)
 }
 
 // A statement: its length, and then its kind and row, which have that length.
 #[cycle(opened_part_row_stmt_times)]
-fn stmt(
-    words: &Words,
-    tags: &mut Tags,
-    table: &[u16; 510],
-    at: usize,
-    end: usize,
-    left: u32,
-) -> Walked
+fn stmt(words: &Words, tags: &mut Tags, at: usize, end: usize, left: u32) -> Result<usize, Misread>
     requires at_le_end { at ≤ end }
     requires end_in_bounds { end ≤ length words.now }
     requires end_bound { end ≤ 16384 }
-    requires table_value { table.now ≡ numbers }
     ensures { RowEnsures result tags.new tags.old at end (statement_of (read_b left) (slice at end words.now)) }
 {
-    if end <= at {
-        return Walked::Misfit;
-    }
-    tags[at] = base_classes::LENGTH;
-    let n = wide(words[at]);
-    let r = row(words, tags, table, at + 1, end, KIND_ROW, left);
-    match r {
-        Walked::Next(i) => {
-            if at + n == i {
-                return Walked::Next(i);
-            }
-            Walked::Misfit
-        }
-        Walked::Misfit => Walked::Misfit,
-        Walked::Strange => Walked::Strange,
+    let n = word(words, tags, at, end, base_classes::LENGTH)?;
+    let i = row(words, tags, at + 1, end, KIND_ROW, left)?;
+    if at + n as usize == i {
+        Ok(i)
+    } else {
+        Err(Misread::Misfit)
     }
 }
 
@@ -269,83 +196,56 @@ fn stmt(
 fn part(
     words: &Words,
     tags: &mut Tags,
-    table: &[u16; 510],
     at: usize,
     end: usize,
     s: u16,
     left: u32,
-) -> Walked
+) -> Result<usize, Misread>
     requires at_le_end { at ≤ end }
     requires end_in_bounds { end ≤ length words.now }
     requires end_bound { end ≤ 16384 }
-    requires table_value { table.now ≡ numbers }
     requires le_s { (108 ≤ s) × (s < 126) }
     ensures { RowEnsures result tags.new tags.old at end (piece left s (slice at end words.now)) }
 {
-    if s == TEXT {
-        return text(words, tags, at, end);
+    match s {
+        TEXT => text(words, tags, at, end),
+        OPERANDS => operands(words, tags, at, end),
+        LENGTH => stmt(words, tags, at, end, left),
+        BLOCK if left == 0 => Err(Misread::Misfit),
+        BLOCK => opened(words, tags, at, end, s, left - 1),
+        _ => opened(words, tags, at, end, s, left),
     }
-    if s == OPERANDS {
-        return operands(words, tags, at, end);
-    }
-    if s == LENGTH {
-        return stmt(words, tags, table, at, end, left);
-    }
-    if s == BLOCK {
-        if left == 0 {
-            return Walked::Misfit;
-        }
-        return opened(words, tags, table, at, end, s, left - 1);
-    }
-    opened(words, tags, table, at, end, s, left)
 }
 
-// The row at pc.
+// The row at pc. It is no `for`: a row ends at a 0, and a range from pc on would need an end that is never reached.
 #[cycle(opened_part_row_stmt_times)]
 pub fn row(
     words: &Words,
     tags: &mut Tags,
-    table: &[u16; 510],
     at: usize,
     end: usize,
     pc: usize,
     left: u32,
-) -> Walked
+) -> Result<usize, Misread>
     requires at_le_end { at ≤ end }
     requires end_in_bounds { end ≤ length words.now }
     requires end_bound { end ≤ 16384 }
-    requires table_value { table.now ≡ numbers }
     requires pc_bound { pc < ROWS }
     ensures { RowEnsures result tags.new tags.old at end (pieces left (row_at pc) (slice at end words.now)) }
 {
     let mut i = at;
     let mut p = pc;
     loop {
-        let s = table[p];
+        let s = entry(p);
         if s == 0 {
-            return Walked::Next(i);
+            return Ok(i);
         }
         p += 1;
         if s < PAD {
-            if end <= i {
-                return Walked::Misfit;
-            }
-            let j = i;
+            word(words, tags, i, end, s as u8)?;
             i += 1;
-            tags[j] = narrow(s);
         } else {
-            let r = part(words, tags, table, i, end, s, left);
-            match r {
-                Walked::Next(k) => {
-                    i = k;
-                }
-                Walked::Misfit => {
-                    return Walked::Misfit;
-                }
-                Walked::Strange => {
-                    return Walked::Strange;
-                }
-            }
+            i = part(words, tags, i, end, s, left)?;
         }
     }
 }
@@ -355,36 +255,21 @@ pub fn row(
 pub fn times(
     words: &Words,
     tags: &mut Tags,
-    table: &[u16; 510],
     at: usize,
     end: usize,
     pc: usize,
     count: u32,
     left: u32,
-) -> Walked
+) -> Result<usize, Misread>
     requires at_le_end { at ≤ end }
     requires end_in_bounds { end ≤ length words.now }
     requires end_bound { end ≤ 16384 }
-    requires table_value { table.now ≡ numbers }
     requires pc_bound { pc < ROWS }
     ensures { RowEnsures result tags.new tags.old at end (timesOf count (pieces left (row_at pc)) (slice at end words.now)) }
 {
-    let mut n = count;
     let mut i = at;
-    while 0 < n {
-        let r = row(words, tags, table, i, end, pc, left);
-        match r {
-            Walked::Next(k) => {
-                i = k;
-            }
-            Walked::Misfit => {
-                return Walked::Misfit;
-            }
-            Walked::Strange => {
-                return Walked::Strange;
-            }
-        }
-        n -= 1;
+    for _ in 0..count {
+        i = row(words, tags, i, end, pc, left)?;
     }
-    Walked::Next(i)
+    Ok(i)
 }

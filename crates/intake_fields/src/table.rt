@@ -1,8 +1,8 @@
 // The field table as numbers: the rows of symbols, each ended by 0; where the rows of each group of codes start; for each symbol from
 // MEMBERS (110) on its row and limit, or its group and the number of codes; and the rows of the tables' records.
-// specs/Rows.antt computes the same numbers from the model's rows, and `numbers` compares them.
-ghost use Rattle.std.specs.Prelude.{◌≡◌};
-ghost use Rattle.intake_fields.specs.Rows.{numbers as numbersOf};
+// specs/Rows.antt computes the same numbers from the model's rows, and `entry` is proved to read those.
+ghost use Rattle.std.specs.Prelude.{◌≡◌, ◌<◌, get_or};
+ghost use Rattle.intake_fields.specs.Rows.{numbers};
 
 // Where the symbols' pairs are, and where the records' rows are.
 pub const SYMBOLS: usize = 468;
@@ -41,9 +41,10 @@ const TABLE: [u16; 510] = [
     451, 17, 329, 331, 336, 342, 349, 361, 363, 373, 390, 394,
 ];
 
-// All of them, which are the model's.
-pub fn numbers() -> [u16; 510]
-    ensures { result ≡ numbersOf }
+// Number i of them, which are the model's.
+pub fn entry(i: usize) -> u16
+    requires { i < 510 }
+    ensures { result ≡ get_or numbers i 0 }
 {
-    TABLE
+    TABLE[i]
 }

@@ -123,17 +123,17 @@ module _ (words tags starts m₀ l₀ : List ℕ) (t₀ e : ℕ) where
       pub reach_list : t - 1 < 1024
       reach_list = omega (arith, few pre.function e m l t this h)
 
-      module _ (x : ℕ) (x_is : (x ≡ get_or l (t - 1) 0) × (x < 2 ^ 32)) where
+      module _ (x : ℕ) (x_is : x ≡ get_or l (t - 1) 0) where
         pub reach_below : x < e
-        reach_below = rw x_is.0 (below pre.function e m l t this h)
+        reach_below = rw x_is (below pre.function e m l t this h)
 
-        pub reach_few : e ≤ 1024
-        reach_few = this.room.few
+        pub reach_start : x < 1024
+        reach_start = omega (arith, reach_below, this.room.few)
 
-        module _ (at : ℕ) (at-is : (at ≡ get_or starts x 0) × (at < 2 ^ 32)) where
+        module _ (at : ℕ) (at-is : at ≡ get_or starts x 0) where
           -- where the expression is
           here-at : (f : Function) (locals exprs end : ℕ) → Lists words tags locals exprs end f → Starting f e (exprs + 1) starts → at ≡ start_of (exprs + 1) f.exprs x
-          here-at f locals exprs end ls st = at-is.0 ∙ st.each x (omega (arith, reach_below))
+          here-at f locals exprs end ls st = at-is ∙ st.each x (omega (arith, reach_below))
 
           module _ (f : Function) (locals exprs end : ℕ) (ls : Lists words tags locals exprs end f) (st : Starting f e (exprs + 1) starts) (w : Work f e m l t) where
             number : x < length f.exprs
@@ -160,14 +160,14 @@ module _ (words tags starts m₀ l₀ : List ℕ) (t₀ e : ℕ) where
 
           module _ (v : Bool) (v-is : v ≡ constant_kind (get_or words at 0)) where
             kind_is : (f : Function) (locals exprs end : ℕ) → Lists words tags locals exprs end f → Starting f e (exprs + 1) starts → Work f e m l t → constant_kind (kind_at f.exprs (get_or l (t - 1) 0)) ≡ v
-            kind_is f locals exprs end ls st w = rw (← x_is.0) (ap constant_kind (sym (kind-at f locals exprs end ls st w)) ∙ sym v-is)
+            kind_is f locals exprs end ls st w = rw (← x_is) (ap constant_kind (sym (kind-at f locals exprs end ls st w)) ∙ sym v-is)
 
             pub reach_barred : not v ≡ true → Reaches false words tags starts m₀ l₀ t₀ e m l
             reach_barred q = record { same = λ f locals exprs end ls st w₀. let w = inv.going f locals exprs end ls st w₀ in barred f e m l t w h (kind_is f locals exprs end ls st w ∙ not-true v q); left = λ z. absurd (false≢true z) }
 
-            module _ (q : not v ≡ false) (to : ℕ) (to_is : (to ≡ get_or starts (x + 1) 0) × (to < 2 ^ 32)) where
+            module _ (q : not v ≡ false) (to : ℕ) (to_is : to ≡ get_or starts (x + 1) 0) where
               to_at : (f : Function) (locals exprs end : ℕ) → Lists words tags locals exprs end f → Starting f e (exprs + 1) starts → start_of (exprs + 1) f.exprs (suc x) ≡ to
-              to_at f locals exprs end ls st = sym (to_is.0 ∙ rw (add-one x) (st.each (suc x) reach_below))
+              to_at f locals exprs end ls st = sym (to_is ∙ rw (add-one x) (st.each (suc x) reach_below))
 
               part-to : (f : Function) (locals exprs end : ℕ) (ls : Lists words tags locals exprs end f) → Starting f e (exprs + 1) starts → Work f e m l t → Part ls.cells at to (get_or f.exprs x [])
               part-to f locals exprs end ls st w = rw (to_at f locals exprs end ls st) at (at_part f locals exprs end ls st w)
@@ -196,7 +196,7 @@ module _ (words tags starts m₀ l₀ : List ℕ) (t₀ e : ℕ) where
                 reach_next = record {
                   going = λ f locals exprs end ls st w₀.
                       let w = inv.going f locals exprs end ls st w₀ in
-                      let p : between tags words at to ≡ get_or f.exprs (get_or l (t - 1) 0) [] = rw (← x_is.0) (held-between ls.own.held (part-to f locals exprs end ls st w)) in
+                      let p : between tags words at to ≡ get_or f.exprs (get_or l (t - 1) 0) [] = rw (← x_is) (held-between ls.own.held (part-to f locals exprs end ls st w)) in
                       visited f e m l t w h (kind_is f locals exprs end ls st w ∙ not-false v q) m₁ l₁ t₁ (subst (λ cs. Visits e (ops_of cs) m l (t - 1) m₁ l₁ t₁) p got);
                 }
 

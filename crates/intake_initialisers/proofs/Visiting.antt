@@ -2,8 +2,10 @@
 use mathlib.Core.Path.{◌≡◌, refl, sym, ap, ◌∙◌, subst}
 use mathlib.Core.Logic.{inl, inr, ⊎_elim}
 use mathlib.Core.Bool.{Bool, true, false}
+use Rattle.std.specs.Prelude.{Option, Some, None}
+use Rattle.std.specs.Option.{SomeIff}
 use mathlib.Core.List.{List, [], ◌∷◌, ◌++◌}
-use Prim.Native.Nat.{ℕ, zero, suc, ◌+◌, ◌*◌, ◌-◌, ◌^◌, ◌≤◌, ◌<◌}
+use Prim.Native.Nat.{ℕ, zero, suc, ◌+◌, ◌*◌, ◌-◌, ◌≤◌, ◌<◌}
 use native.Mathlib.Numerals.{add-one}
 use native.Mathlib.Omega.{arith}
 use lib.Dec.{eqb}
@@ -15,33 +17,34 @@ use Rattle.model.specs.Initial.{Mem, here, there}
 use Rattle.theory_image.specs.Members.{no_mem, mem_left, mem_right, mem_cases}
 use Rattle.model.specs.Between.{between, Long}
 use Rattle.theory_image.specs.Betweens.{between_none, between_cons}
-use Rattle.intake_initialisers.specs.Marks.{finds, reads, on, blank, inits, Visits, Room}
+use Rattle.intake_initialisers.specs.Marks.{finds, before, reads, on, blank, inits, Visits, Room}
 
 -- ---- what a word reads
-pub operand_expr : (s w v : ℕ) → s ≡ 93 → v ≡ w → v < 2 ^ 32 → (v + 1 ≡ reads s w) × (v + 1 ≤ 2 ^ 32)
-unfolding reads
-operand_expr s w v e q l = (rw (reads, eq-eqb s 93 e) (add-one v ∙ ap suc q), omega arith)
+-- a number less 1, if it is not 0
+pub less_one : (o : Option ℕ) (w : ℕ) → SomeIff o (1 ≤ w) (w - 1) → o ≡ before w
+unfolding before
+less_one None zero h = refl
+less_one None (suc w) h = absurd (h (omega arith))
+less_one (Some x) zero h = absurd (omega (arith, h.0))
+less_one (Some x) (suc w) h = let q : x ≡ w = omega (arith, h.1) in rw q
 
-pub operand_opt : (s w v : ℕ) → (s ≡ 93 → ⊥) → s ≡ 94 → v ≡ w → v < 2 ^ 32 → (v ≡ reads s w) × (v ≤ 2 ^ 32)
-unfolding reads
-operand_opt s w v n e q l = (rw (reads, ne_eqb s 93 n, eq-eqb s 94 e) q, omega arith)
+-- what is read, before the numbers xs
+first : Option ℕ → List ℕ → List ℕ
+first (Some x) xs = x ∷ xs
+first None xs = xs
 
-pub operand-none : (s w : ℕ) → (s ≡ 93 → ⊥) → (s ≡ 94 → ⊥) → (0 ≡ reads s w) × (0 ≤ 2 ^ 32)
-unfolding reads
-operand-none s w n k = (rw (reads, ne_eqb s 93 n, ne_eqb s 94 k), omega arith)
+optional-first : (v : ℕ) (xs : List ℕ) → optional v xs ≡ first (before v) xs
+unfolding optional before first
+optional-first zero xs = refl
+optional-first (suc v) xs = refl
 
-optional-front : (v : ℕ) (xs : List ℕ) → optional v xs ≡ optional v [] ++ xs
-unfolding optional
-optional-front zero xs = refl
-optional-front (suc v) xs = refl
-
-operand-front : (s w : ℕ) (xs : List ℕ) → operand s w xs ≡ optional (reads s w) [] ++ xs
-unfolding operand reads optional
-operand-front s w xs = go (eqb s 93) (eqb s 94)
+operand-first : (s w : ℕ) (xs : List ℕ) → operand s w xs ≡ first (reads s w) xs
+unfolding operand reads first
+operand-first s w xs = go (eqb s 93) (eqb s 94)
   where
-    go : (a b : Bool) → ◌≡◌ {A = List ℕ} (elim a [ true ↦ w ∷ xs | false ↦ elim b [ true ↦ optional w xs | false ↦ xs ] ]) (optional (elim a [ true ↦ suc w | false ↦ elim b [ true ↦ w | false ↦ 0 ] ]) [] ++ xs)
+    go : (a b : Bool) → ◌≡◌ {A = List ℕ} (elim a [ true ↦ w ∷ xs | false ↦ elim b [ true ↦ optional w xs | false ↦ xs ] ]) (first (elim a [ true ↦ Some w | false ↦ elim b [ true ↦ before w | false ↦ None ] ]) xs)
     go true b = refl
-    go false true = optional-front w xs
+    go false true = optional-first w xs
     go false false = refl
 
 -- ---- membership
@@ -110,10 +113,6 @@ cases P a b f g = go (eqb a b) refl
     go false q = g (eqb-false a b q)
 
 module _ (e : ℕ) (m l : List ℕ) (t : ℕ) where
-  pub visit_none : (x : ℕ) → x ≡ 0 → Visits e (optional x []) m l t m l t
-  unfolding optional
-  visit_none x q = rw q (visits_none e m l t)
-
   -- nothing new where what is there to hit is marked
   idle : (z : ℕ) → (z < e → on m z ≡ true) → Visits e (z ∷ []) m l t m l t
   idle z h = record {
@@ -127,22 +126,18 @@ module _ (e : ℕ) (m l : List ℕ) (t : ℕ) where
     listed = λ y p. inl p;
   }
 
-  pub visit_out : (x : ℕ) → (x ≡ 0 → ⊥) → e < x → Visits e (optional x []) m l t m l t
-  unfolding optional
-  visit_out zero n h = absurd (n refl)
-  visit_out (suc z) n h = idle z (λ i. absurd (omega arith))
+  pub visit_out : (x : ℕ) → e ≤ x → Visits e (x ∷ []) m l t m l t
+  visit_out x h = idle x (λ i. absurd (omega arith))
 
-  pub visit_again : (x : ℕ) → (x ≡ 0 → ⊥) → (get_or m (x - 1) 0 ≡ 0 → ⊥) → Visits e (optional x []) m l t m l t
-  unfolding optional
-  visit_again zero n h = absurd (n refl)
-  visit_again (suc z) n h = let q : suc z - 1 ≡ z = omega arith in idle z (λ i. on_not m z (rw q at h))
+  pub visit_again : (x : ℕ) → (get_or m x 0 ≡ 0 → ⊥) → Visits e (x ∷ []) m l t m l t
+  visit_again x h = idle x (λ i. on_not m x h)
 
   module _ (r : Room e m l t) where
-    pub visit_room : (x : ℕ) → (x ≡ 0 → ⊥) → x ≤ e → get_or m (x - 1) 0 ≡ 0 → t < 1024
-    visit_room x n h q = let p : x - 1 < e = omega arith in omega (arith, blank_some e m (x - 1) p (omega (arith, r.marks_long, r.few)) q, r.room, r.few)
+    pub visit_room : (x : ℕ) → x < e → get_or m x 0 ≡ 0 → t < 1024
+    visit_room x h q = omega (arith, blank_some e m x h (omega (arith, r.marks_long, r.few)) q, r.room, r.few)
 
-    push : (z : ℕ) → z < e → get_or m z 0 ≡ 0 → Visits e (z ∷ []) m l t (set m z 1) (set l t z) (t + 1)
-    push z h q = record {
+    pub visit_push : (z : ℕ) → z < e → get_or m z 0 ≡ 0 → Visits e (z ∷ []) m l t (set m z 1) (set l t z) (t + 1)
+    visit_push z h q = record {
       marks_long = length-set m z 1;
       list_long = length-set l t z;
       moved = omega (arith, blank-set e m z h inside q);
@@ -159,11 +154,6 @@ module _ (e : ℕ) (m l : List ℕ) (t : ℕ) where
         taken : take (t + 1) (set l t z) ≡ take t l ++ (z ∷ [])
         taken = rw (add-one t) (take-suc-set l t z (omega (arith, blank_some e m z h inside q, r.room, r.few, r.list_long)))
 
-    pub visit_push : (x : ℕ) → (x ≡ 0 → ⊥) → x ≤ e → get_or m (x - 1) 0 ≡ 0 → (v : ℕ) → v ≡ x - 1 → Visits e (optional x []) m l t (set m (x - 1) 1) (set l t v) (t + 1)
-    unfolding optional
-    visit_push zero n h q v is = absurd (n refl)
-    visit_push (suc z) n h q v is = let u : suc z - 1 ≡ z = omega arith in rw (is, u) (push z (omega arith) (rw u at q))
-
 -- ---- what cells read
 pub record Spreading (e : ℕ) (words tags : List ℕ) (at end : ℕ) (m₀ l₀ : List ℕ) (t₀ i : ℕ) (m l : List ℕ) (n : ℕ) : Type 0 where
   pub to : i ≤ end
@@ -179,16 +169,22 @@ module _ (e : ℕ) (words tags : List ℕ) (at end : ℕ) (m₀ l₀ : List ℕ)
     unfolding ops_of
     spread_done h = inv.onward m l n (rw (between_none tags words i end h) (visits_none e m l n))
 
-    pub spread_next : i < end → Long words tags → end ≤ 16384 → (x : ℕ) → (x ≡ reads (get_or tags i 0) (get_or words i 0)) × (x ≤ 2 ^ 32) → (m₁ l₁ : List ℕ) (n₁ : ℕ) → Visits e (optional x []) m l n m₁ l₁ n₁ → Spreading e words tags at end m₀ l₀ t₀ (i + 1) m₁ l₁ n₁
-    unfolding ops_of
-    spread_next h long ok x is m₁ l₁ n₁ v = record {
-      to = omega arith;
-      room = room_after inv.room v;
-      onward = λ m₂ l₂ t₂ w. inv.onward m₂ l₂ t₂ (subst (λ xs. Visits e xs m l n m₂ l₂ t₂) (sym front) (visits_then (optional x []) (ops_of (between tags words (i + 1) end)) v w));
-    }
-      where
-        front : ops_of (between tags words i end) ≡ optional x [] ++ ops_of (between tags words (i + 1) end)
-        front = ap ops_of (between_cons tags words i end h long ok) ∙ operand-front (get_or tags i 0) (get_or words i 0) (ops_of (between tags words (i + 1) end)) ∙ ap (λ z. optional z [] ++ ops_of (between tags words (i + 1) end)) (sym is.0)
+    module _ (h : i < end) (long : Long words tags) (ok : end ≤ 16384) where
+      read_one : ops_of (between tags words i end) ≡ first (reads (get_or tags i 0) (get_or words i 0)) (ops_of (between tags words (i + 1) end))
+      unfolding ops_of
+      read_one = ap ops_of (between_cons tags words i end h long ok) ∙ operand-first (get_or tags i 0) (get_or words i 0) (ops_of (between tags words (i + 1) end))
+
+      pub spread_next : (x : ℕ) → Some x ≡ reads (get_or tags i 0) (get_or words i 0) → (m₁ l₁ : List ℕ) (n₁ : ℕ) → Visits e (x ∷ []) m l n m₁ l₁ n₁ → Spreading e words tags at end m₀ l₀ t₀ (i + 1) m₁ l₁ n₁
+      unfolding first
+      spread_next x is m₁ l₁ n₁ v = record {
+        to = omega arith;
+        room = room_after inv.room v;
+        onward = λ m₂ l₂ t₂ w. inv.onward m₂ l₂ t₂ (rw (read_one, ← is) (visits_then (x ∷ []) (ops_of (between tags words (i + 1) end)) v w));
+      }
+
+      pub spread_skip : None ≡ reads (get_or tags i 0) (get_or words i 0) → Spreading e words tags at end m₀ l₀ t₀ (i + 1) m l n
+      unfolding first
+      spread_skip is = record { to = omega arith; room = inv.room; onward = λ m₂ l₂ t₂ w. inv.onward m₂ l₂ t₂ (rw (read_one, ← is) w) }
 
 -- ---- what locals begin with
 pub record Rooting (e : ℕ) (words : List ℕ) (at count : ℕ) (m₀ l₀ : List ℕ) (i : ℕ) (m l : List ℕ) (n : ℕ) : Type 0 where
@@ -205,22 +201,28 @@ module _ (e : ℕ) (words : List ℕ) (at count : ℕ) (m₀ l₀ : List ℕ) wh
     unfolding inits
     roots_done h = let z : count - i ≡ 0 = omega arith in inv.onward m l n (rw z (visits_none e m l n))
 
-    pub roots-next : i < count → (x : ℕ) → (x ≡ get_or words (at + 5 * i + 4) 0) × (x < 2 ^ 32) → (m₁ l₁ : List ℕ) (n₁ : ℕ) → Visits e (optional x []) m l n m₁ l₁ n₁ → Rooting e words at count m₀ l₀ (i + 1) m₁ l₁ n₁
-    unfolding inits
-    roots-next h x is m₁ l₁ n₁ v = record {
-      to = omega arith;
-      room = room_after inv.room v;
-      onward = λ m₂ l₂ t₂ w. inv.onward m₂ l₂ t₂ (subst (λ xs. Visits e xs m l n m₂ l₂ t₂) (sym front) (visits_then (optional x []) (inits (count - (i + 1)) (drop (at + 5 * (i + 1)) words)) v w));
-    }
-      where
-        front : inits (count - i) (drop (at + 5 * i) words) ≡ optional x [] ++ inits (count - (i + 1)) (drop (at + 5 * (i + 1)) words)
-        front =
-            let a : count - i ≡ suc (count - (i + 1)) = omega arith in
-            let b : at + 5 * i + 5 ≡ at + 5 * (i + 1) = omega arith in
-            ap (λ k. inits k (drop (at + 5 * i) words)) a
-            ∙ ap (λ w. optional w (inits (count - (i + 1)) (drop 5 (drop (at + 5 * i) words)))) (get_or-drop (at + 5 * i) words 4 0 ∙ sym is.0)
-            ∙ ap (λ ws. optional x (inits (count - (i + 1)) ws)) (drop-drop 5 (at + 5 * i) words ∙ ap (λ p. drop p words) b)
-            ∙ optional-front x (inits (count - (i + 1)) (drop (at + 5 * (i + 1)) words))
+    module _ (h : i < count) where
+      begin_one : inits (count - i) (drop (at + 5 * i) words) ≡ first (before (get_or words (at + 5 * i + 4) 0)) (inits (count - (i + 1)) (drop (at + 5 * (i + 1)) words))
+      unfolding inits
+      begin_one =
+          let a : count - i ≡ suc (count - (i + 1)) = omega arith in
+          let b : at + 5 * i + 5 ≡ at + 5 * (i + 1) = omega arith in
+          ap (λ k. inits k (drop (at + 5 * i) words)) a
+          ∙ ap (λ w. optional w (inits (count - (i + 1)) (drop 5 (drop (at + 5 * i) words)))) (get_or-drop (at + 5 * i) words 4 0)
+          ∙ ap (λ ws. optional (get_or words (at + 5 * i + 4) 0) (inits (count - (i + 1)) ws)) (drop-drop 5 (at + 5 * i) words ∙ ap (λ p. drop p words) b)
+          ∙ optional-first (get_or words (at + 5 * i + 4) 0) (inits (count - (i + 1)) (drop (at + 5 * (i + 1)) words))
+
+      pub roots-next : (x : ℕ) → Some x ≡ before (get_or words (at + 5 * i + 4) 0) → (m₁ l₁ : List ℕ) (n₁ : ℕ) → Visits e (x ∷ []) m l n m₁ l₁ n₁ → Rooting e words at count m₀ l₀ (i + 1) m₁ l₁ n₁
+      unfolding first
+      roots-next x is m₁ l₁ n₁ v = record {
+        to = omega arith;
+        room = room_after inv.room v;
+        onward = λ m₂ l₂ t₂ w. inv.onward m₂ l₂ t₂ (rw (begin_one, ← is) (visits_then (x ∷ []) (inits (count - (i + 1)) (drop (at + 5 * (i + 1)) words)) v w));
+      }
+
+      pub roots_skip : None ≡ before (get_or words (at + 5 * i + 4) 0) → Rooting e words at count m₀ l₀ (i + 1) m l n
+      unfolding first
+      roots_skip is = record { to = omega arith; room = inv.room; onward = λ m₂ l₂ t₂ w. inv.onward m₂ l₂ t₂ (rw (begin_one, ← is) w) }
 
 -- ---- where records start
 pub record Finding (tags : List ℕ) (at end : ℕ) (starts₀ : List ℕ) (k i : ℕ) (starts : List ℕ) : Type 0 where

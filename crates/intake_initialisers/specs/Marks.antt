@@ -1,6 +1,6 @@
 -- Marks and the list of what is still to be visited, as the code has them, and what visiting a list of numbers does to both.
 -- A visit marks a number that is not marked and puts it on the list, so that what is marked besides is on the list, and marks and list together do not grow.
-use Rattle.std.specs.Prelude.{◌≡◌, ◌⊎◌, Bool, true, false, List, [], ◌∷◌, ℕ, zero, suc, ◌+◌, ◌≤◌, ◌<◌, eqb, ltb, length, get_or, take, drop}
+use Rattle.std.specs.Prelude.{◌≡◌, ◌⊎◌, Option, Some, None, Bool, true, false, List, [], ◌∷◌, ℕ, zero, suc, ◌+◌, ◌≤◌, ◌<◌, eqb, ltb, length, get_or, take, drop}
 use Rattle.model.specs.Table.{EXPR, OPT_EXPR, NAMED, EXPR_KIND}
 use Rattle.model.specs.Tree.{Function}
 use Rattle.model.specs.Operands.{optional, ops, kind_at, constant_kind}
@@ -13,9 +13,14 @@ unfoldable pub finds : ℕ → List ℕ → List ℕ
 finds at [] = []
 finds at (s ∷ ss) = elim (eqb s NAMED) [ true ↦ at ∷ [] | false ↦ elim (eqb s EXPR_KIND) [ true ↦ at ∷ finds (suc at) ss | false ↦ finds (suc at) ss ] ]
 
--- what a word reads: the number plus 1, or 0
-unfoldable pub reads : ℕ → ℕ → ℕ
-reads s w = elim (eqb s EXPR) [ true ↦ suc w | false ↦ elim (eqb s OPT_EXPR) [ true ↦ w | false ↦ 0 ] ]
+-- the expression that an optional operand names: it is the number plus 1, or 0 for none
+unfoldable pub before : ℕ → Option ℕ
+before zero = None
+before (suc x) = Some x
+
+-- the expression that a word of a class reads, if it reads one
+unfoldable pub reads : ℕ → ℕ → Option ℕ
+reads s w = elim (eqb s EXPR) [ true ↦ Some w | false ↦ elim (eqb s OPT_EXPR) [ true ↦ before w | false ↦ None ] ]
 
 -- ---- marks
 unfoldable pub on : List ℕ → ℕ → Bool

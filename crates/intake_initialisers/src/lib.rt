@@ -2,24 +2,17 @@
 // that each expression is visited once.
 #![tactic(auto)]
 
-ghost use Rattle.std.specs.Prelude.{◌≡◌, [], ◌+◌, ◌*◌, ◌^◌, ◌≤◌, ◌<◌, length, drop};
+ghost use Rattle.std.specs.Prelude.{◌≡◌, [], ◌∷◌, ◌+◌, ◌*◌, ◌≤◌, length, drop};
 ghost use Rattle.std.proofs.Math.Seq.{slice};
 ghost use Rattle.std.proofs.lemmas.List.Edits.{sets};
-ghost use Rattle.model.specs.Operands.{optional, ops_of};
+ghost use Rattle.model.specs.Operands.{ops_of};
 ghost use Rattle.model.specs.Between.{between, Long};
 ghost use Rattle.intake_initialisers.specs.Lists.{Listed, Initialised};
 ghost use Rattle.intake_initialisers.specs.Marks.{finds, reads, inits, Room, Visits, Reaching, Reaches};
 
 use base_classes::{EXPR, EXPR_KIND, NAMED, OPT_EXPR};
 use base_kinds::constant;
-use base_words::{Tags, Words, wide};
-
-fn short(x: usize) -> u32
-    requires { x < 2 ^ 32 }
-    ensures { result ≡ x }
-{
-    x as u32
-}
+use base_words::{Tags, Words};
 
 // Where each expression record starts, from `at` on, and where the last one ends: a record starts with its kind, and the last is followed by the number of named
 // expressions.
@@ -31,52 +24,44 @@ pub fn places(tags: &Tags, at: usize, end: usize, starts: &mut [u32; 1025])
     ensures { starts.new ≡ sets starts.old 0 (finds at (slice at end tags.now)) }
 {
     let mut k = 0;
-    let mut i = at;
-    while i < end {
-        let j = i;
-        i += 1;
-        let s = tags[j];
-        if s == NAMED {
-            starts[k] = short(j);
-            return;
-        }
-        if s == EXPR_KIND {
-            starts[k] = short(j);
-            k += 1;
+    for j in at..end {
+        match tags[j] {
+            NAMED => {
+                starts[k] = j as u32;
+                return;
+            }
+            EXPR_KIND => {
+                starts[k] = j as u32;
+                k += 1;
+            }
+            _ => {}
         }
     }
 }
 
-// What a word of the class s reads: the number plus 1, or 0 for none.
-fn operand(s: u8, w: u32) -> usize
-    ensures { (result ≡ reads s w) × (result ≤ 2 ^ 32) }
+// The expression that a word of the class s reads, if it reads one: an optional operand is 0, or the number plus 1.
+#[tactic(auto, unfolding(crate::specs::Marks::reads, crate::specs::Marks::before))]
+fn operand(s: u8, w: u32) -> Option<u32>
+    ensures { result ≡ reads s w }
 {
-    if s == EXPR {
-        return wide(w) + 1;
+    match s {
+        EXPR => Some(w),
+        OPT_EXPR => w.checked_sub(1),
+        _ => None,
     }
-    let optional = s == OPT_EXPR;
-    if optional {
-        return wide(w);
-    }
-    0
 }
 
-// Marks the expression x - 1 of e, and puts it on the list; 0 is none, and a number outside the table is none.
-fn visit(marks: &mut [u8; 1024], list: &mut [u32; 1024], top: usize, e: usize, x: usize) -> usize
+// Marks the expression x of e, and puts it on the list; a number outside the table is none.
+fn visit(marks: &mut [u8; 1024], list: &mut [u32; 1024], top: usize, e: usize, x: u32) -> usize
     requires { Room e marks.old list.old top }
-    ensures { Visits e (optional x []) marks.old list.old top marks.new list.new result }
+    ensures { Visits e (x ∷ []) marks.old list.old top marks.new list.new result }
 {
-    if x == 0 {
+    let place = x as usize;
+    if e <= place || marks[place] != 0 {
         return top;
     }
-    if e < x {
-        return top;
-    }
-    if marks[x - 1] != 0 {
-        return top;
-    }
-    marks[x - 1] = 1;
-    list[top] = short(x - 1);
+    marks[place] = 1;
+    list[top] = x;
     top + 1
 }
 
@@ -97,13 +82,11 @@ fn spread(
     requires room { Room e marks.old list.old top }
     ensures { Visits e (ops_of (between tags.now words.now at end)) marks.old list.old top marks.new list.new result }
 {
-    let mut i = at;
     let mut n = top;
-    while i < end {
-        let j = i;
-        i += 1;
-        let x = operand(tags[j], words[j]);
-        n = visit(marks, list, n, e, x);
+    for j in at..end {
+        if let Some(x) = operand(tags[j], words[j]) {
+            n = visit(marks, list, n, e, x);
+        }
     }
     n
 }
@@ -122,13 +105,11 @@ pub fn roots(
     requires room { Room e marks.old list.old 0 }
     ensures { Visits e (inits count (drop at words.now)) marks.old list.old 0 marks.new list.new result }
 {
-    let mut i = 0;
     let mut n = 0;
-    while i < count {
-        let j = i;
-        i += 1;
-        let x = wide(words[at + 5 * j + 4]);
-        n = visit(marks, list, n, e, x);
+    for j in 0..count {
+        if let Some(x) = words[at + 5 * j + 4].checked_sub(1) {
+            n = visit(marks, list, n, e, x);
+        }
     }
     n
 }
@@ -146,15 +127,16 @@ pub fn reach(
     requires { Reaching words.now tags.now starts.now marks.old list.old first e }
     ensures { Reaches result words.now tags.now starts.now marks.old list.old first e marks.new list.new }
 {
+    // A stack in fixed memory: what is still to be visited are the first `top` of `list`.
     let mut top = first;
     while 0 < top {
         let n = top - 1;
-        let x = wide(list[n]);
-        let at = wide(starts[x]);
+        let x = list[n] as usize;
+        let at = starts[x] as usize;
         if !constant(words[at]) {
             return false;
         }
-        let to = wide(starts[x + 1]);
+        let to = starts[x + 1] as usize;
         top = spread(words, tags, at, to, marks, list, n, e);
     }
     true
@@ -165,8 +147,8 @@ pub fn initialised(words: &Words, tags: &Tags, locals: usize, exprs: usize, end:
     requires { Listed words.now tags.now locals exprs end }
     ensures { Initialised result words.now tags.now locals exprs end }
 {
-    let count = wide(words[locals]);
-    let e = wide(words[exprs]);
+    let count = words[locals] as usize;
+    let e = words[exprs] as usize;
     if count == 0 {
         return true;
     }

@@ -18,27 +18,32 @@ use Rattle.model.specs.Tree.{flat_all, DEPTH}
 use Rattle.model.specs.Module.{next, records, table, rays_row, pair_row}
 use Rattle.intake_fields.specs.Parts.{Reader, join, times, pieces}
 use Rattle.intake_fields.specs.Rows.{SIZE, RAYS_ROW, PAIR_ROW, row, row_at}
-use Rattle.intake_fields.specs.Walks.{Final, next as next-final, refused as refused-final, strange as strange-final, seen, final, RowEnsures, filled, Fills}
-use Rattle.intake_layout.specs.Extents.{Classes, done, refused, odd, shown, ending, Covers, after, classes, extent, records_left, table_classes, tabled, special_of, special}
-use Rattle.intake_fields.specs.declared.Walked.{Walked}
-use Rattle.intake_fields.specs.declared.Walked.TheVariants.{Next, Misfit, Strange as WalkedStrange}
-use Rattle.intake_layout.specs.declared.section.Held.{Held}
-use Rattle.intake_layout.specs.declared.section.Held.TheVariants.{Fits, Bad, Strange}
+use Rattle.std.specs.Prelude.{Ok, Err}
+use Rattle.std.proofs.Common.{◌⊎◌, inl, inr}
+use Rattle.intake_fields.specs.Walks.{Walked, Final, next as next-final, refused as refused-final, stopped as stopped-final, seen, final, RowEnsures, filled, Fills}
+use Rattle.intake_layout.specs.Extents.{Held, Classes, done, refused, odd, stopped, shown, ending, Covers, after, classes, extent, records_left, table_classes, tabled, special_of, special}
+use Rattle.intake_fields.specs.declared.Misread.{Misread}
+use Rattle.intake_fields.specs.declared.Misread.TheVariants.{Misfit, Strange}
 use Rattle.intake_fields.proofs.Reading.{Reads, reads, Reading, reads-pieces, reads_times, reads-join}
-use Rattle.intake_fields.proofs.Walk.{Onto, Taken, taken, chain_misfit, chain_strange, chain_next}
+use Rattle.intake_fields.proofs.Walk.{Onto, Taken, taken, chain_err, chain_next}
 
 -- ---- outcomes that a walk shows
-pub is_misfit : (tags : List ℕ) (i end : ℕ) (r : Walked) (tags₁ : List ℕ) (o : Outcome Cells) → RowEnsures r tags₁ tags i end o → r ≡ Misfit → o ≡ misfit
-unfolding seen final
-is_misfit tags i end r tags₁ (fits cs ws) w e = let k : refused-final ≡ next-final _ _ = rw e at w.same in let z : ◌≡◌ {A = ℕ} 0 1 = cc in absurd (omega arith)
-is_misfit tags i end r tags₁ misfit w e = refl
-is_misfit tags i end r tags₁ unknown w e = let k : refused-final ≡ strange-final = rw e at w.same in let z : ◌≡◌ {A = ℕ} 0 1 = cc in absurd (omega arith)
+-- what was read where a walk was stopped
+pub lost : {A : Type 0} → Misread → Outcome A
+lost Misfit = misfit
+lost Strange = unknown
 
-pub is_unknown_lem : (tags : List ℕ) (i end : ℕ) (r : Walked) (tags₁ : List ℕ) (o : Outcome Cells) → RowEnsures r tags₁ tags i end o → r ≡ WalkedStrange → o ≡ unknown
-unfolding seen final
-is_unknown_lem tags i end r tags₁ (fits cs ws) w e = let k : strange-final ≡ next-final _ _ = rw e at w.same in let z : ◌≡◌ {A = ℕ} 0 1 = cc in absurd (omega arith)
-is_unknown_lem tags i end r tags₁ misfit w e = let k : strange-final ≡ refused-final = rw e at w.same in let z : ◌≡◌ {A = ℕ} 0 1 = cc in absurd (omega arith)
-is_unknown_lem tags i end r tags₁ unknown w e = refl
+pub is_lost : (tags : List ℕ) (i end : ℕ) (r : Walked) (tags₁ : List ℕ) (o : Outcome Cells) → RowEnsures r tags₁ tags i end o → (e : Misread) → r ≡ Err e → o ≡ lost e
+unfolding seen stopped-final final lost
+is_lost tags i end r tags₁ o w e h = go o e (rw h at w.same)
+  where
+    go : (o : Outcome Cells) (e : Misread) → stopped-final e ≡ final tags i end o → o ≡ lost e
+    go (fits cs ws) Misfit g = cc
+    go (fits cs ws) Strange g = cc
+    go misfit Misfit g = refl
+    go misfit Strange g = cc
+    go unknown Misfit g = cc
+    go unknown Strange g = refl
 
 exact-more : {A : Type 0} (a : A) (ws : List ℕ) → 0 < length ws → exact (fits a ws) ≡ bad
 unfolding exact
@@ -47,32 +52,33 @@ exact-more a (w ∷ ws) h = refl
 
 -- ---- a walk over the whole of an extent
 module _ (words tags : List ℕ) (at end : ℕ) (enough : end ≤ length words) (h : at ≤ end) (o : Outcome Cells) (rd : Reads (slice at end words) o) (r : Walked) (tags₁ : List ℕ) (got : RowEnsures r tags₁ tags at end o) where
-  took : (i : ℕ) → r ≡ Next i → Taken words tags at end tags₁ i o
+  took : (i : ℕ) → r ≡ Ok i → Taken words tags at end tags₁ i o
   unfolding seen
   took i e = taken words tags at end enough h o rd tags₁ i (rw e at got.same)
 
-  pub exact_fits : (i : ℕ) → r ≡ Next i → i ≡ end → Covers Fits tags₁ tags at (map_l classes (exact o))
+  pub exact_fits : (i : ℕ) → r ≡ Ok i → i ≡ end → Covers (Ok tt) tags₁ tags at (map_l classes (exact o))
   unfolding shown ending map_l exact
   exact_fits i e z =
       let t = took i e in
       let k : o ≡ fits t.cells [] = t.is ∙ ap (λ ws. fits t.cells ws) (ap (λ j. slice j end words) z ∙ slice_empty end words) in
       record { same = rw k (ap done t.tagged) }
 
-  pub exact-short : (i : ℕ) → r ≡ Next i → (i ≡ end → ⊥) → Covers Bad tags₁ tags at (map_l classes (exact o))
-  unfolding shown ending map_l
+  pub exact-short : (i : ℕ) → r ≡ Ok i → (i ≡ end → ⊥) → Covers (Err Misfit) tags₁ tags at (map_l classes (exact o))
+  unfolding shown stopped ending map_l
   exact-short i e n =
       let t = took i e in
       let l : 0 < length (slice i end words) = omega (arith, length-slice i end words enough, t.end-at, n) in
       let k : exact o ≡ bad = ap exact t.is ∙ exact-more t.cells (slice i end words) l in
       record { same = rw k }
 
-  pub exact_misfit : r ≡ Misfit → Covers Bad tags₁ tags at (map_l classes (exact o))
-  unfolding shown ending map_l exact
-  exact_misfit e = record { same = rw (is_misfit tags at end r tags₁ o got e) }
+  at_lost : (e : Misread) → stopped e ≡ ending tags at (map_l classes (exact (lost e)))
+  unfolding stopped ending map_l exact lost
+  at_lost Misfit = refl
+  at_lost Strange = refl
 
-  pub exact_strange : r ≡ WalkedStrange → Covers Strange tags₁ tags at (map_l classes (exact o))
-  unfolding shown ending map_l exact
-  exact_strange e = record { same = rw (is_unknown_lem tags at end r tags₁ o got e) }
+  pub exact_err : (e : Misread) → r ≡ Err e → Covers (Err e) tags₁ tags at (map_l classes (exact o))
+  unfolding shown
+  exact_err e h = record { same = at_lost e ∙ ap (λ p. ending tags at (map_l classes (exact p))) (sym (is_lost tags at end r tags₁ o got e h)) }
 
 pub covered : {r : Held} {tags₁ tags : List ℕ} {at : ℕ} (o p : Laid Classes) → o ≡ p → Covers r tags₁ tags at p → Covers r tags₁ tags at o
 covered {r} {tags₁} {tags} {at} o p e c = record { same = c.same ∙ ap (ending tags at) (sym e) }
@@ -97,17 +103,15 @@ pub slice_back : (words : List ℕ) (at end stop : ℕ) → at ≤ end → drop 
 slice_back words at end stop h = let f : at + (end - at) ≡ end = omega arith in drop-drop (end - at) at (take stop words) ∙ ap (λ k. drop k (take stop words)) f
 
 module _ (p : Reader) (words tags : List ℕ) (start at end stop : ℕ) where
-  pub extent_start : (start ≡ at → ⊥) → Covers Bad tags tags at (extent p start at end stop (slice at stop words))
-  unfolding extent shown ending
-  extent_start n = record { same = rw (extent, ne_eqb start at n) }
+  extent_bad : extent p start at end stop (slice at stop words) ≡ bad → Covers (Err Misfit) tags tags at (extent p start at end stop (slice at stop words))
+  unfolding shown stopped ending
+  extent_bad e = record { same = rw e }
 
-  pub extent_back : start ≡ at → end < at → Covers Bad tags tags at (extent p start at end stop (slice at stop words))
-  unfolding extent shown ending
-  extent_back e h = record { same = rw (extent, eq-eqb start at e, lt-leb at end h) }
-
-  pub extent_past : start ≡ at → at ≤ end → stop < end → Covers Bad tags tags at (extent p start at end stop (slice at stop words))
-  unfolding extent shown ending
-  extent_past e h k = record { same = rw (extent, eq-eqb start at e, le-leb at end h, lt-leb end stop k) }
+  pub extent_out : (start ≡ at → ⊥) ⊎ (((start ≡ at) × (end < at)) ⊎ ((start ≡ at) × (at ≤ end) × (stop < end))) → Covers (Err Misfit) tags tags at (extent p start at end stop (slice at stop words))
+  unfolding extent
+  extent_out (inl n) = extent_bad (rw (extent, ne_eqb start at n))
+  extent_out (inr (inl q)) = extent_bad (rw (extent, eq-eqb start at q.0, lt-leb at end q.1))
+  extent_out (inr (inr q)) = extent_bad (rw (extent, eq-eqb start at q.0, le-leb at end q.1, lt-leb end stop q.2))
 
   module _ (e : start ≡ at) (h : at ≤ end) (k : end ≤ stop) where
     pub extent_is : extent p start at end stop (slice at stop words) ≡ map_l classes (exact (p (slice at end words)))
@@ -124,17 +128,14 @@ module _ (words tags : List ℕ) (start at end stop pc : ℕ) (enough : stop ≤
   of_extent : {r : Held} → Covers r tags₁ tags at (map_l classes (exact (pieces 32 (row_at pc) (slice at end words)))) → Covers r tags₁ tags at (extent (pieces 32 (row_at pc)) start at end stop (slice at stop words))
   of_extent c = covered _ _ (extent_is (pieces 32 (row_at pc)) words tags start at end stop e h k) c
 
-  pub record_fits : (i : ℕ) → r ≡ Next i → i ≡ end → Covers Fits tags₁ tags at (extent (pieces 32 (row_at pc)) start at end stop (slice at stop words))
+  pub record_fits : (i : ℕ) → r ≡ Ok i → i ≡ end → Covers (Ok tt) tags₁ tags at (extent (pieces 32 (row_at pc)) start at end stop (slice at stop words))
   record_fits i q z = of_extent (exact_fits words tags at end (omega arith) h _ rd r tags₁ got i q z)
 
-  pub record_short : (i : ℕ) → r ≡ Next i → (i ≡ end → ⊥) → Covers Bad tags₁ tags at (extent (pieces 32 (row_at pc)) start at end stop (slice at stop words))
+  pub record_short : (i : ℕ) → r ≡ Ok i → (i ≡ end → ⊥) → Covers (Err Misfit) tags₁ tags at (extent (pieces 32 (row_at pc)) start at end stop (slice at stop words))
   record_short i q n = of_extent (exact-short words tags at end (omega arith) h _ rd r tags₁ got i q n)
 
-  pub record_misfit : r ≡ Misfit → Covers Bad tags₁ tags at (extent (pieces 32 (row_at pc)) start at end stop (slice at stop words))
-  record_misfit q = of_extent (exact_misfit words tags at end (omega arith) h _ rd r tags₁ got q)
-
-  pub record_strange : r ≡ WalkedStrange → Covers Strange tags₁ tags at (extent (pieces 32 (row_at pc)) start at end stop (slice at stop words))
-  record_strange q = of_extent (exact_strange words tags at end (omega arith) h _ rd r tags₁ got q)
+  pub record_err : (f : Misread) → r ≡ Err f → Covers (Err f) tags₁ tags at (extent (pieces 32 (row_at pc)) start at end stop (slice at stop words))
+  record_err f q = of_extent (exact_err words tags at end (omega arith) h _ rd r tags₁ got f q)
 
 -- ---- one extent, and then the others
 bad_first : (q : Laid Classes) → both {A = Classes} ◌++◌ bad q ≡ bad
@@ -149,23 +150,23 @@ after_bad true = refl
 after_bad false = refl
 
 module _ (tags : List ℕ) (at : ℕ) (x : Laid Classes) (r : Held) (tags₁ : List ℕ) (got : Covers r tags₁ tags at x) (b : Bool) (rest : Laid Classes) where
-  is_bad : (x : Laid Classes) → r ≡ Bad → shown r tags₁ ≡ ending tags at x → x ≡ bad
-  unfolding shown ending
-  is_bad (laid c) e g = let k : refused ≡ done _ = rw e at g in let z : ◌≡◌ {A = ℕ} 0 1 = cc in absurd (omega arith)
+  is_bad : (x : Laid Classes) → r ≡ Err Misfit → shown r tags₁ ≡ ending tags at x → x ≡ bad
+  unfolding shown stopped ending
+  is_bad (laid c) e g = let k : refused ≡ done _ = rw e at g in cc
   is_bad bad e g = refl
-  is_bad strange e g = let k : refused ≡ odd = rw e at g in let z : ◌≡◌ {A = ℕ} 0 1 = cc in absurd (omega arith)
+  is_bad strange e g = let k : refused ≡ odd = rw e at g in cc
 
-  pub then_bad : r ≡ Bad → refused ≡ ending tags at (after b (both ◌++◌ x rest))
+  pub then_bad : r ≡ Err Misfit → refused ≡ ending tags at (after b (both ◌++◌ x rest))
   unfolding ending
   then_bad e = sym (ap (λ y. ending tags at (after b (both ◌++◌ y rest))) (is_bad x e got.same) ∙ ap (λ y. ending tags at (after b y)) (bad_first rest) ∙ ap (ending tags at) (after_bad b))
 
-  is_strange : (x : Laid Classes) → r ≡ Strange → shown r tags₁ ≡ ending tags at x → x ≡ strange
-  unfolding shown ending
-  is_strange (laid c) e g = let k : odd ≡ done _ = rw e at g in let z : ◌≡◌ {A = ℕ} 0 1 = cc in absurd (omega arith)
-  is_strange bad e g = let k : odd ≡ refused = rw e at g in let z : ◌≡◌ {A = ℕ} 0 1 = cc in absurd (omega arith)
+  is_strange : (x : Laid Classes) → r ≡ Err Strange → shown r tags₁ ≡ ending tags at x → x ≡ strange
+  unfolding shown stopped ending
+  is_strange (laid c) e g = let k : odd ≡ done _ = rw e at g in cc
+  is_strange bad e g = let k : odd ≡ refused = rw e at g in cc
   is_strange strange e g = refl
 
-  pub then_strange : r ≡ Strange → (k : ℕ) → ending tags₁ k (after true rest) ≡ ending tags at (after b (both ◌++◌ x rest))
+  pub then_strange : r ≡ Err Strange → (k : ℕ) → ending tags₁ k (after true rest) ≡ ending tags at (after b (both ◌++◌ x rest))
   unfolding ending after both
   then_strange e k = sym (ap (λ y. ending tags at (after b (both ◌++◌ y rest))) (is_strange x e got.same) ∙ go b rest)
     where
@@ -177,7 +178,7 @@ module _ (tags : List ℕ) (at : ℕ) (x : Laid Classes) (r : Held) (tags₁ : L
       go false bad = refl
       go false strange = refl
 
-  laid_is : (x : Laid Classes) → r ≡ Fits → shown r tags₁ ≡ ending tags at x → (k : ℕ) → ((cs : Classes) → x ≡ laid cs → at + length cs ≡ k) → ending tags₁ k (after b rest) ≡ ending tags at (after b (both ◌++◌ x rest))
+  laid_is : (x : Laid Classes) → r ≡ Ok tt → shown r tags₁ ≡ ending tags at x → (k : ℕ) → ((cs : Classes) → x ≡ laid cs → at + length cs ≡ k) → ending tags₁ k (after b rest) ≡ ending tags at (after b (both ◌++◌ x rest))
   unfolding shown ending after both
   laid_is (laid c) e g k l =
       let t : done tags₁ ≡ done (sets tags at c) = rw e at g in
@@ -191,10 +192,10 @@ module _ (tags : List ℕ) (at : ℕ) (x : Laid Classes) (r : Held) (tags₁ : L
       go false (laid d) u = ap done (ap (λ t. sets t k d) u ∙ ap (λ j. sets (sets tags at c) j d) (sym (l c refl)) ∙ sym (sets-append c tags at d))
       go false bad u = refl
       go false strange u = refl
-  laid_is bad e g k l = let t : done tags₁ ≡ refused = rw e at g in let z : ◌≡◌ {A = ℕ} 0 1 = cc in absurd (omega arith)
-  laid_is strange e g k l = let t : done tags₁ ≡ odd = rw e at g in let z : ◌≡◌ {A = ℕ} 0 1 = cc in absurd (omega arith)
+  laid_is bad e g k l = let t : done tags₁ ≡ refused = rw e at g in cc
+  laid_is strange e g k l = let t : done tags₁ ≡ odd = rw e at g in cc
 
-  pub then_fits : r ≡ Fits → (k : ℕ) → ((cs : Classes) → x ≡ laid cs → at + length cs ≡ k) → ending tags₁ k (after b rest) ≡ ending tags at (after b (both ◌++◌ x rest))
+  pub then_fits : r ≡ Ok tt → (k : ℕ) → ((cs : Classes) → x ≡ laid cs → at + length cs ≡ k) → ending tags₁ k (after b rest) ≡ ending tags at (after b (both ◌++◌ x rest))
   then_fits e k l = laid_is x e got.same k l
 
 -- ---- where an extent is no misfit, its bounds hold, and what is laid fills it
@@ -222,13 +223,13 @@ module _ (p : Reader) (rd : Reading p) (words : List ℕ) (start at end stop : �
       let same : cs ≡ classes ds = cc in
       let l : length cs ≡ length ds = ap length same ∙ length-map ds class in
       omega (arith, all, long, l, h)
-  filled-length (fits ds (w ∷ ws)) r h k cs q = let z : ◌≡◌ {A = ℕ} 0 1 = cc in absurd (omega arith)
-  filled-length misfit r h k cs q = let z : ◌≡◌ {A = ℕ} 0 1 = cc in absurd (omega arith)
-  filled-length unknown r h k cs q = let z : ◌≡◌ {A = ℕ} 0 1 = cc in absurd (omega arith)
+  filled-length (fits ds (w ∷ ws)) r h k cs q = cc
+  filled-length misfit r h k cs q = cc
+  filled-length unknown r h k cs q = cc
 
   pub extent-length : (cs : Classes) → extent p start at end stop (slice at stop words) ≡ laid cs → at + length cs ≡ end
   extent-length cs q =
-      let b : Bounds = bounds (λ e. let z : ◌≡◌ {A = ℕ} 0 1 = cc in omega arith) in
+      let b : Bounds = bounds (λ e. cc) in
       filled-length (p (slice at end words)) (rd (slice at end words)) b.forth b.within cs (sym (extent_is p words words start at end stop b.starts b.forth b.within) ∙ q)
 
 -- ---- the records of a section
@@ -307,7 +308,7 @@ module _ (p : Reader) (words : List ℕ) (base stop n : ℕ) where
         and_second : (a b c : Bool) → true ≡ (a && (b && c)) → b ≡ true
         and_second true true c q = refl
         and_second true false c q = sym q
-        and_second false b c q = let z : ◌≡◌ {A = ℕ} 0 1 = cc in absurd (omega arith)
+        and_second false b c q = cc
 
         forth : at ≤ base + e
         forth = leb-true at (base + e) (and_second (eqb (base + o) at) (leb at (base + e)) (leb (base + e) stop) q)
@@ -345,39 +346,39 @@ module _ (words tags₀ : List ℕ) (base stop n pc : ℕ) (room : base + n ≤ 
   records-begin = record { some_left = omega arith; low = omega arith; high = room; same = refl }
 
   module _ (tags : List ℕ) (at j : ℕ) (b : Bool) (inv : Recording words tags₀ base stop n pc tags at j b) where
-    module _ (h : j < n) (w end : ℕ) (is-w : w ≡ get_or words (base + j) 0) (is-end : end ≡ base + next (slice (base + j + 1) (base + n) words) (stop - base)) (r : Held) (tags₁ : List ℕ) (got : Covers r tags₁ tags at (extent (pieces 32 (row_at pc)) (base + w) at end stop (slice at stop words))) where
-      stepped : records_left (pieces 32 (row_at pc)) words base stop n j at ≡ both ◌++◌ (extent (pieces 32 (row_at pc)) (base + w) at end stop (slice at stop words)) (records_left (pieces 32 (row_at pc)) words base stop n (j + 1) end)
-      stepped = rw (is-w, is-end) (records-step (pieces 32 (row_at pc)) words base stop n j at enough room h inv.low)
+    module _ (h : j < n) (start end : ℕ) (is-start : start ≡ base + get_or words (base + j) 0) (is-end : end ≡ base + next (slice (base + j + 1) (base + n) words) (stop - base)) (r : Held) (tags₁ : List ℕ) (got : Covers r tags₁ tags at (extent (pieces 32 (row_at pc)) start at end stop (slice at stop words))) where
+      stepped : records_left (pieces 32 (row_at pc)) words base stop n j at ≡ both ◌++◌ (extent (pieces 32 (row_at pc)) start at end stop (slice at stop words)) (records_left (pieces 32 (row_at pc)) words base stop n (j + 1) end)
+      stepped = rw (is-start, is-end) (records-step (pieces 32 (row_at pc)) words base stop n j at enough room h inv.low)
 
-      whole : ending tags at (after b (both ◌++◌ (extent (pieces 32 (row_at pc)) (base + w) at end stop (slice at stop words)) (records_left (pieces 32 (row_at pc)) words base stop n (j + 1) end))) ≡ ending tags₀ (base + n) (records_left (pieces 32 (row_at pc)) words base stop n 0 (base + n))
+      whole : ending tags at (after b (both ◌++◌ (extent (pieces 32 (row_at pc)) start at end stop (slice at stop words)) (records_left (pieces 32 (row_at pc)) words base stop n (j + 1) end))) ≡ ending tags₀ (base + n) (records_left (pieces 32 (row_at pc)) words base stop n 0 (base + n))
       whole = ap (λ o. ending tags at (after b o)) (sym stepped) ∙ inv.same
 
-      pub records_bad : r ≡ Bad → Covers Bad tags₁ tags₀ (base + n) (records_left (pieces 32 (row_at pc)) words base stop n 0 (base + n))
-      unfolding shown
+      pub records_bad : r ≡ Err Misfit → Covers (Err Misfit) tags₁ tags₀ (base + n) (records_left (pieces 32 (row_at pc)) words base stop n 0 (base + n))
+      unfolding shown stopped
       records_bad e = record { same = then_bad tags at _ r tags₁ got b (records_left (pieces 32 (row_at pc)) words base stop n (j + 1) end) e ∙ whole }
 
-      not_bad : (o : Laid Classes) → (r ≡ Bad → ⊥) → shown r tags₁ ≡ ending tags at o → o ≡ bad → ⊥
-      unfolding shown ending
+      not_bad : (o : Laid Classes) → (r ≡ Err Misfit → ⊥) → shown r tags₁ ≡ ending tags at o → o ≡ bad → ⊥
+      unfolding shown stopped ending
       not_bad o n g q = go r n (rw q at g)
         where
-          go : (r : Held) → (r ≡ Bad → ⊥) → shown r tags₁ ≡ refused → ⊥
-          go Fits n g = let z : ◌≡◌ {A = ℕ} 0 1 = cc in omega arith
-          go Bad n g = n refl
-          go Strange n g = let z : ◌≡◌ {A = ℕ} 0 1 = cc in omega arith
+          go : (r : Held) → (r ≡ Err Misfit → ⊥) → shown r tags₁ ≡ refused → ⊥
+          go (Ok u) n g = cc
+          go (Err Misfit) n g = n refl
+          go (Err Strange) n g = cc
 
-      bounded : (r ≡ Bad → ⊥) → Bounds (pieces 32 (row_at pc)) (reads-pieces 32 (row_at pc)) words (base + w) at end stop enough
-      bounded n = bounds (pieces 32 (row_at pc)) (reads-pieces 32 (row_at pc)) words (base + w) at end stop enough (not_bad _ n got.same)
+      bounded : (r ≡ Err Misfit → ⊥) → Bounds (pieces 32 (row_at pc)) (reads-pieces 32 (row_at pc)) words start at end stop enough
+      bounded n = bounds (pieces 32 (row_at pc)) (reads-pieces 32 (row_at pc)) words start at end stop enough (not_bad _ n got.same)
 
-      pub records_fits : r ≡ Fits → Recording words tags₀ base stop n pc tags₁ end (j + 1) b
-      records_fits e = let k = bounded (λ q. let z : ◌≡◌ {A = ℕ} 0 1 = cc in omega arith) in record {
+      pub records_fits : r ≡ Ok tt → Recording words tags₀ base stop n pc tags₁ end (j + 1) b
+      records_fits e = let k = bounded (λ q. cc) in record {
         some_left = omega arith;
         low = omega (arith, inv.low, k.forth);
         high = k.within;
-        same = then_fits tags at _ r tags₁ got b (records_left (pieces 32 (row_at pc)) words base stop n (j + 1) end) e end (extent-length (pieces 32 (row_at pc)) (reads-pieces 32 (row_at pc)) words (base + w) at end stop enough) ∙ whole;
+        same = then_fits tags at _ r tags₁ got b (records_left (pieces 32 (row_at pc)) words base stop n (j + 1) end) e end (extent-length (pieces 32 (row_at pc)) (reads-pieces 32 (row_at pc)) words start at end stop enough) ∙ whole;
       }
 
-      pub records_strange : r ≡ Strange → Recording words tags₀ base stop n pc tags₁ end (j + 1) true
-      records_strange e = let k = bounded (λ q. let z : ◌≡◌ {A = ℕ} 0 1 = cc in omega arith) in record {
+      pub records_strange : r ≡ Err Strange → Recording words tags₀ base stop n pc tags₁ end (j + 1) true
+      records_strange e = let k = bounded (λ q. cc) in record {
         some_left = omega arith;
         low = omega (arith, inv.low, k.forth);
         high = k.within;
@@ -394,8 +395,8 @@ module _ (words tags₀ : List ℕ) (base stop n pc : ℕ) (room : base + n ≤ 
       ended_so : (o : Laid Classes) → records_left (pieces 32 (row_at pc)) words base stop n j at ≡ o → ending tags at (after b o) ≡ ending tags₀ (base + n) (records_left (pieces 32 (row_at pc)) words base stop n 0 (base + n))
       ended_so o e = ap (λ q. ending tags at (after b q)) (sym e) ∙ inv.same
 
-      pub records-short : (at ≡ stop → ⊥) → Covers Bad tags tags₀ (base + n) (records_left (pieces 32 (row_at pc)) words base stop n 0 (base + n))
-      unfolding shown ending map_l
+      pub records-short : (at ≡ stop → ⊥) → Covers (Err Misfit) tags tags₀ (base + n) (records_left (pieces 32 (row_at pc)) words base stop n 0 (base + n))
+      unfolding shown stopped ending map_l
       records-short q =
           let e : records_left (pieces 32 (row_at pc)) words base stop n j at ≡ bad = none_left ∙ rw (ne_eqb (at - base) (stop - base) (λ z. q (omega (arith, inv.low, inv.high, z)))) in
           record { same = sym (ap (ending tags at) (after_bad b)) ∙ ended_so bad e }
@@ -404,11 +405,11 @@ module _ (words tags₀ : List ℕ) (base stop n pc : ℕ) (room : base + n ≤ 
       unfolding map_l flat_all
       all_left q = none_left ∙ rw (eq-eqb (at - base) (stop - base) (omega (arith, q)))
 
-      pub records-odd : at ≡ stop → b ≡ true → Covers Strange tags tags₀ (base + n) (records_left (pieces 32 (row_at pc)) words base stop n 0 (base + n))
-      unfolding shown ending after
+      pub records-odd : at ≡ stop → b ≡ true → Covers (Err Strange) tags tags₀ (base + n) (records_left (pieces 32 (row_at pc)) words base stop n 0 (base + n))
+      unfolding shown stopped ending after
       records-odd q e = record { same = sym (rw e) ∙ ended_so (laid []) (all_left q) }
 
-      pub records_done : at ≡ stop → b ≡ false → Covers Fits tags tags₀ (base + n) (records_left (pieces 32 (row_at pc)) words base stop n 0 (base + n))
+      pub records_done : at ≡ stop → b ≡ false → Covers (Ok tt) tags tags₀ (base + n) (records_left (pieces 32 (row_at pc)) words base stop n 0 (base + n))
       unfolding shown ending after
       records_done q e = record { same = sym (rw e) ∙ ended_so (laid []) (all_left q) }
 
@@ -442,15 +443,11 @@ module _ (words tags : List ℕ) (base stop count : ℕ) (enough : stop ≤ leng
   rd_all : Reads (slice base stop words) all
   rd_all = rw is_all (reads-join rd_rays rd_pairs)
 
-  pub special_misfit : r ≡ Misfit → Covers Bad tags₁ tags base (special count (slice base stop words))
+  pub special_err : (f : Misread) → r ≡ Err f → Covers (Err f) tags₁ tags base (special count (slice base stop words))
   unfolding special all seen
-  special_misfit e = exact_misfit words tags base stop enough h all rd_all Misfit tags₁ (record { same = sym (ap (final tags base stop) is_all ∙ chain_misfit words tags base stop enough h _ rd_rays r tags₁ got pairs e) }) refl
+  special_err f e = exact_err words tags base stop enough h all rd_all (Err f) tags₁ (record { same = sym (ap (final tags base stop) is_all ∙ chain_err words tags base stop enough h _ rd_rays r tags₁ got pairs f e) }) f refl
 
-  pub special_strange : r ≡ WalkedStrange → Covers Strange tags₁ tags base (special count (slice base stop words))
-  unfolding special all seen
-  special_strange e = exact_strange words tags base stop enough h all rd_all WalkedStrange tags₁ (record { same = sym (ap (final tags base stop) is_all ∙ chain_strange words tags base stop enough h _ rd_rays r tags₁ got pairs e) }) refl
-
-  module _ (i : ℕ) (e : r ≡ Next i) where
+  module _ (i : ℕ) (e : r ≡ Ok i) where
     onward : Onto words base stop i (final tags base stop (join (pieces 32 (row_at RAYS_ROW) (slice base stop words)) pairs)) (final tags₁ i stop (pairs (slice i stop words)))
     onward = chain_next words tags base stop enough h _ rd_rays r tags₁ got pairs i e
 
@@ -462,21 +459,17 @@ module _ (words tags : List ℕ) (base stop count : ℕ) (enough : stop ≤ leng
       unfolding pairs
       whole-special = record { same = (rw pair_row_lem at then.same) ∙ sym (ap (final tags base stop) is_all ∙ onward.same) }
 
-      pub special_fits : (j : ℕ) → q ≡ Next j → j ≡ stop → Covers Fits tags₂ tags base (special count (slice base stop words))
+      pub special_fits : (j : ℕ) → q ≡ Ok j → j ≡ stop → Covers (Ok tt) tags₂ tags base (special count (slice base stop words))
       unfolding special all
       special_fits j f z = exact_fits words tags base stop enough h all rd_all q tags₂ whole-special j f z
 
-      pub special-short : (j : ℕ) → q ≡ Next j → (j ≡ stop → ⊥) → Covers Bad tags₂ tags base (special count (slice base stop words))
+      pub special-short : (j : ℕ) → q ≡ Ok j → (j ≡ stop → ⊥) → Covers (Err Misfit) tags₂ tags base (special count (slice base stop words))
       unfolding special all
       special-short j f n = exact-short words tags base stop enough h all rd_all q tags₂ whole-special j f n
 
-      pub pairs_misfit : q ≡ Misfit → Covers Bad tags₂ tags base (special count (slice base stop words))
+      pub pairs_err : (f : Misread) → q ≡ Err f → Covers (Err f) tags₂ tags base (special count (slice base stop words))
       unfolding special all
-      pairs_misfit f = exact_misfit words tags base stop enough h all rd_all q tags₂ whole-special f
-
-      pub pairs_strange : q ≡ WalkedStrange → Covers Strange tags₂ tags base (special count (slice base stop words))
-      unfolding special all
-      pairs_strange f = exact_strange words tags base stop enough h all rd_all q tags₂ whole-special f
+      pairs_err f e = exact_err words tags base stop enough h all rd_all q tags₂ whole-special f e
 
 -- ---- a section: its offsets, and its records
 module _ (words tags : List ℕ) (base stop n pc : ℕ) (enough : stop ≤ length words) (h : base ≤ stop) where
@@ -517,43 +510,36 @@ module _ (words tags : List ℕ) (base stop n pc : ℕ) (enough : stop ≤ lengt
   unfolding records_left
   section-whole k = behind (records (pieces 32 (row_at pc)) (stop - base) (base + n - base) (slice (base + 0) (base + n) words) (slice (base + n) stop words)) ∙ ap (ending tags base) (opened-section k)
 
-fill_room : (tags tags₁ : List ℕ) (i end c n : ℕ) (r : Walked) → Fills r tags₁ tags i end c n → (k : ℕ) → r ≡ Next k → (i + n ≤ end) × (tags₁ ≡ sets tags i (replicate n c))
+fill_room : (tags tags₁ : List ℕ) (i end c n : ℕ) (r : Walked) → Fills r tags₁ tags i end c n → (k : ℕ) → r ≡ Ok k → (i + n ≤ end) × (tags₁ ≡ sets tags i (replicate n c))
 unfolding seen filled
 fill_room tags tags₁ i end c n r got k e = go (leb (i + n) end) refl (rw e at got.same)
   where
     go : (b : Bool) → leb (i + n) end ≡ b → ◌≡◌ {A = Final} (next-final k tags₁) (elim b [ true ↦ next-final (i + n) (sets tags i (replicate n c)) | false ↦ refused-final ]) → (i + n ≤ end) × (tags₁ ≡ sets tags i (replicate n c))
     go true q g = (leb-true (i + n) end q, cc)
-    go false q g = let z : ◌≡◌ {A = ℕ} 0 1 = cc in absurd (omega arith)
+    go false q g = cc
 
-fill_none : (tags tags₁ : List ℕ) (i end c n : ℕ) (r : Walked) → Fills r tags₁ tags i end c n → r ≡ Misfit → end < i + n
-unfolding seen filled
-fill_none tags tags₁ i end c n r got e = go (leb (i + n) end) refl (rw e at got.same)
+fill_none : (tags tags₁ : List ℕ) (i end c n : ℕ) (r : Walked) → Fills r tags₁ tags i end c n → (e : Misread) → r ≡ Err e → (end < i + n) × (e ≡ Misfit)
+unfolding seen stopped-final filled
+fill_none tags tags₁ i end c n r got e h = go (leb (i + n) end) refl e (rw h at got.same)
   where
-    go : (b : Bool) → leb (i + n) end ≡ b → ◌≡◌ {A = Final} refused-final (elim b [ true ↦ next-final (i + n) (sets tags i (replicate n c)) | false ↦ refused-final ]) → end < i + n
-    go true q g = let z : ◌≡◌ {A = ℕ} 0 1 = cc in absurd (omega arith)
-    go false q g = leb-false (i + n) end q
-
-fill_known : (tags tags₁ : List ℕ) (i end c n : ℕ) (r : Walked) → Fills r tags₁ tags i end c n → r ≡ WalkedStrange → ⊥
-unfolding seen filled
-fill_known tags tags₁ i end c n r got e = go (leb (i + n) end) (rw e at got.same)
-  where
-    go : (b : Bool) → ◌≡◌ {A = Final} strange-final (elim b [ true ↦ next-final (i + n) (sets tags i (replicate n c)) | false ↦ refused-final ]) → ⊥
-    go true g = let z : ◌≡◌ {A = ℕ} 0 1 = cc in omega arith
-    go false g = let z : ◌≡◌ {A = ℕ} 0 1 = cc in omega arith
+    go : (b : Bool) → leb (i + n) end ≡ b → (e : Misread) → ◌≡◌ {A = Final} (stopped-final e) (elim b [ true ↦ next-final (i + n) (sets tags i (replicate n c)) | false ↦ refused-final ]) → (end < i + n) × (e ≡ Misfit)
+    go true q Misfit g = cc
+    go true q Strange g = cc
+    go false q Misfit g = (leb-false (i + n) end q, refl)
+    go false q Strange g = cc
 
 module _ (words tags : List ℕ) (base stop n pc : ℕ) (enough : stop ≤ length words) (h : base ≤ stop) (r : Walked) (tags₁ : List ℕ) (got : Fills r tags₁ tags base stop 104 n) where
-  module _ (k : ℕ) (e : r ≡ Next k) where
-    pub section-room : (m : ℕ) → m ≡ n → base + m ≤ stop
-    section-room m is = omega (arith, (fill_room tags tags₁ base stop 104 n r got k e).0)
+  module _ (k : ℕ) (e : r ≡ Ok k) where
+    pub section-room : base + n ≤ stop
+    section-room = (fill_room tags tags₁ base stop 104 n r got k e).0
 
-    pub section-records : (m : ℕ) → m ≡ n → (q : Held) (tags₂ : List ℕ) → Covers q tags₂ tags₁ (base + m) (records_left (pieces 32 (row_at pc)) words base stop m 0 (base + m)) → Covers q tags₂ tags base (tabled (row_at pc) n (slice base stop words))
-    section-records m is q tags₂ c =
+    pub section-records : (q : Held) (tags₂ : List ℕ) → Covers q tags₂ tags₁ (base + n) (records_left (pieces 32 (row_at pc)) words base stop n 0 (base + n)) → Covers q tags₂ tags base (tabled (row_at pc) n (slice base stop words))
+    section-records q tags₂ c =
         let f = fill_room tags tags₁ base stop 104 n r got k e in
-        record { same = (rw (is, f.1) at c.same) ∙ section-whole words tags base stop n pc enough h (omega (arith, f.0)) }
+        record { same = (rw f.1 at c.same) ∙ section-whole words tags base stop n pc enough h (omega (arith, f.0)) }
 
-  pub section_misfit : r ≡ Misfit → Covers Bad tags₁ tags base (tabled (row_at pc) n (slice base stop words))
-  unfolding shown
-  section_misfit e = record { same = sym (section-short words tags base stop n pc enough h (omega (arith, fill_none tags tags₁ base stop 104 n r got e))) }
-
-  pub section_never : r ≡ WalkedStrange → Covers Bad tags₁ tags base (tabled (row_at pc) n (slice base stop words))
-  section_never e = absurd (fill_known tags tags₁ base stop 104 n r got e)
+  pub section_err : (f : Misread) → r ≡ Err f → Covers (Err f) tags₁ tags base (tabled (row_at pc) n (slice base stop words))
+  unfolding shown stopped
+  section_err f e =
+      let m = fill_none tags tags₁ base stop 104 n r got f e in
+      record { same = rw m.1 (sym (section-short words tags base stop n pc enough h (omega (arith, m.0)))) }

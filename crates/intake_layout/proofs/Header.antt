@@ -2,6 +2,7 @@
 use mathlib.Core.Path.{◌≡◌, refl, sym, ap, ◌∙◌}
 use mathlib.Core.Bool.{true, false, ◌&&◌}
 use mathlib.Core.List.{List}
+use Rattle.std.proofs.Common.{◌⊎◌, inl, inr}
 use Prim.Native.Nat.{ℕ, zero, suc, ◌+◌, ◌-◌, ◌*◌, ◌^◌, ◌≤◌, ◌<◌}
 use native.Mathlib.Numerals.{add-one}
 use native.Mathlib.Omega.{arith}
@@ -119,13 +120,21 @@ module _ (words : List ℕ) (total : ℕ) (large : 20 ≤ total) (enough : total
             same = rw (add-one k, is-end) (sym (opened ∙ rw (eq-eqb (offset_at k (take total words)) at (start_is ∙ e), le-leb (count_at k (take total words)) (get_or limits k 0) few, le-leb at (end_at k (take total words)) (omega (arith, is-end)), le-leb (end_at k (take total words)) (length (take total words)) (omega (arith, is-end, length-take-le total words enough)))) ∙ inv.same);
           }
 
+      pub placed_out : (start end most : ℕ) → start ≡ get_or words (3 + 2 * k) 0 → end ≡ end_at k (take total words) → most ≡ get_or limits k 0
+          → (start ≡ at → ⊥) ⊎ (((start ≡ at) × (most < get_or words (2 + 2 * k) 0)) ⊎ (((start ≡ at) × (get_or words (2 + 2 * k) 0 ≤ most) × (end < at)) ⊎ ((start ≡ at) × (get_or words (2 + 2 * k) 0 ≤ most) × (at ≤ end) × (total < end))))
+          → false ≡ placed limits 0 20 (take total words)
+      placed_out start end most e f g (inl n) = placed_start start e n
+      placed_out start end most e f g (inr (inl q)) = placed_many start end most e f g q.0 q.1
+      placed_out start end most e f g (inr (inr (inl q))) = placed_back start end most e f g q.0 q.1 q.2
+      placed_out start end most e f g (inr (inr (inr q))) = placed_past start end most e f g q.0 q.1 q.2 q.3
+
     pub placed_done : 9 ≤ k → true ≡ placed limits 0 20 (take total words)
     unfolding placed limits
     placed_done h = let e : k ≡ 9 = omega (arith, inv.some_left) in rw e at inv.same
 
 -- ---- the places as the code computes them
-pub end_of_some : (words : List ℕ) (base stop n j w : ℕ) → j < n → base + n ≤ stop → stop ≤ length words → stop ≤ 16384 → j + 1 < n → w ≡ get_or words (base + j + 1) 0 → w < 2 ^ 32 → (base + w ≡ base + next (slice (base + j + 1) (base + n) words) (stop - base)) × (base + w < 2 ^ 33)
-end_of_some words base stop n j w h room enough small k is l = (ap (base +◌) (is ∙ sym (next_some words base stop n j h room enough k)), omega arith)
+pub end_of_some : (words : List ℕ) (base stop n j : ℕ) → j < n → base + n ≤ stop → stop ≤ length words → stop ≤ 16384 → j + 1 < n → get_or words (base + j + 1) 0 < 2 ^ 32 → (base + get_or words (base + j + 1) 0 ≡ base + next (slice (base + j + 1) (base + n) words) (stop - base)) × (base + get_or words (base + j + 1) 0 < 2 ^ 33)
+end_of_some words base stop n j h room enough small k l = (ap (base +◌) (sym (next_some words base stop n j h room enough k)), omega arith)
 
 pub end_of_none : (words : List ℕ) (base stop n j : ℕ) → j < n → base + n ≤ stop → stop ≤ length words → stop ≤ 16384 → n ≤ j + 1 → (stop ≡ base + next (slice (base + j + 1) (base + n) words) (stop - base)) × (stop < 2 ^ 33)
 end_of_none words base stop n j h room enough small k = (next-none words base stop n j h room enough k, omega arith)
@@ -133,5 +142,5 @@ end_of_none words base stop n j h room enough small k = (next-none words base st
 pub end_at_last : (words : List ℕ) (total k : ℕ) → 20 ≤ total → total ≤ length words → total ≤ 16384 → k ≡ 8 → (total ≡ end_at k (take total words)) × (total < 2 ^ 32)
 end_at_last words total k large enough small e = (sym (end-last words total large enough k e), omega arith)
 
-pub end_at_next : (words : List ℕ) (total k w : ℕ) → 20 ≤ total → total ≤ length words → k < 9 → (k ≡ 8 → ⊥) → w ≡ get_or words (5 + 2 * k) 0 → w < 2 ^ 32 → (w ≡ end_at k (take total words)) × (w < 2 ^ 32)
-end_at_next words total k w large enough h n is l = (is ∙ sym (end-next words total large enough k n h), l)
+pub end_at_next : (words : List ℕ) (total k : ℕ) → 20 ≤ total → total ≤ length words → k < 9 → (k ≡ 8 → ⊥) → get_or words (5 + 2 * k) 0 < 2 ^ 32 → (get_or words (5 + 2 * k) 0 ≡ end_at k (take total words)) × (get_or words (5 + 2 * k) 0 < 2 ^ 32)
+end_at_next words total k large enough h n l = (sym (end-next words total large enough k n h), l)

@@ -16,8 +16,12 @@ use Rattle.model.specs.Module.{Module, read, write, flat_module, sized}
 use Rattle.model.specs.Taped.{Taped}
 use Rattle.theory_image.specs.Modules.{read-write, read_well}
 use Rattle.theory_image.specs.Views.{length-write}
-use Rattle.intake_layout.specs.Layout.{Answer, fits, size, shows, held, layout_of, LayOutEnsures}
-use Rattle.intake_layout.specs.declared.Layout.TheVariants.{Fits}
+use Rattle.intake_layout.specs.Layout.{Answer, fits, refused, size, shows, held, layout_of, LayOutEnsures}
+use Rattle.std.specs.Prelude.{Ok, Err}
+use Rattle.model.specs.Intake.{intake_of, verdict}
+use Rattle.base_refusals.specs.Numbers.{number_of}
+use Rattle.base_refusals.specs.declared.Refusal.{Refusal}
+use Rattle.base_refusals.specs.declared.Refusal.TheVariants.{BadSize, BadLayout, BadRange}
 
 -- the image is sized, and its words hold a module
 pub record HoldsImage (bytes words tags : List ℕ) (n : ℕ) : Type 0 where
@@ -78,14 +82,14 @@ module _ (bytes words tags words₁ tags₁ : List ℕ) (n : ℕ) (words_long : 
 
   inside_bad : fits n words₁ tags₁ ≡ held (words_of bytes) words tags bad → HoldsImage bytes words₁ tags₁ n
   unfolding held
-  inside_bad g = let z : ◌≡◌ {A = ℕ} 0 1 = cc in absurd (omega arith)
+  inside_bad g = cc
 
   inside_strange : fits n words₁ tags₁ ≡ held (words_of bytes) words tags strange → HoldsImage bytes words₁ tags₁ n
   unfolding held
-  inside_strange g = let z : ◌≡◌ {A = ℕ} 0 1 = cc in absurd (omega arith)
+  inside_strange g = cc
 
   -- an image that fits is held by words and tags
-  pub holds : LayOutEnsures (Fits n) words₁ tags₁ bytes words tags → HoldsImage bytes words₁ tags₁ n
+  pub holds : LayOutEnsures (Ok n) words₁ tags₁ bytes words tags → HoldsImage bytes words₁ tags₁ n
   unfolding shows layout_of
   holds l = go (sized (length bytes) (words_of bytes)) refl l.same
     where
@@ -96,4 +100,18 @@ module _ (bytes words tags words₁ tags₁ : List ℕ) (n : ℕ) (words_long : 
 
       go : (b : Bool) → sized (length bytes) (words_of bytes) ≡ b → ◌≡◌ {A = Answer} (fits n words₁ tags₁) (elim b [ true ↦ held (words_of bytes) words tags (read (words_of bytes)) | false ↦ size ]) → HoldsImage bytes words₁ tags₁ n
       go true s g = inside s (read (words_of bytes)) refl g
-      go false s g = let z : ◌≡◌ {A = ℕ} 0 1 = cc in absurd (omega arith)
+      go false s g = cc
+
+  -- the refusal of an image that does not fit is intake's
+  pub refused_by : (e : Refusal) → LayOutEnsures (Err e) words₁ tags₁ bytes words tags → number_of e ≡ intake_of (length bytes) (words_of bytes)
+  unfolding shows layout_of held intake_of verdict
+  refused_by e l = go (sized (length bytes) (words_of bytes)) refl l.same
+    where
+      inside : (x : Laid Module) → ◌≡◌ {A = Answer} (refused e) (held (words_of bytes) words tags x) → number_of e ≡ verdict x
+      inside (laid m) g = cc
+      inside bad g = let k : e ≡ BadLayout = cc in ap number_of k
+      inside strange g = let k : e ≡ BadRange = cc in ap number_of k
+
+      go : (b : Bool) → sized (length bytes) (words_of bytes) ≡ b → ◌≡◌ {A = Answer} (refused e) (elim b [ true ↦ held (words_of bytes) words tags (read (words_of bytes)) | false ↦ size ]) → number_of e ≡ intake_of (length bytes) (words_of bytes)
+      go true s g = rw (intake_of, s) (inside (read (words_of bytes)) g)
+      go false s g = let k : e ≡ BadSize = cc in rw (intake_of, s) (ap number_of k)

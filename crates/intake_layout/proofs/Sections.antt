@@ -2,7 +2,7 @@
 use mathlib.Core.Path.{◌≡◌, refl, sym, ap, ◌∙◌, subst}
 use mathlib.Core.Bool.{Bool, true, false, ◌&&◌}
 use mathlib.Core.List.{List, [], ◌∷◌, ◌++◌, map}
-use Prim.Native.Nat.{ℕ, zero, suc, ◌+◌, ◌-◌, ◌*◌, ◌≤◌, ◌<◌}
+use Prim.Native.Nat.{ℕ, zero, suc, ◌+◌, ◌*◌, ◌≤◌, ◌<◌}
 use native.Mathlib.Nat.{le_refl, zero-add, add-zero, add-suc, suc-add}
 use native.Mathlib.Numerals.{add-one}
 use native.Mathlib.Omega.{arith}
@@ -17,9 +17,10 @@ use Rattle.model.specs.Tree.{flat_all, DEPTH}
 use Rattle.model.specs.Module.{table, rays_row, pair_row, places, flat_table, limits, count_at, offset_at, end_at, placed, section}
 use Rattle.intake_fields.specs.Parts.{pieces, table_rows}
 use Rattle.intake_fields.specs.Rows.{ROWS, RECORDS, numbers, SIZE, row, row_at}
-use Rattle.intake_layout.specs.Extents.{Classes, done, refused, odd, shown, ending, Covers, after, classes, table_classes, tabled, special_of, special, sections_from}
-use Rattle.intake_layout.specs.declared.section.Held.{Held}
-use Rattle.intake_layout.specs.declared.section.Held.TheVariants.{Fits, Bad, Strange}
+use Rattle.intake_layout.specs.Extents.{Held, Classes, done, odd, stopped, shown, ending, Covers, after, classes, table_classes, tabled, special_of, special, sections_from}
+use Rattle.std.specs.Prelude.{Ok, Err}
+use Rattle.intake_fields.specs.declared.Misread.{Misread}
+use Rattle.intake_fields.specs.declared.Misread.TheVariants.{Misfit, Strange}
 use Rattle.theory_image.specs.Readers.{Good, good, good_misfit, good_unknown, Took}
 use Rattle.theory_image.specs.Tables.{laid_of, table_took}
 use Rattle.theory_image.specs.Sections.{length-places}
@@ -68,8 +69,8 @@ pub record LaidAs {A B : Type 0} (f : A → B) (x : Laid A) (b : B) : Type 0 whe
 pub laid_as : {A B : Type 0} (f : A → B) (x : Laid A) (b : B) → map_l f x ≡ laid b → LaidAs f x b
 unfolding map_l
 laid_as f (laid a) b q = record { value = a; laid-at = refl; is = cc }
-laid_as f bad b q = let z : ◌≡◌ {A = ℕ} 0 1 = cc in absurd (omega arith)
-laid_as f strange b q = let z : ◌≡◌ {A = ℕ} 0 1 = cc in absurd (omega arith)
+laid_as f bad b q = cc
+laid_as f strange b q = cc
 
 exact-length : (ws : List ℕ) (o : Outcome Cells) → Reads ws o → (cs : Cells) → exact o ≡ laid cs → length cs ≡ length ws
 unfolding exact
@@ -77,9 +78,9 @@ exact-length ws (fits ds []) (reads e) cs q =
     let same : cs ≡ ds = cc in
     let l : length ds + 0 ≡ length ws = rw (length-append, length-map) at (sym (ap length e)) in
     ap length same ∙ omega (arith, l)
-exact-length ws (fits ds (v ∷ vs)) r cs q = let z : ◌≡◌ {A = ℕ} 0 1 = cc in absurd (omega arith)
-exact-length ws misfit r cs q = let z : ◌≡◌ {A = ℕ} 0 1 = cc in absurd (omega arith)
-exact-length ws unknown r cs q = let z : ◌≡◌ {A = ℕ} 0 1 = cc in absurd (omega arith)
+exact-length ws (fits ds (v ∷ vs)) r cs q = cc
+exact-length ws misfit r cs q = cc
+exact-length ws unknown r cs q = cc
 
 abbrev any : Cells → Type 0
 any cs = cs ≡ cs
@@ -198,9 +199,13 @@ module _ (words tags₀ : List ℕ) (total : ℕ) (large : 20 ≤ total) (enough
       pub sections-total : stop ≤ total
       sections-total = omega (arith, stop_is stop is_stop, (stands k (omega arith)).within, ws_long)
 
-      module _ (t : List ℕ) (tabled-by : t ≡ numbers) (pc : ℕ) (is-pc : pc ≡ get_or t (RECORDS + k) 0) where
+      module _ (pc : ℕ) (is-pc : pc ≡ get_or numbers (500 + k) 0) where
+        is_pc : pc ≡ get_or numbers (RECORDS + k) 0
+        unfolding SIZE
+        is_pc = is-pc
+
         pub sections-row : pc < ROWS
-        sections-row = rw (is-pc, tabled-by) (row-entry k h).start
+        sections-row = rw is_pc (row-entry k h).start
 
         module _ (tags : List ℕ) (b : Bool) (inv : Sectioning words tags₀ total tags k b) (r : Held) (tags₁ : List ℕ) (got : Covers r tags₁ tags base (tabled (row_at pc) (get_or words (2 + 2 * k) 0) (slice base stop words))) where
           here : Laid Classes
@@ -212,7 +217,7 @@ module _ (words tags₀ : List ℕ) (total : ℕ) (large : 20 ≤ total) (enough
           here_is : tabled (row_at pc) (get_or words (2 + 2 * k) 0) (slice base stop words) ≡ here
           unfolding here ws section
           here_is =
-              ap (λ q. tabled q (get_or words (2 + 2 * k) 0) (slice base stop words)) (ap row_at (is-pc ∙ ap (λ l. get_or l (RECORDS + k) 0) tabled-by) ∙ (row-entry k h).is)
+              ap (λ q. tabled q (get_or words (2 + 2 * k) 0) (slice base stop words)) (ap row_at is_pc ∙ (row-entry k h).is)
               ∙ ap (λ n. tabled (get_or table_rows k []) n (slice base stop words)) (sym (count_is words total large enough k (omega arith)))
               ∙ ap (tabled (get_or table_rows k []) (count_at k (take total words))) (sym (part_same base stop sections-total) ∙ ap (λ j. slice j stop (take total words)) (base_is base is_base) ∙ ap (λ j. slice (offset_at k (take total words)) j (take total words)) (stop_is stop is_stop))
 
@@ -233,18 +238,18 @@ module _ (words tags₀ : List ℕ) (total : ℕ) (large : 20 ≤ total) (enough
               let m = length-slice (offset_at k (take total words)) (end_at k (take total words)) (take total words) (stands k (omega arith)).within in
               omega (arith, l, m, onward k h, (stands k (omega arith)).forth)
 
-          pub sections_bad : r ≡ Bad → Covers Bad tags₁ tags₀ 20 (sections_from table_rows 0 (take total words))
-          unfolding shown
+          pub sections_bad : r ≡ Err Misfit → Covers (Err Misfit) tags₁ tags₀ 20 (sections_from table_rows 0 (take total words))
+          unfolding shown stopped
           sections_bad e = record { same = then_bad tags (offset_at k (take total words)) here r tags₁ got-here b rest e ∙ whole }
 
-          pub sections_fits : r ≡ Fits → Sectioning words tags₀ total tags₁ (k + 1) b
+          pub sections_fits : r ≡ Ok tt → Sectioning words tags₀ total tags₁ (k + 1) b
           unfolding rest ws
           sections_fits e = record {
             some_left = omega arith;
             same = rw (add-one k) (then_fits tags (offset_at k (take total words)) here r tags₁ got-here b rest e (offset_at (suc k) (take total words)) fills ∙ whole);
           }
 
-          pub sections_strange : r ≡ Strange → Sectioning words tags₀ total tags₁ (k + 1) true
+          pub sections_strange : r ≡ Err Strange → Sectioning words tags₀ total tags₁ (k + 1) true
           unfolding rest ws
           sections_strange e = record {
             some_left = omega arith;
@@ -270,28 +275,33 @@ module _ (words tags₀ : List ℕ) (total : ℕ) (large : 20 ≤ total) (enough
     got_last : Covers r tags₁ tags (offset_at k (take total words)) (sections_from (drop k table_rows) k (take total words))
     got_last = record { same = got.same ∙ ap (ending tags base) last_is ∙ ap (λ j. ending tags j (sections_from (drop k table_rows) k (take total words))) base_at }
 
-    ended : (x : Laid Classes) → shown r tags₁ ≡ ending tags (offset_at k (take total words)) x → (r ≡ Bad → refused ≡ ending tags (offset_at k (take total words)) (after b x)) × ((r ≡ Strange → odd ≡ ending tags (offset_at k (take total words)) (after b x)) × ((r ≡ Fits → b ≡ true → odd ≡ ending tags (offset_at k (take total words)) (after b x)) × (r ≡ Fits → b ≡ false → done tags₁ ≡ ending tags (offset_at k (take total words)) (after b x))))
-    unfolding shown ending after
-    ended (laid c) g = (λ e. absurd (let q : refused ≡ done _ = rw e at g in let z : ◌≡◌ {A = ℕ} 0 1 = cc in omega arith), (λ e. absurd (let q : odd ≡ done _ = rw e at g in let z : ◌≡◌ {A = ℕ} 0 1 = cc in omega arith), (λ e f. rw f, λ e f. rw f (rw e at g))))
-    ended bad g = (λ e. sym (ap (ending tags (offset_at k (take total words))) (after_bad b)), (λ e. absurd (let q : odd ≡ refused = rw e at g in let z : ◌≡◌ {A = ℕ} 0 1 = cc in omega arith), (λ e f. absurd (let q : done _ ≡ refused = rw e at g in let z : ◌≡◌ {A = ℕ} 0 1 = cc in omega arith), λ e f. absurd (let q : done _ ≡ refused = rw e at g in let z : ◌≡◌ {A = ℕ} 0 1 = cc in omega arith))))
-    ended strange g = (λ e. absurd (let q : refused ≡ odd = rw e at g in let z : ◌≡◌ {A = ℕ} 0 1 = cc in omega arith), (λ e. sym (odd-after b), (λ e f. absurd (let q : done _ ≡ odd = rw e at g in let z : ◌≡◌ {A = ℕ} 0 1 = cc in omega arith), λ e f. absurd (let q : done _ ≡ odd = rw e at g in let z : ◌≡◌ {A = ℕ} 0 1 = cc in omega arith))))
+    ended_err : (x : Laid Classes) (e : Misread) → stopped e ≡ ending tags (offset_at k (take total words)) x → stopped e ≡ ending tags (offset_at k (take total words)) (after b x)
+    unfolding stopped ending after
+    ended_err (laid c) Misfit g = cc
+    ended_err (laid c) Strange g = cc
+    ended_err bad Misfit g = sym (ap (ending tags (offset_at k (take total words))) (after_bad b))
+    ended_err bad Strange g = cc
+    ended_err strange Misfit g = cc
+    ended_err strange Strange g = go b
       where
-        odd-after : (b : Bool) → ending tags (offset_at k (take total words)) (after b strange) ≡ odd
-        odd-after true = refl
-        odd-after false = refl
+        go : (b : Bool) → odd ≡ ending tags (offset_at k (take total words)) (after b strange)
+        go true = refl
+        go false = refl
 
-    pub last_bad : r ≡ Bad → Covers Bad tags₁ tags₀ 20 (sections_from table_rows 0 (take total words))
+    pub last_err : (e : Misread) → r ≡ Err e → Covers (Err e) tags₁ tags₀ 20 (sections_from table_rows 0 (take total words))
     unfolding shown
-    last_bad e = record { same = (ended _ got_last.same).0 e ∙ inv.same }
+    last_err e f = record { same = ended_err _ e (rw f at got_last.same) ∙ inv.same }
 
-    pub last_strange : r ≡ Strange → Covers Strange tags₁ tags₀ 20 (sections_from table_rows 0 (take total words))
-    unfolding shown
-    last_strange e = record { same = (ended _ got_last.same).1.0 e ∙ inv.same }
+    ended_ok : (x : Laid Classes) → done tags₁ ≡ ending tags (offset_at k (take total words)) x → (b ≡ true → odd ≡ ending tags (offset_at k (take total words)) (after b x)) × (b ≡ false → done tags₁ ≡ ending tags (offset_at k (take total words)) (after b x))
+    unfolding ending after
+    ended_ok (laid c) g = (λ e. rw e, λ e. rw e g)
+    ended_ok bad g = cc
+    ended_ok strange g = cc
 
-    pub last-odd : r ≡ Fits → b ≡ true → Covers Strange tags₁ tags₀ 20 (sections_from table_rows 0 (take total words))
-    unfolding shown
-    last-odd e f = record { same = (ended _ got_last.same).1.1.0 e f ∙ inv.same }
+    pub last-odd : r ≡ Ok tt → b ≡ true → Covers (Err Strange) tags₁ tags₀ 20 (sections_from table_rows 0 (take total words))
+    unfolding shown stopped
+    last-odd f e = record { same = (ended_ok _ (rw f at got_last.same)).0 e ∙ inv.same }
 
-    pub last_fits : r ≡ Fits → b ≡ false → Covers Fits tags₁ tags₀ 20 (sections_from table_rows 0 (take total words))
+    pub last_fits : r ≡ Ok tt → b ≡ false → Covers (Ok tt) tags₁ tags₀ 20 (sections_from table_rows 0 (take total words))
     unfolding shown
-    last_fits e f = record { same = (ended _ got_last.same).1.1.1 e f ∙ inv.same }
+    last_fits f e = record { same = (ended_ok _ (rw f at got_last.same)).1 e ∙ inv.same }

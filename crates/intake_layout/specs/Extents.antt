@@ -1,5 +1,5 @@
 -- The header and the sections as the code lays them out: extents that records fill, and the tags of their words. proofs/Whole.antt proves that this is the model's `read`.
-use Rattle.std.specs.Prelude.{◌≡◌, Bool, true, false, ◌&&◌, List, [], ◌∷◌, ◌++◌, map, ℕ, suc, ◌+◌, ◌-◌, eqb, leb, take, replicate}
+use Rattle.std.specs.Prelude.{◌≡◌, Bool, true, false, ◌&&◌, List, [], ◌∷◌, ◌++◌, map, ℕ, suc, ◌+◌, ◌-◌, eqb, leb, take, replicate, Result, Ok, Err}
 use Rattle.std.proofs.lemmas.List.Edits.{sets}
 use Rattle.std.proofs.Math.Seq.{slice}
 use Rattle.model.specs.Outcome.{Cells, class, Laid, laid, bad, strange, exact, both, map_l}
@@ -7,22 +7,28 @@ use Rattle.model.specs.Table.{Row, PLACE}
 use Rattle.model.specs.Tree.{flat_all, DEPTH}
 use Rattle.model.specs.Module.{records, table, rays_row, pair_row, count_at, section}
 use Rattle.intake_fields.specs.Parts.{Reader, join, times, pieces}
-use Rattle.intake_layout.specs.declared.section.Held.{Held}
-use Rattle.intake_layout.specs.declared.section.Held.TheVariants.{Fits, Bad, Strange}
+use Rattle.intake_fields.specs.declared.Misread.{Misread}
+use Rattle.intake_fields.specs.declared.Misread.TheVariants.{Misfit, Strange}
 
 -- the tags of a part of the words
 abbrev pub Classes : Type 0
 Classes = List ℕ
 
 -- ---- what the code reports, and what it has to report: nothing is promised about the tags of a refused extent
+abbrev pub Held : Type 0
+Held = Result (Unit {0}) Misread
+
 pub data End : Type 0 where
   done : List ℕ → End
   refused odd : End
 
+unfoldable pub stopped : Misread → End
+stopped Misfit = refused
+stopped Strange = odd
+
 unfoldable pub shown : Held → List ℕ → End
-shown Fits tags = done tags
-shown Bad tags = refused
-shown Strange tags = odd
+shown (Ok u) tags = done tags
+shown (Err e) tags = stopped e
 
 unfoldable pub ending : List ℕ → ℕ → Laid Classes → End
 ending tags at (laid cs) = done (sets tags at cs)

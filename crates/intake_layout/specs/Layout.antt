@@ -1,23 +1,34 @@
 -- What laying out an image answers and leaves: the definition for every slice of bytes. If the image is refused, nothing is promised about words and tags.
-use Rattle.std.specs.Prelude.{◌≡◌, true, false, List, map, ℕ, length}
+use Rattle.std.specs.Prelude.{◌≡◌, true, false, List, map, ℕ, length, Result, Ok, Err}
 use Rattle.std.proofs.lemmas.List.Edits.{sets}
 use Rattle.base_words.specs.Words.{words_of}
 use Rattle.model.specs.Outcome.{class, Laid, laid, bad, strange}
 use Rattle.model.specs.Module.{Module, read, flat_module, sized}
-use Rattle.intake_layout.specs.declared.Layout.{Layout}
-use Rattle.intake_layout.specs.declared.Layout.TheVariants.{Fits, Size, Misfit, Strange}
+use Rattle.base_refusals.specs.declared.Refusal.{Refusal}
+use Rattle.base_refusals.specs.declared.Refusal.TheVariants.{BadSize, BadLayout, BadRange}
 
--- the count of words, the words and the tags; refused 1; refused 2; a kind or a code that is none of the listed
+-- the count of words, or the refusal
+abbrev pub Layout : Type 0
+Layout = Result ℕ Refusal
+
+-- the count of words, the words and the tags; or the refusal: the size, the layout, or a kind or a code that is none of the listed
 pub data Answer : Type 0 where
   fits : ℕ → List ℕ → List ℕ → Answer
-  size misfit unknown : Answer
+  refused : Refusal → Answer
+
+abbrev pub size : Answer
+size = refused BadSize
+
+abbrev pub misfit : Answer
+misfit = refused BadLayout
+
+abbrev pub unknown : Answer
+unknown = refused BadRange
 
 -- what the code reports
 unfoldable pub shows : Layout → List ℕ → List ℕ → Answer
-shows (Fits n) words tags = fits n words tags
-shows Size words tags = size
-shows Misfit words tags = misfit
-shows Strange words tags = unknown
+shows (Ok n) words tags = fits n words tags
+shows (Err e) words tags = refused e
 
 -- the words of an image, and the classes of the module that they hold
 unfoldable pub held : List ℕ → List ℕ → List ℕ → Laid Module → Answer

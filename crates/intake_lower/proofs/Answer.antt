@@ -1,19 +1,18 @@
 -- What the passes of an image say together: the test of refusal 4, for the module that words and tags hold.
 use mathlib.Core.Path.{◌≡◌, refl, sym, ap, ◌∙◌}
-use mathlib.Core.Bool.{Bool, true, false, not}
+use mathlib.Core.Bool.{Bool, true, false}
 use mathlib.Core.List.{List, [], ◌∷◌}
 use Prim.Native.Nat.{ℕ, zero, suc, ◌≤◌, ◌<◌}
 use native.Mathlib.Omega.{arith}
 use lib.Dec.{ltb, leb, leb-zero, leb-suc-suc}
 use lib.ListN.{length, get_or, get_or-eq_default}
-use borrow.Author.Tests.{leb-true, leb-false, not-true, not-false}
+use borrow.Author.Tests.{leb-true, leb-false}
 use Rattle.theory_lists.specs.Booleans.{and_right}
 use Rattle.model.specs.Outcome.{Cells, word}
 use Rattle.model.specs.Table.{SPAN, UPTO, NAME, TYPE, INIT, OPT_INIT, WORD, constant_row, override_row}
 use Rattle.model.specs.Module.{Module, count_at, offset_at}
 use Rattle.model.specs.View.{tables}
 use Rattle.model.specs.Taped.{Tape, Taped}
-use Rattle.model.specs.Between.{between}
 use Rattle.model.specs.Operands.{optional}
 use Rattle.model.specs.Lower.{below, types_lower, operands_lower, functions_lower, entries_lower, init_of, inits_lower, lower}
 use Rattle.theory_image.specs.Plain.{plain?}
@@ -21,7 +20,7 @@ use Rattle.theory_image.specs.Quiet.{Plainly, plain-none, plain-next, plainly}
 use Rattle.theory_image.specs.FunctionViews.{part_end, part-word, taped_held, taped_length}
 use Rattle.theory_image.specs.Betweens.{table-between, table-count, record_offset, record_part}
 use Rattle.theory_image.specs.Members.{each_at}
-use Rattle.intake_lower.specs.Passes.{pass, type_next, type_ok, expr_next, expr_ok, word_at, init_ok, Reaches}
+use Rattle.intake_lower.specs.Passes.{pass, type_next, type_ok, expr_next, expr_ok, word_at, init_ok, Reaches, Does, Passed}
 use Rattle.intake_lower.proofs.Sections.{types_are, exprs_are, functions_are, entries_are, inits_are}
 
 -- the init is word 4 of a constant, and word 5 of an override
@@ -45,6 +44,14 @@ opt_below (suc o) e = leb-suc-suc (suc o) e ∙ sym (and_right (ltb o e))
 one_below : (i e : ℕ) → ltb (suc i) (suc e) ≡ below (i ∷ []) e
 unfolding below
 one_below i e = leb-suc-suc (suc i) e ∙ sym (and_right (ltb i e))
+
+-- code whose contracts are the definitions
+does : (next : ℕ → ℕ → ℕ) (ok : ℕ → ℕ → ℕ → Bool) → Does (λ s n r. r ≡ next s n) (λ s w n b. b ≡ ok s w n) next ok
+does next ok = record { counted = λ s n r _ _ is. is; tested = λ s w n b _ _ _ is. is }
+
+-- a pass whose code is that
+abbrev pub Answers : (ℕ → ℕ → ℕ) → (ℕ → ℕ → ℕ → Bool) → Bool → List ℕ → List ℕ → ℕ → ℕ → Type 0
+Answers next ok = Passed (λ s n r. r ≡ next s n) (λ s w n b. b ≡ ok s w n)
 
 module _ {words tags : List ℕ} {n : ℕ} {m : Module} (t : Taped words tags n m) where
   constant-at : (j : ℕ) → j < count_at 2 words → Held 4 (get_or m.constants j []) (word (get_or (get_or m.constants j []) 4 (0, 0)) ∷ [])
@@ -99,27 +106,28 @@ module _ {words tags : List ℕ} {n : ℕ} {m : Module} (t : Taped words tags n 
   both_reach = (reaches 2 4 (omega arith) (λ j i. (constant-at j i).long), reaches 3 5 (omega arith) (λ j i. (override-at j i).long))
 
   -- the sections, by their places in the header
-  pub types-answer : (a e : ℕ) → a ≡ offset_at 1 words → e ≡ offset_at 2 words → pass (between tags words a e) type_next type_ok 0 ≡ types_lower m.types 0
+  pub types-answer : (a e : ℕ) → a ≡ offset_at 1 words → e ≡ offset_at 2 words → (r : Bool) → Answers type_next type_ok r words tags a e → r ≡ types_lower m.types 0
   unfolding tables
-  types-answer a e p q = rw (p, q) (ap (λ cs. pass cs type_next type_ok 0) (table-between t 1 (omega arith)) ∙ types_are t.well.types-ok.each)
+  types-answer a e p q r got = got.same type_next type_ok (does type_next type_ok) ∙ rw (p, q) (ap (λ cs. pass cs type_next type_ok 0) (table-between t 1 (omega arith)) ∙ types_are t.well.types-ok.each)
 
-  pub exprs_answer : (a e : ℕ) → a ≡ offset_at 5 words → e ≡ offset_at 6 words → pass (between tags words a e) expr_next expr_ok 0 ≡ operands_lower m.exprs 0
+  pub exprs_answer : (a e : ℕ) → a ≡ offset_at 5 words → e ≡ offset_at 6 words → (r : Bool) → Answers expr_next expr_ok r words tags a e → r ≡ operands_lower m.exprs 0
   unfolding tables
-  exprs_answer a e p q = rw (p, q) (ap (λ cs. pass cs expr_next expr_ok 0) (table-between t 5 (omega arith)) ∙ exprs_are t.well.exprs_ok.each)
+  exprs_answer a e p q r got = got.same expr_next expr_ok (does expr_next expr_ok) ∙ rw (p, q) (ap (λ cs. pass cs expr_next expr_ok 0) (table-between t 5 (omega arith)) ∙ exprs_are t.well.exprs_ok.each)
 
-  pub inits-answer : (a e : ℕ) → a ≡ offset_at 5 words → e ≡ offset_at 6 words → pass (between tags words a e) expr_next (init_ok words) 0 ≡ inits_lower m.exprs m.constants m.overrides 0
+  pub inits-answer : (a e : ℕ) → a ≡ offset_at 5 words → e ≡ offset_at 6 words → (tests : ℕ → ℕ → ℕ → Bool → Type 0) → ((s w n : ℕ) (b : Bool) → tests s w n b → b ≡ init_ok words s w n) → (r : Bool) → Passed (λ s n r. r ≡ expr_next s n) tests r words tags a e → r ≡ inits_lower m.exprs m.constants m.overrides 0
   unfolding tables
-  inits-answer a e p q =
-      rw (p, q)
+  inits-answer a e p q tests tested r got =
+      got.same expr_next (init_ok words) (record { counted = λ s n r _ _ is. is; tested = λ s w n b _ _ _ is. tested s w n b is })
+      ∙ rw (p, q)
       (ap (λ cs. pass cs expr_next (init_ok words) 0) (table-between t 5 (omega arith)) ∙ inits_are words m.constants m.overrides constant-same override-same t.well.exprs_ok.each)
 
-  pub functions_answer : (a e : ℕ) → a ≡ offset_at 6 words → e ≡ offset_at 7 words → pass (between tags words a e) expr_next expr_ok 0 ≡ functions_lower m.functions
+  pub functions_answer : (a e : ℕ) → a ≡ offset_at 6 words → e ≡ offset_at 7 words → (r : Bool) → Answers expr_next expr_ok r words tags a e → r ≡ functions_lower m.functions
   unfolding tables
-  functions_answer a e p q = rw (p, q) (ap (λ cs. pass cs expr_next expr_ok 0) (table-between t 6 (omega arith)) ∙ functions_are t.well.functions_ok.each)
+  functions_answer a e p q r got = got.same expr_next expr_ok (does expr_next expr_ok) ∙ rw (p, q) (ap (λ cs. pass cs expr_next expr_ok 0) (table-between t 6 (omega arith)) ∙ functions_are t.well.functions_ok.each)
 
-  pub entries_answer : (a e : ℕ) → a ≡ offset_at 7 words → e ≡ offset_at 8 words → pass (between tags words a e) expr_next expr_ok 0 ≡ entries_lower m.entries
+  pub entries_answer : (a e : ℕ) → a ≡ offset_at 7 words → e ≡ offset_at 8 words → (r : Bool) → Answers expr_next expr_ok r words tags a e → r ≡ entries_lower m.entries
   unfolding tables
-  entries_answer a e p q = rw (p, q) (ap (λ cs. pass cs expr_next expr_ok 0) (table-between t 7 (omega arith)) ∙ entries_are t.well.entries_ok.each)
+  entries_answer a e p q r got = got.same expr_next expr_ok (does expr_next expr_ok) ∙ rw (p, q) (ap (λ cs. pass cs expr_next expr_ok 0) (table-between t 7 (omega arith)) ∙ entries_are t.well.entries_ok.each)
 
 -- ---- what the code requires of the tags
 pub reach : {words tags : List ℕ} {n : ℕ} → Tape words tags n → Reaches words 2 4 × Reaches words 3 5
@@ -127,25 +135,25 @@ reach t = both_reach t.taped
 
 -- ---- the returns: the first test that fails, or the last
 module _ (m : Module) (a : Bool) (types : a ≡ types_lower m.types 0) where
-  pub types_fail : not a ≡ true → false ≡ lower m
+  pub types_fail : a ≡ false → false ≡ lower m
   unfolding lower
-  types_fail e = rw (lower, sym types ∙ not-true a e)
+  types_fail e = rw (lower, sym types ∙ e)
 
-  module _ (a-ok : not a ≡ false) (b : Bool) (exprs : b ≡ operands_lower m.exprs 0) where
-    pub exprs_fail : not b ≡ true → false ≡ lower m
+  module _ (a-ok : a ≡ true) (b : Bool) (exprs : b ≡ operands_lower m.exprs 0) where
+    pub exprs_fail : b ≡ false → false ≡ lower m
     unfolding lower
-    exprs_fail e = rw (lower, sym types ∙ not-false a a-ok, sym exprs ∙ not-true b e)
+    exprs_fail e = rw (lower, sym types ∙ a-ok, sym exprs ∙ e)
 
-    module _ (b-ok : not b ≡ false) (c : Bool) (inits : c ≡ inits_lower m.exprs m.constants m.overrides 0) where
-      pub inits_fail : not c ≡ true → false ≡ lower m
+    module _ (b-ok : b ≡ true) (c : Bool) (inits : c ≡ inits_lower m.exprs m.constants m.overrides 0) where
+      pub inits_fail : c ≡ false → false ≡ lower m
       unfolding lower
-      inits_fail e = rw (lower, sym types ∙ not-false a a-ok, sym exprs ∙ not-false b b-ok, sym inits ∙ not-true c e)
+      inits_fail e = rw (lower, sym types ∙ a-ok, sym exprs ∙ b-ok, sym inits ∙ e)
 
-      module _ (c-ok : not c ≡ false) (d : Bool) (functions : d ≡ functions_lower m.functions) where
-        pub functions_fail : not d ≡ true → false ≡ lower m
+      module _ (c-ok : c ≡ true) (d : Bool) (functions : d ≡ functions_lower m.functions) where
+        pub functions_fail : d ≡ false → false ≡ lower m
         unfolding lower
-        functions_fail e = rw (lower, sym types ∙ not-false a a-ok, sym exprs ∙ not-false b b-ok, sym inits ∙ not-false c c-ok, sym functions ∙ not-true d e)
+        functions_fail e = rw (lower, sym types ∙ a-ok, sym exprs ∙ b-ok, sym inits ∙ c-ok, sym functions ∙ e)
 
-        pub last : not d ≡ false → (r : Bool) → r ≡ entries_lower m.entries → r ≡ lower m
+        pub last : d ≡ true → (r : Bool) → r ≡ entries_lower m.entries → r ≡ lower m
         unfolding lower
-        last d-ok r e = rw (lower, sym types ∙ not-false a a-ok, sym exprs ∙ not-false b b-ok, sym inits ∙ not-false c c-ok, sym functions ∙ not-false d d-ok) e
+        last d-ok r e = rw (lower, sym types ∙ a-ok, sym exprs ∙ b-ok, sym inits ∙ c-ok, sym functions ∙ d-ok) e

@@ -1,9 +1,10 @@
 -- The flat passes of refusal 4. A pass goes over cells with a count of the records that have begun: what is being read is record `count - 1`, so a number w is lower where w + 1 < count, and an optional number w (0 for none, else the number plus 1) where w < count.
-use Rattle.std.specs.Prelude.{Bool, true, false, ◌&&◌, List, [], ◌∷◌, ℕ, suc, ◌+◌, ◌<◌, eqb, ltb, leb, get_or}
+use Rattle.std.specs.Prelude.{◌≡◌, ◌^◌, ◌≤◌, Bool, true, false, ◌&&◌, List, [], ◌∷◌, ℕ, suc, ◌+◌, ◌<◌, eqb, ltb, leb, get_or}
 use Rattle.model.specs.Outcome.{Cells, class, word}
 use Rattle.model.specs.Table.{TYPE, CONSTANT, OVERRIDE, EXPR, OPT_EXPR, NAMED, TYPE_KIND, EXPR_KIND}
 use Rattle.model.specs.Module.{count_at, offset_at}
 use Rattle.model.specs.View.{record_at}
+use Rattle.model.specs.Between.{between}
 
 -- `next` counts, by the class; `ok` tests a word of a class, by the count
 unfoldable pub pass : Cells → (ℕ → ℕ → ℕ) → (ℕ → ℕ → ℕ → Bool) → ℕ → Bool
@@ -40,3 +41,11 @@ init_ok ws s w n =
 pub record Reaches (ws : List ℕ) (k d : ℕ) : Type 0 where
   pub offset : (j : ℕ) → j < count_at k ws → offset_at k ws + j < 16384
   pub reach : (j : ℕ) → j < count_at k ws → record_at k j ws + d < 16384
+
+-- ---- code that counts by `counts` and tests by `tests`, of each class, word and count that a pass can meet
+pub record Does (counts : ℕ → ℕ → ℕ → Type 0) (tests : ℕ → ℕ → ℕ → Bool → Type 0) (next : ℕ → ℕ → ℕ) (ok : ℕ → ℕ → ℕ → Bool) : Type 0 where
+  pub counted : (s n r : ℕ) → s < 256 → n < 16384 → counts s n r → r ≡ next s n
+  pub tested : (s w n : ℕ) (b : Bool) → s < 256 → w < 2 ^ 32 → n ≤ 16384 → tests s w n b → b ≡ ok s w n
+
+pub record Passed (counts : ℕ → ℕ → ℕ → Type 0) (tests : ℕ → ℕ → ℕ → Bool → Type 0) (r : Bool) (words tags : List ℕ) (at end : ℕ) : Type 0 where
+  pub same : (next : ℕ → ℕ → ℕ) (ok : ℕ → ℕ → ℕ → Bool) → Does counts tests next ok → r ≡ pass (between tags words at end) next ok 0

@@ -1,151 +1,108 @@
-// Refusal 4 of document 01: a base, a member, an operand or an init that is not lower than what names it. Flat passes over the words and the tags, linear in the
+// Refusal 4: a base, a member, an operand or an init that is not lower than what names it. Flat passes over the words and the tags, linear in the
 // words. `count` is how many records have begun, so the record that is being read has the number count - 1.
 #![tactic(auto)]
 
-ghost use Rattle.std.specs.Prelude.{◌≡◌, ◌+◌, ◌^◌, ◌<◌};
+ghost use Rattle.std.specs.Prelude.{◌≡◌, ℕ, ◌+◌, ◌^◌, ◌≤◌, ◌<◌};
 ghost use Rattle.model.specs.Module.{Module, count_at};
 ghost use Rattle.model.specs.Taped.{Tape, Taped};
-ghost use Rattle.model.specs.Between.{between, Stretch};
+ghost use Rattle.model.specs.Between.{Stretch};
 ghost use Rattle.model.specs.Lower.{lower as lowerOf};
-ghost use Rattle.intake_lower.specs.Passes.{pass, type_next, type_ok, expr_next, expr_ok, word_at, init_ok, Reaches};
+ghost use Rattle.intake_lower.specs.Passes.{type_next, type_ok, expr_next, expr_ok, word_at, init_ok, Reaches, Passed};
 
 use base_classes::{CONSTANT, EXPR, EXPR_KIND, NAMED, OPT_EXPR, OVERRIDE, TYPE, TYPE_KIND};
 use base_views::{
     CONSTANTS, ENTRIES, EXPRESSIONS, FUNCTIONS, OVERRIDES, SPECIAL, TYPES, offset, start_of,
 };
-use base_words::{Tags, Words, wide};
+use base_words::{Tags, Words};
 
 // A type begins with its kind.
+#[tactic(auto, unfolding(crate::specs::Passes::type_next))]
 fn type_next(s: u8, count: usize) -> usize
     requires { count < 16384 }
     ensures { result ≡ type_next s count }
 {
-    if s == TYPE_KIND {
-        return count + 1;
-    }
-    count
+    if s == TYPE_KIND { count + 1 } else { count }
 }
 
 // A base or a member is lower.
+#[tactic(auto, unfolding(crate::specs::Passes::type_ok))]
 fn type_ok(s: u8, w: u32, count: usize) -> bool
     ensures { result ≡ type_ok s w count }
 {
-    if s == TYPE {
-        return wide(w) + 1 < count;
-    }
-    true
+    s != TYPE || w as usize + 1 < count
 }
 
 // An expression begins with its kind; the expressions of a function are followed by the named ones.
+#[tactic(auto, unfolding(crate::specs::Passes::expr_next))]
 fn expr_next(s: u8, count: usize) -> usize
     requires { count < 16384 }
     ensures { result ≡ expr_next s count }
 {
-    if s == EXPR_KIND {
-        return count + 1;
+    match s {
+        EXPR_KIND => count + 1,
+        NAMED => 0,
+        _ => count,
     }
-    if s == NAMED {
-        return 0;
-    }
-    count
 }
 
 // An operand is lower; what statements read is not tested here.
+#[tactic(auto, unfolding(crate::specs::Passes::expr_ok))]
 fn expr_ok(s: u8, w: u32, count: usize) -> bool
     ensures { result ≡ expr_ok s w count }
 {
-    if count == 0 {
-        return true;
-    }
-    if s == EXPR {
-        return wide(w) + 1 < count;
-    }
-    if s == OPT_EXPR {
-        return wide(w) < count;
-    }
-    true
+    count == 0
+        || match s {
+            EXPR => w as usize + 1 < count,
+            OPT_EXPR => (w as usize) < count,
+            _ => true,
+        }
 }
 
 // Word d of record j of section k.
+#[tactic(auto, unfolding(crate::specs::Passes::word_at))]
 fn word_at(words: &Words, k: usize, j: usize, d: usize) -> usize
     requires k_bound { (k < 9) × (j < count_at k words.now) × (d < 8) }
     requires reaches { Reaches words.now k d }
     ensures { (result ≡ word_at words.now k j d) × (result < 2 ^ 32) }
 {
-    let at = start_of(words, k, j);
-    wide(words[at + d])
+    words[start_of(words, k, j) + d] as usize
 }
 
-// The init of a constant or an override that is named is lower.
+// The init of a constant or an override that is named is lower; a number outside the table names none.
+#[tactic(auto, unfolding(crate::specs::Passes::init_ok))]
 fn init_ok(words: &Words, s: u8, w: u32, count: usize) -> bool
     requires { Reaches words.now 2 4 × Reaches words.now 3 5 }
     ensures { result ≡ init_ok words.now s w count }
 {
-    let j = wide(w);
-    if s == CONSTANT {
-        if base_views::count(words, CONSTANTS) <= j {
-            return true;
-        }
-        return word_at(words, CONSTANTS, j, 4) + 1 < count;
+    let j = w as usize;
+    match s {
+        CONSTANT => base_views::count(words, CONSTANTS) <= j
+            || word_at(words, CONSTANTS, j, 4) + 1 < count,
+        OVERRIDE => base_views::count(words, OVERRIDES) <= j
+            || word_at(words, OVERRIDES, j, 5) < count,
+        _ => true,
     }
-    if s == OVERRIDE {
-        if base_views::count(words, OVERRIDES) <= j {
-            return true;
-        }
-        return word_at(words, OVERRIDES, j, 5) < count;
-    }
-    true
 }
 
-fn types(words: &Words, tags: &Tags, at: usize, end: usize) -> bool
-    requires { Stretch words.now tags.now at end }
-    ensures { result ≡ pass (between tags.now words.now at end) type_next type_ok 0 }
-{
-    let mut count = 0;
-    let mut i = at;
-    while i < end {
-        let j = i;
-        i += 1;
-        let s = tags[j];
-        count = type_next(s, count);
-        if !type_ok(s, words[j], count) {
-            return false;
-        }
-    }
-    true
-}
-
-fn operands(words: &Words, tags: &Tags, at: usize, end: usize) -> bool
-    requires { Stretch words.now tags.now at end }
-    ensures { result ≡ pass (between tags.now words.now at end) expr_next expr_ok 0 }
-{
-    let mut count = 0;
-    let mut i = at;
-    while i < end {
-        let j = i;
-        i += 1;
-        let s = tags[j];
-        count = expr_next(s, count);
-        if !expr_ok(s, words[j], count) {
-            return false;
-        }
-    }
-    true
-}
-
-fn inits(words: &Words, tags: &Tags, at: usize, end: usize) -> bool
+// One pass over the words from `at` to `end`: `next` counts by the class of a word, and `ok` tests the word by the count.
+fn pass<N: Fn(u8, usize) -> usize, K: Fn(u8, u32, usize) -> bool>(
+    words: &Words,
+    tags: &Tags,
+    at: usize,
+    end: usize,
+    next: N,
+    ok: K,
+) -> bool
     requires stretch { Stretch words.now tags.now at end }
-    requires reaches { Reaches words.now 2 4 × Reaches words.now 3 5 }
-    ensures { result ≡ pass (between tags.now words.now at end) expr_next (init_ok words.now) 0 }
+    requires counts { (s n : ℕ) → s < 256 → n < 16384 → N.pre next s n }
+    requires grows { (s n r : ℕ) → s < 256 → n < 16384 → N.post next s n r → r ≤ n + 1 }
+    requires tests { (s w n : ℕ) → s < 256 → w < 2 ^ 32 → n ≤ 16384 → K.pre ok s w n }
+    ensures { Passed (N.post next) (K.post ok) result words.now tags.now at end }
 {
     let mut count = 0;
-    let mut i = at;
-    while i < end {
-        let j = i;
-        i += 1;
-        let s = tags[j];
-        count = expr_next(s, count);
-        if !init_ok(words, s, words[j], count) {
+    for j in at..end {
+        count = next(tags[j], count);
+        if !ok(tags[j], words[j], count) {
             return false;
         }
     }
@@ -160,17 +117,19 @@ pub fn lower(words: &Words, tags: &Tags, n: usize) -> bool
     let exprs = offset(words, EXPRESSIONS);
     let functions = offset(words, FUNCTIONS);
     let entries = offset(words, ENTRIES);
-    if !types(words, tags, offset(words, TYPES), offset(words, CONSTANTS)) {
-        return false;
-    }
-    if !operands(words, tags, exprs, functions) {
-        return false;
-    }
-    if !inits(words, tags, exprs, functions) {
-        return false;
-    }
-    if !operands(words, tags, functions, entries) {
-        return false;
-    }
-    operands(words, tags, entries, offset(words, SPECIAL))
+    let types = offset(words, TYPES);
+    let constants = offset(words, CONSTANTS);
+    let special = offset(words, SPECIAL);
+    pass(words, tags, types, constants, type_next, type_ok)
+        && pass(words, tags, exprs, functions, expr_next, expr_ok)
+        && pass(
+            words,
+            tags,
+            exprs,
+            functions,
+            expr_next,
+            |s, w, n| init_ok(words, s, w, n),
+        )
+        && pass(words, tags, functions, entries, expr_next, expr_ok)
+        && pass(words, tags, entries, special, expr_next, expr_ok)
 }

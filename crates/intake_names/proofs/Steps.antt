@@ -7,7 +7,7 @@ use native.Mathlib.Numerals.{add-one}
 use lib.Dec.{eqb}
 use lib.ListN.{length, get_or, set, length-set, length-replicate}
 use borrow.Author.Tests.{eq-eqb, ne_eqb}
-use Rattle.model.specs.Table.{NAME, NAMED-EXPR, NAMED}
+use Rattle.model.specs.Table.{NAMED-EXPR, NAMED}
 use Rattle.model.specs.Between.{between, Stretch}
 use Rattle.model.specs.Carry.{Each, each_next}
 use Rattle.model.specs.Names.{present}
@@ -31,19 +31,6 @@ module _ (ws : List ℕ) (k n i : ℕ) (whole : Bool) (o : Over present (number_
   present-next e = over_on present (number_at ws k) whole n i o h (rw (present, ne_eqb (number_at ws k i) 0 λ z. e (is ∙ z)))
 
 -- ---- named expressions
-module _ (b s w : ℕ) where
-  pub unnamed-tested : b ≡ NAMED-EXPR → s ≡ NAME → eqb w 0 ≡ unnamed b s w
-  unfolding unnamed
-  unnamed-tested e f = rw (unnamed, eq-eqb b NAMED-EXPR e, eq-eqb s NAME f)
-
-  pub unnamed-class : b ≡ NAMED-EXPR → (s ≡ NAME → ⊥) → false ≡ unnamed b s w
-  unfolding unnamed
-  unnamed-class e f = rw (unnamed, eq-eqb b NAMED-EXPR e, ne_eqb s NAME f)
-
-  pub unnamed-before : (b ≡ NAMED-EXPR → ⊥) → false ≡ unnamed b s w
-  unfolding unnamed
-  unnamed-before e = rw (unnamed, ne_eqb b NAMED-EXPR e)
-
 each_first : {A : Type 0} {P : A → Type 0} {x : A} {xs : List A} → Each P (x ∷ xs) → P x
 each_first (each_next p ps) = p
 

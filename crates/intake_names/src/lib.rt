@@ -13,7 +13,7 @@ ghost use Rattle.intake_names.specs.Passes.{unnamed as unnamedOf, NONE, marking,
 
 use base_classes::{NAME, NAMED, NAMED_EXPR};
 use base_views::{ENTRIES, FUNCTIONS, SPECIAL, count, offset};
-use base_words::{Tags, Words, wide};
+use base_words::{Tags, Words};
 use intake_distinct::{differ, distinct, number};
 
 // Whether all of section k have a name.
@@ -21,11 +21,7 @@ fn present(words: &Words, k: usize) -> bool
     requires { Placed words.now k }
     ensures { result ≡ presentOf (listing (number_at words.now k) (count_at k words.now) 0) }
 {
-    let n = count(words, k);
-    let mut i = 0;
-    while i < n {
-        let j = i;
-        i += 1;
+    for j in 0..count(words, k) {
         if number(words, k, j) == 0 {
             return false;
         }
@@ -34,16 +30,11 @@ fn present(words: &Words, k: usize) -> bool
 }
 
 // Whether a word w of the class s, after a word of the class `before`, is the name of an expression, and is none.
+#[tactic(auto, unfolding(crate::specs::Passes::unnamed))]
 fn unnamed(before: u8, s: u8, w: u32) -> bool
     ensures { result ≡ unnamedOf before s w }
 {
-    if before == NAMED_EXPR {
-        if s == NAME {
-            return w == 0;
-        }
-        return false;
-    }
-    false
+    before == NAMED_EXPR && s == NAME && w == 0
 }
 
 // Whether each named expression has a name, and none is named twice in a function.
@@ -54,26 +45,22 @@ fn expressions(words: &Words, tags: &Tags, at: usize, end: usize) -> bool
 {
     let mut marks = [0u8; 1024];
     let mut before = 0;
-    let mut i = at;
-    while i < end {
-        let j = i;
-        i += 1;
-        let b = before;
+    for j in at..end {
         let s = tags[j];
         let w = words[j];
-        before = s;
-        if unnamed(b, s, w) {
+        if unnamed(before, s, w) {
             return false;
         }
         if s == NAMED {
-            marks = [0u8; 1024];
+            marks = [0; 1024];
         } else if s == NAMED_EXPR {
-            let e = wide(w);
+            let e = w as usize;
             if marks[e] != 0 {
                 return false;
             }
             marks[e] = 1;
         }
+        before = s;
     }
     true
 }
@@ -86,6 +73,7 @@ pub fn named(words: &Words, tags: &Tags, n: usize) -> bool
     let functions = offset(words, FUNCTIONS);
     let entries = offset(words, ENTRIES);
     let special = offset(words, SPECIAL);
+    // a ladder: of one `&&` of the seven tests the proof goes through six joins, at both its ends
     if !present(words, FUNCTIONS) {
         return false;
     }

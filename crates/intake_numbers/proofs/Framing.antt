@@ -1,5 +1,6 @@
 -- A function in words and tags, and the loops over table functions and entry points.
 use mathlib.Core.Path.{◌≡◌, refl, sym, ap, ◌∙◌}
+use mathlib.Core.Logic.{⊎_elim}
 use mathlib.Core.Bool.{Bool, true, false, ◌&&◌, not}
 use mathlib.Core.Option.{some}
 use mathlib.Core.List.{List, []}
@@ -23,7 +24,7 @@ use Rattle.theory_image.specs.FunctionViews.{arguments_count, locals_count, expr
 use Rattle.theory_image.specs.Betweens.{held-between}
 use Rattle.model.specs.Between.{Long}
 use Rattle.intake_ranges.specs.Ranges.{table, headed, owned, FunctionInRangeEnsures, Owned}
-use Rattle.intake_numbers.specs.Passes.{TestEnsures, Tabled, Frame, Framed, Sound, Loose, Loosely, tables_fine, kinds_fine, functions_fine, entries_fine}
+use Rattle.intake_numbers.specs.Passes.{TestEnsures, Tabled, Frame, Framed, Sound, Loose, Loosely, Heads, Sectioned, tables_fine, kinds_fine, functions_fine, entries_fine}
 use Rattle.intake_initialisers.specs.Lists.{Lists, Listed, Initialised}
 use Rattle.intake_numbers.proofs.Tabling.{and_next, taped_long, cells_few, headed_is}
 
@@ -84,11 +85,11 @@ module _ (words tags : List ℕ) (at from end : ℕ) (pre : Framed words tags at
         unfolding sound
         split f cs fr b q v z = and_next (within (inside b f) cs) (ordered cs) (initialised f) ∙ ap (◌&& initialised f) (both f cs fr b q ∙ z)
 
-        pub function_over : not r₁ ≡ true → Sound false t₁ t words tags at from end
-        function_over z = record { same = λ f cs fr b q. sym (split f cs fr b q false (not-true r₁ z)); kept = now_is }
+        pub function_over : r₁ ≡ false → Sound r₁ t₁ t words tags at from end
+        function_over z = record { same = λ f cs fr b q. z ∙ sym (split f cs fr b q false z); kept = now_is }
 
-        pub function_done : not r₁ ≡ false → (r₃ : Bool) → Initialised r₃ words tags locals exprs end → Sound r₃ t₁ t words tags at from end
-        function_done z r₃ reached = record { same = λ f cs fr b q. reached.same f (lists_are fr locals exprs locals_is exprs-is) ∙ sym (split f cs fr b q true (not-false r₁ z)); kept = now_is }
+        pub function_done : r₁ ≡ true → (r₃ : Bool) → Initialised r₃ words tags locals exprs end → Sound r₃ t₁ t words tags at from end
+        function_done z r₃ reached = record { same = λ f cs fr b q. reached.same f (lists_are fr locals exprs locals_is exprs-is) ∙ sym (split f cs fr b q true z); kept = now_is }
 
 -- ---- one after the other: records of section k, whose functions start at `from` of the record's start
 module _ {A : Type 0} (k : ℕ) (items : Module → List A) (fn : A → Function) (cells : A → Cells) (from : ℕ → ℕ) (d : Module → A) where
@@ -186,52 +187,58 @@ functions_in_lem words count j is h = omega (arith, is.0)
 pub entries_in : (words : List ℕ) (count j : ℕ) → Word count (count_at 7 words) → j < count → j < count_at 7 words
 entries_in words count j is h = omega (arith, is.0)
 
+-- either of them, as the code goes over section k
+pub data InSection (words tags : List ℕ) (n : ℕ) (t₀ : List ℕ) (j : ℕ) (t : List ℕ) : ℕ → ℕ → Type 0 where
+  in_functions : InFunctions words tags n t₀ j t → InSection words tags n t₀ j t 6 0
+  in_entries : InEntries words tags n t₀ j t → InSection words tags n t₀ j t 7 7
+
+functions_only : {r : Bool} {t₁ words tags : List ℕ} {n : ℕ} {t : List ℕ} → Loosely r t₁ words tags n t functions_fine → Sectioned r 6 t₁ words tags n t
+functions_only l = record { functions = λ p. l; entries = λ p. absurd (omega (arith, p)) }
+
+entries_only : {r : Bool} {t₁ words tags : List ℕ} {n : ℕ} {t : List ℕ} → Loosely r t₁ words tags n t entries_fine → Sectioned r 7 t₁ words tags n t
+entries_only l = record { functions = λ p. absurd (omega (arith, p)); entries = λ p. l }
+
 module _ (words tags : List ℕ) (n : ℕ) (t₀ : List ℕ) where
-  pub functions_begin : InFunctions words tags n t₀ 0 t₀
-  functions_begin = looping-begin 6 _ _ _ _ _ words tags n (framing_functions words tags n) t₀
+  pub section_begin : (k head : ℕ) → Heads k head → InSection words tags n t₀ 0 t₀ k head
+  section_begin k head h =
+      ⊎_elim
+      (λ p. rw (p.0, p.1) (in_functions (looping-begin 6 _ _ _ _ _ words tags n (framing_functions words tags n) t₀)))
+      (λ p. rw (p.0, p.1) (in_entries (looping-begin 7 _ _ _ _ _ words tags n (framing_entries words tags n) t₀)))
+      h
 
-  pub entries_begin : InEntries words tags n t₀ 0 t₀
-  entries_begin = looping-begin 7 _ _ _ _ _ words tags n (framing_entries words tags n) t₀
+  module _ (j : ℕ) (t : List ℕ) where
+    pub section_done : (k head : ℕ) → InSection words tags n t₀ j t k head → count_at k words ≤ j → Sectioned true k t words tags n t₀
+    unfolding functions_fine entries_fine
+    section_done _ _ (in_functions inv) h = functions_only (looping_done 6 _ _ _ _ _ words tags n (framing_functions words tags n) t₀ j t inv h)
+    section_done _ _ (in_entries inv) h = entries_only (looping_done 7 _ _ _ _ _ words tags n (framing_entries words tags n) t₀ j t inv h)
 
-  module _ (count j : ℕ) (t : List ℕ) where
-    module _ (is : Word count (count_at 6 words)) where
-      module _ (inv : InFunctions words tags n t₀ j t) where
-        pub functions_done : count ≤ j → Loosely true t words tags n t₀ functions_fine
-        unfolding functions_fine
-        functions_done h = looping_done 6 _ _ _ _ _ words tags n (framing_functions words tags n) t₀ j t inv (omega (arith, is.0))
+    framed_there : (k head : ℕ) → InSection words tags n t₀ j t k head → j < count_at k words → Tape words tags n → Framed words tags (record_at k j words) (record_at k j words + head) (record_end k j words)
+    framed_there _ _ (in_functions inv) h tape = let z : record_at 6 j words + 0 ≡ record_at 6 j words = omega arith in rw z (looping_framed 6 _ _ _ _ _ words tags n (framing_functions words tags n) t₀ j t inv h tape)
+    framed_there _ _ (in_entries inv) h tape = looping_framed 7 _ _ _ _ _ words tags n (framing_entries words tags n) t₀ j t inv h tape
 
-        module _ (h : j < count) (at end : ℕ) (at-is : at ≡ record_at 6 j words) (end_is : end ≡ record_end 6 j words) where
-          pub functions_framed : Tape words tags n → Framed words tags at at end
-          functions_framed tape = rw (at-is, end_is) (looping_framed 6 _ _ _ _ _ words tags n (framing_functions words tags n) t₀ j t inv (functions_in_lem words count j is h) tape)
+    module _ (r : Bool) (t₁ : List ℕ) where
+      over_there : (k head : ℕ) → InSection words tags n t₀ j t k head → j < count_at k words → Sound r t₁ t words tags (record_at k j words) (record_at k j words + head) (record_end k j words) → not r ≡ true → Sectioned false k t₁ words tags n t₀
+      unfolding functions_fine entries_fine
+      over_there _ _ (in_functions inv) h got q = let z : record_at 6 j words + 0 ≡ record_at 6 j words = omega arith in functions_only (looping_over 6 _ _ _ _ _ words tags n (framing_functions words tags n) t₀ j t inv h r t₁ (rw z at got) q)
+      over_there _ _ (in_entries inv) h got q = entries_only (looping_over 7 _ _ _ _ _ words tags n (framing_entries words tags n) t₀ j t inv h r t₁ got q)
 
-          module _ (r : Bool) (t₁ : List ℕ) (got : Sound r t₁ t words tags at at end) where
-            pub functions_over : not r ≡ true → Loosely false t₁ words tags n t₀ functions_fine
-            unfolding functions_fine
-            functions_over q = looping_over 6 _ _ _ _ _ words tags n (framing_functions words tags n) t₀ j t inv (functions_in_lem words count j is h) r t₁ (rw (at-is, end_is) at got) q
+      next_there : (k head : ℕ) → InSection words tags n t₀ j t k head → j < count_at k words → Sound r t₁ t words tags (record_at k j words) (record_at k j words + head) (record_end k j words) → not r ≡ false → InSection words tags n t₀ (j + 1) t₁ k head
+      next_there _ _ (in_functions inv) h got q = let z : record_at 6 j words + 0 ≡ record_at 6 j words = omega arith in in_functions (looping-next 6 _ _ _ _ _ words tags n (framing_functions words tags n) t₀ j t inv h r t₁ (rw z at got) q)
+      next_there _ _ (in_entries inv) h got q = in_entries (looping-next 7 _ _ _ _ _ words tags n (framing_entries words tags n) t₀ j t inv h r t₁ got q)
 
-            pub functions_next : not r ≡ false → InFunctions words tags n t₀ (j + 1) t₁
-            functions_next q = looping-next 6 _ _ _ _ _ words tags n (framing_functions words tags n) t₀ j t inv (functions_in_lem words count j is h) r t₁ (rw (at-is, end_is) at got) q
+    module _ (k head : ℕ) (inv : InSection words tags n t₀ j t k head) (h : j < count_at k words) (at end : ℕ) (at-is : at ≡ record_at k j words) (end_is : end ≡ record_end k j words) where
+      pub section_framed : Tape words tags n → Framed words tags at (at + head) end
+      section_framed tape = rw (at-is, end_is) (framed_there k head inv h tape)
 
-    module _ (is : Word count (count_at 7 words)) where
-      module _ (inv : InEntries words tags n t₀ j t) where
-        pub entries_done : count ≤ j → Loosely true t words tags n t₀ entries_fine
-        unfolding entries_fine
-        entries_done h = looping_done 7 _ _ _ _ _ words tags n (framing_entries words tags n) t₀ j t inv (omega (arith, is.0))
+      pub section_small : Tape words tags n → at + head ≤ 16384
+      section_small tape = let p = section_framed tape in omega (arith, p.frame.own.part.rising, function_small words tags at (at + head) end p)
 
-        module _ (h : j < count) (at end : ℕ) (at-is : at ≡ record_at 7 j words) (end_is : end ≡ record_end 7 j words) where
-          pub entries_framed : Tape words tags n → Framed words tags at (at + 7) end
-          entries_framed tape = rw (at-is, end_is) (looping_framed 7 _ _ _ _ _ words tags n (framing_entries words tags n) t₀ j t inv (entries_in words count j is h) tape)
+      module _ (r : Bool) (t₁ : List ℕ) (got : Sound r t₁ t words tags at (at + head) end) where
+        pub section_over : not r ≡ true → Sectioned false k t₁ words tags n t₀
+        section_over q = over_there r t₁ k head inv h (rw (at-is, end_is) at got) q
 
-          pub entries_small : Tape words tags n → at ≤ 16384
-          entries_small tape = let p = entries_framed tape in omega (arith, p.frame.whole.rising, function_small words tags at (at + 7) end p)
-
-          module _ (r : Bool) (t₁ : List ℕ) (got : Sound r t₁ t words tags at (at + 7) end) where
-            pub entries_over : not r ≡ true → Loosely false t₁ words tags n t₀ entries_fine
-            unfolding entries_fine
-            entries_over q = looping_over 7 _ _ _ _ _ words tags n (framing_entries words tags n) t₀ j t inv (entries_in words count j is h) r t₁ (rw (at-is, end_is) at got) q
-
-            pub entries_next : not r ≡ false → InEntries words tags n t₀ (j + 1) t₁
-            entries_next q = looping-next 7 _ _ _ _ _ words tags n (framing_entries words tags n) t₀ j t inv (entries_in words count j is h) r t₁ (rw (at-is, end_is) at got) q
+        pub section_next : not r ≡ false → InSection words tags n t₀ (j + 1) t₁ k head
+        section_next q = next_there r t₁ k head inv h (rw (at-is, end_is) at got) q
 
 -- ---- the whole
 last-first : (k f e r p : Bool) → (k && (f && (e && (r && p)))) ≡ ((r && p) && (k && (f && e)))
@@ -270,16 +277,16 @@ module _ (words tags : List ℕ) (n : ℕ) (t : List ℕ) (t-is : t ≡ table (h
   loose m tp = record { bounds = outside m; is = table_is m tp; alike = λ f. refl }
 
   module _ (r₁ : Bool) (g₁ : Tabled r₁ words tags n t tables_fine) where
-    pub numbered-tables : not r₁ ≡ true → TestEnsures false words tags n numbered
-    numbered-tables q = record { same = λ m tp. sym (numbered_is m ∙ rw (sym (g₁.same m tp (table_is m tp)) ∙ not-true r₁ q)) }
+    pub numbered-tables : r₁ ≡ false → TestEnsures false words tags n numbered
+    numbered-tables q = record { same = λ m tp. sym (numbered_is m ∙ rw (sym (g₁.same m tp (table_is m tp)) ∙ q)) }
 
-    module _ (q₁ : not r₁ ≡ false) (r₂ : Bool) (g₂ : TestEnsures r₂ words tags n kinds_fine) where
-      pub numbered_kinds : not r₂ ≡ true → TestEnsures false words tags n numbered
-      numbered_kinds q = record { same = λ m tp. sym (numbered_is m ∙ rw (sym (g₁.same m tp (table_is m tp)) ∙ not-false r₁ q₁, sym (g₂.same m tp) ∙ not-true r₂ q)) }
+    module _ (q₁ : r₁ ≡ true) (r₂ : Bool) (g₂ : TestEnsures r₂ words tags n kinds_fine) where
+      pub numbered_kinds : r₂ ≡ false → TestEnsures false words tags n numbered
+      numbered_kinds q = record { same = λ m tp. sym (numbered_is m ∙ rw (sym (g₁.same m tp (table_is m tp)) ∙ q₁, sym (g₂.same m tp) ∙ q)) }
 
-      module _ (q₂ : not r₂ ≡ false) (r₃ : Bool) (t₁ : List ℕ) (g₃ : Loosely r₃ t₁ words tags n t functions_fine) where
-        pub numbered_functions : not r₃ ≡ true → TestEnsures false words tags n numbered
-        numbered_functions q = record { same = λ m tp. sym (numbered_is m ∙ rw (sym (g₁.same m tp (table_is m tp)) ∙ not-false r₁ q₁, sym (g₂.same m tp) ∙ not-false r₂ q₂, sym (g₃.same m tp (loose m tp)) ∙ not-true r₃ q)) }
+      module _ (q₂ : r₂ ≡ true) (r₃ : Bool) (t₁ : List ℕ) (g₃ : Loosely r₃ t₁ words tags n t functions_fine) where
+        pub numbered_functions : r₃ ≡ false → TestEnsures false words tags n numbered
+        numbered_functions q = record { same = λ m tp. sym (numbered_is m ∙ rw (sym (g₁.same m tp (table_is m tp)) ∙ q₁, sym (g₂.same m tp) ∙ q₂, sym (g₃.same m tp (loose m tp)) ∙ q)) }
 
-        pub numbered_entries : not r₃ ≡ false → (r₄ : Bool) (t₂ : List ℕ) → Loosely r₄ t₂ words tags n t₁ entries_fine → TestEnsures r₄ words tags n numbered
-        numbered_entries q r₄ t₂ g₄ = record { same = λ m tp. sym (numbered_is m ∙ rw (sym (g₁.same m tp (table_is m tp)) ∙ not-false r₁ q₁, sym (g₂.same m tp) ∙ not-false r₂ q₂, sym (g₃.same m tp (loose m tp)) ∙ not-false r₃ q) (sym (g₄.same m tp (g₃.kept m tp (loose m tp))))) }
+        pub numbered_entries : r₃ ≡ true → (r₄ : Bool) (t₂ : List ℕ) → Loosely r₄ t₂ words tags n t₁ entries_fine → TestEnsures r₄ words tags n numbered
+        numbered_entries q r₄ t₂ g₄ = record { same = λ m tp. sym (numbered_is m ∙ rw (sym (g₁.same m tp (table_is m tp)) ∙ q₁, sym (g₂.same m tp) ∙ q₂, sym (g₃.same m tp (loose m tp)) ∙ q) (sym (g₄.same m tp (g₃.kept m tp (loose m tp))))) }

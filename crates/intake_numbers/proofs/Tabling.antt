@@ -1,13 +1,13 @@
 -- The sections of a module in words and tags: where they are, what a pass over one of them tests, and the kinds of global expressions.
 use mathlib.Core.Path.{◌≡◌, refl, sym, ap, ◌∙◌}
-use mathlib.Core.Bool.{Bool, true, false, ◌&&◌, not}
+use mathlib.Core.Bool.{Bool, true, false, ◌&&◌}
 use mathlib.Core.List.{List, [], ◌∷◌, ◌++◌}
-use Prim.Native.Nat.{ℕ, suc, ◌+◌, ◌≤◌, ◌<◌}
+use Prim.Native.Nat.{ℕ, zero, suc, ◌+◌, ◌-◌, ◌≤◌, ◌<◌}
 use native.Mathlib.Numerals.{add-one}
 use native.Mathlib.Omega.{arith}
 use lib.ListN.{length, get_or, drop}
 use lib.Seq.{drop-cons, drop-length}
-use borrow.Author.Tests.{not-true, not-false}
+use Rattle.std.specs.List.{list_all, range_with_len}
 use Rattle.theory_lists.specs.Lists.{looked_at}
 use Rattle.model.specs.Outcome.{Cells, class, word}
 use Rattle.model.specs.Table.{expression_row}
@@ -20,10 +20,10 @@ use Rattle.model.specs.Numbers.{Bounds, caps, bound, below, within, every, outsi
 use Rattle.theory_image.specs.Views.{length-write, view_rising, view_next, view_within, view_last, view_section, view_table, sees_names, sees_types, sees_constants, sees_overrides, sees_globals, sees_exprs, sees_functions, sees_special, sees_expr}
 use Rattle.theory_image.specs.FunctionViews.{Part, part-word, part_end, Expression, expression_first, expression_kind, each_expression, taped_write, taped_held, taped_count, taped_offset, taped_part}
 use Rattle.model.specs.Between.{between, Long}
-use Rattle.theory_image.specs.Betweens.{held-between}
+use Rattle.theory_image.specs.Betweens.{between_none, between_cons, held-between}
 use Rattle.theory_image.specs.Members.{each_at}
 use Rattle.intake_ranges.specs.Ranges.{table, headed, InRangeEnsures}
-use Rattle.intake_numbers.specs.Passes.{TestEnsures, Tabled, tables_fine, kinds_fine}
+use Rattle.intake_numbers.specs.Passes.{Tabled, tables_fine, kinds_fine}
 
 -- ---- what a pass over a section tests
 pub and_next : (a b c : Bool) → (a && (b && c)) ≡ ((a && b) && c)
@@ -92,69 +92,101 @@ module _ {words tags : List ℕ} {n : ℕ} {m : Module} (t : Taped words tags n 
       let g = taped_count t 6 (omega arith) ∙ (sees_functions m refl).count in
       rw (a, b, c, d, e, f, g)
 
--- ---- one section
-module _ (words tags : List ℕ) (n : ℕ) (tape : Tape words tags n) (k : ℕ) (h : k < 8) where
-  module _ (a e : ℕ) (start_at : a ≡ offset_at k words) (next-at : e ≡ offset_at (k + 1) words) where
-    end-at : e ≡ offset_at (suc k) words
-    end-at = next-at ∙ ap (λ i. offset_at i words) (add-one k)
-
-    pub table-rising : a ≤ e
-    table-rising = rw (start_at, end-at) (section-part tape.taped k h).rising
-
-    pub table_small : e ≤ 16384
-    table_small = omega (arith, end-at, (section-part tape.taped k h).within, cells_few tape.taped)
-
-    pub table_ranged : (r : Bool) (t : List ℕ) → InRangeEnsures r words tags t a e → InRangeEnsures r words tags t (offset_at k words) (offset_at (suc k) words)
-    table_ranged r t got = rw (start_at, end-at) at got
-
 -- ---- the tables, one after the other
-abbrev pub At : List ℕ → List ℕ → List ℕ → ℕ → Bool → Type 0
-At words tags t k r = InRangeEnsures r words tags t (offset_at k words) (offset_at (suc k) words)
+-- a range in two
+module _ (words tags : List ℕ) (long : Long words tags) (b : Bounds) (end : ℕ) (ok : end ≤ 16384) where
+  within_split : (n i : ℕ) → i + n ≤ end → within b (between tags words i end) ≡ (within b (between tags words i (i + n)) && within b (between tags words (i + n) end))
+  unfolding within
+  within_split zero i h = let z : i + 0 ≡ i = omega arith in rw (z, between_none tags words i i (omega arith))
+  within_split (suc n) i h =
+      let z : i + suc n ≡ (i + 1) + n = omega arith in
+      rw (z, between_cons tags words i end (omega arith) long ok, between_cons tags words i ((i + 1) + n) (omega arith) long (omega arith))
+      (ap (below (bound b (get_or tags i 0)) (get_or words i 0) &&◌) (within_split n (i + 1) (omega arith))
+      ∙ and_next (below (bound b (get_or tags i 0)) (get_or words i 0)) (within b (between tags words (i + 1) ((i + 1) + n))) (within b (between tags words ((i + 1) + n) end)))
 
-module _ (words tags : List ℕ) (n : ℕ) (t : List ℕ) where
-  got : (k : ℕ) → k < 8 → (r : Bool) → At words tags t k r → (m : Module) → Taped words tags n m → t ≡ table (outside m) → every (within (outside m)) (get_or (tables m) k []) ≡ r
-  got k h r a m tp e = sym (a.same (outside m) e ∙ ap (within (outside m)) (held-between (taped_held tp) (section-part tp k h)) ∙ within-table (outside m) (get_or (tables m) k []))
+  pub within-split : (i j : ℕ) → i ≤ j → j ≤ end → within b (between tags words i end) ≡ (within b (between tags words i j) && within b (between tags words j end))
+  within-split i j l h = let z : i + (j - i) ≡ j = omega arith in rw z at (within_split (j - i) i (omega arith))
 
-  module _ (r₁ : Bool) (a₁ : At words tags t 1 r₁) where
-    pub tables-types : not r₁ ≡ true → Tabled false words tags n t tables_fine
-    unfolding tables_fine tables
-    tables-types q = record { same = λ m tp e. rw (got 1 (omega arith) r₁ a₁ m tp e, not-true r₁ q) }
+module _ {words tags : List ℕ} {n : ℕ} {m : Module} (tp : Taped words tags n m) (b : Bounds) where
+  table_fine : (k : ℕ) → k < 8 → within b (between tags words (offset_at k words) (offset_at (suc k) words)) ≡ every (within b) (get_or (tables m) k [])
+  table_fine k h = ap (within b) (held-between (taped_held tp) (section-part tp k h)) ∙ within-table b (get_or (tables m) k [])
 
-    module _ (q₁ : not r₁ ≡ false) (r₂ : Bool) (a₂ : At words tags t 2 r₂) where
-      pub tables_constants : not r₂ ≡ true → Tabled false words tags n t tables_fine
-      unfolding tables_fine tables
-      tables_constants q = record { same = λ m tp e. rw (got 1 (omega arith) r₁ a₁ m tp e, not-false r₁ q₁, got 2 (omega arith) r₂ a₂ m tp e, not-true r₂ q) }
+  next_starts : (k : ℕ) → k < 8 → offset_at k words ≤ offset_at (suc k) words
+  next_starts k h = (section-part tp k h).rising
 
-      module _ (q₂ : not r₂ ≡ false) (r₃ : Bool) (a₃ : At words tags t 3 r₃) where
-        pub tables_overrides : not r₃ ≡ true → Tabled false words tags n t tables_fine
-        unfolding tables_fine tables
-        tables_overrides q = record { same = λ m tp e. rw (got 1 (omega arith) r₁ a₁ m tp e, not-false r₁ q₁, got 2 (omega arith) r₂ a₂ m tp e, not-false r₂ q₂, got 3 (omega arith) r₃ a₃ m tp e, not-true r₃ q) }
+  pub sixth_in : offset_at 6 words ≤ 16384
+  sixth_in = omega (arith, (section-part tp 5 (omega arith)).within, cells_few tp)
 
-        module _ (q₃ : not r₃ ≡ false) (r₄ : Bool) (a₄ : At words tags t 4 r₄) where
-          pub tables_globals : not r₄ ≡ true → Tabled false words tags n t tables_fine
-          unfolding tables_fine tables
-          tables_globals q = record { same = λ m tp e. rw (got 1 (omega arith) r₁ a₁ m tp e, not-false r₁ q₁, got 2 (omega arith) r₂ a₂ m tp e, not-false r₂ q₂, got 3 (omega arith) r₃ a₃ m tp e, not-false r₃ q₃, got 4 (omega arith) r₄ a₄ m tp e, not-true r₄ q) }
+  -- section k, and then those up to the sixth
+  first_fine : (k : ℕ) → k < 8 → offset_at (suc k) words ≤ offset_at 6 words → within b (between tags words (offset_at k words) (offset_at 6 words)) ≡ (every (within b) (get_or (tables m) k []) && within b (between tags words (offset_at (suc k) words) (offset_at 6 words)))
+  first_fine k h l =
+      within-split words tags (taped_long tp) b (offset_at 6 words) sixth_in (offset_at k words) (offset_at (suc k) words) (next_starts k h) l
+      ∙ ap (λ v. v && within b (between tags words (offset_at (suc k) words) (offset_at 6 words))) (table_fine k h)
 
-          module _ (q₄ : not r₄ ≡ false) (r₅ : Bool) (a₅ : At words tags t 5 r₅) where
-            pub tables_exprs : not r₅ ≡ true → Tabled false words tags n t tables_fine
-            unfolding tables_fine tables
-            tables_exprs q = record { same = λ m tp e. rw (got 1 (omega arith) r₁ a₁ m tp e, not-false r₁ q₁, got 2 (omega arith) r₂ a₂ m tp e, not-false r₂ q₂, got 3 (omega arith) r₃ a₃ m tp e, not-false r₃ q₃, got 4 (omega arith) r₄ a₄ m tp e, not-false r₄ q₄, got 5 (omega arith) r₅ a₅ m tp e, not-true r₅ q) }
+  fifth_starts : offset_at 5 words ≤ offset_at 6 words
+  fifth_starts = next_starts 5 (omega arith)
 
-            pub tables-special : not r₅ ≡ false → (at : ℕ) → at ≡ offset_at 8 words → (r : Bool) → InRangeEnsures r words tags t at n → Tabled r words tags n t tables_fine
-            unfolding tables_fine tables flat_special
-            tables-special q₅ at is r a = record {
-              same = λ m tp e.
-                  let s : within (outside m) m.special.rays && every (within (outside m)) m.special.pairs ≡ r =
-                  sym (ap (within (outside m) m.special.rays &&◌) (within_all (outside m) m.special.pairs))
-                  ∙ sym (within-append (outside m) m.special.rays (flat_all m.special.pairs))
-                  ∙ sym (ap (within (outside m)) (held-between (taped_held tp) (special-part tp)))
-                  ∙ sym (a.same (outside m) e ∙ ap (λ o. within (outside m) (between tags words o n)) is) in
-                  rw (got 1 (omega arith) r₁ a₁ m tp e, not-false r₁ q₁, got 2 (omega arith) r₂ a₂ m tp e, not-false r₂ q₂, got 3 (omega arith) r₃ a₃ m tp e, not-false r₃ q₃, got 4 (omega arith) r₄ a₄ m tp e, not-false r₄ q₄, got 5 (omega arith) r₅ a₅ m tp e, not-false r₅ q₅, s);
-            }
+  fourth_starts : offset_at 4 words ≤ offset_at 6 words
+  fourth_starts = omega (arith, next_starts 4 (omega arith), fifth_starts)
+
+  third_starts : offset_at 3 words ≤ offset_at 6 words
+  third_starts = omega (arith, next_starts 3 (omega arith), fourth_starts)
+
+  second_starts : offset_at 2 words ≤ offset_at 6 words
+  second_starts = omega (arith, next_starts 2 (omega arith), third_starts)
+
+  pub first_starts : offset_at 1 words ≤ offset_at 6 words
+  first_starts = omega (arith, next_starts 1 (omega arith), second_starts)
+
+  five_fine : within b (between tags words (offset_at 1 words) (offset_at 6 words)) ≡ (every (within b) m.types && (every (within b) m.constants && (every (within b) m.overrides && (every (within b) m.globals && every (within b) m.exprs))))
+  unfolding tables
+  five_fine =
+      first_fine 1 (omega arith) second_starts
+      ∙ ap (every (within b) m.types &&◌) (first_fine 2 (omega arith) third_starts
+      ∙ ap (every (within b) m.constants &&◌) (first_fine 3 (omega arith) fourth_starts
+      ∙ ap (every (within b) m.overrides &&◌) (first_fine 4 (omega arith) fifth_starts
+      ∙ ap (every (within b) m.globals &&◌) (table_fine 5 (omega arith)))))
+
+  special_fine : within b (between tags words (offset_at 8 words) n) ≡ (within b m.special.rays && every (within b) m.special.pairs)
+  unfolding flat_special
+  special_fine =
+      ap (within b) (held-between (taped_held tp) (special-part tp))
+      ∙ within-append b m.special.rays (flat_all m.special.pairs)
+      ∙ ap (within b m.special.rays &&◌) (within_all b m.special.pairs)
+
+  one_after : (p q r u v x y : Bool) → (p && (q && (r && (u && (v && (x && y)))))) ≡ ((p && (q && (r && (u && v)))) && (x && y))
+  one_after true true true true v x y = refl
+  one_after true true true false v x y = refl
+  one_after true true false u v x y = refl
+  one_after true false r u v x y = refl
+  one_after false q r u v x y = refl
+
+  pub fine_is : b ≡ outside m → tables_fine m ≡ (within b (between tags words (offset_at 1 words) (offset_at 6 words)) && within b (between tags words (offset_at 8 words) n))
+  unfolding tables_fine
+  fine_is e =
+      rw (← e, five_fine, special_fine)
+      (one_after (every (within b) m.types) (every (within b) m.constants) (every (within b) m.overrides) (every (within b) m.globals) (every (within b) m.exprs) (within b m.special.rays) (every (within b) m.special.pairs))
+
+-- the two passes over the sections
+module _ (words tags : List ℕ) (n : ℕ) (t : List ℕ) (a e : ℕ) (a_is : a ≡ offset_at 1 words) (e_is : e ≡ offset_at 6 words) (r : Bool) (got : InRangeEnsures r words tags t a e) where
+  both : (m : Module) → Taped words tags n m → t ≡ table (outside m) → tables_fine m ≡ (r && within (outside m) (between tags words (offset_at 8 words) n))
+  both m tp q = fine_is tp (outside m) refl ∙ ap (λ v. v && within (outside m) (between tags words (offset_at 8 words) n)) (sym (got.same (outside m) q ∙ rw (a_is, e_is)))
+
+  pub tables-over : r ≡ false → Tabled r words tags n t tables_fine
+  tables-over f = record { same = λ m tp q. sym (both m tp q ∙ rw f) }
+
+  pub tables-special : r ≡ true → (s : ℕ) → s ≡ offset_at 8 words → (r₂ : Bool) → InRangeEnsures r₂ words tags t s n → Tabled r₂ words tags n t tables_fine
+  tables-special f s is r₂ rest = record { same = λ m tp q. rest.same (outside m) q ∙ ap (λ o. within (outside m) (between tags words o n)) is ∙ sym (both m tp q ∙ rw f) }
 
 module _ (words tags : List ℕ) (n : ℕ) (tape : Tape words tags n) where
   pub tape_long : Long words tags
   tape_long = taped_long tape.taped
+
+  pub sections-rising : (a e : ℕ) → a ≡ offset_at 1 words → e ≡ offset_at 6 words → a ≤ e
+  sections-rising a e p q = rw (p, q) (first_starts tape.taped (outside tape.holds))
+
+  pub sections_small : (e : ℕ) → e ≡ offset_at 6 words → e ≤ 16384
+  sections_small e q = rw q (sixth_in tape.taped (outside tape.holds))
 
   pub special-rising : (at : ℕ) → at ≡ offset_at 8 words → at ≤ n
   special-rising at is = rw is (special-part tape.taped).rising
@@ -163,10 +195,6 @@ module _ (words tags : List ℕ) (n : ℕ) (tape : Tape words tags n) where
   tape_small = tape.taped.small
 
 -- ---- the kinds of global expressions
-pub record Kinding (words tags : List ℕ) (n j : ℕ) : Type 0 where
-  pub to : j ≤ count_at 5 words
-  pub same : (m : Module) → Taped words tags n m → every constant_only (drop j m.exprs) ≡ every constant_only m.exprs
-
 module _ {words tags : List ℕ} {n : ℕ} {m : Module} (tp : Taped words tags n m) (j : ℕ) (h : j < count_at 5 words) where
   many : j < length m.exprs
   many = omega (arith, taped_count tp 5 (omega arith), (sees_exprs m refl).count)
@@ -185,38 +213,18 @@ module _ {words tags : List ℕ} {n : ℕ} {m : Module} (tp : Taped words tags n
   kind-inside = omega (arith, part_end this, expression_first shape, this.within, cells_few tp)
 
 module _ (words tags : List ℕ) (n : ℕ) where
-  pub kinds_begin : (count : ℕ) → Kinding words tags n 0
-  kinds_begin count = record { to = omega arith; same = λ m tp. refl }
+  pub kinds_inside : Tape words tags n → (j : ℕ) → j < count_at 5 words → record_at 5 j words < 16384
+  kinds_inside tape j h = kind-inside tape.taped j h
 
-  module _ (j : ℕ) (inv : Kinding words tags n j) (count : ℕ) (is : count ≡ count_at 5 words) where
-    pub kinds_done : count ≤ j → TestEnsures true words tags n kinds_fine
-    unfolding kinds_fine every
-    kinds_done h = record {
-      same = λ m tp.
-          let q : j ≡ length m.exprs = omega (arith, inv.to, is, taped_count tp 5 (omega arith), (sees_exprs m refl).count) in
-          sym (ap (λ i. every constant_only (drop i m.exprs)) q ∙ ap (every constant_only) (drop-length m.exprs)) ∙ inv.same m tp;
-    }
+  module _ {m : Module} (tp : Taped words tags n m) where
+    kinds_from : (k j : ℕ) → j + k ≡ length m.exprs → list_all (λ i. constant_kind (get_or words (record_at 5 i words) 0)) (range_with_len j k) ≡ every constant_only (drop j m.exprs)
+    unfolding every constant_only
+    kinds_from zero j h = let z : j ≡ length m.exprs = omega arith in rw z (sym (ap (every constant_only) (drop-length m.exprs)))
+    kinds_from (suc k) j h =
+        let i : j < count_at 5 words = omega (arith, h, taped_count tp 5 (omega arith), (sees_exprs m refl).count) in
+        rw (kind-word tp j i, drop-cons m.exprs j [] (omega arith), add-one j)
+        (ap (constant_kind (kind (get_or m.exprs j [])) &&◌) (rw (add-one j) at (kinds_from k (j + 1) (omega arith))))
 
-    module _ (h : j < count) where
-      pub kinds_record : j < count_at 5 words
-      kinds_record = omega arith
-
-      module _ (at : ℕ) (at-is : at ≡ record_at 5 j words) where
-        pub kinds_inside : Tape words tags n → at < 16384
-        kinds_inside tape = rw at-is (kind-inside tape.taped j kinds_record)
-
-        module _ (v : Bool) (v-is : v ≡ constant_kind (get_or words at 0)) where
-          turn : (m : Module) → Taped words tags n m → (v && every constant_only (drop (j + 1) m.exprs)) ≡ every constant_only m.exprs
-          unfolding constant_only every
-          turn m tp =
-              rw (add-one j)
-              (ap (◌&& every constant_only (drop (suc j) m.exprs)) (v-is ∙ ap constant_kind (ap (λ o. get_or words o 0) at-is ∙ kind-word tp j kinds_record))
-              ∙ sym (ap (every constant_only) (drop-cons m.exprs j [] (many tp j kinds_record)))
-              ∙ inv.same m tp)
-
-          pub kinds_over : not v ≡ true → TestEnsures false words tags n kinds_fine
-          unfolding kinds_fine
-          kinds_over q = record { same = λ m tp. rw (not-true v q) at (turn m tp) }
-
-          pub kinds_next : not v ≡ false → Kinding words tags n (j + 1)
-          kinds_next q = record { to = omega (arith, kinds_record); same = λ m tp. rw (not-false v q) at (turn m tp) }
+    pub kinds_are : (count : ℕ) → count ≡ count_at 5 words → list_all (λ i. constant_kind (get_or words (record_at 5 i words) 0)) (range_with_len 0 count) ≡ kinds_fine m
+    unfolding kinds_fine
+    kinds_are count is = kinds_from count 0 (omega (arith, is, taped_count tp 5 (omega arith), (sees_exprs m refl).count))

@@ -1,5 +1,5 @@
 -- What the passes over the sections and functions of a module answer, and where a function is.
-use Rattle.std.specs.Prelude.{◌≡◌, Bool, ◌&&◌, List, ℕ, ◌≤◌, length}
+use Rattle.std.specs.Prelude.{◌≡◌, ◌⊎◌, Bool, ◌&&◌, List, ℕ, ◌≤◌, length}
 use Rattle.model.specs.Outcome.{Cells}
 use Rattle.model.specs.Tree.{Function}
 use Rattle.model.specs.Module.{Module}
@@ -63,3 +63,11 @@ functions_fine m = every (sound_function (outside m)) m.functions
 
 unfoldable pub entries_fine : Module → Bool
 entries_fine m = every (sound_entry (outside m)) m.entries
+
+-- ---- the sections whose records have a function: table functions, and entry points, which have words in front of it
+abbrev pub Heads : ℕ → ℕ → Type 0
+Heads k head = ((k ≡ 6) × (head ≡ 0)) ⊎ ((k ≡ 7) × (head ≡ 7))
+
+pub record Sectioned (r : Bool) (k : ℕ) (t₁ words tags : List ℕ) (n : ℕ) (t : List ℕ) : Type 0 where
+  pub functions : k ≡ 6 → Loosely r t₁ words tags n t functions_fine
+  pub entries : k ≡ 7 → Loosely r t₁ words tags n t entries_fine

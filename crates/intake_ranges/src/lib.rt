@@ -1,79 +1,25 @@
 // Numbers and codes in range: each word is compared with the bound of its class.
 #![tactic(auto)]
 
-ghost use Rattle.std.specs.Prelude.{◌≡◌, ◌+◌, ◌^◌, ◌≤◌, ◌<◌, get_or};
+ghost use Rattle.std.specs.Prelude.{◌≡◌, ◌+◌, ◌≤◌, ◌<◌, ltb, get_or};
 ghost use Rattle.model.specs.Numbers.{rising as risingOf};
 ghost use Rattle.model.specs.Between.{between, Long};
 ghost use Rattle.intake_ranges.specs.Ranges.{table, codes, headed, InRangeEnsures, FunctionInRangeEnsures, Owned};
 
+use base_classes::{
+    ARGUMENT, CALLEE, CONSTANT, EXPR, FROM, FUNCTION, GLOBAL, INIT, LOCAL, LOCAL_INIT, NAME,
+    NAMED_EXPR, OPT_EXPR, OPT_INIT, OPT_RESULT, OPT_TYPE, OVERRIDE, RESULT, TO, TYPE, WORD,
+};
 use base_views::{CONSTANTS, EXPRESSIONS, FUNCTIONS, GLOBALS, NAMES, OVERRIDES, TYPES, count};
 use base_words::{Tags, Words};
 
-// Classes below this one are codes: each word of such a class is below the class.
-const CODES: usize = 80;
-
-// Classes as places of the table of bounds.
-const NAME: usize = base_classes::NAME as usize;
-
-const TYPE: usize = base_classes::TYPE as usize;
-
-const OPT_TYPE: usize = base_classes::OPT_TYPE as usize;
-
-const CONSTANT: usize = base_classes::CONSTANT as usize;
-
-const OVERRIDE: usize = base_classes::OVERRIDE as usize;
-
-const GLOBAL: usize = base_classes::GLOBAL as usize;
-
-const INIT: usize = base_classes::INIT as usize;
-
-const OPT_INIT: usize = base_classes::OPT_INIT as usize;
-
-const FUNCTION: usize = base_classes::FUNCTION as usize;
-
-const CALLEE: usize = base_classes::CALLEE as usize;
-
-const EXPR: usize = base_classes::EXPR as usize;
-
-const OPT_EXPR: usize = base_classes::OPT_EXPR as usize;
-
-const ARGUMENT: usize = base_classes::ARGUMENT as usize;
-
-const LOCAL: usize = base_classes::LOCAL as usize;
-
-const FROM: usize = base_classes::FROM as usize;
-
-const TO: usize = base_classes::TO as usize;
-
-const RESULT: usize = base_classes::RESULT as usize;
-
-const OPT_RESULT: usize = base_classes::OPT_RESULT as usize;
-
-const NAMED_EXPR: usize = base_classes::NAMED_EXPR as usize;
-
-const LOCAL_INIT: usize = base_classes::LOCAL_INIT as usize;
-
-fn far(x: u32) -> u64
-    ensures { (result ≡ x) × (result < 2 ^ 32) }
-{
-    x as u64
-}
-
-fn slot(x: u8) -> usize
-    ensures { (result ≡ x) × (result < 256) }
-{
-    x as usize
-}
-
-// What a word of each class stays below: a code below its class, and any other word below 4,294,967,296 until `module_bounds` and `function_bounds` say more.
+// What a word of each class stays below: a code, whose class is below WORD, below its class, and any other word below 4,294,967,296 until `module_bounds` and `function_bounds` say more.
 pub fn code_bounds() -> [u64; 256]
     ensures { result ≡ codes }
 {
     let mut t = [4294967296u64; 256];
-    let mut i = 0;
-    while i < CODES {
+    for i in 0..WORD as usize {
         t[i] = i as u64;
-        i += 1;
     }
     t
 }
@@ -87,41 +33,60 @@ pub fn module_bounds(t: &mut [u64; 256], words: &Words)
     let types = count(words, TYPES) as u64;
     let inits = count(words, EXPRESSIONS) as u64;
     let functions = count(words, FUNCTIONS) as u64;
-    t[NAME] = names + 1;
-    t[TYPE] = types;
-    t[OPT_TYPE] = types + 1;
-    t[CONSTANT] = count(words, CONSTANTS) as u64;
-    t[OVERRIDE] = count(words, OVERRIDES) as u64;
-    t[GLOBAL] = count(words, GLOBALS) as u64;
-    t[INIT] = inits;
-    t[OPT_INIT] = inits + 1;
-    t[FUNCTION] = functions;
-    t[CALLEE] = functions;
-    t[EXPR] = inits;
-    t[OPT_EXPR] = inits + 1;
-    t[ARGUMENT] = 0;
-    t[LOCAL] = 0;
-    t[TO] = inits + 1;
-    t[RESULT] = inits;
-    t[OPT_RESULT] = inits + 1;
-    t[NAMED_EXPR] = inits;
-    t[LOCAL_INIT] = inits + 1;
+    t[NAME as usize] = names + 1;
+    t[TYPE as usize] = types;
+    t[OPT_TYPE as usize] = types + 1;
+    t[CONSTANT as usize] = count(words, CONSTANTS) as u64;
+    t[OVERRIDE as usize] = count(words, OVERRIDES) as u64;
+    t[GLOBAL as usize] = count(words, GLOBALS) as u64;
+    t[INIT as usize] = inits;
+    t[OPT_INIT as usize] = inits + 1;
+    t[FUNCTION as usize] = functions;
+    t[CALLEE as usize] = functions;
+    t[EXPR as usize] = inits;
+    t[OPT_EXPR as usize] = inits + 1;
+    t[ARGUMENT as usize] = 0;
+    t[LOCAL as usize] = 0;
+    t[TO as usize] = inits + 1;
+    t[RESULT as usize] = inits;
+    t[OPT_RESULT as usize] = inits + 1;
+    t[NAMED_EXPR as usize] = inits;
+    t[LOCAL_INIT as usize] = inits + 1;
 }
 
 // The bounds in a function with these numbers of expressions, arguments and locals.
 pub fn function_bounds(t: &mut [u64; 256], exprs: u32, arguments: u32, locals: u32)
     ensures { Owned t.new t.old exprs arguments locals }
 {
-    let e = far(exprs);
-    t[EXPR] = e;
-    t[OPT_EXPR] = e + 1;
-    t[ARGUMENT] = far(arguments);
-    t[LOCAL] = far(locals);
-    t[TO] = e + 1;
-    t[RESULT] = e;
-    t[OPT_RESULT] = e + 1;
-    t[NAMED_EXPR] = e;
-    t[LOCAL_INIT] = e + 1;
+    let e = exprs as u64;
+    t[EXPR as usize] = e;
+    t[OPT_EXPR as usize] = e + 1;
+    t[ARGUMENT as usize] = arguments as u64;
+    t[LOCAL as usize] = locals as u64;
+    t[TO as usize] = e + 1;
+    t[RESULT as usize] = e;
+    t[OPT_RESULT as usize] = e + 1;
+    t[NAMED_EXPR as usize] = e;
+    t[LOCAL_INIT as usize] = e + 1;
+}
+
+// Whether word i is below the bound of its class.
+fn bounded(words: &Words, tags: &Tags, t: &[u64; 256], i: usize) -> bool
+    requires { i < 16384 }
+    ensures { result ≡ ltb (get_or words.now i 0) (get_or t.now (get_or tags.now i 0) 0) }
+{
+    (words[i] as u64) < t[tags[i] as usize]
+}
+
+// Whether the word at i, if it is Emit's start, is at most the word after it.
+#[tactic(auto, using(theory_image::specs::Betweens::between_none, theory_image::specs::Betweens::between_cons), unfolding(model::specs::Numbers::rising))]
+fn emit_in_order(words: &Words, tags: &Tags, i: usize, end: usize) -> bool
+    requires long { Long words.now tags.now }
+    requires i_lt_end { i < end }
+    requires end_bound { end ≤ 16384 }
+    ensures { result ≡ risingOf (get_or tags.now i 0, get_or words.now i 0) (between tags.now words.now (i + 1) end) }
+{
+    tags[i] != FROM || end <= i + 1 || words[i] <= words[i + 1]
 }
 
 // Whether each word from `at` to `end` is below the bound of its class.
@@ -131,32 +96,7 @@ pub fn in_range(words: &Words, tags: &Tags, t: &[u64; 256], at: usize, end: usiz
     requires end_bound { end ≤ 16384 }
     ensures { InRangeEnsures result words.now tags.now t.now at end }
 {
-    let mut i = at;
-    while i < end {
-        let j = i;
-        i += 1;
-        let s = slot(tags[j]);
-        if t[s] <= far(words[j]) {
-            return false;
-        }
-    }
-    true
-}
-
-// Whether the word at i, if it is Emit's start, is at most the word after it.
-fn emit_in_order(words: &Words, tags: &Tags, i: usize, end: usize) -> bool
-    requires long { Long words.now tags.now }
-    requires i_lt_end { i < end }
-    requires end_bound { end ≤ 16384 }
-    ensures { result ≡ risingOf (get_or tags.now i 0, get_or words.now i 0) (between tags.now words.now (i + 1) end) }
-{
-    if tags[i] != base_classes::FROM {
-        return true;
-    }
-    if end <= i + 1 {
-        return true;
-    }
-    words[i] <= words[i + 1]
+    (at..end).all(|i| bounded(words, tags, t, i))
 }
 
 // The same of a function's record, with each Emit's start at its end or before.
@@ -166,19 +106,5 @@ pub fn function_in_range(words: &Words, tags: &Tags, t: &[u64; 256], at: usize, 
     requires end_bound { end ≤ 16384 }
     ensures { FunctionInRangeEnsures result words.now tags.now t.now at end }
 {
-    let mut i = at;
-    while i < end {
-        let j = i;
-        i += 1;
-        let k = slot(tags[j]);
-        if t[k] <= far(words[j]) {
-            return false;
-        }
-        if k == FROM {
-            if !emit_in_order(words, tags, j, end) {
-                return false;
-            }
-        }
-    }
-    true
+    (at..end).all(|i| bounded(words, tags, t, i) && emit_in_order(words, tags, i, end))
 }

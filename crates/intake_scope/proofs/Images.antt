@@ -1,6 +1,6 @@
 -- Every function and every entry point, one after the other: what is left from here is the whole.
 use mathlib.Core.Path.{◌≡◌, refl, sym, ap, ◌∙◌, subst}
-use mathlib.Core.Bool.{Bool, true, false, ◌&&◌, not}
+use mathlib.Core.Bool.{Bool, true, false, ◌&&◌}
 use mathlib.Core.List.{List, [], ◌∷◌}
 use Prim.Native.Nat.{ℕ, zero, suc, ◌+◌, ◌≤◌, ◌<◌}
 use native.Mathlib.Numerals.{add-one}
@@ -8,7 +8,7 @@ use native.Mathlib.Omega.{arith}
 use lib.Dec.{ltb}
 use lib.ListN.{length, get_or, drop}
 use lib.Seq.{drop-cons, drop-length}
-use borrow.Author.Tests.{ltb-true, ltb-false, not-true, not-false}
+use borrow.Author.Tests.{ltb-true, ltb-false}
 use Rattle.theory_lists.specs.Lists.{looked_at}
 use Rattle.theory_lists.specs.Booleans.{and_split}
 use Rattle.model.specs.Outcome.{Cells, class, word}
@@ -23,7 +23,7 @@ use Rattle.model.specs.Scope.{scoped, all_scoped, entries_scoped, in_scope}
 use Rattle.theory_image.specs.FunctionViews.{part_end}
 use Rattle.intake_numbers.specs.Passes.{TestEnsures, Frame, tables_fine, kinds_fine, functions_fine, entries_fine}
 use Rattle.intake_numbers.proofs.Framing.{Word, no_function, no_entry, Framing, framing_functions, framing_entries, functions_in_lem, entries_in, numbered_is}
-use Rattle.intake_scope.specs.Functions.{Stated, Scoped, InRange, functions_scoped, entry_points_scoped}
+use Rattle.intake_scope.specs.Functions.{Stated, Scoped, InRange, functions_scoped, entry_points_scoped, Section, of_functions, of_entries, scoped_of}
 use Rattle.intake_blocks.proofs.Trees.{Runs, runs_word}
 use Rattle.intake_scope.proofs.Whole.{part_runs}
 
@@ -115,11 +115,11 @@ module _ {A : Type 0} (k : ℕ) (items : Module → List A) (fn : A → Function
               ∙ sym (ap (every (λ x. scoped (fn x))) (drop-cons (items m) j d (omega (arith, fg.count m tp))))
               ∙ inv.same m tp)
 
-          onward_over : not r ≡ true → (m : Module) → Taped words tags n m → false ≡ every (λ x. scoped (fn x)) (items m)
-          onward_over q m tp = ap (◌&& every (λ x. scoped (fn x)) (drop (j + 1) (items m))) (sym (not-true r q)) ∙ turn m tp
+          onward_over : r ≡ false → (m : Module) → Taped words tags n m → false ≡ every (λ x. scoped (fn x)) (items m)
+          onward_over q m tp = ap (◌&& every (λ x. scoped (fn x)) (drop (j + 1) (items m))) (sym q) ∙ turn m tp
 
-          onward_next : not r ≡ false → Onward words tags n (j + 1)
-          onward_next q = record { to = omega arith; same = λ m tp. ap (◌&& every (λ x. scoped (fn x)) (drop (j + 1) (items m))) (sym (not-false r q)) ∙ turn m tp }
+          onward_next : r ≡ true → Onward words tags n (j + 1)
+          onward_next q = record { to = omega arith; same = λ m tp. ap (◌&& every (λ x. scoped (fn x)) (drop (j + 1) (items m))) (sym q) ∙ turn m tp }
 
 -- ---- functions, and entry points
 all-every : (fs : List Function) → every (λ x. scoped x) fs ≡ all_scoped fs
@@ -137,6 +137,10 @@ InFunctions = Onward 6 (λ m. m.functions) (λ f. f) flat (λ p. p) no_function
 
 abbrev pub InEntries : List ℕ → List ℕ → ℕ → ℕ → Type 0
 InEntries = Onward 7 (λ m. m.entries) (λ e. e.function) flat_entry (λ p. p + 7) no_entry
+
+abbrev pub InSection : {k head : ℕ} → Section k head → List ℕ → List ℕ → ℕ → ℕ → Type 0
+InSection of_functions = InFunctions
+InSection of_entries = InEntries
 
 module _ (words tags : List ℕ) (n : ℕ) (nb : InRange words tags n) where
   functions_good : (m : Module) → Taped words tags n m → every (λ x. sound (outside m) x (flat x)) m.functions ≡ true
@@ -163,10 +167,10 @@ module _ (words tags : List ℕ) (n : ℕ) (nb : InRange words tags n) where
         functions_stated tape = rw (at-is, end_is) (onward_stated 6 _ _ _ _ _ words tags n (framing_functions words tags n) j inv (functions_in_lem words count j is h) functions_good (λ p. omega arith) tape)
 
         module _ (r : Bool) (got : Scoped r words tags at at end) where
-          pub functions_over : not r ≡ true → TestEnsures false words tags n functions_scoped
+          pub functions_over : r ≡ false → TestEnsures false words tags n functions_scoped
           functions_over q = record { same = λ m tp. onward_over 6 _ _ _ _ _ words tags n (framing_functions words tags n) j inv (functions_in_lem words count j is h) functions_good r (rw (at-is, end_is) at got) q m tp ∙ all-every m.functions }
 
-          pub functions_next : not r ≡ false → InFunctions words tags n (j + 1)
+          pub functions_next : r ≡ true → InFunctions words tags n (j + 1)
           functions_next q = onward_next 6 _ _ _ _ _ words tags n (framing_functions words tags n) j inv (functions_in_lem words count j is h) functions_good r (rw (at-is, end_is) at got) q
 
     module _ (is : Word count (count_at 7 words)) (inv : InEntries words tags n j) where
@@ -177,21 +181,43 @@ module _ (words tags : List ℕ) (n : ℕ) (nb : InRange words tags n) where
         pub entries_stated : Tape words tags n → Stated words tags at (at + 7) end
         entries_stated tape = rw (at-is, end_is) (onward_stated 7 _ _ _ _ _ words tags n (framing_entries words tags n) j inv (entries_in words count j is h) entries_good (λ p. omega arith) tape)
 
-        pub entries_small : Tape words tags n → at ≤ 16384
-        entries_small tape = let p = entries_stated tape in omega (arith, p.frame.whole.rising, p.frame.whole.within, p.frame.small)
-
         module _ (r : Bool) (got : Scoped r words tags at (at + 7) end) where
-          pub entries_over : not r ≡ true → TestEnsures false words tags n entry_points_scoped
+          pub entries_over : r ≡ false → TestEnsures false words tags n entry_points_scoped
           entries_over q = record { same = λ m tp. onward_over 7 _ _ _ _ _ words tags n (framing_entries words tags n) j inv (entries_in words count j is h) entries_good r (rw (at-is, end_is) at got) q m tp ∙ entries_every m.entries }
 
-          pub entries_next : not r ≡ false → InEntries words tags n (j + 1)
+          pub entries_next : r ≡ true → InEntries words tags n (j + 1)
           entries_next q = onward_next 7 _ _ _ _ _ words tags n (framing_entries words tags n) j inv (entries_in words count j is h) entries_good r (rw (at-is, end_is) at got) q
 
-  module _ (a : Bool) (got : TestEnsures a words tags n functions_scoped) where
-    pub image_functions : not a ≡ true → TestEnsures false words tags n in_scope
-    unfolding in_scope
-    image_functions q = record { same = λ m tp. sym (rw (sym (got.same m tp) ∙ not-true a q)) }
+  -- ---- either of them
+  pub section_low : {k head : ℕ} → Section k head → (k < 8) × (head < 8)
+  section_low of_functions = (omega arith, omega arith)
+  section_low of_entries = (omega arith, omega arith)
 
-    pub image_entries : not a ≡ false → (r : Bool) → TestEnsures r words tags n entry_points_scoped → TestEnsures r words tags n in_scope
+  pub section_begin : {k head : ℕ} (s : Section k head) → InSection s words tags n 0
+  section_begin of_functions = functions_begin
+  section_begin of_entries = entries_begin
+
+  pub section_done : {k head : ℕ} (s : Section k head) (count j : ℕ) → Word count (count_at k words) → InSection s words tags n j → count ≤ j → TestEnsures true words tags n (scoped_of s)
+  section_done of_functions count j is inv h = functions_done count j is inv h
+  section_done of_entries count j is inv h = entries_done count j is inv h
+
+  pub section_stated : {k head : ℕ} (s : Section k head) (count j : ℕ) → Word count (count_at k words) → InSection s words tags n j → j < count → (at end : ℕ) → at ≡ record_at k j words → end ≡ record_end k j words → Tape words tags n → Stated words tags at (at + head) end
+  section_stated of_functions count j is inv h at end at-is end_is tape = let z : at + 0 ≡ at = omega arith in rw z (functions_stated count j is inv h at end at-is end_is tape)
+  section_stated of_entries count j is inv h at end at-is end_is tape = entries_stated count j is inv h at end at-is end_is tape
+
+  pub section_over : {k head : ℕ} (s : Section k head) (count j : ℕ) → Word count (count_at k words) → InSection s words tags n j → j < count → (at end : ℕ) → at ≡ record_at k j words → end ≡ record_end k j words → (r : Bool) → Scoped r words tags at (at + head) end → r ≡ false → TestEnsures false words tags n (scoped_of s)
+  section_over of_functions count j is inv h at end at-is end_is r got q = let z : at + 0 ≡ at = omega arith in functions_over count j is inv h at end at-is end_is r (rw z at got) q
+  section_over of_entries count j is inv h at end at-is end_is r got q = entries_over count j is inv h at end at-is end_is r got q
+
+  pub section_next : {k head : ℕ} (s : Section k head) (count j : ℕ) → Word count (count_at k words) → InSection s words tags n j → j < count → (at end : ℕ) → at ≡ record_at k j words → end ≡ record_end k j words → (r : Bool) → Scoped r words tags at (at + head) end → r ≡ true → InSection s words tags n (j + 1)
+  section_next of_functions count j is inv h at end at-is end_is r got q = let z : at + 0 ≡ at = omega arith in functions_next count j is inv h at end at-is end_is r (rw z at got) q
+  section_next of_entries count j is inv h at end at-is end_is r got q = entries_next count j is inv h at end at-is end_is r got q
+
+  module _ (a : Bool) (got : TestEnsures a words tags n functions_scoped) where
+    pub image_functions : a ≡ false → TestEnsures false words tags n in_scope
     unfolding in_scope
-    image_entries q r more = record { same = λ m tp. sym (rw (sym (got.same m tp) ∙ not-false a q) (sym (more.same m tp))) }
+    image_functions q = record { same = λ m tp. sym (rw (sym (got.same m tp) ∙ q)) }
+
+    pub image_entries : a ≡ true → (r : Bool) → TestEnsures r words tags n entry_points_scoped → TestEnsures r words tags n in_scope
+    unfolding in_scope
+    image_entries q r more = record { same = λ m tp. sym (rw (sym (got.same m tp) ∙ q) (sym (more.same m tp))) }

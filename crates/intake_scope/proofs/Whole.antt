@@ -2,12 +2,12 @@
 use mathlib.Core.Path.{◌≡◌, refl, sym, ap, ◌∙◌, fun_ext}
 use mathlib.Core.Bool.{Bool, true, ◌&&◌, not}
 use mathlib.Core.List.{List, [], ◌∷◌}
-use Prim.Native.Nat.{ℕ, zero, suc, ◌+◌, ◌*◌, ◌^◌, ◌≤◌, ◌<◌}
+use Prim.Native.Nat.{ℕ, zero, suc, ◌+◌, ◌*◌, ◌≤◌, ◌<◌}
 use native.Mathlib.Numerals.{add-one}
 use native.Mathlib.Omega.{arith}
 use lib.Dec.{eqb, ltb}
 use lib.ListN.{length, get_or, drop, replicate}
-use lib.Seq.{slice, sets, length-sets, ext_get_or}
+use lib.Seq.{slice, sets, ext_get_or}
 use borrow.Author.Tests.{ne_eqb, lt-ltb, not-true}
 use Rattle.theory_lists.specs.Booleans.{and_split, bool_same}
 use Rattle.model.specs.Outcome.{Cells, class, word}
@@ -24,7 +24,7 @@ use Rattle.theory_image.specs.Members.{each_at}
 use Rattle.intake_initialisers.specs.Lists.{Lists, Listed}
 use Rattle.intake_numbers.specs.Passes.{Framed}
 use Rattle.intake_initialisers.specs.Marks.{finds, on, inits, Visits, Work, Starting, Reaching, Reaches}
-use Rattle.intake_initialisers.proofs.Reaching.{all, starting, begun, many_is, many_few, end_in}
+use Rattle.intake_initialisers.proofs.Reaching.{init_locals, init_exprs, init-after, init-end, all, starting, begun, many_is, many_few, end_in}
 use Rattle.intake_numbers.proofs.Framing.{lists_are}
 use Rattle.intake_statements.specs.Fine.{fine_b}
 use Rattle.intake_statements.specs.Tape.{cells_from, cells_in, block_of, HoldsB, Ends, record_of, table_from, exprs_of, Placed, Exprs, marks}
@@ -101,15 +101,15 @@ module _ {ws ts : List ℕ} {locals exprs end e : ℕ} {st : List ℕ} (f : Func
   named-at : get_or st e 0 ≡ named_at ls.start ws f
   named-at = sg.each e (omega arith) ∙ ap (start_of (exprs + 1) f.exprs) many ∙ start_end f.exprs (exprs + 1) ∙ ap (λ x. x + 1 + length (flat_all f.exprs)) ls.exprs_at
 
-  module _ (named : ℕ) (named_is : (named ≡ get_or st e 0) × (named < 2 ^ 32)) where
+  module _ (named : ℕ) (named_is : named ≡ get_or st e 0) where
     pub named_in : named < 16384
-    named_in = omega (arith, named_is.0, named-at, stands-end ls.own, end_in ls)
+    named_in = omega (arith, named_is, named-at, stands-end ls.own, end_in ls)
 
-    module _ (k : ℕ) (k_is : (k ≡ get_or ws named 0) × (k < 2 ^ 32)) where
+    module _ (k : ℕ) (k_is : k ≡ get_or ws named 0) where
       body-at : named + 1 + 2 * k ≡ body_at ls.start ws f
       body-at =
-          let a : named ≡ named_at ls.start ws f = named_is.0 ∙ named-at in
-          let b : k ≡ length f.named = k_is.0 ∙ ap (λ i. get_or ws i 0) a ∙ named_count ls.own in
+          let a : named ≡ named_at ls.start ws f = named_is ∙ named-at in
+          let b : k ≡ length f.named = k_is ∙ ap (λ i. get_or ws i 0) a ∙ named_count ls.own in
           ap (λ x. x + 1 + 2 * k) a ∙ ap (λ x. named_at ls.start ws f + 1 + 2 * x) b
 
       body-held : HoldsB ws ts (named + 1 + 2 * k) end f.body
@@ -118,7 +118,7 @@ module _ {ws ts : List ℕ} {locals exprs end e : ℕ} {st : List ℕ} (f : Func
           record { cells = part_cells ls.own.held v; long = sym (part_end v); within = end_in ls; ok = ls.own.well.body_ok }
 
       body-after : exprs < named + 1 + 2 * k
-      body-after = omega (arith, named_is.0, named-at, ls.exprs_at)
+      body-after = omega (arith, named_is, named-at, ls.exprs_at)
 
       pub body-here : Ends ws ts (length f.exprs) exprs end → BlockHere ws ts st e (named + 1 + 2 * k) end end
       body-here en = record {
@@ -162,16 +162,22 @@ module _ (words tags : List ℕ) (locals exprs end : ℕ) (pre : Known words tag
   pub known-listed : Listed words tags locals exprs end
   known-listed = record { function = pre.function; lists = pre.lists }
 
-  module _ (count e : ℕ) (count_is : (count ≡ get_or words locals 0) × (count < 2 ^ 32)) (e-is : (e ≡ get_or words exprs 0) × (e < 2 ^ 32)) where
+  pub known_low : (locals < 16384) × (exprs < 16384)
+  known_low = (init_locals words tags locals exprs end known-listed, init_exprs words tags locals exprs end known-listed)
+
+  pub known_ends : (exprs + 1 ≤ end) × (end ≤ 16384)
+  known_ends = (init-after words tags locals exprs end known-listed, init-end words tags locals exprs end known-listed)
+
+  module _ (count e : ℕ) (count_is : count ≡ get_or words locals 0) (e-is : e ≡ get_or words exprs 0) where
     pub known_few : e ≤ 1024
-    known_few = many_few pre.lists e e-is.0
+    known_few = many_few pre.lists e e-is
 
     module _ (st₀ l₀ u₀ : List ℕ) (lent : Lent st₀ l₀ u₀) (m l : List ℕ) (t : ℕ) (v : Visits e (inits count (drop (locals + 1) words)) (replicate 1024 0) l₀ 0 m l t) (st : List ℕ) (st_is : st ≡ sets st₀ 0 (finds (exprs + 1) (slice (exprs + 1) end tags))) where
       starts : (f : Function) → Lists words tags locals exprs end f → Starting f e (exprs + 1) st
-      starts f ls = starting ls e e-is.0 st₀ st lent.starts_long st_is
+      starts f ls = starting ls e e-is st₀ st lent.starts_long st_is
 
       work : (f : Function) → Lists words tags locals exprs end f → Work f e m l t
-      work f ls = begun ls e e-is.0 count count_is.0 l₀ m l t lent.list_long v
+      work f ls = begun ls e e-is count count_is l₀ m l t lent.list_long v
 
       pub known_reach : Reaching words tags st m l t e
       known_reach = record {
@@ -184,26 +190,19 @@ module _ (words tags : List ℕ) (locals exprs end : ℕ) (pre : Known words tag
         work = work pre.function pre.lists;
       }
 
-      pub known-named : (named : ℕ) → (named ≡ get_or st e 0) × (named < 2 ^ 32) → named < 16384
-      known-named named is = named_in pre.function pre.lists e-is.0 (starts pre.function pre.lists) named is
+      pub known-named : (named : ℕ) → (named ≡ get_or st e 0) → named < 16384
+      known-named named is = named_in pre.function pre.lists e-is (starts pre.function pre.lists) named is
 
-      module _ (named : ℕ) (named_is : (named ≡ get_or st e 0) × (named < 2 ^ 32)) (k : ℕ) (k_is : (k ≡ get_or words named 0) × (k < 2 ^ 32)) where
+      module _ (named : ℕ) (named_is : named ≡ get_or st e 0) (k : ℕ) (k_is : k ≡ get_or words named 0) where
         pub known-body : BlockHere words tags st e (named + 1 + 2 * k) end end
-        known-body = body-here pre.function pre.lists e-is.0 (starts pre.function pre.lists) named named_is k k_is pre.ends
+        known-body = body-here pre.function pre.lists e-is (starts pre.function pre.lists) named named_is k k_is pre.ends
 
         module _ (q : Bool) (m₁ l₁ : List ℕ) (got : Reaches q words tags st m l t e m₁ l₁) where
           left : (f : Function) → Lists words tags locals exprs end f → initialised f ≡ true → Work f e m₁ l₁ 0
           left f ls i = got.left (got.same f locals exprs end ls (starts f ls) (work f ls) ∙ i) f locals exprs end ls (starts f ls) (work f ls)
 
           pub known-scoped : (r : Bool) → r ≡ fine_b (exprs_of words tags st e) (marks words tags st e m₁) (block_of words tags (named + 1 + 2 * k) end) in_body [] [] → Tested r words tags locals exprs end
-          known-scoped r is = record { same = λ f ls i. scoped_is f ls e-is.0 (starts f ls) named named_is k k_is m₁ l₁ (left f ls i) r is }
-
-          pub known_lent : (u₁ : List ℕ) → length u₁ ≡ 1024 → Lent st l₁ u₁
-          known_lent u₁ long = record {
-            starts_long = ap length st_is ∙ length-sets st₀ 0 (finds (exprs + 1) (slice (exprs + 1) end tags)) ∙ lent.starts_long;
-            list_long = (left pre.function pre.lists pre.inits).room.list_long;
-            until_long = long;
-          }
+          known-scoped r is = record { same = λ f ls i. scoped_is f ls e-is (starts f ls) named named_is k k_is m₁ l₁ (left f ls i) r is }
 
 -- ---- from the record's start on
 module _ (words tags : List ℕ) (at from end : ℕ) (pre : Stated words tags at from end) where

@@ -48,3 +48,12 @@ functions_scoped m = all_scoped m.functions
 
 abbrev pub entry_points_scoped : Module → Bool
 entry_points_scoped m = entries_scoped m.entries
+
+-- the sections that have functions, and how many words a record has before its function
+pub data Section : ℕ → ℕ → Type 0 where
+  of_functions : Section 6 0
+  of_entries : Section 7 7
+
+abbrev pub scoped_of : {k head : ℕ} → Section k head → Module → Bool
+scoped_of of_functions = functions_scoped
+scoped_of of_entries = entry_points_scoped

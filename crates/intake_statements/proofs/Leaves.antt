@@ -1,27 +1,26 @@
--- Kinds, reads and results. At every turn of a loop, what is left to do gives the answer of the whole.
+-- Reads and results: what the words from here on read, and what is left to look at where a result is looked for.
 use mathlib.Core.Path.{◌≡◌, refl, sym, ap, ◌∙◌}
-use mathlib.Core.Bool.{Bool, true, false, ◌&&◌, not}
+use mathlib.Core.Bool.{Bool, true, false, ◌&&◌}
+use Rattle.std.proofs.Math.Bool.{and_assoc}
 use mathlib.Core.List.{List, [], ◌∷◌, ◌++◌}
 use mathlib.Core.Option.{none, some}
-use Prim.Native.Nat.{ℕ, zero, suc, ◌+◌, ◌-◌, ◌^◌, ◌≤◌, ◌<◌}
+use Prim.Native.Nat.{ℕ, zero, suc, ◌+◌, ◌-◌, ◌≤◌, ◌<◌}
 use native.Mathlib.Numerals.{add-one}
 use native.Mathlib.Omega.{arith}
 use lib.Dec.{eqb}
 use lib.ListN.{length, get_or}
-use borrow.Author.Tests.{eq-eqb, ne_eqb, lt-ltb, le-ltb, not-true, not-false}
+use borrow.Author.Tests.{eq-eqb, ne_eqb, lt-ltb, le-ltb}
+use Rattle.std.specs.List.{list_all, range_with_len}
+use Rattle.std.specs.Prelude.{SomeIff, Some, None}
+use Rattle.std.specs.declared.option.Option as code
 use Rattle.theory_lists.specs.Booleans.{and_right}
 use Rattle.model.specs.Outcome.{Cells}
-use Rattle.model.specs.Tree.{opt_of, word_of}
+use Rattle.model.specs.Tree.{opt_of}
 use Rattle.model.specs.Operands.{optional, operand, ops_of, result_of, standing_kind}
 use Rattle.model.specs.Between.{between}
 use Rattle.theory_image.specs.Betweens.{between_none, between_next}
-use Rattle.theory_image.specs.Words.{word_of_lem}
 use Rattle.intake_statements.specs.Tape.{cells_from, cells_in, Placed}
-use Rattle.intake_statements.specs.Lasts.{visible_at, all_seen}
-
--- ---- the kind of an expression
-pub kind_is : (ws : List ℕ) (p q : ℕ) → (p ≡ q) × (p < 2 ^ 32) → get_or ws p 0 ≡ get_or ws q 0
-kind_is ws p q h = ap (λ i. get_or ws i 0) h.0
+use Rattle.intake_statements.specs.Lasts.{visible_at, all_seen, option_of}
 
 -- ---- visible
 module _ (ws st u : List ℕ) (count at e : ℕ) where
@@ -45,11 +44,7 @@ start_in st count e p h = (omega (arith, p.few), omega (arith, p.rising e h, p.w
 seen-append : (xs ys : List ℕ) (f : ℕ → Bool) → all_seen (xs ++ ys) f ≡ (all_seen xs f && all_seen ys f)
 unfolding all_seen
 seen-append [] ys f = refl
-seen-append (x ∷ xs) ys f = ap (f x &&◌) (seen-append xs ys f) ∙ assoc (f x) (all_seen xs f) (all_seen ys f)
-  where
-    assoc : (a b c : Bool) → (a && (b && c)) ≡ ((a && b) && c)
-    assoc true b c = refl
-    assoc false b c = refl
+seen-append (x ∷ xs) ys f = ap (f x &&◌) (seen-append xs ys f) ∙ sym (and_assoc (f x) (all_seen xs f) (all_seen ys f))
 
 optional-append : (w : ℕ) (xs : List ℕ) → optional w xs ≡ optional w [] ++ xs
 unfolding optional
@@ -77,18 +72,18 @@ pub operand-other : (s w : ℕ) (xs : List ℕ) → (s ≡ 93 → ⊥) → (s �
 unfolding operand
 operand-other s w xs n m = rw (operand, ne_eqb s 93 n, ne_eqb s 94 m)
 
-module _ (s w v : ℕ) (is : (v ≡ w) × (v < 2 ^ 32)) (f : ℕ → Bool) where
-  pub read_expr : s ≡ 93 → (r : Bool) → r ≡ f v → r ≡ all_seen (operand s w []) f
+module _ (s w : ℕ) (f : ℕ → Bool) where
+  pub read_expr : s ≡ 93 → (r : Bool) → r ≡ f w → r ≡ all_seen (operand s w []) f
   unfolding all_seen
-  read_expr e r h = h ∙ ap f is.0 ∙ sym (ap (λ l. all_seen l f) (operand_expr s w [] e) ∙ and_right (f w))
+  read_expr e r h = h ∙ sym (ap (λ l. all_seen l f) (operand_expr s w [] e) ∙ and_right (f w))
 
-  pub read_none : (s ≡ 93 → ⊥) → s ≡ 94 → v ≡ 0 → true ≡ all_seen (operand s w []) f
+  pub read_none : s ≡ 94 → w ≡ 0 → true ≡ all_seen (operand s w []) f
   unfolding all_seen optional
-  read_none n e z = let k : w ≡ 0 = omega (arith, is.0) in sym (ap (λ l. all_seen l f) (operand-optional s w [] e) ∙ ap (λ x. all_seen (optional x []) f) k)
+  read_none e z = sym (ap (λ l. all_seen l f) (operand-optional s w [] e) ∙ ap (λ x. all_seen (optional x []) f) z)
 
-  pub read_some : (s ≡ 93 → ⊥) → s ≡ 94 → (v ≡ 0 → ⊥) → (r : Bool) → r ≡ f (v - 1) → r ≡ all_seen (operand s w []) f
+  pub read_some : s ≡ 94 → (w ≡ 0 → ⊥) → (r : Bool) → r ≡ f (w - 1) → r ≡ all_seen (operand s w []) f
   unfolding all_seen optional
-  read_some n e z r h = let k : w ≡ suc (v - 1) = omega (arith, is.0) in h ∙ sym (ap (λ l. all_seen l f) (operand-optional s w [] e) ∙ ap (λ x. all_seen (optional x []) f) k ∙ and_right (f (v - 1)))
+  read_some e z r h = let k : w ≡ suc (w - 1) = omega arith in h ∙ sym (ap (λ l. all_seen l f) (operand-optional s w [] e) ∙ ap (λ x. all_seen (optional x []) f) k ∙ and_right (f (w - 1)))
 
 pub read-other : (s w : ℕ) (f : ℕ → Bool) → (s ≡ 93 → ⊥) → (s ≡ 94 → ⊥) → true ≡ all_seen (operand s w []) f
 unfolding all_seen
@@ -114,34 +109,19 @@ cells_between ws ts from to h w t = go (to - from) from (omega arith)
     go zero i e = sym (between_none ts ws i to (omega arith))
     go (suc n) i e = ap ((get_or ts i 0, get_or ws i 0) ∷◌) (go n (suc i) (omega arith)) ∙ sym (between_next ts ws i to (omega arith) t w)
 
--- ---- the loop of reads
-pub record Reading (ws ts : List ℕ) (from to : ℕ) (f : ℕ → Bool) (i : ℕ) : Type 0 where
-  pub same : all_seen (ops_of (cells_from (to - i) ws ts i)) f ≡ all_seen (ops_of (cells_in ws ts from to)) f
+-- ---- the reads of a run
+module _ (ws ts : List ℕ) (f : ℕ → Bool) where
+  reads_from : (n i : ℕ) → list_all (λ j. all_seen (operand (get_or ts j 0) (get_or ws j 0) []) f) (range_with_len i n) ≡ all_seen (ops_of (cells_from n ws ts i)) f
+  unfolding cells_from ops_of all_seen
+  reads_from zero i = refl
+  reads_from (suc n) i =
+      ap (all_seen (operand (get_or ts i 0) (get_or ws i 0) []) f &&◌) (ap (λ k. list_all (λ j. all_seen (operand (get_or ts j 0) (get_or ws j 0) []) f) (range_with_len k n)) (add-one i) ∙ reads_from n (suc i))
+      ∙ sym (seen-append (operand (get_or ts i 0) (get_or ws i 0) []) (ops_of (cells_from n ws ts (suc i))) f)
+      ∙ ap (λ l. all_seen l f) (sym (operand-append (get_or ts i 0) (get_or ws i 0) (ops_of (cells_from n ws ts (suc i)))))
 
-module _ (ws ts : List ℕ) (from to : ℕ) (f : ℕ → Bool) where
-  pub reads-begin : Reading ws ts from to f from
+  pub reads_are : (from to : ℕ) → list_all (λ j. all_seen (operand (get_or ts j 0) (get_or ws j 0) []) f) (range_with_len from (to - from)) ≡ all_seen (ops_of (cells_in ws ts from to)) f
   unfolding cells_in
-  reads-begin = record { same = refl }
-
-  module _ (i : ℕ) (inv : Reading ws ts from to f i) where
-    opened : i < to → (all_seen (operand (get_or ts i 0) (get_or ws i 0) []) f && all_seen (ops_of (cells_from (to - (i + 1)) ws ts (i + 1))) f) ≡ all_seen (ops_of (cells_in ws ts from to)) f
-    unfolding ops_of
-    opened h =
-        sym (seen-append (operand (get_or ts i 0) (get_or ws i 0) []) (ops_of (cells_from (to - (i + 1)) ws ts (i + 1))) f)
-        ∙ ap (λ l. all_seen l f) (sym (operand-append (get_or ts i 0) (get_or ws i 0) (ops_of (cells_from (to - (i + 1)) ws ts (i + 1)))))
-        ∙ ap (λ l. all_seen (ops_of l) f) (sym (cells_next ws ts i to h))
-        ∙ inv.same
-
-    module _ (h : i < to) (r : Bool) (is : r ≡ all_seen (operand (get_or ts i 0) (get_or ws i 0) []) f) where
-      pub reads_wrong : not r ≡ true → false ≡ all_seen (ops_of (cells_in ws ts from to)) f
-      reads_wrong e = ap (◌&& all_seen (ops_of (cells_from (to - (i + 1)) ws ts (i + 1))) f) (sym (not-true r e) ∙ is) ∙ opened h
-
-      pub reads-next : not r ≡ false → Reading ws ts from to f (i + 1)
-      reads-next e = record { same = ap (◌&& all_seen (ops_of (cells_from (to - (i + 1)) ws ts (i + 1))) f) (sym (not-false r e) ∙ is) ∙ opened h }
-
-    pub reads_done : to ≤ i → true ≡ all_seen (ops_of (cells_in ws ts from to)) f
-    unfolding ops_of all_seen
-    reads_done h = ap (λ l. all_seen (ops_of l) f) (sym (cells_none ws ts i to h)) ∙ inv.same
+  reads_are from to = reads_from (to - from) from
 
 -- ---- the loop that looks for a result
 pub record Looking (ws ts : List ℕ) (from to i : ℕ) : Type 0 where
@@ -159,13 +139,12 @@ result_later : (s w : ℕ) (cs : Cells) → (s ≡ 99 → ⊥) → (s ≡ 100 �
 unfolding result_of
 result_later s w cs n m = rw (result_of, ne_eqb s 99 n, ne_eqb s 100 m)
 
-word_some : (w : ℕ) → word_of (some w) ≡ suc w
-unfolding word_of
-word_some w = refl
-
-word_none : word_of none ≡ 0
-unfolding word_of
-word_none = refl
+one_less : (w : ℕ) (o : code.Option ℕ) → SomeIff o (1 ≤ w) (w - 1) → o ≡ option_of (opt_of w)
+unfolding option_of opt_of
+one_less zero None is = refl
+one_less zero (Some x) is = absurd (omega (arith, is.0))
+one_less (suc w) None is = absurd (is (omega arith))
+one_less (suc w) (Some x) is = let q : x ≡ w = omega (arith, is.1) in ap Some q
 
 result_none : result_of [] ≡ none
 unfolding result_of
@@ -180,15 +159,17 @@ module _ (ws ts : List ℕ) (from to : ℕ) where
     here : i < to → result_of (cells_in ws ts from to) ≡ result_of ((get_or ts i 0, get_or ws i 0) ∷ cells_from (to - (i + 1)) ws ts (i + 1))
     here h = sym inv.same ∙ ap result_of (cells_next ws ts i to h)
 
-    module _ (h : i < to) (w : ℕ) (is : (w ≡ get_or ws i 0) × (w < 2 ^ 32)) where
-      pub look_result : get_or ts i 0 ≡ 99 → w + 1 ≡ word_of (result_of (cells_in ws ts from to))
-      look_result e = rw (add-one w) (ap suc is.0 ∙ sym (ap word_of (here h ∙ result_here (get_or ts i 0) (get_or ws i 0) _ e) ∙ word_some (get_or ws i 0)))
+    module _ (h : i < to) where
+      pub look_result : get_or ts i 0 ≡ 99 → Some (get_or ws i 0) ≡ option_of (result_of (cells_in ws ts from to))
+      unfolding option_of
+      look_result e = sym (ap option_of (here h ∙ result_here (get_or ts i 0) (get_or ws i 0) _ e))
 
-      pub look-optional : (get_or ts i 0 ≡ 99 → ⊥) → get_or ts i 0 ≡ 100 → w ≡ word_of (result_of (cells_in ws ts from to))
-      look-optional n e = is.0 ∙ sym (ap word_of (here h ∙ result_optional (get_or ts i 0) (get_or ws i 0) _ e) ∙ word_of_lem (get_or ws i 0))
+      pub look-optional : get_or ts i 0 ≡ 100 → (o : code.Option ℕ) → SomeIff o (1 ≤ get_or ws i 0) (get_or ws i 0 - 1) → o ≡ option_of (result_of (cells_in ws ts from to))
+      look-optional e o is = one_less (get_or ws i 0) o is ∙ sym (ap option_of (here h ∙ result_optional (get_or ts i 0) (get_or ws i 0) _ e))
 
     pub look-next : i < to → (get_or ts i 0 ≡ 99 → ⊥) → (get_or ts i 0 ≡ 100 → ⊥) → Looking ws ts from to (i + 1)
     look-next h n m = record { same = sym (here h ∙ result_later (get_or ts i 0) (get_or ws i 0) _ n m) }
 
-    pub look_done : to ≤ i → 0 ≡ word_of (result_of (cells_in ws ts from to))
-    look_done h = sym (ap word_of (sym inv.same ∙ ap result_of (cells_none ws ts i to h) ∙ result_none) ∙ word_none)
+    pub look_done : to ≤ i → None ≡ option_of (result_of (cells_in ws ts from to))
+    unfolding option_of
+    look_done h = sym (ap option_of (sym inv.same ∙ ap result_of (cells_none ws ts i to h) ∙ result_none))

@@ -1,6 +1,7 @@
 -- The test in the order of the text is the model's: `fine_b` of a body is `scoped_as`. The model's four tests (shape, kinds, once, reads) are each true exactly if all their parts are, so either side is taken apart and put together again.
 use mathlib.Core.Path.{◌≡◌, refl, sym, ap, ◌∙◌}
 use mathlib.Core.Bool.{Bool, true, false, ◌&&◌, ◌||◌, not}
+use Rattle.std.proofs.Math.Bool.{and-false, and_assoc}
 use mathlib.Core.List.{List, [], ◌∷◌, ◌++◌}
 use Prim.Native.Nat.{ℕ}
 use lib.Dec.{eqb}
@@ -13,10 +14,6 @@ use Rattle.model.specs.Scope.{Place, in_body, in_switch, in_loop, in_continuing,
 use Rattle.intake_statements.specs.Fine.{keep_all, done_b, done_s, done_k, done_c, fresh, next_e, one_e, fine_e, fine_s, fine_f, fine_b, fine_k, fine_c}
 
 -- ---- tests
-pub and-false : (a : Bool) → (a && false) ≡ false
-and-false true = refl
-and-false false = refl
-
 -- two halves of four tests
 halves : (s₁ s₂ k₁ k₂ f₁ f₂ o₁ o₂ : Bool) → ((s₁ && s₂) && ((k₁ && k₂) && ((f₁ && f₂) && (o₁ && o₂)))) ≡ ((s₁ && (k₁ && (f₁ && o₁))) && (s₂ && (k₂ && (f₂ && o₂))))
 halves false s₂ k₁ k₂ f₁ f₂ o₁ o₂ = refl
@@ -57,10 +54,6 @@ turned true false v = sym (and-false v)
 turned true true true = refl
 turned true true false = refl
 
-and_assoc : (a b c : Bool) → ((a && b) && c) ≡ (a && (b && c))
-and_assoc true b c = refl
-and_assoc false b c = refl
-
 -- ---- what is evaluated
 pub add_e-append : (es fs δ : List ℕ) → add_e (es ++ fs) δ ≡ add_e fs (add_e es δ)
 unfolding add_e
@@ -79,12 +72,6 @@ live_all [] = refl
 live_all (e ∷ es) = ap (e ∷◌) (live_all es)
 
 -- ---- "Each is evaluated by one Emit or statement at most."
-or_comm : (a b : Bool) → (a || b) ≡ (b || a)
-or_comm true true = refl
-or_comm true false = refl
-or_comm false true = refl
-or_comm false false = refl
-
 not_or : (a b : Bool) → not (a || b) ≡ (not a && not b)
 not_or true b = refl
 not_or false b = refl

@@ -1,22 +1,23 @@
 -- The result of a statement, and statements without blocks.
 use mathlib.Core.Path.{◌≡◌, refl, sym, ap, ◌∙◌}
-use mathlib.Core.Bool.{Bool, true, false, not}
+use mathlib.Core.Bool.{Bool, true, false}
 use mathlib.Core.List.{List, [], ◌∷◌, ◌++◌}
 use mathlib.Core.Option.{Option, none, some}
-use Prim.Native.Nat.{ℕ, zero, suc, ◌+◌, ◌-◌, ◌^◌, ◌≤◌, ◌<◌}
+use Prim.Native.Nat.{ℕ, zero, suc, ◌+◌, ◌-◌, ◌≤◌, ◌<◌}
 use native.Mathlib.Omega.{arith}
 use lib.Dec.{eqb, ltb}
 use lib.ListN.{get_or, set}
-use borrow.Author.Tests.{eq-eqb, ne_eqb, lt-ltb, le-ltb, ltb-true, ltb-false, not-true, not-false}
+use borrow.Author.Tests.{eq-eqb, ne_eqb, lt-ltb, le-ltb, ltb-true, ltb-false}
+use Rattle.std.specs.Prelude.{Some, None}
+use Rattle.std.proofs.lemmas.Option.{none-some, same_Some}
 use Rattle.model.specs.Outcome.{Cell, Cells, word}
 use Rattle.model.specs.Table.{Row, EXPR_KIND, FUNCTION, expression_row, expressions, variants, variant, More, brings, more}
 use Rattle.model.specs.Carry.{Lays, lays_none, lays_next}
-use Rattle.model.specs.Tree.{word_of}
 use Rattle.model.specs.Operands.{ops_of, result_of, function_of, kind_at, standing}
 use Rattle.model.specs.Scope.{add_e, add_opt, evals_opt, is_of, call_result, effect_result, all_vis}
 use Rattle.intake_statements.specs.Fine.{fresh}
 use Rattle.intake_statements.specs.Tape.{cells_from, cells_in, exprs_of, Exprs}
-use Rattle.intake_statements.specs.Lasts.{Scope, visible_at, all_seen, fits_result, result_in, FoundO, FoundL}
+use Rattle.intake_statements.specs.Lasts.{Scope, visible_at, all_seen, option_of, fits_result, result_in, FoundO, FoundL}
 use Rattle.intake_statements.proofs.Scopes.{expr_in, kind_tag, kind_in, kind-out, record_begins, seen_is, kept-all, kept_set, scope_add, tells_false}
 
 -- ---- a CallResult: kind, span, function
@@ -56,14 +57,14 @@ called_of (lays_next {w = a} e l) = second a (rw (brings_one e (plain 81 a (omeg
 -- three cells of a run
 run-three : (n : ℕ) (ws ts : List ℕ) (i : ℕ) (c₁ c₂ c₃ : Cell) → cells_from n ws ts i ≡ c₁ ∷ c₂ ∷ c₃ ∷ [] → (n ≡ 3) × (get_or ws (i + 2) 0 ≡ word c₃)
 unfolding cells_from
-run-three zero ws ts i c₁ c₂ c₃ e = let z : ◌≡◌ {A = ℕ} 0 1 = cc in absurd (omega arith)
-run-three (suc zero) ws ts i c₁ c₂ c₃ e = let z : ◌≡◌ {A = ℕ} 0 1 = cc in absurd (omega arith)
-run-three (suc (suc zero)) ws ts i c₁ c₂ c₃ e = let z : ◌≡◌ {A = ℕ} 0 1 = cc in absurd (omega arith)
+run-three zero ws ts i c₁ c₂ c₃ e = cc
+run-three (suc zero) ws ts i c₁ c₂ c₃ e = cc
+run-three (suc (suc zero)) ws ts i c₁ c₂ c₃ e = cc
 run-three (suc (suc (suc zero))) ws ts i c₁ c₂ c₃ e =
     let q : (get_or ts (suc (suc i)) 0, get_or ws (suc (suc i)) 0) ≡ c₃ = cc in
     let s : i + 2 ≡ suc (suc i) = omega arith in
     (refl, rw s (ap word q))
-run-three (suc (suc (suc (suc n)))) ws ts i c₁ c₂ c₃ e = let z : ◌≡◌ {A = ℕ} 0 1 = cc in absurd (omega arith)
+run-three (suc (suc (suc (suc n)))) ws ts i c₁ c₂ c₃ e = cc
 
 function-later : (s w : ℕ) (cs : Cells) → s ≡ EXPR_KIND → function_of ((s, w) ∷ cs) ≡ function_of cs
 unfolding function_of
@@ -87,8 +88,8 @@ module _ (ws ts st : List ℕ) (count e : ℕ) (x : Exprs ws ts st count) (i : e
     fourth : (get_or st (suc e) 0 - (get_or st e 0 + 1) ≡ 3) × (get_or ws (get_or st e 0 + 1 + 2) 0 ≡ rest.g)
     fourth = run-three (get_or st (suc e) 0 - (get_or st e 0 + 1)) ws ts (get_or st e 0 + 1) (81, rest.a) (82, rest.b) (FUNCTION, rest.g) rest.is
 
-    pub function_in_lem : (p : ℕ) → (p ≡ get_or st e 0) × (p < 2 ^ 32) → p + 3 < 16384
-    function_in_lem p h = omega (arith, h.0, fourth.0, x.placed.within e i)
+    pub function_in_lem : get_or st e 0 + 3 < 16384
+    function_in_lem = omega (arith, fourth.0, x.placed.within e i)
 
     function_is : function_of (get_or (exprs_of ws ts st count) e []) ≡ some (get_or ws (get_or st e 0 + 3) 0)
     function_is =
@@ -102,9 +103,9 @@ module _ (ws ts st : List ℕ) (count e : ℕ) (x : Exprs ws ts st count) (i : e
   kind_is = kind_in ws ts st count x e i ∙ sym kd-is
 
   module _ (k f : ℕ) where
-    pub fits_call : k ≡ 15 → kd ≡ 23 → (p : ℕ) → (p ≡ get_or st e 0) × (p < 2 ^ 32) → eqb (get_or ws (p + 3) 0) f ≡ fits_result (exprs_of ws ts st count) k f (some e)
+    pub fits_call : k ≡ 15 → kd ≡ 23 → eqb (get_or ws (get_or st e 0 + 3) 0) f ≡ fits_result (exprs_of ws ts st count) k f (some e)
     unfolding fits_result call_result is_of
-    fits_call h c p is = rw (fits_result, eq-eqb k 15 h, kind_is, eq-eqb kd 23 c, function_is c, is.0)
+    fits_call h c = rw (fits_result, eq-eqb k 15 h, kind_is, eq-eqb kd 23 c, function_is c)
 
     pub fits_no_call : k ≡ 15 → (kd ≡ 23 → ⊥) → false ≡ fits_result (exprs_of ws ts st count) k f (some e)
     unfolding fits_result call_result
@@ -119,15 +120,15 @@ module _ (ws ts st : List ℕ) (count e : ℕ) (x : Exprs ws ts st count) (i : e
     fits_atomic n m = rw (fits_result, ne_eqb k 15 n, kind_is, ne_eqb k 14 m)
 
 -- ---- the result
-opt_none : (o : Option ℕ) (r : ℕ) → r ≡ word_of o → r ≡ 0 → o ≡ none
-unfolding word_of
-opt_none none r h z = refl
-opt_none (some e) r h z = absurd (omega arith)
+option_none : (o : Option ℕ) → None ≡ option_of o → o ≡ none
+unfolding option_of
+option_none none h = refl
+option_none (some e) h = absurd (none-some e h)
 
-opt_some : (o : Option ℕ) (r : ℕ) → r ≡ word_of o → (r ≡ 0 → ⊥) → o ≡ some (r - 1)
-unfolding word_of
-opt_some none r h n = absurd (n h)
-opt_some (some e) r h n = ap some (omega arith)
+option_some : (o : Option ℕ) (e : ℕ) → Some e ≡ option_of o → o ≡ some e
+unfolding option_of
+option_some none e h = absurd (none-some e (sym h))
+option_some (some x) e h = ap some (sym (same_Some e x h))
 
 pub fits_none : (xs : List Cells) (k f : ℕ) → fits_result xs k f none ≡ true
 unfolding fits_result call_result effect_result
@@ -146,55 +147,54 @@ fits_out ws ts st count e k f h = go (eqb k 15) refl (eqb k 14) refl
     go false b true c = rw (fits_result, b, kind-out ws ts st count e h, c)
     go false b false c = rw (fits_result, b, kind-out ws ts st count e h, c)
 
-module _ (ws ts st u : List ℕ) (count at stop keep : ℕ) (x : Exprs ws ts st count) (keeps : stop ≤ keep) (short : at + 4 ≤ stop) (r : ℕ) (r-is : r ≡ word_of (result_of (cells_in ws ts (at + 4) stop))) where
-  pub result_none : r ≡ 0 → FoundO ws ts st count at stop keep u u true
+-- where there is a result there is a field
+pub result_in_lem : (ws ts : List ℕ) (at stop e : ℕ) → Some e ≡ option_of (result_in ws ts at stop) → at + 4 < stop
+unfolding cells_in cells_from result_of option_of
+result_in_lem ws ts at stop e is = go (ltb (at + 4) stop) refl
+  where
+    go : (b : Bool) → ltb (at + 4) stop ≡ b → at + 4 < stop
+    go true h = ltb-true (at + 4) stop h
+    go false h = let z : stop - (at + 4) ≡ 0 = omega (arith, ltb-false (at + 4) stop h) in absurd (none-some e (sym (rw z at is)))
+
+module _ (ws ts st u : List ℕ) (count at stop keep : ℕ) (x : Exprs ws ts st count) (keeps : stop ≤ keep) (short : at + 4 ≤ stop) where
+  pub result_none : None ≡ option_of (result_in ws ts at stop) → FoundO ws ts st count at stop keep u u true
   unfolding evals_opt add_opt fresh add_e
-  result_none z =
-      let o : result_in ws ts at stop ≡ none = opt_none (result_in ws ts at stop) r r-is z in
+  result_none is = let o : result_in ws ts at stop ≡ none = option_none (result_in ws ts at stop) is in
       record { found = λ ρ δ s. rw o (record { says = rw (fits_none (exprs_of ws ts st count) (get_or ws (at + 1) 0) (get_or ws (at + 4) 0)); scope = λ g. s; kept = λ g. kept-all keep u }) }
 
-  module _ (n : r ≡ 0 → ⊥) where
-    o_is : result_in ws ts at stop ≡ some (r - 1)
-    o_is = opt_some (result_in ws ts at stop) r r-is n
+  module _ (e : ℕ) (is : Some e ≡ option_of (result_in ws ts at stop)) where
+    o_is : result_in ws ts at stop ≡ some e
+    o_is = option_some (result_in ws ts at stop) e is
 
-    pub result_out : count ≤ r - 1 → FoundO ws ts st count at stop keep u u false
-    result_out h = record { found = λ ρ δ s. tells_false (rw (o_is, fits_out ws ts st count (r - 1) (get_or ws (at + 1) 0) (get_or ws (at + 4) 0) h)) }
+    pub result_out : count ≤ e → FoundO ws ts st count at stop keep u u false
+    result_out h = record { found = λ ρ δ s. tells_false (rw (o_is, fits_out ws ts st count e (get_or ws (at + 1) 0) (get_or ws (at + 4) 0) h)) }
 
-    module _ (i : r - 1 < count) (ok : Bool) (ok-is : ok ≡ fits_result (exprs_of ws ts st count) (get_or ws (at + 1) 0) (get_or ws (at + 4) 0) (some (r - 1))) where
-      pub result_unfit : not ok ≡ true → FoundO ws ts st count at stop keep u u false
-      result_unfit h = record { found = λ ρ δ s. tells_false (rw (o_is, sym ok-is, not-true ok h)) }
+    module _ (i : e < count) (ok : Bool) (ok-is : ok ≡ fits_result (exprs_of ws ts st count) (get_or ws (at + 1) 0) (get_or ws (at + 4) 0) (some e)) where
+      pub result_unfit : ok ≡ false → FoundO ws ts st count at stop keep u u false
+      result_unfit h = record { found = λ ρ δ s. tells_false (rw (o_is, sym ok-is, h)) }
 
-      module _ (y : not ok ≡ false) where
-        pub result_twice : 0 < get_or u (r - 1) 0 → FoundO ws ts st count at stop keep u u false
+      module _ (y : ok ≡ true) where
+        pub result_twice : (get_or u e 0 ≡ 0 → ⊥) → FoundO ws ts st count at stop keep u u false
         unfolding evals_opt fresh
-        result_twice z = record { found = λ ρ δ s. tells_false (rw (o_is, sym ok-is, not-false ok y, s.done (r - 1) i, lt-ltb 0 (get_or u (r - 1) 0) (omega arith))) }
+        result_twice z = record { found = λ ρ δ s. tells_false (rw (o_is, sym ok-is, y, s.done e i, lt-ltb 0 (get_or u e 0) (omega arith))) }
 
-        pub result_fine : get_or u (r - 1) 0 ≤ 0 → FoundO ws ts st count at stop keep u (set u (r - 1) keep) true
+        pub result_fine : get_or u e 0 ≡ 0 → FoundO ws ts st count at stop keep u (set u e keep) true
         unfolding evals_opt fresh add_opt add_e
-        result_fine low = let z : get_or u (r - 1) 0 ≡ 0 = omega arith in record {
+        result_fine z = record {
           found = λ ρ δ s. rw o_is (record {
-            says = rw (sym ok-is, not-false ok y, s.done (r - 1) i, le-ltb 0 (get_or u (r - 1) 0) (omega arith));
-            scope = λ g. scope_add u (r - 1) keep z count at keep ρ δ s x.placed.few i (omega arith) refl;
-            kept = λ g. kept_set u (r - 1) keep z keep (omega arith) (omega (arith, s.long, x.placed.few));
+            says = rw (sym ok-is, y, s.done e i, le-ltb 0 (get_or u e 0) (omega arith));
+            scope = λ g. scope_add u e keep z count at keep ρ δ s x.placed.few i (omega arith) refl;
+            kept = λ g. kept_set u e keep z keep (omega arith) (omega (arith, s.long, x.placed.few));
           });
         }
-
--- where there is a result there is a field
-pub result_in_lem : (ws ts : List ℕ) (from to r : ℕ) → r ≡ word_of (result_of (cells_in ws ts from to)) → (r ≡ 0 → ⊥) → from < to
-unfolding cells_in cells_from result_of word_of
-result_in_lem ws ts from to r is n = go (ltb from to) refl
-  where
-    go : (b : Bool) → ltb from to ≡ b → from < to
-    go true h = ltb-true from to h
-    go false h = let z : to - from ≡ 0 = omega (arith, ltb-false from to h) in absurd (n (rw z at is))
 
 -- ---- a statement without blocks
 module _ (ws ts st u : List ℕ) (count at stop keep : ℕ) (x : Exprs ws ts st count) (keeps : stop ≤ keep) (short : at + 4 ≤ stop) (r : Bool) (r-is : r ≡ all_seen (ops_of (cells_in ws ts (at + 4) stop)) (visible_at ws st u count at)) where
   simple_is : (ρ δ : List ℕ) → Scope count at keep ρ δ u → all_vis (standing (exprs_of ws ts st count)) ρ (ops_of (cells_in ws ts (at + 4) stop)) ≡ r
   simple_is ρ δ s = sym (seen_is ws ts st count x u ρ δ at keep s (omega arith) (ops_of (cells_in ws ts (at + 4) stop))) ∙ sym r-is
 
-  pub simple_reads : not r ≡ true → FoundL ws ts st count at stop keep u u false
-  simple_reads h = record { found = λ ρ δ s. tells_false (rw (simple_is ρ δ s, not-true r h)) }
+  pub simple_reads : r ≡ false → FoundL ws ts st count at stop keep u u false
+  simple_reads h = record { found = λ ρ δ s. tells_false (rw (simple_is ρ δ s, h)) }
 
-  pub simple_result : not r ≡ false → (u₁ : List ℕ) (q : Bool) → FoundO ws ts st count at stop keep u u₁ q → FoundL ws ts st count at stop keep u u₁ q
-  simple_result h u₁ q got = record { found = λ ρ δ s. rw (simple_is ρ δ s, not-false r h) (got.found ρ δ s) }
+  pub simple_result : r ≡ true → (u₁ : List ℕ) (q : Bool) → FoundO ws ts st count at stop keep u u₁ q → FoundL ws ts st count at stop keep u u₁ q
+  simple_result h u₁ q got = record { found = λ ρ δ s. rw (simple_is ρ δ s, h) (got.found ρ δ s) }

@@ -1,15 +1,16 @@
 -- The words up to which expressions last, and the scope that they mean: how they answer a read, and how an evaluation changes them.
 use mathlib.Core.Path.{◌≡◌, refl, sym, ap, ◌∙◌, subst}
 use mathlib.Core.Logic.{◌⊎◌, inl, inr}
-use mathlib.Core.Bool.{Bool, true, false, ◌&&◌, ◌||◌, not, false≢true}
+use mathlib.Core.Bool.{Bool, true, false, ◌&&◌, ◌||◌, false≢true}
+use Rattle.std.proofs.Math.Bool.{or_assoc}
 use mathlib.Core.List.{List, [], ◌∷◌}
-use Prim.Native.Nat.{ℕ, zero, suc, ◌+◌, ◌-◌, ◌^◌, ◌≤◌, ◌<◌}
+use Prim.Native.Nat.{ℕ, zero, suc, ◌+◌, ◌-◌, ◌≤◌, ◌<◌}
 use native.Mathlib.Numerals.{add-one}
 use native.Mathlib.Omega.{arith}
 use lib.Dec.{eqb, ltb}
 use lib.ListN.{length, get_or, set, length-set}
 use lib.Seq.{get_or-set_same, get_or-set_other}
-use borrow.Author.Tests.{eq-eqb, ne_eqb, lt-ltb, le-ltb, eqb-true, eqb-false, ltb-true, ltb-false, not-true, not-false}
+use borrow.Author.Tests.{eq-eqb, ne_eqb, lt-ltb, le-ltb, eqb-true, eqb-false, ltb-true, ltb-false}
 use Rattle.model.specs.Outcome.{Cells}
 use Rattle.model.specs.Table.{Row, EXPR_KIND, expressions, expression_row}
 use Rattle.model.specs.Carry.{Lays, lays_next}
@@ -48,11 +49,7 @@ has_there x ρ e h = rw (ne_eqb x e h)
 vis-has : (f : ℕ → Bool) (ρ : List ℕ) (e : ℕ) → vis f ρ e ≡ (has ρ e || f e)
 unfolding vis has
 vis-has f [] e = refl
-vis-has f (x ∷ ρ) e = ap (eqb e x ||◌) (vis-has f ρ e) ∙ assoc (eqb e x) (has ρ e) (f e)
-  where
-    assoc : (a b c : Bool) → (a || (b || c)) ≡ ((a || b) || c)
-    assoc true b c = refl
-    assoc false b c = refl
+vis-has f (x ∷ ρ) e = ap (eqb e x ||◌) (vis-has f ρ e) ∙ sym (or_assoc (eqb e x) (has ρ e) (f e))
 
 -- ---- the table of expressions
 module _ (ws ts st : List ℕ) where
@@ -242,22 +239,22 @@ module _ (ws ts st : List ℕ) (count : ℕ) (ini : List ℕ) (e : ℕ) where
   unfolding marks standing
   marks_is h k = rw (marks, ne_eqb (get_or ini e 0) 0 h, emitted_moves (kind_at (exprs_of ws ts st count) e) k)
 
-pub reads-to : (ws ts st : List ℕ) (count e to : ℕ) → Exprs ws ts st count → e < count → (to ≡ get_or st (e + 1) 0) × (to < 2 ^ 32) → to ≤ 16384
-reads-to ws ts st count e to x i q = let w : get_or st (e + 1) 0 ≤ 16384 = rw (add-one e) (x.placed.within e i) in omega (arith, q.0)
+pub reads-to : (ws ts st : List ℕ) (count e : ℕ) → Exprs ws ts st count → e < count → get_or st (e + 1) 0 ≤ 16384
+reads-to ws ts st count e x i = rw (add-one e) (x.placed.within e i)
 
 module _ (ws ts st ini u : List ℕ) (count at keep e : ℕ) (x : Exprs ws ts st count) (h : at < keep) (i : e < count) where
   module _ (kd : ℕ) (kd-is : kd ≡ get_or ws (get_or st e 0) 0) (em : Bool) (em-is : em ≡ emitted_kind kd) where
     emitted_is : emitted_kind (kind_at (exprs_of ws ts st count) e) ≡ em
     emitted_is = ap emitted_kind (kind_in ws ts st count x e i ∙ sym kd-is) ∙ sym em-is
 
-    pub evaluated_kind : not em ≡ true → FoundE ws ts st ini count at keep e u u false
+    pub evaluated_kind : em ≡ false → FoundE ws ts st ini count at keep e u u false
     unfolding one_e
-    evaluated_kind n = record { found = λ ρ δ s. tells_false (rw (emitted_is, not-true em n)) }
+    evaluated_kind n = record { found = λ ρ δ s. tells_false (rw (emitted_is, n)) }
 
-    module _ (y : not em ≡ false) where
+    module _ (y : em ≡ true) where
       pub evaluated_twice : (get_or u e 0 ≡ 0 → ⊥) → FoundE ws ts st ini count at keep e u u false
       unfolding one_e
-      evaluated_twice n = record { found = λ ρ δ s. tells_false (rw (emitted_is, not-false em y, s.done e i, lt-ltb 0 (get_or u e 0) (omega arith))) }
+      evaluated_twice n = record { found = λ ρ δ s. tells_false (rw (emitted_is, y, s.done e i, lt-ltb 0 (get_or u e 0) (omega arith))) }
 
       module _ (z : get_or u e 0 ≡ 0) where
         new : {ρ δ : List ℕ} → Scope count at keep ρ δ u → has δ e ≡ false
@@ -267,30 +264,30 @@ module _ (ws ts st ini u : List ℕ) (count at keep e : ℕ) (x : Exprs ws ts st
         unfolding one_e
         evaluated_initial n = record {
           found = λ ρ δ s. record {
-            says = rw (emitted_is, not-false em y, new s, marks_is ws ts st count ini e n (emitted_is ∙ not-false em y));
-            scope = λ g. rw (next-drop (exprs_of ws ts st count) (marks ws ts st count ini) e ρ (marks_is ws ts st count ini e n (emitted_is ∙ not-false em y))) (scope_mark u e 1 z count at keep ρ δ s x.placed.few i h refl);
+            says = rw (emitted_is, y, new s, marks_is ws ts st count ini e n (emitted_is ∙ y));
+            scope = λ g. rw (next-drop (exprs_of ws ts st count) (marks ws ts st count ini) e ρ (marks_is ws ts st count ini e n (emitted_is ∙ y))) (scope_mark u e 1 z count at keep ρ δ s x.placed.few i h refl);
             kept = λ g. kept_set u e 1 z keep (omega arith) (omega (arith, s.long, x.placed.few));
           };
         }
 
-        module _ (m : get_or ini e 0 ≡ 0) (from to : ℕ) (from_is : (from ≡ get_or st e 0) × (from < 2 ^ 32)) (to_is : (to ≡ get_or st (e + 1) 0) × (to < 2 ^ 32)) (r : Bool) (r-is : r ≡ all_seen (ops_of (cells_in ws ts from to)) (visible_at ws st u count at)) where
+        module _ (m : get_or ini e 0 ≡ 0) (r : Bool) (r-is : r ≡ all_seen (ops_of (cells_in ws ts (get_or st e 0) (get_or st (e + 1) 0))) (visible_at ws st u count at)) where
           reads_is : (ρ δ : List ℕ) → Scope count at keep ρ δ u → all_vis (standing (exprs_of ws ts st count)) ρ (ops (exprs_of ws ts st count) e) ≡ r
           unfolding ops record_of
           reads_is ρ δ s =
-              let a : record_of ws ts st e ≡ cells_in ws ts from to = rw (from_is.0, to_is.0, add-one e) in
+              let a : record_of ws ts st e ≡ cells_in ws ts (get_or st e 0) (get_or st (e + 1) 0) = rw (add-one e) in
               ap (λ l. all_vis (standing (exprs_of ws ts st count)) ρ (ops_of l)) (expr_in ws ts st count e i ∙ a)
-              ∙ sym (seen_is ws ts st count x u ρ δ at keep s h (ops_of (cells_in ws ts from to)))
+              ∙ sym (seen_is ws ts st count x u ρ δ at keep s h (ops_of (cells_in ws ts (get_or st e 0) (get_or st (e + 1) 0))))
               ∙ sym r-is
 
-          pub evaluated_reads : not r ≡ true → FoundE ws ts st ini count at keep e u u false
+          pub evaluated_reads : r ≡ false → FoundE ws ts st ini count at keep e u u false
           unfolding one_e
-          evaluated_reads n = record { found = λ ρ δ s. tells_false (rw (emitted_is, not-false em y, new s, marks_not ws ts st count ini e m, reads_is ρ δ s, not-true r n)) }
+          evaluated_reads n = record { found = λ ρ δ s. tells_false (rw (emitted_is, y, new s, marks_not ws ts st count ini e m, reads_is ρ δ s, n)) }
 
-          pub evaluated_fine : not r ≡ false → FoundE ws ts st ini count at keep e u (set u e keep) true
+          pub evaluated_fine : r ≡ true → FoundE ws ts st ini count at keep e u (set u e keep) true
           unfolding one_e
           evaluated_fine n = record {
             found = λ ρ δ s. record {
-              says = rw (emitted_is, not-false em y, new s, marks_not ws ts st count ini e m, reads_is ρ δ s, not-false r n);
+              says = rw (emitted_is, y, new s, marks_not ws ts st count ini e m, reads_is ρ δ s, n);
               scope = λ g. rw (next-keep (exprs_of ws ts st count) (marks ws ts st count ini) e ρ (marks_not ws ts st count ini e m)) (scope_add u e keep z count at keep ρ δ s x.placed.few i h refl);
               kept = λ g. kept_set u e keep z keep (omega arith) (omega (arith, s.long, x.placed.few));
             };
@@ -339,13 +336,13 @@ module _ (ws ts st ini u₀ : List ℕ) (count at keep a b : ℕ) where
 
   module _ (u : List ℕ) (e : ℕ) (inv : Emitting ws ts st ini u₀ count at keep a b u e) where
     module _ (h : e < b) (u₁ : List ℕ) (r : Bool) (got : FoundE ws ts st ini count at keep e u u₁ r) where
-      pub emit_next : not r ≡ false → Emitting ws ts st ini u₀ count at keep a b u₁ (e + 1)
+      pub emit_next : r ≡ true → Emitting ws ts st ini u₀ count at keep a b u₁ (e + 1)
       emit_next n = record { going = λ ρ δ s. step ρ δ (inv.going ρ δ s) }
         where
           step : (ρ δ : List ℕ) → Emits ws ts st ini u₀ count at keep a b ρ δ u e → Emits ws ts st ini u₀ count at keep a b ρ δ u₁ (e + 1)
           step ρ δ g =
               let t = got.found g.ρ' g.δ' g.scope in
-              let ok : one_e (exprs_of ws ts st count) (marks ws ts st count ini) e g.ρ' g.δ' ≡ true = sym t.says ∙ not-false r n in
+              let ok : one_e (exprs_of ws ts st count) (marks ws ts st count ini) e g.ρ' g.δ' ≡ true = sym t.says ∙ n in
               record {
                 ρ' = next_e (exprs_of ws ts st count) (marks ws ts st count ini) e g.ρ';
                 δ' = e ∷ g.δ';
@@ -359,20 +356,20 @@ module _ (ws ts st ini u₀ : List ℕ) (count at keep a b : ℕ) where
                 dones = sym (ap (λ l. add_e l g.δ') (up_next b e h) ∙ done_next e (up_from (b - (e + 1)) (e + 1)) g.δ') ∙ g.dones;
               }
 
-      pub emit_wrong : (a' b' : ℕ) → (a ≡ a') × (a < 2 ^ 32) → (b ≡ b') × (b < 2 ^ 32) → not r ≡ true → FoundR ws ts st ini count at keep a' b' u₀ u₁ false
+      pub emit_wrong : r ≡ false → FoundR ws ts st ini count at keep a b u₀ u₁ false
       unfolding in_range
-      emit_wrong a' b' p q n = rw (sym p.0, sym q.0) (record { found = λ ρ δ s. tells_false (wrong ρ δ (inv.going ρ δ s)) })
+      emit_wrong n = record { found = λ ρ δ s. tells_false (wrong ρ δ (inv.going ρ δ s)) }
         where
           wrong : (ρ δ : List ℕ) → Emits ws ts st ini u₀ count at keep a b ρ δ u e → fine_e (exprs_of ws ts st count) (marks ws ts st count ini) (up_from (b - a) a) ρ δ ≡ false
           wrong ρ δ g =
               sym g.left
               ∙ ap (λ l. fine_e (exprs_of ws ts st count) (marks ws ts st count ini) l g.ρ' g.δ') (up_next b e h)
               ∙ fine-next (exprs_of ws ts st count) (marks ws ts st count ini) e (up_from (b - (e + 1)) (e + 1)) g.ρ' g.δ'
-              ∙ ap (◌&& fine_e (exprs_of ws ts st count) (marks ws ts st count ini) (up_from (b - (e + 1)) (e + 1)) (next_e (exprs_of ws ts st count) (marks ws ts st count ini) e g.ρ') (e ∷ g.δ')) (sym (got.found g.ρ' g.δ' g.scope).says ∙ not-true r n)
+              ∙ ap (◌&& fine_e (exprs_of ws ts st count) (marks ws ts st count ini) (up_from (b - (e + 1)) (e + 1)) (next_e (exprs_of ws ts st count) (marks ws ts st count ini) e g.ρ') (e ∷ g.δ')) (sym (got.found g.ρ' g.δ' g.scope).says ∙ n)
 
-    pub emit_done : (a' b' : ℕ) → (a ≡ a') × (a < 2 ^ 32) → (b ≡ b') × (b < 2 ^ 32) → b ≤ e → FoundR ws ts st ini count at keep a' b' u₀ u true
+    pub emit_done : b ≤ e → FoundR ws ts st ini count at keep a b u₀ u true
     unfolding in_range fine_e add_e live
-    emit_done a' b' p q h = rw (sym p.0, sym q.0) (record { found = λ ρ δ s. done ρ δ (inv.going ρ δ s) })
+    emit_done h = record { found = λ ρ δ s. done ρ δ (inv.going ρ δ s) }
       where
         done : (ρ δ : List ℕ) → Emits ws ts st ini u₀ count at keep a b ρ δ u e
             → Tells count at keep u₀ u true (fine_e (exprs_of ws ts st count) (marks ws ts st count ini) (up_from (b - a) a) ρ δ) (add_e (live (up_from (b - a) a) (marks ws ts st count ini)) ρ) (add_e (up_from (b - a) a) δ)

@@ -1,6 +1,7 @@
 -- How long each expression stays in scope. For expression e, of count, there is the word up to which it is in scope: 0 while it is not evaluated; what follows them is left from another function. At the word q, in a block whose scope stays at least up to the word k, those in scope (ρ) last up to k at least, and the others up to q at most.
-use Rattle.std.specs.Prelude.{◌≡◌, Bool, true, false, ◌&&◌, List, [], ◌∷◌, ℕ, ◌+◌, ◌≤◌, ◌<◌, eqb, ltb, length, get_or}
-use Rattle.std.proofs.Math.Option.{Option}
+use Rattle.std.specs.Prelude.{◌≡◌, Bool, true, false, ◌&&◌, List, [], ◌∷◌, ℕ, ◌+◌, ◌≤◌, ◌<◌, eqb, ltb, length, get_or, Some, None}
+use Rattle.std.specs.declared.option.Option as code
+use Rattle.std.proofs.Math.Option.{Option, none, some}
 use Rattle.model.specs.Outcome.{Cells}
 use Rattle.model.specs.Operands.{ops_of, result_of, standing_kind, standing}
 use Rattle.model.specs.Scope.{in_range, live, has, add_e, add_opt, evals_opt, call_result, effect_result, all_vis}
@@ -35,6 +36,11 @@ visible_at ws st u count at e = elim (ltb e count) [ true ↦ elim (ltb at (get_
 unfoldable pub all_seen : List ℕ → (ℕ → Bool) → Bool
 all_seen [] seen = true
 all_seen (e ∷ es) seen = seen e && all_seen es seen
+
+-- the model's number, or none, as the code has it
+unfoldable pub option_of : Option ℕ → code.Option ℕ
+option_of none = None
+option_of (some e) = Some e
 
 -- the result o of a statement of the kind k whose first field is f
 unfoldable pub fits_result : List Cells → ℕ → ℕ → Option ℕ → Bool

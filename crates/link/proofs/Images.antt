@@ -16,9 +16,10 @@ use Rattle.model.specs.Refusals.{done, refused, ringed, answer_by, packed}
 use Rattle.model.specs.Link.{Linked, in_order, link_module, link, link_by, output_after, link_image, link_answer}
 use Rattle.theory_image.specs.FunctionViews.{taped_functions}
 use Rattle.theory_image.specs.Modules.{sized_read_write}
-use Rattle.order_ranks.specs.Placing.{shown}
-use Rattle.order_ranks.specs.declared.Ordered.{Ordered}
-use Rattle.order_ranks.specs.declared.Ordered.TheVariants.{All, Ring}
+use Rattle.order_ranks.proofs.Answers.{all_is, ring_is}
+use Rattle.base_refusals.specs.Numbers.{number_of as refusal_number, count_of}
+use Rattle.base_refusals.specs.declared.Refusal.{Refusal}
+use Rattle.std.specs.Prelude.{Result, Ok, Err}
 use Rattle.order_callees.specs.Gathering.{Known, Listed}
 use Rattle.intake.specs.Taken.{number_of, Accepts, TakeInEnsures}
 use Rattle.intake.specs.declared.Taken.{Taken}
@@ -37,21 +38,21 @@ links_as : (image output₀ : List ℕ) (x : Linked) → (link_image image outpu
 unfolding wuldgisp_link link_image
 links_as image output₀ x e r output a b = record { answer = a ∙ sym (ap link_answer e); left = b ∙ sym (ap (λ (y : Linked). output_after y output₀) e) }
 
-module _ (image words tags : List ℕ) (t : Taken) (got : TakeInEnsures t words tags image) where
+module _ (image words tags : List ℕ) where
   -- ---- refused by intake
-  pub intake_refuses : NotFirst t → (k : ℕ) → k ≡ number_of t → (output : List ℕ) → LinkEnsures k output output image
+  pub intake_refuses : (e : Refusal) → TakeInEnsures (Err e) words tags image → (k : ℕ) → k ≡ number_of (Err e) → (output : List ℕ) → LinkEnsures k output output image
   unfolding answer_by output_after
-  intake_refuses h k e output =
-      let x = refused_by t h in
+  intake_refuses e got k h output =
+      let x = refused_by e in
       let i = not_taken image output x.0 (sym got.same ∙ x.1) in
-      links_as image output (refused (suc x.0)) (ap (λ p. p.0) i) k output (e ∙ x.1) refl
+      links_as image output (refused (suc x.0)) (ap (λ p. p.0) i) k output (h ∙ x.1) refl
 
-  module _ (n : ℕ) (e : t ≡ Accepted n) where
+  module _ (n : ℕ) (got : TakeInEnsures (Ok n) words tags image) where
     held : Accepts image words tags n
-    held = got.held n e
+    held = got.held n refl
 
     accepted : intake_of (length image) (words_of image) ≡ 0
-    accepted = sym got.same ∙ ap number_of e
+    accepted = sym got.same
 
     -- ---- 7
     pub short_refuses : (output : List ℕ) → length output < length image → LinkEnsures 7 output output image
@@ -59,7 +60,7 @@ module _ (image words tags : List ℕ) (t : Taken) (got : TakeInEnsures t words 
     short_refuses output h = links_as image output (refused 7) (ap (λ p. p.0) (too_short image output accepted held.holds held.reads h)) 7 output refl refl
 
     pub order_asks : Tape words tags n × Known words tags n
-    order_asks = list_asks image words tags t got n e
+    order_asks = list_asks image words tags n got
 
     is : mod_of words n ≡ held.holds
     is = mod_is held.taped
@@ -78,12 +79,11 @@ module _ (image words tags : List ℕ) (t : Taken) (got : TakeInEnsures t words 
     linked_as output h = rw (link_image, link, on_words, accepted, after_intake, reads, of_laid, link_module, le-ltb (length output) (length image) h)
 
     -- ---- what order_of gives
-    module _ (order₀ order : List ℕ) (a : Ordered) (o : Listed words tags n order₀ a order) where
+    module _ (order₀ order : List ℕ) (a : Result (Unit {0}) Refusal) (o : Listed words tags n order₀ a order) where
       -- an order
-      module _ (q : a ≡ All) where
+      module _ (q : a ≡ Ok tt) where
         ordered_so : order_of (mod_of words n) ≡ ordered (take (count_at 6 words) order)
-        unfolding shown
-        ordered_so = sym (rw q at (o.is (mod_of words n) taped)) ∙ ap (λ (k : ℕ). ordered (take k order)) (sym (taped_functions taped))
+        ordered_so = all_is (order_of (mod_of words n)) _ (rw q at (o.is (mod_of words n) taped)) ∙ ap (λ (k : ℕ). ordered (take k order)) (sym (taped_functions taped))
 
         pub by_asks : length order₀ ≡ 256 → (output : List ℕ) → length image ≤ length output → Linkable words tags n order output
         by_asks long output h =
@@ -98,6 +98,8 @@ module _ (image words tags : List ℕ) (t : Taken) (got : TakeInEnsures t words 
         by_tells output₀ h r output l = links_as image output₀ (done (write (link_by (take (count_at 6 words) order) (mod_of words n)))) (linked_as output₀ h ∙ ap (λ (x : Order). in_order x (mod_of words n)) ordered_so) r output l.answer l.left
 
       -- a ring
-      pub ring_tells : (k : ℕ) → a ≡ Ring k → (output : List ℕ) → length image ≤ length output → (r : ℕ) → r ≡ packed 12 k → LinkEnsures r output output image
-      unfolding shown in_order answer_by output_after
-      ring_tells k q output h r is = links_as image output (ringed k) (linked_as output h ∙ ap (λ (x : Order). in_order x (mod_of words n)) (sym (rw q at (o.is (mod_of words n) taped)))) r output is refl
+      pub ring_tells : (refusal : Refusal) → a ≡ Err refusal → (output : List ℕ) → length image ≤ length output → (r : ℕ) → r ≡ packed (refusal_number refusal) (count_of refusal) → LinkEnsures r output output image
+      unfolding in_order answer_by output_after
+      ring_tells refusal q output h r is =
+          let s = ring_is (order_of (mod_of words n)) refusal _ (rw q at (o.is (mod_of words n) taped)) in
+          links_as image output (ringed s.0) (linked_as output h ∙ ap (λ (x : Order). in_order x (mod_of words n)) s.2) r output (is ∙ ap (λ (x : Refusal). packed (refusal_number x) (count_of x)) s.1) refl

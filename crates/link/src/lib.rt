@@ -4,13 +4,11 @@
 ghost use Rattle.std.specs.Prelude.{◌≡◌, length};
 ghost use Rattle.model.specs.Image.{ScratchLengths, LinkEnsures};
 
-use base_refusals::{RING, SHORT_OUTPUT, pack};
+use base_refusals::{SHORT_OUTPUT, pack};
 use base_words::{Tags, Words};
 use derive_state::{Buckets, Log, LogTags, Maps, StackRows, Starts};
-use intake::Taken;
 use link_words::link_in_order;
 use order_callees::order_of;
-use order_ranks::Ordered;
 
 // The image linked into the output, in arrays that the caller provides: low half the refusal, 0 accepted; high half the bytes written, or with 12 the functions
 // left. They may hold anything before, and hold anything after. Nothing is required of `maps` and `buckets`: they are overwritten before use.
@@ -30,25 +28,20 @@ pub fn link_in(
     requires scratch_lengths { ScratchLengths log.old logtags.old starts.old stacks.old }
     ensures { LinkEnsures result output.old output.new image.now }
 {
-    let taken = intake::take_in(image, words, tags);
-    if let Taken::Accepted(n) = taken {
-        if output.len() < image.len() {
-            return SHORT_OUTPUT as u64;
-        }
-        let mut order = [0u32; 256];
-        let found = order_of(words, tags, n, &mut order);
-        match found {
-            Ordered::All => {
-                return link_in_order(
-                    words, tags, n, &order, output, log, logtags, starts, maps, buckets, stacks,
-                );
-            }
-            Ordered::Ring(k) => {
-                return pack(RING, k);
-            }
-        }
+    let n = match intake::take_in(image, words, tags) {
+        Ok(n) => n,
+        Err(refusal) => return refusal.number() as u64,
+    };
+    if output.len() < image.len() {
+        return SHORT_OUTPUT as u64;
     }
-    intake::number(taken) as u64
+    let mut order = [0u32; 256];
+    match order_of(words, tags, n, &mut order) {
+        Ok(()) => link_in_order(
+            words, tags, n, &order, output, log, logtags, starts, maps, buckets, stacks,
+        ),
+        Err(refusal) => pack(refusal.number(), refusal.count()),
+    }
 }
 
 // The same, in arrays of its own.

@@ -1,5 +1,5 @@
 -- From intake's answer and the order of a module to the promise on all bytes.
-use mathlib.Core.Path.{◌≡◌, sym, ap, ◌∙◌, subst}
+use mathlib.Core.Path.{◌≡◌, refl, sym, ap, ◌∙◌, subst}
 use mathlib.Core.Bool.{Bool, true}
 use mathlib.Core.List.{List, [], ◌∷◌}
 use Prim.Native.Nat.{ℕ, suc, ◌+◌, ◌≤◌}
@@ -17,18 +17,19 @@ use Rattle.base_words.specs.Words.{words_of}
 use Rattle.theory_image.specs.OnWords.{on_refused, on_module}
 use Rattle.theory_image.specs.FunctionViews.{taped_functions}
 use Rattle.theory_image.specs.Tapes.{taped_same}
-use Rattle.order_ranks.specs.Placing.{shown}
-use Rattle.order_ranks.specs.declared.Ordered.{Ordered}
-use Rattle.order_ranks.specs.declared.Ordered.TheVariants.{All, Ring}
+use Rattle.order_ranks.proofs.Answers.{all_is, ring_is}
+use Rattle.base_refusals.specs.Numbers.{number_of as refusal_number, count_of}
+use Rattle.base_refusals.specs.declared.Refusal.{Refusal}
+use Rattle.std.specs.Prelude.{Result, Ok, Err}
 use Rattle.theory_order.specs.Lists.{length-numbers}
 use Rattle.theory_order.specs.Rounds.{length-rounds}
 use Rattle.order_callees.specs.Gathering.{Known, Listed}
 use Rattle.order_callees.proofs.Numbered.{passed-known}
 use Rattle.order_callees.proofs.Whole.{few}
 use Rattle.intake.specs.Taken.{number_of, Accepts, TakeInEnsures}
-use Rattle.intake.specs.declared.Taken.{Taken}
-use Rattle.intake.specs.declared.Taken.TheVariants.{Accepted}
-use Rattle.intake.proofs.Refusals.{NotFirst, refused_by}
+use Rattle.std.specs.Prelude.{Ok, Err}
+use Rattle.base_refusals.specs.declared.Refusal.{Refusal}
+use Rattle.intake.proofs.Refusals.{refused_by}
 use Rattle.order_bytes.specs.Listing.{ListEnsures}
 
 -- ---- an order has as many numbers as there are functions
@@ -45,12 +46,12 @@ module _ (words tags : List ℕ) (n : ℕ) (h : Tape words tags n) where
   pub count_few : (count : ℕ) → count ≡ count_at 6 words → count ≤ 256
   count_few count e = omega (arith, few h.taped, taped_functions h.taped)
 
-  module _ (list list₁ : List ℕ) (r : Ordered) (got : Listed words tags n list r list₁) where
-    taken : r ≡ All → {m : Module} → Taped words tags n m → length (take (length m.functions) list₁) ≡ length m.functions
-    unfolding shown order_of
-    taken e {m} t = ordered_long (length m.functions) (calls m) (take (length m.functions) list₁) (sym (rw e at (got.is m t)))
+  module _ (list list₁ : List ℕ) (r : Result (Unit {0}) Refusal) (got : Listed words tags n list r list₁) where
+    taken : r ≡ Ok tt → {m : Module} → Taped words tags n m → length (take (length m.functions) list₁) ≡ length m.functions
+    unfolding order_of
+    taken e {m} t = ordered_long (length m.functions) (calls m) (take (length m.functions) list₁) (all_is (order_of m) _ (rw e at (got.is m t)))
 
-    pub list_long : r ≡ All → length list ≡ 256 → length list₁ ≡ 256
+    pub list_long : r ≡ Ok tt → length list ≡ 256 → length list₁ ≡ 256
     list_long e long =
         let t = h.taped in
         let k = length h.holds.functions in
@@ -61,40 +62,40 @@ module _ (words tags : List ℕ) (n : ℕ) (h : Tape words tags n) where
         let f = length-drop k list in
         omega (arith, few t)
 
-    pub listed-all : r ≡ All → (count : ℕ) → count ≡ count_at 6 words → (out₀ out : List ℕ) → out ≡ sets out₀ 0 (take count list₁) → (a : ℕ) → a ≡ packed 0 count → ListEnsures a out₀ out words tags n
-    unfolding shown order_ended answer_by order_after
+    pub listed-all : r ≡ Ok tt → (count : ℕ) → count ≡ count_at 6 words → (out₀ out : List ℕ) → out ≡ sets out₀ 0 (take count list₁) → (a : ℕ) → a ≡ packed 0 count → ListEnsures a out₀ out words tags n
+    unfolding order_ended answer_by order_after
     listed-all e count is out₀ out w a packs =
         record {
           answer = λ m t. packs ∙ ap (packed 0) (is ∙ taped_functions t ∙ sym (taken e t)) ∙ sym (ap (λ x. order_answer (order_ended x)) (listed e m t));
           left = λ m t. w ∙ ap (λ k. sets out₀ 0 (take k list₁)) (is ∙ taped_functions t) ∙ sym (ap (λ x. order_after (order_ended x) out₀) (listed e m t));
         }
       where
-        listed : r ≡ All → (m : Module) → Taped words tags n m → order_of m ≡ ordered (take (length m.functions) list₁)
-        listed q m t = sym (rw q at (got.is m t))
+        listed : r ≡ Ok tt → (m : Module) → Taped words tags n m → order_of m ≡ ordered (take (length m.functions) list₁)
+        listed q m t = all_is (order_of m) _ (rw q at (got.is m t))
 
-    pub listed_ring : (left : ℕ) → r ≡ Ring left → (out : List ℕ) → (a : ℕ) → a ≡ packed 12 left → ListEnsures a out out words tags n
-    unfolding shown order_ended answer_by order_after
-    listed_ring left e out a packs =
+    pub listed_ring : (e : Refusal) → r ≡ Err e → (out : List ℕ) → (a : ℕ) → a ≡ packed (refusal_number e) (count_of e) → ListEnsures a out out words tags n
+    unfolding order_ended answer_by order_after
+    listed_ring e is out a packs =
         record {
-          answer = λ m t. packs ∙ sym (ap (λ x. order_answer (order_ended x)) (rings m t));
-          left = λ m t. sym (ap (λ x. order_after (order_ended x) out) (rings m t));
+          answer = λ m t. let r = rings m t in packs ∙ ap (λ x. packed (refusal_number x) (count_of x)) r.1 ∙ sym (ap (λ x. order_answer (order_ended x)) r.2);
+          left = λ m t. let r = rings m t in sym (ap (λ x. order_after (order_ended x) out) r.2);
         }
       where
-        rings : (m : Module) → Taped words tags n m → order_of m ≡ ring left
-        rings m t = sym (rw e at (got.is m t))
+        rings : (m : Module) → Taped words tags n m → (left : ℕ) × (e ≡ Refusal.Ring left) × (order_of m ≡ ring left)
+        rings m t = ring_is (order_of m) e _ (rw is at (got.is m t))
 
 -- ---- order
-module _ (image words tags : List ℕ) (t : Taken) (got : TakeInEnsures t words tags image) where
-  pub intake_refuses : NotFirst t → (k : ℕ) → k ≡ number_of t → (out : List ℕ) → OrderEnsures k out out image
+module _ (image words tags : List ℕ) where
+  pub intake_refuses : (e : Refusal) → TakeInEnsures (Err e) words tags image → (k : ℕ) → k ≡ number_of (Err e) → (out : List ℕ) → OrderEnsures k out out image
   unfolding wuldgisp_order order_image on_image answer_by order_after
-  intake_refuses h k e out =
-      let x = refused_by t h in
+  intake_refuses e got k h out =
+      let x = refused_by e in
       let i : order_image image ≡ refused (suc x.0) = on_refused (λ m. order_ended (order_of m)) refused (length image) (words_of image) x.0 (sym got.same ∙ x.1) in
-      record { answer = e ∙ x.1 ∙ sym (ap order_answer i); left = sym (ap (λ y. order_after y out) i) }
+      record { answer = h ∙ x.1 ∙ sym (ap order_answer i); left = sym (ap (λ y. order_after y out) i) }
 
-  module _ (n : ℕ) (e : t ≡ Accepted n) where
+  module _ (n : ℕ) (got : TakeInEnsures (Ok n) words tags image) where
     held : Accepts image words tags n
-    held = got.held n e
+    held = got.held n refl
 
     pub list_asks : Tape words tags n × Known words tags n
     list_asks =
@@ -105,5 +106,5 @@ module _ (image words tags : List ℕ) (t : Taken) (got : TakeInEnsures t words 
     unfolding wuldgisp_order order_image on_image
     list_tells r out₀ out l =
         let m = held.holds in
-        let i : order_image image ≡ order_ended (order_of m) = on_module (λ m. order_ended (order_of m)) refused (length image) (words_of image) m (sym got.same ∙ ap number_of e) held.reads in
+        let i : order_image image ≡ order_ended (order_of m) = on_module (λ m. order_ended (order_of m)) refused (length image) (words_of image) m (sym got.same) held.reads in
         record { answer = l.answer m held.taped ∙ sym (ap order_answer i); left = l.left m held.taped ∙ sym (ap (λ y. order_after y out₀) i) }

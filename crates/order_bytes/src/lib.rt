@@ -8,10 +8,8 @@ ghost use Rattle.order_callees.specs.Gathering.{Known};
 ghost use Rattle.model.specs.Image.{OrderEnsures};
 ghost use Rattle.order_bytes.specs.Listing.{ListEnsures};
 
-use base_refusals::{RING, pack};
+use base_refusals::pack;
 use base_words::{Tags, Words};
-use intake::Taken;
-use order_ranks::Ordered;
 
 // The first `count` numbers go to the start of `out`, as far as there is room.
 fn copy(order: &[u32; 256], count: usize, out: &mut [u32])
@@ -40,12 +38,12 @@ fn list(words: &Words, tags: &Tags, n: usize, out: &mut [u32]) -> u64
     let mut order = [0u32; 256];
     let answer = order_callees::order_of(words, tags, n, &mut order);
     match answer {
-        Ordered::All => {
+        Ok(()) => {
             let count = base_views::count(words, base_views::FUNCTIONS);
             copy(&order, count, out);
             pack(0, count as u32)
         }
-        Ordered::Ring(left) => pack(RING, left),
+        Err(refusal) => pack(refusal.number(), refusal.count()),
     }
 }
 
@@ -55,9 +53,8 @@ pub fn order(image: &[u8], out: &mut [u32]) -> u64
 {
     let mut words = intake::fresh_words();
     let mut tags = intake::fresh_tags();
-    let taken = intake::take_in(image, &mut words, &mut tags);
-    if let Taken::Accepted(n) = taken {
-        return list(&words, &tags, n, out);
+    match intake::take_in(image, &mut words, &mut tags) {
+        Ok(n) => list(&words, &tags, n, out),
+        Err(refusal) => refusal.number() as u64,
     }
-    intake::number(taken) as u64
 }

@@ -13,6 +13,7 @@ use Rattle.model.specs.Table.{CALLEE}
 use Rattle.model.specs.Carry.{Each, each_next}
 use Rattle.model.specs.Calls.{any}
 use Rattle.order_ranks.specs.Marks.{marked, SetCall}
+use Rattle.order_ranks.specs.declared.FunctionSet.{FunctionSet}
 use Rattle.theory_order.specs.Cells.{picks}
 use Rattle.order_callees.specs.Gathering.{picked, Markable, Marks}
 
@@ -36,7 +37,7 @@ pub picked-end : (words tags : List ℕ) (end : ℕ) → picked words tags end e
 unfolding picked picks
 picked-end words tags end = rw (slice_empty end tags)
 
-pub record Scanning (words tags : List ℕ) (at end i : ℕ) (before : List ℕ) (j : ℕ) (callees : List ℕ) : Type 0 where
+pub record Scanning (words tags : List ℕ) (at end i : ℕ) (before : List FunctionSet) (j : ℕ) (callees : List FunctionSet) : Type 0 where
   pub high : j ≤ end
   pub long : length callees ≡ length before
   pub known : Each (λ x. x < 256) (picked words tags j end)
@@ -55,11 +56,11 @@ later true true true m = refl
 later true true false m = refl
 later true false r m = refl
 
-module _ {words tags : List ℕ} {at end i : ℕ} {before : List ℕ} (p : Markable words tags at end i before) where
+module _ {words tags : List ℕ} {at end i : ℕ} {before : List FunctionSet} (p : Markable words tags at end i before) where
   pub begin : Scanning words tags at end i before at before
   begin = record { high = p.rising; long = refl; known = p.known; is = λ k l h. refl }
 
-  module _ {j : ℕ} {callees : List ℕ} (s : Scanning words tags at end i before j callees) where
+  module _ {j : ℕ} {callees : List FunctionSet} (s : Scanning words tags at end i before j callees) where
     pub finish : end ≤ j → Marks before i (picked words tags at end) callees
     unfolding any
     finish h =
@@ -81,7 +82,7 @@ module _ {words tags : List ℕ} {at end i : ℕ} {before : List ℕ} (p : Marka
       pub may : get_or tags j 0 ≡ CALLEE → {w : ℕ} → w ≡ get_or words j 0 → w < 256
       may e f = rw f (head_known (rw (picked-one words tags j end h a b e) at s.known))
 
-      pub again : get_or tags j 0 ≡ CALLEE → {w : ℕ} {after : List ℕ} → w ≡ get_or words j 0 → SetCall callees i w after → Scanning words tags at end i before (j + 1) after
+      pub again : get_or tags j 0 ≡ CALLEE → {w : ℕ} {after : List FunctionSet} → w ≡ get_or words j 0 → SetCall callees i w after → Scanning words tags at end i before (j + 1) after
       unfolding any
       again e {w} {after} f m =
           let q = picked-one words tags j end h a b e in

@@ -17,8 +17,11 @@ use Rattle.model.specs.Carry.{Each, each_none, each_next}
 use Rattle.model.specs.Calls.{any}
 use Rattle.model.specs.Callees.{callees, callees_at, calls, order_of}
 use Rattle.order_ranks.specs.Marks.{marked, NoCalls}
+use Rattle.order_ranks.specs.declared.FunctionSet.{FunctionSet}
 use Rattle.order_ranks.specs.Placing.{Orders}
-use Rattle.order_ranks.specs.declared.Ordered.{Ordered}
+use Rattle.base_refusals.specs.declared.Refusal.{Refusal}
+use Rattle.std.specs.Prelude.{Result}
+use Rattle.model.specs.Image.{order_ended}
 use Rattle.theory_image.specs.Views.{view_length, view_within}
 use Rattle.theory_image.specs.FunctionViews.{part_words, part_tags, taped_write, taped_length, taped_offset, taped_functions, taped_function, table_least}
 use Rattle.theory_image.specs.Members.{looked_each}
@@ -28,7 +31,7 @@ use Rattle.order_callees.proofs.Marking.{among}
 use Rattle.theory_order.specs.Same.{order_ext}
 
 -- ---- one function
-pub asks : {words tags callees : List ℕ} {i from to : ℕ} → Framed words tags → i < count_at 6 words → length callees ≡ 1024 → from ≡ record_at 6 i words → to ≡ record_end 6 i words → Markable words tags from to i callees
+pub asks : {words tags : List ℕ} {callees : List FunctionSet} {i from to : ℕ} → Framed words tags → i < count_at 6 words → length callees ≡ 256 → from ≡ record_at 6 i words → to ≡ record_end 6 i words → Markable words tags from to i callees
 unfolding called_by
 asks {i} f h l a b =
     rw (a, b) (record {
@@ -41,17 +44,17 @@ asks {i} f h l a b =
       known = (f.each i h).known;
     })
 
-pub calls-these : (words tags : List ℕ) {before after : List ℕ} {i from to : ℕ} → from ≡ record_at 6 i words → to ≡ record_end 6 i words → Marks before i (picked words tags from to) after → Marks before i (called_by words tags i) after
+pub calls-these : (words tags : List ℕ) {before after : List FunctionSet} {i from to : ℕ} → from ≡ record_at 6 i words → to ≡ record_end 6 i words → Marks before i (picked words tags from to) after → Marks before i (called_by words tags i) after
 unfolding called_by
 calls-these words tags a b m = rw (a, b) at m
 
 -- ---- all of them, one after the other
-pub record Going (words tags : List ℕ) (i : ℕ) (callees : List ℕ) : Type 0 where
+pub record Going (words tags : List ℕ) (i : ℕ) (callees : List FunctionSet) : Type 0 where
   pub high : i ≤ count_at 6 words
-  pub long : length callees ≡ 1024
+  pub long : length callees ≡ 256
   pub is : (k l : ℕ) → l < 256 → marked callees k l ≡ cond (ltb k i) (among (called_by words tags k) l) false
 
-pub begin : (words tags : List ℕ) {callees : List ℕ} → NoCalls callees → Going words tags 0 callees
+pub begin : (words tags : List ℕ) {callees : List FunctionSet} → NoCalls callees → Going words tags 0 callees
 begin words tags c = record { high = omega arith; long = c.long; is = λ k l h. c.is k l ∙ rw (le-ltb k 0 (omega arith)) }
 
 -- function k, once i is marked: those before i, i, and those after it
@@ -71,7 +74,7 @@ one_more k i x y s = go (ltb k i) refl (eqb k i) refl
         apart : i ≤ k → (k ≡ i → ⊥) → i + 1 ≤ k
         apart h n = omega (arith, n)
 
-pub again : {words tags callees after : List ℕ} {i : ℕ} → Going words tags i callees → i < count_at 6 words → Marks callees i (called_by words tags i) after → Going words tags (i + 1) after
+pub again : {words tags : List ℕ} {callees after : List FunctionSet} {i : ℕ} → Going words tags i callees → i < count_at 6 words → Marks callees i (called_by words tags i) after → Going words tags (i + 1) after
 again {words} {tags} {callees} {after} {i} g h m =
     record {
       high = omega arith;
@@ -132,16 +135,16 @@ module _ {words tags : List ℕ} {n : ℕ} {m : Module} (t : Taped words tags n 
 pub framed : {words tags : List ℕ} {n : ℕ} → Tape words tags n → Known words tags n → Framed words tags
 framed t k = frame t.taped k
 
-pub finish : {words tags callees : List ℕ} {i : ℕ} (n : ℕ) → Going words tags i callees → count_at 6 words ≤ i → Gathered words tags n callees
+pub finish : {words tags : List ℕ} {callees : List FunctionSet} {i : ℕ} (n : ℕ) → Going words tags i callees → count_at 6 words ≤ i → Gathered words tags n callees
 finish {words} {tags} {callees} {i} n g h =
     let e : i ≡ count_at 6 words = omega (arith, g.high) in
     record { long = g.long; is = λ m t k l b. g.is k l b ∙ ap (λ x. cond (ltb k x) (among (called_by words tags k) l) false) e ∙ calls_is t k l }
 
 -- ---- the order
-pub lists : {words tags callees out out' : List ℕ} {n c : ℕ} {r : Ordered} → c ≡ count_at 6 words → Gathered words tags n callees → Orders (marked callees) c out r out' → Listed words tags n out r out'
+pub lists : {words tags : List ℕ} {callees : List FunctionSet} {out out' : List ℕ} {n c : ℕ} {r : Result (Unit {0}) Refusal} → c ≡ count_at 6 words → Gathered words tags n callees → Orders (marked callees) c out r out' → Listed words tags n out r out'
 unfolding order_of
 lists {words} {tags} {callees} {out} {out'} {n} {c} {r} e g o =
     record {
-      is = λ m t. let q = e ∙ taped_functions t in rw (← q) (o.is ∙ order_ext c (marked callees) (calls m) (λ i j h k. g.is m t i j (omega (arith, few t))));
+      is = λ m t. let q = e ∙ taped_functions t in rw (← q) (o.is ∙ ap order_ended (order_ext c (marked callees) (calls m) (λ i j h k. g.is m t i j (omega (arith, few t)))));
       rest = λ m t. let q = e ∙ taped_functions t in rw (← q) o.rest;
     }

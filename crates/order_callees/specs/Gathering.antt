@@ -1,5 +1,5 @@
 -- The callees of functions as they are in words and tags: the words of the class CALLEE between two places, and what marking them does.
-use Rattle.std.specs.Prelude.{◌≡◌, true, cond, ◌&&◌, List, ℕ, ◌+◌, ◌≤◌, ◌<◌, eqb, length, take, drop}
+use Rattle.std.specs.Prelude.{◌≡◌, true, cond, ◌&&◌, List, ℕ, ◌+◌, ◌≤◌, ◌<◌, eqb, length, take, drop, Result}
 use Rattle.std.proofs.Math.Seq.{slice}
 use Rattle.model.specs.Module.{Module, count_at, offset_at}
 use Rattle.model.specs.View.{record_at, record_end}
@@ -7,10 +7,12 @@ use Rattle.model.specs.Taped.{Taped}
 use Rattle.model.specs.Carry.{Each}
 use Rattle.model.specs.Calls.{any}
 use Rattle.model.specs.Callees.{calls, order_of, CalleesKnown}
+use Rattle.model.specs.Image.{order_ended}
 use Rattle.theory_order.specs.Cells.{picks}
 use Rattle.order_ranks.specs.Marks.{marked}
+use Rattle.order_ranks.specs.declared.FunctionSet.{FunctionSet}
 use Rattle.order_ranks.specs.Placing.{shown}
-use Rattle.order_ranks.specs.declared.Ordered.{Ordered}
+use Rattle.base_refusals.specs.declared.Refusal.{Refusal}
 
 -- ---- callees in words and tags
 -- the words of the class CALLEE from one place to another
@@ -23,13 +25,13 @@ called_by words tags i = picked words tags (record_at 6 i words) (record_end 6 i
 
 -- ---- what the passes are given
 -- words and tags are arrays, and these callees can be marked
-pub record Markable (words tags : List ℕ) (at end i : ℕ) (callees : List ℕ) : Type 0 where
+pub record Markable (words tags : List ℕ) (at end i : ℕ) (callees : List FunctionSet) : Type 0 where
   pub words_long : length words ≡ 16384
   pub tags_long : length tags ≡ 16384
   pub rising : at ≤ end
   pub within : end ≤ 16384
   pub row : i < 256
-  pub long : length callees ≡ 1024
+  pub long : length callees ≡ 256
   pub known : Each (λ j. j < 256) (picked words tags at end)
 
 -- the record of table function i lies in the words, and its callees are functions
@@ -52,16 +54,16 @@ Known words tags n = (m : Module) → Taped words tags n m → CalleesKnown m
 
 -- ---- what the passes do
 -- function i calls these too, and all else stays
-pub record Marks (before : List ℕ) (i : ℕ) (js after : List ℕ) : Type 0 where
+pub record Marks (before : List FunctionSet) (i : ℕ) (js : List ℕ) (after : List FunctionSet) : Type 0 where
   pub long : length after ≡ length before
   pub is : (k l : ℕ) → l < 256 → marked after k l ≡ cond (eqb k i && any js (λ j. eqb l j)) true (marked before k l)
 
 -- every function calls what it calls in the module that words and tags hold, and nothing else
-pub record Gathered (words tags : List ℕ) (n : ℕ) (callees : List ℕ) : Type 0 where
-  pub long : length callees ≡ 1024
+pub record Gathered (words tags : List ℕ) (n : ℕ) (callees : List FunctionSet) : Type 0 where
+  pub long : length callees ≡ 256
   pub is : (m : Module) → Taped words tags n m → (i j : ℕ) → j < 256 → marked callees i j ≡ calls m i j
 
 -- the answer, and as many of the first words of `out` as there are functions, are the module's order; the words after them stay
-pub record Listed (words tags : List ℕ) (n : ℕ) (out : List ℕ) (answer : Ordered) (out' : List ℕ) : Type 0 where
-  pub is : (m : Module) → Taped words tags n m → shown answer (take (length m.functions) out') ≡ order_of m
+pub record Listed (words tags : List ℕ) (n : ℕ) (out : List ℕ) (answer : Result (Unit {0}) Refusal) (out' : List ℕ) : Type 0 where
+  pub is : (m : Module) → Taped words tags n m → shown answer (take (length m.functions) out') ≡ order_ended (order_of m)
   pub rest : (m : Module) → Taped words tags n m → drop (length m.functions) out' ≡ drop (length m.functions) out

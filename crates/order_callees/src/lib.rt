@@ -9,9 +9,10 @@ ghost use Rattle.order_ranks.specs.Marks.{NoCalls};
 ghost use Rattle.order_callees.specs.Gathering.{picked, called_by, Markable, Framed, Known, Marks, Gathered, Listed};
 
 use base_classes::CALLEE;
+use base_refusals::Refusal;
 use base_views::{FUNCTIONS, count, end_of, start_of};
-use base_words::{Tags, Words, wide};
-use order_ranks::Ordered;
+use base_words::{Tags, Words};
+use order_ranks::FunctionSet;
 
 // Function i calls what the words from `at` to `end` call.
 fn mark_callees(
@@ -20,26 +21,23 @@ fn mark_callees(
     at: usize,
     end: usize,
     i: usize,
-    callees: &mut [u64; 1024],
+    callees: &mut [FunctionSet; 256],
 )
     requires { Markable words.now tags.now at end i callees.old }
     ensures { Marks callees.old i (picked words.now tags.now at end) callees.new }
 {
-    let mut j = at;
-    while j < end {
-        let k = j;
-        j += 1;
+    for k in at..end {
         let calls = tags[k] == CALLEE;
         if calls {
-            order_ranks::mark(callees, i, wide(words[k]));
+            callees[i].join(words[k] as usize);
         }
     }
 }
 
 // Function i calls what its record calls.
-fn function(words: &Words, tags: &Tags, i: usize, callees: &mut [u64; 1024])
+fn function(words: &Words, tags: &Tags, i: usize, callees: &mut [FunctionSet; 256])
     requires framed { Framed words.now tags.now }
-    requires i_bound { (i < count_at 6 words.now) × (length callees.old ≡ 1024) }
+    requires i_bound { i < count_at 6 words.now }
     ensures { Marks callees.old i (called_by words.now tags.now i) callees.new }
 {
     let from = start_of(words, FUNCTIONS, i);
@@ -48,23 +46,19 @@ fn function(words: &Words, tags: &Tags, i: usize, callees: &mut [u64; 1024])
 }
 
 // What every table function calls.
-pub fn gather_requirements(words: &Words, tags: &Tags, n: usize, callees: &mut [u64; 1024])
+pub fn gather_requirements(words: &Words, tags: &Tags, n: usize, callees: &mut [FunctionSet; 256])
     requires tape { Tape words.now tags.now n }
     requires known { Known words.now tags.now n }
     requires no_calls { NoCalls callees.old }
     ensures { Gathered words.now tags.now n callees.new }
 {
-    let count = count(words, FUNCTIONS);
-    let mut i = 0;
-    while i < count {
-        let f = i;
-        i += 1;
+    for f in 0..count(words, FUNCTIONS) {
         function(words, tags, f, callees);
     }
 }
 
-// The order of the module's functions, as their source numbers, goes to the start of `out`.
-pub fn order_of(words: &Words, tags: &Tags, n: usize, out: &mut [u32; 256]) -> Ordered
+// The order of the module's functions, as their source numbers, goes to the start of `out`; or a ring is refused.
+pub fn order_of(words: &Words, tags: &Tags, n: usize, out: &mut [u32; 256]) -> Result<(), Refusal>
     requires tape { Tape words.now tags.now n }
     requires known { Known words.now tags.now n }
     requires out_len { length out.old ≡ 256 }

@@ -143,6 +143,9 @@ pub ones_few : (x : ℕ) → length (ones_of x) ≤ 64
 unfolding ones_of
 ones_few x = omega (arith, length-parts (bit x) (numbers 64 0), length-numbers 64 0)
 
+pub ones_small : (x : ℕ) → x < 2 ^ 64 → ones x ≤ 64
+ones_small x h = omega (arith, ones_are x h, ones_few x)
+
 -- two words have a bit in common if their `&` is not 0
 pub meet_is : (x y : ℕ) → x < 2 ^ 64 → not (eqb (bit_and x y) 0) ≡ meets x y
 unfolding meets

@@ -6,6 +6,7 @@ use native.Mathlib.Omega.{arith}
 use lib.ListN.{length}
 use Rattle.theory_lists.specs.Lists.{length_none}
 use Rattle.model.specs.Calls.{numbers, free, held, Rounds}
+use Rattle.order_ranks.specs.declared.FunctionSet.{FunctionSet}
 use Rattle.order_ranks.specs.Marks.{holds, members, marked, Below}
 use Rattle.order_ranks.specs.Placing.{Placeable, Placed, Leaves}
 use Rattle.theory_order.specs.Lists.{length-numbers, length-parts}
@@ -15,7 +16,7 @@ pub members_few : (l : List ℕ) → length (members l) ≤ 256
 unfolding members
 members_few l = omega (arith, length-parts (holds l) (numbers 256 0), length-numbers 256 0)
 
-module _ (cs : List ℕ) (n : ℕ) (began : List ℕ) where
+module _ (cs : List FunctionSet) (n : ℕ) (began : List ℕ) where
   pub record Leaving (waiting : List ℕ) : Type 0 where
     pub long : length waiting ≡ 4
     pub low : Below n waiting

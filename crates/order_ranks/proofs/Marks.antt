@@ -1,8 +1,8 @@
 -- Sets of marks: what a word with one more bit does to its set, what a meeting of two words says of two sets, and the count of a set.
-use mathlib.Core.Path.{◌≡◌, sym, ap, ap₂, ◌∙◌}
+use mathlib.Core.Path.{◌≡◌, refl, sym, ap, ◌∙◌}
 use mathlib.Core.Bool.{Bool, true, false, cond, ◌&&◌}
 use mathlib.Core.Logic.{◌⊎◌, inl, inr, ⊎_elim}
-use mathlib.Core.List.{List, ◌++◌, append-nil}
+use mathlib.Core.List.{List, [], ◌++◌, append-nil}
 use Prim.Native.Nat.{ℕ, zero, suc, ◌+◌, ◌-◌, ◌*◌, ◌/◌, ◌%◌, ◌≤◌, ◌<◌}
 use native.Mathlib.Nat.{mod-lt, div-add-mod', zero-lt-suc, zero-add, suc-add, div-lt_iff_lt-mul}
 use native.Mathlib.Omega.{arith}
@@ -14,6 +14,7 @@ use borrow.Author.Tests.{eqb-true, eqb-false, eq-eqb, lt-ltb, le-ltb}
 use Rattle.theory_lists.specs.Lists.{zeros}
 use Rattle.theory_lists.specs.Booleans.{and-true, and_first, and_second, bool_same, never, either}
 use Rattle.model.specs.Calls.{In, numbers, any, keep}
+use Rattle.order_ranks.specs.declared.FunctionSet.{FunctionSet}
 use Rattle.order_ranks.specs.Marks.{bit, ones_of, meets, holds, members, marked, PutBit, PutMark, SetCall, NoCalls, Firsts, Below}
 use Rattle.theory_order.specs.Lists.{numbers_in, in_numbers, numbers-append, keep_in, in_keep, keep_append, keep-none, keep_all_lem, keep_ext, any_in, in_any, any_off, not_any, length_shift}
 use Rattle.order_ranks.proofs.Bits.{bit-none}
@@ -68,45 +69,29 @@ mark-put x l k y long h s j hj =
 pub puts : (x : Bool) (l : List ℕ) (k y : ℕ) → length l ≡ 4 → k < 256 → PutBit x (get_or l (k / 64) 0) (k % 64) y → PutMark x l k (set l (k / 64) y)
 puts x l k y long h s = record { long = length-set l (k / 64) y; is = mark-put x l k y long h s }
 
-call_joins : (l : List ℕ) (i j y : ℕ) → length l ≡ 1024 → i < 256 → j < 256 → PutBit true (get_or l (4 * i + j / 64) 0) (j % 64) y
-    → (k m : ℕ) → m < 256 → marked (set l (4 * i + j / 64) y) k m ≡ cond (eqb k i && eqb m j) true (marked l k m)
+-- function i calls one function more
+pub calls_too : (cs : List FunctionSet) (i j : ℕ) (s : FunctionSet) → i < length cs → PutMark true (get_or cs i (record { 0 = [] })).0 j s.0 → SetCall cs i j (set cs i s)
 unfolding marked
-call_joins l i j y long hi hj s k m hm =
-    let wj = low_word j hj in
-    let wm = low_word m hm in
-    let dj = div-add-mod' j 64 in
-    let dm = div-add-mod' m 64 in
-    let hw : 4 * i + j / 64 < length l = omega arith in
-    let test : (eqb (4 * k + m / 64) (4 * i + j / 64) && eqb (m % 64) (j % 64)) ≡ (eqb k i && eqb m j) =
-    bool_same _ _
-    (λ t.
-    let p : 4 * k + m / 64 ≡ 4 * i + j / 64 = eqb-true _ _ (and_first _ (eqb (m % 64) (j % 64)) t) in
-    let q : m % 64 ≡ j % 64 = eqb-true _ _ (and_second (eqb (4 * k + m / 64) (4 * i + j / 64)) _ t) in
-    and-true (eq-eqb k i (omega arith)) (eq-eqb m j (omega arith)))
-    (λ t.
-    let p : k ≡ i = eqb-true k i (and_first _ (eqb m j) t) in
-    let q : m ≡ j = eqb-true m j (and_second (eqb k i) _ t) in
-    and-true (eq-eqb _ _ (ap₂ (λ (x y : ℕ). 4 * x + y / 64) p q)) (eq-eqb _ _ (ap (λ (x : ℕ). x % 64) q)))
-    in
-    one-put true l (4 * i + j / 64) (j % 64) y (4 * k + m / 64) (m % 64) hw s (low_bit m)
-    ∙ ap (λ (b : Bool). cond b true (bit (get_or l (4 * k + m / 64) 0) (m % 64))) test
-
-pub calls_too : (l : List ℕ) (i j y : ℕ) → length l ≡ 1024 → i < 256 → j < 256 → PutBit true (get_or l (4 * i + j / 64) 0) (j % 64) y
-    → SetCall l i j (set l (4 * i + j / 64) y)
-calls_too l i j y long hi hj s = record { long = length-set l (4 * i + j / 64) y; is = call_joins l i j y long hi hj s }
+calls_too cs i j s h p = record { long = length-set cs i s; is = λ k l b. go k l b (either (eqb k i)) }
+  where
+    go : (k l : ℕ) → l < 256 → (eqb k i ≡ true) ⊎ (eqb k i ≡ false) → marked (set cs i s) k l ≡ cond (eqb k i && eqb l j) true (marked cs k l)
+    go k l b (inl t) = rw (t, eqb-true k i t, get_or-set_same cs i s (record { 0 = [] }) h) (p.is l b)
+    go k l b (inr f) = rw (f, get_or-set_other cs i k s (record { 0 = [] }) (eqb-false k i f))
 
 -- ---- no marks
-
-zeros_unmarked : (k i j : ℕ) → marked (replicate k 0) i j ≡ false
-unfolding marked
-zeros_unmarked k i j = rw (zeros k (4 * i + j / 64)) (bit-none (j % 64))
-
-pub zeros_call_none : NoCalls (replicate 1024 0)
-zeros_call_none = record { long = length-replicate {A = ℕ} 1024 0; is = zeros_unmarked 1024 }
 
 pub zeros_hold_none : (k j : ℕ) → holds (replicate k 0) j ≡ false
 unfolding holds
 zeros_hold_none k j = rw (zeros k (j / 64)) (bit-none (j % 64))
+
+zeros_unmarked : (n i j : ℕ) → marked (replicate n (record { 0 = replicate 4 0 })) i j ≡ false
+unfolding marked holds
+zeros_unmarked zero i j = bit-none (j % 64)
+zeros_unmarked (suc n) zero j = zeros_hold_none 4 j
+zeros_unmarked (suc n) (suc i) j = zeros_unmarked n i j
+
+pub zeros_call_none : NoCalls (replicate 256 (record { 0 = replicate 4 0 }))
+zeros_call_none = record { long = length-replicate {A = FunctionSet} 256 (record { 0 = replicate 4 0 }); is = zeros_unmarked 256 }
 
 -- ---- the members
 
@@ -147,36 +132,41 @@ firsts-members l n h f =
 
 -- ---- two sets meet
 
-module _ (cs ws : List ℕ) (i : ℕ) where
-  -- word w of the callees meets word w of the waiting ones
-  pub meet_calls : (w : ℕ) → w < 4 → meets (get_or cs (4 * i + w) 0) (get_or ws w 0) ≡ true → any (members ws) (marked cs i) ≡ true
-  unfolding meets holds marked
+module _ (cs ws : List ℕ) where
+  -- word w of the one meets word w of the other
+  pub meet_calls : (w : ℕ) → w < 4 → meets (get_or cs w 0) (get_or ws w 0) ≡ true → any (members ws) (holds cs) ≡ true
+  unfolding meets holds
   meet_calls w h t =
-      let a : ℕ = get_or cs (4 * i + w) 0 in
+      let a : ℕ = get_or cs w 0 in
       let b : ℕ = get_or ws w 0 in
       let s = any_in (λ k. bit a k && bit b k) (numbers 64 0) t in
       let k : ℕ = s.0 in
       let r = numbers_in 64 0 s.1 in
       let l : k < 64 = omega arith in
-      in_any (marked cs i) {i = w * 64 + k}
+      in_any (holds cs) {i = w * 64 + k}
       (in_members ws (w * 64 + k) (omega arith) (rw (word_of_lem w k l, bit_of w k l) (and_second (bit a k) (bit b k) s.2)))
       (rw (word_of_lem w k l, bit_of w k l) (and_first (bit a k) (bit b k) s.2))
 
   -- no word does
-  pub apart-calls : ((w : ℕ) → w < 4 → meets (get_or cs (4 * i + w) 0) (get_or ws w 0) ≡ false) → any (members ws) (marked cs i) ≡ false
-  unfolding meets holds marked
+  pub apart-calls : ((w : ℕ) → w < 4 → meets (get_or cs w 0) (get_or ws w 0) ≡ false) → any (members ws) (holds cs) ≡ false
+  unfolding meets holds
   apart-calls apart =
-      not_any (marked cs i) (members ws) (λ k g.
+      not_any (holds cs) (members ws) (λ k g.
       let r = members_in ws k g in
       let w : ℕ = k / 64 in
-      let e : (bit (get_or cs (4 * i + w) 0) (k % 64) && bit (get_or ws w 0) (k % 64)) ≡ false =
-      any_off (λ m. bit (get_or cs (4 * i + w) 0) m && bit (get_or ws w 0) m) (numbers 64 0) (apart w (low_word k r.0))
+      let e : (bit (get_or cs w 0) (k % 64) && bit (get_or ws w 0) (k % 64)) ≡ false =
+      any_off (λ m. bit (get_or cs w 0) m && bit (get_or ws w 0) m) (numbers 64 0) (apart w (low_word k r.0))
       (k % 64) (in_numbers 64 0 (k % 64) (omega arith) (low_bit k))
       in
       ⊎_elim
-      (λ (t : marked cs i k ≡ true). absurd (never _ (and-true t r.1) e))
+      (λ (t : holds cs k ≡ true). absurd (never _ (and-true t r.1) e))
       (λ f. f)
-      (either (marked cs i k)))
+      (either (holds cs k)))
+
+-- whether function i calls one of a set
+pub calls_one_of : (cs : List FunctionSet) (i : ℕ) (ws : List ℕ) → any (members ws) (holds (get_or cs i (record { 0 = [] })).0) ≡ any (members ws) (marked cs i)
+unfolding marked
+calls_one_of cs i ws = refl
 
 -- ---- the count of a set
 

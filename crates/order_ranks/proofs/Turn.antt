@@ -14,13 +14,14 @@ use lib.Seq.{sets}
 use borrow.Author.Tests.{eqb-true, ltb-false, le-ltb}
 use Rattle.theory_lists.specs.Booleans.{either}
 use Rattle.model.specs.Calls.{numbers, any, keep, free, held}
+use Rattle.order_ranks.specs.declared.FunctionSet.{FunctionSet}
 use Rattle.order_ranks.specs.Marks.{holds, members, marked, PutMark, Below}
 use Rattle.order_ranks.specs.Placing.{Placed}
 use Rattle.theory_order.specs.Lists.{keep_yes, keep_no, keep_ext, keep-keep, numbers_in, length-parts}
 use Rattle.order_ranks.proofs.Marks.{members-below}
 use Rattle.order_ranks.proofs.Begun.{one_further}
 
-module _ (cs : List ℕ) (n : ℕ) (ws : List ℕ) where
+module _ (cs : List FunctionSet) (n : ℕ) (ws : List ℕ) where
   -- function i calls one that waits
   abbrev pub stays : ℕ → Bool
   stays i = any (members ws) (marked cs i)

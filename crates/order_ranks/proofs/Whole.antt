@@ -8,10 +8,14 @@ use lib.ListN.{length, drop, set}
 use lib.Seq.{sets, sets-eq, take_at, drop-set-lt}
 use Rattle.theory_lists.specs.Stores.{sets-append}
 use Rattle.theory_lists.specs.Lists.{length_none}
-use Rattle.model.specs.Calls.{numbers, free, held, Rounds, ordered, ring, answer, order}
+use Rattle.model.specs.Calls.{numbers, free, held, Rounds, ring, answer, order}
+use Rattle.model.specs.Refusals.{done}
+use Rattle.order_ranks.specs.declared.FunctionSet.{FunctionSet}
 use Rattle.order_ranks.specs.Marks.{members, marked, Firsts, Below}
 use Rattle.order_ranks.specs.Placing.{Placeable, Placed, Orders, shown}
-use Rattle.order_ranks.specs.declared.Ordered.TheVariants.{All, Ring}
+use Rattle.model.specs.Image.{order_ended}
+use Rattle.base_refusals.specs.declared.Refusal.TheVariants.{Ring}
+use Rattle.std.specs.Prelude.{Ok, Err}
 use Rattle.theory_order.specs.Lists.{length-numbers}
 use Rattle.order_ranks.proofs.Marks.{firsts-below, firsts-members}
 use Rattle.theory_order.specs.Rounds.{length-round, all, all-last, all_some, length-rounds}
@@ -30,7 +34,7 @@ unfolding answer
 answer_ring placed [] h = absurd (omega arith)
 answer_ring placed (i ∷ is) h = refl
 
-module _ (cs : List ℕ) (n : ℕ) (out₀ : List ℕ) where
+module _ (cs : List FunctionSet) (n : ℕ) (out₀ : List ℕ) where
   abbrev whole : Rounds
   whole = all (marked cs) (numbers n 0)
 
@@ -83,8 +87,8 @@ module _ (cs : List ℕ) (n : ℕ) (out₀ : List ℕ) where
         less ne = omega (arith, p.ends)
 
         -- the round placed none
-        pub stuck : next ≡ at → (k : ℕ) → k ≡ length (members waiting) → Orders (marked cs) n out₀ (Ring k) out'
-        unfolding shown
+        pub stuck : next ≡ at → (k : ℕ) → k ≡ length (members waiting) → Orders (marked cs) n out₀ (Err (Ring k)) out'
+        unfolding shown order_ended
         stuck e k is =
             let f : free (marked cs) (members waiting) ≡ [] = length_none _ (omega (arith, p.ends)) in
             let a = all-last (marked cs) (members waiting) f in
@@ -92,14 +96,15 @@ module _ (cs : List ℕ) (n : ℕ) (out₀ : List ℕ) where
             let o : out' ≡ sets out₀ 0 whole.placed = p.written ∙ rw f (sym (ap (λ (r : Rounds). sets out at r.placed) a) ∙ u.placed) in
             record {
               is =
-                  ap ring is ∙ sym (answer_ring whole.placed (members waiting) (omega (arith, u.many))) ∙ ap (λ (x : List ℕ). answer whole.placed x) (sym l)
-                  ∙ sym order_is;
+                  ap order_ended
+                  (ap ring is ∙ sym (answer_ring whole.placed (members waiting) (omega (arith, u.many))) ∙ ap (λ (x : List ℕ). answer whole.placed x) (sym l)
+                  ∙ sym order_is);
               rest = rw o (drop_long whole.placed out₀ 0 n (omega (arith, count_is)));
             }
 
       -- none waits
-      pub finish : n ≤ at → Orders (marked cs) n out₀ All out
-      unfolding shown answer
+      pub finish : n ≤ at → Orders (marked cs) n out₀ (Ok tt) out
+      unfolding shown answer order_ended
       finish h =
           let m : members waiting ≡ [] = length_none _ (omega (arith, u.many)) in
           let f : free (marked cs) (members waiting) ≡ [] = length_none _ (omega (arith, length-round (marked cs) (members waiting), u.many)) in
@@ -108,6 +113,6 @@ module _ (cs : List ℕ) (n : ℕ) (out₀ : List ℕ) where
           let o : out ≡ sets out₀ 0 whole.placed = sym (ap (λ (r : Rounds). sets out at r.placed) a) ∙ u.placed in
           let c : length whole.placed ≡ n = omega (arith, count_is, ap length l) in
           record {
-            is = rw (order_is, l, o, sets-eq whole.placed out₀ 0 (omega arith)) (ap ordered (take_at whole.placed _ n c));
+            is = rw (order_is, l, o, sets-eq whole.placed out₀ 0 (omega arith)) (ap done (take_at whole.placed _ n c));
             rest = rw o (drop_long whole.placed out₀ 0 n (omega arith));
           }

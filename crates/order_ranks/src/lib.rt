@@ -1,196 +1,151 @@
 // The order of output: every function after those that it calls, by rank and then by source number,
-// or the count of the functions from which a chain of calls reaches a ring. Callees and waiting
-// functions are sets of 256 marks, four 64-bit words each. Functions are placed in rounds, as
-// Redirector::into_module does: a round places those that call none that was waiting when it began.
+// or the refusal of a ring, with the count of the functions from which a chain of calls reaches it.
+// Callees and waiting functions are sets of 256 marks, four 64-bit words each. Functions are placed in
+// rounds, as Redirector::into_module does: a round places those that call none that was waiting when it began.
 #![tactic(auto)]
 
 ghost use Rattle.std.specs.Prelude.{◌≡◌, true, false, ◌≤◌, ◌<◌, length};
 ghost use Rattle.model.specs.Calls.{any};
-ghost use Rattle.order_ranks.specs.Marks.{bit, ones_of, meets, holds, marked, members, PutBit, PutMark, SetCall, NoCalls, Firsts, Below};
+ghost use Rattle.order_ranks.specs.Marks.{holds, marked, members, PutMark, NoCalls, Firsts, Below};
 ghost use Rattle.order_ranks.specs.Placing.{Placeable, Placed, Leaves, Orders};
 
-use base_handles::FunctionHandle;
+use base_refusals::Refusal;
 
-// All functions have their place; or this many are left waiting for a ring.
+// A set of functions, by their source numbers: mark k is bit k % 64 of word k / 64.
 #[derive(Clone, Copy)]
-pub enum Ordered {
-    All,
-    Ring(u32),
-}
+pub struct FunctionSet(pub [u64; 4]);
 
 // What a round leaves waiting, and where the output goes on.
 #[derive(Clone, Copy)]
 struct Round {
-    waiting: [u64; 4],
+    waiting: FunctionSet,
     at: usize,
 }
 
-// x with bit k set.
-fn set_bit(x: u64, k: usize) -> u64
-    requires { k < 64 }
-    ensures { PutBit true x k result }
-{
-    x | (1u64 << k)
-}
-
-// x without its bit k.
-fn clear_bit(x: u64, k: usize) -> u64
-    requires { (k < 64) × (bit x k ≡ true) }
-    ensures { PutBit false x k result }
-{
-    x ^ (1u64 << k)
-}
-
-// Whether mark k is in a set.
-pub fn has(set: &[u64; 4], k: usize) -> bool
-    requires { k < 256 }
-    ensures { result ≡ holds set.now k }
-{
-    (set[k / 64] >> (k % 64)) % 2 == 1
-}
-
-// Mark k joins a set.
-fn join(set: &mut [u64; 4], k: usize)
-    requires { (length set.old ≡ 4) × (k < 256) }
-    ensures { PutMark true set.old k set.new }
-{
-    let w = k / 64;
-    set[w] = set_bit(set[w], k % 64);
-}
-
-// Mark k leaves a set.
-pub fn leave(set: &mut [u64; 4], k: usize)
-    requires { (length set.old ≡ 4) × (k < 256) × (holds set.old k ≡ true) }
-    ensures { PutMark false set.old k set.new }
-{
-    let w = k / 64;
-    set[w] = clear_bit(set[w], k % 64);
-}
-
-// The set of the first n marks.
-pub fn first(n: usize) -> [u64; 4]
-    requires { n ≤ 256 }
-    ensures { Firsts n result }
-{
-    let mut set = [0u64; 4];
-    let mut i = 0;
-    while i < n {
-        join(&mut set, i);
-        i += 1;
+impl FunctionSet {
+    // The set of the first n functions.
+    pub fn first(n: usize) -> FunctionSet
+        requires { n ≤ 256 }
+        ensures { Firsts n result.0 }
+    {
+        let mut set = FunctionSet([0; 4]);
+        for k in 0..n {
+            set.join(k);
+        }
+        set
     }
-    set
-}
 
-// How many bits of x are set.
-fn ones(x: u64) -> u32
-    ensures { result ≡ length (ones_of x) }
-{
-    u64::count_ones(x)
-}
+    // Whether function k is in the set.
+    pub fn has(&self, k: usize) -> bool
+        requires { k < 256 }
+        ensures { result ≡ holds self.now.0 k }
+    {
+        (self.0[k / 64] >> (k % 64)) % 2 == 1
+    }
 
-// Whether two words have a bit in common.
-fn meet(x: u64, y: u64) -> bool
-    ensures { result ≡ meets x y }
-{
-    x & y != 0
-}
+    // Function k joins the set.
+    pub fn join(&mut self, k: usize)
+        requires { k < 256 }
+        ensures { PutMark true self.old.0 k self.new.0 }
+    {
+        self.0[k / 64] |= 1 << (k % 64);
+    }
 
-// How many marks a set has.
-fn count(set: &[u64; 4]) -> u32
-    ensures { result ≡ length (members set.now) }
-{
-    ones(set[0]) + ones(set[1]) + ones(set[2]) + ones(set[3])
+    // Function k leaves the set.
+    pub fn leave(&mut self, k: usize)
+        requires { (k < 256) × (holds self.old.0 k ≡ true) }
+        ensures { PutMark false self.old.0 k self.new.0 }
+    {
+        self.0[k / 64] ^= 1 << (k % 64);
+    }
+
+    // How many functions the set has.
+    pub fn count(&self) -> u32
+        ensures { result ≡ length (members self.now.0) }
+    {
+        // no chain: of the words that it goes over nothing says that they are below 2 ^ 64
+        self.0[0].count_ones()
+            + self.0[1].count_ones()
+            + self.0[2].count_ones()
+            + self.0[3].count_ones()
+    }
+
+    // Whether a function is in both sets.
+    pub fn meets(&self, other: &FunctionSet) -> bool
+        ensures { result ≡ any (members other.now.0) (holds self.now.0) }
+    {
+        // no chain: of the words that it goes over nothing says that they are below 2 ^ 64
+        for w in 0..4 {
+            if self.0[w] & other.0[w] != 0 {
+                return true;
+            }
+        }
+        false
+    }
 }
 
 // No function calls any.
-pub fn clear() -> [u64; 1024]
+pub fn clear() -> [FunctionSet; 256]
     ensures { NoCalls result }
 {
-    [0u64; 1024]
-}
-
-// Function i calls function j, besides what it called before.
-pub fn mark(callees: &mut [u64; 1024], i: usize, j: usize)
-    requires { (length callees.old ≡ 1024) × (i < 256) × (j < 256) }
-    ensures { SetCall callees.old i j callees.new }
-{
-    let w = 4 * i + j / 64;
-    callees[w] = set_bit(callees[w], j % 64);
-}
-
-// Whether a function calls one that waits.
-pub fn waits(callees: &[u64; 1024], f: FunctionHandle, waiting: &[u64; 4]) -> bool
-    requires { f.0 < 256 }
-    ensures { result ≡ any (members waiting.now) (marked callees.now f.0) }
-{
-    let at = 4 * (f.0 as usize);
-    let mut w = 0;
-    while w < 4 {
-        if meet(callees[at + w], waiting[w]) {
-            return true;
-        }
-        w += 1;
-    }
-    false
+    [FunctionSet([0; 4]); 256]
 }
 
 // A round: those that wait and call none that was waiting when the round began go to `out` from
 // `at` on, and wait no more. One whose last callee goes in this round waits for the next.
-fn place(callees: &[u64; 1024], n: usize, began: [u64; 4], out: &mut [u32; 256], at: usize) -> Round
-    requires { Placeable n began at }
-    ensures { Placed (marked callees.now) n (members began) out.old at result.waiting out.new result.at }
+fn place(
+    callees: &[FunctionSet; 256],
+    n: usize,
+    began: FunctionSet,
+    out: &mut [u32; 256],
+    at: usize,
+) -> Round
+    requires { Placeable n began.0 at }
+    ensures { Placed (marked callees.now) n (members began.0) out.old at result.waiting.0 out.new result.at }
 {
     let mut waiting = began;
     let mut k = at;
-    let mut i = 0;
-    while i < n {
-        let f = i;
-        i += 1;
-        if has(&began, f) {
-            if !waits(callees, FunctionHandle(f as u32), &began) {
-                leave(&mut waiting, f);
-                out[k] = f as u32;
-                k += 1;
-            }
+    for f in 0..n {
+        if began.has(f) && !callees[f].meets(&began) {
+            waiting.leave(f);
+            out[k] = f as u32;
+            k += 1;
         }
     }
     Round { waiting, at: k }
 }
 
 // Those of a set that no round places: from each of them calls lead, through the set, to a ring.
-pub fn left(callees: &[u64; 1024], n: usize, began: [u64; 4]) -> [u64; 4]
-    requires { (n ≤ 256) × (length began ≡ 4) × Below n began }
-    ensures { Leaves (marked callees.now) n (members began) result }
+pub fn left(callees: &[FunctionSet; 256], n: usize, began: FunctionSet) -> FunctionSet
+    requires { (n ≤ 256) × Below n began.0 }
+    ensures { Leaves (marked callees.now) n (members began.0) result.0 }
 {
-    let mut out = [0u32; 256];
+    let mut out = [0; 256];
     let mut waiting = began;
     loop {
         let round = place(callees, n, waiting, &mut out, 0);
-        let placed = round.at;
-        if placed == 0 {
+        if round.at == 0 {
             return waiting;
         }
-        let next = round.waiting;
-        waiting = next;
+        waiting = round.waiting;
     }
 }
 
-// The order of the n functions, as their source numbers, goes to the first n of `out`.
-pub fn order(callees: &[u64; 1024], n: usize, out: &mut [u32; 256]) -> Ordered
-    requires { (n ≤ 256) × (length out.old ≡ 256) }
+// The order of the n functions, as their source numbers, goes to the first n of `out`; or the refusal has the
+// count of those left waiting for a ring.
+pub fn order(callees: &[FunctionSet; 256], n: usize, out: &mut [u32; 256]) -> Result<(), Refusal>
+    requires { n ≤ 256 }
     ensures { Orders (marked callees.now) n out.old result out.new }
 {
-    let mut waiting = first(n);
+    let mut waiting = FunctionSet::first(n);
     let mut at = 0;
     while at < n {
         let round = place(callees, n, waiting, out, at);
-        let next = round.at;
-        if next == at {
-            return Ordered::Ring(count(&waiting));
+        if round.at == at {
+            return Err(Refusal::Ring(waiting.count()));
         }
-        let left = round.waiting;
-        waiting = left;
-        at = next;
+        waiting = round.waiting;
+        at = round.at;
     }
-    Ordered::All
+    Ok(())
 }

@@ -10,14 +10,14 @@ use lib.ListN.{length, get_or, take, replicate, length-replicate}
 use lib.Seq.{get_or-take, length-take-le}
 use borrow.Author.Tests.{eq-eqb, ltb-true, ltb-false}
 use Rattle.theory_lists.specs.Booleans.{either}
-use Rattle.model.specs.Refusals.{RING}
 use Rattle.model.specs.Module.{Module, count_at}
 use Rattle.model.specs.Taped.{Taped, Tape}
 use Rattle.model.specs.Calls.{In, here, later, times, numbers, rounds, answer, ordered, ring, order}
 use Rattle.model.specs.Callees.{calls, order_of}
-use Rattle.order_ranks.specs.Placing.{shown}
-use Rattle.order_ranks.specs.declared.Ordered.{Ordered}
-use Rattle.order_ranks.specs.declared.Ordered.TheVariants.{All, Ring}
+use Rattle.order_ranks.proofs.Answers.{all_is, ring_is}
+use Rattle.base_refusals.specs.Numbers.{number_of as refusal_number, count_of}
+use Rattle.base_refusals.specs.declared.Refusal.{Refusal}
+use Rattle.std.specs.Prelude.{Result, Ok, Err}
 use Rattle.theory_order.specs.Lists.{in_keep, length-numbers}
 use Rattle.theory_order.specs.Rounds.{length-rounds}
 use Rattle.theory_order.proofs.Theorems.{claims}
@@ -28,9 +28,10 @@ use Rattle.theory_image.specs.FunctionViews.{taped_functions}
 use Rattle.order_callees.specs.Gathering.{Listed}
 use Rattle.order_callees.proofs.Whole.{few}
 use Rattle.intake.specs.Taken.{number_of, Accepts, TakeInEnsures}
-use Rattle.intake.specs.declared.Taken.{Taken}
-use Rattle.intake.specs.declared.Taken.TheVariants.{Accepted, Size, Layout, Range, Reference, Names, Scope}
-use Rattle.intake.proofs.Refusals.{NotFirst, refused_by}
+use Rattle.std.specs.Prelude.{Ok, Err}
+use Rattle.base_refusals.specs.declared.Refusal.{Refusal}
+use Rattle.base_refusals.specs.declared.Refusal.TheVariants as refusal
+use Rattle.intake.proofs.Refusals.{refused_by}
 use Rattle.order_bytes.proofs.Images.{count_few, list_long}
 use Rattle.order_lines.specs.Lines.{name_of, line_text, lines_text, headed, FUNCTIONS, ordered_text, name_is, TextEnsures, Text}
 use Rattle.order_text.specs.Telling.{REFUSED, RINGS, refusing, telling, telling_of, Passed, TellEnsures, Tells}
@@ -80,9 +81,9 @@ lines_ext [] new f g h = refl
 lines_ext (s ∷ os) new f g h = ap₂ (λ x y. line_text new s x ++ y) (h 0 (omega arith)) (lines_ext os (suc new) f g λ k i. h (suc k) (omega arith))
 
 -- ---- the text of an order
-module _ {words tags : List ℕ} {n : ℕ} (p : Tape words tags n) (q : Passed words tags n) {order : List ℕ} (l : Listed words tags n (replicate 256 0) All order) {count : ℕ} (e : count ≡ count_at 6 words) where
+module _ {words tags : List ℕ} {n : ℕ} (p : Tape words tags n) (q : Passed words tags n) {order : List ℕ} (l : Listed words tags n (replicate 256 0) (Ok tt) order) {count : ℕ} (e : count ≡ count_at 6 words) where
   order_long : length order ≡ 256
-  order_long = list_long words tags n p (replicate 256 0) order All l refl (length-replicate {A = ℕ} 256 0)
+  order_long = list_long words tags n p (replicate 256 0) order (Ok tt) l refl (length-replicate {A = ℕ} 256 0)
 
   count_fits : count ≤ 256
   count_fits = count_few words tags n p count e
@@ -95,8 +96,7 @@ module _ {words tags : List ℕ} {n : ℕ} (p : Tape words tags n) (q : Passed w
     functions_are = e ∙ taped_functions t
 
     order_is : order_of m ≡ ordered (take count order)
-    unfolding shown
-    order_is = sym (l.is m t) ∙ ap (λ k. ordered (take k order)) (sym functions_are)
+    order_is = all_is (order_of m) _ (l.is m t) ∙ ap (λ k. ordered (take k order)) (sym functions_are)
 
     known : (k : ℕ) → k < length (take count order) → get_or (take count order) k 0 < length m.functions
     unfolding order_of
@@ -141,49 +141,61 @@ module _ {words tags : List ℕ} {n : ℕ} (p : Tape words tags n) (q : Passed w
       }
 
 -- ---- a ring
-module _ {words tags : List ℕ} {n : ℕ} {before order : List ℕ} {left : ℕ} (l : Listed words tags n before (Ring left) order) where
-  pub left_few : Tape words tags n → left < 1000
-  unfolding shown order_of
-  left_few p = omega (arith, ring_few (length p.holds.functions) (calls p.holds) left (sym (l.is p.holds p.taped)), few p.taped, taped_functions p.taped)
+module _ {words tags : List ℕ} {n : ℕ} {before order : List ℕ} {e : Refusal} (l : Listed words tags n before (Err e) order) where
+  pub left_few : Tape words tags n → count_of e < 1000
+  unfolding order_of
+  left_few p =
+      let r = ring_is (order_of p.holds) e _ (l.is p.holds p.taped) in
+      omega (arith, ap count_of r.1, ring_few (length p.holds.functions) (calls p.holds) r.0 r.2, few p.taped, taped_functions p.taped)
 
-  pub ring_tells : {out out' : List ℕ} {x r : ℕ} → x ≡ left → length out ≡ 65536 → TextEnsures out 0 (headed RINGS x) out' r → Tells words tags n out out' r RING left
-  unfolding telling shown
-  ring_tells {out} {out'} {x} {r} e h u =
-      let v : TextEnsures out 0 (headed RINGS left) out' r = rw e at u in
-      record { same = λ m t. rw (← l.is m t) (record { puts = v; within = omega (arith, v.ends, headed_long RINGS left, (decimal_long left).1, puts_long v); refusal_is = refl; left_is = refl }) }
+  pub ring_tells : {out out' : List ℕ} {x r : ℕ} → x ≡ count_of e → length out ≡ 65536 → TextEnsures out 0 (headed RINGS x) out' r → Tells words tags n out out' r (refusal_number e) (count_of e)
+  unfolding telling
+  ring_tells {out} {out'} {x} {r} f h u =
+      record {
+        same = λ m t.
+            let is = ring_is (order_of m) e _ (l.is m t) in
+            let v : TextEnsures out 0 (headed RINGS is.0) out' r = rw (f ∙ ap count_of is.1) at u in
+            rw is.2 (record { puts = v; within = omega (arith, v.ends, headed_long RINGS is.0, (decimal_long is.0).1, puts_long v); refusal_is = ap refusal_number is.1; left_is = ap count_of is.1 });
+      }
 
 -- the same, of an answer that is known to be one of them
-pub asks_all : {words tags : List ℕ} {n : ℕ} {order : List ℕ} {a : Ordered} → Tape words tags n → Passed words tags n → a ≡ All → Listed words tags n (replicate 256 0) a order → {count : ℕ} → count ≡ count_at 6 words → {out : List ℕ} → length out ≡ 65536 → Text words order count out
+pub asks_all : {words tags : List ℕ} {n : ℕ} {order : List ℕ} {a : Result (Unit {0}) Refusal} → Tape words tags n → Passed words tags n → a ≡ Ok tt → Listed words tags n (replicate 256 0) a order → {count : ℕ} → count ≡ count_at 6 words → {out : List ℕ} → length out ≡ 65536 → Text words order count out
 asks_all p q e l c h = text_asks p q (rw e at l) c h
 
-pub tells_all : {words tags : List ℕ} {n : ℕ} {order : List ℕ} {a : Ordered} → Tape words tags n → Passed words tags n → a ≡ All → Listed words tags n (replicate 256 0) a order → {count : ℕ} → count ≡ count_at 6 words
+pub tells_all : {words tags : List ℕ} {n : ℕ} {order : List ℕ} {a : Result (Unit {0}) Refusal} → Tape words tags n → Passed words tags n → a ≡ Ok tt → Listed words tags n (replicate 256 0) a order → {count : ℕ} → count ≡ count_at 6 words
     → {out out' : List ℕ} {r : ℕ} → length out ≡ 65536 → TextEnsures out 0 (ordered_text (take count order) (name_is words)) out' r → Tells words tags n out out' r 0 0
 tells_all p q e l c h u = text_tells p q (rw e at l) c h u
 
-pub few_ring : {words tags : List ℕ} {n : ℕ} {before order : List ℕ} {a : Ordered} {left : ℕ} → Tape words tags n → a ≡ Ring left → Listed words tags n before a order → left < 1000
+pub few_ring : {words tags : List ℕ} {n : ℕ} {before order : List ℕ} {a : Result (Unit {0}) Refusal} {refusal : Refusal} → Tape words tags n → a ≡ Err refusal → Listed words tags n before a order → count_of refusal < 1000
 few_ring p e l = left_few (rw e at l) p
 
-pub tells_ring : {words tags : List ℕ} {n : ℕ} {before order : List ℕ} {a : Ordered} {left : ℕ} → a ≡ Ring left → Listed words tags n before a order
-    → {out out' : List ℕ} {x r : ℕ} → x ≡ left → length out ≡ 65536 → TextEnsures out 0 (headed RINGS x) out' r → Tells words tags n out out' r RING left
+pub tells_ring : {words tags : List ℕ} {n : ℕ} {before order : List ℕ} {a : Result (Unit {0}) Refusal} {refusal : Refusal} → a ≡ Err refusal → Listed words tags n before a order
+    → {out out' : List ℕ} {x r : ℕ} → x ≡ count_of refusal → length out ≡ 65536 → TextEnsures out 0 (headed RINGS x) out' r → Tells words tags n out out' r (refusal_number refusal) (count_of refusal)
 tells_ring e l i h u = ring_tells (rw e at l) i h u
 
 -- ---- any bytes
-pub refused_few : (t : Taken) {k : ℕ} → k ≡ number_of t → k < 1000
-refused_few t e = omega (arith, small t)
-  where
-    small : (t : Taken) → number_of t < 1000
-    small (Accepted n) = omega arith
-    small Size = omega arith
-    small Layout = omega arith
-    small Range = omega arith
-    small Reference = omega arith
-    small Names = omega arith
-    small Scope = omega arith
+pub refused_few : (e : Refusal) → number_of (Err e) < 1000
+refused_few refusal.BadSize = omega arith
+refused_few refusal.BadLayout = omega arith
+refused_few refusal.BadRange = omega arith
+refused_few refusal.BadReference = omega arith
+refused_few refusal.BadNames = omega arith
+refused_few refusal.BadScope = omega arith
+refused_few refusal.ShortOutput = omega arith
+refused_few refusal.OriginalNotFound = omega arith
+refused_few refusal.ReplacementNotFound = omega arith
+refused_few refusal.ArgumentTypes = omega arith
+refused_few refusal.ResultTypes = omega arith
+refused_few (refusal.Ring left) = omega arith
+refused_few refusal.NumberGiven = omega arith
+refused_few refusal.NoSource = omega arith
+refused_few refusal.Full = omega arith
+refused_few refusal.UnknownRing = omega arith
 
-module _ {image words tags : List ℕ} {t : Taken} (got : TakeInEnsures t words tags image) where
-  module _ {n : ℕ} (e : t ≡ Accepted n) where
+module _ {image words tags : List ℕ} where
+  module _ {n : ℕ} (got : TakeInEnsures (Ok n) words tags image) where
     held : Accepts image words tags n
-    held = got.held n e
+    held = got.held n refl
 
     pub held_tape : Tape words tags n
     held_tape = record { holds = held.holds; taped = held.taped }
@@ -194,14 +206,14 @@ module _ {image words tags : List ℕ} {t : Taken} (got : TakeInEnsures t words 
     pub accepted_says : {out out' : List ℕ} {r k left : ℕ} → Tells words tags n out out' r k left → TellEnsures (telling_of image) out out' r k left
     unfolding telling_of on_image
     accepted_says {out} {out'} {r} {k} {left} l =
-        let i : telling_of image ≡ telling held.holds (order_of held.holds) = on_module (λ m. telling m (order_of m)) refusing (length image) (words_of image) held.holds (sym got.same ∙ ap number_of e) held.reads in
+        let i : telling_of image ≡ telling held.holds (order_of held.holds) = on_module (λ m. telling m (order_of m)) refusing (length image) (words_of image) held.holds (sym got.same) held.reads in
         subst (λ x. TellEnsures x out out' r k left) (sym i) (l.same held.holds held.taped)
 
-  pub refused_says : NotFirst t → {k : ℕ} → k ≡ number_of t → {out out' : List ℕ} {x r : ℕ} → x ≡ k → length out ≡ 65536 → TextEnsures out 0 (headed REFUSED x) out' r → TellEnsures (telling_of image) out out' r k 0
+  pub refused_says : {e : Refusal} → TakeInEnsures (Err e) words tags image → {k : ℕ} → k ≡ number_of (Err e) → {out out' : List ℕ} {x r : ℕ} → x ≡ k → length out ≡ 65536 → TextEnsures out 0 (headed REFUSED x) out' r → TellEnsures (telling_of image) out out' r k 0
   unfolding telling_of on_image refusing
-  refused_says h {k} e {out} {out'} {x} {r} f g u =
-      let y = refused_by t h in
-      let j : k ≡ suc y.0 = e ∙ y.1 in
+  refused_says {e} got {k} q {out} {out'} {x} {r} f g u =
+      let y = refused_by e in
+      let j : k ≡ suc y.0 = q ∙ y.1 in
       let i : telling_of image ≡ refusing (suc y.0) = on_refused (λ m. telling m (order_of m)) refusing (length image) (words_of image) y.0 (sym got.same ∙ y.1) in
       let v : TextEnsures out 0 (headed REFUSED (suc y.0)) out' r = rw (f ∙ j) at u in
       subst (λ z. TellEnsures z out out' r k 0) (sym i) (record { puts = v; within = omega (arith, v.ends, headed_long REFUSED (suc y.0), (decimal_long (suc y.0)).1, puts_long v); refusal_is = j; left_is = refl })

@@ -7,9 +7,7 @@ ghost use Rattle.model.specs.Taped.{Tape};
 ghost use Rattle.order_text.specs.Telling.{telling_of, Passed, TellEnsures, Tells};
 
 use base_words::{Tags, Words};
-use intake::Taken;
 use order_lines::{head, text};
-use order_ranks::Ordered;
 
 // How many bytes the text has, the number of the refusal or 0, and how many functions a ring leaves.
 #[derive(Clone, Copy)]
@@ -29,7 +27,7 @@ pub fn tell(words: &Words, tags: &Tags, n: usize, out: &mut [u8; 65536]) -> Said
     let mut order = [0u32; 256];
     let answer = order_callees::order_of(words, tags, n, &mut order);
     match answer {
-        Ordered::All => {
+        Ok(()) => {
             let functions = base_views::count(words, base_views::FUNCTIONS);
             Said {
                 count: text(words, &order, functions, out),
@@ -37,11 +35,15 @@ pub fn tell(words: &Words, tags: &Tags, n: usize, out: &mut [u8; 65536]) -> Said
                 left: 0,
             }
         }
-        Ordered::Ring(left) => Said {
-            count: head(b"refused 12 left ", base_words::wide(left), out),
-            refusal: base_refusals::RING,
-            left,
-        },
+        // Only a ring is refused.
+        Err(refusal) => {
+            let left = refusal.count();
+            Said {
+                count: head(b"refused 12 left ", left as usize, out),
+                refusal: refusal.number(),
+                left,
+            }
+        }
     }
 }
 
@@ -52,14 +54,15 @@ pub fn tell_of(image: &[u8], out: &mut [u8; 65536]) -> Said
 {
     let mut words = intake::fresh_words();
     let mut tags = intake::fresh_tags();
-    let taken = intake::take_in(image, &mut words, &mut tags);
-    if let Taken::Accepted(n) = taken {
-        return tell(&words, &tags, n, out);
-    }
-    let refusal = intake::number(taken);
-    Said {
-        count: head(b"refused ", base_words::wide(refusal), out),
-        refusal,
-        left: 0,
+    match intake::take_in(image, &mut words, &mut tags) {
+        Ok(n) => tell(&words, &tags, n, out),
+        Err(refusal) => {
+            let number = refusal.number();
+            Said {
+                count: head(b"refused ", number as usize, out),
+                refusal: number,
+                left: 0,
+            }
+        }
     }
 }

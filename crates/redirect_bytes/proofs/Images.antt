@@ -1,5 +1,5 @@
 -- From intake's answer and the redirected words to the promise on all bytes.
-use mathlib.Core.Path.{◌≡◌, refl, sym, ap, ap₂, ◌∙◌, subst}
+use mathlib.Core.Path.{◌≡◌, refl, sym, ap, ap₂, ◌∙◌}
 use mathlib.Core.List.{List}
 use Prim.Native.Nat.{ℕ, zero, suc, ◌+◌, ◌*◌, ◌<◌, ◌≤◌}
 use native.Mathlib.Omega.{arith}
@@ -13,33 +13,28 @@ use Rattle.model.specs.Taped.{Tape}
 use Rattle.model.specs.Intake.{intake_of}
 use Rattle.model.specs.Redirect.{Answer, redirected, outside, no_original, no_replacement, arguments_differ, results_differ, redirect_function}
 use Rattle.theory_image.specs.Modules.{read_well}
-use Rattle.intake.specs.Taken.{number_of, Accepts, TakeInEnsures}
-use Rattle.intake.specs.declared.Taken.{Taken}
-use Rattle.intake.specs.declared.Taken.TheVariants.{Accepted, Size, Layout, Range, Reference, Names, Scope}
+use Rattle.intake.specs.Taken.{Accepts, TakeInEnsures}
 use Rattle.model.specs.Refusals.{Ended, done, refused, packed, answer_by}
 use Rattle.model.specs.Intake.{of_laid, after_intake, on_words}
 use Rattle.model.specs.Image.{on_image, redirect_ended, redirect_after, redirect_image, redirect_answer, wuldgisp_redirect, RedirectEnsures}
 use Rattle.theory_image.specs.OnWords.{on_refused, on_module}
-use Rattle.redirect_words.specs.Passes.{shown as shownOf, Stores}
-use Rattle.redirect_words.specs.declared.Redirected.{Redirected}
-use Rattle.redirect_words.specs.declared.Redirected.TheVariants.{Done, Outside, NoOriginal, NoReplacement, ArgumentsDiffer, ResultsDiffer}
+use Rattle.redirect_words.specs.Passes.{Redirected, shown as shownOf, Stores}
 use Rattle.redirect_words.proofs.Finding.{find_in}
 use Rattle.redirect_words.proofs.Theorems.{accepted}
 use Rattle.base_handles.specs.declared.FunctionHandle.{FunctionHandle}
-use Rattle.redirect_bytes.specs.Answers.{shown, after, RedirectFunctionEnsures, Small, small_both, small_refused}
-use Rattle.redirect_bytes.specs.declared.Answer as declared
-use Rattle.redirect_bytes.specs.declared.Answer.TheVariants.{Done as Told-done, Refused}
+use Rattle.redirect_bytes.specs.Answers.{shown, RedirectFunctionEnsures, Small, small_both, small_refused}
+use Rattle.std.specs.Prelude.{Result, Ok, Err, MatchResult, IsOkAnd}
+use Rattle.base_refusals.specs.declared.Refusal.{Refusal}
+use Rattle.base_refusals.specs.declared.Refusal.TheVariants.{Ring}
+use Rattle.base_refusals.specs.Numbers.{number_of as number_of_refusal, refused_by, ended}
+use Rattle.intake.proofs.Refusals.{refused_by as is_refused}
+use Rattle.theory_image.specs.IntakeNumbers.{intake_low}
 use Rattle.redirect_bytes.proofs.Sizes.{image_long}
 
--- ---- intake refuses
-refused_by : (t : Taken) → ((n : ℕ) → t ≡ Accepted n → ⊥) → (k : ℕ) × (number_of t ≡ suc k)
-refused_by (Accepted n) h = absurd (h n refl)
-refused_by Size h = (0, refl)
-refused_by Layout h = (1, refl)
-refused_by Range h = (2, refl)
-refused_by Reference h = (3, refl)
-refused_by Names h = (4, refl)
-refused_by Scope h = (5, refl)
+-- intake's refusals have no count
+refused_low : {A : Type 0} (e : Refusal) → number_of_refusal e ≤ 6 → refused_by {A = A} e ≡ refused (number_of_refusal e)
+refused_low (Ring left) h = absurd (omega (arith, h))
+refused_low e h = refl
 
 module _ (image : List ℕ) (o p : ℕ) (omit : List ℕ) where
   -- what comes of a module
@@ -54,25 +49,27 @@ module _ (image : List ℕ) (o p : ℕ) (omit : List ℕ) where
   unfolding redirect_image on_image
   by_module m e r = on_module of_module (λ k. (refused k, image)) (length image) (words_of image) m e r
 
-  module _ (words tags : List ℕ) (t : Taken) (got : TakeInEnsures t words tags image) where
-    pub intake_refuses : ((n : ℕ) → t ≡ Accepted n → ⊥) → (k : ℕ) → k ≡ number_of t → RedirectFunctionEnsures (Refused k) image image o p omit
-    unfolding shown
-    intake_refuses h k e =
-        let x = refused_by t h in
-        record { same = ap (λ i. (refused i, image)) (e ∙ x.1) ∙ sym (by_intake x.0 (sym got.same ∙ x.1)) }
+  module _ (words tags : List ℕ) where
+    -- ---- intake refuses
+    pub intake_refuses : (e : Refusal) → TakeInEnsures (Err e) words tags image → RedirectFunctionEnsures (Err e) image image o p omit
+    unfolding shownOf
+    intake_refuses e got =
+        let x = is_refused e in
+        let low : number_of_refusal e ≤ 6 = omega (arith, got.same, intake_low (length image) (words_of image)) in
+        record { same = ap (λ i. (i, image)) (refused_low e low ∙ ap refused x.1) ∙ sym (by_intake x.0 (sym got.same ∙ x.1)) }
 
     -- ---- intake accepts
-    module _ (n : ℕ) (e : t ≡ Accepted n) where
+    module _ (n : ℕ) (got : TakeInEnsures (Ok n) words tags image) where
       held : Accepts image words tags n
-      held = got.held n e
+      held = got.held n refl
 
       pub loaded_asks : Tape words tags n × (length image ≡ 4 * n)
       loaded_asks = (record { holds = held.holds; taped = held.taped }, image_long image held.sized_right ∙ ap (4 *◌) (sym held.long))
 
-      pub loaded_tells : (r : Redirected) (image₁ : List ℕ) → Stores r image₁ image words tags n o p omit → (a : declared.Answer) → shown a ≡ after r → RedirectFunctionEnsures a image image₁ o p omit
-      loaded_tells r image₁ s a q =
+      pub loaded_tells : (r : Redirected) (image₁ : List ℕ) → Stores r image₁ image words tags n o p omit → RedirectFunctionEnsures r image image₁ o p omit
+      loaded_tells r image₁ s =
           let m = held.holds in
-          record { same = ap₂ (λ x y. (x, y)) (q ∙ s.answer m held.taped) (s.bytes_are m held.taped) ∙ sym (by_module m (sym got.same ∙ ap number_of e) held.reads) }
+          record { same = ap₂ (λ x y. (x, y)) (s.answer m held.taped) (s.bytes_are m held.taped) ∙ sym (by_module m (sym got.same) held.reads) }
 
   -- ---- room for both numbers
   told_small : (m : Module) → length m.functions ≤ 256 → (x : Answer) → redirect_function m o p omit ≡ x → Small (redirect_ended x)
@@ -103,7 +100,7 @@ module _ (image : List ℕ) (o p : ℕ) (omit : List ℕ) where
   unfolding redirect_image on_image on_words
   image_small = intake_small (intake_of (length image) (words_of image))
 
-  module _ (a : declared.Answer) (image₁ : List ℕ) (h : RedirectFunctionEnsures a image image₁ o p omit) where
+  module _ (a : Redirected) (image₁ : List ℕ) (h : RedirectFunctionEnsures a image image₁ o p omit) where
     told_is : shown a ≡ (redirect_image image o p omit).0
     told_is = ap (λ x. x.0) h.same
 
@@ -114,48 +111,26 @@ module _ (image : List ℕ) (o p : ℕ) (omit : List ℕ) where
     unfolding wuldgisp_redirect
     packs r e = record { answer = e ∙ ap redirect_answer told_is; left = ap (λ x. x.1) h.same }
 
--- ---- each variant, as a number
-pub told_done : (r : Redirected) (a b : FunctionHandle) → r ≡ Done a b → shown (Told-done a b) ≡ after r
-unfolding shown shownOf
-told_done r a b e = ap shownOf (sym e)
-
-pub told-outside : (r : Redirected) → r ≡ Outside → shown (Refused 13) ≡ after r
-unfolding shown shownOf
-told-outside r e = ap shownOf (sym e)
-
-pub told_no_original : (r : Redirected) → r ≡ NoOriginal → shown (Refused 8) ≡ after r
-unfolding shown shownOf
-told_no_original r e = ap shownOf (sym e)
-
-pub told_no_replacement : (r : Redirected) → r ≡ NoReplacement → shown (Refused 9) ≡ after r
-unfolding shown shownOf
-told_no_replacement r e = ap shownOf (sym e)
-
-pub told_arguments : (r : Redirected) → r ≡ ArgumentsDiffer → shown (Refused 10) ≡ after r
-unfolding shown shownOf
-told_arguments r e = ap shownOf (sym e)
-
-pub told-results : (r : Redirected) → r ≡ ResultsDiffer → shown (Refused 11) ≡ after r
-unfolding shown shownOf
-told-results r e = ap shownOf (sym e)
-
 -- ---- an answer as one number
-module _ (q : declared.Answer) where
-  both_small : {a b : ℕ} → Small (done (a, b)) → (a < 65536) × (b < 65536)
-  both_small (small_both x y) = (x, y)
+both_small : {a b : ℕ} → Small (done (a, b)) → (a < 65536) × (b < 65536)
+both_small (small_both x y) = (x, y)
 
-  pub times_fits : Small (shown q) → (a b : FunctionHandle) → q ≡ Told-done a b → Fits w32 (65536 * b.0)
-  unfolding shown
-  times_fits h a b e = let s = both_small (subst (λ x. Small (shown x)) e h) in record { fits = omega (arith, s.1) }
+module _ (p : FunctionHandle × FunctionHandle) (h : Small (shown (Ok p))) where
+  pub times_fits : Fits w32 (65536 * p.1.0)
+  unfolding shownOf
+  times_fits = record { fits = omega (arith, (both_small h).1) }
 
-  pub number_fits : Small (shown q) → (a b : FunctionHandle) → q ≡ Told-done a b → Fits w32 (a.0 + 65536 * b.0)
-  unfolding shown
-  number_fits h a b e = let s = both_small (subst (λ x. Small (shown x)) e h) in record { fits = omega (arith, s.0, s.1) }
+  pub number_fits : Fits w32 (p.0.0 + 65536 * p.1.0)
+  unfolding shownOf
+  number_fits = record { fits = omega (arith, (both_small h).0, (both_small h).1) }
 
-  pub number_both : (a b : FunctionHandle) → q ≡ Told-done a b → (r : ℕ) → r ≡ packed 0 (a.0 + 65536 * b.0) → r ≡ redirect_answer (shown q)
-  unfolding shown answer_by
-  number_both a b e r is = is ∙ ap (λ x. redirect_answer (shown x)) (sym e)
+refusal_number : (e : Refusal) → answer_by (λ v. v) (refused_by e) ≡ redirect_answer (refused_by e)
+unfolding answer_by
+refusal_number (Ring left) = refl
+refusal_number e = refl
 
-  pub number_refused : (k : ℕ) → q ≡ Refused k → k ≡ redirect_answer (shown q)
-  unfolding shown answer_by
-  number_refused k e = ap (λ x. redirect_answer (shown x)) (sym e)
+pub number_is : (q : Redirected) (m : Result ℕ Refusal) (P : FunctionHandle × FunctionHandle → ℕ → Type 0) → MatchResult q (λ p. IsOkAnd m (P p)) (λ e. m ≡ Err e) → ((p : FunctionHandle × FunctionHandle) (v : ℕ) → P p v → v ≡ p.0.0 + 65536 * p.1.0) → (r : ℕ) → r ≡ answer_by (λ v. v) (ended m) → r ≡ redirect_answer (shown q)
+unfolding shownOf answer_by
+number_is (Ok p) (Ok v) P e h r is = is ∙ ap (packed 0) (h p v e)
+number_is (Ok p) (Err d) P e h r is = absurd e
+number_is (Err d) m P e h r is = is ∙ ap (λ x. answer_by (λ v. v) (ended x)) e ∙ refusal_number d

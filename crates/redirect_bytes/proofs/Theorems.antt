@@ -34,7 +34,7 @@ refusing image k = (refused k, image)
 
 module_keeps : (image : List ℕ) (o p : ℕ) (omit : List ℕ) (k : ℕ) (x : Laid Module) → (of_laid (of_module image o p omit) (refusing image) x).0 ≡ refused k → (of_laid (of_module image o p omit) (refusing image) x).1 ≡ image
 unfolding of_laid
-module_keeps image o p omit k (laid m) e = image-stays image (redirect_function m o p omit) k e
+module_keeps image o p omit k (laid m) e = image-stays image (redirect_function m o p omit) λ p q. let z : refused k ≡ done p = sym e ∙ q in let y : ◌≡◌ {A = ℕ} 0 1 = cc in omega arith
 module_keeps image o p omit k bad e = refl
 module_keeps image o p omit k strange e = refl
 

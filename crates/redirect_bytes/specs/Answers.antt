@@ -3,18 +3,12 @@ use Rattle.std.specs.Prelude.{◌≡◌, List, ℕ, ◌<◌}
 use Rattle.model.specs.Refusals.{Ended, done, refused}
 use Rattle.model.specs.Image.{redirect_image}
 use Rattle.redirect_words.specs.Passes as passes
-use Rattle.redirect_words.specs.declared.Redirected.{Redirected}
-use Rattle.redirect_bytes.specs.declared.Answer.{Answer}
-use Rattle.redirect_bytes.specs.declared.Answer.TheVariants.{Done, Refused}
+use Rattle.redirect_words.specs.Passes.{Redirected}
 
-unfoldable pub shown : Answer → Ended (ℕ × ℕ)
-shown (Done a b) = done (a.0, b.0)
-shown (Refused k) = refused k
+abbrev pub shown : Redirected → Ended (ℕ × ℕ)
+shown r = passes.shown r
 
-abbrev pub after : Redirected → Ended (ℕ × ℕ)
-after r = passes.shown r
-
-pub record RedirectFunctionEnsures (r : Answer) (image₀ image : List ℕ) (original replacement : ℕ) (omit : List ℕ) : Type 0 where
+pub record RedirectFunctionEnsures (r : Redirected) (image₀ image : List ℕ) (original replacement : ℕ) (omit : List ℕ) : Type 0 where
   pub same : (shown r, image) ≡ redirect_image image₀ original replacement omit
 
 -- numbers that have room in an answer

@@ -1,67 +1,35 @@
-// redirect_function of redirect.rs on any bytes, in the image itself. Intake comes first; a refusal leaves every byte.
+// Redirecting on any bytes, in the image itself. Intake comes first; a refusal leaves every byte.
 #![tactic(auto)]
 
 ghost use Rattle.std.specs.Prelude.{◌≡◌};
 ghost use Rattle.model.specs.Image.{redirect_answer, RedirectEnsures};
-ghost use Rattle.redirect_bytes.specs.Answers.{shown, after, Small, RedirectFunctionEnsures};
+ghost use Rattle.redirect_bytes.specs.Answers.{shown, Small, RedirectFunctionEnsures};
 
 use base_handles::FunctionHandle;
-use base_refusals::pack;
-use intake::Taken;
-use redirect_words::Redirected;
-
-// Both functions, the original first; or document 01's number of the refusal.
-#[derive(Clone, Copy)]
-pub enum Answer {
-    Done(FunctionHandle, FunctionHandle),
-    Refused(u32),
-}
-
-fn told(r: Redirected) -> Answer
-    ensures { shown result ≡ after r }
-{
-    match r {
-        Redirected::Done(a, b) => Answer::Done(a, b),
-        Redirected::Outside => Answer::Refused(base_refusals::NUMBER_GIVEN),
-        Redirected::NoOriginal => Answer::Refused(base_refusals::ORIGINAL_NOT_FOUND),
-        Redirected::NoReplacement => Answer::Refused(base_refusals::REPLACEMENT_NOT_FOUND),
-        Redirected::ArgumentsDiffer => Answer::Refused(base_refusals::ARGUMENT_TYPES),
-        Redirected::ResultsDiffer => Answer::Refused(base_refusals::RESULT_TYPES),
-    }
-}
+use base_refusals::{Refusal, answer};
 
 // Calls of the function named `original` become calls of the function named `replacement`, but for those in the replacement and in the functions
-// whose names are omitted; entry points always change. The tests are intake's, and then 13, 8, 9, 10 and 11.
-pub fn redirect_function(image: &mut [u8], original: u32, replacement: u32, omit: &[u32]) -> Answer
+// whose names are omitted; entry points always change. Answers both functions, the original first; the tests are intake's, and then those of `redirect_words`.
+pub fn redirect_function(
+    image: &mut [u8],
+    original: u32,
+    replacement: u32,
+    omit: &[u32],
+) -> Result<(FunctionHandle, FunctionHandle), Refusal>
     ensures { RedirectFunctionEnsures result image.old image.new original replacement omit.now }
 {
     let mut words = intake::fresh_words();
     let mut tags = intake::fresh_tags();
-    let taken = intake::take_in(image, &mut words, &mut tags);
-    let Taken::Accepted(n) = taken else {
-        return Answer::Refused(intake::number(taken));
-    };
-    let r = redirect_words::redirect_loaded(
-        image,
-        &mut words,
-        &tags,
-        n,
-        original,
-        replacement,
-        omit,
-    );
-    told(r)
+    let n = intake::take_in(image, &mut words, &mut tags)?;
+    redirect_words::redirect_loaded(image, &mut words, &tags, n, original, replacement, omit)
 }
 
 // An answer as one number: both functions' numbers in the high half, the replacement's times 65,536.
-fn number(answer: Answer) -> u64
-    requires { Small (shown answer) }
-    ensures { result ≡ redirect_answer (shown answer) }
+fn number(r: Result<(FunctionHandle, FunctionHandle), Refusal>) -> u64
+    requires { Small (shown r) }
+    ensures { result ≡ redirect_answer (shown r) }
 {
-    match answer {
-        Answer::Done(a, b) => pack(0, a.0 + 65536 * b.0),
-        Answer::Refused(k) => k as u64,
-    }
+    answer(r.map(|(a, b)| a.0 + 65536 * b.0))
 }
 
 // The same, its answer as one number.

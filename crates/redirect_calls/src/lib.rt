@@ -13,49 +13,32 @@ ghost use Rattle.redirect_calls.specs.Turns.{RedirectAllEnsures, turn_one, turn_
 
 use base_classes::{CALLEE, FUNCTION};
 use base_views::{ENTRIES, FUNCTIONS, SPECIAL, count, offset, record_at, record_end};
-use base_words::{Tags, Words, wide};
+use base_words::{Tags, Words};
 
 // Whether an optional name is the name with a number.
 pub fn is_named(w: u32, name: u32) -> bool
     ensures { result ≡ eqb w (suc name) }
 {
-    if w == 0 {
-        return false;
-    }
-    w - 1 == name
+    w != 0 && w - 1 == name
 }
 
 // Whether an optional name is one of the omitted ones.
 fn omitted(omit: &[u32], w: u32) -> bool
     ensures { result ≡ omittedOf omit.now w }
 {
-    let mut i = 0;
-    while i < omit.len() {
-        let j = i;
-        i += 1;
-        if is_named(w, omit[j]) {
-            return true;
-        }
-    }
-    false
+    omit.iter().any(|name| is_named(w, *name))
 }
 
 // A word of the class s: the function of a Call or of a CallResult.
+#[tactic(auto, unfolding(model::specs::Redirect::redirecting))]
 fn redirect_word(s: u8, w: u32, original: u32, replacement: u32) -> u32
     ensures { result ≡ redirecting original replacement s w }
 {
-    if s == CALLEE {
-        if w == original {
-            return replacement;
-        }
-        return w;
+    if w == original && (s == CALLEE || s == FUNCTION) {
+        replacement
+    } else {
+        w
     }
-    if s == FUNCTION {
-        if w == original {
-            return replacement;
-        }
-    }
-    w
 }
 
 // All words from `at` to `end`.
@@ -70,22 +53,17 @@ fn redirect_fn(
     requires { (at ≤ end) × (end ≤ 16384) × (length words.old ≡ 16384) × (length tags.now ≡ 16384) }
     ensures { words.new ≡ sets words.old at (zip_with (redirecting original replacement) (slice at end tags.now) (slice at end words.old)) }
 {
-    let mut i = at;
-    while i < end {
-        let j = i;
-        i += 1;
+    for j in at..end {
         words[j] = redirect_word(tags[j], words[j], original, replacement);
     }
 }
 
 // Whether function j stays as it is: the replacement, or one whose name w is omitted.
+#[tactic(auto, unfolding(model::specs::Redirect::stays))]
 fn stays(replacement: u32, omit: &[u32], j: usize, w: u32) -> bool
     ensures { result ≡ stays_of replacement omit.now j w }
 {
-    if j == wide(replacement) {
-        return true;
-    }
-    omitted(omit, w)
+    j == replacement as usize || omitted(omit, w)
 }
 
 // Table function j.
@@ -121,12 +99,8 @@ fn redirect_functions(
     requires { Tape words.old tags.now n }
     ensures { RedirectAllEnsures words.new words.old tags.now n (turn_all original replacement omit.now) }
 {
-    let count = count(words, FUNCTIONS);
-    let mut j = 0;
-    while j < count {
-        let i = j;
-        j += 1;
-        redirect_one(words, tags, n, i, original, replacement, omit);
+    for j in 0..count(words, FUNCTIONS) {
+        redirect_one(words, tags, n, j, original, replacement, omit);
     }
 }
 

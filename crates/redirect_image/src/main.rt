@@ -3,9 +3,8 @@
 #![tactic(auto)]
 
 ghost use Rattle.std.specs.Prelude.{◌≡◌, ◌≤◌, ◌<◌, length};
-ghost use Rattle.redirect_image.specs.Numbers.{WRONG, stepped, read as read_of};
+ghost use Rattle.redirect_image.specs.Numbers.{stepped, read as read_of};
 
-use redirect_bytes::Answer;
 use std::env::{Env, FillError};
 
 // Longer than an image may be, so that one that is too long is seen to be.
@@ -22,50 +21,36 @@ fn names() -> [u32; 512]
     [0; 512]
 }
 
-// A number and one more digit; 4,294,967,296 means that it is no number of 32 bits.
-fn step(x: u64, digit: u8) -> u64
-    requires { x ≤ WRONG }
-    ensures { (result ≡ stepped x digit) × (result ≤ WRONG) }
+// A number and one more digit; none where that is no number of 32 bits.
+#[tactic(auto, unfolding(crate::specs::Numbers::stepped))]
+fn step(x: u32, digit: u8) -> Option<u32>
+    ensures { result ≡ stepped x digit }
 {
-    if digit < 48 {
-        return 4294967296;
+    if !digit.is_ascii_digit() {
+        return None;
     }
-    if 57 < digit {
-        return 4294967296;
-    }
-    let next = 10 * x + (digit as u64 - 48);
-    if 4294967296 < next {
-        return 4294967296;
-    }
-    next
+    x.checked_mul(10)?.checked_add(u32::from(digit - b'0'))
 }
 
-// A decimal number.
-fn read(text: &[u8]) -> u64
-    ensures { (result ≡ read_of text.now) × (result ≤ WRONG) }
+// A decimal number. (The `parse` of std would take a sign too.)
+fn read(text: &[u8]) -> Option<u32>
+    ensures { result ≡ read_of text.now }
 {
-    if text.len() == 0 {
-        return 4294967296;
+    if text.is_empty() {
+        return None;
     }
     let mut x = 0;
-    let mut i = 0;
-    while i < text.len() {
-        let j = i;
-        i += 1;
-        x = step(x, text[j]);
+    for digit in text {
+        x = step(x, *digit)?;
     }
-    x
+    Some(x)
 }
 
 // Argument i as a number.
-fn argument(rt: &impl Env, i: usize) -> u64
-    ensures { result ≤ WRONG }
-{
+fn argument(rt: &impl Env, i: usize) -> Option<u32> {
     let mut text = [0; 4096];
-    match rt.arg(i, &mut text) {
-        Ok(n) => read(&text[..n]),
-        Err(_) => 4294967296,
-    }
+    let n = rt.arg(i, &mut text).ok()?;
+    read(&text[..n])
 }
 
 fn is_present(rt: &impl Env, i: usize) -> bool {
@@ -93,52 +78,39 @@ fn wrong(rt: &impl Eprint, i: usize) {
     let _ = eprintln!(rt; "redirect_image: argument {i} is no number of a name");
 }
 
-// The first n bytes, redirected.
+// Writes the image, redirected; or its refusal.
 fn redirect(
     rt: &(impl Print + Eprint),
     image: &mut [u8],
-    n: usize,
     original: u32,
     replacement: u32,
     omit: &[u32],
 ) {
-    if n <= image.len() {
-        match redirect_bytes::redirect_function(&mut image[..n], original, replacement, omit) {
-            Answer::Done(_, _) => {
-                program_streams::write(rt, "redirect_image", &image[..n]);
-            }
-            Answer::Refused(k) => {
-                program_streams::refused(rt, "redirect_image", k);
-            }
+    match redirect_bytes::redirect_function(image, original, replacement, omit) {
+        Ok(_) => {
+            program_streams::write(rt, "redirect_image", image);
+        }
+        Err(refusal) => {
+            program_streams::refused(rt, "redirect_image", refusal.number());
         }
     }
 }
 
 // The numbers of the arguments from the third on; or the first argument that is none.
-fn omitted(rt: &impl Env, omit: &mut [u32; 512], count: usize) -> usize
-    requires omit_len { length omit.old ≡ 512 }
-    requires count_bound { count ≤ 512 }
-    ensures { length omit.new ≡ 512 }
+fn omitted(rt: &impl Env, omit: &mut [u32]) -> Result<(), usize>
+    requires { length omit.old ≤ 512 }
 {
-    let mut i = 0;
-    while i < count {
-        let j = i;
-        i += 1;
-        let x = argument(rt, j + 3);
-        if x == 4294967296 {
-            return j + 3;
-        }
-        omit[j] = x as u32;
+    for (i, name) in omit.iter_mut().enumerate() {
+        *name = argument(rt, i + 3).ok_or(i + 3)?;
     }
-    0
+    Ok(())
 }
 
 fn run(rt: &HostRuntime, original: u32, replacement: u32, count: usize)
     requires { count ≤ 512 }
 {
     let mut omit = names();
-    let bad = omitted(rt, &mut omit, count);
-    if bad != 0 {
+    if let Err(bad) = omitted(rt, &mut omit[..count]) {
         wrong(rt, bad);
         return;
     }
@@ -150,8 +122,7 @@ fn run(rt: &HostRuntime, original: u32, replacement: u32, count: usize)
     }
     redirect(
         rt,
-        &mut image,
-        input.count,
+        &mut image[..input.count],
         original,
         replacement,
         &omit[..count],
@@ -171,15 +142,13 @@ fn main(rt: HostRuntime) {
         );
         return;
     }
-    let original = argument(&rt, 1);
-    if original == 4294967296 {
+    let Some(original) = argument(&rt, 1) else {
         wrong(&rt, 1);
         return;
-    }
-    let replacement = argument(&rt, 2);
-    if replacement == 4294967296 {
+    };
+    let Some(replacement) = argument(&rt, 2) else {
         wrong(&rt, 2);
         return;
-    }
-    run(&rt, original as u32, replacement as u32, count - 3);
+    };
+    run(&rt, original, replacement, count - 3);
 }

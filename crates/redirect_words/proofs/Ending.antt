@@ -11,12 +11,14 @@ use Rattle.model.specs.Module.{Module, write}
 use Rattle.model.specs.Taped.{Taped, Tape}
 use Rattle.model.specs.Redirect.{find, all_below, argument_types, agree, result_type, same, redirect, Answer, redirected, outside, no_original, no_replacement, arguments_differ, results_differ, after, function, compared, with_replacement, with_original, redirect_function}
 use Rattle.theory_image.specs.FunctionViews.{taped_write}
-use Rattle.model.specs.Refusals.{done, refused}
+use Rattle.model.specs.Refusals.{Ended, done, refused}
 use Rattle.model.specs.Image.{redirect_ended}
 use Rattle.redirect_words.specs.Passes.{shown, Tests, Redirects}
 use Rattle.redirect_calls.specs.Turns.{RedirectAllEnsures, redirected_by}
-use Rattle.redirect_words.specs.declared.Redirected.{Redirected}
-use Rattle.redirect_words.specs.declared.Redirected.TheVariants.{Done, Outside, NoOriginal, NoReplacement, ArgumentsDiffer, ResultsDiffer}
+use Rattle.std.specs.Prelude.{Ok, Err}
+use Rattle.base_refusals.specs.declared.Refusal.{Refusal}
+use Rattle.base_refusals.specs.declared.Refusal.TheVariants.{Ring}
+use Rattle.base_refusals.specs.Numbers.{refused_by}
 use Rattle.redirect_calls.proofs.Turning.{sets_middle}
 use Rattle.base_handles.specs.declared.FunctionHandle.{FunctionHandle}
 
@@ -57,14 +59,22 @@ answered m o p omit = go (all_below (o ∷ p ∷ omit) (length m.names))
     go true = with_original_lem m p omit (find m.functions 0 o)
     go false = refuses m 0 0 omit outside 13 refl
 
-pub after_refused : (m : Module) (x : Answer) (k : ℕ) → redirect_ended x ≡ refused k → after m x ≡ m
+-- an answer that gives no functions leaves the module
+pub after-stays : (m : Module) (x : Answer) → ((both : ℕ × ℕ) → redirect_ended x ≡ done both → ⊥) → after m x ≡ m
 unfolding after redirect_ended
-after_refused m (redirected a b m') k e = let z : ◌≡◌ {A = ℕ} 0 1 = cc in absurd (omega arith)
-after_refused m outside k e = refl
-after_refused m no_original k e = refl
-after_refused m no_replacement k e = refl
-after_refused m arguments_differ k e = refl
-after_refused m results_differ k e = refl
+after-stays m (redirected a b m') h = absurd (h (a, b) refl)
+after-stays m outside h = refl
+after-stays m no_original h = refl
+after-stays m no_replacement h = refl
+after-stays m arguments_differ h = refl
+after-stays m results_differ h = refl
+
+refused_not_done : {A : Type 0} (e : Refusal) (a : A) → refused_by e ≡ done a → ⊥
+refused_not_done (Ring left) a q = let z : ◌≡◌ {A = ℕ} 0 1 = cc in omega arith
+refused_not_done e a q = let z : ◌≡◌ {A = ℕ} 0 1 = cc in omega arith
+
+pub not_done : {A : Type 0} (e : Refusal) (x : Ended A) → x ≡ refused_by e → (a : A) → x ≡ done a → ⊥
+not_done e x q a d = refused_not_done e a (sym q ∙ d)
 
 -- ---- words that hold a module are its words, and then what was after
 held_words : {words tags : List ℕ} {n : ℕ} {m : Module} → Taped words tags n m → (words₀ : List ℕ) → length words₀ ≡ 16384 → drop n words ≡ drop n words₀ → words ≡ sets words₀ 0 (write m)
@@ -74,41 +84,21 @@ held_words {words} {n} {m} t words₀ long e =
     a ∙ sym (ap (λ w. sets w 0 (write m)) (sym (take-append-drop n words₀)) ∙ sets_middle [] (write m) (take n words₀) (drop n words₀) l)
 
 -- ---- redirect_words
-pub data Refused : Redirected → Type 0 where
-  refuses_by : {r : Redirected} (k : ℕ) → shown r ≡ refused k → Refused r
-
--- every variant but the first
-pub not_done : (r : Redirected) → ((a b : FunctionHandle) → r ≡ Done a b → ⊥) → Refused r
-unfolding shown
-not_done (Done a b) k = absurd (k a b refl)
-not_done Outside k = refuses_by 13 refl
-not_done NoOriginal k = refuses_by 8 refl
-not_done NoReplacement k = refuses_by 9 refl
-not_done ArgumentsDiffer k = refuses_by 10 refl
-not_done ResultsDiffer k = refuses_by 11 refl
-
--- and the first
-pub data Accepted : Redirected → Type 0 where
-  accepts : {r : Redirected} (a b : ℕ) → shown r ≡ done (a, b) → Accepted r
-
-pub is_done : (r : Redirected) (a b : FunctionHandle) → r ≡ Done a b → Accepted r
-unfolding shown
-is_done r a b e = accepts a.0 b.0 (ap shown e)
-
-module _ (words tags : List ℕ) (n o p : ℕ) (omit : List ℕ) (r : Redirected) (t : Tests r words tags n o p omit) where
-  pub words_stay : Refused r → Redirects r words words tags n o p omit
-  words_stay (refuses_by k e) =
+module _ (words tags : List ℕ) (n o p : ℕ) (omit : List ℕ) where
+  pub words_stay : (e : Refusal) → Tests (Err e) words tags n o p omit → Redirects (Err e) words words tags n o p omit
+  unfolding shown
+  words_stay e t =
       record {
         answer = t.same;
-        words_are = λ m x. held_words x words x.words_long refl ∙ ap (λ y. sets words 0 (write y)) (sym (after_refused m (redirect_function m o p omit) k (sym (t.same m x) ∙ e)));
+        words_are = λ m x. held_words x words x.words_long refl ∙ ap (λ y. sets words 0 (write y)) (sym (after-stays m (redirect_function m o p omit) (not_done e _ (sym (t.same m x)))));
       }
 
-  pub words_turn : Tape words tags n → (a b : FunctionHandle) → r ≡ Done a b → (words₁ : List ℕ) → RedirectAllEnsures words₁ words tags n (redirected_by a.0 b.0 omit) → Redirects (Done a b) words₁ words tags n o p omit
+  pub words_turn : Tape words tags n → (a b : FunctionHandle) → Tests (Ok (a, b)) words tags n o p omit → (words₁ : List ℕ) → RedirectAllEnsures words₁ words tags n (redirected_by a.0 b.0 omit) → Redirects (Ok (a, b)) words₁ words tags n o p omit
   unfolding shown redirected_by after
-  words_turn h a b e words₁ u =
+  words_turn h a b t words₁ u =
       record {
-        answer = λ m x. ap shown (sym e) ∙ t.same m x;
+        answer = t.same;
         words_are = λ m x.
-            let q : redirect_function m o p omit ≡ redirected a.0 b.0 (redirect m a.0 b.0 omit) = (answered m o p omit).done_is a.0 b.0 (sym (t.same m x) ∙ ap shown e) in
+            let q : redirect_function m o p omit ≡ redirected a.0 b.0 (redirect m a.0 b.0 omit) = (answered m o p omit).done_is a.0 b.0 (sym (t.same m x)) in
             held_words (u.holds m x) words x.words_long u.rest ∙ ap (λ y. sets words 0 (write (after m y))) (sym q);
       }

@@ -3,11 +3,11 @@ use mathlib.Core.Path.{◌≡◌, refl, sym, ap, ap₂, ◌∙◌}
 use mathlib.Core.Bool.{Bool, true, false, ◌&&◌}
 use mathlib.Core.Option.{none, some}
 use mathlib.Core.List.{List, [], ◌∷◌}
-use Prim.Native.Nat.{ℕ, zero, suc, ◌+◌, ◌*◌, ◌≤◌, ◌<◌}
+use Prim.Native.Nat.{ℕ, zero, suc, ◌+◌, ◌*◌, ◌≤◌, ◌<◌, min}
 use native.Mathlib.Numerals.{add-one}
 use native.Mathlib.Omega.{arith}
 use lib.Dec.{eqb}
-use lib.ListN.{length, get_or, drop}
+use lib.ListN.{length, get_or, drop, drop_of_length-le}
 use lib.Seq.{drop-cons}
 use borrow.Author.Tests.{eq-eqb, ne_eqb}
 use mir.Val.{Fits}
@@ -21,31 +21,23 @@ use Rattle.model.specs.Redirect.{name_word, find, argument_types, agree, result_
 use Rattle.base_views.proofs.Places.{standing-function, standing-inside}
 use Rattle.model.specs.Image.{redirect_ended}
 use Rattle.redirect_words.specs.Passes.{found_at, shown, Finds, Agrees, Returns, Compares}
-use Rattle.redirect_words.specs.declared.Found.TheVariants.{At, Nothing}
-use Rattle.redirect_words.specs.declared.Redirected.TheVariants.{Done, ArgumentsDiffer, ResultsDiffer}
+use Rattle.std.specs.Prelude.{Ok, Err, Some, None}
+use Rattle.base_refusals.specs.declared.Refusal.TheVariants.{ArgumentTypes, ResultTypes}
 use Rattle.redirect_calls.proofs.Places.{many, few, start_in, name_is_lem, types_many, type_in, type_is, result_type_in, result_few, result_none, result_some}
 use Rattle.base_handles.specs.declared.FunctionHandle.{FunctionHandle}
-
-drop-whole : {A : Type 0} (l : List A) (i : ℕ) → length l ≤ i → drop i l ≡ []
-drop-whole [] zero h = refl
-drop-whole [] (suc i) h = refl
-drop-whole (x ∷ l) zero h = absurd (omega arith)
-drop-whole (x ∷ l) (suc i) h = drop-whole l i (omega arith)
 
 -- ---- find
 module _ (words tags : List ℕ) (n name : ℕ) where
   -- what is left of the functions from number j on
-  pub record Seeking (count j : ℕ) : Type 0 where
-    pub within : j ≤ count
-    pub count_is : count ≡ count_at 6 words
+  pub record Seeking (j : ℕ) : Type 0 where
     pub same : (m : Module) → Taped words tags n m → find (drop j m.functions) j name ≡ find m.functions 0 name
 
-  pub seek_begin : (count : ℕ) → count ≡ count_at 6 words → Seeking count 0
-  seek_begin count e = record { within = omega arith; count_is = e; same = λ m t. refl }
+  pub seek_begin : Seeking 0
+  seek_begin = record { same = λ m t. refl }
 
-  module _ (h : Tape words tags n) (count j : ℕ) (inv : Seeking count j) (less : j < count) where
-    pub seek_in : j < count_at 6 words
-    seek_in = omega (arith, inv.count_is)
+  module _ (h : Tape words tags n) (count j : ℕ) (count_is : count ≡ count_at 6 words) (less : j < count) where
+    seek_in : j < count_at 6 words
+    seek_in = omega arith
 
     pub seek_small : Fits w32 j
     seek_small = record { fits = omega (arith, few h.taped, seek_in) }
@@ -57,7 +49,7 @@ module _ (words tags : List ℕ) (n name : ℕ) where
       pub seek_fits : Fits w64 (at * 4)
       seek_fits = record { fits = omega (arith, seek_at) }
 
-      module _ (r : Bool) (named : r ≡ eqb (get_or words at 0) (suc name)) where
+      module _ (inv : Seeking j) (r : Bool) (named : r ≡ eqb (get_or words at 0) (suc name)) where
         cut : (m : Module) → Taped words tags n m → elim r [ true ↦ some j | false ↦ find (drop (suc j) m.functions) (suc j) name ] ≡ find m.functions 0 name
         unfolding find function
         cut m t =
@@ -65,17 +57,17 @@ module _ (words tags : List ℕ) (n name : ℕ) where
             let e : r ≡ eqb (name_word (function m j)) (suc name) = named ∙ ap (λ w. eqb w (suc name)) (ap (λ p. get_or words p 0) is ∙ name_is_lem t j seek_in) in
             rw e (rw (drop-cons m.functions j nothing k) at (inv.same m t))
 
-        pub seek_here : r ≡ true → (f : FunctionHandle) → f.0 ≡ j → Finds (At f) words tags n name
+        pub seek_here : r ≡ true → (f : FunctionHandle) → f.0 ≡ j → Finds (Some f) words tags n name
         unfolding found_at
         seek_here y f e = record { same = λ m t. ap some e ∙ rw y at (cut m t) }
 
-        pub seek_on : r ≡ false → Seeking count (j + 1)
-        seek_on y = rw add-one (record { within = less; count_is = inv.count_is; same = λ m t. rw y at (cut m t) })
+        pub seek_on : r ≡ false → Seeking (j + 1)
+        seek_on y = rw add-one (record { same = λ m t. rw y at (cut m t) })
 
-  pub seek_none : (count j : ℕ) → Seeking count j → count ≤ j → Finds Nothing words tags n name
+  pub seek_none : (count j : ℕ) → count ≡ count_at 6 words → Seeking j → count ≤ j → Finds None words tags n name
   unfolding found_at find
-  seek_none count j inv h =
-      record { same = λ m t. let k : length m.functions ≤ j = omega (arith, inv.count_is, many t) in rw (drop-whole m.functions j k) at (inv.same m t) }
+  seek_none count j count_is inv h =
+      record { same = λ m t. let k : length m.functions ≤ j = omega (arith, count_is, many t) in rw (drop_of_length-le m.functions k) at (inv.same m t) }
 
 -- what is found is in the table
 pub find_in : (fs : List Function) (j name a : ℕ) → find fs j name ≡ some a → a < j + length fs
@@ -93,14 +85,21 @@ unfolding agree
 agree-none [] = refl
 agree-none (x ∷ xs) = refl
 
+agree-short : (xs ys : List ℕ) (j : ℕ) → min (length xs) (length ys) ≤ j → agree (drop j xs) (drop j ys) ≡ true
+unfolding agree
+agree-short [] ys zero h = refl
+agree-short [] ys (suc j) h = refl
+agree-short (x ∷ xs) [] zero h = refl
+agree-short (x ∷ xs) [] (suc j) h = agree-none (drop j xs)
+agree-short (x ∷ xs) (y ∷ ys) zero h = absurd (omega arith)
+agree-short (x ∷ xs) (y ∷ ys) (suc j) h = agree-short xs ys j (omega arith)
+
 module _ (words tags : List ℕ) (n i k : ℕ) where
-  pub record Agreeing (those others j : ℕ) : Type 0 where
-    pub within : j ≤ those
-    pub within_others : j ≤ others
+  pub record Agreeing (j : ℕ) : Type 0 where
     pub same : (m : Module) → Taped words tags n m → agree (drop j (argument_types (function m i))) (drop j (argument_types (function m k))) ≡ agree (argument_types (function m i)) (argument_types (function m k))
 
-  pub agree-begin : (those others : ℕ) → Agreeing those others 0
-  agree-begin those others = record { within = omega arith; within_others = omega arith; same = λ m t. refl }
+  pub agree-begin : Agreeing 0
+  agree-begin = record { same = λ m t. refl }
 
   module _ (h : Tape words tags n) (x : i < count_at 6 words) (y : k < count_at 6 words) (a b : ℕ) (a-is : a ≡ record_at 6 i words) (b-is : b ≡ record_at 6 k words) where
     module _ (those others : ℕ) (those-is : those ≡ get_or words (arguments_at a) 0) (others-is : others ≡ get_or words (arguments_at b) 0) where
@@ -111,45 +110,37 @@ module _ (words tags : List ℕ) (n i k : ℕ) where
         others_many : others ≡ length (argument_types (function m k))
         others_many = others-is ∙ ap (λ p. get_or words (arguments_at p) 0) b-is ∙ types_many t k y
 
-      module _ (j : ℕ) (inv : Agreeing those others j) (less : j < those) where
-        pub agree-short : others ≤ j → Agrees true words tags n i k
-        agree-short g =
-            record {
-              same = λ m t.
-                  let q : length (argument_types (function m k)) ≤ j = omega (arith, others_many t) in
-                  sym (sym (inv.same m t) ∙ ap (agree (drop j (argument_types (function m i)))) (drop-whole (argument_types (function m k)) j q) ∙ agree-none (drop j (argument_types (function m i))));
-            }
+      module _ (shorter : ℕ) (shorter-is : shorter ≡ min those others) where
+        module _ (j : ℕ) (less : j < shorter) where
+          pub in_a : argument_at a j + 1 < 16384
+          in_a = omega (arith, type_in h.taped i x j (omega (arith, those_many h.taped)))
 
-        pub in_a : argument_at a j + 1 < 16384
-        in_a = omega (arith, type_in h.taped i x j (omega (arith, those_many h.taped)))
-
-        module _ (more : j < others) where
           pub in_b : argument_at b j + 1 < 16384
           in_b = omega (arith, type_in h.taped k y j (omega (arith, others_many h.taped)))
 
-          agree-cut : (m : Module) → Taped words tags n m → eqb (get_or words (argument_at a j + 1) 0) (get_or words (argument_at b j + 1) 0) && agree (drop (suc j) (argument_types (function m i))) (drop (suc j) (argument_types (function m k))) ≡ agree (argument_types (function m i)) (argument_types (function m k))
-          unfolding agree
-          agree-cut m t =
-              let u : j < length (argument_types (function m i)) = omega (arith, those_many t) in
-              let v : j < length (argument_types (function m k)) = omega (arith, others_many t) in
-              let p = ap (λ z. get_or words (argument_at z j + 1) 0) a-is ∙ type_is t i x j u in
-              let q = ap (λ z. get_or words (argument_at z j + 1) 0) b-is ∙ type_is t k y j v in
-              rw (p, q) (rw (drop-cons (argument_types (function m i)) j 0 u, drop-cons (argument_types (function m k)) j 0 v) at (inv.same m t))
+          module _ (inv : Agreeing j) where
+            agree-cut : (m : Module) → Taped words tags n m → eqb (get_or words (argument_at a j + 1) 0) (get_or words (argument_at b j + 1) 0) && agree (drop (suc j) (argument_types (function m i))) (drop (suc j) (argument_types (function m k))) ≡ agree (argument_types (function m i)) (argument_types (function m k))
+            unfolding agree
+            agree-cut m t =
+                let u : j < length (argument_types (function m i)) = omega (arith, those_many t) in
+                let v : j < length (argument_types (function m k)) = omega (arith, others_many t) in
+                let p = ap (λ z. get_or words (argument_at z j + 1) 0) a-is ∙ type_is t i x j u in
+                let q = ap (λ z. get_or words (argument_at z j + 1) 0) b-is ∙ type_is t k y j v in
+                rw (p, q) (rw (drop-cons (argument_types (function m i)) j 0 u, drop-cons (argument_types (function m k)) j 0 v) at (inv.same m t))
 
-          module _ (u v : ℕ) (u-is : u ≡ get_or words (argument_at a j + 1) 0) (v-is : v ≡ get_or words (argument_at b j + 1) 0) where
-            cut-here : (m : Module) → Taped words tags n m → eqb u v && agree (drop (suc j) (argument_types (function m i))) (drop (suc j) (argument_types (function m k))) ≡ agree (argument_types (function m i)) (argument_types (function m k))
-            cut-here m t = rw (u-is, v-is) (agree-cut m t)
+            module _ (u v : ℕ) (u-is : u ≡ get_or words (argument_at a j + 1) 0) (v-is : v ≡ get_or words (argument_at b j + 1) 0) where
+              cut-here : (m : Module) → Taped words tags n m → eqb u v && agree (drop (suc j) (argument_types (function m i))) (drop (suc j) (argument_types (function m k))) ≡ agree (argument_types (function m i)) (argument_types (function m k))
+              cut-here m t = rw (u-is, v-is) (agree-cut m t)
 
-            pub agree_not : (u ≡ v → ⊥) → Agrees false words tags n i k
-            agree_not g = record { same = λ m t. rw (ne_eqb u v g) at (cut-here m t) }
+              pub agree_not : (u ≡ v → ⊥) → Agrees false words tags n i k
+              agree_not g = record { same = λ m t. rw (ne_eqb u v g) at (cut-here m t) }
 
-            pub agree-next : u ≡ v → Agreeing those others (j + 1)
-            agree-next g = rw add-one (record { within = less; within_others = more; same = λ m t. rw (eq-eqb u v g) at (cut-here m t) })
+              pub agree-next : u ≡ v → Agreeing (j + 1)
+              agree-next g = rw add-one (record { same = λ m t. rw (eq-eqb u v g) at (cut-here m t) })
 
-      pub agree_done : (j : ℕ) → Agreeing those others j → those ≤ j → Agrees true words tags n i k
-      unfolding agree
-      agree_done j inv g =
-          record { same = λ m t. let q : length (argument_types (function m i)) ≤ j = omega (arith, those_many t) in rw (drop-whole (argument_types (function m i)) j q) at (inv.same m t) }
+        pub agree_done : (j : ℕ) → Agreeing j → shorter ≤ j → Agrees true words tags n i k
+        agree_done j inv g =
+            record { same = λ m t. sym (agree-short (argument_types (function m i)) (argument_types (function m k)) j (omega (arith, those_many t, others_many t))) ∙ inv.same m t }
 
 -- ---- returns_at
 pub lists_in : (words tags : List ℕ) (n i : ℕ) → Tape words tags n → i < count_at 6 words → (a : ℕ) → a ≡ record_at 6 i words → expressions_at a words < 16384
@@ -213,7 +204,7 @@ module _ (words tags : List ℕ) (n a b i k : ℕ) (i-is : i ≡ a) (k_is : k �
   args : (m : Module) → Taped words tags n m → r ≡ agree (argument_types (function m a)) (argument_types (function m b))
   args m t = g.same m t ∙ ap₂ (λ x y. agree (argument_types (function m x)) (argument_types (function m y))) i-is k_is
 
-  pub differ_arguments : r ≡ false → Compares ArgumentsDiffer words tags n a b
+  pub differ_arguments : r ≡ false → Compares (Err ArgumentTypes) words tags n a b
   unfolding compared shown redirect_ended
   differ_arguments e = record { same = λ m t omit. rw (compared, sym (args m t) ∙ e) }
 
@@ -221,10 +212,10 @@ module _ (words tags : List ℕ) (n a b i k : ℕ) (i-is : i ≡ a) (k_is : k �
     results : (m : Module) → Taped words tags n m → s ≡ same (result_type (function m a)) (result_type (function m b))
     results m t = d.same m t ∙ ap₂ (λ x y. same (result_type (function m x)) (result_type (function m y))) i-is k_is
 
-    pub differ-results : s ≡ false → Compares ResultsDiffer words tags n a b
+    pub differ-results : s ≡ false → Compares (Err ResultTypes) words tags n a b
     unfolding compared shown redirect_ended
     differ-results z = record { same = λ m t omit. rw (compared, sym (args m t) ∙ e, sym (results m t) ∙ z) }
 
-    pub differ-none : s ≡ true → (f h : FunctionHandle) → f.0 ≡ a → h.0 ≡ b → Compares (Done f h) words tags n a b
+    pub differ-none : s ≡ true → (f h : FunctionHandle) → f.0 ≡ a → h.0 ≡ b → Compares (Ok (f, h)) words tags n a b
     unfolding compared shown redirect_ended
     differ-none z f h u v = record { same = λ m t omit. rw (compared, sym (args m t) ∙ e, sym (results m t) ∙ z, u, v) }

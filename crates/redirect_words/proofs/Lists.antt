@@ -1,50 +1,25 @@
 -- Lists of names.
-use mathlib.Core.Path.{◌≡◌, refl}
-use mathlib.Core.Bool.{Bool, true, false, ◌&&◌}
-use mathlib.Core.List.{List, ◌∷◌}
-use Prim.Native.Nat.{ℕ, suc, ◌+◌, ◌≤◌, ◌<◌}
-use native.Mathlib.Numerals.{add-one}
-use native.Mathlib.Omega.{arith}
-use lib.Dec.{ltb}
-use lib.ListN.{length, get_or, drop}
-use lib.Seq.{drop-cons}
+use mathlib.Core.Path.{◌≡◌, refl, sym, ap, ◌∙◌}
+use mathlib.Core.Bool.{Bool, false, ◌&&◌}
+use mathlib.Core.Logic.{◌⊎◌, inl, inr}
+use mathlib.Core.List.{List, [], ◌∷◌}
+use Prim.Native.Nat.{ℕ, ◌≤◌, ◌<◌}
 use borrow.Author.Tests.{lt-ltb, le-ltb}
+use lib.Dec.{ltb}
+use Rattle.std.specs.List.{list_all}
 use Rattle.model.specs.Redirect.{all_below}
-use Rattle.redirect_calls.proofs.Leaves.{drop_all}
 
--- ---- all_below
-module _ (l : List ℕ) (n : ℕ) where
-  pub record Below (i : ℕ) : Type 0 where
-    pub within : i ≤ length l
-    pub same : all_below (drop i l) n ≡ all_below l n
-
-  pub below-begin : Below 0
-  below-begin = record { within = omega arith; same = refl }
-
-  module _ (i : ℕ) (inv : Below i) (h : i < length l) where
-    below-cut : ltb (get_or l i 0) n && all_below (drop (suc i) l) n ≡ all_below l n
-    unfolding all_below
-    below-cut = rw (drop-cons l i 0 h) at inv.same
-
-    pub below_not : n ≤ get_or l i 0 → false ≡ all_below l n
-    below_not g = rw (le-ltb (get_or l i 0) n g) at below-cut
-
-    pub below_next : get_or l i 0 < n → Below (i + 1)
-    below_next g = rw add-one (record { within = h; same = rw (lt-ltb (get_or l i 0) n g) at below-cut })
-
-  pub below_done : (i : ℕ) → Below i → length l ≤ i → true ≡ all_below l n
-  unfolding all_below
-  below_done i inv h = rw (drop_all l i h) at inv.same
+pub all_below_all : (l : List ℕ) (n : ℕ) → all_below l n ≡ list_all (λ x. ltb x n) l
+unfolding all_below
+all_below_all [] n = refl
+all_below_all (x ∷ xs) n = ap (ltb x n &&◌) (all_below_all xs n)
 
 -- ---- inside
-pub inside-first : (a b n : ℕ) (l : List ℕ) → n ≤ a → false ≡ all_below (a ∷ b ∷ l) n
+pub inside-not : (a b n : ℕ) (l : List ℕ) → (a < n × n ≤ b) ⊎ (n ≤ a) → (r : Bool) → r ≡ false → r ≡ all_below (a ∷ b ∷ l) n
 unfolding all_below
-inside-first a b n l h = rw (le-ltb a n h)
+inside-not a b n l (inl h) r e = rw (lt-ltb a n h.0, le-ltb b n h.1) e
+inside-not a b n l (inr h) r e = rw (le-ltb a n h) e
 
-pub inside_second : (a b n : ℕ) (l : List ℕ) → a < n → n ≤ b → false ≡ all_below (a ∷ b ∷ l) n
+pub inside-rest : (a b n : ℕ) (l : List ℕ) (r : Bool) → a < n → b < n → r ≡ list_all (λ x. ltb x n) l → r ≡ all_below (a ∷ b ∷ l) n
 unfolding all_below
-inside_second a b n l h k = rw (lt-ltb a n h, le-ltb b n k)
-
-pub inside-rest : (a b n : ℕ) (l : List ℕ) (r : Bool) → a < n → b < n → r ≡ all_below l n → r ≡ all_below (a ∷ b ∷ l) n
-unfolding all_below
-inside-rest a b n l r h k e = rw (lt-ltb a n h, lt-ltb b n k) e
+inside-rest a b n l r h k e = rw (lt-ltb a n h, lt-ltb b n k) (e ∙ sym (all_below_all l n))

@@ -11,12 +11,14 @@ use Rattle.model.specs.Redirect.{redirect, Answer, redirected, outside, no_origi
 use Rattle.theory_image.specs.FunctionViews.{taped_write}
 use Rattle.base_words.specs.Words.{bytes_of}
 use Rattle.base_words.proofs.Laws.{length_bytes_of}
-use Rattle.model.specs.Refusals.{done, refused}
+use Rattle.model.specs.Refusals.{done}
 use Rattle.model.specs.Image.{redirect_ended, redirect_after}
-use Rattle.redirect_words.specs.Passes.{Redirects, Stores}
-use Rattle.redirect_words.specs.declared.Redirected.{Redirected}
+use Rattle.redirect_words.specs.Passes.{Redirected, shown, Redirects, Stores}
+use Rattle.std.specs.Prelude.{Ok, Err}
+use Rattle.base_handles.specs.declared.FunctionHandle.{FunctionHandle}
+use Rattle.base_refusals.specs.declared.Refusal.{Refusal}
 use Rattle.redirect_calls.proofs.Turning.{sets_middle}
-use Rattle.redirect_words.proofs.Ending.{Redirecting, answered, Refused, refuses_by, Accepted, accepts}
+use Rattle.redirect_words.proofs.Ending.{Redirecting, answered, not_done}
 use Rattle.redirect_words.proofs.Theorems.{as_long}
 
 -- what the answer leaves is as long as what was there
@@ -36,14 +38,14 @@ sets-all : (vs l : List ℕ) → length vs ≡ length l → sets l 0 vs ≡ vs
 sets-all vs l e = ap (λ x. sets x 0 vs) (sym (append-nil l)) ∙ sets_middle [] vs l [] e ∙ append-nil vs
 
 -- ---- the image that an answer leaves
-pub image-stays : (image : List ℕ) (x : Answer) (k : ℕ) → redirect_ended x ≡ refused k → redirect_after image x ≡ image
+pub image-stays : (image : List ℕ) (x : Answer) → ((both : ℕ × ℕ) → redirect_ended x ≡ done both → ⊥) → redirect_after image x ≡ image
 unfolding redirect_after redirect_ended
-image-stays image (redirected a b m) k e = let z : ◌≡◌ {A = ℕ} 0 1 = cc in absurd (omega arith)
-image-stays image outside k e = refl
-image-stays image no_original k e = refl
-image-stays image no_replacement k e = refl
-image-stays image arguments_differ k e = refl
-image-stays image results_differ k e = refl
+image-stays image (redirected a b m) h = absurd (h (a, b) refl)
+image-stays image outside h = refl
+image-stays image no_original h = refl
+image-stays image no_replacement h = refl
+image-stays image arguments_differ h = refl
+image-stays image results_differ h = refl
 
 image-turns : (image : List ℕ) (m : Module) (x : Answer) (a b : ℕ) → redirect_ended x ≡ done (a, b) → redirect_after image x ≡ bytes_of (write (after m x))
 unfolding redirect_after after redirect_ended
@@ -73,15 +75,17 @@ module _ (image words tags : List ℕ) (n o p : ℕ) (omit : List ℕ) (h : Tape
       let l : length words₁ ≡ 16384 = ap length (t.words_are h.holds k) ∙ length-sets words 0 (write (left h.holds)) ∙ k.words_long in
       (omega (arith, k.small), omega (arith, image_long))
 
-  pub stays_stored : Refused r → Stores r image image words tags n o p omit
-  stays_stored (refuses_by k e) = record { answer = t.answer; bytes_are = λ m x. sym (image-stays image (redirect_function m o p omit) k (sym (t.answer m x) ∙ e)) }
+  pub stays_stored : (e : Refusal) → r ≡ Err e → Stores r image image words tags n o p omit
+  unfolding shown
+  stays_stored e is = record { answer = t.answer; bytes_are = λ m x. sym (image-stays image (redirect_function m o p omit) (not_done e _ (sym (t.answer m x) ∙ ap shown is))) }
 
-  pub turned_stored : Accepted r → (image₁ : List ℕ) → image₁ ≡ sets image 0 (bytes_of (take n words₁)) → Stores r image₁ image words tags n o p omit
-  turned_stored (accepts a b e) image₁ is =
+  pub turned_stored : (both : FunctionHandle × FunctionHandle) → r ≡ Ok both → (image₁ : List ℕ) → image₁ ≡ sets image 0 (bytes_of (take n words₁)) → Stores r image₁ image words tags n o p omit
+  unfolding shown
+  turned_stored both ok image₁ is =
       record {
         answer = t.answer;
         bytes_are = λ m x.
             let q : bytes_of (take n words₁) ≡ bytes_of (write (left m)) = ap bytes_of (words_left x) in
             let l : length (bytes_of (write (left m))) ≡ length image = length_bytes_of (write (left m)) ∙ ap (4 *◌) (left_long x) ∙ sym image_long in
-            is ∙ ap (sets image 0) q ∙ sets-all (bytes_of (write (left m))) image l ∙ sym (image-turns image m (redirect_function m o p omit) a b (sym (t.answer m x) ∙ e));
+            is ∙ ap (sets image 0) q ∙ sets-all (bytes_of (write (left m))) image l ∙ sym (image-turns image m (redirect_function m o p omit) both.0.0 both.1.0 (sym (t.answer m x) ∙ ap shown ok));
       }

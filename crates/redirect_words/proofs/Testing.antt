@@ -11,11 +11,11 @@ use Rattle.model.specs.Redirect.{all_below, with_replacement, with_original, red
 use Rattle.theory_image.specs.Views.{sees_names}
 use Rattle.theory_image.specs.FunctionViews.{taped_count}
 use Rattle.model.specs.Image.{redirect_ended}
-use Rattle.redirect_words.specs.Passes.{found_at, shown, Finds, Compares, Tests}
-use Rattle.redirect_words.specs.declared.Found.{Found}
-use Rattle.redirect_words.specs.declared.Found.TheVariants.{At, Nothing}
-use Rattle.redirect_words.specs.declared.Redirected.{Redirected}
-use Rattle.redirect_words.specs.declared.Redirected.TheVariants.{Outside, NoOriginal, NoReplacement}
+use Rattle.redirect_words.specs.Passes.{Redirected, found_at, shown, Finds, Compares, Tests}
+use Rattle.std.specs.Prelude.{Result, Err, Some, None, Option}
+use Rattle.std.specs.Option.{ok_or}
+use Rattle.base_refusals.specs.declared.Refusal.{Refusal}
+use Rattle.base_refusals.specs.declared.Refusal.TheVariants.{NumberGiven, OriginalNotFound, ReplacementNotFound}
 use Rattle.redirect_calls.proofs.Places.{many}
 use Rattle.redirect_words.proofs.Finding.{find_in}
 use Rattle.base_handles.specs.declared.FunctionHandle.{FunctionHandle}
@@ -27,8 +27,13 @@ names_many {m} t = taped_count t 0 (omega arith) ∙ (sees_names m refl).count
 pub names_told : (words l : List ℕ) (r : Bool) (x : ℕ) → r ≡ all_below l x → x ≡ count_at 0 words → r ≡ all_below l (count_at 0 words)
 names_told words l r x is e = is ∙ ap (all_below l) e
 
+-- a name that is not found is refused
+pub not_found : (f : Option FunctionHandle) (e y : Refusal) (r : Result FunctionHandle Refusal) → r ≡ ok_or f e → r ≡ Err y → (f ≡ None) × (y ≡ e)
+not_found None e y r is q = (refl, cc)
+not_found (Some a) e y r is q = absurd (cc)
+
 -- a function that was found is in the table
-pub found_in : (words tags : List ℕ) (n name : ℕ) (h : Tape words tags n) (f : Found) (a : FunctionHandle) → f ≡ At a → Finds f words tags n name → a.0 < count_at 6 words
+pub found_in : (words tags : List ℕ) (n name : ℕ) (h : Tape words tags n) (f : Option FunctionHandle) (a : FunctionHandle) → f ≡ Some a → Finds f words tags n name → a.0 < count_at 6 words
 unfolding found_at
 found_in words tags n name h f a e s = omega (arith, find_in h.holds.functions 0 name a.0 (sym (s.same h.holds h.taped) ∙ ap found_at e), many h.taped)
 
@@ -36,20 +41,20 @@ module _ (words tags : List ℕ) (n o p : ℕ) (omit : List ℕ) (r : Bool) (is 
   below : (m : Module) → Taped words tags n m → all_below (o ∷ p ∷ omit) (length m.names) ≡ r
   below m t = sym (is ∙ ap (all_below (o ∷ p ∷ omit)) (names_many t))
 
-  pub test-outside : r ≡ false → Tests Outside words tags n o p omit
+  pub test-outside : r ≡ false → Tests (Err NumberGiven) words tags n o p omit
   unfolding redirect_function shown redirect_ended
   test-outside e = record { same = λ m t. rw (redirect_function, below m t ∙ e) }
 
-  module _ (e : r ≡ true) (f : Found) (s : Finds f words tags n o) where
-    pub test_original : f ≡ Nothing → Tests NoOriginal words tags n o p omit
+  module _ (e : r ≡ true) (f : Option FunctionHandle) (s : Finds f words tags n o) where
+    pub test_original : f ≡ None → Tests (Err OriginalNotFound) words tags n o p omit
     unfolding redirect_function with_original shown redirect_ended found_at
     test_original z = record { same = λ m t. rw (redirect_function, below m t ∙ e, sym (s.same m t) ∙ ap found_at z) }
 
-    module _ (a : FunctionHandle) (z : f ≡ At a) (g : Found) (u : Finds g words tags n p) where
-      pub test_replacement : g ≡ Nothing → Tests NoReplacement words tags n o p omit
+    module _ (a : FunctionHandle) (z : f ≡ Some a) (g : Option FunctionHandle) (u : Finds g words tags n p) where
+      pub test_replacement : g ≡ None → Tests (Err ReplacementNotFound) words tags n o p omit
       unfolding redirect_function with_original with_replacement shown redirect_ended found_at
       test_replacement y = record { same = λ m t. rw (redirect_function, below m t ∙ e, sym (s.same m t) ∙ ap found_at z, with_replacement, sym (u.same m t) ∙ ap found_at y) }
 
-      pub test_compared : (b : FunctionHandle) → g ≡ At b → (x : Redirected) → Compares x words tags n a.0 b.0 → Tests x words tags n o p omit
+      pub test_compared : (b : FunctionHandle) → g ≡ Some b → (x : Redirected) → Compares x words tags n a.0 b.0 → Tests x words tags n o p omit
       unfolding redirect_function with_original with_replacement found_at
       test_compared b y x d = record { same = λ m t. rw (redirect_function, below m t ∙ e, sym (s.same m t) ∙ ap found_at z, with_replacement, sym (u.same m t) ∙ ap found_at y) (d.same m t omit) }

@@ -1,33 +1,32 @@
 -- What the functions of this crate answer and do, in terms of the module that words and tags hold.
-use Rattle.std.specs.Prelude.{◌≡◌, Bool, List, ℕ}
+use Rattle.std.specs.Prelude.{◌≡◌, Bool, List, ℕ, Result, Ok, Err, Some, None, Option as Found}
 use Rattle.std.proofs.Math.Option.{Option, none, some}
 use Rattle.std.proofs.lemmas.List.Edits.{sets}
-use Rattle.model.specs.Refusals.{ORIGINAL_NOT_FOUND, REPLACEMENT_NOT_FOUND, ARGUMENT_TYPES, RESULT_TYPES, NUMBER_GIVEN, Ended, done, refused}
+use Rattle.model.specs.Refusals.{Ended, done}
 use Rattle.model.specs.Module.{Module, write}
 use Rattle.model.specs.Taped.{Taped}
 use Rattle.model.specs.Redirect.{find, argument_types, agree, result_type, same as sameType, after, function, compared, redirect_function}
 use Rattle.model.specs.Image.{redirect_ended, redirect_after}
-use Rattle.redirect_words.specs.declared.Found.{Found}
-use Rattle.redirect_words.specs.declared.Found.TheVariants.{At, Nothing}
-use Rattle.redirect_words.specs.declared.Redirected.{Redirected}
-use Rattle.redirect_words.specs.declared.Redirected.TheVariants.{Done, Outside, NoOriginal, NoReplacement, ArgumentsDiffer, ResultsDiffer}
+use Rattle.base_handles.specs.declared.FunctionHandle.{FunctionHandle}
+use Rattle.base_refusals.specs.declared.Refusal.{Refusal}
+use Rattle.base_refusals.specs.Numbers.{refused_by}
 
 -- ---- answers
-unfoldable pub found_at : Found → Option ℕ
-found_at (At f) = some f.0
-found_at Nothing = none
+unfoldable pub found_at : Found FunctionHandle → Option ℕ
+found_at (Some f) = some f.0
+found_at None = none
+
+-- both functions, or why they are refused
+abbrev pub Redirected : Type 0
+Redirected = Result (FunctionHandle × FunctionHandle) Refusal
 
 -- how the model's answer ends, without its module
 unfoldable pub shown : Redirected → Ended (ℕ × ℕ)
-shown (Done a b) = done (a.0, b.0)
-shown Outside = refused NUMBER_GIVEN
-shown NoOriginal = refused ORIGINAL_NOT_FOUND
-shown NoReplacement = refused REPLACEMENT_NOT_FOUND
-shown ArgumentsDiffer = refused ARGUMENT_TYPES
-shown ResultsDiffer = refused RESULT_TYPES
+shown (Ok p) = done (p.0.0, p.1.0)
+shown (Err e) = refused_by e
 
 -- ---- tests
-pub record Finds (r : Found) (words tags : List ℕ) (n name : ℕ) : Type 0 where
+pub record Finds (r : Found FunctionHandle) (words tags : List ℕ) (n name : ℕ) : Type 0 where
   pub same : (m : Module) → Taped words tags n m → found_at r ≡ find m.functions 0 name
 
 pub record Agrees (r : Bool) (words tags : List ℕ) (n i k : ℕ) : Type 0 where

@@ -1,4 +1,4 @@
-// Redirecting over the words and the tags of an image that passed intake: redirect_function of redirect.rs. Functions are found by name number, their argument
+// Redirecting over the words and the tags of an image that passed intake. Functions are found by name number, their argument
 // and result types are compared, and the original is replaced by the replacement in Calls and CallResults. The tests read and change nothing; the pass after
 // them goes once over the functions and the entry points.
 #![tactic(auto)]
@@ -12,72 +12,30 @@ ghost use Rattle.model.specs.Redirect.{all_below};
 ghost use Rattle.redirect_words.specs.Passes.{Finds, Agrees, Returns, Compares, Tests, Redirects, Stores};
 
 use base_handles::FunctionHandle;
+use base_refusals::Refusal;
 use base_views::{FUNCTIONS, NAMES, argument_at, arguments, count, record_at};
-use base_words::{Tags, Words, store, wide};
+use base_words::{Tags, Words, store};
 use redirect_calls::{is_named, redirect_all};
 
-// The table function with a name, or none.
-#[derive(Clone, Copy)]
-pub enum Found {
-    At(FunctionHandle),
-    Nothing,
-}
-
-// Both functions, the original first; or why nothing was changed: refusals 13, 8, 9, 10 and 11.
-#[derive(Clone, Copy)]
-pub enum Redirected {
-    Done(FunctionHandle, FunctionHandle),
-    Outside,
-    NoOriginal,
-    NoReplacement,
-    ArgumentsDiffer,
-    ResultsDiffer,
-}
-
 // The table function with a name.
-pub fn find(words: &Words, tags: &Tags, n: usize, name: u32) -> Found
+pub fn find(words: &Words, tags: &Tags, n: usize, name: u32) -> Option<FunctionHandle>
     requires { Tape words.now tags.now n }
     ensures { Finds result words.now tags.now n name }
 {
-    let count = count(words, FUNCTIONS);
-    let mut j = 0;
-    while j < count {
-        let i = j;
-        j += 1;
-        let at = record_at(words, tags, n, FUNCTIONS, i);
+    for j in 0..count(words, FUNCTIONS) {
+        let at = record_at(words, tags, n, FUNCTIONS, j);
         if is_named(words[at], name) {
-            return Found::At(FunctionHandle(i as u32));
+            return Some(FunctionHandle(j as u32));
         }
     }
-    Found::Nothing
-}
-
-// Whether every number of a list is below a bound.
-fn all_below(list: &[u32], bound: u32) -> bool
-    ensures { result ≡ all_below list.now bound }
-{
-    let mut i = 0;
-    while i < list.len() {
-        let j = i;
-        i += 1;
-        if bound <= list[j] {
-            return false;
-        }
-    }
-    true
+    None
 }
 
 // Whether all numbers given are those of names.
 fn inside(original: u32, replacement: u32, omit: &[u32], names: u32) -> bool
     ensures { result ≡ all_below (original ∷ replacement ∷ omit.now) names }
 {
-    if names <= original {
-        return false;
-    }
-    if names <= replacement {
-        return false;
-    }
-    all_below(omit, names)
+    original < names && replacement < names && omit.iter().all(|name| *name < names)
 }
 
 // The type of argument i of the function that starts at s.
@@ -96,17 +54,11 @@ fn arguments_agree(words: &Words, tags: &Tags, n: usize, i: usize, k: usize) -> 
 {
     let a = record_at(words, tags, n, FUNCTIONS, i);
     let b = record_at(words, tags, n, FUNCTIONS, k);
-    let some = arguments(words, a);
-    let others = arguments(words, b);
-    let mut j = 0;
-    while j < some {
-        if others <= j {
-            return true;
-        }
+    let shorter = arguments(words, a).min(arguments(words, b));
+    for j in 0..shorter {
         if type_at(words, a, j) != type_at(words, b, j) {
             return false;
         }
-        j += 1;
     }
     true
 }
@@ -129,40 +81,33 @@ fn results_agree(words: &Words, tags: &Tags, n: usize, i: usize, k: usize) -> bo
 {
     let x = returns_at(words, tags, n, i);
     let y = returns_at(words, tags, n, k);
-    let some = words[x];
-    if some != words[y] {
-        return false;
-    }
-    if some == 0 {
-        return true;
-    }
-    words[x + 1] == words[y + 1]
+    words[x] == words[y] && (words[x] == 0 || words[x + 1] == words[y + 1])
 }
 
-// Compares argument types, and then result types.
+// Both functions, the original first, where their argument types and then their result types agree.
 pub fn compare(
     words: &Words,
     tags: &Tags,
     n: usize,
     original: FunctionHandle,
     replacement: FunctionHandle,
-) -> Redirected
+) -> Result<(FunctionHandle, FunctionHandle), Refusal>
     requires tape { Tape words.now tags.now n }
     requires original_bound { (original.0 < count_at 6 words.now) × (replacement.0 < count_at 6 words.now) }
     ensures { Compares result words.now tags.now n original.0 replacement.0 }
 {
-    let i = wide(original.0);
-    let k = wide(replacement.0);
+    let i = original.0 as usize;
+    let k = replacement.0 as usize;
     if !arguments_agree(words, tags, n, i, k) {
-        return Redirected::ArgumentsDiffer;
+        return Err(Refusal::ArgumentTypes);
     }
     if !results_agree(words, tags, n, i, k) {
-        return Redirected::ResultsDiffer;
+        return Err(Refusal::ResultTypes);
     }
-    Redirected::Done(original, replacement)
+    Ok((original, replacement))
 }
 
-// The tests in sequence: 13, 8, 9, 10, 11.
+// The tests in sequence: the numbers given, both names, the argument types, and the result types.
 fn test(
     words: &Words,
     tags: &Tags,
@@ -170,19 +115,15 @@ fn test(
     original: u32,
     replacement: u32,
     omit: &[u32],
-) -> Redirected
+) -> Result<(FunctionHandle, FunctionHandle), Refusal>
     requires { Tape words.now tags.now n }
     ensures { Tests result words.now tags.now n original replacement omit.now }
 {
     if !inside(original, replacement, omit, count(words, NAMES) as u32) {
-        return Redirected::Outside;
+        return Err(Refusal::NumberGiven);
     }
-    let Found::At(a) = find(words, tags, n, original) else {
-        return Redirected::NoOriginal;
-    };
-    let Found::At(b) = find(words, tags, n, replacement) else {
-        return Redirected::NoReplacement;
-    };
+    let a = find(words, tags, n, original).ok_or(Refusal::OriginalNotFound)?;
+    let b = find(words, tags, n, replacement).ok_or(Refusal::ReplacementNotFound)?;
     compare(words, tags, n, a, b)
 }
 
@@ -195,16 +136,13 @@ pub fn redirect_words(
     original: u32,
     replacement: u32,
     omit: &[u32],
-) -> Redirected
+) -> Result<(FunctionHandle, FunctionHandle), Refusal>
     requires { Tape words.old tags.now n }
     ensures { Redirects result words.new words.old tags.now n original replacement omit.now }
 {
-    let r = test(words, tags, n, original, replacement, omit);
-    let Redirected::Done(a, b) = r else {
-        return r;
-    };
+    let (a, b) = test(words, tags, n, original, replacement, omit)?;
     redirect_all(words, tags, n, a.0, b.0, omit);
-    r
+    Ok((a, b))
 }
 
 // The same of an image whose words are loaded and laid out: where it is accepted, the words go back to its bytes.
@@ -216,15 +154,12 @@ pub fn redirect_loaded(
     original: u32,
     replacement: u32,
     omit: &[u32],
-) -> Redirected
+) -> Result<(FunctionHandle, FunctionHandle), Refusal>
     requires tape { Tape words.old tags.now n }
     requires image_len { length image.old ≡ 4 * n }
     ensures { Stores result image.new image.old words.old tags.now n original replacement omit.now }
 {
-    let r = redirect_words(words, tags, n, original, replacement, omit);
-    let Redirected::Done(_, _) = r else {
-        return r;
-    };
+    let both = redirect_words(words, tags, n, original, replacement, omit)?;
     store(words, n, image);
-    r
+    Ok(both)
 }

@@ -16,9 +16,9 @@ use Rattle.theory_sessions.specs.Operating.{sets, does}
 use Rattle.derive_limits.specs.Reached.{Public, Reached}
 use Rattle.derive_limits.proofs.Reached.{does-reached}
 use Rattle.intake.specs.Taken.{number_of, Accepts, TakeInEnsures}
-use Rattle.intake.specs.declared.Taken.{Taken}
-use Rattle.intake.specs.declared.Taken.TheVariants.{Accepted}
-use Rattle.intake.proofs.Refusals.{NotFirst, refused_by}
+use Rattle.std.specs.Prelude.{Result, Ok, Err}
+use Rattle.base_refusals.specs.declared.Refusal.{Refusal}
+use Rattle.intake.proofs.Refusals.{refused_by}
 use Rattle.derive_state.specs.Source.{mod_of, Source}
 use Rattle.derive_state.specs.Held.{st_of}
 use Rattle.derive_state.specs.declared.Sizes.{Sizes}
@@ -73,8 +73,8 @@ unfolding setOf
 by_module bytes ws o s m h q = on_module (set_module o s) refused bytes ws m h q
 
 -- ---- the image that intake is given, and what it answers
-module _ (image w t : List ℕ) (taken : Taken) (got : TakeInEnsures taken w t image) where
-  module _ (m : ℕ) (ok : taken ≡ Accepted m) where
+module _ (image w t : List ℕ) (taken : Result ℕ Refusal) (got : TakeInEnsures taken w t image) where
+  module _ (m : ℕ) (ok : taken ≡ Ok m) where
     accepts : Accepts image w t m
     accepts = got.held m ok
 
@@ -101,13 +101,13 @@ module _ (image w t : List ℕ) (taken : Taken) (got : TakeInEnsures taken w t i
     op = setOf (length image) (words_of image) o
 
     -- 1 to 6
-    pub set_refused : NotFirst taken → (k : ℕ) → k ≡ number_of taken → OperationEnsures {A = Unit {0}} op before k tt before × ValidSession set n offset words tags targets log logtags starts maps buckets special e
-    set_refused h k hk =
-        let y = refused_by taken h in
+    pub set_refused : (d : Refusal) → taken ≡ Err d → (k : ℕ) → k ≡ number_of (Err d) → OperationEnsures {A = Unit {0}} op before k tt before × ValidSession set n offset words tags targets log logtags starts maps buckets special e
+    set_refused d h k hk =
+        let y = refused_by d in
         let z : k ≡ suc y.0 = hk ∙ y.1 in
-        (refuses op before before k tt (omega arith) (rw z (by-refusal (length image) (words_of image) o before y.0 (sym got.same ∙ y.1))) refl, L)
+        (refuses op before before k tt (omega arith) (rw z (by-refusal (length image) (words_of image) o before y.0 (sym got.same ∙ ap number_of h ∙ y.1))) refl, L)
 
-    module _ (m : ℕ) (ok : taken ≡ Accepted m) (r : Sizes) (log' logtags' : List ℕ) (starts' maps' : List (List ℕ)) (buckets' special' : List ℕ) (d : SetSourceEnsures w m o log logtags starts maps special e r log' logtags' starts' maps' buckets' special') where
+    module _ (m : ℕ) (ok : taken ≡ Ok m) (r : Sizes) (log' logtags' : List ℕ) (starts' maps' : List (List ℕ)) (buckets' special' : List ℕ) (d : SetSourceEnsures w m o log logtags starts maps special e r log' logtags' starts' maps' buckets' special') where
       holding : Holding before.state log logtags starts special e
       holding = held_so set n offset words log logtags starts maps special e
 

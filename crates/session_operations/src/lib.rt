@@ -20,7 +20,6 @@ use derive_source::set_source;
 use derive_state::{
     Buckets, Log, LogTags, Maps, Sizes, Special, Starts, Targets, clear_maps, empty,
 };
-use intake::Taken;
 use std::num::wrapping_add_u32;
 
 // What an operation answers: its refusal, 0 for none; a value; and the sizes of the derived module after it.
@@ -246,36 +245,38 @@ fn set_first_source(
     ensures operation_ensures { OperationEnsures {A = Unit {0}} (setOf (length image.now) (words_of image.now) o) (session_of false n offset words.old log.old logtags.old starts.old maps.old special.old ends) result.refusal tt (session_of result.set result.n result.offset words.new log.new logtags.new starts.new maps.new special.new result.ends) }
     ensures valid_session { ValidSession result.set result.n result.offset words.new tags.new targets.now log.new logtags.new starts.new maps.new buckets.new special.new result.ends }
 {
-    let taken = intake::take_in(image, words, tags);
-    if let Taken::Accepted(m) = taken {
-        let got = set_source(
-            words, tags, targets, m, log, logtags, starts, maps, buckets, special, ends, o,
-        );
-        if got.full {
+    let m = match intake::take_in(image, words, tags) {
+        Ok(m) => m,
+        Err(refusal) => {
+            *words = intake::fresh_words();
+            *tags = intake::fresh_tags();
             return Set {
-                refusal: FULL,
+                refusal: refusal.number(),
                 set: false,
                 n: n,
                 offset: offset,
                 ends: ends,
             };
         }
+    };
+    let got = set_source(
+        words, tags, targets, m, log, logtags, starts, maps, buckets, special, ends, o,
+    );
+    if got.full {
         return Set {
-            refusal: 0,
-            set: true,
-            n: m,
-            offset: o,
-            ends: got,
+            refusal: FULL,
+            set: false,
+            n: n,
+            offset: offset,
+            ends: ends,
         };
     }
-    *words = intake::fresh_words();
-    *tags = intake::fresh_tags();
     Set {
-        refusal: intake::number(taken),
-        set: false,
-        n: n,
-        offset: offset,
-        ends: ends,
+        refusal: 0,
+        set: true,
+        n: m,
+        offset: o,
+        ends: got,
     }
 }
 
@@ -309,36 +310,38 @@ pub fn set_shader_source(
     }
     let mut w = intake::fresh_words();
     let mut t = intake::fresh_tags();
-    let taken = intake::take_in(image, &mut w, &mut t);
-    if let Taken::Accepted(m) = taken {
-        let got = set_source(
-            &w, &t, targets, m, log, logtags, starts, maps, buckets, special, ends, o,
-        );
-        if got.full {
+    let m = match intake::take_in(image, &mut w, &mut t) {
+        Ok(m) => m,
+        Err(refusal) => {
             return Set {
-                refusal: FULL,
+                refusal: refusal.number(),
                 set: set,
                 n: n,
                 offset: offset,
                 ends: ends,
             };
         }
-        *words = w;
-        *tags = t;
+    };
+    let got = set_source(
+        &w, &t, targets, m, log, logtags, starts, maps, buckets, special, ends, o,
+    );
+    if got.full {
         return Set {
-            refusal: 0,
-            set: true,
-            n: m,
-            offset: o,
-            ends: got,
+            refusal: FULL,
+            set: set,
+            n: n,
+            offset: offset,
+            ends: ends,
         };
     }
+    *words = w;
+    *tags = t;
     Set {
-        refusal: intake::number(taken),
-        set: set,
-        n: n,
-        offset: offset,
-        ends: ends,
+        refusal: 0,
+        set: true,
+        n: m,
+        offset: o,
+        ends: got,
     }
 }
 

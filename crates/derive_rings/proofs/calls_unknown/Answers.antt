@@ -1,5 +1,4 @@
 -- `derive_rings::calls_unknown` meets its contract. The invariant: whether one is called from here on is whether one is called at all.
-use Prim.Native.Nat.{◌-◌}
 use Rattle.derive_rings.specs.Rings.{unknown_by}
 use Rattle.derive_rings.proofs.Wholes.{is_known, is_unknown_lem}
 use Rattle.derive_rings.proofs.Asking.{begin, finish, may, hit, miss, pass}
@@ -18,7 +17,7 @@ returns-then-known-eq0 c = hit (unknown_by c.args.words.now c.args.n c.args.log.
 pub loop-k-preserved : goal.loop-k-preserved
 loop-k-preserved c =
     elim c.if-tags-k-eq-CALLEE.branch [
-      | then-tags-k-eq-CALLEE+else-known-eq0 w ↦ miss (unknown_by c.args.words.now c.args.n c.args.log.now c.args.logtags.now c.args.starts.now c.args.ends) c.requires.scannable c.loop-k.invariant c.loop-k-test.true w.if-tags-k-eq-CALLEE.true _ w.wide-f.ensures.0 (is_known c.args.words.now c.args.n c.args.log.now c.args.logtags.now c.args.starts.now c.args.ends _ _ w.known.ensures w.if-known-eq0.false)
+      then-tags-k-eq-CALLEE+else-known-eq0 w ↦ miss (unknown_by c.args.words.now c.args.n c.args.log.now c.args.logtags.now c.args.starts.now c.args.ends) c.requires.scannable c.loop-k.invariant c.loop-k-test.true w.if-tags-k-eq-CALLEE.true _ w.wide-f.ensures.0 (is_known c.args.words.now c.args.n c.args.log.now c.args.logtags.now c.args.starts.now c.args.ends _ _ w.known.ensures w.if-known-eq0.false)
       | else-tags-k-eq-CALLEE w ↦ pass (unknown_by c.args.words.now c.args.n c.args.log.now c.args.logtags.now c.args.starts.now c.args.ends) c.requires.scannable c.loop-k.invariant c.loop-k-test.true w.if-tags-k-eq-CALLEE.false
     ]
 

@@ -1,5 +1,4 @@
 -- `derive_rings::entries_call` meets its contract. The invariant: whether one is called from this entry point on is whether one is called at all.
-use Prim.Native.Nat.{◌-◌}
 use native.Mathlib.Omega.{arith}
 use Rattle.derive_imports.proofs.Sources.{tape}
 use Rattle.derive_rings.proofs.Wholes.{few}

@@ -1,5 +1,4 @@
 -- `derive_rings::entries_lead` meets its contract. The invariant: whether one of unknown name is called from this entry point on is whether one is called at all.
-use Prim.Native.Nat.{◌-◌}
 use native.Mathlib.Omega.{arith}
 use Rattle.derive_imports.proofs.Sources.{tape}
 use Rattle.derive_rings.proofs.Asking.{look, entry_in_lem, scannable, entry_hit, entry_miss, none_left}

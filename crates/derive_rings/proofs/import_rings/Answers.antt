@@ -1,9 +1,12 @@
 use native.Mathlib.Omega.{arith}
 use Rattle.derive_imports.proofs.Sources.{tape}
 use Rattle.derive_rings.proofs.Wholes.{calls_not, callees-known, few, rings-itself, rings-callees}
+use Prim.Native.Nat.{◌<◌}
+use borrow.Author.Rules.{rules}
 use borrow.Author.Tests.{not-true}
 use mathlib.Core.Bool.{not}
-use mathlib.Core.Path.{ap}
+use mathlib.Core.Path.{ap, ◌∙◌}
+use Rattle.order_ranks.proofs.Marks.{calls_one_of}
 use Rattle.derive_rings.proofs.import_rings.Goals as goal
 
 pub returns-then-not-calls_unknown_name : goal.returns-then-not-calls_unknown_name
@@ -21,11 +24,11 @@ has-requires c = omega (arith, few c.requires.source, c.requires.f_bound)
 pub returns-then-has : goal.returns-then-has
 returns-then-has c = rings-itself c.args.words.now c.args.n c.args.log.now c.args.logtags.now c.args.starts.now c.args.ends c.args.tags.now c.requires.source _ c.gather_requirements.ensures _ c.unknown_in_ring-set.ensures c.args.f c.requires.f_bound _ c.has.ensures c.if-has.true
 
-pub overflow_cast-f : goal.overflow_cast-f
-overflow_cast-f c = omega (arith, few c.requires.source, c.requires.f_bound)
+pub bounds-callees-f : goal.bounds-callees-f
+bounds-callees-f c = omega (arith, few c.requires.source, c.requires.f_bound)
 
-pub waits-requires : goal.waits-requires
-waits-requires c = omega (arith, few c.requires.source, c.requires.f_bound)
+pub offset_bounds-callees-f : goal.offset_bounds-callees-f
+offset_bounds-callees-f c = let h : c.args.f < 256 = omega (arith, few c.requires.source, c.requires.f_bound) in search rules
 
 pub returns : goal.returns
-returns c = rings-callees c.args.words.now c.args.n c.args.log.now c.args.logtags.now c.args.starts.now c.args.ends c.args.tags.now c.requires.source _ c.gather_requirements.ensures _ c.unknown_in_ring-set.ensures c.args.f c.requires.f_bound _ _ c.has.ensures c.if-has.false c.waits.ensures
+returns c = rings-callees c.args.words.now c.args.n c.args.log.now c.args.logtags.now c.args.starts.now c.args.ends c.args.tags.now c.requires.source _ c.gather_requirements.ensures _ c.unknown_in_ring-set.ensures c.args.f c.requires.f_bound _ _ c.has.ensures c.if-has.false (c.meets.ensures ∙ calls_one_of _ _ _)

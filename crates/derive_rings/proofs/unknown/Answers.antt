@@ -1,6 +1,5 @@
 -- `derive_rings::unknown` meets its contract. The invariant: of the marks below i those are left whose names are unknown.
 use mathlib.Core.Path.{sym, ◌∙◌}
-use Prim.Native.Nat.{◌-◌}
 use native.Mathlib.Omega.{arith}
 use Rattle.derive_rings.proofs.Sieving.{begin, there, drops, stays, passes}
 use Rattle.derive_rings.proofs.Wholes.{few_at, below_at, is_known, is_unknown_lem, unknowns}
@@ -8,7 +7,7 @@ use Rattle.derive_rings.proofs.unknown.Goals.{then-has+then-is_known, then-has+e
 use Rattle.derive_rings.proofs.unknown.Goals as goal
 
 pub loop-f-init : goal.loop-f-init
-loop-f-init c = begin _ _ _ c.requires.began_len.0
+loop-f-init c = begin _ _ _ (omega arith)
 
 pub has-requires : goal.has-requires
 has-requires c = let h = few_at c.requires.source c.count-functions.ensures.0 in omega (arith, c.loop-f-test.true)
@@ -17,15 +16,15 @@ pub known-is_known-requires : goal.known-is_known-requires
 known-is_known-requires c = record { source = c.requires.source; n_value = c.requires.n_value; f_bound = omega (arith, c.loop-f-test.true, c.count-functions.ensures.0); bearing = c.requires.bearing }
 
 pub leave-requires : goal.leave-requires
-leave-requires c = (let i = c.loop-f.invariant in i.long, (let h = few_at c.requires.source c.count-functions.ensures.0 in omega (arith, c.loop-f-test.true)), there _ _ _ (few_at c.requires.source c.count-functions.ensures.0) (below_at _ c.count-functions.ensures.0 c.requires.began_len.1) _ _ c.loop-f.invariant c.loop-f-test.true (sym c.has.ensures ∙ c.if-has.true))
+leave-requires c = ((let h = few_at c.requires.source c.count-functions.ensures.0 in omega (arith, c.loop-f-test.true)), there _ _ _ (few_at c.requires.source c.count-functions.ensures.0) (below_at _ c.count-functions.ensures.0 c.requires.began_len) _ _ c.loop-f.invariant c.loop-f-test.true (sym c.has.ensures ∙ c.if-has.true))
 
 pub loop-f-preserved : goal.loop-f-preserved
 loop-f-preserved c =
     elim c.if-has.branch [
-      | then-has+then-is_known w ↦ rw (w.set-is) (drops _ _ _ (few_at c.requires.source c.count-functions.ensures.0) (below_at _ c.count-functions.ensures.0 c.requires.began_len.1) _ _ c.loop-f.invariant c.loop-f-test.true (sym c.has.ensures ∙ w.if-has.true) (is_known c.args.words.now c.args.n c.args.log.now c.args.logtags.now c.args.starts.now c.args.ends _ _ w.known-is_known.ensures w.if-is_known.true) _ w.leave.ensures)
-      | then-has+else-is_known w ↦ rw (w.set-is) (stays _ _ _ (few_at c.requires.source c.count-functions.ensures.0) (below_at _ c.count-functions.ensures.0 c.requires.began_len.1) _ _ c.loop-f.invariant c.loop-f-test.true (sym c.has.ensures ∙ w.if-has.true) (is_unknown_lem c.args.words.now c.args.n c.args.log.now c.args.logtags.now c.args.starts.now c.args.ends _ _ w.known-is_known.ensures w.if-is_known.false))
-      | else-has w ↦ rw (w.set-is) (passes _ _ _ (few_at c.requires.source c.count-functions.ensures.0) (below_at _ c.count-functions.ensures.0 c.requires.began_len.1) _ _ c.loop-f.invariant c.loop-f-test.true (sym c.has.ensures ∙ w.if-has.false))
+      then-has+then-is_known w ↦ rw (w.set-is) (drops _ _ _ (few_at c.requires.source c.count-functions.ensures.0) (below_at _ c.count-functions.ensures.0 c.requires.began_len) _ _ c.loop-f.invariant c.loop-f-test.true (sym c.has.ensures ∙ w.if-has.true) (is_known c.args.words.now c.args.n c.args.log.now c.args.logtags.now c.args.starts.now c.args.ends _ _ w.known-is_known.ensures w.if-is_known.true) _ w.leave.ensures)
+      | then-has+else-is_known w ↦ rw (w.set-is) (stays _ _ _ (few_at c.requires.source c.count-functions.ensures.0) (below_at _ c.count-functions.ensures.0 c.requires.began_len) _ _ c.loop-f.invariant c.loop-f-test.true (sym c.has.ensures ∙ w.if-has.true) (is_unknown_lem c.args.words.now c.args.n c.args.log.now c.args.logtags.now c.args.starts.now c.args.ends _ _ w.known-is_known.ensures w.if-is_known.false))
+      | else-has w ↦ rw (w.set-is) (passes _ _ _ (few_at c.requires.source c.count-functions.ensures.0) (below_at _ c.count-functions.ensures.0 c.requires.began_len) _ _ c.loop-f.invariant c.loop-f-test.true (sym c.has.ensures ∙ w.if-has.false))
     ]
 
 pub returns : goal.returns
-returns c = let a = c.args in unknowns a.words.now a.n a.log.now a.logtags.now a.starts.now a.ends _ _ _ _ c.count-functions.ensures.0 (few_at c.requires.source c.count-functions.ensures.0) c.requires.began_len.1 c.loop-f.invariant c.loop-f-test.false
+returns c = let a = c.args in unknowns a.words.now a.n a.log.now a.logtags.now a.starts.now a.ends _ _ _ _ c.count-functions.ensures.0 (few_at c.requires.source c.count-functions.ensures.0) c.requires.began_len c.loop-f.invariant c.loop-f-test.false

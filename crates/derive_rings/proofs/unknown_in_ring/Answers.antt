@@ -9,7 +9,7 @@ pub left-led-requires : goal.left-led-requires
 left-led-requires c = all_asks c.args.words.now c.args.n c.args.log.now c.args.logtags.now c.args.starts.now c.args.ends c.args.tags.now c.requires.source _ c.requires.gathered _ c.count-functions.ensures.0 _ c.first-all.ensures
 
 pub unknown-waiting-requires : goal.unknown-waiting-requires
-unknown-waiting-requires c = record { source = c.requires.source; n_value = c.requires.n_value; bearing = c.requires.bearing; began_len = (c.left-led.ensures.long, below_at _ (sym c.count-functions.ensures.0) c.left-led.ensures.low) }
+unknown-waiting-requires c = record { source = c.requires.source; n_value = c.requires.n_value; bearing = c.requires.bearing; began_len = below_at _ (sym c.count-functions.ensures.0) c.left-led.ensures.low }
 
 pub left-requires : goal.left-requires
 left-requires c = waiting_asks c.args.words.now c.args.n c.args.log.now c.args.logtags.now c.args.starts.now c.args.ends c.args.tags.now c.requires.source _ c.requires.gathered _ c.count-functions.ensures.0 _ c.first-all.ensures _ c.left-led.ensures _ c.unknown-waiting.ensures

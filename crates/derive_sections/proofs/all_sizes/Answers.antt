@@ -1,4 +1,3 @@
-use Prim.Native.Nat.{◌-◌}
 use Rattle.derive_sections.proofs.Tables.{rows_row, summing_begin, summing_next, summing_done}
 use borrow.Author.Rules.{rules}
 use Rattle.derive_sections.proofs.all_sizes.Goals as goal

@@ -1,9 +1,5 @@
-use Prim.Native.Nat.{◌-◌}
 use Rattle.derive_sections.proofs.Tables.{Summing}
 use Rattle.derive_sections.proofs.all_sizes.Given as goal
 
 abbrev pub invariant-loop-t : goal.invariant-loop-t
 invariant-loop-t l = Summing l.log l.logtags l.starts l.counts l.t l.p
-
-abbrev pub decreases-loop-t : goal.decreases-loop-t
-decreases-loop-t l = 8 - l.t

@@ -1,4 +1,3 @@
-use Prim.Native.Nat.{◌-◌}
 use Rattle.derive_sections.proofs.Notes.{noting_t_begin, noting_t_row, noting_t_next, noting_t_done}
 use borrow.Author.Rules.{rules}
 use Rattle.derive_sections.proofs.appearing.Goals as goal

@@ -1,4 +1,3 @@
-use Prim.Native.Nat.{◌-◌}
 use Rattle.derive_sections.proofs.Names.{note_same, note_room, note_new}
 use borrow.Author.Rules.{rules}
 use Rattle.derive_sections.proofs.note.Goals as goal

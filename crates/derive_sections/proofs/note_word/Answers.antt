@@ -1,16 +1,18 @@
-use Prim.Native.Nat.{◌-◌}
-use Rattle.derive_sections.proofs.Names.{word-plain, word_zero, word_low, word_name}
+use mathlib.Core.Logic.{inl, inr}
+use Rattle.derive_sections.proofs.Names.{word_none, word_low, word_name}
 use borrow.Author.Rules.{rules}
 use Rattle.derive_sections.proofs.note_word.Goals as goal
-
-pub returns-then-s-ne-NAME : goal.returns-then-s-ne-NAME
-returns-then-s-ne-NAME c = search (word-plain, rules)
-
-pub returns-then-w-eq0 : goal.returns-then-w-eq0
-returns-then-w-eq0 c = search (word_zero, rules)
+use Rattle.derive_sections.proofs.note_word.Goals.{else-s-eq-NAME-via-then-s-eq-NAME+else-w-ne0, else-s-eq-NAME-via-else-s-eq-NAME}
 
 pub note-requires : goal.note-requires
 note-requires c = search (word_low, rules)
 
-pub returns : goal.returns
-returns c = search (word_name, rules)
+pub returns-then-w-ne0 : goal.returns-then-w-ne0
+returns-then-w-ne0 c = search (word_name, rules)
+
+pub returns-else-s-eq-NAME : goal.returns-else-s-eq-NAME
+returns-else-s-eq-NAME c =
+    elim c.else-s-eq-NAME.branch [
+      | else-s-eq-NAME-via-then-s-eq-NAME+else-w-ne0 w ↦ word_none _ _ _ _ _ _ c.requires.appearing_ensures (inr w.if-w-ne0.false)
+      | else-s-eq-NAME-via-else-s-eq-NAME w ↦ word_none _ _ _ _ _ _ c.requires.appearing_ensures (inl w.if-s-eq-NAME.false)
+    ]

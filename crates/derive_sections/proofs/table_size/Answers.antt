@@ -1,16 +1,16 @@
-use Prim.Native.Nat.{◌-◌}
+use mathlib.Core.Path.{refl}
 use Rattle.derive_sections.proofs.Writes.{row_in, adding_begin, adding_next, adding_done}
 use borrow.Author.Rules.{rules}
 use Rattle.derive_sections.proofs.table_size.Goals as goal
 
-pub loop-i-init : goal.loop-i-init
-loop-i-init c = search (adding_begin, rules)
+pub loop-j-init : goal.loop-j-init
+loop-j-init c = search (adding_begin, rules)
 
-pub bounds-log-wide : goal.bounds-log-wide
-bounds-log-wide c = search (row_in, rules)
+pub bounds-log-row : goal.bounds-log-row
+bounds-log-row c = search (row_in, rules)
 
-pub loop-i-preserved : goal.loop-i-preserved
-loop-i-preserved c = search (adding_next, rules)
+pub loop-j-preserved : goal.loop-j-preserved
+loop-j-preserved c = adding_next _ _ _ _ c.requires _ _ c.loop-j.invariant c.loop-j-test.true _ refl _ refl
 
 pub returns : goal.returns
-returns c = let a = c.args in let p = c.requires in let l = c.loop-i in adding_done a.log.now a.logtags.now a.row.now a.count p l.i l.o l.invariant c.loop-i-test.false
+returns c = let a = c.args in let p = c.requires in let l = c.loop-j in adding_done a.log.now a.logtags.now a.row.now a.count p l.j l.o l.invariant c.loop-j-test.false

@@ -1,4 +1,3 @@
-use Prim.Native.Nat.{◌-◌}
 use native.Mathlib.Omega.{arith}
 use Rattle.derive_sections.proofs.Tables.{rows_row, rows_few, heading_begin, heading_next, heading_done}
 use borrow.Author.Rules.{rules}

@@ -1,9 +1,5 @@
-use Prim.Native.Nat.{◌-◌}
 use Rattle.derive_sections.proofs.Tables.{Heading}
 use Rattle.derive_sections.proofs.write_heads.Given as goal
 
 abbrev pub invariant-loop-t : goal.invariant-loop-t
 invariant-loop-t l = Heading l.log l.logtags l.starts l.counts l.pairs l.initial.out l.out l.t l.p
-
-abbrev pub decreases-loop-t : goal.decreases-loop-t
-decreases-loop-t l = 8 - l.t

@@ -1,4 +1,3 @@
-use Prim.Native.Nat.{◌-◌}
 use lib.ListN.{length}
 use mathlib.Core.Path.{ap, ◌∙◌}
 use Rattle.derive_sections.proofs.Writes.{table-room, table_done}

@@ -1,4 +1,3 @@
-use Prim.Native.Nat.{◌-◌}
 use Rattle.derive_sections.proofs.Tables.{rows_row, tabling_begin, tabling_room, tabling_next, tabling_done}
 use borrow.Author.Rules.{rules}
 use Rattle.derive_sections.proofs.write_tables.Goals as goal

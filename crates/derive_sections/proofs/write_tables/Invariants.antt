@@ -1,9 +1,5 @@
-use Prim.Native.Nat.{◌-◌}
 use Rattle.derive_sections.proofs.Tables.{Tabling}
 use Rattle.derive_sections.proofs.write_tables.Given as goal
 
 abbrev pub invariant-loop-t : goal.invariant-loop-t
 invariant-loop-t l = Tabling l.log l.logtags l.starts l.counts l.places l.initial.out l.at l.out l.t l.p
-
-abbrev pub decreases-loop-t : goal.decreases-loop-t
-decreases-loop-t l = 8 - l.t

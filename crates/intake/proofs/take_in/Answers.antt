@@ -1,18 +1,12 @@
-use Rattle.intake.proofs.Tests.{size_fails, misfit_fails, strange_fails, tape_so, tested_so}
-use borrow.Author.Rules.{rules}
+use Rattle.intake.proofs.Tests.{tape_so, tested_so, not_laid}
+use Rattle.std.proofs.lemmas.Result.{err_from_is_err_and}
 use Rattle.intake.proofs.take_in.Goals as goal
 
 pub test-requires : goal.test-requires
-test-requires c = search (tape_so, rules)
+test-requires c = tape_so _ _ _ _ _ c.requires.words_len c.requires.tags_len _ c.in_ok-n.ensures
 
-pub returns-in-Fits : goal.returns-in-Fits
-returns-in-Fits c = search (tested_so, rules)
+pub returns-in_err-n : goal.returns-in_err-n
+returns-in_err-n c = let p = err_from_is_err_and c.from_residual.result c.from_residual.ensures.1 in rw (p.1, p.2) (not_laid _ _ _ _ _ c.requires.words_len c.requires.tags_len _ c.in_err-n.ensures)
 
-pub returns-in-Size : goal.returns-in-Size
-returns-in-Size c = search (size_fails, rules)
-
-pub returns-in-Misfit : goal.returns-in-Misfit
-returns-in-Misfit c = search (misfit_fails, rules)
-
-pub returns-in-Strange : goal.returns-in-Strange
-returns-in-Strange c = search (strange_fails, rules)
+pub returns : goal.returns
+returns c = tested_so _ _ _ _ _ c.requires.words_len c.requires.tags_len _ c.in_ok-n.ensures _ c.test.ensures

@@ -1,5 +1,8 @@
-use Rattle.intake_blocks.proofs.Bodies.{body_is, body_long}
+use mathlib.Core.Path.{◌∙◌}
+use Rattle.intake_blocks.proofs.Bodies.{cleared, body_is}
 use Rattle.intake_blocks.proofs.body.Goals as goal
 
 pub returns : goal.returns
-returns c = record { value = body_is _ _ _ _ _ _ _ _ _ c.requires.block_here c.clear.ensures _ c.block-r.ensures; until_len_2 = body_long _ _ _ _ _ _ _ _ _ c.requires.block_here c.clear.ensures _ c.block-r.ensures }
+returns c =
+    let few = c.requires.block_here.exprs.placed.few in
+    c.is_some.ensures ∙ body_is _ _ _ _ _ _ _ _ _ c.requires.block_here (cleared _ _ _ c.told-until few (c.fill.ensures.after (λ y q. q))) _ c.block.ensures

@@ -4,7 +4,4 @@ use Rattle.intake_blocks.proofs.Answers.{Skipping}
 use Rattle.intake_blocks.proofs.skip.Given as goal
 
 abbrev pub invariant-loop-n : goal.invariant-loop-n
-invariant-loop-n l = Skipping l.words (get_or l.words l.at 0) (l.at + 1) l.n l.i
-
-abbrev pub decreases-loop-n : goal.decreases-loop-n
-decreases-loop-n l = l.n
+invariant-loop-n l = Skipping l.words (get_or l.words l.at 0) (l.at + 1) l._n l.i

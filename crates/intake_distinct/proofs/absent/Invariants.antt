@@ -6,8 +6,5 @@ use Rattle.intake_distinct.specs.Listed.{listing, number_at}
 use Rattle.intake_distinct.proofs.Steps.{Over}
 use Rattle.intake_distinct.proofs.absent.Given as goal
 
-abbrev pub invariant-loop-i : goal.invariant-loop-i
-invariant-loop-i st = Over (λ l. absent l st.x) (number_at st.words st.k) (absent (listing (number_at st.words st.k) (count_at st.k st.words - st.from) st.from) st.x) st.n st.i
-
-abbrev pub decreases-loop-i : goal.decreases-loop-i
-decreases-loop-i l = l.n - l.i
+abbrev pub invariant-loop-j : goal.invariant-loop-j
+invariant-loop-j st = Over (λ l. absent l st.x) (number_at st.words st.k) (absent (listing (number_at st.words st.k) (count_at st.k st.words - st.from) st.from) st.x) st.j-end st.j

@@ -3,11 +3,8 @@ use Rattle.model.specs.Module.{count_at}
 use Rattle.model.specs.Names.{differ}
 use Rattle.intake_distinct.specs.Listed.{name_at}
 use Rattle.intake_distinct.specs.Places.{hash}
-use Rattle.intake_distinct.proofs.Places.{names, Down}
+use Rattle.intake_distinct.proofs.Places.{Down}
 use Rattle.intake_distinct.proofs.differ.Given as goal
 
-abbrev pub invariant-loop-i : goal.invariant-loop-i
-invariant-loop-i l = Down differ hash 4096 (name_at l.words) (count_at 0 l.words) l.seen l.i
-
-abbrev pub decreases-loop-i : goal.decreases-loop-i
-decreases-loop-i l = l.i
+abbrev pub invariant-loop-j : goal.invariant-loop-j
+invariant-loop-j l = Down differ hash 4096 (name_at l.words) (count_at 0 l.words) l.seen l.j

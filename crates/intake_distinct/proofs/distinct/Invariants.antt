@@ -6,8 +6,5 @@ use Rattle.intake_distinct.specs.Places.{itself}
 use Rattle.intake_distinct.proofs.Places.{Down}
 use Rattle.intake_distinct.proofs.distinct.Given as goal
 
-abbrev pub invariant-loop-i : goal.invariant-loop-i
-invariant-loop-i l = Down distinct itself 1024 (number_at l.words l.k) (count_at l.k l.words) l.seen l.i
-
-abbrev pub decreases-loop-i : goal.decreases-loop-i
-decreases-loop-i l = l.i
+abbrev pub invariant-loop-j : goal.invariant-loop-j
+invariant-loop-j l = Down distinct itself 1024 (number_at l.words l.k) (count_at l.k l.words) l.seen l.j

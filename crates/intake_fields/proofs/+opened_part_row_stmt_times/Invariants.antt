@@ -25,8 +25,5 @@ invariant-row-loop-at l = Rowing l.words l.initial.tags l.at l.end l.pc l.left l
 abbrev pub decreases-row-loop-at : goal.decreases-row-loop-at
 decreases-row-loop-at l = ROWS - l.p
 
-abbrev pub invariant-times-loop-n : goal.invariant-times-loop-n
-invariant-times-loop-n l = Timing l.words l.initial.tags l.at l.count l.end l.pc l.left l.tags l.i l.n
-
-abbrev pub decreases-times-loop-n : goal.decreases-times-loop-n
-decreases-times-loop-n l = l.n
+abbrev pub invariant-times-loop : goal.invariant-times-loop
+invariant-times-loop l = Timing l.words l.initial.tags l.at l.count l.end l.pc l.left l.tags l.i (l.count - l.counter)

@@ -1,9 +1,10 @@
-use Rattle.intake_fields.proofs.Walk.{run_misfit, operands-walk}
-use borrow.Author.Rules.{rules}
+-- `intake_fields::operands` meets its contract.
+use Rattle.std.proofs.Common.{rules}
+use Rattle.intake_fields.proofs.Walk.{exit, run_misfit, operands-walk}
 use Rattle.intake_fields.proofs.operands.Goals as goal
 
-pub returns-then-end-at : goal.returns-then-end-at
-returns-then-end-at c = search (run_misfit, rules)
+pub returns-in_err-n : goal.returns-in_err-n
+returns-in_err-n c = rw (exit _ c.in_err-n.field-0.0 c.from_residual.ensures.1) (run_misfit _ _ _ _ _ _ _ c.in_err-n.ensures)
 
 pub returns : goal.returns
-returns c = search (operands-walk, rules)
+returns c = let t = c.in_ok-n.ensures in search (operands-walk, rules)

@@ -1,21 +1,19 @@
-use Rattle.intake_fields.proofs.Walk.{run_misfit, text_misfit, text_strange, text_done, text-padded, text-within}
-use borrow.Author.Rules.{rules}
+-- `intake_fields::text` meets its contract.
+use Rattle.std.proofs.Common.{rules}
+use Rattle.intake_fields.proofs.Walk.{exit, run_misfit, text_err, text_done, text-padded, text-within}
 use Rattle.intake_fields.proofs.text.Goals as goal
 
-pub returns-then-end-at : goal.returns-then-end-at
-returns-then-end-at c = search (run_misfit, rules)
+pub returns-in_err-bytes : goal.returns-in_err-bytes
+returns-in_err-bytes c = rw (exit _ c.in_err-bytes.field-0.0 c.from_residual.ensures.1) (run_misfit _ _ _ _ _ _ _ c.in_err-bytes.ensures)
 
-pub returns-then-k-eq0 : goal.returns-then-k-eq0
-returns-then-k-eq0 c = search (text_done, rules)
+pub returns-in_err-i : goal.returns-in_err-i
+returns-in_err-i c = rw (exit _ c.in_err-i.field-0.0 c.from_residual-in_err-i.ensures.1) (text_err _ _ _ _ _ _ c.in_ok-bytes.ensures c.requires.end_in_bounds _ _ c.fill.ensures _ c.in_err-i.was)
 
-pub padded-requires : goal.padded-requires
-padded-requires c = record { at_le_end = search (text-within, rules); end_in_bounds = search rules; end_bound = search rules; k_nonzero = search rules }
+pub padded-requires-clause-at_le_end : goal.padded-requires-clause-at_le_end
+padded-requires-clause-at_le_end c = text-within _ _ _ _ _ _ c.in_ok-bytes.ensures c.requires.end_in_bounds _ _ c.fill.ensures _ c.in_ok-i.was
 
-pub returns-else-k-eq0 : goal.returns-else-k-eq0
-returns-else-k-eq0 c = search (text-padded, rules)
+pub returns-in-0 : goal.returns-in-0
+returns-in-0 c = text_done _ _ _ _ _ _ c.in_ok-bytes.ensures c.requires.end_in_bounds _ _ c.fill.ensures _ c.in_ok-i.was c.in-0.is
 
-pub returns-in-Misfit : goal.returns-in-Misfit
-returns-in-Misfit c = search (text_misfit, rules)
-
-pub returns-in-Strange : goal.returns-in-Strange
-returns-in-Strange c = search (text_strange, rules)
+pub returns-in_default : goal.returns-in_default
+returns-in_default c = let t = c.in_ok-bytes.ensures in let e = c.in_ok-i.was in search (text-padded, rules)

@@ -1,3 +1,4 @@
+use mathlib.Core.Path.{refl}
 use Prim.Native.Nat.{ℕ}
 use native.Mathlib.Omega.{arith}
 use lib.ListN.{replicate, length-replicate}
@@ -17,25 +18,25 @@ pub bounds-words-exprs : goal.bounds-words-exprs
 bounds-words-exprs c = init_exprs _ _ _ _ _ c.requires
 
 pub returns-then-count-eq0 : goal.returns-then-count-eq0
-returns-then-count-eq0 c = init-empty _ _ _ _ _ c.requires _ _ c.wide-count.ensures c.wide-e.ensures c.if-count-eq0.true
+returns-then-count-eq0 c = init-empty _ _ _ _ _ c.requires _ _ (refl, c.fits-words _) (refl, c.fits-words _) c.if-count-eq0.true
 
 pub overflow_add-locals : goal.overflow_add-locals
 overflow_add-locals c = omega (arith, init_locals _ _ _ _ _ c.requires)
 
 pub roots-top-requires : goal.roots-top-requires
-roots-top-requires c = record { words_len = c.requires.lists.long.words_long; count_bound = init-count _ _ _ _ _ c.requires _ _ c.wide-count.ensures c.wide-e.ensures; room = init-room _ _ _ _ _ c.requires _ _ c.wide-count.ensures c.wide-e.ensures (replicate 1024 0) (length-replicate {A = ℕ} 1024 0) }
+roots-top-requires c = record { words_len = c.requires.lists.long.words_long; count_bound = init-count _ _ _ _ _ c.requires _ _ (refl, c.fits-words _) (refl, c.fits-words _); room = init-room _ _ _ _ _ c.requires _ _ (refl, c.fits-words _) (refl, c.fits-words _) (replicate 1024 0) (length-replicate {A = ℕ} 1024 0) }
 
 pub returns-then-top-eq0 : goal.returns-then-top-eq0
-returns-then-top-eq0 c = init-none _ _ _ _ _ c.requires _ _ c.wide-count.ensures c.wide-e.ensures (replicate 1024 0) (length-replicate {A = ℕ} 1024 0) _ _ _ c.roots-top.ensures c.if-top-eq0.true
+returns-then-top-eq0 c = init-none _ _ _ _ _ c.requires _ _ (refl, c.fits-words _) (refl, c.fits-words _) (replicate 1024 0) (length-replicate {A = ℕ} 1024 0) _ _ _ c.roots-top.ensures c.if-top-eq0.true
 
 pub overflow_add-exprs : goal.overflow_add-exprs
 overflow_add-exprs c = omega (arith, init_exprs _ _ _ _ _ c.requires)
 
 pub places-requires : goal.places-requires
-places-requires c = record { tags_len = c.requires.lists.long.tags_long; at_le_end = init-after _ _ _ _ _ c.requires; end_bound = init-end _ _ _ _ _ c.requires; tags_len_bound = init_few _ _ _ _ _ c.requires _ _ c.wide-count.ensures c.wide-e.ensures }
+places-requires c = record { tags_len = c.requires.lists.long.tags_long; at_le_end = init-after _ _ _ _ _ c.requires; end_bound = init-end _ _ _ _ _ c.requires; tags_len_bound = init_few _ _ _ _ _ c.requires _ _ (refl, c.fits-words _) (refl, c.fits-words _) }
 
 pub reach-requires : goal.reach-requires
-reach-requires c = init_reach _ _ _ _ _ c.requires _ _ c.wide-count.ensures c.wide-e.ensures (replicate 1024 0) (length-replicate {A = ℕ} 1024 0) _ _ _ c.roots-top.ensures _ c.places.ensures
+reach-requires c = init_reach _ _ _ _ _ c.requires _ _ (refl, c.fits-words _) (refl, c.fits-words _) (replicate 1024 0) (length-replicate {A = ℕ} 1024 0) _ _ _ c.roots-top.ensures _ c.places.ensures
 
 pub returns : goal.returns
-returns c = init_done _ _ _ _ _ c.requires _ _ c.wide-count.ensures c.wide-e.ensures (replicate 1024 0) (length-replicate {A = ℕ} 1024 0) _ _ _ c.roots-top.ensures _ c.places.ensures _ _ _ c.reach.ensures
+returns c = init_done _ _ _ _ _ c.requires _ _ (refl, c.fits-words _) (refl, c.fits-words _) (replicate 1024 0) (length-replicate {A = ℕ} 1024 0) _ _ _ c.roots-top.ensures _ c.places.ensures _ _ _ c.reach.ensures

@@ -1,13 +1,14 @@
-use Prim.Native.Nat.{◌-◌}
-use Rattle.intake_initialisers.proofs.Visiting.{roots-begin, roots-next, roots_done}
+use mathlib.Core.Path.{sym, ◌∙◌}
+use Rattle.intake_initialisers.proofs.Visiting.{less_one, roots-next, roots_skip, roots_done}
 use borrow.Author.Rules.{rules}
+use Rattle.intake_initialisers.proofs.roots.Goals.{in-Some, in_default}
 use Rattle.intake_initialisers.proofs.roots.Goals as goal
 
-pub loop-i-init : goal.loop-i-init
-loop-i-init c = search (roots-begin, rules)
-
-pub loop-i-preserved : goal.loop-i-preserved
-loop-i-preserved c = search (roots-next, rules)
+pub loop-j-preserved : goal.loop-j-preserved
+loop-j-preserved c = elim c.match-checked_sub.branch [
+  | in-Some w ↦ rw (w.marks-is, w.list-is, w.n-is) (roots-next _ _ _ _ _ _ _ _ _ _ c.loop-j.invariant c.loop-j-test.true _ (sym w.in-Some.is ∙ less_one _ _ c.checked_sub.ensures) _ _ _ w.visit-n.ensures)
+  | in_default w ↦ rw (w.marks-is, w.list-is, w.n-is) (roots_skip _ _ _ _ _ _ _ _ _ _ c.loop-j.invariant c.loop-j-test.true (sym w.in_default.is ∙ less_one _ _ c.checked_sub.ensures))
+]
 
 pub returns : goal.returns
 returns c = search (roots_done, rules)

@@ -2,8 +2,7 @@ use lib.ListN.{get_or}
 use mathlib.Core.Path.{refl, ap}
 use Rattle.base_views.proofs.Places.{arguments_inside}
 use native.Mathlib.Omega.{arith}
-use Rattle.intake_numbers.proofs.Framing.{function-inside, function_long, function-rising, function_small, function-listed, function_over, function_done}
-use mathlib.Core.Bool.{not}
+use Rattle.intake_numbers.proofs.Framing.{function-inside, function_over, function_done}
 use Rattle.intake_numbers.proofs.function.Goals as goal
 
 pub locals_at-locals-requires : goal.locals_at-locals-requires
@@ -15,20 +14,11 @@ expressions_at-exprs-requires c = function-inside _ _ _ _ _ c.requires
 pub arguments_at-requires : goal.arguments_at-requires
 arguments_at-requires c = let h = function-inside _ _ _ _ _ c.requires in omega (arith, arguments_inside _ _ h)
 
-pub offset_bounds-words-arguments_at : goal.offset_bounds-words-arguments_at
-offset_bounds-words-arguments_at c = let h = arguments_inside _ _ (function-inside _ _ _ _ _ c.requires) in record { fits = omega (arith, h, c.arguments_at.ensures) }
-
 pub bounds-words-arguments_at : goal.bounds-words-arguments_at
 bounds-words-arguments_at c = let h = arguments_inside _ _ (function-inside _ _ _ _ _ c.requires) in omega (arith, h, c.arguments_at.ensures)
 
-pub function_in_range-requires : goal.function_in_range-requires
-function_in_range-requires c = record { long = function_long _ _ _ _ _ c.requires; at_le_end = function-rising _ _ _ _ _ c.requires; end_bound = function_small _ _ _ _ _ c.requires }
+pub returns-else-function_in_range : goal.returns-else-function_in_range
+returns-else-function_in_range c = function_over _ _ _ _ _ c.requires _ _ c.locals_at-locals.ensures.0 c.expressions_at-exprs.ensures.0 _ _ _ refl (ap (λ i. get_or c.args.words.now i 0) c.arguments_at.ensures) refl _ _ c.function_bounds.ensures _ c.function_in_range.ensures c.if-function_in_range.false
 
-pub returns-then-not-function_in_range : goal.returns-then-not-function_in_range
-returns-then-not-function_in_range c = function_over _ _ _ _ _ c.requires _ _ c.locals_at-locals.ensures.0 c.expressions_at-exprs.ensures.0 _ _ _ refl (ap (λ i. get_or c.args.words.now i 0) c.arguments_at.ensures) refl _ _ c.function_bounds.ensures _ c.function_in_range.ensures (ap not c.if-not-function_in_range.true)
-
-pub initialised-requires : goal.initialised-requires
-initialised-requires c = function-listed _ _ _ _ _ c.requires _ _ c.locals_at-locals.ensures.0 c.expressions_at-exprs.ensures.0
-
-pub returns : goal.returns
-returns c = function_done _ _ _ _ _ c.requires _ _ c.locals_at-locals.ensures.0 c.expressions_at-exprs.ensures.0 _ _ _ refl (ap (λ i. get_or c.args.words.now i 0) c.arguments_at.ensures) refl _ _ c.function_bounds.ensures _ c.function_in_range.ensures (ap not c.if-not-function_in_range.false) _ c.initialised.ensures
+pub returns-then-function_in_range : goal.returns-then-function_in_range
+returns-then-function_in_range c = function_done _ _ _ _ _ c.requires _ _ c.locals_at-locals.ensures.0 c.expressions_at-exprs.ensures.0 _ _ _ refl (ap (λ i. get_or c.args.words.now i 0) c.arguments_at.ensures) refl _ _ c.function_bounds.ensures _ c.function_in_range.ensures c.if-function_in_range.true _ c.initialised.ensures

@@ -1,24 +1,18 @@
-use Rattle.intake_numbers.proofs.Tabling.{tape_long, tape_small, special-rising, tables-types, tables_constants, tables_overrides, tables_globals, tables_exprs, tables-special}
-use borrow.Author.Rules.{rules}
+use Rattle.intake_numbers.proofs.Tabling.{sections-rising, sections_small, special-rising, tables-over, tables-special}
 use Rattle.intake_numbers.proofs.tables.Goals as goal
 
-pub returns-then-not-table : goal.returns-then-not-table
-returns-then-not-table c = search (tables-types, rules)
+pub in_range-requires-clause-at_le_end : goal.in_range-requires-clause-at_le_end
+in_range-requires-clause-at_le_end c = sections-rising _ _ _ c.requires _ _ c.offset-types.ensures.0 c.offset-functions.ensures.0
 
-pub returns-then-not-table-2 : goal.returns-then-not-table-2
-returns-then-not-table-2 c = search (tables_constants, rules)
+pub in_range-requires-clause-end_bound : goal.in_range-requires-clause-end_bound
+in_range-requires-clause-end_bound c = sections_small _ _ _ c.requires _ c.offset-functions.ensures.0
 
-pub returns-then-not-table-3 : goal.returns-then-not-table-3
-returns-then-not-table-3 c = search (tables_overrides, rules)
+pub in_range-requires-then-in_range-clause-at_le_end :
+    goal.in_range-requires-then-in_range-clause-at_le_end
+in_range-requires-then-in_range-clause-at_le_end c = special-rising _ _ _ c.requires _ c.offset-special.ensures.0
 
-pub returns-then-not-table-4 : goal.returns-then-not-table-4
-returns-then-not-table-4 c = search (tables_globals, rules)
+pub returns-then-in_range : goal.returns-then-in_range
+returns-then-in_range c = tables-special _ _ _ _ _ _ c.offset-types.ensures.0 c.offset-functions.ensures.0 _ c.in_range.ensures c.if-in_range.true _ c.offset-special.ensures.0 _ c.in_range-then-in_range.ensures
 
-pub returns-then-not-table-5 : goal.returns-then-not-table-5
-returns-then-not-table-5 c = search (tables_exprs, rules)
-
-pub in_range-requires : goal.in_range-requires
-in_range-requires c = search (tape_long, tape_small, special-rising, rules)
-
-pub returns : goal.returns
-returns c = search (tables-special, rules)
+pub returns-else-in_range : goal.returns-else-in_range
+returns-else-in_range c = tables-over _ _ _ _ _ _ c.offset-types.ensures.0 c.offset-functions.ensures.0 _ c.in_range.ensures c.if-in_range.false

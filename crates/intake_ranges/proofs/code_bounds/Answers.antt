@@ -1,6 +1,5 @@
 -- `code_bounds` meets its contract: the codes are stored in their order (`Coded`).
-use Prim.Native.Nat.{◌-◌}
-use Rattle.intake_ranges.proofs.Codes.{Coded, coded-first, coded-next, coded-last}
+use Rattle.intake_ranges.proofs.Codes.{coded-first, coded-next, coded-last}
 use borrow.Author.Rules.{rules}
 use Rattle.intake_ranges.proofs.code_bounds.Goals as goal
 

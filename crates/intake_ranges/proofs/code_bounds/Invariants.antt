@@ -1,10 +1,6 @@
 -- `code_bounds` meets its contract: the codes are stored in their order (`Coded`).
-use Prim.Native.Nat.{◌-◌}
 use Rattle.intake_ranges.proofs.Codes.{Coded}
 use Rattle.intake_ranges.proofs.code_bounds.Given as goal
 
 abbrev pub invariant-loop-i : goal.invariant-loop-i
 invariant-loop-i l = Coded l.t l.i
-
-abbrev pub decreases-loop-i : goal.decreases-loop-i
-decreases-loop-i l = 80 - l.i

@@ -1,22 +1,21 @@
+use mathlib.Core.Path.{refl, ◌∙◌}
 use Prim.Native.Nat.{◌-◌}
-use Rattle.intake_ranges.proofs.Ranging.{checked-begin, checked_done, checked_over, checked-plain, checked_falls, checked_emit}
-use borrow.Author.Rules.{rules}
+use lib.Dec.{ltb}
+use lib.ListN.{get_or}
+use borrow.Author.Tests.{tests}
+use Rattle.std.proofs.Common.{rules}
+use Rattle.std.proofs.lemmas.Iterator.{YieldsList-from_range}
+use Rattle.std.proofs.lemmas.Iterator.Search.{all_from_yields_List}
+use mathlib.Core.Bool.{◌&&◌}
+use Prim.Native.Nat.{◌+◌}
+use Rattle.model.specs.Numbers.{rising}
+use Rattle.model.specs.Between.{between}
+use Rattle.intake_ranges.proofs.Ranging.{all_ordered}
 use Rattle.intake_ranges.proofs.function_in_range.Goals as goal
 
-pub loop-i-init : goal.loop-i-init
-loop-i-init c = search (checked-begin, rules)
-
-pub returns-then-t-k : goal.returns-then-t-k
-returns-then-t-k c = search (checked_over, rules)
-
-pub returns-then-not-emit_in_order : goal.returns-then-not-emit_in_order
-returns-then-not-emit_in_order c = search (checked_falls, rules)
-
-pub loop-i-preserved-else-not-emit_in_order : goal.loop-i-preserved-else-not-emit_in_order
-loop-i-preserved-else-not-emit_in_order c = search (checked_emit, rules)
-
-pub loop-i-preserved : goal.loop-i-preserved
-loop-i-preserved c = search (checked-plain, rules)
-
 pub returns : goal.returns
-returns c = search (checked_done, rules)
+returns c = record {
+  same = λ b e.
+      all_from_yields_List (λ j. ltb (get_or c.args.words.now j 0) (get_or c.args.t.now (get_or c.args.tags.now j 0) 0) && rising (get_or c.args.tags.now j 0, get_or c.args.words.now j 0) (between c.args.tags.now c.args.words.now (j + 1) c.args.end)) _ _ c.all.result c.all.ensures.ran (YieldsList-from_range c.args.at c.args.end (c.args.end - c.args.at) refl refl) (λ x v q k. search (rules, tests))
+      ∙ all_ordered c.args.words.now c.args.tags.now c.args.t.now b e c.fits-words c.fits-tags c.args.end c.requires.long c.requires.end_bound c.args.at c.requires.at_le_end;
+}

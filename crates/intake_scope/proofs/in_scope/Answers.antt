@@ -1,14 +1,15 @@
-use borrow.Author.Tests.{not-false}
 use Rattle.intake_scope.proofs.Images.{image_functions, image_entries}
-use mathlib.Core.Bool.{not}
-use mathlib.Core.Path.{ap}
+use Rattle.intake_scope.specs.Functions.{of_functions, of_entries}
 use Rattle.intake_scope.proofs.in_scope.Goals as goal
 
-pub returns-then-not-functions : goal.returns-then-not-functions
-returns-then-not-functions c = image_functions _ _ _ c.requires.in_range _ c.functions.ensures.test_ensures (ap not c.if-not-functions.true)
+pub section-requires-clause-section : goal.section-requires-clause-section
+section-requires-clause-section c = of_functions
 
-pub entries-requires : goal.entries-requires
-entries-requires c = record { tape = c.requires.tape; in_range = c.requires.in_range; lent = c.functions.ensures.lent_2 (not-false _ (ap not c.if-not-functions.false)) }
+pub section-requires-then-section-clause-section : goal.section-requires-then-section-clause-section
+section-requires-then-section-clause-section c = of_entries
 
-pub returns : goal.returns
-returns c = image_entries _ _ _ c.requires.in_range _ c.functions.ensures.test_ensures (ap not c.if-not-functions.false) _ c.entries.ensures.test_ensures
+pub returns-else-section : goal.returns-else-section
+returns-else-section c = rw c.if-section.false (image_functions _ _ _ c.requires.in_range _ (c.section.ensures of_functions) c.if-section.false)
+
+pub returns-then-section : goal.returns-then-section
+returns-then-section c = image_entries _ _ _ c.requires.in_range _ (c.section.ensures of_functions) c.if-section.true _ (c.section-then-section.ensures of_entries)

@@ -1,16 +1,17 @@
+use mathlib.Core.Path.{refl, ◌∙◌}
+use mathlib.Core.List.{[]}
 use Prim.Native.Nat.{◌-◌}
-use Rattle.intake_statements.proofs.Leaves.{reads-begin, reads_wrong, reads-next, reads_done}
-use borrow.Author.Rules.{rules}
+use lib.ListN.{get_or}
+use Rattle.model.specs.Operands.{operand}
+use Rattle.std.proofs.Common.{rules}
+use Rattle.std.proofs.lemmas.Iterator.{YieldsList-from_range}
+use Rattle.std.proofs.lemmas.Iterator.Search.{all_from_yields_List}
+use Rattle.intake_statements.specs.Lasts.{visible_at, all_seen}
+use Rattle.intake_statements.proofs.Leaves.{reads_are}
 use Rattle.intake_statements.proofs.reads.Goals as goal
 
-pub loop-i-init : goal.loop-i-init
-loop-i-init c = search (reads-begin, rules)
-
-pub returns-then-not-read : goal.returns-then-not-read
-returns-then-not-read c = search (reads_wrong, rules)
-
-pub loop-i-preserved : goal.loop-i-preserved
-loop-i-preserved c = search (reads-next, rules)
-
 pub returns : goal.returns
-returns c = search (reads_done, rules)
+returns c =
+    let seen = visible_at c.args.words.now c.args.starts.now c.args.until.now c.args.count c.args.at in
+    all_from_yields_List (λ j. all_seen (operand (get_or c.args.tags.now j 0) (get_or c.args.words.now j 0) []) seen) _ _ c.all.result c.all.ensures.ran (YieldsList-from_range c.args.from c.args.to (c.args.to - c.args.from) refl refl) (λ x v q k. search rules)
+    ∙ reads_are c.args.words.now c.args.tags.now seen c.args.from c.args.to

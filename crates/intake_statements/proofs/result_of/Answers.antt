@@ -1,19 +1,18 @@
-use Prim.Native.Nat.{◌-◌}
 use Rattle.intake_statements.proofs.Leaves.{look-begin, look_result, look-optional, look-next, look_done}
 use borrow.Author.Rules.{rules}
 use Rattle.intake_statements.proofs.result_of.Goals as goal
 
-pub loop-i-init : goal.loop-i-init
-loop-i-init c = search (look-begin, rules)
+pub loop-j-init : goal.loop-j-init
+loop-j-init c = search (look-begin, rules)
 
-pub returns-then-s-eq-RESULT : goal.returns-then-s-eq-RESULT
-returns-then-s-eq-RESULT c = search (look_result, rules)
+pub returns-in-99 : goal.returns-in-99
+returns-in-99 c = search (look_result, rules)
 
-pub returns-then-s-eq-OPT_RESULT : goal.returns-then-s-eq-OPT_RESULT
-returns-then-s-eq-OPT_RESULT c = search (look-optional, rules)
+pub returns-in-100 : goal.returns-in-100
+returns-in-100 c = search (look-optional, rules)
 
-pub loop-i-preserved : goal.loop-i-preserved
-loop-i-preserved c = search (look-next, rules)
+pub loop-j-preserved : goal.loop-j-preserved
+loop-j-preserved c = search (look-next, rules)
 
 pub returns : goal.returns
 returns c = search (look_done, rules)

@@ -2,8 +2,8 @@ use Rattle.intake_statements.proofs.Results.{simple_reads, simple_result}
 use borrow.Author.Rules.{rules}
 use Rattle.intake_statements.proofs.simple.Goals as goal
 
-pub returns-then-not-reads : goal.returns-then-not-reads
-returns-then-not-reads c = search (simple_reads, rules)
+pub returns-else-reads : goal.returns-else-reads
+returns-else-reads c = rw c.if-reads.false (simple_reads _ _ _ _ _ _ _ _ c.requires.exprs c.requires.stop_le_keep c.requires.at_bound _ c.reads.ensures c.if-reads.false)
 
-pub returns : goal.returns
-returns c = search (simple_result, rules)
+pub returns-then-reads : goal.returns-then-reads
+returns-then-reads c = search (simple_result, rules)

@@ -1,9 +1,10 @@
 -- `order_callees::function` meets its contract: the record's places are those between which it scans.
+use native.Mathlib.Omega.{arith}
 use Rattle.order_callees.proofs.Whole.{asks, calls-these}
 use Rattle.order_callees.proofs.function.Goals as goal
 
 pub mark_callees-requires : goal.mark_callees-requires
-mark_callees-requires c = asks c.requires.framed c.requires.i_bound.0 c.requires.i_bound.1 c.start_of-from.ensures.0 c.end_of-to.ensures.0
+mark_callees-requires c = asks c.requires.framed c.requires.i_bound (omega arith) c.start_of-from.ensures.0 c.end_of-to.ensures.0
 
 pub returns : goal.returns
 returns c = calls-these _ _ c.start_of-from.ensures.0 c.end_of-to.ensures.0 c.mark_callees.ensures

@@ -3,14 +3,14 @@ use native.Mathlib.Omega.{arith}
 use Rattle.order_callees.proofs.Whole.{begin, again, framed, finish}
 use Rattle.order_callees.proofs.gather_requirements.Goals as goal
 
-pub loop-i-init : goal.loop-i-init
-loop-i-init c = begin _ _ c.requires.no_calls
+pub loop-f-init : goal.loop-f-init
+loop-f-init c = begin _ _ c.requires.no_calls
 
 pub function-requires : goal.function-requires
-function-requires c = record { framed = framed c.requires.tape c.requires.known; i_bound = (omega (arith, c.count-count.ensures.0), c.loop-i.invariant.long) }
+function-requires c = record { framed = framed c.requires.tape c.requires.known; i_bound = omega (arith, c.count-f-end.ensures.0) }
 
-pub loop-i-preserved : goal.loop-i-preserved
-loop-i-preserved c = again c.loop-i.invariant (omega (arith, c.count-count.ensures.0)) c.function.ensures
+pub loop-f-preserved : goal.loop-f-preserved
+loop-f-preserved c = again c.loop-f.invariant (omega (arith, c.count-f-end.ensures.0)) c.function.ensures
 
 pub returns : goal.returns
-returns c = finish _ c.loop-i.invariant (omega (arith, c.count-count.ensures.0))
+returns c = finish _ c.loop-f.invariant (omega (arith, c.count-f-end.ensures.0))

@@ -1,10 +1,6 @@
 -- `order_callees::gather_requirements` meets its contract. The invariant: the functions passed call what their records call, and the others nothing.
-use Prim.Native.Nat.{◌-◌}
 use Rattle.order_callees.proofs.Whole.{Going}
 use Rattle.order_callees.proofs.gather_requirements.Given as goal
 
-abbrev pub invariant-loop-i : goal.invariant-loop-i
-invariant-loop-i l = Going l.words l.tags l.i l.callees
-
-abbrev pub decreases-loop-i : goal.decreases-loop-i
-decreases-loop-i l = l.count - l.i
+abbrev pub invariant-loop-f : goal.invariant-loop-f
+invariant-loop-f l = Going l.words l.tags l.f l.callees

@@ -1,10 +1,6 @@
 -- `order_callees::mark_callees` meets its contract. The invariant: what is left, marked too, is what is there from the start on.
-use Prim.Native.Nat.{◌-◌}
 use Rattle.order_callees.proofs.Marking.{Scanning}
 use Rattle.order_callees.proofs.mark_callees.Given as goal
 
-abbrev pub invariant-loop-j : goal.invariant-loop-j
-invariant-loop-j l = Scanning l.words l.tags l.at l.end l.i l.initial.callees l.j l.callees
-
-abbrev pub decreases-loop-j : goal.decreases-loop-j
-decreases-loop-j l = l.end - l.j
+abbrev pub invariant-loop-k : goal.invariant-loop-k
+invariant-loop-k l = Scanning l.words l.tags l.at l.end l.i l.initial.callees l.k l.callees

@@ -1,18 +1,19 @@
 -- `order_ranks::left` meets its contract. The invariant: the rounds of those that wait leave what is left of the whole.
+use native.Mathlib.Omega.{arith}
 use Rattle.order_ranks.proofs.Leaving.{begin, asks, again, less, finish}
 use Rattle.order_ranks.proofs.left.Goals as goal
 
 pub loop-out-init : goal.loop-out-init
-loop-out-init c = begin _ _ _ c.requires.0 c.requires.1 c.requires.2
+loop-out-init c = begin _ _ _ c.requires.0 (omega arith) c.requires.1
 
 pub place-round-requires : goal.place-round-requires
 place-round-requires c = asks _ _ _ c.requires.0 _ c.loop-out.invariant
 
-pub returns-then-placed-eq0 : goal.returns-then-placed-eq0
-returns-then-placed-eq0 c = finish _ _ _ c.requires.0 _ c.loop-out.invariant _ _ _ _ c.place-round.ensures c.if-placed-eq0.true
+pub returns-then-round-eq0 : goal.returns-then-round-eq0
+returns-then-round-eq0 c = finish _ _ _ c.requires.0 _ c.loop-out.invariant _ _ _ _ c.place-round.ensures c.if-round-eq0.true
 
 pub loop-out-smaller : goal.loop-out-smaller
-loop-out-smaller c = less _ _ _ c.requires.0 _ c.loop-out.invariant _ _ _ _ c.place-round.ensures c.if-placed-eq0.false
+loop-out-smaller c = less _ _ _ c.requires.0 _ c.loop-out.invariant _ _ _ _ c.place-round.ensures c.if-round-eq0.false
 
 pub loop-out-preserved : goal.loop-out-preserved
-loop-out-preserved c = again _ _ _ c.requires.0 _ c.loop-out.invariant _ _ _ _ c.place-round.ensures c.if-placed-eq0.false
+loop-out-preserved c = again _ _ _ c.requires.0 _ c.loop-out.invariant _ _ _ _ c.place-round.ensures c.if-round-eq0.false

@@ -4,7 +4,7 @@ use Rattle.order_ranks.proofs.Whole.{Under}
 use Rattle.order_ranks.proofs.order.Given as goal
 
 abbrev pub invariant-loop-at : goal.invariant-loop-at
-invariant-loop-at l = Under l.callees l.n l.initial.out l.out l.waiting l.at
+invariant-loop-at l = Under l.callees l.n l.initial.out l.out l.waiting.0 l.at
 
 abbrev pub decreases-loop-at : goal.decreases-loop-at
 decreases-loop-at l = l.n - l.at

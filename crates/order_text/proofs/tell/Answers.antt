@@ -10,13 +10,13 @@ pub order_of-answer-requires : goal.order_of-answer-requires
 order_of-answer-requires c = record { tape = c.requires.tape; known = passed-callees c.requires.passed; out_len = length-replicate {A = ℕ} 256 0 }
 
 pub text-requires : goal.text-requires
-text-requires c = asks_all c.requires.tape c.requires.passed c.in-All.is c.order_of-answer.ensures c.count-functions.ensures.0 c.requires.out_len
+text-requires c = asks_all c.requires.tape c.requires.passed c.in-Ok.is c.order_of-answer.ensures c.count-functions.ensures.0 c.requires.out_len
 
 pub head-requires : goal.head-requires
-head-requires c = record { out_len = c.requires.out_len; label_len_bound = (omega arith, omega (arith, c.wide.ensures.0, few_ring c.requires.tape c.in-Ring.is c.order_of-answer.ensures)) }
+head-requires c = record { out_len = c.requires.out_len; label_len_bound = (omega arith, omega (arith, c.count-left.ensures, few_ring c.requires.tape c.in-Err.is c.order_of-answer.ensures)) }
 
-pub returns-in-All : goal.returns-in-All
-returns-in-All c = tells_all c.requires.tape c.requires.passed c.in-All.is c.order_of-answer.ensures c.count-functions.ensures.0 c.requires.out_len c.text.ensures
+pub returns-in-Ok : goal.returns-in-Ok
+returns-in-Ok c = tells_all c.requires.tape c.requires.passed c.in-Ok.is c.order_of-answer.ensures c.count-functions.ensures.0 c.requires.out_len c.text.ensures
 
-pub returns-in-Ring : goal.returns-in-Ring
-returns-in-Ring c = tells_ring c.in-Ring.is c.order_of-answer.ensures c.wide.ensures.0 c.requires.out_len c.head.ensures
+pub returns-in-Err : goal.returns-in-Err
+returns-in-Err c = let told = tells_ring c.in-Err.is c.order_of-answer.ensures c.count-left.ensures c.requires.out_len c.head.ensures in rw (c.number.ensures, c.count-left.ensures) told

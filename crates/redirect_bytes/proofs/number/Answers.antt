@@ -1,16 +1,15 @@
 -- Both numbers are below 65,536, so they have room in one word.
-use Rattle.redirect_bytes.proofs.Images.{times_fits, number_fits, number_both, number_refused}
-use borrow.Author.Rules.{rules}
+use mathlib.Core.Path.{subst}
+use Rattle.redirect_bytes.specs.Answers.{Small, shown}
+use Rattle.redirect_bytes.proofs.Images.{times_fits, number_fits, number_is}
+use Rattle.std.specs.Prelude.{Ok}
+use Rattle.std.proofs.Common.{rules}
 use Rattle.redirect_bytes.proofs.number.Goals as goal
 
-pub overflow_mul-b : goal.overflow_mul-b
-overflow_mul-b c = search (times_fits, rules)
+pub map-requires : goal.map-requires
+map-requires c both e =
+    let small : Small (shown (Ok both)) = subst (λ r. Small (shown r)) e c.requires in
+    (λ _ _ _ _ _. times_fits both small, λ _ _ _ _ _ _. number_fits both small)
 
-pub overflow_add-a : goal.overflow_add-a
-overflow_add-a c = search (number_fits, rules)
-
-pub returns-in-Done : goal.returns-in-Done
-returns-in-Done c = search (number_both, rules)
-
-pub returns-in-Refused : goal.returns-in-Refused
-returns-in-Refused c = search (number_refused, rules)
+pub returns : goal.returns
+returns c = number_is c.args.r c.map.result _ c.map.ensures.cases (λ p v h. search rules) c.answer.result c.answer.ensures

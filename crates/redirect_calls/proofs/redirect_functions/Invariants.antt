@@ -1,9 +1,5 @@
-use Prim.Native.Nat.{◌-◌}
 use Rattle.redirect_calls.proofs.Turning.{Turning}
 use Rattle.redirect_calls.proofs.redirect_functions.Given as goal
 
 abbrev pub invariant-loop-j : goal.invariant-loop-j
-invariant-loop-j l = Turning l.initial.words l.tags l.n l.original l.replacement l.omit l.count l.words l.j
-
-abbrev pub decreases-loop-j : goal.decreases-loop-j
-decreases-loop-j l = l.count - l.j
+invariant-loop-j l = Turning l.initial.words l.tags l.n l.original l.replacement l.omit l.j-end l.words l.j

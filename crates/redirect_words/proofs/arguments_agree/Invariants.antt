@@ -1,9 +1,5 @@
-use Prim.Native.Nat.{◌-◌}
 use Rattle.redirect_words.proofs.Finding.{Agreeing}
 use Rattle.redirect_words.proofs.arguments_agree.Given as goal
 
 abbrev pub invariant-loop-j : goal.invariant-loop-j
-invariant-loop-j l = Agreeing l.words l.tags l.n l.i l.k l.some l.others l.j
-
-abbrev pub decreases-loop-j : goal.decreases-loop-j
-decreases-loop-j l = l.some - l.j
+invariant-loop-j l = Agreeing l.words l.tags l.n l.i l.k l.j

@@ -1,12 +1,14 @@
-use Rattle.redirect_words.proofs.Lists.{inside-first, inside_second, inside-rest}
-use borrow.Author.Rules.{rules}
+use Rattle.std.proofs.Common.{rules, tests}
+use Rattle.std.proofs.lemmas.Iterator.{YieldsList-from_slice}
+use Rattle.std.proofs.lemmas.Iterator.Search.{all_from_yields_List}
+use lib.Dec.{ltb}
+use Rattle.redirect_words.proofs.Lists.{inside-not, inside-rest}
 use Rattle.redirect_words.proofs.inside.Goals as goal
 
-pub returns-then-names-original : goal.returns-then-names-original
-returns-then-names-original c = search (inside-first, rules)
+pub returns-then-replacement-names : goal.returns-then-replacement-names
+returns-then-replacement-names c =
+    inside-rest _ _ _ _ _ c.if-replacement-names.true.0 c.if-replacement-names.true.1
+    (all_from_yields_List (λ x. ltb x c.args.names) _ _ c.all.result c.all.ensures.ran (YieldsList-from_slice c.args.omit.now cc) (λ x b q k. search (rules, tests)))
 
-pub returns-then-names-replacement : goal.returns-then-names-replacement
-returns-then-names-replacement c = search (inside_second, rules)
-
-pub returns : goal.returns
-returns c = search (inside-rest, rules)
+pub returns-else-replacement-names : goal.returns-else-replacement-names
+returns-else-replacement-names c = inside-not _ _ _ _ c.if-replacement-names.either _ (search rules)

@@ -1,15 +1,14 @@
-use Rattle.intake_layout.proofs.Extents.{section-room, section-records, section_misfit, section_never}
-use borrow.Author.Rules.{rules}
+-- `intake_layout::section::section` meets its contract.
+use Rattle.std.proofs.Common.{rules}
+use Rattle.intake_fields.proofs.Walk.{exit}
+use Rattle.intake_layout.proofs.Extents.{section-room, section-records, section_err}
 use Rattle.intake_layout.proofs.section.section.Goals as goal
 
-pub records-requires : goal.records-requires
-records-requires c = record { n_bound = search (section-room, rules); stop_in_bounds = search rules; stop_bound = search rules; table_value = search rules; pc_bound = search rules }
+pub records-requires-clause-n_bound : goal.records-requires-clause-n_bound
+records-requires-clause-n_bound c = section-room c.args.words.now c.args.tags.now c.args.base c.args.stop c.args.count c.args.pc c.requires.stop_in_bounds c.requires.base_le_stop _ _ c.fill.ensures _ c.in_ok-fill.was
 
-pub returns-in-Next : goal.returns-in-Next
-returns-in-Next c = search (section-records, rules)
+pub returns-in_err-fill : goal.returns-in_err-fill
+returns-in_err-fill c = let w = c.in_err-fill.was in rw (exit _ c.in_err-fill.field-0.0 c.from_residual.ensures.1) (search (section_err, rules))
 
-pub returns-in-Misfit : goal.returns-in-Misfit
-returns-in-Misfit c = search (section_misfit, rules)
-
-pub returns-in-Strange : goal.returns-in-Strange
-returns-in-Strange c = search (section_never, rules)
+pub returns : goal.returns
+returns c = section-records c.args.words.now c.args.tags.now c.args.base c.args.stop c.args.count c.args.pc c.requires.stop_in_bounds c.requires.base_le_stop _ _ c.fill.ensures _ c.in_ok-fill.was _ _ c.records.ensures

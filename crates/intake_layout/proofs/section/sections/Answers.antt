@@ -1,44 +1,42 @@
-use Rattle.intake_fields.specs.Rows.{SIZE}
-use native.Mathlib.Omega.{arith}
-use Prim.Native.Nat.{◌-◌}
-use Rattle.intake_layout.proofs.Sections.{sections-begin, sections_forth, sections-within, sections-total, sections-row, sections_bad, sections_fits, sections_strange, last_forth, last_bad, last_strange, last-odd, last_fits}
-use borrow.Author.Rules.{rules}
+-- `intake_layout::section::sections` meets its contract.
+use Rattle.std.proofs.Common.{rules, arith, refl, ◌∙◌}
+use Rattle.intake_fields.proofs.Walk.{exit}
+use Rattle.intake_layout.proofs.Sections.{sections-begin, sections_forth, sections-within, sections-total, sections-row, sections_bad, sections_fits, sections_strange, last_forth, last_err, last-odd, last_fits}
 use Rattle.intake_layout.proofs.section.sections.Goals as goal
+use Rattle.intake_layout.proofs.section.sections.Goals.{in-Ok, in-Err-Strange}
 
-pub loop-k-init : goal.loop-k-init
-loop-k-init c = search (sections-begin, rules)
+pub loop-j-init : goal.loop-j-init
+loop-j-init c = search (sections-begin, rules)
 
-pub bounds-table-j : goal.bounds-table-j
-unfolding SIZE
-bounds-table-j c = omega (arith, c.loop-k-test.true)
+pub section-requires-clause-base_le_stop : goal.section-requires-clause-base_le_stop
+section-requires-clause-base_le_stop c = search (sections_forth, rules)
 
-pub section-r-requires : goal.section-r-requires
-unfolding SIZE
-section-r-requires c = record { base_le_stop = search (sections_forth, rules); stop_in_bounds = sections-within c.args.words.now c.args.tags.now c.args.total c.requires.le_total c.requires.total_in_bounds c.requires.words_value c.loop-k.k c.loop-k-test.true c.wide-base.result c.wide-stop.result c.wide-base.ensures.0 c.wide-stop.ensures.0; stop_bound = let h = sections-total c.args.words.now c.args.tags.now c.args.total c.requires.le_total c.requires.total_in_bounds c.requires.words_value c.loop-k.k c.loop-k-test.true c.wide-base.result c.wide-stop.result c.wide-base.ensures.0 c.wide-stop.ensures.0 in omega (arith, h, c.requires.total_bound); table_value = search rules; pc_bound = search (sections-row, rules) }
+pub section-requires-clause-stop_in_bounds : goal.section-requires-clause-stop_in_bounds
+section-requires-clause-stop_in_bounds c = sections-within c.args.words.now c.args.tags.now c.args.total c.requires.le_total c.requires.total_in_bounds c.requires.words_value c.loop-j.j c.loop-j-test.true _ _ refl refl
 
-pub loop-k-preserved-in-Fits : goal.loop-k-preserved-in-Fits
-unfolding SIZE
-loop-k-preserved-in-Fits c = search (sections_fits, rules)
+pub section-requires-clause-stop_bound : goal.section-requires-clause-stop_bound
+section-requires-clause-stop_bound c = let h = sections-total c.args.words.now c.args.tags.now c.args.total c.requires.le_total c.requires.total_in_bounds c.requires.words_value c.loop-j.j c.loop-j-test.true _ _ refl refl in omega arith
 
-pub loop-k-preserved : goal.loop-k-preserved
-unfolding SIZE
-loop-k-preserved c = search (sections_strange, rules)
+pub section-requires-clause-pc_bound : goal.section-requires-clause-pc_bound
+section-requires-clause-pc_bound c = sections-row c.args.words.now c.args.tags.now c.args.total c.requires.le_total c.requires.total_in_bounds c.requires.words_value c.loop-j.j c.loop-j-test.true _ _ refl refl _ (c.from-pc.ensures ∙ c.entry.ensures)
 
-pub returns-in-Bad : goal.returns-in-Bad
-unfolding SIZE
-returns-in-Bad c = search (sections_bad, rules)
+pub loop-j-preserved : goal.loop-j-preserved
+loop-j-preserved c = elim c.match-section.branch [
+  | in-Ok w ↦ rw w.odd-is (search (sections_fits, rules))
+  | in-Err-Strange w ↦ rw w.odd-is (search (sections_strange, rules))
+]
 
-pub special-r-requires : goal.special-r-requires
-special-r-requires c = record { base_le_stop = search (last_forth, rules); stop_in_bounds = search rules; stop_bound = search rules; table_value = search rules }
+pub returns-in-Err-Misfit : goal.returns-in-Err-Misfit
+returns-in-Err-Misfit c = search (sections_bad, rules)
+
+pub special-requires-clause-base_le_stop : goal.special-requires-clause-base_le_stop
+special-requires-clause-base_le_stop c = search (last_forth, rules)
+
+pub returns-in_err-special : goal.returns-in_err-special
+returns-in_err-special c = let w = c.in_err-special.was in rw (exit _ c.in_err-special.field-0.0 c.from_residual.ensures.1) (search (last_err, rules))
 
 pub returns-then-odd : goal.returns-then-odd
-returns-then-odd c = search (last-odd, rules)
+returns-then-odd c = let w = c.in_ok-special.was in search (last-odd, rules)
 
 pub returns-else-odd : goal.returns-else-odd
-returns-else-odd c = search (last_fits, rules)
-
-pub returns-in-Strange-r : goal.returns-in-Strange-r
-returns-in-Strange-r c = search (last_strange, rules)
-
-pub returns-in-Bad-r : goal.returns-in-Bad-r
-returns-in-Bad-r c = search (last_bad, rules)
+returns-else-odd c = let w = c.in_ok-special.was in search (last_fits, rules)

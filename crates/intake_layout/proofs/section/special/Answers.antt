@@ -1,36 +1,34 @@
+-- `intake_layout::section::special` meets its contract.
+use Rattle.std.proofs.Common.{rules}
 use Rattle.intake_fields.specs.Rows.{SIZE, RAYS_ROW, PAIR_ROW}
-use Rattle.intake_layout.proofs.Extents.{special_misfit, special_strange, special-within, special_fits, special-short, pairs_misfit, pairs_strange}
-use borrow.Author.Rules.{rules}
+use Rattle.intake_fields.proofs.Walk.{exit}
+use Rattle.intake_layout.proofs.Extents.{special_err, special-within, special_fits, special-short, pairs_err}
 use Rattle.intake_layout.proofs.section.special.Goals as goal
 
-pub row-r-requires : goal.row-r-requires
-unfolding SIZE RAYS_ROW PAIR_ROW
-row-r-requires c = record { at_le_end = search rules; end_in_bounds = search rules; end_bound = search rules; table_value = search rules; pc_bound = search rules }
+pub row-requires-clause-pc_bound : goal.row-requires-clause-pc_bound
+unfolding SIZE RAYS_ROW
+row-requires-clause-pc_bound c = search rules
 
-pub times-q-requires : goal.times-q-requires
-unfolding SIZE RAYS_ROW PAIR_ROW
-times-q-requires c = record { at_le_end = search (special-within, rules); end_in_bounds = search rules; end_bound = search rules; table_value = search rules; pc_bound = search rules }
+pub returns-in_err-pairs : goal.returns-in_err-pairs
+unfolding SIZE RAYS_ROW
+returns-in_err-pairs c = let w = c.in_err-pairs.was in rw (exit _ c.in_err-pairs.field-0.0 c.from_residual.ensures.1) (search (special_err, rules))
 
-pub returns-then-e-stop : goal.returns-then-e-stop
-unfolding SIZE RAYS_ROW PAIR_ROW
-returns-then-e-stop c = search (special_fits, rules)
+pub times-requires-clause-at_le_end : goal.times-requires-clause-at_le_end
+unfolding SIZE RAYS_ROW
+times-requires-clause-at_le_end c = let w = c.in_ok-pairs.was in search (special-within, rules)
 
-pub returns-else-e-stop : goal.returns-else-e-stop
-unfolding SIZE RAYS_ROW PAIR_ROW
-returns-else-e-stop c = search (special-short, rules)
+pub times-requires-clause-pc_bound : goal.times-requires-clause-pc_bound
+unfolding SIZE PAIR_ROW
+times-requires-clause-pc_bound c = search rules
 
-pub returns-in-Misfit-q : goal.returns-in-Misfit-q
+pub returns-in_err-end : goal.returns-in_err-end
 unfolding SIZE RAYS_ROW PAIR_ROW
-returns-in-Misfit-q c = search (pairs_misfit, rules)
+returns-in_err-end c = let v = c.in_ok-pairs.was in let w = c.in_err-end.was in rw (exit _ c.in_err-end.field-0.0 c.from_residual-in_err-end.ensures.1) (search (pairs_err, rules))
 
-pub returns-in-Strange-q : goal.returns-in-Strange-q
+pub returns-then-end-stop : goal.returns-then-end-stop
 unfolding SIZE RAYS_ROW PAIR_ROW
-returns-in-Strange-q c = search (pairs_strange, rules)
+returns-then-end-stop c = let v = c.in_ok-pairs.was in let w = c.in_ok-end.was in search (special_fits, rules)
 
-pub returns-in-Misfit : goal.returns-in-Misfit
+pub returns-else-end-stop : goal.returns-else-end-stop
 unfolding SIZE RAYS_ROW PAIR_ROW
-returns-in-Misfit c = search (special_misfit, rules)
-
-pub returns-in-Strange : goal.returns-in-Strange
-unfolding SIZE RAYS_ROW PAIR_ROW
-returns-in-Strange c = search (special_strange, rules)
+returns-else-end-stop c = let v = c.in_ok-pairs.was in let w = c.in_ok-end.was in search (special-short, rules)
