@@ -25,25 +25,14 @@ use Rattle.derive_state.proofs.State.{table_long, pairs_long}
 use Rattle.derive_state.proofs.Laws.{nameless-none, name_low, special_words}
 use Rattle.derive_sections.specs.Flat.{total, ordered, finished_words, cells_of}
 use Rattle.derive_sections.specs.Rows.{tabs_of, Rec}
+use Rattle.std.specs.Prelude.{Result}
+use Rattle.base_refusals.specs.declared.Refusal.{Refusal}
 use Rattle.derive_image.specs.Held.{ValidTables, Fits, Stored, large, short, done}
 use Rattle.derive_image.proofs.Whole.{length_tabs}
 use Rattle.derive_image.proofs.Storing.{tabs_at, length-finished}
 use Rattle.derive_image.proofs.Bridge.{finished_cells}
 use Rattle.derive_image.proofs.Limits.{large_is, fits_is}
-use Rattle.derive_finish.specs.Told.{told, Ended}
-
--- eight numbers, one by one
-pub eight : (l : List ℕ) → length l ≡ 8 → get_or l 0 0 ∷ get_or l 1 0 ∷ get_or l 2 0 ∷ get_or l 3 0 ∷ get_or l 4 0 ∷ get_or l 5 0 ∷ get_or l 6 0 ∷ get_or l 7 0 ∷ [] ≡ l
-eight [] q = absurd (omega arith)
-eight (a ∷ []) q = absurd (omega arith)
-eight (a ∷ b ∷ []) q = absurd (omega arith)
-eight (a ∷ b ∷ c ∷ []) q = absurd (omega arith)
-eight (a ∷ b ∷ c ∷ d ∷ []) q = absurd (omega arith)
-eight (a ∷ b ∷ c ∷ d ∷ e ∷ []) q = absurd (omega arith)
-eight (a ∷ b ∷ c ∷ d ∷ e ∷ f ∷ []) q = absurd (omega arith)
-eight (a ∷ b ∷ c ∷ d ∷ e ∷ f ∷ g ∷ []) q = absurd (omega arith)
-eight (a ∷ b ∷ c ∷ d ∷ e ∷ f ∷ g ∷ h ∷ []) q = refl
-eight (a ∷ b ∷ c ∷ d ∷ e ∷ f ∷ g ∷ h ∷ i ∷ l) q = absurd (omega arith)
+use Rattle.derive_finish.specs.Told.{refusal_of, bytes_in, told, Ended}
 
 -- a fact of the records at these starts
 each_recs : {P : Cells → Type 0} (log logtags ss : List ℕ) → ((k : ℕ) → k < length ss → P (rec_at log logtags (get_or ss k 0))) → Each P (recs_at log logtags ss)
@@ -159,17 +148,17 @@ module _ (log logtags : List ℕ) (starts maps₀ : List (List ℕ)) (buckets : 
     unfolding cells_of
     length_is = sym (ap length words_are) ∙ length-finished (cells_of t) (length t.special.pairs) sp refl
 
-    answer : {output₀ : List ℕ} {r b : ℕ} {output : List ℕ} → Stored (cells_of t) (length t.special.pairs) sp output₀ r b output → (r, b, output) ≡ told (write_if_fits m (length output₀)) output₀
+    answer : {output₀ : List ℕ} {r : Result ℕ Refusal} {output : List ℕ} → Stored (cells_of t) (length t.special.pairs) sp output₀ r output → (refusal_of r, bytes_in r, output) ≡ told (write_if_fits m (length output₀)) output₀
     unfolding told write_if_fits
     answer (large h) = rw (write_if_fits, large_is t names_plain special-plain h)
     answer {output₀} (short f h) = rw (write_if_fits, fits f, lt-ltb (length output₀) (4 * length (write m)) (omega (arith, length_is)))
     answer {output₀} (done f h) = rw (write_if_fits, fits f, le-ltb (length output₀) (4 * length (write m)) (omega (arith, length_is)), words_are, length_is)
 
-    answer_of_lem : (rss : List (List Cells)) (n : ℕ) (ws : List ℕ) → rss ≡ cells_of t → n ≡ length t.special.pairs → ws ≡ sp → {output₀ : List ℕ} {r b : ℕ} {output : List ℕ} → Stored rss n ws output₀ r b output → (r, b, output) ≡ told (write_if_fits m (length output₀)) output₀
+    answer_of_lem : (rss : List (List Cells)) (n : ℕ) (ws : List ℕ) → rss ≡ cells_of t → n ≡ length t.special.pairs → ws ≡ sp → {output₀ : List ℕ} {r : Result ℕ Refusal} {output : List ℕ} → Stored rss n ws output₀ r output → (refusal_of r, bytes_in r, output) ≡ told (write_if_fits m (length output₀)) output₀
     answer_of_lem rss n ws p q u w = answer (rw (p, q, u) at w)
 
   -- what is stored is what the model answers
-  pub ended : (special : List ℕ) → length special ≡ 1027 → {output₀ : List ℕ} {r b : ℕ} {output : List ℕ} → Stored (tabs_of log logtags starts e.counts) e.pairs (take (3 + 2 * e.pairs) special) output₀ r b output → Ended log logtags starts special e output₀ r b output
+  pub ended : (special : List ℕ) → length special ≡ 1027 → {output₀ : List ℕ} {r : Result ℕ Refusal} {output : List ℕ} → Stored (tabs_of log logtags starts e.counts) e.pairs (take (3 + 2 * e.pairs) special) output₀ r output → Ended log logtags starts special e output₀ (refusal_of r) (bytes_in r) output
   unfolding finished
   ended special long q = record {
     same = λ words maps. answer_of_lem special long words maps _ _ _ (tabs_are special long words maps) (sym (pairs_are special long words maps)) (special_are special long words maps) q;

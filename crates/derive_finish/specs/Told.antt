@@ -1,11 +1,22 @@
--- What finishing answers and leaves: the refusal, the bytes written, and the output afterwards. Document 01: "bytes past what it or finish writes stay", and a refusal leaves them all.
-use Rattle.std.specs.Prelude.{◌≡◌, List, ℕ, ◌*◌, length}
+-- What finishing answers and leaves: the refusal, the bytes written, and the output afterwards. Bytes past what is written stay, and a refusal leaves them all.
+use Rattle.std.specs.Prelude.{◌≡◌, List, ℕ, ◌*◌, length, Result, Ok, Err}
 use Rattle.std.proofs.lemmas.List.Edits.{sets}
 use Rattle.base_words.specs.Words.{bytes_of}
 use Rattle.model.specs.Finish.{finished}
 use Rattle.model.specs.Session.{Answer, answered, refused, write_if_fits}
+use Rattle.base_refusals.specs.declared.Refusal.{Refusal}
+use Rattle.base_refusals.specs.Numbers.{number_of}
 use Rattle.derive_state.specs.Held.{entries_of, st_of, ValidArrays}
 use Rattle.derive_state.specs.declared.Sizes.{Sizes}
+
+-- the number of the refusal, 0 for none, and the count of bytes written, 0 where it is refused
+abbrev pub refusal_of : Result ℕ Refusal → ℕ
+refusal_of (Ok bytes) = 0
+refusal_of (Err e) = number_of e
+
+abbrev pub bytes_in : Result ℕ Refusal → ℕ
+bytes_in (Ok bytes) = bytes
+bytes_in (Err e) = 0
 
 unfoldable pub told : Answer (List ℕ) → List ℕ → ℕ × ℕ × List ℕ
 told (answered ws s) output = (0, 4 * length ws, sets output 0 (bytes_of ws))

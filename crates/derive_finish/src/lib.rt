@@ -2,30 +2,21 @@
 #![tactic(auto)]
 
 ghost use Rattle.std.specs.Prelude.{◌≡◌, length};
-ghost use Rattle.derive_finish.specs.Told.{Held, Ended};
+ghost use Rattle.derive_finish.specs.Told.{Held, Ended, refusal_of, bytes_in};
 
-use derive_image::Answer;
+use base_refusals::Refusal;
 use derive_state::{Log, LogTags, Sizes, Special, Starts};
 
 // How many records each table has, as wider numbers.
-fn widened(c: [u16; 8]) -> [usize; 8]
-    requires { length c ≡ 8 }
-    ensures { result ≡ c }
+fn widened(counts: [u16; 8]) -> [usize; 8]
+    requires { length counts ≡ 8 }
+    ensures { result ≡ counts }
 {
-    [
-        c[0] as usize,
-        c[1] as usize,
-        c[2] as usize,
-        c[3] as usize,
-        c[4] as usize,
-        c[5] as usize,
-        c[6] as usize,
-        c[7] as usize,
-    ]
+    counts.map(usize::from)
 }
 
-// Writes the derived module as bytes, with the entry points that the arrays hold: 21 where it is too large, 7 where it does not fit in the output; then the
-// output is as it was. Its words are put together in `out`, which may hold anything before and holds anything after.
+// Writes the derived module as bytes, with the entry points that the arrays hold, and answers how many they are; refused, the output is as it was. Its words
+// are put together in `out`, which may hold anything before and holds anything after.
 pub fn finish(
     log: &Log,
     logtags: &LogTags,
@@ -34,13 +25,12 @@ pub fn finish(
     ends: Sizes,
     out: &mut [u32; 16384],
     output: &mut [u8],
-) -> Answer
+) -> Result<usize, Refusal>
     requires held { Held log.now logtags.now starts.now ends }
     requires special_len { (length special.now ≡ 1027) × (length out.old ≡ 16384) }
-    ensures { Ended log.now logtags.now starts.now special.now ends output.old result.refusal result.bytes output.new }
+    ensures { Ended log.now logtags.now starts.now special.now ends output.old (refusal_of result) (bytes_in result) output.new }
 {
-    let c = ends.counts;
-    let counts = widened(c);
+    let counts = widened(ends.counts);
     let pairs = ends.pairs as usize;
     derive_image::finish(log, logtags, starts, counts, special, pairs, out, output)
 }

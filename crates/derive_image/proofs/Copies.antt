@@ -1,33 +1,23 @@
 -- Words copied, and the starts of the names in their new order.
 use mathlib.Core.Path.{◌≡◌, refl, sym, ap, ap₂, ◌∙◌}
 use mathlib.Core.List.{List, [], ◌∷◌, ◌++◌, map}
-use Prim.Native.Nat.{ℕ, suc, ◌+◌, ◌-◌, ◌≤◌, ◌<◌}
-use native.Mathlib.Nat.{add-zero}
+use Prim.Native.Nat.{ℕ, ◌+◌, ◌≤◌, ◌<◌}
 use native.Mathlib.Numerals.{add-one}
 use native.Mathlib.Omega.{arith}
-use lib.ListN.{length, get_or, set, take, replicate, length-set, length-replicate}
-use lib.Seq.{sets, slice, slice-cons, take-suc-set, take-suc}
+use lib.ListN.{length, get_or, set, take, drop, replicate, length-set, length-replicate}
+use lib.Seq.{sets, sets-eq, take-take, length-take-le, take-suc-set, take-suc}
 use Rattle.theory_lists.specs.Lists.{map-append}
-use Rattle.theory_image.specs.Betweens.{slice-none}
+use native.Mathlib.Nat.{le_refl}
+use borrow.Rule.Slice.PartMut.{put_mid}
+use Rattle.std.proofs.lemmas.Slice.{put_mid-paste}
 
-pub record Moving (from : List ℕ) (n : ℕ) (out₀ : List ℕ) (at : ℕ) (out : List ℕ) (i : ℕ) : Type 0 where
-  pub within : i ≤ n
-  pub long : length out ≡ 16384
-  pub same : sets out (at + i) (slice i n from) ≡ sets out₀ at (take n from)
-
-module _ (from : List ℕ) (n : ℕ) (out₀ : List ℕ) (at : ℕ) where
-  pub moving-begin : length out₀ ≡ 16384 → Moving from n out₀ at out₀ 0
-  moving-begin l = record { within = omega arith; long = l; same = rw (add-zero at) }
-
-  module _ (out : List ℕ) (i : ℕ) (inv : Moving from n out₀ at out i) where
-    pub moving-next : n ≤ length from → i < n → Moving from n out₀ at (set out (at + i) (get_or from i 0)) (i + 1)
-    moving-next l h =
-        let e = slice-cons i n from 0 h l in
-        let z : at + (i + 1) ≡ suc (at + i) = omega arith in
-        record { within = omega arith; long = length-set out (at + i) (get_or from i 0) ∙ inv.long; same = rw (z, add-one i) (rw e at inv.same) }
-
-    pub moving_done : n ≤ i → out ≡ sets out₀ at (take n from)
-    moving_done h = rw (slice-none i n from h) at inv.same
+-- ---- copy: what a part of a list holds after copy_from_slice
+pub copied : (from out ys : List ℕ) (n at k : ℕ) → ys ≡ take n from → n ≡ k → n ≤ length from → at + n ≤ length out → put_mid at k out ys ≡ sets out at (take n from)
+copied from out ys n at k e q h room =
+    let l : length (take n from) ≡ n = length-take-le n from h in
+    put_mid-paste at k out ys (take n from) n e q (sym l)
+    ∙ ap (λ v. take at out ++ v ++ drop (at + n) out) (take-take n n from (le_refl n))
+    ∙ sym (sets-eq (take n from) out at (omega arith) ∙ ap (λ m. take at out ++ take n from ++ drop (at + m) out) l)
 
 -- ---- names
 pub record Choosing (row order : List ℕ) (n : ℕ) (r : List ℕ) (i : ℕ) : Type 0 where

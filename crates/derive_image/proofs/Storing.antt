@@ -1,7 +1,7 @@
 -- Finish in bytes: limits, room, and the words' bytes.
 use mathlib.Core.Path.{◌≡◌, refl, sym, ap, ◌∙◌}
 use mathlib.Core.List.{List, [], ◌∷◌, ◌++◌}
-use Prim.Native.Nat.{ℕ, zero, suc, ◌+◌, ◌*◌, ◌-◌, ◌≤◌, ◌<◌}
+use Prim.Native.Nat.{ℕ, zero, suc, ◌+◌, ◌*◌, ◌≤◌, ◌<◌}
 use native.Mathlib.Omega.{arith}
 use lib.ListN.{length, get_or, take, drop, length-append}
 use lib.Seq.{sets, sets-eq, length-sets, length-take-le, take-append_seam}
@@ -11,6 +11,10 @@ use Rattle.derive_state.proofs.State.{recs_long}
 use Rattle.derive_sections.specs.Flat.{firsts_t, heads, tables, total, image_words, new_name, ordered, finished_words}
 use Rattle.derive_state.specs.Held.{recs_at}
 use Rattle.derive_sections.specs.Rows.{tabs_of}
+use Rattle.std.specs.Prelude.{Option, Some, None, Ok, Err}
+use Rattle.std.specs.Option.{ok_or}
+use Rattle.base_refusals.specs.declared.Refusal.{Refusal}
+use Rattle.base_refusals.specs.declared.Refusal.TheVariants.{Full, ShortOutput}
 use Rattle.derive_image.specs.Held.{ValidTables, Finishes, Fits, Stored, long, functions, entries, large, short, done}
 use Rattle.derive_image.proofs.Whole.{length-tables, length-heads, length_tabs}
 use Rattle.derive_image.proofs.Finishing.{finished-image, length-ordered}
@@ -48,35 +52,40 @@ module _ (log logtags : List ℕ) (starts : List (List ℕ)) (counts : List ℕ)
       let b = r.few in
       ap length (tabs_at log logtags starts counts t (let z = d.rows.eight in omega arith) (let z = d.rows.eight' in omega arith)) ∙ recs_long log logtags (take (get_or counts t 0) (get_or starts t [])) ∙ length-take-le (get_or counts t 0) (get_or starts t []) (omega arith)
 
-  pub many_functions : 256 < get_or counts 6 0 → Stored Tabs pairs sp bytes₀ 21 0 bytes₀
+  pub many_functions : 256 < get_or counts 6 0 → Stored Tabs pairs sp bytes₀ (Err Full) bytes₀
   many_functions h = large (functions (let z = count_of 6 (omega arith) in omega arith))
 
-  pub many_entries : 16 < get_or counts 7 0 → Stored Tabs pairs sp bytes₀ 21 0 bytes₀
+  pub many_entries : 16 < get_or counts 7 0 → Stored Tabs pairs sp bytes₀ (Err Full) bytes₀
   many_entries h = large (entries (let z = count_of 7 (omega arith) in omega arith))
 
-  module _ (out₀ : List ℕ) (k : ℕ) (out : List ℕ) (w : Finishes Tabs pairs sp out₀ k out) where
-    pub too_long : k ≡ 0 → Stored Tabs pairs sp bytes₀ 21 0 bytes₀
+  -- refused where the words are none
+  pub refused_full : (r : Option ℕ) (y : Refusal) → Err y ≡ ok_or r Full → y ≡ Full
+  refused_full None y q = cc
+  refused_full (Some k) y q = absurd (cc)
+
+  module _ (out₀ : List ℕ) (r : Option ℕ) (out : List ℕ) (w : Finishes Tabs pairs sp out₀ r out) where
+    pub too_long : r ≡ None → Stored Tabs pairs sp bytes₀ (Err Full) bytes₀
     too_long e = large (long (w.over e).0)
 
-    module _ (few : get_or counts 6 0 ≤ 256) (few' : get_or counts 7 0 ≤ 16) (some : k ≡ 0 → ⊥) where
+    module _ (few : get_or counts 6 0 ≤ 256) (few' : get_or counts 7 0 ≤ 16) (k : ℕ) (some : r ≡ Some k) where
       fits_all : Fits Tabs sp
-      fits_all = let y = w.size some in record { short = (let z = w.fits some in omega arith); names = w.names some; functions = (let z = count_of 6 (omega arith) in omega arith); entries = (let z = count_of 7 (omega arith) in omega arith) }
+      fits_all = let y = w.size k some in record { short = (let z = w.fits k some in omega arith); names = w.names k some; functions = (let z = count_of 6 (omega arith) in omega arith); entries = (let z = count_of 7 (omega arith) in omega arith) }
 
-      pub no_room : length bytes₀ < 4 * k → Stored Tabs pairs sp bytes₀ 7 0 bytes₀
-      no_room h = short fits_all (let y = w.size some in omega arith)
+      pub no_room : length bytes₀ < 4 * k → Stored Tabs pairs sp bytes₀ (Err ShortOutput) bytes₀
+      no_room h = short fits_all (let y = w.size k some in omega arith)
 
-      pub stored : length out₀ ≡ 16384 → 4 * k ≤ length bytes₀ → (bytes : List ℕ) → bytes ≡ sets bytes₀ 0 (bytes_of (take k out)) → Stored Tabs pairs sp bytes₀ 0 (4 * k) bytes
+      pub stored : length out₀ ≡ 16384 → 4 * k ≤ length bytes₀ → (bytes : List ℕ) → bytes ≡ sets bytes₀ 0 (bytes_of (take k out)) → Stored Tabs pairs sp bytes₀ (Ok (4 * k)) bytes
       stored z h bytes e =
-          let y = w.size some in
+          let y = w.size k some in
           let eight : length Tabs ≡ 8 = length_tabs log logtags starts counts (d.rows.eight ∙ sym d.rows.eight') ∙ d.rows.eight in
-          let t : take k out ≡ finished_words Tabs pairs sp = ap (take k) (w.is some) ∙ front out₀ (finished_words Tabs pairs sp) k (y ∙ sym (length-finished Tabs pairs sp eight)) (let x = w.fits some in omega arith) in
+          let t : take k out ≡ finished_words Tabs pairs sp = ap (take k) (w.is k some) ∙ front out₀ (finished_words Tabs pairs sp) k (y ∙ sym (length-finished Tabs pairs sp eight)) (let x = w.fits k some in omega arith) in
           rw (e, t, y) (done fits_all (let x = y in omega arith))
 
       pub out_long : length out₀ ≡ 16384 → length out ≡ 16384
-      out_long z = ap length (w.is some) ∙ length-sets out₀ 0 (finished_words Tabs pairs sp) ∙ z
+      out_long z = ap length (w.is k some) ∙ length-sets out₀ 0 (finished_words Tabs pairs sp) ∙ z
 
       pub small : 4 * k ≤ 65536
-      small = let x = w.fits some in omega arith
+      small = let x = w.fits k some in omega arith
 
       pub store-room : length out₀ ≡ 16384 → length out ≡ 16384 → k ≤ length out
-      store-room z l = let x = w.fits some in omega arith
+      store-room z l = let x = w.fits k some in omega arith

@@ -1,7 +1,7 @@
 // A derived module written as an image. What is derived is in `log` and `logtags`: a record is a count and that many words, and for each of the eight tables
 // `starts` says where its records start. The names are met in the order of first appearance; row 0 of a copy of the starts then holds the names in that order,
-// so that all eight tables are written alike. The size is known before anything is written: 21 where it passes the limit, 7 where the output is shorter, and the
-// bytes after the image stay. On the stack: 20 KiB; the caller provides the 64 KiB for the image's words.
+// so that all eight tables are written alike. The size is known before anything is written: an image is refused where it passes the limit or where the output is
+// shorter, and the bytes after it stay. On the stack: 20 KiB; the caller provides the 64 KiB for the image's words.
 #![tactic(auto)]
 
 ghost use Rattle.std.specs.Prelude.{◌≡◌, map, ℕ, ◌+◌, ◌*◌, ◌≤◌, ◌<◌, length, get_or, take};
@@ -9,9 +9,9 @@ ghost use Rattle.std.proofs.lemmas.List.Edits.{sets};
 ghost use Rattle.derive_sections.specs.Rows.{tabs_of};
 ghost use Rattle.derive_image.specs.Held.{ValidTables, Finishes, Stored};
 
-use base_refusals::{FULL, SHORT_OUTPUT};
+use base_refusals::Refusal;
 use base_views::{ENTRIES, FUNCTIONS, HEADER};
-use base_words::{store, wide};
+use base_words::store;
 use derive_sections::{all_sizes, appearing, write_heads, write_tables};
 use derive_state::{Log, LogTags, Special, Starts};
 
@@ -23,24 +23,12 @@ const MOST_ENTRIES: usize = 16;
 // How many words an image may have.
 const MOST_WORDS: usize = 16384;
 
-// The refusal, or 0; and the bytes written.
-#[derive(Clone, Copy)]
-pub struct Answer {
-    pub refusal: u32,
-    pub bytes: usize,
-}
-
 // Copies n words to `out`, from `at` on.
 fn copy(from: &[u32; 1027], n: usize, out: &mut [u32; 16384], at: usize)
     requires { (n ≤ 1027) × (at + n ≤ 16384) × (length from.now ≡ 1027) × (length out.old ≡ 16384) }
     ensures { out.new ≡ sets out.old at (take n from.now) }
 {
-    let mut i = 0;
-    while i < n {
-        let j = i;
-        i += 1;
-        out[at + j] = from[j];
-    }
+    out[at..at + n].copy_from_slice(&from[..n]);
 }
 
 // The starts of the names in their new order.
@@ -50,16 +38,13 @@ fn choose(row: &[u32; 512], order: &[u32; 512], n: usize) -> [u32; 512]
     ensures { (take n result ≡ map (λ (k : ℕ). get_or row.now k 0) (take n order.now)) × (length result ≡ 512) }
 {
     let mut r = [0u32; 512];
-    let mut i = 0;
-    while i < n {
-        let j = i;
-        i += 1;
-        r[j] = row[wide(order[j])];
+    for j in 0..n {
+        r[j] = row[order[j] as usize];
     }
     r
 }
 
-// Writes the image as words, where it fits; answers how many they are, or 0.
+// Writes the image as words, and answers how many they are; or none, and nothing is written, where they are too many.
 pub fn finish_words(
     log: &Log,
     logtags: &LogTags,
@@ -68,7 +53,7 @@ pub fn finish_words(
     special: &Special,
     pairs: usize,
     out: &mut [u32; 16384],
-) -> usize
+) -> Option<usize>
     requires valid_tables { ValidTables log.now logtags.now starts.now counts }
     requires pairs_bound { (pairs ≤ 512) × (length special.now ≡ 1027) × (length out.old ≡ 16384) }
     ensures { Finishes (tabs_of log.now logtags.now starts.now counts) pairs (take (3 + 2 * pairs) special.now) out.old result out.new }
@@ -90,17 +75,17 @@ pub fn finish_words(
     c[0] = n;
     let k = HEADER + all_sizes(log, logtags, &s, c) + 3 + 2 * pairs;
     if MOST_WORDS < k {
-        return 0;
+        return None;
     }
     out[0] = 1;
     out[1] = k as u32;
     write_heads(log, logtags, &s, c, pairs as u32, out);
     let at = write_tables(log, logtags, &places, &s, c, out, HEADER);
     copy(special, 3 + 2 * pairs, out, at);
-    k
+    Some(k)
 }
 
-// Writes the image as bytes: 21 where it is too large, 7 where it does not fit in the output; then the output is as it was. Its words are put together in `out`,
+// Writes the image as bytes, and answers how many they are; refused, the output is as it was. Its words are put together in `out`,
 // which may hold anything before and holds anything after.
 pub fn finish(
     log: &Log,
@@ -111,39 +96,18 @@ pub fn finish(
     pairs: usize,
     out: &mut [u32; 16384],
     output: &mut [u8],
-) -> Answer
+) -> Result<usize, Refusal>
     requires valid_tables { ValidTables log.now logtags.now starts.now counts }
     requires pairs_bound { (pairs ≤ 512) × (length special.now ≡ 1027) × (length out.old ≡ 16384) }
-    ensures { Stored (tabs_of log.now logtags.now starts.now counts) pairs (take (3 + 2 * pairs) special.now) output.old result.refusal result.bytes output.new }
+    ensures { Stored (tabs_of log.now logtags.now starts.now counts) pairs (take (3 + 2 * pairs) special.now) output.old result output.new }
 {
-    if MOST_FUNCTIONS < counts[FUNCTIONS] {
-        return Answer {
-            refusal: FULL,
-            bytes: 0,
-        };
+    if MOST_FUNCTIONS < counts[FUNCTIONS] || MOST_ENTRIES < counts[ENTRIES] {
+        return Err(Refusal::Full);
     }
-    if MOST_ENTRIES < counts[ENTRIES] {
-        return Answer {
-            refusal: FULL,
-            bytes: 0,
-        };
-    }
-    let k = finish_words(log, logtags, starts, counts, special, pairs, out);
-    if k == 0 {
-        return Answer {
-            refusal: FULL,
-            bytes: 0,
-        };
-    }
+    let k = finish_words(log, logtags, starts, counts, special, pairs, out).ok_or(Refusal::Full)?;
     if output.len() < 4 * k {
-        return Answer {
-            refusal: SHORT_OUTPUT,
-            bytes: 0,
-        };
+        return Err(Refusal::ShortOutput);
     }
     store(out, k, output);
-    Answer {
-        refusal: 0,
-        bytes: 4 * k,
-    }
+    Ok(4 * k)
 }

@@ -4,11 +4,11 @@
 // Blocks and statements are walked by `while`: each says where the next one starts, which no range does.
 #![tactic(auto)]
 
-ghost use Rattle.std.specs.Prelude.{◌≡◌, Bool, true, false, ◌||◌, [], ◌+◌, ◌-◌, ◌≤◌, ◌<◌, length, get_or};
+ghost use Rattle.std.specs.Prelude.{◌≡◌, Bool, true, ◌||◌, [], ◌+◌, ◌≤◌, ◌<◌, get_or};
 ghost use Rattle.model.specs.Scope.{in_body};
 ghost use Rattle.intake_statements.specs.Fine.{fine_b};
 ghost use Rattle.intake_statements.specs.Tape.{block_of, Steps, stepped, exprs_of, marks};
-ghost use Rattle.intake_blocks.specs.Found.{Cleared, place_of, kept_of, flow_of, told, StmtHere, BlockHere, FoundS, FoundB};
+ghost use Rattle.intake_blocks.specs.Found.{place_of, kept_of, flow_of, StmtHere, BlockHere, FoundS, FoundB};
 
 use base_classes::BLOCK;
 use base_kinds::{BREAK, CONTINUE, EMIT, LOOP, RETURN, SWITCH};

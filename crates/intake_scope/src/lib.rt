@@ -1,7 +1,6 @@
 // The sixth test: every body of an image is in scope, in one pass over each.
 #![tactic(auto)]
 
-ghost use Rattle.std.specs.Prelude.{◌≡◌};
 ghost use Rattle.model.specs.Taped.{Tape};
 ghost use Rattle.model.specs.Scope.{in_scope};
 ghost use Rattle.intake_numbers.specs.Passes.{TestEnsures};

@@ -123,6 +123,8 @@ pub fn link_in_order(
         words, tags, &targets, n, log, logtags, starts, maps, buckets, &special, stacks, appended,
         0,
     );
-    let got = derive_finish::finish(log, logtags, starts, &special, ends, words, output);
-    pack(got.refusal, got.bytes as u32)
+    match derive_finish::finish(log, logtags, starts, &special, ends, words, output) {
+        Ok(bytes) => pack(0, bytes as u32),
+        Err(refusal) => pack(refusal.number(), 0),
+    }
 }

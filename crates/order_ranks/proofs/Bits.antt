@@ -3,7 +3,7 @@ use mathlib.Core.Path.{◌≡◌, refl, sym, ap, ◌∙◌, subst}
 use mathlib.Core.Bool.{Bool, true, false, cond, not, ◌&&◌}
 use mathlib.Core.Logic.{◌⊎◌, inl, inr}
 use mathlib.Core.List.{◌∷◌}
-use Prim.Native.Nat.{ℕ, zero, suc, ◌+◌, ◌*◌, ◌/◌, ◌%◌, ◌^◌, ◌≤◌, ◌<◌}
+use Prim.Native.Nat.{ℕ, zero, suc, ◌+◌, ◌*◌, ◌/◌, ◌%◌, ◌^◌, ◌<◌}
 use native.Mathlib.Nat.{mod-lt, div-one, div-add-mod', zero-lt-suc, add_comm, div-lt_iff_lt-mul, pow-suc, lt_of_le_of_lt}
 use native.Mathlib.Numerals.{add-one}
 use native.Mathlib.Omega.{arith}
@@ -17,7 +17,7 @@ use Rattle.theory_lists.specs.Booleans.{never, either}
 use Rattle.model.specs.Calls.{numbers, keep}
 use Rattle.order_ranks.specs.Marks.{bit, ones_of, meets, PutBit}
 use borrow.Author.Tests.{eqb-true, eqb-false, eq-eqb, ne_eqb}
-use Rattle.theory_order.specs.Lists.{in_numbers, length-numbers, length-parts, length_shift, keep_ext, any_in, any_off}
+use Rattle.theory_order.specs.Lists.{in_numbers, length_shift, keep_ext, any_in, any_off}
 
 pub bit_zero : (x : ℕ) → bit x zero ≡ eqb (x % 2) 1
 unfolding bit
@@ -138,13 +138,6 @@ ones_bits (suc d) x h =
 pub ones_are : (x : ℕ) → x < 2 ^ 64 → ones x ≡ length (ones_of x)
 unfolding ones_of
 ones_are x h = sym (ones_bits 64 x h)
-
-pub ones_few : (x : ℕ) → length (ones_of x) ≤ 64
-unfolding ones_of
-ones_few x = omega (arith, length-parts (bit x) (numbers 64 0), length-numbers 64 0)
-
-pub ones_small : (x : ℕ) → x < 2 ^ 64 → ones x ≤ 64
-ones_small x h = omega (arith, ones_are x h, ones_few x)
 
 -- two words have a bit in common if their `&` is not 0
 pub meet_is : (x y : ℕ) → x < 2 ^ 64 → not (eqb (bit_and x y) 0) ≡ meets x y

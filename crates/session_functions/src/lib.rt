@@ -363,22 +363,24 @@ pub fn finish_with_entries(
         };
     }
     let mut out = [0u32; 16384];
-    let got = derive_finish::finish(log, logtags, &s, special, e, &mut out, output);
-    if got.refusal != 0 {
-        return Finished {
-            refusal: got.refusal,
-            bytes: 0,
-            set: set,
-            ends: ends,
-        };
-    }
+    let bytes = match derive_finish::finish(log, logtags, &s, special, e, &mut out, output) {
+        Ok(bytes) => bytes,
+        Err(refusal) => {
+            return Finished {
+                refusal: refusal.number(),
+                bytes: 0,
+                set: set,
+                ends: ends,
+            };
+        }
+    };
     clear_maps(maps);
     special[0] = 0;
     special[1] = 0;
     special[2] = 0;
     Finished {
         refusal: 0,
-        bytes: got.bytes,
+        bytes: bytes,
         set: false,
         ends: empty(),
     }

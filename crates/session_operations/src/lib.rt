@@ -376,22 +376,24 @@ pub fn finish_plain(
     ensures valid_session { ValidSession result.set n offset words.now tags.now targets.now log.now logtags.now starts.now maps.new buckets.now special.new result.ends }
 {
     let mut out = [0u32; 16384];
-    let got = finish(log, logtags, starts, special, ends, &mut out, output);
-    if got.refusal != 0 {
-        return Finished {
-            refusal: got.refusal,
-            bytes: 0,
-            set: set,
-            ends: ends,
-        };
-    }
+    let bytes = match finish(log, logtags, starts, special, ends, &mut out, output) {
+        Ok(bytes) => bytes,
+        Err(refusal) => {
+            return Finished {
+                refusal: refusal.number(),
+                bytes: 0,
+                set: set,
+                ends: ends,
+            };
+        }
+    };
     clear_maps(maps);
     special[0] = 0;
     special[1] = 0;
     special[2] = 0;
     Finished {
         refusal: 0,
-        bytes: got.bytes,
+        bytes: bytes,
         set: false,
         ends: empty(),
     }

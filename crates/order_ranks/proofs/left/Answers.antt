@@ -1,10 +1,6 @@
 -- `order_ranks::left` meets its contract. The invariant: the rounds of those that wait leave what is left of the whole.
-use native.Mathlib.Omega.{arith}
-use Rattle.order_ranks.proofs.Leaving.{begin, asks, again, less, finish}
+use Rattle.order_ranks.proofs.Leaving.{asks, again, less, finish}
 use Rattle.order_ranks.proofs.left.Goals as goal
-
-pub loop-out-init : goal.loop-out-init
-loop-out-init c = begin _ _ _ c.requires.0 (omega arith) c.requires.1
 
 pub place-round-requires : goal.place-round-requires
 place-round-requires c = asks _ _ _ c.requires.0 _ c.loop-out.invariant

@@ -1,16 +1,10 @@
 -- `order_ranks::order` meets its contract. The invariant: what the rounds of those that wait will write and leave is the whole.
 use native.Mathlib.Omega.{arith}
-use Rattle.order_ranks.proofs.Whole.{begin, asks, again, less, stuck, finish}
+use Rattle.order_ranks.proofs.Whole.{begin, again, less, stuck, finish}
 use Rattle.order_ranks.proofs.order.Goals as goal
-
-pub first-waiting-requires : goal.first-waiting-requires
-first-waiting-requires c = c.requires
 
 pub loop-at-init : goal.loop-at-init
 loop-at-init c = begin _ _ _ c.requires (omega arith) _ c.first-waiting.ensures
-
-pub place-round-requires : goal.place-round-requires
-place-round-requires c = asks _ _ _ c.requires (omega arith) _ _ _ c.loop-at.invariant
 
 pub returns-then-round-at : goal.returns-then-round-at
 returns-then-round-at c = stuck _ _ _ c.requires (omega arith) _ _ _ c.loop-at.invariant c.loop-at-test.true _ _ _ c.place-round.ensures c.if-round-at.true _ c.count.ensures

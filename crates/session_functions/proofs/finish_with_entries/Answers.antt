@@ -1,3 +1,5 @@
+use mathlib.Core.Path.{refl}
+use Rattle.derive_finish.proofs.Refused.{not_zero}
 use Prim.Native.Nat.{ℕ}
 use lib.ListN.{length-replicate}
 use Rattle.derive_lookup.proofs.Bears.{bearing}
@@ -22,11 +24,11 @@ enter_all-e-requires c = let a = c.args in let L = c.requires.valid_session in l
 pub returns-then-e : goal.returns-then-e
 returns-then-e c = let a = c.args in let L = c.requires.valid_session in let S = c.requires.stacks in let zz = Ending.end_full a.set a.n a.offset a.words.now a.tags.now a.targets.now a.log.now a.logtags.now a.starts.now a.maps.now a.buckets.now a.special.now a.ends L a.stacks.now S a.output.now (ap not c.if-not-set.false) _ c.entries_ring.ensures c.if-entries_ring.false _ _ _ _ _ _ _ c.enter_all-e.ensures c.if-e.true _ c.empty_stacks.ensures in record { finish_ensures = zz.0; valid_session_2 = zz.1.0; stacks_2 = zz.1.1 }
 
-pub finish-got-requires : goal.finish-got-requires
-finish-got-requires c = let a = c.args in let L = c.requires.valid_session in let S = c.requires.stacks in record { held = Ending.end-held a.set a.n a.offset a.words.now a.tags.now a.targets.now a.log.now a.logtags.now a.starts.now a.maps.now a.buckets.now a.special.now a.ends L a.stacks.now S a.output.now (ap not c.if-not-set.false) _ c.entries_ring.ensures c.if-entries_ring.false _ _ _ _ _ _ _ c.enter_all-e.ensures c.if-e.false; special_len = (L.specials.special_long, length-replicate {A = ℕ} 16384 0) }
+pub finish-requires : goal.finish-requires
+finish-requires c = let a = c.args in let L = c.requires.valid_session in let S = c.requires.stacks in record { held = Ending.end-held a.set a.n a.offset a.words.now a.tags.now a.targets.now a.log.now a.logtags.now a.starts.now a.maps.now a.buckets.now a.special.now a.ends L a.stacks.now S a.output.now (ap not c.if-not-set.false) _ c.entries_ring.ensures c.if-entries_ring.false _ _ _ _ _ _ _ c.enter_all-e.ensures c.if-e.false; special_len = (L.specials.special_long, length-replicate {A = ℕ} 16384 0) }
 
-pub returns-then-got-ne0 : goal.returns-then-got-ne0
-returns-then-got-ne0 c = let a = c.args in let L = c.requires.valid_session in let S = c.requires.stacks in let zz = Ending.end_refused a.set a.n a.offset a.words.now a.tags.now a.targets.now a.log.now a.logtags.now a.starts.now a.maps.now a.buckets.now a.special.now a.ends L a.stacks.now S a.output.now (ap not c.if-not-set.false) _ c.entries_ring.ensures c.if-entries_ring.false _ _ _ _ _ _ _ c.enter_all-e.ensures c.if-e.false _ _ _ c.finish-got.ensures c.if-got-ne0.true in record { finish_ensures = zz.0; valid_session_2 = zz.1.0; stacks_2 = zz.1.1 }
+pub returns-in-Err : goal.returns-in-Err
+returns-in-Err c = let a = c.args in let L = c.requires.valid_session in let S = c.requires.stacks in let zz = Ending.end_refused a.set a.n a.offset a.words.now a.tags.now a.targets.now a.log.now a.logtags.now a.starts.now a.maps.now a.buckets.now a.special.now a.ends L a.stacks.now S a.output.now (ap not c.if-not-set.false) _ c.entries_ring.ensures c.if-entries_ring.false _ _ _ _ _ _ _ c.enter_all-e.ensures c.if-e.false _ _ _ c.in-Err.ensures (not_zero c.in-Err.refusal) in rw c.number.ensures (record { finish_ensures = zz.0; valid_session_2 = zz.1.0; stacks_2 = zz.1.1 })
 
 pub returns : goal.returns
-returns c = let a = c.args in let L = c.requires.valid_session in let S = c.requires.stacks in let zz = Ending.end_done a.set a.n a.offset a.words.now a.tags.now a.targets.now a.log.now a.logtags.now a.starts.now a.maps.now a.buckets.now a.special.now a.ends L a.stacks.now S a.output.now (ap not c.if-not-set.false) _ c.entries_ring.ensures c.if-entries_ring.false _ _ _ _ _ _ _ c.enter_all-e.ensures c.if-e.false _ _ _ c.finish-got.ensures c.if-got-ne0.false _ c.clear_maps.ensures _ c.empty.ensures in record { finish_ensures = zz.0; valid_session_2 = zz.1.0; stacks_2 = zz.1.1 }
+returns c = let a = c.args in let L = c.requires.valid_session in let S = c.requires.stacks in let zz = Ending.end_done a.set a.n a.offset a.words.now a.tags.now a.targets.now a.log.now a.logtags.now a.starts.now a.maps.now a.buckets.now a.special.now a.ends L a.stacks.now S a.output.now (ap not c.if-not-set.false) _ c.entries_ring.ensures c.if-entries_ring.false _ _ _ _ _ _ _ c.enter_all-e.ensures c.if-e.false _ _ _ c.in-Ok.ensures refl _ c.clear_maps.ensures _ c.empty.ensures in record { finish_ensures = zz.0; valid_session_2 = zz.1.0; stacks_2 = zz.1.1 }
