@@ -89,10 +89,8 @@ fn pairs(
 {
     let c = count(words, SPECIAL);
     let mut e = ends;
-    let mut i = 0;
-    while i < c {
+    for i in 0..c {
         let at = pair_at(words, i);
-        i += 1;
         e = pair(
             words,
             tags,

@@ -9,9 +9,6 @@ loop-i-init c = let a = c.args in let src = c.requires.source in let q = c.requi
 pub pair_at-at-requires : goal.pair_at-at-requires
 pair_at-at-requires c = let z = c.count-c.ensures.1 in let y = c.loop-i-test.true in omega arith
 
-pub overflow_add-i : goal.overflow_add-i
-overflow_add-i c = let z = c.count-c.ensures.1 in let y = c.loop-i-test.true in omega arith
-
 pub offset_bounds-words-at : goal.offset_bounds-words-at
 offset_bounds-words-at c = let a = c.args in let src = c.requires.source in let q = c.requires.full_value in let ks = c.requires.targets_value in let K = c.requires.valid_arrays in let P = c.requires.specials in let l = c.loop-i in let z = pairs_in_lem a.words.now a.tags.now a.n src a.offset a.log.now a.logtags.now a.starts.now a.maps.now a.buckets.now a.special.now a.ends q K P l.log l.logtags l.starts l.maps l.buckets l.special l.e l.i l.invariant (rw (← c.count-c.ensures.0) c.loop-i-test.true) c.pair_at-at.result c.pair_at-at.ensures in omega arith
 
