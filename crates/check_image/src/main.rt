@@ -2,38 +2,28 @@
 // sentence. Input longer than an image may be is refused 1 and not cut: the buffer holds one byte more.
 #![tactic(auto)]
 
-ghost use Rattle.std.specs.Prelude.{◌≡◌, length};
-
-fn buffer() -> [u8; 65537]
-    ensures { 65537 ≡ length result }
-{
-    [0; 65537]
-}
-
-fn say(rt: &(impl Print + Eprint), answer: u32) {
-    if answer == 0 {
-        program_streams::write(rt, "check_image", b"accepted\n");
-        return;
-    }
-    if let Err(error) = println!(rt; "refused {answer}") {
-        program_streams::unwritten(rt, "check_image", error);
-    }
-    program_streams::refused(rt, "check_image", answer);
-}
-
-// The answer for the first n bytes.
-fn check(rt: &(impl Print + Eprint), bytes: &[u8], n: usize) {
-    if n <= bytes.len() {
-        say(rt, intake::intake(&bytes[..n]));
+// The answer for an image.
+fn answer(rt: &(impl Print + Eprint), image: &[u8]) {
+    let mut words = intake::fresh_words();
+    let mut tags = intake::fresh_tags();
+    match intake::take_in(image, &mut words, &mut tags) {
+        Ok(_) => {
+            program_streams::write(rt, "check_image", b"accepted\n");
+        }
+        Err(refusal) => {
+            let number = refusal.number();
+            if let Err(error) = println!(rt; "refused {number}") {
+                program_streams::unwritten(rt, "check_image", error);
+            }
+            program_streams::refused(rt, "check_image", refusal);
+        }
     }
 }
 
 fn main(rt: HostRuntime) {
-    let mut bytes = buffer();
-    let input = program_streams::read(&mut rt.stdin(), &mut bytes);
-    if let Some(error) = input.error {
-        program_streams::unread(&rt, "check_image", error);
-        return;
+    let mut bytes = [0; 65537];
+    match program_streams::read(&mut rt.stdin(), &mut bytes) {
+        Ok(n) => answer(&rt, &bytes[..n]),
+        Err(error) => program_streams::unread(&rt, "check_image", error),
     }
-    check(&rt, &bytes, input.count);
 }

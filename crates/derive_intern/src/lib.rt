@@ -2,7 +2,7 @@
 // before anything is written: with the record that its bucket shows; only where the bucket shows several is the table searched.
 #![tactic(auto)]
 
-ghost use Rattle.std.specs.Prelude.{◌≡◌, true, false, ℕ, suc, ◌+◌, ◌-◌, ◌≤◌, ◌<◌, length, get_or, take};
+ghost use Rattle.std.specs.Prelude.{MatchOption, ◌≡◌, true, false, ℕ, suc, ◌+◌, ◌-◌, ◌≤◌, ◌<◌, length, get_or, take};
 ghost use Rattle.model.specs.Module.{count_at};
 ghost use Rattle.model.specs.Between.{between};
 ghost use Rattle.model.specs.References.{shift, index_of, alike as alikeOf};
@@ -11,7 +11,7 @@ ghost use Rattle.derive_state.specs.Refers.{tab_of, went_r};
 ghost use Rattle.derive_state.specs.Marks.{MARKS, place_r, Left};
 ghost use Rattle.derive_state.specs.Held.{row, cell, rec_at, recs_at, ValidArrays, ImportEnsures, Readable, Nameless, carried_by};
 
-use base_words::{Tags, Words, wide};
+use base_words::{Tags, Words};
 use derive_state::{
     Buckets, Log, LogTags, Maps, Sizes, Starts, Targets, alike, alike_cell, bucket_of, carried,
     mark_full, with_record, words_left, write,
@@ -38,7 +38,7 @@ fn equals_record(
     if n == 0 {
         return alike(words, tags, targets, log, logtags, maps, at, end, s);
     }
-    if wide(log[s]) != n {
+    if log[s] as usize != n {
         return false;
     }
     let b = tags[end - 1];
@@ -49,7 +49,7 @@ fn equals_record(
     alike(words, tags, targets, log, logtags, maps, at, end, s)
 }
 
-// The first of table t's n records that is, ignoring spans, what the source's words become; or n.
+// The first of table t's n records that is, ignoring spans, what the source's words become.
 fn find(
     words: &Words,
     tags: &Tags,
@@ -62,25 +62,19 @@ fn find(
     end: usize,
     t: usize,
     n: usize,
-) -> usize
+) -> Option<usize>
     requires readable { Readable words.now tags.now targets.now at end }
     requires t_bound { (t < 8) × (n ≤ 512) × (length log.now ≡ 16384) × (length logtags.now ≡ 16384) × (length maps.now ≡ 6) × (length (row starts.now t) ≡ 512) }
     requires by_index { (k : ℕ) → k < n → cell starts.now t k + suc (get_or log.now (cell starts.now t k) 0) ≤ 16384 }
-    ensures { result ≡ index_of (recs_at log.now logtags.now (take n (row starts.now t))) (carried_by (went_r maps.now) tags.now words.now at end) }
+    ensures { MatchOption result (n ≡ index_of (recs_at log.now logtags.now (take n (row starts.now t))) (carried_by (went_r maps.now) tags.now words.now at end)) (λ j. (j < n) × (j ≡ index_of (recs_at log.now logtags.now (take n (row starts.now t))) (carried_by (went_r maps.now) tags.now words.now at end))) }
 {
     for j in 0..n {
-        let s = wide(starts[t][j]);
+        let s = starts[t][j] as usize;
         if equals_record(words, tags, targets, log, logtags, maps, at, end, s) {
-            return j;
+            return Some(j);
         }
     }
-    n
-}
-
-fn shown(x: u16) -> usize
-    ensures { (result ≡ x) × (result < 65536) }
-{
-    x as usize
+    None
 }
 
 // Puts number k into bucket p.
@@ -110,16 +104,16 @@ fn find_by_bucket(
     end: usize,
     t: usize,
     p: usize,
-) -> usize
+) -> Option<usize>
     requires readable { Readable words.now tags.now targets.now at end }
     requires t_bound { (t < 6) × (p ≡ place_r t (carried_by (went_r maps.now) tags.now words.now at end)) × (p < MARKS) }
     requires valid_arrays { ValidArrays log.now logtags.now starts.now maps.now buckets.now ends }
-    ensures { result ≡ index_of (recs_at log.now logtags.now (take (get_or ends.counts t 0) (row starts.now t))) (carried_by (went_r maps.now) tags.now words.now at end) }
+    ensures { MatchOption result (get_or ends.counts t 0 ≡ index_of (recs_at log.now logtags.now (take (get_or ends.counts t 0) (row starts.now t))) (carried_by (went_r maps.now) tags.now words.now at end)) (λ j. (j < get_or ends.counts t 0) × (j ≡ index_of (recs_at log.now logtags.now (take (get_or ends.counts t 0) (row starts.now t))) (carried_by (went_r maps.now) tags.now words.now at end))) }
 {
     let n = ends.counts[t] as usize;
-    let v = shown(buckets[p]);
+    let v = buckets[p] as usize;
     if v == 0 {
-        return n;
+        return None;
     }
     if v == 65535 {
         return find(
@@ -128,13 +122,13 @@ fn find_by_bucket(
     }
     let j = v - 1;
     if n <= j {
-        return n;
+        return None;
     }
-    let s = wide(starts[t][j]);
+    let s = starts[t][j] as usize;
     if alike(words, tags, targets, log, logtags, maps, at, end, s) {
-        return j;
+        return Some(j);
     }
-    n
+    None
 }
 
 // Maps number k of table t to the record that the source's words from `at` to `end` become: an equal one that is found, or a new one.
@@ -163,10 +157,10 @@ pub fn intern(
     let n = ends.counts[t] as usize;
     let loglen = ends.loglen as usize;
     let p = bucket_of(words, tags, targets, maps, at, end, t);
-    let j = find_by_bucket(
+    let found = find_by_bucket(
         words, tags, targets, log, logtags, starts, maps, buckets, ends, at, end, t, p,
     );
-    if j < n {
+    if let Some(j) = found {
         maps[t][k] = (j + 1) as u32;
         return ends;
     }

@@ -9,17 +9,16 @@ use Rattle.model.specs.Outcome.{Cells, word, Outcome, fits, misfit, unknown}
 use Rattle.model.specs.Table.{ARGUMENTS, LOCALS, EXPRESSIONS, NAMED, function_head}
 use Rattle.model.specs.Tree.{Function, flat_list, flat_block, flat, function_at}
 use Rattle.model.specs.Carry.{Lays, lays_next, WellFunction}
-use Rattle.model.specs.Between.{between}
 use Rattle.model.specs.Redirect.{name_word, nothing}
 use Rattle.theory_image.specs.Writing.{flat_right}
 use Rattle.theory_image.specs.Readers.{read_well_function}
 use Rattle.theory_image.specs.Betweens.{between_next}
 use Rattle.derive_state.specs.Flats.{function_in, function_of}
-use Rattle.derive_state.specs.Held.{cell, row, rec_at, table_of, functions_of, ValidArrays}
+use Rattle.derive_state.specs.Held.{cell, rec_at, table_of, functions_of, ValidArrays}
 use Rattle.derive_state.specs.declared.Sizes.{Sizes}
 use Rattle.derive_state.proofs.Passes.{length-between}
 use Rattle.derive_state.proofs.State.{table_at, table_long}
-use Rattle.derive_lookup.specs.Bearing.{Names, Heads, Bearing}
+use Rattle.derive_lookup.specs.Bearing.{Bearing}
 
 -- ---- a flat function begins with its name
 record Begins (f : Function) : Type 0 where

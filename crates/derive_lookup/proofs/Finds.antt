@@ -1,6 +1,6 @@
 -- The name of the source's function, and the function that has it.
-use mathlib.Core.Path.{◌≡◌, refl, sym, ap, ◌∙◌}
-use mathlib.Core.Bool.{true, not, ◌&&◌}
+use mathlib.Core.Path.{◌≡◌, refl, ap, ◌∙◌}
+use mathlib.Core.Bool.{true, not}
 use mathlib.Core.List.{List, [], map}
 use Prim.Native.Nat.{ℕ, zero, suc, pred, ◌+◌, ◌-◌, ◌≤◌, ◌<◌}
 use native.Mathlib.Numerals.{add-one}
@@ -29,7 +29,7 @@ use Rattle.redirect_calls.proofs.Places.{name_is_lem, start_in, many}
 use Rattle.derive_state.specs.Refers.{tab_of, target_bytes}
 use Rattle.derive_state.specs.Flats.{function_of}
 use Rattle.derive_state.specs.Source.{mod_of, src_of, Source}
-use Rattle.derive_state.specs.Held.{rec_at, recs_at, recs_of, functions_of, st_of, Readable}
+use Rattle.derive_state.specs.Held.{recs_at, recs_of, functions_of, st_of, Readable}
 use Rattle.derive_state.specs.declared.Sizes.{Sizes}
 use Rattle.derive_imports.proofs.Sources.{count_few, record_is, readable}
 use Rattle.derive_lookup.specs.Bearing.{KnownEnsures}

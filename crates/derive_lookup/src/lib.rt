@@ -16,7 +16,7 @@ ghost use Rattle.derive_state.specs.Held.{rec_at, recs_at, Readable};
 ghost use Rattle.derive_lookup.specs.Bearing.{Names, Went, Heads, Bearing, KnownEnsures};
 
 use base_views::{FUNCTIONS, NAMES, record_at, record_end};
-use base_words::{Tags, Words, wide};
+use base_words::{Tags, Words};
 use derive_state::{Log, LogTags, Maps, Sizes, Starts, alike_cell};
 
 // Whether the record at s equals the source's words from `at` to `end`.
@@ -33,13 +33,11 @@ fn equals_name(
     requires s_bound { (s + suc (get_or log.now s 0) ≤ 16384) × (length log.now ≡ 16384) × (length logtags.now ≡ 16384) }
     ensures { result ≡ alikeOf (rec_at log.now logtags.now s) (between tags.now words.now at end) }
 {
-    if wide(log[s]) != end - at {
+    if log[s] as usize != end - at {
         return false;
     }
-    let mut p = s + 1;
     for j in at..end {
-        let q = p;
-        p += 1;
+        let q = s + 1 + (j - at);
         if !alike_cell(logtags[q], log[q], tags[j], words[j]) {
             return false;
         }
@@ -47,7 +45,7 @@ fn equals_name(
     true
 }
 
-// The first of n names that equals the source's words from `at` to `end`; or n.
+// The first of n names that equals the source's words from `at` to `end`; or n (a number, not an Option: `known` goes on with it as the number of a name).
 fn find_name(
     words: &Words,
     tags: &Tags,
@@ -63,7 +61,7 @@ fn find_name(
     ensures { (result ≡ index_of (recs_at log.now logtags.now (take n starts.now)) (between tags.now words.now at end)) × (result ≤ 512) }
 {
     for j in 0..n {
-        let s = wide(starts[j]);
+        let s = starts[j] as usize;
         if equals_name(words, tags, log, logtags, at, end, s) {
             return j;
         }
@@ -87,14 +85,7 @@ fn is_mapped_name(
     requires names { Names log.now logtags.now starts.now n }
     ensures { result ≡ true → Went log.now logtags.now starts.now n (between tags.now words.now at end) m }
 {
-    if m == 0 {
-        return false;
-    }
-    if n < m {
-        return false;
-    }
-    let s = wide(starts[m - 1]);
-    equals_name(words, tags, log, logtags, at, end, s)
+    m != 0 && m <= n && equals_name(words, tags, log, logtags, at, end, starts[m - 1] as usize)
 }
 
 // The same as `find_name`, but name m - 1 is tried first.
@@ -119,18 +110,15 @@ fn find_name_from(
     find_name(words, tags, log, logtags, starts, n, at, end)
 }
 
-// The last of n functions whose first word is w: its number plus 1, or 0.
+// The last of n functions whose first word is w: its number plus 1, or 0 (a number, not an Option: it is what `known` says).
 fn last(log: &Log, logtags: &LogTags, starts: &[u32; 512], n: usize, w: u32) -> u32
     requires { Heads log.now logtags.now starts.now n }
     ensures { (result ≡ last_of (map function_of (recs_at log.now logtags.now (take n starts.now))) 0 0 w) × (result ≤ n) }
 {
-    let mut k = n;
-    while 0 < k {
-        let m = k;
-        k -= 1;
-        let s = wide(starts[k]);
+    for k in (0..n).rev() {
+        let s = starts[k] as usize;
         if log[s + 1] == w {
-            return m as u32;
+            return (k + 1) as u32;
         }
     }
     0
@@ -155,12 +143,12 @@ pub fn known(
     ensures { KnownEnsures words.now n log.now logtags.now starts.now ends f result }
 {
     let s = record_at(words, tags, n, FUNCTIONS, f);
-    let k = wide(words[s]) - 1;
+    let k = words[s] as usize - 1;
     let at = record_at(words, tags, n, NAMES, k);
     let end = record_end(words, tags, n, NAMES, k);
     let names = ends.counts[NAMES] as usize;
     let functions = ends.counts[FUNCTIONS] as usize;
-    let m = wide(maps[NAMES][k]);
+    let m = maps[NAMES][k] as usize;
     let d = find_name_from(words, tags, log, logtags, &starts[NAMES], names, m, at, end);
     last(log, logtags, &starts[FUNCTIONS], functions, (d + 1) as u32)
 }

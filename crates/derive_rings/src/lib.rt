@@ -19,7 +19,7 @@ ghost use Rattle.derive_rings.specs.Rings.{unknown_by, Unknowns, Stuck, RingsEns
 
 use base_classes::CALLEE;
 use base_views::{ENTRIES, FUNCTIONS, count, entry_function, record_at, record_end};
-use base_words::{Tags, Words, wide};
+use base_words::{Tags, Words};
 use derive_lookup::known;
 use derive_state::{Log, LogTags, Maps, Sizes, Starts};
 use order_callees::gather_requirements;
@@ -46,13 +46,10 @@ fn unknown(
     let functions = count(words, FUNCTIONS);
     let mut set = began;
     for f in 0..functions {
-        if began.has(f) {
-            let is_known = known(words, tags, n, log, logtags, starts, maps, ends, f) != 0;
-            if is_known {
-                set.leave(f);
-            }
+        if began.has(f) && known(words, tags, n, log, logtags, starts, maps, ends, f) != 0 {
+            set.leave(f);
         }
-        }
+    }
     set
 }
 
@@ -87,12 +84,10 @@ fn calls_one(words: &Words, tags: &Tags, at: usize, end: usize, set: &FunctionSe
     ensures { result ≡ any (picked words.now tags.now at end) (λ i. any (members set.now.0) (eqb i)) }
 {
     for k in at..end {
-        if tags[k] == CALLEE {
-            if set.has(wide(words[k])) {
-                return true;
-            }
+        if tags[k] == CALLEE && set.has(words[k] as usize) {
+            return true;
         }
-        }
+    }
     false
 }
 
@@ -108,7 +103,7 @@ fn entries_call(words: &Words, tags: &Tags, n: usize, set: &FunctionSet) -> bool
         if calls_one(words, tags, at, end, set) {
             return true;
         }
-        }
+    }
     false
 }
 
@@ -133,12 +128,12 @@ fn calls_unknown(
 {
     for k in at..end {
         if tags[k] == CALLEE {
-            let f = wide(words[k]);
+            let f = words[k] as usize;
             if known(words, tags, n, log, logtags, starts, maps, ends, f) == 0 {
                 return true;
             }
         }
-        }
+    }
     false
 }
 
@@ -189,10 +184,7 @@ pub fn import_rings(
     let mut callees = clear();
     gather_requirements(words, tags, n, &mut callees);
     let set = unknown_in_ring(words, tags, n, log, logtags, starts, maps, ends, &callees);
-    if set.has(f) {
-        return true;
-    }
-    callees[f].meets(&set)
+    set.has(f) || callees[f].meets(&set)
 }
 
 // Refusal 22 of map_function_handle: function f is stuck.
@@ -213,10 +205,9 @@ pub fn follow_rings(
     requires f_bound { f < count_at 6 words.now }
     ensures { RingsEnsures (f ∷ []) words.now n log.now logtags.now starts.now ends result }
 {
-    if known(words, tags, n, log, logtags, starts, maps, ends, f) != 0 {
-        return false;
-    }
-    if !calls_unknown_name(words, tags, n, log, logtags, starts, maps, ends, f) {
+    if known(words, tags, n, log, logtags, starts, maps, ends, f) != 0
+        || !calls_unknown_name(words, tags, n, log, logtags, starts, maps, ends, f)
+    {
         return false;
     }
     let mut callees = clear();
@@ -248,7 +239,7 @@ fn entries_lead(
         if calls_unknown(words, tags, n, log, logtags, starts, maps, ends, at, end) {
             return true;
         }
-        }
+    }
     false
 }
 

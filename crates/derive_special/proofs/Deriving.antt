@@ -1,7 +1,7 @@
 -- What each step of setting a source does to the arrays: a type that is mapped to the derived one, a type that is imported for its place or its key, and steps one
 -- after the other.
 use mathlib.Core.Path.{◌≡◌, refl, sym, ap, ◌∙◌}
-use mathlib.Core.Logic.{◌⊎◌, ⊎_elim}
+use mathlib.Core.Logic.{⊎_elim}
 use mathlib.Core.Bool.{true, false, false≢true}
 use mathlib.Core.List.{List, [], ◌∷◌}
 use Prim.Native.Nat.{ℕ, suc, ◌+◌, ◌-◌, ◌*◌, ◌≤◌, ◌<◌, pred}
@@ -11,7 +11,7 @@ use lib.ListN.{length, get_or, set, take, length-set, length-append}
 use lib.Seq.{get_or-set_same, get_or-set_other, length-take-le}
 use Rattle.model.specs.Table.{KEY, TYPE}
 use Rattle.model.specs.Module.{count_at}
-use Rattle.model.specs.Tables.{types, code_t, at, Tables, count, map_at}
+use Rattle.model.specs.Tables.{types, code_t, Tables, count, map_at}
 use Rattle.model.specs.Imports.{Derived, import_t}
 use Rattle.model.specs.Special.{force, with_special, put_ray, put_pair}
 use Rattle.theory_records.specs.TableLaws.{at-six}

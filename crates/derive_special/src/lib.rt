@@ -1,7 +1,7 @@
 // One special type of a source: derived for its place or key, or, where that is derived already, mapped to the derived type.
 #![tactic(auto)]
 
-ghost use Rattle.std.specs.Prelude.{◌≡◌, false, ◌+◌, ◌≤◌, ◌<◌, length};
+ghost use Rattle.std.specs.Prelude.{MatchOption, ◌≡◌, false, ◌+◌, ◌≤◌, ◌<◌, length};
 ghost use Rattle.model.specs.Module.{count_at};
 ghost use Rattle.model.specs.Special.{ray as rayOf, keyed};
 ghost use Rattle.derive_state.specs.Refers.{target_bytes};
@@ -12,23 +12,23 @@ ghost use Rattle.derive_special.specs.Derives.{pair_of, SpecialEnsures};
 
 use base_handles::TypeHandle;
 use base_views::TYPES;
-use base_words::{Tags, Words, wide};
+use base_words::{Tags, Words};
 use derive_imports::import;
 use derive_state::{
     Buckets, Log, LogTags, Maps, Sizes, Special, Starts, Targets, mark_full, words_left,
 };
 
-// The type derived for a key among n pairs: 0 for none, else its number plus 1.
-fn derived(special: &Special, n: usize, key: u32) -> usize
+// The type derived for a key among n pairs.
+fn derived(special: &Special, n: usize, key: u32) -> Option<u32>
     requires { (n ≤ 512) × (length special.now ≡ 1027) }
-    ensures { result ≡ keyed (pairs_at special.now 3 n) key }
+    ensures { MatchOption result (0 ≡ keyed (pairs_at special.now 3 n) key) (λ h. h + 1 ≡ keyed (pairs_at special.now 3 n) key) }
 {
     for j in 0..n {
         if special[3 + 2 * j] == key {
-            return wide(special[4 + 2 * j]) + 1;
+            return Some(special[4 + 2 * j]);
         }
     }
-    0
+    None
 }
 
 // The sizes with one pair more.
@@ -76,7 +76,7 @@ pub fn ray(
         return ends;
     }
     let h = w - 1;
-    let i = wide(h);
+    let i = h as usize;
     let v = special[k];
     if v != 0 {
         maps[TYPES][i] = v;
@@ -116,10 +116,10 @@ pub fn pair(
     requires specials { Specials special.old ends }
     ensures { SpecialEnsures words.now (pair_of key h.0 offset (src_of words.now n)) log.old logtags.old starts.old maps.old buckets.old special.old ends result log.new logtags.new starts.new maps.new buckets.new special.new }
 {
-    let i = wide(h.0);
-    let v = derived(special, ends.pairs as usize, key);
-    if v != 0 {
-        maps[TYPES][i] = v as u32;
+    let i = h.0 as usize;
+    let found = derived(special, ends.pairs as usize, key);
+    if let Some(d) = found {
+        maps[TYPES][i] = d + 1;
         return ends;
     }
     let got = import(

@@ -11,7 +11,7 @@ ghost use Rattle.derive_state.specs.Marks.{MARKS, hash_r, place_r};
 ghost use Rattle.derive_state.specs.Held.{rec_at, Readable, Written, carried_by};
 
 use base_classes::{SPAN, UPTO};
-use base_words::{Tags, Words, wide};
+use base_words::{Tags, Words};
 use intake_distinct::mix;
 use std::num::wrapping_add_u32;
 
@@ -152,28 +152,19 @@ pub fn targets() -> [u8; 256]
     ]
 }
 
-fn slot(x: u8) -> usize
-    ensures { (result ≡ x) × (result < 256) }
-{
-    x as usize
-}
-
 // The target of the class s.
 pub fn target_of(targets: &Targets, s: u8) -> usize
     requires { targets.now ≡ target_bytes }
     ensures { (result ≡ target_of (target s)) × (result < 14) }
 {
-    slot(targets[slot(s)])
+    targets[s as usize] as usize
 }
 
 // The number before v, or 0.
 pub fn number_of(v: u32) -> u32
     ensures { result ≡ pred v }
 {
-    if v == 0 {
-        return 0;
-    }
-    v - 1
+    v.saturating_sub(1)
 }
 
 // A word carried through the maps.
@@ -191,7 +182,7 @@ pub fn carried(targets: &Targets, maps: &Maps, s: u8, w: u32) -> u32
         return 0;
     }
     if u < NOTHING {
-        let v = maps[u][wide(w)];
+        let v = maps[u][w as usize];
         if v == 0 {
             return 0;
         }
@@ -200,23 +191,14 @@ pub fn carried(targets: &Targets, maps: &Maps, s: u8, w: u32) -> u32
     if w == 0 {
         return 0;
     }
-    maps[u - OPTIONAL][wide(w - 1)]
+    maps[u - OPTIONAL][(w - 1) as usize]
 }
 
 // Whether the word x of the class a equals the word y of the class b; for words of spans only the classes are compared.
 pub fn alike_cell(a: u8, x: u32, b: u8, y: u32) -> bool
     ensures { result ≡ alike_c (a, x) (b, y) }
 {
-    if a != b {
-        return false;
-    }
-    if x == y {
-        return true;
-    }
-    if a == SPAN {
-        return true;
-    }
-    a == UPTO
+    a == b && (x == y || a == SPAN || a == UPTO)
 }
 
 // Whether the record at s is what the source's words from `at` to `end` become, ignoring spans.
@@ -235,13 +217,11 @@ pub fn alike(
     requires s_bound { (s + suc (slice_index log.now s) ≤ 16384) × (length log.now ≡ 16384) × (length logtags.now ≡ 16384) × (length maps.now ≡ 6) }
     ensures { result ≡ alikeOf (rec_at log.now logtags.now s) (carried_by (went_r maps.now) tags.now words.now at end) }
 {
-    if wide(log[s]) != end - at {
+    if log[s] as usize != end - at {
         return false;
     }
-    let mut p = s + 1;
     for j in at..end {
-        let q = p;
-        p += 1;
+        let q = s + 1 + (j - at);
         let b = tags[j];
         let y = carried(targets, maps, b, words[j]);
         if !alike_cell(logtags[q], log[q], b, y) {
@@ -255,13 +235,7 @@ pub fn alike(
 fn bare_word(s: u8, w: u32) -> u32
     ensures { result ≡ bare_w (target s) w }
 {
-    if s < SPAN {
-        return w;
-    }
-    if UPTO < s {
-        return w;
-    }
-    0
+    if s < SPAN || UPTO < s { w } else { 0 }
 }
 
 // The hash of what the source's words become in table t.
@@ -335,13 +309,7 @@ fn undefined_at(
 pub fn moved(s: u8, w: u32, offset: u32, u: bool) -> u32
     ensures { result ≡ movedOf (target s) w offset u }
 {
-    if s < SPAN {
-        return w;
-    }
-    if UPTO < s {
-        return w;
-    }
-    if u {
+    if s < SPAN || UPTO < s || u {
         return w;
     }
     wrapping_add_u32(w, offset)
@@ -364,11 +332,9 @@ pub fn write(
     requires at_bound { (to + (end - at) ≤ 16384) × (length log.old ≡ 16384) × (length logtags.old ≡ 16384) × (length maps.now ≡ 6) }
     ensures { Written (shift (carried_by (went_r maps.now) tags.now words.now at end) offset false) to log.old logtags.old log.new logtags.new }
 {
-    let mut p = to;
     let mut u = false;
     for j in at..end {
-        let q = p;
-        p += 1;
+        let q = to + (j - at);
         let s = tags[j];
         let w = carried(targets, maps, s, words[j]);
         u = undefined_at(words, tags, targets, maps, s, w, j + 1, end, u);

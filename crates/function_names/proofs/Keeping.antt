@@ -1,5 +1,5 @@
 -- The named expressions that stay, as pairs on the stack: an expression's seat is 0, or the place of its pair plus 1. What the records that are left make of the pairs so far is what all of them make.
-use mathlib.Core.Path.{◌≡◌, refl, sym, ap, ap₂, ◌∙◌}
+use mathlib.Core.Path.{◌≡◌, refl, sym, ap, ◌∙◌}
 use mathlib.Core.Bool.{Bool, true, false, cond, false≢true}
 use mathlib.Core.Logic.{⊎_elim}
 use mathlib.Core.List.{List, [], ◌∷◌, ◌++◌, append_assoc}
@@ -12,7 +12,7 @@ use lib.ListN.{length, get_or, set, take, drop, replicate, length-set, length-ap
 use lib.Seq.{slice, take-suc-set, take-set-le, take-set-lt, drop-set-add, drop-append-le, length-take-le, get_or-set_same, get_or-set_other, get_or-take}
 use borrow.Author.Tests.{eq-eqb, ne_eqb, eqb-true}
 use Rattle.theory_lists.specs.Lists.{zeros}
-use Rattle.model.specs.Outcome.{Cells, class, word}
+use Rattle.model.specs.Outcome.{Cells}
 use Rattle.model.specs.Table.{NAME, NAMED-EXPR}
 use Rattle.model.specs.Names.{field}
 use Rattle.model.specs.Bodies.{put_name, name_if, keep_names}

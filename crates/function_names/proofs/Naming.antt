@@ -1,5 +1,5 @@
 -- The names of the pairs on the stack, imported from left to right: what the pairs that are left make of the state that the arrays hold is what all of them make of the first, and the words before them are done.
-use mathlib.Core.Path.{◌≡◌, refl, sym, ap, ap₂, ◌∙◌}
+use mathlib.Core.Path.{◌≡◌, refl, sym, ap, ◌∙◌}
 use mathlib.Core.Bool.{true, false, false≢true}
 use mathlib.Core.List.{List, [], ◌∷◌, ◌++◌, map, append_assoc, append-nil}
 use Prim.Native.Nat.{ℕ, zero, suc, ◌+◌, ◌*◌, ◌-◌, ◌≤◌, ◌<◌}
@@ -8,17 +8,17 @@ use native.Mathlib.Numerals.{add-one}
 use native.Mathlib.Omega.{arith}
 use lib.ListN.{length, get_or, set, take, drop, length-set}
 use lib.Seq.{slice, slice-cons, take-suc, take-suc-set, take-set-le, take-set-lt, drop-set-lt, drop-append-le, length-take-le, set-get_or, get_or-set_same, get_or-set_other}
-use Rattle.model.specs.Outcome.{Cells, word}
-use Rattle.model.specs.Table.{NAME, NAMED-EXPR, SPAN}
+use Rattle.model.specs.Outcome.{word}
+use Rattle.model.specs.Table.{NAME}
 use Rattle.model.specs.Module.{Module, count_at}
-use Rattle.model.specs.Tables.{names, code_t, tables, map_at}
+use Rattle.model.specs.Tables.{names, code_t, tables}
 use Rattle.model.specs.References.{target, targets, carry_w, through}
 use Rattle.model.specs.Imports.{Derived, import_t}
 use Rattle.model.specs.Bodies.{Builder, bring, mapped_to, step}
 use Rattle.theory_passes.specs.Pass.{arrive, named, rows}
 use Rattle.theory_passes.specs.Light.{still}
 use Rattle.theory_image.specs.Betweens.{slice-none}
-use Rattle.derive_state.specs.Source.{mod_of, src_of, Source}
+use Rattle.derive_state.specs.Source.{mod_of, src_of}
 use Rattle.derive_state.specs.Held.{row, cell, put, table_of, st_of, size_r, ValidArrays, Same, Beside, ImportEnsures}
 use Rattle.derive_state.specs.Marks.{Marks}
 use Rattle.derive_state.specs.declared.Sizes.{Sizes}

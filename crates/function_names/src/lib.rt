@@ -10,12 +10,12 @@ ghost use Rattle.function_builder.specs.Stacks.{Stacks};
 ghost use Rattle.function_names.specs.Named.{named_records, KeepNamesEnsures, ImportNamesEnsures};
 
 use base_views::NAMES;
-use base_words::{Tags, Words, wide};
+use base_words::{Tags, Words};
 use derive_imports::import;
 use derive_state::{
     Buckets, ExprMap, Log, LogTags, Maps, Sizes, StackRows, Starts, Targets, mark_full,
 };
-use function_builder::{BODY, push, slot};
+use function_builder::{BODY, push};
 
 // The named expressions that stay, of those whose count is word `at`, each with its name's word in the source: the last name counts, in the first's place.
 // `seats` is scratch memory that the caller provides: nothing is required of it before or promised after.
@@ -37,15 +37,13 @@ pub fn keep_names(
 {
     *seats = [0; 1025];
     let b = ends.bodytop as usize;
-    let count = wide(words[at]);
+    let count = words[at] as usize;
     let mut e = ends;
-    let mut i = 0;
-    while i < count {
+    for i in 0..count {
         let q = at + 1 + 2 * i;
-        i += 1;
-        let v = slot(exprmap[wide(words[q])]);
+        let v = exprmap[words[q] as usize] as usize;
         if v != 0 {
-            let j = slot(seats[v - 1]);
+            let j = seats[v - 1] as usize;
             if j == 0 {
                 if e.bodytop > 16382 {
                     return mark_full(e);
@@ -109,7 +107,7 @@ pub fn import_names(
             if e.full {
                 return e;
             }
-            stacks[BODY][j] = maps[NAMES][wide(w - 1)];
+            stacks[BODY][j] = maps[NAMES][(w - 1) as usize];
         }
     }
     e

@@ -20,9 +20,7 @@ fn copy_words(stacks: &StackRows, t: usize, a: usize, count: usize, log: &mut Lo
     requires { (t < 4) × (a + count ≤ 16384) × (p + count ≤ 16384) × (length log.old ≡ 16384) × (length (row stacks.now t) ≡ 16384) }
     ensures { log.new ≡ sets log.old p (slice a (a + count) (row stacks.now t)) }
 {
-    for j in 0..count {
-        log[p + j] = stacks[t][a + j];
-    }
+    log[p..p + count].copy_from_slice(&stacks[t][a..a + count]);
 }
 
 // Copies the classes of the source's words from a on.
@@ -30,9 +28,7 @@ fn copy_tags(tags: &Tags, a: usize, count: usize, logtags: &mut LogTags, p: usiz
     requires { (a + count ≤ 16384) × (p + count ≤ 16384) × (length tags.now ≡ 16384) × (length logtags.old ≡ 16384) }
     ensures { logtags.new ≡ sets logtags.old p (slice a (a + count) tags.now) }
 {
-    for j in 0..count {
-        logtags[p + j] = tags[a + j];
-    }
+    logtags[p..p + count].copy_from_slice(&tags[a..a + count]);
 }
 
 // Copies the classes of expressions, from a on.

@@ -1,7 +1,7 @@
 -- From intake's answer, the order of a module and linking by it to the promise on all bytes.
 use mathlib.Core.Path.{◌≡◌, refl, sym, ap, ◌∙◌, subst}
 use mathlib.Core.List.{List}
-use Prim.Native.Nat.{ℕ, suc, ◌<◌, ◌≤◌}
+use Prim.Native.Nat.{ℕ, suc, ◌/◌, ◌<◌, ◌≤◌}
 use native.Mathlib.Omega.{arith}
 use lib.ListN.{length, take}
 use borrow.Author.Tests.{le-ltb}
@@ -14,17 +14,18 @@ use Rattle.model.specs.Calls.{Order, ordered}
 use Rattle.model.specs.Callees.{order_of}
 use Rattle.model.specs.Refusals.{done, refused, ringed, answer_by, packed}
 use Rattle.model.specs.Link.{Linked, in_order, link_module, link, link_by, output_after, link_image, link_answer}
+use Rattle.theory_image.specs.IntakeNumbers.{intake_low}
 use Rattle.theory_image.specs.FunctionViews.{taped_functions}
 use Rattle.theory_image.specs.Modules.{sized_read_write}
 use Rattle.order_ranks.proofs.Answers.{all_is, ring_is}
-use Rattle.base_refusals.specs.Numbers.{number_of as refusal_number, count_of}
+use Rattle.base_refusals.specs.Numbers.{refused_by as ends_as}
 use Rattle.base_refusals.specs.declared.Refusal.{Refusal}
 use Rattle.std.specs.Prelude.{Result, Ok, Err}
 use Rattle.order_callees.specs.Gathering.{Known, Listed}
 use Rattle.intake.specs.Taken.{number_of, Accepts, TakeInEnsures}
-use Rattle.intake.specs.declared.Taken.{Taken}
-use Rattle.intake.specs.declared.Taken.TheVariants.{Accepted}
-use Rattle.intake.proofs.Refusals.{NotFirst, refused_by}
+use Rattle.std.specs.Prelude.{Ok, Err}
+use Rattle.base_refusals.specs.declared.Refusal.{Refusal}
+use Rattle.intake.proofs.Refusals.{refused_by, answered}
 use Rattle.derive_imports.proofs.Sources.{mod_is, source_of}
 use Rattle.order_bytes.proofs.Images.{list_long, list_asks}
 use Rattle.theory_link.specs.Demand.{Linking}
@@ -40,12 +41,13 @@ links_as image output₀ x e r output a b = record { answer = a ∙ sym (ap link
 
 module _ (image words tags : List ℕ) where
   -- ---- refused by intake
-  pub intake_refuses : (e : Refusal) → TakeInEnsures (Err e) words tags image → (k : ℕ) → k ≡ number_of (Err e) → (output : List ℕ) → LinkEnsures k output output image
+  pub intake_refuses : (e : Refusal) → TakeInEnsures (Err e) words tags image → (output : List ℕ) → LinkEnsures (answer_by (λ v. v) (ends_as e)) output output image
   unfolding answer_by output_after
-  intake_refuses e got k h output =
+  intake_refuses e got output =
       let x = refused_by e in
+      let a = answered e (omega (arith, got.same, intake_low (length image) (words_of image))) in
       let i = not_taken image output x.0 (sym got.same ∙ x.1) in
-      links_as image output (refused (suc x.0)) (ap (λ p. p.0) i) k output (h ∙ x.1) refl
+      links_as image output (refused (suc x.0)) (ap (λ p. p.0) i) _ output (a ∙ x.1) refl
 
   module _ (n : ℕ) (got : TakeInEnsures (Ok n) words tags image) where
     held : Accepts image words tags n
@@ -55,7 +57,7 @@ module _ (image words tags : List ℕ) where
     accepted = sym got.same
 
     -- ---- 7
-    pub short_refuses : (output : List ℕ) → length output < length image → LinkEnsures 7 output output image
+    pub short_refuses : (output : List ℕ) → length output < length image → LinkEnsures (answer_by (λ (v : ℕ). v) (refused 7)) output output image
     unfolding answer_by output_after
     short_refuses output h = links_as image output (refused 7) (ap (λ p. p.0) (too_short image output accepted held.holds held.reads h)) 7 output refl refl
 
@@ -93,13 +95,13 @@ module _ (image words tags : List ℕ) where
               sequence = record { is = ordered_so; counts = refl; long = list_long words tags n order_asks.0 order₀ order a o q long };
             }
 
-        pub by_tells : (output₀ : List ℕ) → length image ≤ length output₀ → (r : ℕ) (output : List ℕ) → LinkInOrderEnsures words n order output₀ r output → LinkEnsures r output₀ output image
-        unfolding in_order output_after
-        by_tells output₀ h r output l = links_as image output₀ (done (write (link_by (take (count_at 6 words) order) (mod_of words n)))) (linked_as output₀ h ∙ ap (λ (x : Order). in_order x (mod_of words n)) ordered_so) r output l.answer l.left
+        pub by_tells : (output₀ : List ℕ) → length image ≤ length output₀ → (r : ℕ) (output : List ℕ) → LinkInOrderEnsures words n order output₀ r output → LinkEnsures (answer_by (λ (v : ℕ). v) (done (r / 4294967296))) output₀ output image
+        unfolding in_order output_after answer_by
+        by_tells output₀ h r output l = links_as image output₀ (done (write (link_by (take (count_at 6 words) order) (mod_of words n)))) (linked_as output₀ h ∙ ap (λ (x : Order). in_order x (mod_of words n)) ordered_so) _ output (omega (arith, l.answer)) l.left
 
       -- a ring
-      pub ring_tells : (refusal : Refusal) → a ≡ Err refusal → (output : List ℕ) → length image ≤ length output → (r : ℕ) → r ≡ packed (refusal_number refusal) (count_of refusal) → LinkEnsures r output output image
+      pub ring_tells : (refusal : Refusal) → a ≡ Err refusal → (output : List ℕ) → length image ≤ length output → LinkEnsures (answer_by (λ v. v) (ends_as refusal)) output output image
       unfolding in_order answer_by output_after
-      ring_tells refusal q output h r is =
+      ring_tells refusal q output h =
           let s = ring_is (order_of (mod_of words n)) refusal _ (rw q at (o.is (mod_of words n) taped)) in
-          links_as image output (ringed s.0) (linked_as output h ∙ ap (λ (x : Order). in_order x (mod_of words n)) s.2) r output (is ∙ ap (λ (x : Refusal). packed (refusal_number x) (count_of x)) s.1) refl
+          links_as image output (ringed s.0) (linked_as output h ∙ ap (λ (x : Order). in_order x (mod_of words n)) s.2) _ output (ap (λ (x : Refusal). answer_by (λ v. v) (ends_as x)) s.1) refl

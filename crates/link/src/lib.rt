@@ -2,16 +2,47 @@
 #![tactic(auto)]
 
 ghost use Rattle.std.specs.Prelude.{◌≡◌, length};
+ghost use Rattle.model.specs.Refusals.{answer_by};
 ghost use Rattle.model.specs.Image.{ScratchLengths, LinkEnsures};
+ghost use Rattle.base_refusals.specs.Numbers.{ended};
 
-use base_refusals::{SHORT_OUTPUT, pack};
+use base_refusals::{Refusal, answer};
 use base_words::{Tags, Words};
 use derive_state::{Buckets, Log, LogTags, Maps, StackRows, Starts};
 use link_words::link_in_order;
 use order_callees::order_of;
 
-// The image linked into the output, in arrays that the caller provides: low half the refusal, 0 accepted; high half the bytes written, or with 12 the functions
-// left. They may hold anything before, and hold anything after. Nothing is required of `maps` and `buckets`: they are overwritten before use.
+// The image linked into the output, in arrays that the caller provides: the bytes written, or the refusal. They may hold anything before, and hold anything after.
+// Nothing is required of `maps` and `buckets`: they are overwritten before use.
+fn linked_in(
+    image: &[u8],
+    output: &mut [u8],
+    words: &mut Words,
+    tags: &mut Tags,
+    log: &mut Log,
+    logtags: &mut LogTags,
+    starts: &mut Starts,
+    maps: &mut Maps,
+    buckets: &mut Buckets,
+    stacks: &mut StackRows,
+) -> Result<u32, Refusal>
+    requires words_len { (length words.old ≡ 16384) × (length tags.old ≡ 16384) }
+    requires scratch_lengths { ScratchLengths log.old logtags.old starts.old stacks.old }
+    ensures { LinkEnsures (answer_by (λ v. v) (ended result)) output.old output.new image.now }
+{
+    let n = intake::take_in(image, words, tags)?;
+    if output.len() < image.len() {
+        return Err(Refusal::ShortOutput);
+    }
+    let mut order = [0u32; 256];
+    order_of(words, tags, n, &mut order)?;
+    let linked = link_in_order(
+        words, tags, n, &order, output, log, logtags, starts, maps, buckets, stacks,
+    );
+    Ok((linked / 4294967296) as u32)
+}
+
+// The same, its answer as one number: low half the refusal, 0 accepted; high half the bytes written, or with 12 the functions left.
 pub fn link_in(
     image: &[u8],
     output: &mut [u8],
@@ -28,44 +59,32 @@ pub fn link_in(
     requires scratch_lengths { ScratchLengths log.old logtags.old starts.old stacks.old }
     ensures { LinkEnsures result output.old output.new image.now }
 {
-    let n = match intake::take_in(image, words, tags) {
-        Ok(n) => n,
-        Err(refusal) => return refusal.number() as u64,
-    };
-    if output.len() < image.len() {
-        return SHORT_OUTPUT as u64;
-    }
-    let mut order = [0u32; 256];
-    match order_of(words, tags, n, &mut order) {
-        Ok(()) => link_in_order(
-            words, tags, n, &order, output, log, logtags, starts, maps, buckets, stacks,
-        ),
-        Err(refusal) => pack(refusal.number(), refusal.count()),
-    }
+    answer(linked_in(
+        image, output, words, tags, log, logtags, starts, maps, buckets, stacks,
+    ))
 }
 
-// The same, in arrays of its own.
+// The bytes written or the refusal, in arrays of its own.
+pub fn linked(image: &[u8], output: &mut [u8]) -> Result<u32, Refusal>
+    ensures { LinkEnsures (answer_by (λ v. v) (ended result)) output.old output.new image.now }
+{
+    linked_in(
+        image,
+        output,
+        &mut [0; 16384],
+        &mut [0; 16384],
+        &mut [0; 16384],
+        &mut [0; 16384],
+        &mut [[0; 512]; 8],
+        &mut [[0; 512]; 6],
+        &mut [0; 16384],
+        &mut [[0; 16384]; 4],
+    )
+}
+
+// The same as one number.
 pub fn link(image: &[u8], output: &mut [u8]) -> u64
     ensures { LinkEnsures result output.old output.new image.now }
 {
-    let mut words = [0u32; 16384];
-    let mut tags = [0u8; 16384];
-    let mut log = [0u32; 16384];
-    let mut logtags = [0u8; 16384];
-    let mut starts = [[0u32; 512]; 8];
-    let mut maps = [[0u32; 512]; 6];
-    let mut buckets = [0u16; 16384];
-    let mut stacks = [[0u32; 16384]; 4];
-    link_in(
-        image,
-        output,
-        &mut words,
-        &mut tags,
-        &mut log,
-        &mut logtags,
-        &mut starts,
-        &mut maps,
-        &mut buckets,
-        &mut stacks,
-    )
+    answer(linked(image, output))
 }

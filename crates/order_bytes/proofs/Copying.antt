@@ -1,11 +1,14 @@
--- The loop of `copy`: at every turn, what is left to write completes the whole, and past the end of `out` nothing is written.
+-- What a copy that stops where the list ends does.
 use mathlib.Core.Path.{◌≡◌, refl, sym, ap, ◌∙◌}
-use mathlib.Core.List.{List, [], ◌∷◌}
-use Prim.Native.Nat.{ℕ, zero, suc, ◌+◌, ◌≤◌, ◌<◌}
-use native.Mathlib.Numerals.{add-one}
+use mathlib.Core.List.{List, [], ◌∷◌, ◌++◌}
+use Prim.Native.Nat.{ℕ, zero, suc, ◌+◌, ◌≤◌}
 use native.Mathlib.Omega.{arith}
-use lib.ListN.{length, get_or, set, take, drop, length-set, drop_of_length-le}
-use lib.Seq.{sets, drop-cons, get_or-take, length-take-le}
+use lib.Dec.{ltb}
+use lib.ListN.{length, set, take, drop, length-set}
+use lib.Seq.{sets, sets-eq, length-take-le}
+use borrow.Author.Tests.{ltb-true, ltb-false}
+use mathlib.Core.Bool.{Bool, true, false}
+use Rattle.std.proofs.Common.{min}
 
 set_past : (l : List ℕ) (i a : ℕ) → length l ≤ i → set l i a ≡ l
 set_past [] i a h = refl
@@ -16,31 +19,19 @@ sets_past : (vs l : List ℕ) (i : ℕ) → length l ≤ i → sets l i vs ≡ l
 sets_past [] l i h = refl
 sets_past (a ∷ vs) l i h = ap (λ k. sets k (suc i) vs) (set_past l i a h) ∙ sets_past vs l (suc i) (omega arith)
 
--- the numbers before i are in place
-pub record Copying (order : List ℕ) (count : ℕ) (out₀ out : List ℕ) (i : ℕ) : Type 0 where
-  pub to : i ≤ count
-  pub long : length out ≡ length out₀
-  pub same : sets out i (drop i (take count order)) ≡ sets out₀ 0 (take count order)
+-- what is written past the end is not written
+pub sets_cut : (vs l : List ℕ) (i n : ℕ) → length l ≤ i + n → sets l i (take n vs) ≡ sets l i vs
+sets_cut [] l i zero h = refl
+sets_cut [] l i (suc n) h = refl
+sets_cut (a ∷ vs) l i zero h = sym (sets_past (a ∷ vs) l i (omega arith))
+sets_cut (a ∷ vs) l i (suc n) h = sets_cut vs (set l i a) (suc i) n (omega (arith, length-set l i a))
 
-module _ (order : List ℕ) (count : ℕ) (out₀ : List ℕ) where
-  pub copy_begin : Copying order count out₀ out₀ 0
-  copy_begin = record { to = omega arith; long = refl; same = refl }
-
-  module _ (out : List ℕ) (i : ℕ) (inv : Copying order count out₀ out i) where
-    pub copy_full : length out ≤ i → out ≡ sets out₀ 0 (take count order)
-    copy_full h = sym (sets_past (drop i (take count order)) out i h) ∙ inv.same
-
-    pub copy_next : length order ≡ 256 → count ≤ 256 → i < count → Copying order count out₀ (set out i (get_or order i 0)) (i + 1)
-    copy_next full few h =
-        let inside : i < length (take count order) = omega (arith, length-take-le count order (omega arith)) in
-        let e : drop i (take count order) ≡ get_or order i 0 ∷ drop (suc i) (take count order) = drop-cons (take count order) i 0 inside ∙ ap (◌∷ drop (suc i) (take count order)) (get_or-take count order i 0 h) in
-        record {
-          to = omega arith;
-          long = length-set out i (get_or order i 0) ∙ inv.long;
-          same = rw (add-one i) (rw e at inv.same);
-        }
-
-    pub copy_done : length order ≡ 256 → count ≤ 256 → count ≤ i → out ≡ sets out₀ 0 (take count order)
-    copy_done full few h =
-        let e : drop i (take count order) ≡ [] = drop_of_length-le (take count order) {i = i} (omega (arith, length-take-le count order (omega arith))) in
-        rw e at inv.same
+pub copied : (order out part : List ℕ) (count n : ℕ) → n ≡ min count (length out) → part ≡ take n order → length order ≡ 256 → count ≤ 256 → part ++ drop n out ≡ sets out 0 (take count order)
+copied order out part count n is taken full few =
+    let long : 0 + length (take n order) ≡ n = omega (arith, length-take-le n order (omega arith)) in
+    let whole : sets out 0 (take n order) ≡ take n order ++ drop (0 + length (take n order)) out = sets-eq (take n order) out 0 (omega arith) in
+    ap (◌++ drop n out) taken ∙ ap (λ k. take n order ++ drop k out) (sym long) ∙ sym whole ∙ go (ltb (length out) count) refl
+  where
+    go : (b : Bool) → ltb (length out) count ≡ b → sets out 0 (take n order) ≡ sets out 0 (take count order)
+    go true e = let h = ltb-true (length out) count e in sets_cut order out 0 n (omega arith) ∙ sym (sets_cut order out 0 count (omega arith))
+    go false e = let h = ltb-false (length out) count e in let k : n ≡ count = omega arith in ap (λ j. sets out 0 (take j order)) k

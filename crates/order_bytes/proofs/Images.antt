@@ -11,14 +11,15 @@ use Rattle.model.specs.Taped.{Taped, Tape}
 use Rattle.model.specs.Numbers.{numbered}
 use Rattle.model.specs.Calls.{numbers, rounds, ordered, ring, answer, order}
 use Rattle.model.specs.Callees.{calls, order_of}
-use Rattle.model.specs.Refusals.{refused, packed, answer_by}
+use Rattle.model.specs.Refusals.{done, refused, packed, answer_by}
 use Rattle.model.specs.Image.{on_image, order_ended, order_image, order_answer, order_after, wuldgisp_order, OrderEnsures}
 use Rattle.base_words.specs.Words.{words_of}
 use Rattle.theory_image.specs.OnWords.{on_refused, on_module}
+use Rattle.theory_image.specs.IntakeNumbers.{intake_low}
 use Rattle.theory_image.specs.FunctionViews.{taped_functions}
 use Rattle.theory_image.specs.Tapes.{taped_same}
 use Rattle.order_ranks.proofs.Answers.{all_is, ring_is}
-use Rattle.base_refusals.specs.Numbers.{number_of as refusal_number, count_of}
+use Rattle.base_refusals.specs.Numbers.{refused_by as ends_as}
 use Rattle.base_refusals.specs.declared.Refusal.{Refusal}
 use Rattle.std.specs.Prelude.{Result, Ok, Err}
 use Rattle.theory_order.specs.Lists.{length-numbers}
@@ -26,10 +27,8 @@ use Rattle.theory_order.specs.Rounds.{length-rounds}
 use Rattle.order_callees.specs.Gathering.{Known, Listed}
 use Rattle.order_callees.proofs.Numbered.{passed-known}
 use Rattle.order_callees.proofs.Whole.{few}
-use Rattle.intake.specs.Taken.{number_of, Accepts, TakeInEnsures}
-use Rattle.std.specs.Prelude.{Ok, Err}
-use Rattle.base_refusals.specs.declared.Refusal.{Refusal}
-use Rattle.intake.proofs.Refusals.{refused_by}
+use Rattle.intake.specs.Taken.{Accepts, TakeInEnsures}
+use Rattle.intake.proofs.Refusals.{refused_by, answered}
 use Rattle.order_bytes.specs.Listing.{ListEnsures}
 
 -- ---- an order has as many numbers as there are functions
@@ -62,36 +61,37 @@ module _ (words tags : List ℕ) (n : ℕ) (h : Tape words tags n) where
         let f = length-drop k list in
         omega (arith, few t)
 
-    pub listed-all : r ≡ Ok tt → (count : ℕ) → count ≡ count_at 6 words → (out₀ out : List ℕ) → out ≡ sets out₀ 0 (take count list₁) → (a : ℕ) → a ≡ packed 0 count → ListEnsures a out₀ out words tags n
+    pub listed-all : r ≡ Ok tt → (count : ℕ) → count ≡ count_at 6 words → (out₀ out : List ℕ) → out ≡ sets out₀ 0 (take count list₁) → ListEnsures (answer_by (λ (v : ℕ). v) (done count)) out₀ out words tags n
     unfolding order_ended answer_by order_after
-    listed-all e count is out₀ out w a packs =
+    listed-all e count is out₀ out w =
         record {
-          answer = λ m t. packs ∙ ap (packed 0) (is ∙ taped_functions t ∙ sym (taken e t)) ∙ sym (ap (λ x. order_answer (order_ended x)) (listed e m t));
+          answer = λ m t. ap (packed 0) (is ∙ taped_functions t ∙ sym (taken e t)) ∙ sym (ap (λ x. order_answer (order_ended x)) (listed e m t));
           left = λ m t. w ∙ ap (λ k. sets out₀ 0 (take k list₁)) (is ∙ taped_functions t) ∙ sym (ap (λ x. order_after (order_ended x) out₀) (listed e m t));
         }
       where
         listed : r ≡ Ok tt → (m : Module) → Taped words tags n m → order_of m ≡ ordered (take (length m.functions) list₁)
         listed q m t = all_is (order_of m) _ (rw q at (got.is m t))
 
-    pub listed_ring : (e : Refusal) → r ≡ Err e → (out : List ℕ) → (a : ℕ) → a ≡ packed (refusal_number e) (count_of e) → ListEnsures a out out words tags n
-    unfolding order_ended answer_by order_after
-    listed_ring e is out a packs =
-        record {
-          answer = λ m t. let r = rings m t in packs ∙ ap (λ x. packed (refusal_number x) (count_of x)) r.1 ∙ sym (ap (λ x. order_answer (order_ended x)) r.2);
-          left = λ m t. let r = rings m t in sym (ap (λ x. order_after (order_ended x) out) r.2);
-        }
-      where
-        rings : (m : Module) → Taped words tags n m → (left : ℕ) × (e ≡ Refusal.Ring left) × (order_of m ≡ ring left)
-        rings m t = ring_is (order_of m) e _ (rw is at (got.is m t))
+  pub listed_ring : (list list₁ : List ℕ) (e : Refusal) → Listed words tags n list (Err e) list₁ → (out : List ℕ) → ListEnsures (answer_by (λ v. v) (ends_as e)) out out words tags n
+  unfolding order_ended answer_by order_after
+  listed_ring list list₁ e got out =
+      record {
+        answer = λ m t. let r = rings m t in ap (λ x. answer_by (λ v. v) (ends_as x)) r.1 ∙ sym (ap (λ x. order_answer (order_ended x)) r.2);
+        left = λ m t. let r = rings m t in sym (ap (λ x. order_after (order_ended x) out) r.2);
+      }
+    where
+      rings : (m : Module) → Taped words tags n m → (left : ℕ) × (e ≡ Refusal.Ring left) × (order_of m ≡ ring left)
+      rings m t = ring_is (order_of m) e _ (got.is m t)
 
 -- ---- order
 module _ (image words tags : List ℕ) where
-  pub intake_refuses : (e : Refusal) → TakeInEnsures (Err e) words tags image → (k : ℕ) → k ≡ number_of (Err e) → (out : List ℕ) → OrderEnsures k out out image
+  pub intake_refuses : (e : Refusal) → TakeInEnsures (Err e) words tags image → (out : List ℕ) → OrderEnsures (answer_by (λ v. v) (ends_as e)) out out image
   unfolding wuldgisp_order order_image on_image answer_by order_after
-  intake_refuses e got k h out =
+  intake_refuses e got out =
       let x = refused_by e in
+      let a = answered e (omega (arith, got.same, intake_low (length image) (words_of image))) in
       let i : order_image image ≡ refused (suc x.0) = on_refused (λ m. order_ended (order_of m)) refused (length image) (words_of image) x.0 (sym got.same ∙ x.1) in
-      record { answer = h ∙ x.1 ∙ sym (ap order_answer i); left = sym (ap (λ y. order_after y out) i) }
+      record { answer = a ∙ x.1 ∙ sym (ap order_answer i); left = sym (ap (λ y. order_after y out) i) }
 
   module _ (n : ℕ) (got : TakeInEnsures (Ok n) words tags image) where
     held : Accepts image words tags n

@@ -24,6 +24,7 @@ use Rattle.theory_order.proofs.Theorems.{claims}
 use Rattle.base_words.specs.Words.{words_of}
 use Rattle.model.specs.Image.{on_image}
 use Rattle.theory_image.specs.OnWords.{on_refused, on_module}
+use Rattle.theory_image.specs.IntakeNumbers.{intake_low}
 use Rattle.theory_image.specs.FunctionViews.{taped_functions}
 use Rattle.order_callees.specs.Gathering.{Listed}
 use Rattle.order_callees.proofs.Whole.{few}
@@ -174,23 +175,23 @@ pub tells_ring : {words tags : List ℕ} {n : ℕ} {before order : List ℕ} {a 
 tells_ring e l i h u = ring_tells (rw e at l) i h u
 
 -- ---- any bytes
-pub refused_few : (e : Refusal) → number_of (Err e) < 1000
-refused_few refusal.BadSize = omega arith
-refused_few refusal.BadLayout = omega arith
-refused_few refusal.BadRange = omega arith
-refused_few refusal.BadReference = omega arith
-refused_few refusal.BadNames = omega arith
-refused_few refusal.BadScope = omega arith
-refused_few refusal.ShortOutput = omega arith
-refused_few refusal.OriginalNotFound = omega arith
-refused_few refusal.ReplacementNotFound = omega arith
-refused_few refusal.ArgumentTypes = omega arith
-refused_few refusal.ResultTypes = omega arith
-refused_few (refusal.Ring left) = omega arith
-refused_few refusal.NumberGiven = omega arith
-refused_few refusal.NoSource = omega arith
-refused_few refusal.Full = omega arith
-refused_few refusal.UnknownRing = omega arith
+no_count : (e : Refusal) → refusal_number e ≤ 6 → count_of e ≡ 0
+no_count refusal.BadSize h = refl
+no_count refusal.BadLayout h = refl
+no_count refusal.BadRange h = refl
+no_count refusal.BadReference h = refl
+no_count refusal.BadNames h = refl
+no_count refusal.BadScope h = refl
+no_count refusal.ShortOutput h = refl
+no_count refusal.OriginalNotFound h = refl
+no_count refusal.ReplacementNotFound h = refl
+no_count refusal.ArgumentTypes h = refl
+no_count refusal.ResultTypes h = refl
+no_count (refusal.Ring left) h = absurd (omega arith)
+no_count refusal.NumberGiven h = refl
+no_count refusal.NoSource h = refl
+no_count refusal.Full h = refl
+no_count refusal.UnknownRing h = refl
 
 module _ {image words tags : List ℕ} where
   module _ {n : ℕ} (got : TakeInEnsures (Ok n) words tags image) where
@@ -209,11 +210,16 @@ module _ {image words tags : List ℕ} where
         let i : telling_of image ≡ telling held.holds (order_of held.holds) = on_module (λ m. telling m (order_of m)) refusing (length image) (words_of image) held.holds (sym got.same) held.reads in
         subst (λ x. TellEnsures x out out' r k left) (sym i) (l.same held.holds held.taped)
 
-  pub refused_says : {e : Refusal} → TakeInEnsures (Err e) words tags image → {k : ℕ} → k ≡ number_of (Err e) → {out out' : List ℕ} {x r : ℕ} → x ≡ k → length out ≡ 65536 → TextEnsures out 0 (headed REFUSED x) out' r → TellEnsures (telling_of image) out out' r k 0
+  low : {e : Refusal} → TakeInEnsures (Err e) words tags image → refusal_number e ≤ 6
+  low got = omega (arith, got.same, intake_low (length image) (words_of image))
+
+  pub refused_few : {e : Refusal} → TakeInEnsures (Err e) words tags image → refusal_number e < 1000
+  refused_few got = omega (arith, low got)
+
+  pub refused_says : {e : Refusal} → TakeInEnsures (Err e) words tags image → {out out' : List ℕ} {x r : ℕ} → x ≡ refusal_number e → length out ≡ 65536 → TextEnsures out 0 (headed REFUSED x) out' r → TellEnsures (telling_of image) out out' r (refusal_number e) (count_of e)
   unfolding telling_of on_image refusing
-  refused_says {e} got {k} q {out} {out'} {x} {r} f g u =
+  refused_says {e} got {out} {out'} {x} {r} f g u =
       let y = refused_by e in
-      let j : k ≡ suc y.0 = q ∙ y.1 in
       let i : telling_of image ≡ refusing (suc y.0) = on_refused (λ m. telling m (order_of m)) refusing (length image) (words_of image) y.0 (sym got.same ∙ y.1) in
-      let v : TextEnsures out 0 (headed REFUSED (suc y.0)) out' r = rw (f ∙ j) at u in
-      subst (λ z. TellEnsures z out out' r k 0) (sym i) (record { puts = v; within = omega (arith, v.ends, headed_long REFUSED (suc y.0), (decimal_long (suc y.0)).1, puts_long v); refusal_is = j; left_is = refl })
+      let v : TextEnsures out 0 (headed REFUSED (suc y.0)) out' r = rw (f ∙ y.1) at u in
+      subst (λ z. TellEnsures z out out' r (refusal_number e) (count_of e)) (sym i) (record { puts = v; within = omega (arith, v.ends, headed_long REFUSED (suc y.0), (decimal_long (suc y.0)).1, puts_long v); refusal_is = y.1; left_is = no_count e (low got) })

@@ -1,5 +1,5 @@
 -- What the program `order` prints, and what is answered beside it. Document 01: "prints the function count, then by line new number, source number, name", and "Refused: `refused 5`, or `refused 12 left 2`".
-use Rattle.std.specs.Prelude.{◌≡◌, true, List, [], ◌∷◌, ℕ, ◌≤◌, ◌<◌, length}
+use Rattle.std.specs.Prelude.{◌≡◌, true, List, [], ◌∷◌, ℕ, ◌≤◌, ◌<◌, length, Result, Ok, Err}
 use Rattle.model.specs.Refusals.{RING}
 use Rattle.model.specs.Module.{Module}
 use Rattle.model.specs.Taped.{Taped}
@@ -10,6 +10,8 @@ use Rattle.model.specs.Calls.{Order, ordered, ring}
 use Rattle.model.specs.Callees.{order_of}
 use Rattle.model.specs.Image.{on_image}
 use Rattle.model.specs.Redirect.{name_word}
+use Rattle.base_refusals.specs.Numbers.{number_of, count_of}
+use Rattle.base_refusals.specs.declared.Refusal.{Refusal}
 use Rattle.order_lines.specs.Lines.{name_of, headed, ordered_text, TextEnsures}
 
 -- "refused "
@@ -44,6 +46,15 @@ NamesKnown m = Each (λ f. (0 < name_word f) × (name_word f ≤ length m.names)
 
 abbrev pub Naming : List ℕ → List ℕ → ℕ → Type 0
 Naming words tags n = (m : Module) → Taped words tags n m → NamesKnown m
+
+-- the number of the refusal, or 0, and how many functions a ring leaves
+abbrev pub refusal_of : Result (Unit {0}) Refusal → ℕ
+refusal_of (Ok _) = 0
+refusal_of (Err e) = number_of e
+
+abbrev pub left_of : Result (Unit {0}) Refusal → ℕ
+left_of (Ok _) = 0
+left_of (Err e) = count_of e
 
 -- ---- promises
 -- the text is at the start of `out`, where there was room for it, all else stays, and this is answered

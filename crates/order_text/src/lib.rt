@@ -4,17 +4,17 @@
 
 ghost use Rattle.std.specs.Prelude.{◌≡◌, length};
 ghost use Rattle.model.specs.Taped.{Tape};
-ghost use Rattle.order_text.specs.Telling.{telling_of, Passed, TellEnsures, Tells};
+ghost use Rattle.order_text.specs.Telling.{refusal_of, left_of, telling_of, Passed, TellEnsures, Tells};
 
+use base_refusals::Refusal;
 use base_words::{Tags, Words};
 use order_lines::{head, text};
 
-// How many bytes the text has, the number of the refusal or 0, and how many functions a ring leaves.
+// How many bytes the text has, and the refusal if it tells one.
 #[derive(Clone, Copy)]
 pub struct Said {
     pub count: usize,
-    pub refusal: u32,
-    pub left: u32,
+    pub ended: Result<(), Refusal>,
 }
 
 // What is printed and answered for a module that intake has passed: its order, or refusal 12.
@@ -22,47 +22,33 @@ pub fn tell(words: &Words, tags: &Tags, n: usize, out: &mut [u8; 65536]) -> Said
     requires tape { Tape words.now tags.now n }
     requires passed { Passed words.now tags.now n }
     requires out_len { length out.old ≡ 65536 }
-    ensures { Tells words.now tags.now n out.old out.new result.count result.refusal result.left }
+    ensures { Tells words.now tags.now n out.old out.new result.count (refusal_of result.ended) (left_of result.ended) }
 {
     let mut order = [0u32; 256];
-    let answer = order_callees::order_of(words, tags, n, &mut order);
-    match answer {
+    let ended = order_callees::order_of(words, tags, n, &mut order);
+    let count = match ended {
         Ok(()) => {
             let functions = base_views::count(words, base_views::FUNCTIONS);
-            Said {
-                count: text(words, &order, functions, out),
-                refusal: 0,
-                left: 0,
-            }
+            text(words, &order, functions, out)
         }
         // Only a ring is refused.
-        Err(refusal) => {
-            let left = refusal.count();
-            Said {
-                count: head(b"refused 12 left ", left as usize, out),
-                refusal: refusal.number(),
-                left,
-            }
-        }
-    }
+        Err(refusal) => head(b"refused 12 left ", refusal.count() as usize, out),
+    };
+    Said { count, ended }
 }
 
 // What is printed and answered for any bytes.
 pub fn tell_of(image: &[u8], out: &mut [u8; 65536]) -> Said
     requires { length out.old ≡ 65536 }
-    ensures { TellEnsures (telling_of image.now) out.old out.new result.count result.refusal result.left }
+    ensures { TellEnsures (telling_of image.now) out.old out.new result.count (refusal_of result.ended) (left_of result.ended) }
 {
     let mut words = intake::fresh_words();
     let mut tags = intake::fresh_tags();
     match intake::take_in(image, &mut words, &mut tags) {
         Ok(n) => tell(&words, &tags, n, out),
-        Err(refusal) => {
-            let number = refusal.number();
-            Said {
-                count: head(b"refused ", number as usize, out),
-                refusal: number,
-                left: 0,
-            }
-        }
+        Err(refusal) => Said {
+            count: head(b"refused ", refusal.number() as usize, out),
+            ended: Err(refusal),
+        },
     }
 }

@@ -91,7 +91,7 @@ fn redirect(
             program_streams::write(rt, "redirect_image", image);
         }
         Err(refusal) => {
-            program_streams::refused(rt, "redirect_image", refusal.number());
+            program_streams::refused(rt, "redirect_image", refusal);
         }
     }
 }
@@ -115,18 +115,16 @@ fn run(rt: &HostRuntime, original: u32, replacement: u32, count: usize)
         return;
     }
     let mut image = buffer();
-    let input = program_streams::read(&mut rt.stdin(), &mut image);
-    if let Some(error) = input.error {
-        program_streams::unread(rt, "redirect_image", error);
-        return;
+    match program_streams::read(&mut rt.stdin(), &mut image) {
+        Ok(n) => redirect(
+            rt,
+            &mut image[..n],
+            original,
+            replacement,
+            &omit[..count],
+        ),
+        Err(error) => program_streams::unread(rt, "redirect_image", error),
     }
-    redirect(
-        rt,
-        &mut image[..input.count],
-        original,
-        replacement,
-        &omit[..count],
-    );
 }
 
 fn main(rt: HostRuntime) {

@@ -2,58 +2,31 @@
 // of the image and its bytes. A vector that is answered otherwise is named by its place; the last line says how many agree.
 #![tactic(auto)]
 
-ghost use Rattle.std.specs.Prelude.{◌≡◌, length};
-
 use std::io::{self, Read};
 
-// What precedes an image: the expected answer, and the image's length.
-#[derive(Clone, Copy)]
-enum Found {
-    Vector(u32, usize),
-    End,
-    Failed(io::Error),
-}
-
-fn head<R: Read>(from: &mut R) -> Found {
+// What precedes an image: the expected answer, and the image's length; or none at the end of the input.
+fn head<R: Read>(from: &mut R) -> io::Result<Option<(u32, usize)>> {
     let mut bytes = [0u8; 8];
-    let input = program_streams::read(from, &mut bytes);
-    if let Some(error) = input.error {
-        return Found::Failed(error);
-    }
-    if input.count < 8 {
-        return Found::End;
+    if program_streams::read(from, &mut bytes)? < 8 {
+        return Ok(None);
     }
     let want = base_words::word_at(&bytes, 0);
     let n = base_words::word_at(&bytes, 4) as usize;
-    Found::Vector(want, n)
+    Ok(Some((want, n)))
 }
 
-// Reads an image that is as long as the slice, and compares intake's answer.
+// Reads an image that is as long as the slice, and compares intake's answer. A read that fails is a vector that is answered otherwise; the next read tells it.
 fn one<R: Read>(from: &mut R, bytes: &mut [u8], want: u32) -> bool {
-    let input = program_streams::read(from, bytes);
-    if input.count < bytes.len() {
-        return false;
+    match program_streams::read(from, bytes) {
+        Ok(n) => n == bytes.len() && intake::intake(bytes) == want,
+        Err(_) => false,
     }
-    intake::intake(bytes) == want
 }
 
-// An image of n bytes, at the start of the buffer. No vector is longer than that.
-fn part<R: Read>(from: &mut R, bytes: &mut [u8], want: u32, n: usize) -> bool {
-    if bytes.len() < n {
-        return false;
-    }
-    one(from, &mut bytes[..n], want)
-}
-
-fn buffer() -> [u8; 65600]
-    ensures { 65600 ≡ length result }
-{
-    [0; 65600]
-}
-
+// An image of n bytes. No vector is longer than the buffer.
 fn agrees<R: Read>(from: &mut R, want: u32, n: usize) -> bool {
-    let mut bytes = buffer();
-    part(from, &mut bytes, want, n)
+    let mut bytes = [0; 65600];
+    n <= bytes.len() && one(from, &mut bytes[..n], want)
 }
 
 // Names a vector that is answered otherwise, on standard error too.
@@ -64,26 +37,24 @@ fn differs(rt: &(impl Print + Eprint), number: u64) -> io::Result<()> {
 
 fn main(rt: HostRuntime) {
     let mut input = rt.stdin();
-    let mut all: u64 = 0;
     let mut good: u64 = 0;
-    while all < 100000 {
+    for all in 0..100000 {
         match head(&mut input) {
-            Found::Vector(want, n) => {
-                all += 1;
+            Ok(Some((want, n))) => {
                 if agrees(&mut input, want, n) {
                     good += 1;
-                } else if let Err(error) = differs(&rt, all) {
+                } else if let Err(error) = differs(&rt, all + 1) {
                     program_streams::unwritten(&rt, "replay", error);
                     return;
                 }
             }
-            Found::End => {
+            Ok(None) => {
                 if let Err(error) = println!(rt; "{all} vectors, {good} agree") {
                     program_streams::unwritten(&rt, "replay", error);
                 }
                 return;
             }
-            Found::Failed(error) => {
+            Err(error) => {
                 program_streams::unread(&rt, "replay", error);
                 return;
             }

@@ -2,7 +2,6 @@ use Rattle.derive_state.specs.Refers.{went_r}
 use Rattle.derive_state.specs.Held.{carried_by}
 use mathlib.Core.List.{[]}
 use lib.ListN.{get_or}
-use Prim.Native.Nat.{◌-◌}
 use Rattle.derive_state.proofs.Passes.{Seeks}
 use Rattle.derive_intern.proofs.find.Given as goal
 

@@ -1,4 +1,3 @@
-use Prim.Native.Nat.{◌-◌}
 use Rattle.model.specs.Between.{between}
 use Rattle.derive_state.proofs.Passes.{Seeks}
 use Rattle.derive_lookup.proofs.find_name.Given as goal

@@ -3,6 +3,3 @@ use Rattle.derive_lookup.proofs.last.Given as goal
 
 abbrev pub invariant-loop-k : goal.invariant-loop-k
 invariant-loop-k l = Left l.log l.logtags l.starts l.n l.w l.k
-
-abbrev pub decreases-loop-k : goal.decreases-loop-k
-decreases-loop-k l = l.k

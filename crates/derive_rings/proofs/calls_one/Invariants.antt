@@ -1,5 +1,4 @@
 -- `derive_rings::calls_one` meets its contract. The invariant: whether one is called from here on is whether one is called at all.
-use Prim.Native.Nat.{◌-◌}
 use Rattle.derive_rings.proofs.Asking.{is_of, Asking}
 use Rattle.derive_rings.proofs.calls_one.Given as goal
 

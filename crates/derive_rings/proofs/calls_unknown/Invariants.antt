@@ -1,5 +1,4 @@
 -- `derive_rings::calls_unknown` meets its contract. The invariant: whether one is called from here on is whether one is called at all.
-use Prim.Native.Nat.{◌-◌}
 use Rattle.model.specs.Module.{count_at}
 use Rattle.derive_rings.specs.Rings.{unknown_by}
 use Rattle.derive_rings.proofs.Asking.{Asking}

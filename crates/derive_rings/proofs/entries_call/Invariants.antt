@@ -1,5 +1,4 @@
 -- `derive_rings::entries_call` meets its contract. The invariant: whether one is called from this entry point on is whether one is called at all.
-use Prim.Native.Nat.{◌-◌}
 use Rattle.derive_state.specs.Source.{mod_of}
 use Rattle.derive_rings.proofs.Asking.{is_of, Looking}
 use Rattle.derive_rings.proofs.entries_call.Given as goal

@@ -1,5 +1,4 @@
 -- `derive_rings::entries_lead` meets its contract. The invariant: whether one of unknown name is called from this entry point on is whether one is called at all.
-use Prim.Native.Nat.{◌-◌}
 use Rattle.derive_state.specs.Source.{mod_of}
 use Rattle.derive_rings.specs.Rings.{unknown_by}
 use Rattle.derive_rings.proofs.Asking.{Looking}

@@ -4,16 +4,19 @@ use Rattle.derive_rings.proofs.Wholes.{is_known, known-free, leads_not, callees-
 use borrow.Author.Tests.{not-true}
 use mathlib.Core.Bool.{not}
 use mathlib.Core.Path.{ap}
+use Rattle.derive_rings.proofs.follow_rings.Goals.{then-known-ne0-via-then-known-ne0, then-known-ne0-via-else-known-ne0+then-not-calls_unknown_name}
 use Rattle.derive_rings.proofs.follow_rings.Goals as goal
 
 pub known-requires : goal.known-requires
 known-requires c = record { source = c.requires.source; n_value = c.requires.n_value; f_bound = c.requires.f_bound; bearing = c.requires.bearing }
 
 pub returns-then-known-ne0 : goal.returns-then-known-ne0
-returns-then-known-ne0 c = let a = c.args in known-free a.words.now a.n a.log.now a.logtags.now a.starts.now a.ends a.tags.now c.requires.source a.f c.requires.f_bound (is_known a.words.now a.n a.log.now a.logtags.now a.starts.now a.ends _ _ c.known.ensures c.if-known-ne0.true)
-
-pub returns-then-not-calls_unknown_name : goal.returns-then-not-calls_unknown_name
-returns-then-not-calls_unknown_name c = let a = c.args in leads_not a.words.now a.n a.log.now a.logtags.now a.starts.now a.ends a.tags.now c.requires.source a.f c.requires.f_bound _ c.calls_unknown_name.ensures (not-true _ (ap not c.if-not-calls_unknown_name.true))
+returns-then-known-ne0 c =
+    let a = c.args in
+    elim c.then-known-ne0.branch [
+      | then-known-ne0-via-then-known-ne0 w ↦ known-free a.words.now a.n a.log.now a.logtags.now a.starts.now a.ends a.tags.now c.requires.source a.f c.requires.f_bound (is_known a.words.now a.n a.log.now a.logtags.now a.starts.now a.ends _ _ c.known.ensures w.if-known-ne0.true)
+      | then-known-ne0-via-else-known-ne0+then-not-calls_unknown_name w ↦ leads_not a.words.now a.n a.log.now a.logtags.now a.starts.now a.ends a.tags.now c.requires.source a.f c.requires.f_bound _ w.calls_unknown_name.ensures (not-true _ (ap not w.if-not-calls_unknown_name.true))
+    ]
 
 pub gather_requirements-requires : goal.gather_requirements-requires
 gather_requirements-requires c = record { tape = tape c.args.words.now c.args.tags.now c.args.n c.requires.source; known = callees-known c.requires.source; no_calls = c.clear-callees.ensures }

@@ -22,7 +22,7 @@ pub has-requires : goal.has-requires
 has-requires c = omega (arith, few c.requires.source, c.requires.f_bound)
 
 pub returns-then-has : goal.returns-then-has
-returns-then-has c = rings-itself c.args.words.now c.args.n c.args.log.now c.args.logtags.now c.args.starts.now c.args.ends c.args.tags.now c.requires.source _ c.gather_requirements.ensures _ c.unknown_in_ring-set.ensures c.args.f c.requires.f_bound _ c.has.ensures c.if-has.true
+returns-then-has c = rw (c.if-has.true) (rings-itself c.args.words.now c.args.n c.args.log.now c.args.logtags.now c.args.starts.now c.args.ends c.args.tags.now c.requires.source _ c.gather_requirements.ensures _ c.unknown_in_ring-set.ensures c.args.f c.requires.f_bound _ c.has.ensures c.if-has.true)
 
 pub bounds-callees-f : goal.bounds-callees-f
 bounds-callees-f c = omega (arith, few c.requires.source, c.requires.f_bound)
@@ -30,5 +30,5 @@ bounds-callees-f c = omega (arith, few c.requires.source, c.requires.f_bound)
 pub offset_bounds-callees-f : goal.offset_bounds-callees-f
 offset_bounds-callees-f c = let h : c.args.f < 256 = omega (arith, few c.requires.source, c.requires.f_bound) in search rules
 
-pub returns : goal.returns
-returns c = rings-callees c.args.words.now c.args.n c.args.log.now c.args.logtags.now c.args.starts.now c.args.ends c.args.tags.now c.requires.source _ c.gather_requirements.ensures _ c.unknown_in_ring-set.ensures c.args.f c.requires.f_bound _ _ c.has.ensures c.if-has.false (c.meets.ensures ∙ calls_one_of _ _ _)
+pub returns-else-has : goal.returns-else-has
+returns-else-has c = rings-callees c.args.words.now c.args.n c.args.log.now c.args.logtags.now c.args.starts.now c.args.ends c.args.tags.now c.requires.source _ c.gather_requirements.ensures _ c.unknown_in_ring-set.ensures c.args.f c.requires.f_bound _ _ c.has.ensures c.if-has.false (c.meets.ensures ∙ calls_one_of _ _ _)

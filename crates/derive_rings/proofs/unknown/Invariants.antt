@@ -1,5 +1,4 @@
 -- `derive_rings::unknown` meets its contract. The invariant: of the marks below i those are left whose names are unknown.
-use Prim.Native.Nat.{◌-◌}
 use Rattle.derive_rings.proofs.Sieving.{Sieve}
 use Rattle.derive_rings.proofs.Wholes.{is_unknown}
 use Rattle.derive_rings.proofs.unknown.Given as goal

@@ -1,4 +1,3 @@
-use Prim.Native.Nat.{◌-◌}
 use Rattle.derive_special.proofs.Keys.{Seeking}
 use Rattle.derive_special.proofs.derived.Given as goal
 

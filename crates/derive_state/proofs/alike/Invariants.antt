@@ -1,7 +1,7 @@
-use Rattle.std.proofs.Common.{◌-◌}
+use Rattle.std.proofs.Common.{◌+◌, ◌-◌}
 use Rattle.derive_state.specs.Refers.{went_r}
 use Rattle.derive_state.proofs.Passes.{Comparing}
 use Rattle.derive_state.proofs.alike.Given as goal
 
 abbrev pub invariant-loop-j : goal.invariant-loop-j
-invariant-loop-j l = Comparing l.words l.tags l.log l.logtags (went_r l.maps) l.at l.end l.s l.j l.p
+invariant-loop-j l = Comparing l.words l.tags l.log l.logtags (went_r l.maps) l.at l.end l.s l.j (l.s + 1 + (l.j - l.at))

@@ -1,4 +1,3 @@
-use Rattle.std.proofs.Common.{◌-◌}
 use Rattle.derive_state.specs.Refers.{went_r}
 use Rattle.derive_state.proofs.Passes.{hash-begin, hash_done, hash_small, hash-next}
 use Rattle.derive_state.proofs.hash.Goals as goal

@@ -1,4 +1,3 @@
-use Rattle.std.proofs.Common.{◌-◌}
 use Rattle.derive_state.specs.Refers.{went_r}
 use Rattle.derive_state.proofs.Passes.{Hashing}
 use Rattle.derive_state.proofs.hash.Given as goal

@@ -34,14 +34,8 @@ pub returns-then-e : goal.returns-then-e
 unfolding tab_of
 returns-then-e c = let a = c.args in let l = c.loop-i in let h = name_number a.words.now a.n a.offset a.b a.log.now a.logtags.now a.starts.now a.maps.now a.buckets.now a.stacks.now a.ends c.requires.valid_arrays l.log l.logtags l.starts l.maps l.buckets l.stacks l.e l.i l.invariant c.loop-i-test.true (get_or (row l.stacks 3) (l.i + 1) 0) ((get_or (row l.stacks 3) (l.i + 1) 0) - 1) refl c.if-w-ne0.true refl in let u = c.import-e in name_full a.words.now a.n a.offset a.b a.log.now a.logtags.now a.starts.now a.maps.now a.buckets.now a.stacks.now a.ends c.requires.valid_arrays l.log l.logtags l.starts l.maps l.buckets l.stacks l.e l.i l.invariant c.loop-i-test.true (get_or (row l.stacks 3) (l.i + 1) 0) ((get_or (row l.stacks 3) (l.i + 1) 0) - 1) refl c.if-w-ne0.true refl u.result c.import-e.new.log c.import-e.new.logtags c.import-e.new.starts c.import-e.new.maps c.import-e.new.buckets c.import-e.ensures c.if-e.true
 
-pub overflow_sub-w-then-w-ne0 : goal.overflow_sub-w-then-w-ne0
-overflow_sub-w-then-w-ne0 c = let h = c.if-w-ne0.true in omega arith
-
-pub offset_bounds-maps-wide : goal.offset_bounds-maps-wide
-offset_bounds-maps-wide c = let a = c.args in let l = c.loop-i in let h = name_number a.words.now a.n a.offset a.b a.log.now a.logtags.now a.starts.now a.maps.now a.buckets.now a.stacks.now a.ends c.requires.valid_arrays l.log l.logtags l.starts l.maps l.buckets l.stacks l.e l.i l.invariant c.loop-i-test.true (get_or (row l.stacks 3) (l.i + 1) 0) ((get_or (row l.stacks 3) (l.i + 1) 0) - 1) refl c.if-w-ne0.true refl in let s = small_number a.words.now a.tags.now a.n c.requires.ground.source 0 ((get_or (row l.stacks 3) (l.i + 1) 0) - 1) (omega arith) h in let e = c.wide.ensures.0 in omega arith
-
-pub bounds-maps-wide : goal.bounds-maps-wide
-bounds-maps-wide c = let a = c.args in let l = c.loop-i in let h = name_number a.words.now a.n a.offset a.b a.log.now a.logtags.now a.starts.now a.maps.now a.buckets.now a.stacks.now a.ends c.requires.valid_arrays l.log l.logtags l.starts l.maps l.buckets l.stacks l.e l.i l.invariant c.loop-i-test.true (get_or (row l.stacks 3) (l.i + 1) 0) ((get_or (row l.stacks 3) (l.i + 1) 0) - 1) refl c.if-w-ne0.true refl in let s = small_number a.words.now a.tags.now a.n c.requires.ground.source 0 ((get_or (row l.stacks 3) (l.i + 1) 0) - 1) (omega arith) h in let e = c.wide.ensures.0 in omega arith
+pub bounds-maps-w : goal.bounds-maps-w
+bounds-maps-w c = let a = c.args in let l = c.loop-i in let h = name_number a.words.now a.n a.offset a.b a.log.now a.logtags.now a.starts.now a.maps.now a.buckets.now a.stacks.now a.ends c.requires.valid_arrays l.log l.logtags l.starts l.maps l.buckets l.stacks l.e l.i l.invariant c.loop-i-test.true (get_or (row l.stacks 3) (l.i + 1) 0) ((get_or (row l.stacks 3) (l.i + 1) 0) - 1) refl c.if-w-ne0.true refl in let s = small_number a.words.now a.tags.now a.n c.requires.ground.source 0 ((get_or (row l.stacks 3) (l.i + 1) 0) - 1) (omega arith) h in omega arith
 
 pub offset_bounds-stacks-j-then-w-ne0 : goal.offset_bounds-stacks-j-then-w-ne0
 offset_bounds-stacks-j-then-w-ne0 c = let a = c.args in let l = c.loop-i in let z = name_in_lem a.words.now a.n a.offset a.b a.log.now a.logtags.now a.starts.now a.maps.now a.buckets.now a.stacks.now a.ends c.requires.valid_arrays l.log l.logtags l.starts l.maps l.buckets l.stacks l.e l.i l.invariant c.loop-i-test.true in omega arith
@@ -54,7 +48,7 @@ loop-i-smaller-then-w-ne0 c = let h = c.loop-i-test.true in omega arith
 
 pub loop-i-preserved-then-w-ne0 : goal.loop-i-preserved-then-w-ne0
 unfolding tab_of
-loop-i-preserved-then-w-ne0 c = let a = c.args in let l = c.loop-i in let h = name_number a.words.now a.n a.offset a.b a.log.now a.logtags.now a.starts.now a.maps.now a.buckets.now a.stacks.now a.ends c.requires.valid_arrays l.log l.logtags l.starts l.maps l.buckets l.stacks l.e l.i l.invariant c.loop-i-test.true (get_or (row l.stacks 3) (l.i + 1) 0) ((get_or (row l.stacks 3) (l.i + 1) 0) - 1) refl c.if-w-ne0.true refl in let u = c.import-e in name_next a.words.now a.n a.offset a.b a.log.now a.logtags.now a.starts.now a.maps.now a.buckets.now a.stacks.now a.ends c.requires.valid_arrays l.log l.logtags l.starts l.maps l.buckets l.stacks l.e l.i l.invariant c.loop-i-test.true (get_or (row l.stacks 3) (l.i + 1) 0) ((get_or (row l.stacks 3) (l.i + 1) 0) - 1) refl c.if-w-ne0.true refl u.result c.import-e.new.log c.import-e.new.logtags c.import-e.new.starts c.import-e.new.maps c.import-e.new.buckets c.import-e.ensures c.if-e.false c.wide.result c.wide.ensures.0 _ refl
+loop-i-preserved-then-w-ne0 c = let a = c.args in let l = c.loop-i in let h = name_number a.words.now a.n a.offset a.b a.log.now a.logtags.now a.starts.now a.maps.now a.buckets.now a.stacks.now a.ends c.requires.valid_arrays l.log l.logtags l.starts l.maps l.buckets l.stacks l.e l.i l.invariant c.loop-i-test.true (get_or (row l.stacks 3) (l.i + 1) 0) ((get_or (row l.stacks 3) (l.i + 1) 0) - 1) refl c.if-w-ne0.true refl in let u = c.import-e in name_next a.words.now a.n a.offset a.b a.log.now a.logtags.now a.starts.now a.maps.now a.buckets.now a.stacks.now a.ends c.requires.valid_arrays l.log l.logtags l.starts l.maps l.buckets l.stacks l.e l.i l.invariant c.loop-i-test.true (get_or (row l.stacks 3) (l.i + 1) 0) ((get_or (row l.stacks 3) (l.i + 1) 0) - 1) refl c.if-w-ne0.true refl u.result c.import-e.new.log c.import-e.new.logtags c.import-e.new.starts c.import-e.new.maps c.import-e.new.buckets c.import-e.ensures c.if-e.false _ refl _ refl
 
 pub loop-i-smaller : goal.loop-i-smaller
 loop-i-smaller c = let h = c.loop-i-test.true in omega arith

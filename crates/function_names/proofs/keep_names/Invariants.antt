@@ -1,10 +1,6 @@
 -- The named expressions that stay: the loop passes one record at a turn.
-use Prim.Native.Nat.{◌-◌}
 use Rattle.function_names.proofs.Keeping.{Keeping}
 use Rattle.function_names.proofs.keep_names.Given as goal
 
 abbrev pub invariant-loop-i : goal.invariant-loop-i
 invariant-loop-i l = Keeping l.words l.exprmap l.k l.at l.initial.stacks l.initial.e l.stacks l.seats l.e l.i
-
-abbrev pub decreases-loop-i : goal.decreases-loop-i
-decreases-loop-i l = l.count - l.i

@@ -1,5 +1,5 @@
 -- `copy_classes` meets its contract: what is left to copy from here is the whole, and a class fits its byte.
-use Prim.Native.Nat.{◌+◌, ◌-◌}
+use Prim.Native.Nat.{◌+◌}
 use native.Mathlib.Omega.{arith}
 use Rattle.derive_state.specs.Held.{row}
 use Rattle.function_record.proofs.Copying.{copying_begin, copying_next, copying_done}

@@ -1,5 +1,4 @@
 -- `copy_classes` meets its contract: what is left to copy from here is the whole, and a class fits its byte.
-use Prim.Native.Nat.{◌-◌}
 use Rattle.derive_state.specs.Held.{row}
 use Rattle.function_record.proofs.Copying.{Copying}
 use Rattle.function_record.proofs.copy_classes.Given as goal

@@ -1,5 +1,4 @@
 -- `name_classes` meets its contract: what is left to write from here is the whole.
-use Prim.Native.Nat.{◌-◌}
 use Rattle.function_record.proofs.Copying.{naming-begin, naming-next, naming_done}
 use borrow.Author.Rules.{rules}
 use Rattle.function_record.proofs.name_classes.Goals as goal

@@ -1,5 +1,4 @@
 -- `name_classes` meets its contract: what is left to write from here is the whole.
-use Prim.Native.Nat.{◌-◌}
 use Rattle.function_record.proofs.Copying.{Naming}
 use Rattle.function_record.proofs.name_classes.Given as goal
 

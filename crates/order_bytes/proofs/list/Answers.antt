@@ -1,17 +1,15 @@
--- The order, listed: a full order is copied and counted, a ring is answered with its count.
+-- The order, listed: a full order is copied and counted, a ring is refused.
 use Rattle.order_bytes.proofs.Images.{count_few, list_long, listed-all, listed_ring}
+use Rattle.std.proofs.lemmas.Result.{err_from_is_err_and}
 use lib.ListN.{replicate, length-replicate}
 use Prim.Native.Nat.{ℕ}
-use mathlib.Core.Path.{◌≡◌}
-use Rattle.model.specs.Refusals.{packed}
-use Rattle.base_refusals.specs.Numbers.{number_of, count_of}
 use Rattle.order_bytes.proofs.list.Goals as goal
 
 pub copy-requires : goal.copy-requires
-copy-requires c = record { order_len = list_long c.args.words.now c.args.tags.now c.args.n c.requires.tape (replicate 256 0) c.order_of-answer.new.out c.order_of-answer.result c.order_of-answer.ensures c.in-Ok.is (length-replicate {A = ℕ} 256 0); count_bound = count_few c.args.words.now c.args.tags.now c.args.n c.requires.tape c.count-count.result c.count-count.ensures.0 }
+copy-requires c = record { order_len = list_long _ _ _ c.requires.tape (replicate 256 0) c.order_of.new.out c.order_of.result c.order_of.ensures c.in_ok-order_of.was (length-replicate {A = ℕ} 256 0); count_bound = count_few _ _ _ c.requires.tape _ c.count-count.ensures.0 }
 
-pub returns-in-Ok : goal.returns-in-Ok
-returns-in-Ok c = listed-all c.args.words.now c.args.tags.now c.args.n c.requires.tape (replicate 256 0) c.order_of-answer.new.out c.order_of-answer.result c.order_of-answer.ensures c.in-Ok.is c.count-count.result c.count-count.ensures.0 c.args.out.now c.copy.new.out c.copy.ensures c.pack.result c.pack.ensures
+pub returns-in_err-order_of : goal.returns-in_err-order_of
+returns-in_err-order_of c = let p = err_from_is_err_and c.from_residual.result c.from_residual.ensures.1 in rw (p.1, p.2) (listed_ring _ _ _ c.requires.tape _ _ _ c.in_err-order_of.ensures _)
 
-pub returns-in-Err : goal.returns-in-Err
-returns-in-Err c = let pack : c.pack-in-Err.result ≡ packed (number_of c.in-Err.refusal) (count_of c.in-Err.refusal) = cc in listed_ring _ _ _ c.requires.tape _ _ _ c.order_of-answer.ensures c.in-Err.refusal c.in-Err.is _ _ pack
+pub returns : goal.returns
+returns c = listed-all _ _ _ c.requires.tape (replicate 256 0) c.order_of.new.out c.order_of.result c.order_of.ensures c.in_ok-order_of.was _ c.count-count.ensures.0 _ _ c.copy.ensures

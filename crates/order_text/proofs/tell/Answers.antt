@@ -6,17 +6,17 @@ use Rattle.order_text.proofs.Known.{passed-callees}
 use Rattle.order_text.proofs.Orders.{asks_all, tells_all, few_ring, tells_ring}
 use Rattle.order_text.proofs.tell.Goals as goal
 
-pub order_of-answer-requires : goal.order_of-answer-requires
-order_of-answer-requires c = record { tape = c.requires.tape; known = passed-callees c.requires.passed; out_len = length-replicate {A = ℕ} 256 0 }
+pub order_of-ended-requires : goal.order_of-ended-requires
+order_of-ended-requires c = record { tape = c.requires.tape; known = passed-callees c.requires.passed; out_len = length-replicate {A = ℕ} 256 0 }
 
-pub text-requires : goal.text-requires
-text-requires c = asks_all c.requires.tape c.requires.passed c.in-Ok.is c.order_of-answer.ensures c.count-functions.ensures.0 c.requires.out_len
+pub text-count-requires : goal.text-count-requires
+text-count-requires c = asks_all c.requires.tape c.requires.passed c.in-Ok.is c.order_of-ended.ensures c.count-functions.ensures.0 c.requires.out_len
 
-pub head-requires : goal.head-requires
-head-requires c = record { out_len = c.requires.out_len; label_len_bound = (omega arith, omega (arith, c.count-left.ensures, few_ring c.requires.tape c.in-Err.is c.order_of-answer.ensures)) }
+pub head-count-requires : goal.head-count-requires
+head-count-requires c = record { out_len = c.requires.out_len; label_len_bound = (omega arith, omega (arith, c.count.ensures, few_ring c.requires.tape c.in-Err.is c.order_of-ended.ensures)) }
 
 pub returns-in-Ok : goal.returns-in-Ok
-returns-in-Ok c = tells_all c.requires.tape c.requires.passed c.in-Ok.is c.order_of-answer.ensures c.count-functions.ensures.0 c.requires.out_len c.text.ensures
+returns-in-Ok c = rw c.in-Ok.is (tells_all c.requires.tape c.requires.passed c.in-Ok.is c.order_of-ended.ensures c.count-functions.ensures.0 c.requires.out_len c.text-count.ensures)
 
 pub returns-in-Err : goal.returns-in-Err
-returns-in-Err c = let told = tells_ring c.in-Err.is c.order_of-answer.ensures c.count-left.ensures c.requires.out_len c.head.ensures in rw (c.number.ensures, c.count-left.ensures) told
+returns-in-Err c = tells_ring c.in-Err.is c.order_of-ended.ensures c.count.ensures c.requires.out_len c.head-count.ensures

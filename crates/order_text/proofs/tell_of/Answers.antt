@@ -11,7 +11,7 @@ pub returns-in-Ok : goal.returns-in-Ok
 returns-in-Ok c = accepted_says c.in-Ok.ensures c.tell.ensures
 
 pub head-requires : goal.head-requires
-head-requires c = record { out_len = c.requires; label_len_bound = (omega arith, omega (arith, refused_few c.in-Err.refusal, c.number-number.ensures)) }
+head-requires c = record { out_len = c.requires; label_len_bound = (omega arith, omega (arith, refused_few c.in-Err.ensures, c.number.ensures)) }
 
 pub returns-in-Err : goal.returns-in-Err
-returns-in-Err c = refused_says c.in-Err.ensures c.number-number.ensures refl c.requires c.head.ensures
+returns-in-Err c = refused_says c.in-Err.ensures c.number.ensures c.requires c.head.ensures
