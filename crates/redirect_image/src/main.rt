@@ -116,13 +116,7 @@ fn run(rt: &HostRuntime, original: u32, replacement: u32, count: usize)
     }
     let mut image = buffer();
     match program_streams::read(&mut rt.stdin(), &mut image) {
-        Ok(n) => redirect(
-            rt,
-            &mut image[..n],
-            original,
-            replacement,
-            &omit[..count],
-        ),
+        Ok(n) => redirect(rt, &mut image[..n], original, replacement, &omit[..count]),
         Err(error) => program_streams::unread(rt, "redirect_image", error),
     }
 }
