@@ -46,8 +46,12 @@ fn unknown(
     let functions = count(words, FUNCTIONS);
     let mut set = began;
     for f in 0..functions {
-        if began.has(f) && known(words, tags, n, log, logtags, starts, maps, ends, f) != 0 {
-            set.leave(f);
+        // kept: as one condition its proof's names hold the 0, and the must-fail edit is then refused for a name alone
+        if began.has(f) {
+            let is_known = known(words, tags, n, log, logtags, starts, maps, ends, f) != 0;
+            if is_known {
+                set.leave(f);
+            }
         }
     }
     set

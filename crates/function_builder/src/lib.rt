@@ -44,19 +44,6 @@ pub fn slot(x: u16) -> usize
     x as usize
 }
 
-// A word of `exprmap`, and a class, as words of the stacks.
-fn mapped(x: u16) -> u32
-    ensures { result ≡ x }
-{
-    x as u32
-}
-
-fn class_word(s: u8) -> u32
-    ensures { result ≡ s }
-{
-    s as u32
-}
-
 // Where each expression record starts, from `at` on, and where the last one ends: a record starts with its kind, and the last is followed by the number of named
 // expressions.
 pub fn index(tags: &Tags, at: usize, end: usize, places: &mut Places)
@@ -93,13 +80,13 @@ pub fn by_maps(targets: &Targets, maps: &Maps, exprmap: &ExprMap, s: u8, w: u32)
         return derive_state::carried(targets, maps, s, w);
     }
     if u == OWN {
-        return number_of(mapped(exprmap[wide(w)]));
+        return number_of(exprmap[w as usize] as u32);
     }
     if u == OPT_OWN {
         if w == 0 {
             return 0;
         }
-        return mapped(exprmap[wide(w - 1)]);
+        return exprmap[(w - 1) as usize] as u32;
     }
     w
 }
@@ -193,11 +180,9 @@ pub fn write(
     requires stacks { (Stacks stacks.old ends) × (ends.exprtop + (end - at) ≤ 16384) }
     ensures { Wrote (shift (carried_by (went_of words.now n log.now logtags.now starts.now maps.now ends exprmap.now) tags.now words.now at end) offset false) ends.exprtop stacks.old stacks.new }
 {
-    let mut p = ends.exprtop as usize;
     let mut u = false;
     for j in at..end {
-        let q = p;
-        p += 1;
+        let q = ends.exprtop as usize + (j - at);
         let s = tags[j];
         let w = carried(
             words, tags, targets, n, log, logtags, starts, maps, exprmap, ends, s, words[j],
@@ -220,7 +205,7 @@ pub fn write(
             u,
         );
         stacks[WORDS][q] = moved(s, w, offset, u);
-        stacks[CLASSES][q] = class_word(s);
+        stacks[CLASSES][q] = s as u32;
     }
 }
 
@@ -279,16 +264,7 @@ pub fn append(
 fn alike_cell(a: u32, x: u32, b: u8, y: u32) -> bool
     ensures { result ≡ alike_c (a, x) (b, y) }
 {
-    if a != b as u32 {
-        return false;
-    }
-    if x == y {
-        return true;
-    }
-    if b == SPAN {
-        return true;
-    }
-    b == UPTO
+    a == b as u32 && (x == y || b == SPAN || b == UPTO)
 }
 
 // The first of the source's words, from `at` on, that does not become, ignoring spans, the word in its place of the expression on the stack from a to b, which
@@ -317,10 +293,8 @@ fn first_difference(
     requires stacks { (Stacks stacks.now ends) × (a ≤ b) × (b ≤ 16384) × (b - a ≡ end - at) }
     ensures { Apart at end (alike (between (row stacks.now 1) (row stacks.now 0) a b) (carried_by (went_of words.now n log.now logtags.now starts.now maps.now ends exprmap.now) tags.now words.now at end)) result }
 {
-    let mut p = a;
     for j in at..end {
-        let q = p;
-        p += 1;
+        let q = a + (j - at);
         let s = tags[j];
         let y = carried(
             words, tags, targets, n, log, logtags, starts, maps, exprmap, ends, s, words[j],

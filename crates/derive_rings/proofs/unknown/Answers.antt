@@ -3,7 +3,7 @@ use mathlib.Core.Path.{sym, ◌∙◌}
 use native.Mathlib.Omega.{arith}
 use Rattle.derive_rings.proofs.Sieving.{begin, there, drops, stays, passes}
 use Rattle.derive_rings.proofs.Wholes.{few_at, below_at, is_known, is_unknown_lem, unknowns}
-use Rattle.derive_rings.proofs.unknown.Goals.{then-has+then-known-ne0, else-has, else-has-via-then-has+else-known-ne0, else-has-via-else-has}
+use Rattle.derive_rings.proofs.unknown.Goals.{then-has+then-is_known, then-has+else-is_known, else-has}
 use Rattle.derive_rings.proofs.unknown.Goals as goal
 
 pub loop-f-init : goal.loop-f-init
@@ -12,8 +12,8 @@ loop-f-init c = begin _ _ _ (omega arith)
 pub has-requires : goal.has-requires
 has-requires c = let h = few_at c.requires.source c.count-functions.ensures.0 in omega (arith, c.loop-f-test.true)
 
-pub known-requires : goal.known-requires
-known-requires c = record { source = c.requires.source; n_value = c.requires.n_value; f_bound = omega (arith, c.loop-f-test.true, c.count-functions.ensures.0); bearing = c.requires.bearing }
+pub known-is_known-requires : goal.known-is_known-requires
+known-is_known-requires c = record { source = c.requires.source; n_value = c.requires.n_value; f_bound = omega (arith, c.loop-f-test.true, c.count-functions.ensures.0); bearing = c.requires.bearing }
 
 pub leave-requires : goal.leave-requires
 leave-requires c = ((let h = few_at c.requires.source c.count-functions.ensures.0 in omega (arith, c.loop-f-test.true)), there _ _ _ (few_at c.requires.source c.count-functions.ensures.0) (below_at _ c.count-functions.ensures.0 c.requires.began_len) _ _ c.loop-f.invariant c.loop-f-test.true (sym c.has.ensures ∙ c.if-has.true))
@@ -21,13 +21,9 @@ leave-requires c = ((let h = few_at c.requires.source c.count-functions.ensures.
 pub loop-f-preserved : goal.loop-f-preserved
 loop-f-preserved c =
     elim c.if-has.branch [
-      | then-has+then-known-ne0 w ↦ rw (w.set-is) (drops _ _ _ (few_at c.requires.source c.count-functions.ensures.0) (below_at _ c.count-functions.ensures.0 c.requires.began_len) _ _ c.loop-f.invariant c.loop-f-test.true (sym c.has.ensures ∙ w.if-has.true) (is_known c.args.words.now c.args.n c.args.log.now c.args.logtags.now c.args.starts.now c.args.ends _ _ w.known.ensures w.if-known-ne0.true) _ w.leave.ensures)
-      | else-has w ↦
-          rw (w.set-is)
-          (elim w.else-has.branch [
-            | else-has-via-then-has+else-known-ne0 v ↦ stays _ _ _ (few_at c.requires.source c.count-functions.ensures.0) (below_at _ c.count-functions.ensures.0 c.requires.began_len) _ _ c.loop-f.invariant c.loop-f-test.true (sym c.has.ensures ∙ v.if-has.true) (is_unknown_lem c.args.words.now c.args.n c.args.log.now c.args.logtags.now c.args.starts.now c.args.ends _ _ v.known.ensures v.if-known-ne0.false)
-            | else-has-via-else-has v ↦ passes _ _ _ (few_at c.requires.source c.count-functions.ensures.0) (below_at _ c.count-functions.ensures.0 c.requires.began_len) _ _ c.loop-f.invariant c.loop-f-test.true (sym c.has.ensures ∙ v.if-has.false)
-          ])
+      | then-has+then-is_known w ↦ rw (w.set-is) (drops _ _ _ (few_at c.requires.source c.count-functions.ensures.0) (below_at _ c.count-functions.ensures.0 c.requires.began_len) _ _ c.loop-f.invariant c.loop-f-test.true (sym c.has.ensures ∙ w.if-has.true) (is_known c.args.words.now c.args.n c.args.log.now c.args.logtags.now c.args.starts.now c.args.ends _ _ w.known-is_known.ensures w.if-is_known.true) _ w.leave.ensures)
+      | then-has+else-is_known w ↦ rw (w.set-is) (stays _ _ _ (few_at c.requires.source c.count-functions.ensures.0) (below_at _ c.count-functions.ensures.0 c.requires.began_len) _ _ c.loop-f.invariant c.loop-f-test.true (sym c.has.ensures ∙ w.if-has.true) (is_unknown_lem c.args.words.now c.args.n c.args.log.now c.args.logtags.now c.args.starts.now c.args.ends _ _ w.known-is_known.ensures w.if-is_known.false))
+      | else-has w ↦ rw (w.set-is) (passes _ _ _ (few_at c.requires.source c.count-functions.ensures.0) (below_at _ c.count-functions.ensures.0 c.requires.began_len) _ _ c.loop-f.invariant c.loop-f-test.true (sym c.has.ensures ∙ w.if-has.false))
     ]
 
 pub returns : goal.returns

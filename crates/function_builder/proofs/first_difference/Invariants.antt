@@ -1,6 +1,6 @@
 -- `function_builder::first_difference` meets its contract. What is left from here is alike as the whole is.
 use mathlib.Core.List.{[]}
-use Prim.Native.Nat.{◌-◌, ◌≤◌}
+use Prim.Native.Nat.{◌+◌, ◌-◌, ◌≤◌}
 use lib.ListN.{get_or}
 use Rattle.derive_state.proofs.Passes.{Compares}
 use Rattle.function_references.specs.Fits.{FitN}
@@ -8,4 +8,4 @@ use Rattle.function_builder.specs.Stacks.{went_of}
 use Rattle.function_builder.proofs.first_difference.Given as goal
 
 abbrev pub invariant-loop-j : goal.invariant-loop-j
-invariant-loop-j l = (Compares (FitN l.words 1024) l.words l.tags (get_or l.stacks 0 []) (get_or l.stacks 1 []) (went_of l.words l.n l.log l.logtags l.starts l.maps l.ends l.exprmap) l.at l.end l.a l.b l.j l.p) × (l.at ≤ l.j)
+invariant-loop-j l = (Compares (FitN l.words 1024) l.words l.tags (get_or l.stacks 0 []) (get_or l.stacks 1 []) (went_of l.words l.n l.log l.logtags l.starts l.maps l.ends l.exprmap) l.at l.end l.a l.b l.j (l.a + (l.j - l.at))) × (l.at ≤ l.j)

@@ -1,5 +1,4 @@
 -- `function_builder::index` meets its contract. What is left to find, from place k on, is the whole.
-use Prim.Native.Nat.{◌-◌}
 use Rattle.intake_initialisers.proofs.Visiting.{places-begin, places_last_room, places-last, places-room, places-next, places_skip, places_done}
 use borrow.Author.Rules.{rules}
 use Rattle.function_builder.proofs.index.Goals.{then-s-eq-EXPR_KIND, else-s-eq-EXPR_KIND}

@@ -1,5 +1,4 @@
 -- `function_builder::index` meets its contract. What is left to find, from place k on, is the whole.
-use Prim.Native.Nat.{◌-◌}
 use Rattle.intake_initialisers.proofs.Visiting.{Finding}
 use Rattle.function_builder.proofs.index.Given as goal
 

@@ -1,4 +1,3 @@
-use Prim.Native.Nat.{◌-◌}
 use native.Mathlib.Omega.{arith}
 use Rattle.function_builder.proofs.Sieve.{hop_none, hop_last, hop_next}
 use Rattle.function_builder.proofs.next_candidate.Goals.{then-q-lt16384+else-stacks-q, else-q-lt16384}

@@ -1,4 +1,3 @@
-use Prim.Native.Nat.{◌-◌}
 use Rattle.function_builder.specs.Makes.{Hops}
 use Rattle.function_builder.proofs.next_candidate.Given as goal
 

@@ -1,8 +1,8 @@
 -- `function_builder::write` meets its contract. Words and classes go to the top of the stack, one after the other.
-use Prim.Native.Nat.{◌-◌}
+use Prim.Native.Nat.{◌+◌, ◌-◌, ◌≤◌}
 use Rattle.function_builder.specs.Stacks.{went_of}
 use Rattle.function_builder.proofs.Writes.{Laying}
 use Rattle.function_builder.proofs.write.Given as goal
 
 abbrev pub invariant-loop-j : goal.invariant-loop-j
-invariant-loop-j l = Laying l.words l.tags (went_of l.words l.n l.log l.logtags l.starts l.maps l.ends l.exprmap) l.at l.end l.offset l.initial.stacks l.ends l.stacks l.j l.p l.u
+invariant-loop-j l = (Laying l.words l.tags (went_of l.words l.n l.log l.logtags l.starts l.maps l.ends l.exprmap) l.at l.end l.offset l.initial.stacks l.ends l.stacks l.j (l.ends.exprtop + (l.j - l.at)) l.u) × (l.at ≤ l.j)
