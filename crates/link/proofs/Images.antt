@@ -12,7 +12,7 @@ use Rattle.model.specs.Intake.{intake_of, of_laid, after_intake, on_words}
 use Rattle.model.specs.Taped.{Taped, Tape}
 use Rattle.model.specs.Calls.{Order, ordered}
 use Rattle.model.specs.Callees.{order_of}
-use Rattle.model.specs.Refusals.{done, refused, ringed, answer_by, packed}
+use Rattle.model.specs.Refusals.{done, refused, ringed, answer_by}
 use Rattle.model.specs.Link.{Linked, in_order, link_module, link, link_by, output_after, link_image, link_answer}
 use Rattle.theory_image.specs.IntakeNumbers.{intake_low}
 use Rattle.theory_image.specs.FunctionViews.{taped_functions}
@@ -22,7 +22,7 @@ use Rattle.base_refusals.specs.Numbers.{refused_by as ends_as}
 use Rattle.base_refusals.specs.declared.Refusal.{Refusal}
 use Rattle.std.specs.Prelude.{Result, Ok, Err}
 use Rattle.order_callees.specs.Gathering.{Known, Listed}
-use Rattle.intake.specs.Taken.{number_of, Accepts, TakeInEnsures}
+use Rattle.intake.specs.Taken.{Accepts, TakeInEnsures}
 use Rattle.std.specs.Prelude.{Ok, Err}
 use Rattle.base_refusals.specs.declared.Refusal.{Refusal}
 use Rattle.intake.proofs.Refusals.{refused_by, answered}

@@ -9,17 +9,13 @@ use lib.ListN.{length, get_or, drop, set, length-append, length-drop, length-set
 use lib.Seq.{sets, drop-cons, drop-length, get_or-take, get_or-drop, length-take-le, length-sets}
 use borrow.Author.Tests.{lt-ltb, le-ltb}
 use Rattle.base_words.specs.Words.{bytes_of}
+use borrow.Rule.Slice.PartMut.{put_mid}
 use Rattle.base_words.proofs.Laws.{length_bytes_of}
+use Rattle.base_words.proofs.Loops.{put}
 use Rattle.order_lines.specs.Lines.{decimal, text_at, TextEnsures, Room}
 
 -- ---- one byte: byte s of a word
-abbrev part : ℕ → ℕ → ℕ
-part zero w = w % 256
-part (suc zero) w = w / 256 % 256
-part (suc (suc zero)) w = w / 65536 % 256
-part (suc (suc (suc s))) w = w / 16777216 % 256
-
-first : (w : ℕ) (ws : List ℕ) (s : ℕ) → s < 4 → get_or (bytes_of (w ∷ ws)) s 0 ≡ part s w
+first : (w : ℕ) (ws : List ℕ) (s : ℕ) → s < 4 → get_or (bytes_of (w ∷ ws)) s 0 ≡ get_or (bytes_of (w ∷ [])) s 0
 unfolding bytes_of
 first w ws zero h = refl
 first w ws (suc zero) h = refl
@@ -27,7 +23,7 @@ first w ws (suc (suc zero)) h = refl
 first w ws (suc (suc (suc zero))) h = refl
 first w ws (suc (suc (suc (suc s)))) h = absurd (omega arith)
 
-byte_of : (ws : List ℕ) (q k s : ℕ) → k ≡ 4 * q + s → s < 4 → q < length ws → get_or (bytes_of ws) k 0 ≡ part s (get_or ws q 0)
+byte_of : (ws : List ℕ) (q k s : ℕ) → k ≡ 4 * q + s → s < 4 → q < length ws → get_or (bytes_of ws) k 0 ≡ get_or (bytes_of (get_or ws q 0 ∷ [])) s 0
 unfolding bytes_of
 byte_of [] q k s e h i = absurd (omega arith)
 byte_of (w ∷ ws) zero k s e h i = let x : k ≡ s = omega arith in rw x (first w ws s h)
@@ -37,11 +33,11 @@ byte_of (w ∷ ws) (suc q) (suc (suc zero)) s e h i = absurd (omega arith)
 byte_of (w ∷ ws) (suc q) (suc (suc (suc zero))) s e h i = absurd (omega arith)
 byte_of (w ∷ ws) (suc q) (suc (suc (suc (suc k)))) s e h i = byte_of ws q k s (omega arith) h (omega arith)
 
-pub byte_is : (ws : List ℕ) (at k s : ℕ) → length ws ≡ 16384 → at + k / 4 < 16384 → k % 4 ≡ s → part s (get_or ws (at + k / 4) 0) ≡ get_or (bytes_of (drop at ws)) k 0
-byte_is ws at k s l h e =
+pub byte_is : (ws : List ℕ) (at k : ℕ) → length ws ≡ 16384 → at + k / 4 < 16384 → get_or (bytes_of (get_or ws (at + k / 4) 0 ∷ [])) (k % 4) 0 ≡ get_or (bytes_of (drop at ws)) k 0
+byte_is ws at k l h =
     let d : k / 4 * 4 + k % 4 ≡ k = div-add-mod' k 4 in
     let m : k % 4 < 4 = mod-lt k (zero-lt-suc 3) in
-    sym (byte_of (drop at ws) (k / 4) k s (omega arith) (omega arith) (rw (length-drop at ws) (omega arith)) ∙ ap (part s) (get_or-drop at ws (k / 4) 0))
+    sym (byte_of (drop at ws) (k / 4) k (k % 4) (omega arith) m (rw (length-drop at ws) (omega arith)) ∙ ap (λ w. get_or (bytes_of (w ∷ [])) (k % 4) 0) (get_or-drop at ws (k / 4) 0))
 
 -- ---- runs
 pub sets-append : (xs l : List ℕ) (i : ℕ) (ys : List ℕ) → sets (sets l i xs) (i + length xs) ys ≡ sets l i (xs ++ ys)
@@ -71,15 +67,19 @@ pub three_digits : (x : ℕ) → 100 ≤ x → decimal x ≡ (48 + x / 100) ∷ 
 unfolding decimal
 three_digits x b = let a : 10 ≤ x = omega arith in rw (le-ltb x 10 a, le-ltb x 100 b)
 
-module _ (out : List ℕ) (at x : ℕ) where
-  pub puts_one : {a : ℕ} → x < 10 → a ≡ 48 + x → TextEnsures out at (decimal x) (set out at a) (at + 1)
-  puts_one h e = rw (one_digit x h, e) (record { is = refl; ends = refl })
+module _ {out out' : List ℕ} {at x r : ℕ} where
+  pub puts_one : {a : ℕ} → x < 10 → a ≡ 48 + x → TextEnsures out at (a ∷ []) out' r → TextEnsures out at (decimal x) out' r
+  puts_one h e t = rw (one_digit x h) (rw e at t)
 
-  pub puts_two : {a b : ℕ} → 10 ≤ x → x < 100 → a ≡ 48 + x / 10 → b ≡ 48 + x % 10 → TextEnsures out at (decimal x) (set (set out at a) (at + 1) b) (at + 2)
-  puts_two h k e f = rw (two_digits x h k, e, f, add-one at) (record { is = refl; ends = refl })
+  pub puts_two : {a b : ℕ} → 10 ≤ x → x < 100 → a ≡ 48 + x / 10 → b ≡ 48 + x % 10 → TextEnsures out at (a ∷ b ∷ []) out' r → TextEnsures out at (decimal x) out' r
+  puts_two h k e f t = rw (two_digits x h k) (rw (e, f) at t)
 
-  pub puts_three : {a b c : ℕ} → 100 ≤ x → a ≡ 48 + x / 100 → b ≡ 48 + x / 10 % 10 → c ≡ 48 + x % 10 → TextEnsures out at (decimal x) (set (set (set out at a) (at + 1) b) (at + 2) c) (at + 3)
-  puts_three h e f g = let z : at + 2 ≡ suc (suc at) = omega arith in rw (three_digits x h, e, f, g, add-one at, z) (record { is = refl; ends = refl })
+  pub puts_three : {a b c : ℕ} → 100 ≤ x → a ≡ 48 + x / 100 → b ≡ 48 + x / 10 % 10 → c ≡ 48 + x % 10 → TextEnsures out at (a ∷ b ∷ c ∷ []) out' r → TextEnsures out at (decimal x) out' r
+  puts_three h e f g t = rw (three_digits x h) (rw (e, f, g) at t)
+
+-- ---- bytes that are copied
+pub puts_at : (out part text : List ℕ) (at end : ℕ) → end ≡ at + length text → part ≡ text → end ≤ length out → TextEnsures out at text (put_mid at (end - at) out part) end
+puts_at out part text at end e is fits = record { is = put at (end - at) out part text is (omega arith) (omega arith); ends = e }
 
 -- how long a name is
 pub text_long : (words : List ℕ) (p : ℕ) → length words ≡ 16384 → p < 16384 → get_or words p 0 ≤ 4 * (16383 - p) → length (text_at words p) ≡ get_or words p 0

@@ -106,7 +106,7 @@ module _ {words order : List ℕ} {count : ℕ} {out : List ℕ} {at : ℕ} (q :
   pub lines_begin : Going words order count out at 0 at out
   lines_begin = record { high = omega arith; long = q.long; is = refl; ends = refl }
 
-  taken : length (take count order) ≡ count
+  pub taken : length (take count order) ≡ count
   taken = length-take-le count order (omega (arith, q.prints.order_long, q.prints.count_few))
 
   module _ {i next : ℕ} {now : List ℕ} (g : Going words order count out at i next now) where

@@ -13,68 +13,14 @@ fn byte(words: &Words, at: usize, k: usize) -> u8
     requires { (length words.now ≡ 16384) × (at + k / 4 < 16384) }
     ensures { result ≡ get_or (bytes_of (drop at words.now)) k 0 }
 {
-    let w = words[at + k / 4];
-    let s = k % 4;
-    if s == 0 {
-        return (w % 256) as u8;
-    }
-    if s == 1 {
-        return (w / 256 % 256) as u8;
-    }
-    if s == 2 {
-        return (w / 65536 % 256) as u8;
-    }
-    (w / 16777216 % 256) as u8
+    words[at + k / 4].to_le_bytes()[k % 4]
 }
 
 fn digit(d: usize) -> u8
     requires { d < 10 }
     ensures { result ≡ 48 + d }
 {
-    48 + d as u8
-}
-
-fn put(out: &mut [u8; 65536], at: usize, b: u8) -> usize
-    requires { (length out.old ≡ 65536) × (at < 65536) }
-    ensures { TextEnsures out.old at (b ∷ []) out.new result }
-{
-    out[at] = b;
-    at + 1
-}
-
-// Numbers of functions are below 1,000.
-fn put_number(out: &mut [u8; 65536], at: usize, x: usize) -> usize
-    requires { (length out.old ≡ 65536) × (at + 3 ≤ 65536) × (x < 1000) }
-    ensures { TextEnsures out.old at (decimal x) out.new result }
-{
-    if x < 10 {
-        out[at] = digit(x);
-        return at + 1;
-    }
-    if x < 100 {
-        out[at] = digit(x / 10);
-        out[at + 1] = digit(x % 10);
-        return at + 2;
-    }
-    out[at] = digit(x / 100);
-    out[at + 1] = digit(x / 10 % 10);
-    out[at + 2] = digit(x % 10);
-    at + 3
-}
-
-// The bytes of the name at p.
-fn put_name(words: &Words, p: usize, out: &mut [u8; 65536], at: usize) -> usize
-    requires { Room words.now p out.old at }
-    ensures { TextEnsures out.old at (text_at words.now p) out.new result }
-{
-    let n = base_words::wide(words[p]);
-    let mut i = 0;
-    while i < n {
-        let k = i;
-        i += 1;
-        out[at + k] = byte(words, p + 1, k);
-    }
-    at + n
+    b'0' + d as u8
 }
 
 // These bytes.
@@ -83,13 +29,39 @@ fn put_text(text: &[u8], out: &mut [u8; 65536], at: usize) -> usize
     requires text_bound { at + length text.now ≤ 65536 }
     ensures { TextEnsures out.old at text.now out.new result }
 {
-    let mut i = 0;
-    while i < text.len() {
-        let k = i;
-        i += 1;
-        out[at + k] = text[k];
+    let end = at + text.len();
+    out[at..end].copy_from_slice(text);
+    end
+}
+
+// Numbers of functions are below 1,000.
+fn put_number(out: &mut [u8; 65536], at: usize, x: usize) -> usize
+    requires { (length out.old ≡ 65536) × (at + 3 ≤ 65536) × (x < 1000) }
+    ensures { TextEnsures out.old at (decimal x) out.new result }
+{
+    if x < 10 {
+        return put_text(&[digit(x)], out, at);
     }
-    at + text.len()
+    if x < 100 {
+        return put_text(&[digit(x / 10), digit(x % 10)], out, at);
+    }
+    put_text(
+        &[digit(x / 100), digit(x / 10 % 10), digit(x % 10)],
+        out,
+        at,
+    )
+}
+
+// The bytes of the name at p.
+fn put_name(words: &Words, p: usize, out: &mut [u8; 65536], at: usize) -> usize
+    requires { Room words.now p out.old at }
+    ensures { TextEnsures out.old at (text_at words.now p) out.new result }
+{
+    let n = words[p] as usize;
+    for k in 0..n {
+        out[at + k] = byte(words, p + 1, k);
+    }
+    at + n
 }
 
 // Two numbers, each with a space after it.
@@ -99,9 +71,9 @@ fn put_numbers(out: &mut [u8; 65536], at: usize, new: usize, s: usize) -> usize
     ensures { TextEnsures out.old at (numbers_text new s) out.new result }
 {
     let a = put_number(out, at, new);
-    let b = put(out, a, 32);
+    let b = put_text(b" ", out, a);
     let c = put_number(out, b, s);
-    put(out, c, 32)
+    put_text(b" ", out, c)
 }
 
 // Where the name of table function s is.
@@ -110,7 +82,7 @@ fn name_of(words: &Words, s: usize) -> usize
     ensures { result ≡ name_at words.now s }
 {
     let f = base_views::start_of(words, 6, s);
-    let w = base_words::wide(words[f]);
+    let w = words[f] as usize;
     base_views::start_of(words, 0, w - 1)
 }
 
@@ -122,7 +94,7 @@ fn line(words: &Words, new: usize, s: usize, out: &mut [u8; 65536], at: usize) -
     let a = put_numbers(out, at, new, s);
     let p = name_of(words, s);
     let b = put_name(words, p, out, a);
-    put(out, b, 10)
+    put_text(b"\n", out, b)
 }
 
 // The lines of the first `count` numbers of an order.
@@ -131,11 +103,8 @@ fn lines(words: &Words, order: &[u32; 256], count: usize, out: &mut [u8; 65536],
     ensures { TextEnsures out.old at (lines_text (take count order.now) 0 (name_is words.now)) out.new result }
 {
     let mut next = at;
-    let mut i = 0;
-    while i < count {
-        let k = i;
-        i += 1;
-        next = line(words, k, base_words::wide(order[k]), out, next);
+    for (k, s) in order[..count].iter().enumerate() {
+        next = line(words, k, *s as usize, out, next);
     }
     next
 }
@@ -148,7 +117,7 @@ pub fn head(label: &[u8], x: usize, out: &mut [u8; 65536]) -> usize
 {
     let a = put_text(label, out, 0);
     let b = put_number(out, a, x);
-    put(out, b, 10)
+    put_text(b"\n", out, b)
 }
 
 // The text of an order of `count` functions.

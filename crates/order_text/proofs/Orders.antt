@@ -28,7 +28,7 @@ use Rattle.theory_image.specs.IntakeNumbers.{intake_low}
 use Rattle.theory_image.specs.FunctionViews.{taped_functions}
 use Rattle.order_callees.specs.Gathering.{Listed}
 use Rattle.order_callees.proofs.Whole.{few}
-use Rattle.intake.specs.Taken.{number_of, Accepts, TakeInEnsures}
+use Rattle.intake.specs.Taken.{Accepts, TakeInEnsures}
 use Rattle.std.specs.Prelude.{Ok, Err}
 use Rattle.base_refusals.specs.declared.Refusal.{Refusal}
 use Rattle.base_refusals.specs.declared.Refusal.TheVariants as refusal

@@ -1,14 +1,7 @@
-use native.Mathlib.Omega.{arith}
 use mathlib.Core.Path.{refl}
-use Rattle.order_lines.proofs.Bytes.{begin, again, finish}
-use Prim.Native.Nat.{◌-◌}
+use native.Mathlib.Omega.{arith}
+use Rattle.order_lines.proofs.Bytes.{puts_at}
 use Rattle.order_lines.proofs.put_text.Goals as goal
 
-pub loop-i-init : goal.loop-i-init
-loop-i-init c = begin _ _ c.requires.out_len
-
-pub loop-i-preserved : goal.loop-i-preserved
-loop-i-preserved c = again c.loop-i.invariant (omega arith) refl
-
 pub returns : goal.returns
-returns c = finish c.loop-i.invariant (omega arith) refl
+returns c = puts_at _ _ _ _ _ refl c.copy_from_slice.ensures.after (omega (arith, c.requires.out_len, c.requires.text_bound))

@@ -1,5 +1,4 @@
 -- `order_text::tell_of` meets its contract: what intake accepts has passed tests 3 and 5.
-use mathlib.Core.Path.{refl}
 use native.Mathlib.Omega.{arith}
 use Rattle.order_text.proofs.Orders.{held_tape, held-passed, accepted_says, refused_few, refused_says}
 use Rattle.order_text.proofs.tell_of.Goals as goal
