@@ -41,6 +41,7 @@ fn visible(
     if count <= e {
         return false;
     }
+    // a test with a name, so that an edit of it leaves the goals their names
     let live = at < until[e];
     live || stands(kind(words, starts, e))
 }

@@ -39,6 +39,7 @@ fn linked_in(
     let linked = link_in_order(
         words, tags, n, &order, output, log, logtags, starts, maps, buckets, stacks,
     );
+    // an image that has an order and room is linked, so that the low half is 0
     Ok((linked / 4294967296) as u32)
 }
 

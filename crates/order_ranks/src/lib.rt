@@ -122,6 +122,7 @@ pub fn left(callees: &[FunctionSet; 256], n: usize, began: FunctionSet) -> Funct
 {
     let mut out = [0; 256];
     let mut waiting = began;
+    // until a round places nothing: how many rounds there are is not known before
     loop {
         let round = place(callees, n, waiting, &mut out, 0);
         if round.at == 0 {
@@ -139,6 +140,7 @@ pub fn order(callees: &[FunctionSet; 256], n: usize, out: &mut [u32; 256]) -> Re
 {
     let mut waiting = FunctionSet::first(n);
     let mut at = 0;
+    // a round places as many as it can, which no range tells
     while at < n {
         let round = place(callees, n, waiting, out, at);
         if round.at == at {

@@ -13,6 +13,7 @@ pub fn read<R: Read>(from: &mut R, buf: &mut [u8]) -> io::Result<usize>
     ensures { IfOk result (λ n. n ≤ length buf.new) }
 {
     let mut done = 0;
+    // how many bytes a read gives is not known before it
     while done < buf.len() {
         let n = from.read(&mut buf[done..])?;
         if n == 0 {
