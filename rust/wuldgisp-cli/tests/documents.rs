@@ -71,7 +71,7 @@ fn every_refusal_is_a_rule() {
 
 #[test]
 fn programs_and_library_say_the_same_of_a_refusal() {
-    let streams = page("crates/program_streams/src/lib.rt");
+    let refusals = page("crates/base_refusals/src/lib.rt");
     use wuldgisp::Refusal::*;
     for refusal in [
         Size,
@@ -87,7 +87,7 @@ fn programs_and_library_say_the_same_of_a_refusal() {
         Ring { left: 1 },
         NumberGiven,
     ] {
-        assert!(streams.contains(&format!("\"{}\"", refusal.sentence())), "{refusal}");
+        assert!(refusals.contains(&format!("\"{}\"", refusal.sentence())), "{refusal}");
     }
 }
 
