@@ -30,15 +30,6 @@ unfolding says answer_of value_of bytes_of
 says-stepped op values s zero v s' output d = rw d.is (record { refusal_is = refl; first_is = refl; second_is = refl; output_is = refl; session_is = refl })
 says-stepped op values s (suc k) v s' output d = rw d.is (record { refusal_is = refl; first_is = refl; second_is = refl; output_is = refl; session_is = d.stays (omega arith) })
 
-pub value_there : (k v : ℕ) → k ≡ 0 → v ≡ value_of k v
-unfolding value_of
-value_there k v e = rw (e)
-
-pub value_refused : (k v : ℕ) → (k ≡ 0 → ⊥) → 0 ≡ value_of k v
-unfolding value_of
-value_refused zero v h = absurd (h refl)
-value_refused (suc k) v h = refl
-
 -- ---- steps that import
 module _ (o a b c : ℕ) (s s' : Session) (k v : ℕ) where
   recorded : (op : Session → Answer ℕ) → ((sources output : List ℕ) → saying o a b c sources output s ≡ says s (λ (n : ℕ). (n, 0)) (op s)) → OperationEnsures op s k v s' → Recorded o a b c s k (value_of k v) s'

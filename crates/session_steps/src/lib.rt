@@ -2,14 +2,14 @@
 // nothing.
 #![tactic(auto)]
 
-ghost use Rattle.std.specs.Prelude.{◌≡◌, ◌≤◌, min};
+ghost use Rattle.std.specs.Prelude.{◌≡◌, ◌≤◌};
 ghost use Rattle.function_builder.specs.Stacks.{Stacks};
 ghost use Rattle.derive_session.specs.Valid.{session_of, ValidSession};
 ghost use Rattle.session_steps.specs.Stepped.{saying, PerformEnsures, Quiet, Wrote, Recorded, value_of};
 
 use base_refusals::NUMBER_GIVEN;
 use base_views::{CONSTANTS, TYPES};
-use base_words::{Tags, Words, wide};
+use base_words::{Tags, Words};
 use derive_state::{Buckets, Log, LogTags, Maps, Sizes, Special, StackRows, Starts, Targets};
 use session_functions::{finish_with_entries, import_function, map_function_handle};
 use session_operations::{
@@ -71,24 +71,12 @@ pub struct Step {
     pub c: u32,
 }
 
-// The smaller of two.
-fn least(a: usize, b: usize) -> usize
-    ensures { result ≡ min a b }
-{
-    if a < b {
-        return a;
-    }
-    b
-}
-
-// A value, 0 where the step is refused.
+// A value, 0 where the step is refused: a number and no Option, since the answers of a session are three words each, which C reads.
+#[tactic(auto, unfolding(crate::specs::Stepped::value_of))]
 fn value_of(refusal: u32, v: u32) -> u32
     ensures { result ≡ value_of refusal v }
 {
-    if refusal == 0 {
-        return v;
-    }
-    0
+    if refusal == 0 { v } else { 0 }
 }
 
 // A source from a part of the sources.
@@ -113,8 +101,8 @@ fn set_step(
     ensures quiet { Quiet 0 step.a step.b step.c sources.now (session_of set n offset words.old log.old logtags.old starts.old maps.old special.old ends) result.refusal result.first result.second (session_of result.set result.n result.offset words.new log.new logtags.new starts.new maps.new special.new result.ends) }
     ensures valid_session { ValidSession result.set result.n result.offset words.new tags.new targets.now log.new logtags.new starts.new maps.new buckets.new special.new result.ends }
 {
-    let from = least(wide(step.a), sources.len());
-    let to = from + least(wide(step.b), sources.len() - from);
+    let from = (step.a as usize).min(sources.len());
+    let to = from + (step.b as usize).min(sources.len() - from);
     let got = set_shader_source(
         &sources[from..to],
         words,
@@ -132,7 +120,6 @@ fn set_step(
         offset,
         step.c,
     );
-    let left = got.ends;
     Answered {
         refusal: got.refusal,
         first: 0,
@@ -140,7 +127,7 @@ fn set_step(
         set: got.set,
         n: got.n,
         offset: got.offset,
-        ends: left,
+        ends: got.ends,
     }
 }
 
@@ -166,8 +153,8 @@ fn plain_step(
     ensures wrote { Wrote 13 step.a step.b step.c (session_of set n offset words.now log.now logtags.now starts.now maps.old special.old ends) result.refusal result.first result.second output.old output.new (session_of result.set result.n result.offset words.now log.now logtags.now starts.now maps.new special.new result.ends) }
     ensures valid_session { ValidSession result.set result.n result.offset words.now tags.now targets.now log.now logtags.now starts.now maps.new buckets.now special.new result.ends }
 {
-    let from = least(wide(step.a), output.len());
-    let to = from + least(wide(step.b), output.len() - from);
+    let from = (step.a as usize).min(output.len());
+    let to = from + (step.b as usize).min(output.len() - from);
     let got = finish_plain(
         words,
         tags,
@@ -184,15 +171,14 @@ fn plain_step(
         offset,
         &mut output[from..to],
     );
-    let left = got.ends;
     Answered {
         refusal: got.refusal,
         first: got.bytes as u32,
         second: 0,
         set: got.set,
-        n: n,
-        offset: offset,
-        ends: left,
+        n,
+        offset,
+        ends: got.ends,
     }
 }
 
@@ -221,8 +207,8 @@ fn entries_step(
     ensures valid_session_2 { ValidSession result.set result.n result.offset words.now tags.now targets.now log.new logtags.new starts.now maps.new buckets.new special.new result.ends }
     ensures stacks_2 { Stacks stacks.new result.ends }
 {
-    let from = least(wide(step.a), output.len());
-    let to = from + least(wide(step.b), output.len() - from);
+    let from = (step.a as usize).min(output.len());
+    let to = from + (step.b as usize).min(output.len() - from);
     let got = finish_with_entries(
         words,
         tags,
@@ -240,15 +226,14 @@ fn entries_step(
         offset,
         &mut output[from..to],
     );
-    let left = got.ends;
     Answered {
         refusal: got.refusal,
         first: got.bytes as u32,
         second: 0,
         set: got.set,
-        n: n,
-        offset: offset,
-        ends: left,
+        n,
+        offset,
+        ends: got.ends,
     }
 }
 
@@ -290,9 +275,9 @@ pub fn perform(
             first: 0,
             second: 0,
             set: false,
-            n: n,
-            offset: offset,
-            ends: ends,
+            n,
+            offset,
+            ends,
         };
     }
     if step.operation == MAP_SPAN {
@@ -301,10 +286,10 @@ pub fn perform(
             refusal: got.refusal,
             first: got.start,
             second: got.end,
-            set: set,
-            n: n,
-            offset: offset,
-            ends: ends,
+            set,
+            n,
+            offset,
+            ends,
         };
     }
     if step.operation == HAS_REQUIRED_SPECIAL_TYPES {
@@ -313,10 +298,10 @@ pub fn perform(
             refusal: 0,
             first: v,
             second: 0,
-            set: set,
-            n: n,
-            offset: offset,
-            ends: ends,
+            set,
+            n,
+            offset,
+            ends,
         };
     }
     if step.operation == FINISH {
@@ -335,15 +320,14 @@ pub fn perform(
         words, tags, targets, n, log, logtags, starts, maps, buckets, special, stacks, ends, set,
         offset, step,
     );
-    let left = said.ends;
     Answered {
         refusal: said.refusal,
         first: value_of(said.refusal, said.value),
         second: 0,
-        set: set,
-        n: n,
-        offset: offset,
-        ends: left,
+        set,
+        n,
+        offset,
+        ends: said.ends,
     }
 }
 
@@ -399,7 +383,7 @@ fn record_step(
             ends,
             set,
             offset,
-            wide(step.operation) - TABLES,
+            step.operation as usize - TABLES,
             step.a,
         );
     }
@@ -418,6 +402,6 @@ fn record_step(
     session_operations::Answer {
         refusal: NUMBER_GIVEN,
         value: 0,
-        ends: ends,
+        ends,
     }
 }

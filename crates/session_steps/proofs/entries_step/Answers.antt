@@ -1,7 +1,5 @@
-use mathlib.Core.Path.{ap, ◌∙◌}
-use Prim.Native.Nat.{ℕ, ◌+◌, ◌-◌, min}
+use Prim.Native.Nat.{◌+◌, ◌-◌}
 use native.Mathlib.Omega.{arith}
-use lib.ListN.{length}
 use Rattle.session_steps.proofs.Parts.{entries_wrote, entries_small}
 use Rattle.session_steps.proofs.entries_step.Goals as goal
 
@@ -9,7 +7,7 @@ pub finish_with_entries-got-requires : goal.finish_with_entries-got-requires
 finish_with_entries-got-requires c = record { valid_session = c.requires.valid_session; stacks = c.requires.stacks }
 
 pub overflow_cast-result : goal.overflow_cast-result
-overflow_cast-result c = let x = c.args.step in let f = c.least-from in let d = c.least in let l = c.args.output.now in let hf = c.least-from.ensures ∙ ap (λ (n : ℕ). min n (length l)) c.wide.ensures.0 in let hd = c.least.ensures ∙ ap (λ (n : ℕ). min n (length l - f.result)) c.wide-2.ensures.0 in let w = c.wide-2.ensures in let h = entries_small x.a x.b l f.result d.result (f.result + d.result - f.result) hf hd (omega arith) _ _ _ _ _ c.finish_with_entries-got.ensures.finish_ensures in omega (arith, h, w)
+overflow_cast-result c = let x = c.args.step in let f = c.min-from in let d = c.min in let l = c.args.output.now in let hf = f.ensures in let hd = d.ensures in let w = c.well_formed in let h = entries_small x.a x.b l f.result d.result (f.result + d.result - f.result) hf hd (omega arith) _ _ _ _ _ c.finish_with_entries-got.ensures.finish_ensures in omega (arith, h, w)
 
 pub returns : goal.returns
-returns c = let x = c.args.step in let f = c.least-from in let d = c.least in let l = c.args.output.now in let hf = c.least-from.ensures ∙ ap (λ (n : ℕ). min n (length l)) c.wide.ensures.0 in let hd = c.least.ensures ∙ ap (λ (n : ℕ). min n (length l - f.result)) c.wide-2.ensures.0 in record { wrote = entries_wrote x.a x.b l f.result d.result (f.result + d.result - f.result) hf hd (omega arith) _ _ _ _ _ x.c c.finish_with_entries-got.ensures.finish_ensures; valid_session_2 = c.finish_with_entries-got.ensures.valid_session_2; stacks_2 = c.finish_with_entries-got.ensures.stacks_2 }
+returns c = let x = c.args.step in let f = c.min-from in let d = c.min in let l = c.args.output.now in let hf = f.ensures in let hd = d.ensures in record { wrote = entries_wrote x.a x.b l f.result d.result (f.result + d.result - f.result) hf hd (omega arith) _ _ _ _ _ x.c c.finish_with_entries-got.ensures.finish_ensures; valid_session_2 = c.finish_with_entries-got.ensures.valid_session_2; stacks_2 = c.finish_with_entries-got.ensures.stacks_2 }

@@ -1,5 +1,4 @@
-use mathlib.Core.Path.{ap}
-use Prim.Native.Nat.{ℕ, ◌-◌}
+use mathlib.Core.Path.{refl}
 use native.Mathlib.Omega.{arith}
 use Rattle.session_steps.proofs.Saying.{type_recorded, rename_recorded, tables_recorded, function_recorded, handle_recorded, none_recorded, stacks_low}
 use Rattle.session_steps.proofs.record_step.Goals as goal
@@ -11,10 +10,10 @@ pub returns-then-step-eq-RENAME_TYPE : goal.returns-then-step-eq-RENAME_TYPE
 returns-then-step-eq-RENAME_TYPE c = let x = c.args.step in record { recorded = rename_recorded x.operation x.a x.b x.c _ _ _ _ c.if-step-eq-RENAME_TYPE.true c.rename_type.ensures.operation_ensures; valid_session_2 = c.rename_type.ensures.valid_session; stacks_2 = stacks_low c.requires.stacks c.rename_type.ensures.valid_session.lowest }
 
 pub import-requires-then-step-lt-IMPORT_FUNCTION : goal.import-requires-then-step-lt-IMPORT_FUNCTION
-import-requires-then-step-lt-IMPORT_FUNCTION c = let w = c.wide.ensures.0 in let h = c.requires.le_operation.0 in let p = c.if-step-eq-IMPORT_TYPE.false in let q = c.if-step-eq-RENAME_TYPE.false in let l = c.if-step-lt-IMPORT_FUNCTION.true in record { le_t = (omega arith, omega arith); valid_session = c.requires.valid_session }
+import-requires-then-step-lt-IMPORT_FUNCTION c = let h = c.requires.le_operation.0 in let p = c.if-step-eq-IMPORT_TYPE.false in let q = c.if-step-eq-RENAME_TYPE.false in let l = c.if-step-lt-IMPORT_FUNCTION.true in record { le_t = (omega arith, omega arith); valid_session = c.requires.valid_session }
 
 pub returns-then-step-lt-IMPORT_FUNCTION : goal.returns-then-step-lt-IMPORT_FUNCTION
-returns-then-step-lt-IMPORT_FUNCTION c = let x = c.args.step in let w = c.wide.ensures.0 in let h = c.requires.le_operation.0 in let p = c.if-step-eq-IMPORT_TYPE.false in let q = c.if-step-eq-RENAME_TYPE.false in let l = c.if-step-lt-IMPORT_FUNCTION.true in record { recorded = tables_recorded x.operation x.a x.b x.c _ _ _ _ _ (omega arith) l (ap (λ (n : ℕ). n - 3) w) c.import-then-step-lt-IMPORT_FUNCTION.ensures.operation_ensures; valid_session_2 = c.import-then-step-lt-IMPORT_FUNCTION.ensures.valid_session_2; stacks_2 = stacks_low c.requires.stacks c.import-then-step-lt-IMPORT_FUNCTION.ensures.valid_session_2.lowest }
+returns-then-step-lt-IMPORT_FUNCTION c = let x = c.args.step in let h = c.requires.le_operation.0 in let p = c.if-step-eq-IMPORT_TYPE.false in let q = c.if-step-eq-RENAME_TYPE.false in let l = c.if-step-lt-IMPORT_FUNCTION.true in record { recorded = tables_recorded x.operation x.a x.b x.c _ _ _ _ _ (omega arith) l refl c.import-then-step-lt-IMPORT_FUNCTION.ensures.operation_ensures; valid_session_2 = c.import-then-step-lt-IMPORT_FUNCTION.ensures.valid_session_2; stacks_2 = stacks_low c.requires.stacks c.import-then-step-lt-IMPORT_FUNCTION.ensures.valid_session_2.lowest }
 
 pub import_function-requires : goal.import_function-requires
 import_function-requires c = record { valid_session = c.requires.valid_session; stacks = c.requires.stacks }
