@@ -5,7 +5,7 @@ import glob
 import re
 import sys
 
-os_args = [a for a in sys.argv[1:] if a != "--list"]
+WANTED = [a for a in sys.argv[1:] if a != "--list"]
 LIST = "--list" in sys.argv
 
 
@@ -13,6 +13,13 @@ def sources():
     for path in sorted(glob.glob("crates/*/src/*.rt")):
         text = open(path, encoding="utf-8").read()
         yield path, text
+
+
+def matches(pattern):
+    """Each match of a pattern in the sources, with its file and line."""
+    for path, text in sources():
+        for m in re.finditer(pattern, text, re.M | re.S):
+            yield m, "%s:%d " % (path, text.count("\n", 0, m.start()) + 1)
 
 
 def functions():
@@ -66,17 +73,14 @@ def where(f):
 
 def enums():
     # enums whose variants are an answer, and reasons why there is none
-    for path, text in sources():
-        for m in re.finditer(r"^(?:pub )?enum (\w+) \{\n(.*?)^\}", text, re.M | re.S):
-            variants = re.findall(r"^    (\w+)", m.group(2), re.M)
-            yield "%s:%d %s {%s}" % (path, text.count("\n", 0, m.start()) + 1, m.group(1), ", ".join(variants))
+    for m, at in matches(r"^(?:pub )?enum (\w+) \{\n(.*?)^\}"):
+        yield at + "%s {%s}" % (m.group(1), ", ".join(re.findall(r"^    (\w+)", m.group(2), re.M)))
 
 
 def flags():
-    # fields that say whether the other fields mean anything
-    for path, text in sources():
-        for m in re.finditer(r"^ +(?:pub )?(full|refusal|set): (?:bool|u32),", text, re.M):
-            yield "%s:%d %s" % (path, text.count("\n", 0, m.start()) + 1, m.group(1))
+    # fields and parameters that say whether the others mean anything
+    for m, at in matches(r"^ +(?:pub )?(full|refusal|set): (?:bool|u32),"):
+        yield at + m.group(1)
 
 
 def sentinels():
@@ -91,15 +95,13 @@ def sentinels():
 
 def codes():
     # numbers for kinds, refusals, sections and steps
-    for path, text in sources():
-        for m in re.finditer(r"^(?:pub )?const ([A-Z_0-9]+): (?:u8|u16|u32|usize) = [^;]+;", text, re.M):
-            yield "%s:%d %s" % (path, text.count("\n", 0, m.start()) + 1, m.group(1))
+    for m, at in matches(r"^(?:pub )?const ([A-Z_0-9]+): (?:u8|u16|u32|usize) = [^;]+;"):
+        yield at + m.group(1)
 
 
 def loops():
-    for path, text in sources():
-        for m in re.finditer(r"^ *(while .*|loop) \{", text, re.M):
-            yield "%s:%d %s" % (path, text.count("\n", 0, m.start()) + 1, m.group(1))
+    for m, at in matches(r"^ *(while [^\n]*|loop) \{"):
+        yield at + m.group(1)
 
 
 def casts():
@@ -114,10 +116,8 @@ def casts():
 
 
 def cast_calls():
-    for path, text in sources():
-        for m in re.finditer(r"(?<![\w.])(?:base_words::)?(wide|slot|place|shown|far|short|narrow|byte|mapped|class_word)\(\w", text):
-            if not re.search(r"fn $", text[max(0, m.start() - 3) : m.start()]):
-                yield "%s:%d %s" % (path, text.count("\n", 0, m.start()) + 1, m.group(1))
+    for m, at in matches(r"(?<![\w.])(?<!fn )(?:base_words::)?(wide|slot|place|shown|far|short|narrow|byte|mapped|class_word)\(\w"):
+        yield at + m.group(1)
 
 
 def ladders():
@@ -208,7 +208,7 @@ POINTS = [
 ]
 
 for name, find in POINTS:
-    if os_args and not any(name.startswith(a) or name.endswith(a) for a in os_args):
+    if WANTED and not any(name.startswith(a) or name.endswith(a) for a in WANTED):
         continue
     found = list(find())
     print("%-16s %d" % (name, len(found)))
