@@ -6,11 +6,12 @@ ghost use Rattle.std.specs.Prelude.{◌≡◌, ◌+◌, ◌*◌, ◌^◌, ◌≤
 ghost use Rattle.model.specs.Module.{count_at, offset_at};
 ghost use Rattle.model.specs.View.{record_at, record_end};
 ghost use Rattle.model.specs.FunctionView.{entry_head_words, arguments_at, argument_at, returns_at, locals_at, local_at, expressions_at};
+ghost use Rattle.model.specs.Between.{Long};
 ghost use Rattle.model.specs.Taped.{Tape};
 ghost use Rattle.base_views.specs.Functions.{Standing, Named, Body};
 
 use base_classes::NAMED;
-use base_words::{Tags, Words, wide};
+use base_words::{Tags, Words};
 
 // The header: section k has its count at the word COUNTS + 2 k, and its offset at the word OFFSETS + 2 k.
 pub const COUNTS: usize = 2;
@@ -41,12 +42,21 @@ pub const SPECIAL: usize = 8;
 // The words in front of an entry point's function.
 pub const ENTRY_HEAD: usize = 7;
 
+// A module that is laid out: words, the class of each, and how many of them are the module's.
+#[derive(Clone, Copy)]
+pub struct Image<'a> {
+    pub words: &'a Words,
+    pub tags: &'a Tags,
+    pub n: usize,
+    pub ghost long: { Long words.now tags.now },
+}
+
 // How many records section k has.
 pub fn count(words: &Words, k: usize) -> usize
     requires { k < 9 }
     ensures { (result ≡ count_at k words.now) × (result < 2 ^ 32) }
 {
-    wide(words[COUNTS + 2 * k])
+    words[COUNTS + 2 * k] as usize
 }
 
 // Where section k starts.
@@ -54,7 +64,7 @@ pub fn offset(words: &Words, k: usize) -> usize
     requires { k < 9 }
     ensures { (result ≡ offset_at k words.now) × (result < 2 ^ 32) }
 {
-    wide(words[OFFSETS + 2 * k])
+    words[OFFSETS + 2 * k] as usize
 }
 
 // Where record j of section k starts: at its offset from the start of the section, which is one of the words.
@@ -63,7 +73,7 @@ pub fn start_of(words: &Words, k: usize, j: usize) -> usize
     ensures { (result ≡ record_at k j words.now) × (result < 2 ^ 33) }
 {
     let at = offset(words, k);
-    at + wide(words[at + j])
+    at + words[at + j] as usize
 }
 
 // Where it ends: where the next one starts, or where the section ends.
@@ -77,41 +87,12 @@ pub fn end_of(words: &Words, k: usize, j: usize) -> usize
     start_of(words, k, j + 1)
 }
 
-// Where record j of section k starts, of words and tags that hold a module.
-pub fn record_at(words: &Words, tags: &Tags, n: usize, k: usize, j: usize) -> usize
-    requires tape { Tape words.now tags.now n }
-    requires k_bound { k < 8 }
-    requires j_bound { j < count_at k words.now }
-    ensures { result ≡ record_at k j words.now }
-{
-    start_of(words, k, j)
-}
-
-// Where it ends.
-pub fn record_end(words: &Words, tags: &Tags, n: usize, k: usize, j: usize) -> usize
-    requires tape { Tape words.now tags.now n }
-    requires k_bound { k < 8 }
-    requires j_bound { j < count_at k words.now }
-    ensures { result ≡ record_end k j words.now }
-{
-    end_of(words, k, j)
-}
-
 // Where pair j of the special types is, after the three optional types.
 pub fn pair_at(words: &Words, j: usize) -> usize
     requires { j < 2 ^ 32 }
     ensures { result ≡ offset_at 8 words.now + 3 + 2 * j }
 {
     offset(words, SPECIAL) + 3 + 2 * j
-}
-
-// Where the function of entry point j starts.
-pub fn entry_function(words: &Words, tags: &Tags, n: usize, j: usize) -> usize
-    requires tape { Tape words.now tags.now n }
-    requires j_bound { j < count_at 7 words.now }
-    ensures { result ≡ record_at 7 j words.now + entry_head_words }
-{
-    start_of(words, ENTRIES, j) + ENTRY_HEAD
 }
 
 // The parts of a function that starts at s and whose expressions begin inside the words. Lists have their counts in front: arguments, locals,
@@ -128,7 +109,7 @@ pub fn arguments(words: &Words, s: usize) -> usize
     requires { expressions_at s words.now < 16384 }
     ensures { (result ≡ get_or words.now (arguments_at s) 0) × (result < 2 ^ 32) }
 {
-    wide(words[arguments_at(s)])
+    words[arguments_at(s)] as usize
 }
 
 // Argument i.
@@ -151,7 +132,7 @@ pub fn locals_at(words: &Words, s: usize) -> usize
     ensures { (result ≡ locals_at s words.now) × (result < 16384) }
 {
     let at = returns_at(words, s);
-    at + 1 + 7 * wide(words[at])
+    at + 1 + 7 * words[at] as usize
 }
 
 // Local i.
@@ -168,25 +149,57 @@ pub fn expressions_at(words: &Words, s: usize) -> usize
     ensures { (result ≡ expressions_at s words.now) × (result < 16384) }
 {
     let at = locals_at(words, s);
-    at + 1 + 5 * wide(words[at])
+    at + 1 + 5 * words[at] as usize
 }
 
-// Expressions have no fixed size: after the last one, the tags have the class of the count of named expressions.
-pub fn named_at(words: &Words, tags: &Tags, s: usize) -> usize
-    requires { Standing words.now tags.now s }
-    ensures { Named result words.now tags.now s }
-{
-    let mut i = expressions_at(words, s) + 1;
-    while tags[i] != NAMED {
-        i += 1;
+impl Image<'_> {
+    // Where record j of section k starts, of words and tags that hold a module.
+    pub fn record_at(self, k: usize, j: usize) -> usize
+        requires tape { Tape self.words.now self.tags.now self.n }
+        requires k_bound { k < 8 }
+        requires j_bound { j < count_at k self.words.now }
+        ensures { result ≡ record_at k j self.entry.words.now }
+    {
+        start_of(self.words, k, j)
     }
-    i
-}
 
-pub fn body_at(words: &Words, tags: &Tags, s: usize) -> usize
-    requires { Standing words.now tags.now s }
-    ensures { Body result words.now tags.now s }
-{
-    let at = named_at(words, tags, s);
-    at + 1 + 2 * wide(words[at])
+    // Where it ends.
+    pub fn record_end(self, k: usize, j: usize) -> usize
+        requires tape { Tape self.words.now self.tags.now self.n }
+        requires k_bound { k < 8 }
+        requires j_bound { j < count_at k self.words.now }
+        ensures { result ≡ record_end k j self.entry.words.now }
+    {
+        end_of(self.words, k, j)
+    }
+
+    // Where the function of entry point j starts.
+    pub fn entry_function(self, j: usize) -> usize
+        requires tape { Tape self.words.now self.tags.now self.n }
+        requires j_bound { j < count_at 7 self.words.now }
+        ensures { result ≡ record_at 7 j self.entry.words.now + entry_head_words }
+    {
+        start_of(self.words, ENTRIES, j) + ENTRY_HEAD
+    }
+
+    // Where the named expressions of the function at s start. Expressions have no fixed size: after the last one, the tags have the class of the count of named expressions.
+    pub fn named_at(self, s: usize) -> usize
+        requires { Standing self.words.now self.tags.now s }
+        ensures { Named result self.entry.words.now self.entry.tags.now s }
+    {
+        let mut i = expressions_at(self.words, s) + 1;
+        while self.tags[i] != NAMED {
+            i += 1;
+        }
+        i
+    }
+
+    // Where the body of that function starts.
+    pub fn body_at(self, s: usize) -> usize
+        requires { Standing self.words.now self.tags.now s }
+        ensures { Body result self.entry.words.now self.entry.tags.now s }
+    {
+        let at = self.named_at(s);
+        at + 1 + 2 * self.words[at] as usize
+    }
 }

@@ -11,13 +11,6 @@ pub type Words = [u32; 16384];
 // The class of each word, at its place.
 pub type Tags = [u8; 16384];
 
-// A word as a place.
-pub fn wide(x: u32) -> usize
-    ensures { (result ≡ x) × (result < 2 ^ 32) }
-{
-    x as usize
-}
-
 // The word of the four bytes from `at` on.
 pub fn word_at(bytes: &[u8], at: usize) -> u32
     requires { at + 4 ≤ length bytes.now }

@@ -15,30 +15,21 @@ ghost use Rattle.derive_state.specs.Refers.{target_bytes};
 ghost use Rattle.derive_state.specs.Held.{rec_at, recs_at, Readable};
 ghost use Rattle.derive_lookup.specs.Bearing.{Names, Went, Heads, Bearing, KnownEnsures};
 
-use base_views::{FUNCTIONS, NAMES, record_at, record_end};
-use base_words::{Tags, Words};
+use base_views::{FUNCTIONS, Image, NAMES};
 use derive_state::{Log, LogTags, Maps, Sizes, Starts, alike_cell};
 
 // Whether the record at s equals the source's words from `at` to `end`.
-fn equals_name(
-    words: &Words,
-    tags: &Tags,
-    log: &Log,
-    logtags: &LogTags,
-    at: usize,
-    end: usize,
-    s: usize,
-) -> bool
-    requires readable { Readable words.now tags.now target_bytes at end }
+fn equals_name(image: Image, log: &Log, logtags: &LogTags, at: usize, end: usize, s: usize) -> bool
+    requires readable { Readable image.words.now image.tags.now target_bytes at end }
     requires s_bound { (s + suc (get_or log.now s 0) ≤ 16384) × (length log.now ≡ 16384) × (length logtags.now ≡ 16384) }
-    ensures { result ≡ alikeOf (rec_at log.now logtags.now s) (between tags.now words.now at end) }
+    ensures { result ≡ alikeOf (rec_at log.now logtags.now s) (between image.entry.tags.now image.entry.words.now at end) }
 {
     if log[s] as usize != end - at {
         return false;
     }
     for j in at..end {
         let q = s + 1 + (j - at);
-        if !alike_cell(logtags[q], log[q], tags[j], words[j]) {
+        if !alike_cell(logtags[q], log[q], image.tags[j], image.words[j]) {
             return false;
         }
     }
@@ -47,8 +38,7 @@ fn equals_name(
 
 // The first of n names that equals the source's words from `at` to `end`; or n (a number, not an Option: `known` goes on with it as the number of a name).
 fn find_name(
-    words: &Words,
-    tags: &Tags,
+    image: Image,
     log: &Log,
     logtags: &LogTags,
     starts: &[u32; 512],
@@ -56,13 +46,13 @@ fn find_name(
     at: usize,
     end: usize,
 ) -> usize
-    requires readable { Readable words.now tags.now target_bytes at end }
+    requires readable { Readable image.words.now image.tags.now target_bytes at end }
     requires names { Names log.now logtags.now starts.now n }
-    ensures { (result ≡ index_of (recs_at log.now logtags.now (take n starts.now)) (between tags.now words.now at end)) × (result ≤ 512) }
+    ensures { (result ≡ index_of (recs_at log.now logtags.now (take n starts.now)) (between image.entry.tags.now image.entry.words.now at end)) × (result ≤ 512) }
 {
     for j in 0..n {
         let s = starts[j] as usize;
-        if equals_name(words, tags, log, logtags, at, end, s) {
+        if equals_name(image, log, logtags, at, end, s) {
             return j;
         }
     }
@@ -71,8 +61,7 @@ fn find_name(
 
 // Whether name m - 1 equals the source's words from `at` to `end`.
 fn is_mapped_name(
-    words: &Words,
-    tags: &Tags,
+    image: Image,
     log: &Log,
     logtags: &LogTags,
     starts: &[u32; 512],
@@ -81,17 +70,16 @@ fn is_mapped_name(
     at: usize,
     end: usize,
 ) -> bool
-    requires readable { Readable words.now tags.now target_bytes at end }
+    requires readable { Readable image.words.now image.tags.now target_bytes at end }
     requires names { Names log.now logtags.now starts.now n }
-    ensures { result ≡ true → Went log.now logtags.now starts.now n (between tags.now words.now at end) m }
+    ensures { result ≡ true → Went log.now logtags.now starts.now n (between image.entry.tags.now image.entry.words.now at end) m }
 {
-    m != 0 && m <= n && equals_name(words, tags, log, logtags, at, end, starts[m - 1] as usize)
+    m != 0 && m <= n && equals_name(image, log, logtags, at, end, starts[m - 1] as usize)
 }
 
 // The same as `find_name`, but name m - 1 is tried first.
 fn find_name_from(
-    words: &Words,
-    tags: &Tags,
+    image: Image,
     log: &Log,
     logtags: &LogTags,
     starts: &[u32; 512],
@@ -100,14 +88,14 @@ fn find_name_from(
     at: usize,
     end: usize,
 ) -> usize
-    requires readable { Readable words.now tags.now target_bytes at end }
+    requires readable { Readable image.words.now image.tags.now target_bytes at end }
     requires names { Names log.now logtags.now starts.now n }
-    ensures { (result ≡ index_of (recs_at log.now logtags.now (take n starts.now)) (between tags.now words.now at end)) × (result ≤ 512) }
+    ensures { (result ≡ index_of (recs_at log.now logtags.now (take n starts.now)) (between image.entry.tags.now image.entry.words.now at end)) × (result ≤ 512) }
 {
-    if is_mapped_name(words, tags, log, logtags, starts, n, m, at, end) {
+    if is_mapped_name(image, log, logtags, starts, n, m, at, end) {
         return m - 1;
     }
-    find_name(words, tags, log, logtags, starts, n, at, end)
+    find_name(image, log, logtags, starts, n, at, end)
 }
 
 // The last of n functions whose first word is w: its number plus 1, or 0 (a number, not an Option: it is what `known` says).
@@ -126,9 +114,7 @@ fn last(log: &Log, logtags: &LogTags, starts: &[u32; 512], n: usize, w: u32) -> 
 
 // The last derived function that has the name of the source's function f: its number plus 1, or 0.
 pub fn known(
-    words: &Words,
-    tags: &Tags,
-    n: usize,
+    image: Image,
     log: &Log,
     logtags: &LogTags,
     starts: &Starts,
@@ -136,19 +122,19 @@ pub fn known(
     ends: Sizes,
     f: usize,
 ) -> u32
-    requires source { Source words.now tags.now n }
-    requires n_value { named (mod_of words.now n) ≡ true }
-    requires f_bound { f < count_at 6 words.now }
+    requires source { Source image.words.now image.tags.now image.n }
+    requires n_value { named (mod_of image.words.now image.n) ≡ true }
+    requires f_bound { f < count_at 6 image.words.now }
     requires bearing { Bearing log.now logtags.now starts.now ends }
-    ensures { KnownEnsures words.now n log.now logtags.now starts.now ends f result }
+    ensures { KnownEnsures image.entry.words.now image.entry.n log.now logtags.now starts.now ends f result }
 {
-    let s = record_at(words, tags, n, FUNCTIONS, f);
-    let k = words[s] as usize - 1;
-    let at = record_at(words, tags, n, NAMES, k);
-    let end = record_end(words, tags, n, NAMES, k);
+    let s = image.record_at(FUNCTIONS, f);
+    let k = image.words[s] as usize - 1;
+    let at = image.record_at(NAMES, k);
+    let end = image.record_end(NAMES, k);
     let names = ends.counts[NAMES] as usize;
     let functions = ends.counts[FUNCTIONS] as usize;
     let m = maps[NAMES][k] as usize;
-    let d = find_name_from(words, tags, log, logtags, &starts[NAMES], names, m, at, end);
+    let d = find_name_from(image, log, logtags, &starts[NAMES], names, m, at, end);
     last(log, logtags, &starts[FUNCTIONS], functions, (d + 1) as u32)
 }

@@ -18,8 +18,7 @@ ghost use Rattle.derive_lookup.specs.Bearing.{Bearing};
 ghost use Rattle.derive_rings.specs.Rings.{unknown_by, Unknowns, Stuck, RingsEnsures, Scannable};
 
 use base_classes::CALLEE;
-use base_views::{ENTRIES, FUNCTIONS, count, entry_function, record_at, record_end};
-use base_words::{Tags, Words};
+use base_views::{ENTRIES, FUNCTIONS, Image, count};
 use derive_lookup::known;
 use derive_state::{Log, LogTags, Maps, Sizes, Starts};
 use order_callees::gather_requirements;
@@ -27,9 +26,7 @@ use order_ranks::{FunctionSet, clear, left};
 
 // Those of a set whose names are unknown.
 fn unknown(
-    words: &Words,
-    tags: &Tags,
-    n: usize,
+    image: Image,
     log: &Log,
     logtags: &LogTags,
     starts: &Starts,
@@ -37,18 +34,18 @@ fn unknown(
     ends: Sizes,
     began: FunctionSet,
 ) -> FunctionSet
-    requires source { Source words.now tags.now n }
-    requires n_value { named (mod_of words.now n) ≡ true }
+    requires source { Source image.words.now image.tags.now image.n }
+    requires n_value { named (mod_of image.words.now image.n) ≡ true }
     requires bearing { Bearing log.now logtags.now starts.now ends }
-    requires began_len { Below (count_at 6 words.now) began.0 }
-    ensures { Unknowns words.now n log.now logtags.now starts.now ends began.0 result.0 }
+    requires began_len { Below (count_at 6 image.words.now) began.0 }
+    ensures { Unknowns image.entry.words.now image.entry.n log.now logtags.now starts.now ends began.0 result.0 }
 {
-    let functions = count(words, FUNCTIONS);
+    let functions = count(image.words, FUNCTIONS);
     let mut set = began;
     for f in 0..functions {
         // kept: as one condition its proof's names hold the 0, and the must-fail edit is then refused for a name alone
         if began.has(f) {
-            let is_known = known(words, tags, n, log, logtags, starts, maps, ends, f) != 0;
+            let is_known = known(image, log, logtags, starts, maps, ends, f) != 0;
             if is_known {
                 set.leave(f);
             }
@@ -59,9 +56,7 @@ fn unknown(
 
 // The functions of unknown name from which calls lead, through such functions, to a ring.
 pub fn unknown_in_ring(
-    words: &Words,
-    tags: &Tags,
-    n: usize,
+    image: Image,
     log: &Log,
     logtags: &LogTags,
     starts: &Starts,
@@ -69,26 +64,26 @@ pub fn unknown_in_ring(
     ends: Sizes,
     callees: &[FunctionSet; 256],
 ) -> FunctionSet
-    requires source { Source words.now tags.now n }
-    requires n_value { named (mod_of words.now n) ≡ true }
+    requires source { Source image.words.now image.tags.now image.n }
+    requires n_value { named (mod_of image.words.now image.n) ≡ true }
     requires bearing { Bearing log.now logtags.now starts.now ends }
-    requires gathered { Gathered words.now tags.now n callees.now }
-    ensures { Stuck words.now n log.now logtags.now starts.now ends result.0 }
+    requires gathered { Gathered image.words.now image.tags.now image.n callees.now }
+    ensures { Stuck image.entry.words.now image.entry.n log.now logtags.now starts.now ends result.0 }
 {
-    let functions = count(words, FUNCTIONS);
+    let functions = count(image.words, FUNCTIONS);
     let all = FunctionSet::first(functions);
     let led = left(callees, functions, all);
-    let waiting = unknown(words, tags, n, log, logtags, starts, maps, ends, led);
+    let waiting = unknown(image, log, logtags, starts, maps, ends, led);
     left(callees, functions, waiting)
 }
 
 // Whether the words from `at` to `end` call one of a set.
-fn calls_one(words: &Words, tags: &Tags, at: usize, end: usize, set: &FunctionSet) -> bool
-    requires { Scannable words.now tags.now at end 256 }
-    ensures { result ≡ any (picked words.now tags.now at end) (λ i. any (members set.now.0) (eqb i)) }
+fn calls_one(image: Image, at: usize, end: usize, set: &FunctionSet) -> bool
+    requires { Scannable image.words.now image.tags.now at end 256 }
+    ensures { result ≡ any (picked image.entry.words.now image.entry.tags.now at end) (λ i. any (members set.now.0) (eqb i)) }
 {
     for k in at..end {
-        if tags[k] == CALLEE && set.has(words[k] as usize) {
+        if image.tags[k] == CALLEE && set.has(image.words[k] as usize) {
             return true;
         }
     }
@@ -96,15 +91,15 @@ fn calls_one(words: &Words, tags: &Tags, at: usize, end: usize, set: &FunctionSe
 }
 
 // Whether the function of an entry point calls one of a set.
-fn entries_call(words: &Words, tags: &Tags, n: usize, set: &FunctionSet) -> bool
-    requires { Source words.now tags.now n }
-    ensures { result ≡ any (calleesOfAll (mod_of words.now n).entries) (λ i. any (members set.now.0) (eqb i)) }
+fn entries_call(image: Image, set: &FunctionSet) -> bool
+    requires { Source image.words.now image.tags.now image.n }
+    ensures { result ≡ any (calleesOfAll (mod_of image.entry.words.now image.entry.n).entries) (λ i. any (members set.now.0) (eqb i)) }
 {
-    let entries = count(words, ENTRIES);
+    let entries = count(image.words, ENTRIES);
     for e in 0..entries {
-        let at = entry_function(words, tags, n, e);
-        let end = record_end(words, tags, n, ENTRIES, e);
-        if calls_one(words, tags, at, end, set) {
+        let at = image.entry_function(e);
+        let end = image.record_end(ENTRIES, e);
+        if calls_one(image, at, end, set) {
             return true;
         }
     }
@@ -113,9 +108,7 @@ fn entries_call(words: &Words, tags: &Tags, n: usize, set: &FunctionSet) -> bool
 
 // Whether the words from `at` to `end` call a function of unknown name.
 fn calls_unknown(
-    words: &Words,
-    tags: &Tags,
-    n: usize,
+    image: Image,
     log: &Log,
     logtags: &LogTags,
     starts: &Starts,
@@ -124,16 +117,16 @@ fn calls_unknown(
     at: usize,
     end: usize,
 ) -> bool
-    requires source { Source words.now tags.now n }
-    requires n_value { named (mod_of words.now n) ≡ true }
+    requires source { Source image.words.now image.tags.now image.n }
+    requires n_value { named (mod_of image.words.now image.n) ≡ true }
     requires bearing { Bearing log.now logtags.now starts.now ends }
-    requires scannable { Scannable words.now tags.now at end (count_at 6 words.now) }
-    ensures { result ≡ any (picked words.now tags.now at end) (unknown_by words.now n log.now logtags.now starts.now ends) }
+    requires scannable { Scannable image.words.now image.tags.now at end (count_at 6 image.words.now) }
+    ensures { result ≡ any (picked image.entry.words.now image.entry.tags.now at end) (unknown_by image.entry.words.now image.entry.n log.now logtags.now starts.now ends) }
 {
     for k in at..end {
-        if tags[k] == CALLEE {
-            let f = words[k] as usize;
-            if known(words, tags, n, log, logtags, starts, maps, ends, f) == 0 {
+        if image.tags[k] == CALLEE {
+            let f = image.words[k] as usize;
+            if known(image, log, logtags, starts, maps, ends, f) == 0 {
                 return true;
             }
         }
@@ -143,9 +136,7 @@ fn calls_unknown(
 
 // Whether function f calls one of unknown name: where not, neither it nor one that it calls is stuck.
 fn calls_unknown_name(
-    words: &Words,
-    tags: &Tags,
-    n: usize,
+    image: Image,
     log: &Log,
     logtags: &LogTags,
     starts: &Starts,
@@ -153,22 +144,20 @@ fn calls_unknown_name(
     ends: Sizes,
     f: usize,
 ) -> bool
-    requires source { Source words.now tags.now n }
-    requires n_value { named (mod_of words.now n) ≡ true }
+    requires source { Source image.words.now image.tags.now image.n }
+    requires n_value { named (mod_of image.words.now image.n) ≡ true }
     requires bearing { Bearing log.now logtags.now starts.now ends }
-    requires f_bound { f < count_at 6 words.now }
-    ensures { result ≡ any (callees_of (function (mod_of words.now n) f)) (unknown_by words.now n log.now logtags.now starts.now ends) }
+    requires f_bound { f < count_at 6 image.words.now }
+    ensures { result ≡ any (callees_of (function (mod_of image.entry.words.now image.entry.n) f)) (unknown_by image.entry.words.now image.entry.n log.now logtags.now starts.now ends) }
 {
-    let at = record_at(words, tags, n, FUNCTIONS, f);
-    let end = record_end(words, tags, n, FUNCTIONS, f);
-    calls_unknown(words, tags, n, log, logtags, starts, maps, ends, at, end)
+    let at = image.record_at(FUNCTIONS, f);
+    let end = image.record_end(FUNCTIONS, f);
+    calls_unknown(image, log, logtags, starts, maps, ends, at, end)
 }
 
 // Refusal 22 of import_function: function f, or one that it calls, is stuck.
 pub fn import_rings(
-    words: &Words,
-    tags: &Tags,
-    n: usize,
+    image: Image,
     log: &Log,
     logtags: &LogTags,
     starts: &Starts,
@@ -176,26 +165,24 @@ pub fn import_rings(
     ends: Sizes,
     f: usize,
 ) -> bool
-    requires source { Source words.now tags.now n }
-    requires n_value { named (mod_of words.now n) ≡ true }
+    requires source { Source image.words.now image.tags.now image.n }
+    requires n_value { named (mod_of image.words.now image.n) ≡ true }
     requires bearing { Bearing log.now logtags.now starts.now ends }
-    requires f_bound { f < count_at 6 words.now }
-    ensures { RingsEnsures (f ∷ callees_of (function (mod_of words.now n) f)) words.now n log.now logtags.now starts.now ends result }
+    requires f_bound { f < count_at 6 image.words.now }
+    ensures { RingsEnsures (f ∷ callees_of (function (mod_of image.entry.words.now image.entry.n) f)) image.entry.words.now image.entry.n log.now logtags.now starts.now ends result }
 {
-    if !calls_unknown_name(words, tags, n, log, logtags, starts, maps, ends, f) {
+    if !calls_unknown_name(image, log, logtags, starts, maps, ends, f) {
         return false;
     }
     let mut callees = clear();
-    gather_requirements(words, tags, n, &mut callees);
-    let set = unknown_in_ring(words, tags, n, log, logtags, starts, maps, ends, &callees);
+    gather_requirements(image, &mut callees);
+    let set = unknown_in_ring(image, log, logtags, starts, maps, ends, &callees);
     set.has(f) || callees[f].meets(&set)
 }
 
 // Refusal 22 of map_function_handle: function f is stuck.
 pub fn follow_rings(
-    words: &Words,
-    tags: &Tags,
-    n: usize,
+    image: Image,
     log: &Log,
     logtags: &LogTags,
     starts: &Starts,
@@ -203,44 +190,42 @@ pub fn follow_rings(
     ends: Sizes,
     f: usize,
 ) -> bool
-    requires source { Source words.now tags.now n }
-    requires n_value { named (mod_of words.now n) ≡ true }
+    requires source { Source image.words.now image.tags.now image.n }
+    requires n_value { named (mod_of image.words.now image.n) ≡ true }
     requires bearing { Bearing log.now logtags.now starts.now ends }
-    requires f_bound { f < count_at 6 words.now }
-    ensures { RingsEnsures (f ∷ []) words.now n log.now logtags.now starts.now ends result }
+    requires f_bound { f < count_at 6 image.words.now }
+    ensures { RingsEnsures (f ∷ []) image.entry.words.now image.entry.n log.now logtags.now starts.now ends result }
 {
-    if known(words, tags, n, log, logtags, starts, maps, ends, f) != 0
-        || !calls_unknown_name(words, tags, n, log, logtags, starts, maps, ends, f)
+    if known(image, log, logtags, starts, maps, ends, f) != 0
+        || !calls_unknown_name(image, log, logtags, starts, maps, ends, f)
     {
         return false;
     }
     let mut callees = clear();
-    gather_requirements(words, tags, n, &mut callees);
-    let set = unknown_in_ring(words, tags, n, log, logtags, starts, maps, ends, &callees);
+    gather_requirements(image, &mut callees);
+    let set = unknown_in_ring(image, log, logtags, starts, maps, ends, &callees);
     set.has(f)
 }
 
 // Whether the function of an entry point calls one of unknown name.
 fn entries_lead(
-    words: &Words,
-    tags: &Tags,
-    n: usize,
+    image: Image,
     log: &Log,
     logtags: &LogTags,
     starts: &Starts,
     maps: &Maps,
     ends: Sizes,
 ) -> bool
-    requires source { Source words.now tags.now n }
-    requires n_value { named (mod_of words.now n) ≡ true }
+    requires source { Source image.words.now image.tags.now image.n }
+    requires n_value { named (mod_of image.words.now image.n) ≡ true }
     requires bearing { Bearing log.now logtags.now starts.now ends }
-    ensures { result ≡ any (calleesOfAll (mod_of words.now n).entries) (unknown_by words.now n log.now logtags.now starts.now ends) }
+    ensures { result ≡ any (calleesOfAll (mod_of image.entry.words.now image.entry.n).entries) (unknown_by image.entry.words.now image.entry.n log.now logtags.now starts.now ends) }
 {
-    let entries = count(words, ENTRIES);
+    let entries = count(image.words, ENTRIES);
     for e in 0..entries {
-        let at = entry_function(words, tags, n, e);
-        let end = record_end(words, tags, n, ENTRIES, e);
-        if calls_unknown(words, tags, n, log, logtags, starts, maps, ends, at, end) {
+        let at = image.entry_function(e);
+        let end = image.record_end(ENTRIES, e);
+        if calls_unknown(image, log, logtags, starts, maps, ends, at, end) {
             return true;
         }
     }
@@ -249,25 +234,23 @@ fn entries_lead(
 
 // Refusal 22 of finishing with entry points: a function that one of them calls is stuck.
 pub fn entries_ring(
-    words: &Words,
-    tags: &Tags,
-    n: usize,
+    image: Image,
     log: &Log,
     logtags: &LogTags,
     starts: &Starts,
     maps: &Maps,
     ends: Sizes,
 ) -> bool
-    requires source { Source words.now tags.now n }
-    requires n_value { named (mod_of words.now n) ≡ true }
+    requires source { Source image.words.now image.tags.now image.n }
+    requires n_value { named (mod_of image.words.now image.n) ≡ true }
     requires bearing { Bearing log.now logtags.now starts.now ends }
-    ensures { RingsEnsures (calleesOfAll (mod_of words.now n).entries) words.now n log.now logtags.now starts.now ends result }
+    ensures { RingsEnsures (calleesOfAll (mod_of image.entry.words.now image.entry.n).entries) image.entry.words.now image.entry.n log.now logtags.now starts.now ends result }
 {
-    if !entries_lead(words, tags, n, log, logtags, starts, maps, ends) {
+    if !entries_lead(image, log, logtags, starts, maps, ends) {
         return false;
     }
     let mut callees = clear();
-    gather_requirements(words, tags, n, &mut callees);
-    let set = unknown_in_ring(words, tags, n, log, logtags, starts, maps, ends, &callees);
-    entries_call(words, tags, n, &set)
+    gather_requirements(image, &mut callees);
+    let set = unknown_in_ring(image, log, logtags, starts, maps, ends, &callees);
+    entries_call(image, &set)
 }

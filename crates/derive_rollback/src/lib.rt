@@ -5,15 +5,15 @@ ghost use Rattle.std.specs.Prelude.{◌≡◌, false, ◌<◌};
 ghost use Rattle.model.specs.Module.{count_at};
 ghost use Rattle.model.specs.Tables.{types};
 ghost use Rattle.model.specs.Imports.{import_t, renamed};
-ghost use Rattle.derive_state.specs.Refers.{target_bytes, tab_of};
+ghost use Rattle.derive_state.specs.Refers.{tab_of};
 ghost use Rattle.derive_state.specs.Source.{src_of, Source};
 ghost use Rattle.derive_state.specs.Held.{ValidArrays, ImportOrUndoEnsures};
 ghost use Rattle.derive_rollback.specs.Answered.{MappedToEnsures};
 
 use base_handles::TypeHandle;
-use base_words::{Tags, Words};
+use base_views::Image;
 use derive_snapshot::{restore, save};
-use derive_state::{Buckets, Log, LogTags, Maps, Sizes, Starts, Targets};
+use derive_state::{Buckets, Log, LogTags, Maps, Sizes, Starts};
 
 // The derived number that number h of table t is mapped to.
 pub fn mapped_to(maps: &Maps, t: usize, h: u32) -> u32
@@ -25,10 +25,7 @@ pub fn mapped_to(maps: &Maps, t: usize, h: u32) -> u32
 
 // Imports a record of a table.
 pub fn import(
-    words: &Words,
-    tags: &Tags,
-    targets: &Targets,
-    n: usize,
+    image: Image,
     log: &mut Log,
     logtags: &mut LogTags,
     starts: &mut Starts,
@@ -39,17 +36,16 @@ pub fn import(
     table: usize,
     number: u32,
 ) -> Sizes
-    requires source { Source words.now tags.now n }
-    requires number_bound { (table < 6) × (number < count_at table words.now) × (ends.full ≡ false) }
-    requires targets_value { targets.now ≡ target_bytes }
+    requires source { Source image.words.now image.tags.now image.n }
+    requires number_bound { (table < 6) × (number < count_at table image.words.now) × (ends.full ≡ false) }
     requires valid_arrays { ValidArrays log.old logtags.old starts.old maps.old buckets.old ends }
-    ensures { ImportOrUndoEnsures words.now (import_t offset (src_of words.now n) (tab_of table) number) log.old logtags.old starts.old maps.old ends result log.new logtags.new starts.new maps.new buckets.new }
+    ensures { ImportOrUndoEnsures image.entry.words.now (import_t offset (src_of image.entry.words.now image.entry.n) (tab_of table) number) log.old logtags.old starts.old maps.old ends result log.new logtags.new starts.new maps.new buckets.new }
 {
     let mut s = [[0u32; 512]; 8];
     let mut m = [[0u32; 512]; 6];
-    save(words, starts, maps, ends, &mut s, &mut m);
+    save(image.words, starts, maps, ends, &mut s, &mut m);
     let got = derive_imports::import(
-        words, tags, targets, n, log, logtags, starts, maps, buckets, ends, offset, table, number,
+        image, log, logtags, starts, maps, buckets, ends, offset, table, number,
     );
     restore(starts, maps, &s, &m, got.full);
     got
@@ -57,10 +53,7 @@ pub fn import(
 
 // Imports type h under the name with the given number.
 pub fn rename_type(
-    words: &Words,
-    tags: &Tags,
-    targets: &Targets,
-    n: usize,
+    image: Image,
     log: &mut Log,
     logtags: &mut LogTags,
     starts: &mut Starts,
@@ -71,17 +64,16 @@ pub fn rename_type(
     h: TypeHandle,
     name: u32,
 ) -> Sizes
-    requires source { Source words.now tags.now n }
-    requires h_bound { (h.0 < count_at 1 words.now) × (name < count_at 0 words.now) × (ends.full ≡ false) }
-    requires targets_value { targets.now ≡ target_bytes }
+    requires source { Source image.words.now image.tags.now image.n }
+    requires h_bound { (h.0 < count_at 1 image.words.now) × (name < count_at 0 image.words.now) × (ends.full ≡ false) }
     requires valid_arrays { ValidArrays log.old logtags.old starts.old maps.old buckets.old ends }
-    ensures { ImportOrUndoEnsures words.now (import_t offset (renamed (src_of words.now n) h.0 name) types h.0) log.old logtags.old starts.old maps.old ends result log.new logtags.new starts.new maps.new buckets.new }
+    ensures { ImportOrUndoEnsures image.entry.words.now (import_t offset (renamed (src_of image.entry.words.now image.entry.n) h.0 name) types h.0) log.old logtags.old starts.old maps.old ends result log.new logtags.new starts.new maps.new buckets.new }
 {
     let mut s = [[0u32; 512]; 8];
     let mut m = [[0u32; 512]; 6];
-    save(words, starts, maps, ends, &mut s, &mut m);
+    save(image.words, starts, maps, ends, &mut s, &mut m);
     let got = derive_imports::rename_type(
-        words, tags, targets, n, log, logtags, starts, maps, buckets, ends, offset, h, name,
+        image, log, logtags, starts, maps, buckets, ends, offset, h, name,
     );
     restore(starts, maps, &s, &m, got.full);
     got

@@ -4,25 +4,20 @@
 
 ghost use Rattle.std.specs.Prelude.{◌≡◌, false, ◌+◌, ◌<◌, replicate};
 ghost use Rattle.model.specs.Special.{rays as raysOf, pairs as pairs_of};
-ghost use Rattle.derive_state.specs.Refers.{target_bytes};
 ghost use Rattle.derive_state.specs.Source.{mod_of, src_of, Source};
 ghost use Rattle.derive_state.specs.Held.{ValidArrays, Specials};
 ghost use Rattle.derive_special.specs.Derives.{SpecialEnsures};
 ghost use Rattle.derive_source.specs.SourceSet.{SourceTypesEnsures, SetSourceEnsures, Replaced};
 
 use base_handles::TypeHandle;
-use base_views::{SPECIAL, count, pair_at};
-use base_words::{Tags, Words};
+use base_views::{Image, SPECIAL, count, pair_at};
 use derive_snapshot::restore;
 use derive_special::{pair, ray};
-use derive_state::{Buckets, Log, LogTags, Maps, Sizes, Special, Starts, Targets, clear_maps};
+use derive_state::{Buckets, Log, LogTags, Maps, Sizes, Special, Starts, clear_maps};
 
 // Derives the three optional types.
 fn rays(
-    words: &Words,
-    tags: &Tags,
-    targets: &Targets,
-    n: usize,
+    image: Image,
     log: &mut Log,
     logtags: &mut LogTags,
     starts: &mut Starts,
@@ -32,21 +27,17 @@ fn rays(
     ends: Sizes,
     offset: u32,
 ) -> Sizes
-    requires source { Source words.now tags.now n }
+    requires source { Source image.words.now image.tags.now image.n }
     requires full_value { ends.full ≡ false }
-    requires targets_value { targets.now ≡ target_bytes }
     requires valid_arrays { ValidArrays log.old logtags.old starts.old maps.old buckets.old ends }
     requires specials { Specials special.old ends }
-    ensures { SpecialEnsures words.now (raysOf (mod_of words.now n).special.rays 0 offset (src_of words.now n)) log.old logtags.old starts.old maps.old buckets.old special.old ends result log.new logtags.new starts.new maps.new buckets.new special.new }
+    ensures { SpecialEnsures image.entry.words.now (raysOf (mod_of image.entry.words.now image.entry.n).special.rays 0 offset (src_of image.entry.words.now image.entry.n)) log.old logtags.old starts.old maps.old buckets.old special.old ends result log.new logtags.new starts.new maps.new buckets.new special.new }
 {
-    let at = base_views::offset(words, SPECIAL);
+    let at = base_views::offset(image.words, SPECIAL);
     let mut e = ends;
     for j in 0..3 {
         e = ray(
-            words,
-            tags,
-            targets,
-            n,
+            image,
             log,
             logtags,
             starts,
@@ -56,7 +47,7 @@ fn rays(
             e,
             offset,
             j,
-            words[at + j],
+            image.words[at + j],
         );
         if e.full {
             return e;
@@ -67,10 +58,7 @@ fn rays(
 
 // Derives the pairs.
 fn pairs(
-    words: &Words,
-    tags: &Tags,
-    targets: &Targets,
-    n: usize,
+    image: Image,
     log: &mut Log,
     logtags: &mut LogTags,
     starts: &mut Starts,
@@ -80,22 +68,18 @@ fn pairs(
     ends: Sizes,
     offset: u32,
 ) -> Sizes
-    requires source { Source words.now tags.now n }
+    requires source { Source image.words.now image.tags.now image.n }
     requires full_value { ends.full ≡ false }
-    requires targets_value { targets.now ≡ target_bytes }
     requires valid_arrays { ValidArrays log.old logtags.old starts.old maps.old buckets.old ends }
     requires specials { Specials special.old ends }
-    ensures { SpecialEnsures words.now (pairs_of (mod_of words.now n).special.pairs offset (src_of words.now n)) log.old logtags.old starts.old maps.old buckets.old special.old ends result log.new logtags.new starts.new maps.new buckets.new special.new }
+    ensures { SpecialEnsures image.entry.words.now (pairs_of (mod_of image.entry.words.now image.entry.n).special.pairs offset (src_of image.entry.words.now image.entry.n)) log.old logtags.old starts.old maps.old buckets.old special.old ends result log.new logtags.new starts.new maps.new buckets.new special.new }
 {
-    let c = count(words, SPECIAL);
+    let c = count(image.words, SPECIAL);
     let mut e = ends;
     for i in 0..c {
-        let at = pair_at(words, i);
+        let at = pair_at(image.words, i);
         e = pair(
-            words,
-            tags,
-            targets,
-            n,
+            image,
             log,
             logtags,
             starts,
@@ -104,8 +88,8 @@ fn pairs(
             special,
             e,
             offset,
-            words[at],
-            TypeHandle(words[at + 1]),
+            image.words[at],
+            TypeHandle(image.words[at + 1]),
         );
         if e.full {
             return e;
@@ -116,10 +100,7 @@ fn pairs(
 
 // Sets a source. What `maps` holds before is cleared, so it may be anything: the requirement on the state leaves the maps out.
 pub fn source_types(
-    words: &Words,
-    tags: &Tags,
-    targets: &Targets,
-    n: usize,
+    image: Image,
     log: &mut Log,
     logtags: &mut LogTags,
     starts: &mut Starts,
@@ -129,22 +110,21 @@ pub fn source_types(
     ends: Sizes,
     offset: u32,
 ) -> Sizes
-    requires source { Source words.now tags.now n }
+    requires source { Source image.words.now image.tags.now image.n }
     requires full_value { ends.full ≡ false }
-    requires targets_value { targets.now ≡ target_bytes }
     requires valid_arrays { ValidArrays log.old logtags.old starts.old (replicate 6 (replicate 512 0)) buckets.old ends }
     requires specials { Specials special.old ends }
-    ensures { SourceTypesEnsures words.now n offset log.old logtags.old starts.old buckets.old special.old ends result log.new logtags.new starts.new maps.new buckets.new special.new }
+    ensures { SourceTypesEnsures image.entry.words.now image.entry.n offset log.old logtags.old starts.old buckets.old special.old ends result log.new logtags.new starts.new maps.new buckets.new special.new }
 {
     clear_maps(maps);
     let e = rays(
-        words, tags, targets, n, log, logtags, starts, maps, buckets, special, ends, offset,
+        image, log, logtags, starts, maps, buckets, special, ends, offset,
     );
     if e.full {
         return e;
     }
     pairs(
-        words, tags, targets, n, log, logtags, starts, maps, buckets, special, e, offset,
+        image, log, logtags, starts, maps, buckets, special, e, offset,
     )
 }
 
@@ -159,10 +139,7 @@ fn replace(special: &mut Special, copy: &[u32; 1027], full: bool)
 
 // Sets a source, or, where it does not fit, changes nothing.
 pub fn set_source(
-    words: &Words,
-    tags: &Tags,
-    targets: &Targets,
-    n: usize,
+    image: Image,
     log: &mut Log,
     logtags: &mut LogTags,
     starts: &mut Starts,
@@ -172,18 +149,17 @@ pub fn set_source(
     ends: Sizes,
     offset: u32,
 ) -> Sizes
-    requires source { Source words.now tags.now n }
+    requires source { Source image.words.now image.tags.now image.n }
     requires full_value { ends.full ≡ false }
-    requires targets_value { targets.now ≡ target_bytes }
     requires valid_arrays { ValidArrays log.old logtags.old starts.old maps.old buckets.old ends }
     requires specials { Specials special.old ends }
-    ensures { SetSourceEnsures words.now n offset log.old logtags.old starts.old maps.old special.old ends result log.new logtags.new starts.new maps.new buckets.new special.new }
+    ensures { SetSourceEnsures image.entry.words.now image.entry.n offset log.old logtags.old starts.old maps.old special.old ends result log.new logtags.new starts.new maps.new buckets.new special.new }
 {
     let s = *starts;
     let m = *maps;
     let p = *special;
     let got = source_types(
-        words, tags, targets, n, log, logtags, starts, maps, buckets, special, ends, offset,
+        image, log, logtags, starts, maps, buckets, special, ends, offset,
     );
     restore(starts, maps, &s, &m, got.full);
     replace(special, &p, got.full);

@@ -4,19 +4,15 @@
 ghost use Rattle.std.specs.Prelude.{MatchOption, ◌≡◌, false, ◌+◌, ◌≤◌, ◌<◌, length};
 ghost use Rattle.model.specs.Module.{count_at};
 ghost use Rattle.model.specs.Special.{ray as rayOf, keyed};
-ghost use Rattle.derive_state.specs.Refers.{target_bytes};
 ghost use Rattle.derive_state.specs.Flats.{pairs_at};
 ghost use Rattle.derive_state.specs.Source.{src_of, Source};
 ghost use Rattle.derive_state.specs.Held.{ValidArrays, Specials};
 ghost use Rattle.derive_special.specs.Derives.{pair_of, SpecialEnsures};
 
 use base_handles::TypeHandle;
-use base_views::TYPES;
-use base_words::{Tags, Words};
+use base_views::{Image, TYPES};
 use derive_imports::import;
-use derive_state::{
-    Buckets, Log, LogTags, Maps, Sizes, Special, Starts, Targets, mark_full, words_left,
-};
+use derive_state::{Buckets, Log, LogTags, Maps, Sizes, Special, Starts, mark_full, words_left};
 
 // The type derived for a key among n pairs.
 fn derived(special: &Special, n: usize, key: u32) -> Option<u32>
@@ -50,10 +46,7 @@ fn paired(e: Sizes) -> Sizes
 
 // Derives the source's optional type w, for place k of the three.
 pub fn ray(
-    words: &Words,
-    tags: &Tags,
-    targets: &Targets,
-    n: usize,
+    image: Image,
     log: &mut Log,
     logtags: &mut LogTags,
     starts: &mut Starts,
@@ -65,12 +58,11 @@ pub fn ray(
     k: usize,
     w: u32,
 ) -> Sizes
-    requires source { Source words.now tags.now n }
-    requires k_bound { (k < 3) × (w ≤ count_at 1 words.now) × (ends.full ≡ false) }
-    requires targets_value { targets.now ≡ target_bytes }
+    requires source { Source image.words.now image.tags.now image.n }
+    requires k_bound { (k < 3) × (w ≤ count_at 1 image.words.now) × (ends.full ≡ false) }
     requires valid_arrays { ValidArrays log.old logtags.old starts.old maps.old buckets.old ends }
     requires specials { Specials special.old ends }
-    ensures { SpecialEnsures words.now (rayOf w k offset (src_of words.now n)) log.old logtags.old starts.old maps.old buckets.old special.old ends result log.new logtags.new starts.new maps.new buckets.new special.new }
+    ensures { SpecialEnsures image.entry.words.now (rayOf w k offset (src_of image.entry.words.now image.entry.n)) log.old logtags.old starts.old maps.old buckets.old special.old ends result log.new logtags.new starts.new maps.new buckets.new special.new }
 {
     if w == 0 {
         return ends;
@@ -83,7 +75,7 @@ pub fn ray(
         return ends;
     }
     let got = import(
-        words, tags, targets, n, log, logtags, starts, maps, buckets, ends, offset, TYPES, h,
+        image, log, logtags, starts, maps, buckets, ends, offset, TYPES, h,
     );
     if got.full {
         return got;
@@ -94,10 +86,7 @@ pub fn ray(
 
 // Derives the source's type h, for a key.
 pub fn pair(
-    words: &Words,
-    tags: &Tags,
-    targets: &Targets,
-    n: usize,
+    image: Image,
     log: &mut Log,
     logtags: &mut LogTags,
     starts: &mut Starts,
@@ -109,12 +98,11 @@ pub fn pair(
     key: u32,
     h: TypeHandle,
 ) -> Sizes
-    requires source { Source words.now tags.now n }
-    requires h_bound { (h.0 < count_at 1 words.now) × (ends.full ≡ false) }
-    requires targets_value { targets.now ≡ target_bytes }
+    requires source { Source image.words.now image.tags.now image.n }
+    requires h_bound { (h.0 < count_at 1 image.words.now) × (ends.full ≡ false) }
     requires valid_arrays { ValidArrays log.old logtags.old starts.old maps.old buckets.old ends }
     requires specials { Specials special.old ends }
-    ensures { SpecialEnsures words.now (pair_of key h.0 offset (src_of words.now n)) log.old logtags.old starts.old maps.old buckets.old special.old ends result log.new logtags.new starts.new maps.new buckets.new special.new }
+    ensures { SpecialEnsures image.entry.words.now (pair_of key h.0 offset (src_of image.entry.words.now image.entry.n)) log.old logtags.old starts.old maps.old buckets.old special.old ends result log.new logtags.new starts.new maps.new buckets.new special.new }
 {
     let i = h.0 as usize;
     let found = derived(special, ends.pairs as usize, key);
@@ -123,7 +111,7 @@ pub fn pair(
         return ends;
     }
     let got = import(
-        words, tags, targets, n, log, logtags, starts, maps, buckets, ends, offset, TYPES, h.0,
+        image, log, logtags, starts, maps, buckets, ends, offset, TYPES, h.0,
     );
     if got.full {
         return got;

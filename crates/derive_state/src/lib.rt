@@ -11,12 +11,9 @@ ghost use Rattle.derive_state.specs.Marks.{MARKS, hash_r, place_r};
 ghost use Rattle.derive_state.specs.Held.{rec_at, Readable, Written, carried_by};
 
 use base_classes::{SPAN, UPTO};
-use base_words::{Tags, Words};
+use base_views::Image;
 use intake_distinct::mix;
 use std::num::wrapping_add_u32;
-
-// For each class what its words refer to.
-pub type Targets = [u8; 256];
 
 // The words of all derived records.
 pub type Log = [u32; 16384];
@@ -136,28 +133,23 @@ pub const OPTIONAL: usize = 8;
 pub const OPT_OWN: usize = OPTIONAL + OWN;
 
 // The target of each class.
-pub fn targets() -> [u8; 256]
-    ensures { result ≡ target_bytes }
-{
-    [
-        6, 6, 6, 6, 6, 6, 6, 6, 6, 6, 6, 6, 6, 6, 6, 6, 6, 6, 6, 6, 6, 6, 6, 6, 6, 6, 6, 6, 6, 6,
-        6, 6, 6, 6, 6, 6, 6, 6, 6, 6, 6, 6, 6, 6, 6, 6, 6, 6, 6, 6, 6, 6, 6, 6, 6, 6, 6, 6, 6, 6,
-        6, 6, 6, 6, 6, 6, 6, 6, 6, 6, 6, 6, 6, 6, 6, 6, 6, 6, 6, 6, 6, 6, 6, 8, 1, 9, 2, 3, 4, 5,
-        13, 7, 7, 5, 13, 6, 6, 6, 6, 5, 13, 5, 13, 6, 6, 6, 6, 6, 6, 6, 6, 6, 6, 6, 6, 6, 6, 6, 6,
-        6, 6, 6, 6, 6, 6, 6, 6, 6, 6, 6, 6, 6, 6, 6, 6, 6, 6, 6, 6, 6, 6, 6, 6, 6, 6, 6, 6, 6, 6,
-        6, 6, 6, 6, 6, 6, 6, 6, 6, 6, 6, 6, 6, 6, 6, 6, 6, 6, 6, 6, 6, 6, 6, 6, 6, 6, 6, 6, 6, 6,
-        6, 6, 6, 6, 6, 6, 6, 6, 6, 6, 6, 6, 6, 6, 6, 6, 6, 6, 6, 6, 6, 6, 6, 6, 6, 6, 6, 6, 6, 6,
-        6, 6, 6, 6, 6, 6, 6, 6, 6, 6, 6, 6, 6, 6, 6, 6, 6, 6, 6, 6, 6, 6, 6, 6, 6, 6, 6, 6, 6, 6,
-        6, 6, 6, 6, 6, 6, 6, 6, 6, 6, 6, 6, 6, 6, 6, 6, 6,
-    ]
-}
+const TARGETS: [u8; 256] = [
+    6, 6, 6, 6, 6, 6, 6, 6, 6, 6, 6, 6, 6, 6, 6, 6, 6, 6, 6, 6, 6, 6, 6, 6, 6, 6, 6, 6, 6, 6, 6, 6,
+    6, 6, 6, 6, 6, 6, 6, 6, 6, 6, 6, 6, 6, 6, 6, 6, 6, 6, 6, 6, 6, 6, 6, 6, 6, 6, 6, 6, 6, 6, 6, 6,
+    6, 6, 6, 6, 6, 6, 6, 6, 6, 6, 6, 6, 6, 6, 6, 6, 6, 6, 6, 8, 1, 9, 2, 3, 4, 5, 13, 7, 7, 5, 13,
+    6, 6, 6, 6, 5, 13, 5, 13, 6, 6, 6, 6, 6, 6, 6, 6, 6, 6, 6, 6, 6, 6, 6, 6, 6, 6, 6, 6, 6, 6, 6,
+    6, 6, 6, 6, 6, 6, 6, 6, 6, 6, 6, 6, 6, 6, 6, 6, 6, 6, 6, 6, 6, 6, 6, 6, 6, 6, 6, 6, 6, 6, 6, 6,
+    6, 6, 6, 6, 6, 6, 6, 6, 6, 6, 6, 6, 6, 6, 6, 6, 6, 6, 6, 6, 6, 6, 6, 6, 6, 6, 6, 6, 6, 6, 6, 6,
+    6, 6, 6, 6, 6, 6, 6, 6, 6, 6, 6, 6, 6, 6, 6, 6, 6, 6, 6, 6, 6, 6, 6, 6, 6, 6, 6, 6, 6, 6, 6, 6,
+    6, 6, 6, 6, 6, 6, 6, 6, 6, 6, 6, 6, 6, 6, 6, 6, 6, 6, 6, 6, 6, 6, 6, 6, 6, 6, 6, 6, 6, 6, 6, 6,
+    6, 6,
+];
 
 // The target of the class s.
-pub fn target_of(targets: &Targets, s: u8) -> usize
-    requires { targets.now ≡ target_bytes }
+pub fn target_of(s: u8) -> usize
     ensures { (result ≡ target_of (target s)) × (result < 14) }
 {
-    targets[s as usize] as usize
+    TARGETS[s as usize] as usize
 }
 
 // The number before v, or 0.
@@ -168,13 +160,12 @@ pub fn number_of(v: u32) -> u32
 }
 
 // A word carried through the maps.
-pub fn carried(targets: &Targets, maps: &Maps, s: u8, w: u32) -> u32
+pub fn carried(maps: &Maps, s: u8, w: u32) -> u32
     requires all { All Small (ref_of (target s) w []) }
     requires maps_len { length maps.now ≡ 6 }
-    requires targets_value { targets.now ≡ target_bytes }
     ensures { result ≡ through (went_r maps.now) s w }
 {
-    let u = target_of(targets, s);
+    let u = target_of(s);
     if u == NOTHING {
         return w;
     }
@@ -203,9 +194,7 @@ pub fn alike_cell(a: u8, x: u32, b: u8, y: u32) -> bool
 
 // Whether the record at s is what the source's words from `at` to `end` become, ignoring spans.
 pub fn alike(
-    words: &Words,
-    tags: &Tags,
-    targets: &Targets,
+    image: Image,
     log: &Log,
     logtags: &LogTags,
     maps: &Maps,
@@ -213,17 +202,17 @@ pub fn alike(
     end: usize,
     s: usize,
 ) -> bool
-    requires readable { Readable words.now tags.now targets.now at end }
+    requires readable { Readable image.words.now image.tags.now target_bytes at end }
     requires s_bound { (s + suc (slice_index log.now s) ≤ 16384) × (length log.now ≡ 16384) × (length logtags.now ≡ 16384) × (length maps.now ≡ 6) }
-    ensures { result ≡ alikeOf (rec_at log.now logtags.now s) (carried_by (went_r maps.now) tags.now words.now at end) }
+    ensures { result ≡ alikeOf (rec_at log.now logtags.now s) (carried_by (went_r maps.now) image.entry.tags.now image.entry.words.now at end) }
 {
     if log[s] as usize != end - at {
         return false;
     }
     for j in at..end {
         let q = s + 1 + (j - at);
-        let b = tags[j];
-        let y = carried(targets, maps, b, words[j]);
+        let b = image.tags[j];
+        let y = carried(maps, b, image.words[j]);
         if !alike_cell(logtags[q], log[q], b, y) {
             return false;
         }
@@ -239,59 +228,33 @@ fn bare_word(s: u8, w: u32) -> u32
 }
 
 // The hash of what the source's words become in table t.
-fn hash(
-    words: &Words,
-    tags: &Tags,
-    targets: &Targets,
-    maps: &Maps,
-    at: usize,
-    end: usize,
-    t: usize,
-) -> usize
-    requires readable { Readable words.now tags.now targets.now at end }
+fn hash(image: Image, maps: &Maps, at: usize, end: usize, t: usize) -> usize
+    requires readable { Readable image.words.now image.tags.now target_bytes at end }
     requires t_bound { (t < 8) × (length maps.now ≡ 6) }
-    ensures { result ≡ hash_r t (carried_by (went_r maps.now) tags.now words.now at end) }
+    ensures { result ≡ hash_r t (carried_by (went_r maps.now) image.entry.tags.now image.entry.words.now at end) }
 {
     let mut h = t;
     for j in at..end {
-        let s = tags[j];
-        h = mix(h, bare_word(s, carried(targets, maps, s, words[j])));
+        let s = image.tags[j];
+        h = mix(h, bare_word(s, carried(maps, s, image.words[j])));
     }
     h
 }
 
 // Its place among the buckets.
-pub fn bucket_of(
-    words: &Words,
-    tags: &Tags,
-    targets: &Targets,
-    maps: &Maps,
-    at: usize,
-    end: usize,
-    t: usize,
-) -> usize
-    requires readable { Readable words.now tags.now targets.now at end }
+pub fn bucket_of(image: Image, maps: &Maps, at: usize, end: usize, t: usize) -> usize
+    requires readable { Readable image.words.now image.tags.now target_bytes at end }
     requires t_bound { (t < 8) × (length maps.now ≡ 6) }
-    ensures { (result ≡ place_r t (carried_by (went_r maps.now) tags.now words.now at end)) × (result < MARKS) }
+    ensures { (result ≡ place_r t (carried_by (went_r maps.now) image.entry.tags.now image.entry.words.now at end)) × (result < MARKS) }
 {
-    hash(words, tags, targets, maps, at, end, t) % 16384
+    hash(image, maps, at, end, t) % 16384
 }
 
 // Whether the span last met is undefined, once the word w of the class s is read; the words from i on follow it.
-fn undefined_at(
-    words: &Words,
-    tags: &Tags,
-    targets: &Targets,
-    maps: &Maps,
-    s: u8,
-    w: u32,
-    i: usize,
-    end: usize,
-    u: bool,
-) -> bool
-    requires readable { Readable words.now tags.now targets.now i end }
+fn undefined_at(image: Image, maps: &Maps, s: u8, w: u32, i: usize, end: usize, u: bool) -> bool
+    requires readable { Readable image.words.now image.tags.now target_bytes i end }
     requires maps_len { length maps.now ≡ 6 }
-    ensures { result ≡ undefined_at (target s) w (first_word (carried_by (went_r maps.now) tags.now words.now i end)) u }
+    ensures { result ≡ undefined_at (target s) w (first_word (carried_by (went_r maps.now) image.entry.tags.now image.entry.words.now i end)) u }
 {
     if s != SPAN {
         return u;
@@ -300,7 +263,7 @@ fn undefined_at(
         return false;
     }
     if i < end {
-        return carried(targets, maps, tags[i], words[i]) == 0;
+        return carried(maps, image.tags[i], image.words[i]) == 0;
     }
     true
 }
@@ -317,9 +280,7 @@ pub fn moved(s: u8, w: u32, offset: u32, u: bool) -> u32
 
 // Writes what the source's words from `at` to `end` become to the log, from `to` on.
 pub fn write(
-    words: &Words,
-    tags: &Tags,
-    targets: &Targets,
+    image: Image,
     log: &mut Log,
     logtags: &mut LogTags,
     maps: &Maps,
@@ -328,16 +289,16 @@ pub fn write(
     to: usize,
     offset: u32,
 )
-    requires readable { Readable words.now tags.now targets.now at end }
+    requires readable { Readable image.words.now image.tags.now target_bytes at end }
     requires at_bound { (to + (end - at) ≤ 16384) × (length log.old ≡ 16384) × (length logtags.old ≡ 16384) × (length maps.now ≡ 6) }
-    ensures { Written (shift (carried_by (went_r maps.now) tags.now words.now at end) offset false) to log.old logtags.old log.new logtags.new }
+    ensures { Written (shift (carried_by (went_r maps.now) image.entry.tags.now image.entry.words.now at end) offset false) to log.old logtags.old log.new logtags.new }
 {
     let mut u = false;
     for j in at..end {
         let q = to + (j - at);
-        let s = tags[j];
-        let w = carried(targets, maps, s, words[j]);
-        u = undefined_at(words, tags, targets, maps, s, w, j + 1, end, u);
+        let s = image.tags[j];
+        let w = carried(maps, s, image.words[j]);
+        u = undefined_at(image, maps, s, w, j + 1, end, u);
         log[q] = moved(s, w, offset, u);
         logtags[q] = s;
     }

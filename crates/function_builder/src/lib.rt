@@ -22,11 +22,12 @@ ghost use Rattle.function_builder.specs.Stacks.{went_by, went_of, seats_of, made
 ghost use Rattle.function_builder.specs.Makes.{Lays, Wrote, Hops, Apart, Pushed};
 
 use base_classes::{EXPR, EXPR_KIND, NAMED, SPAN, UPTO};
-use base_words::{Tags, Words, wide};
+use base_views::Image;
+use base_words::Tags;
 use derive_lookup::known;
 use derive_state::{
     ExprMap, FUNCTION, Log, LogTags, Maps, NOTHING, OPT_OWN, OWN, Places, Sizes, StackRows, Starts,
-    Targets, mark_full, moved, number_of, target_of,
+    mark_full, moved, number_of, target_of,
 };
 
 // The rows of the stacks: words and classes of expressions, where each of them starts, and words of declarations, bodies and names.
@@ -37,12 +38,6 @@ pub const CLASSES: usize = 1;
 pub const SEATS: usize = 2;
 
 pub const BODY: usize = 3;
-
-pub fn slot(x: u16) -> usize
-    ensures { (result ≡ x) × (result < 65536) }
-{
-    x as usize
-}
 
 // Where each expression record starts, from `at` on, and where the last one ends: a record starts with its kind, and the last is followed by the number of named
 // expressions.
@@ -65,19 +60,18 @@ pub fn index(tags: &Tags, at: usize, end: usize, places: &mut Places)
 }
 
 // A word carried through the maps, of a class that names no function.
-pub fn by_maps(targets: &Targets, maps: &Maps, exprmap: &ExprMap, s: u8, w: u32) -> u32
-    requires targets_value { targets.now ≡ target_bytes }
+pub fn by_maps(maps: &Maps, exprmap: &ExprMap, s: u8, w: u32) -> u32
     requires maps_len { length maps.now ≡ 6 }
     requires fact { target_of (target s) ≡ 7 → ⊥ }
     requires by_index { (ws : List ℕ) × All (FitN ws 1024) (ref_of (target s) w []) }
     ensures { result ≡ through (went_by maps.now exprmap.now) s w }
 {
-    let u = target_of(targets, s);
+    let u = target_of(s);
     if u == NOTHING {
         return w;
     }
     if s < EXPR {
-        return derive_state::carried(targets, maps, s, w);
+        return derive_state::carried(maps, s, w);
     }
     if u == OWN {
         return number_of(exprmap[w as usize] as u32);
@@ -93,10 +87,7 @@ pub fn by_maps(targets: &Targets, maps: &Maps, exprmap: &ExprMap, s: u8, w: u32)
 
 // A word carried through the maps, or to the function of its name.
 pub fn carried(
-    words: &Words,
-    tags: &Tags,
-    targets: &Targets,
-    n: usize,
+    image: Image,
     log: &Log,
     logtags: &LogTags,
     starts: &Starts,
@@ -106,24 +97,21 @@ pub fn carried(
     s: u8,
     w: u32,
 ) -> u32
-    requires ground { Ground words.now tags.now targets.now n }
+    requires ground { Ground image.words.now image.tags.now target_bytes image.n }
     requires bearing { Bearing log.now logtags.now starts.now ends }
     requires maps_len { length maps.now ≡ 6 }
-    requires all { All (FitN words.now 1024) (ref_of (target s) w []) }
-    ensures { result ≡ through (went_of words.now n log.now logtags.now starts.now maps.now ends exprmap.now) s w }
+    requires all { All (FitN image.words.now 1024) (ref_of (target s) w []) }
+    ensures { result ≡ through (went_of image.entry.words.now image.entry.n log.now logtags.now starts.now maps.now ends exprmap.now) s w }
 {
-    if target_of(targets, s) == FUNCTION {
-        return number_of(known(words, tags, n, log, logtags, starts, maps, ends, wide(w)));
+    if target_of(s) == FUNCTION {
+        return number_of(known(image, log, logtags, starts, maps, ends, w as usize));
     }
-    by_maps(targets, maps, exprmap, s, w)
+    by_maps(maps, exprmap, s, w)
 }
 
 // Whether the span last met is undefined, once the word w of the class s is read; the words from i on follow it.
 fn undefined_at(
-    words: &Words,
-    tags: &Tags,
-    targets: &Targets,
-    n: usize,
+    image: Image,
     log: &Log,
     logtags: &LogTags,
     starts: &Starts,
@@ -136,11 +124,11 @@ fn undefined_at(
     end: usize,
     u: bool,
 ) -> bool
-    requires ground { Ground words.now tags.now targets.now n }
+    requires ground { Ground image.words.now image.tags.now target_bytes image.n }
     requires bearing { Bearing log.now logtags.now starts.now ends }
     requires maps_len { length maps.now ≡ 6 }
-    requires legible { Legible words.now tags.now 1024 i end }
-    ensures { result ≡ undefined_at (target s) w (first_word (carried_by (went_of words.now n log.now logtags.now starts.now maps.now ends exprmap.now) tags.now words.now i end)) u }
+    requires legible { Legible image.words.now image.tags.now 1024 i end }
+    ensures { result ≡ undefined_at (target s) w (first_word (carried_by (went_of image.entry.words.now image.entry.n log.now logtags.now starts.now maps.now ends exprmap.now) image.entry.tags.now image.entry.words.now i end)) u }
 {
     if s != SPAN {
         return u;
@@ -150,7 +138,15 @@ fn undefined_at(
     }
     if i < end {
         return carried(
-            words, tags, targets, n, log, logtags, starts, maps, exprmap, ends, tags[i], words[i],
+            image,
+            log,
+            logtags,
+            starts,
+            maps,
+            exprmap,
+            ends,
+            image.tags[i],
+            image.words[i],
         ) == 0;
     }
     true
@@ -158,10 +154,7 @@ fn undefined_at(
 
 // Writes what the source's words from `at` to `end` become on the top of the stack of expressions.
 pub fn write(
-    words: &Words,
-    tags: &Tags,
-    targets: &Targets,
-    n: usize,
+    image: Image,
     log: &Log,
     logtags: &LogTags,
     starts: &Starts,
@@ -173,25 +166,30 @@ pub fn write(
     at: usize,
     end: usize,
 )
-    requires ground { Ground words.now tags.now targets.now n }
+    requires ground { Ground image.words.now image.tags.now target_bytes image.n }
     requires bearing { Bearing log.now logtags.now starts.now ends }
     requires maps_len { length maps.now ≡ 6 }
-    requires legible { Legible words.now tags.now 1024 at end }
+    requires legible { Legible image.words.now image.tags.now 1024 at end }
     requires stacks { (Stacks stacks.old ends) × (ends.exprtop + (end - at) ≤ 16384) }
-    ensures { Wrote (shift (carried_by (went_of words.now n log.now logtags.now starts.now maps.now ends exprmap.now) tags.now words.now at end) offset false) ends.exprtop stacks.old stacks.new }
+    ensures { Wrote (shift (carried_by (went_of image.entry.words.now image.entry.n log.now logtags.now starts.now maps.now ends exprmap.now) image.entry.tags.now image.entry.words.now at end) offset false) ends.exprtop stacks.old stacks.new }
 {
     let mut u = false;
     for j in at..end {
         let q = ends.exprtop as usize + (j - at);
-        let s = tags[j];
+        let s = image.tags[j];
         let w = carried(
-            words, tags, targets, n, log, logtags, starts, maps, exprmap, ends, s, words[j],
+            image,
+            log,
+            logtags,
+            starts,
+            maps,
+            exprmap,
+            ends,
+            s,
+            image.words[j],
         );
         u = undefined_at(
-            words,
-            tags,
-            targets,
-            n,
+            image,
             log,
             logtags,
             starts,
@@ -211,10 +209,7 @@ pub fn write(
 
 // Appends expression e, of k.
 pub fn append(
-    words: &Words,
-    tags: &Tags,
-    targets: &Targets,
-    n: usize,
+    image: Image,
     places: &Places,
     log: &Log,
     logtags: &LogTags,
@@ -228,23 +223,23 @@ pub fn append(
     k: usize,
     e: usize,
 ) -> Sizes
-    requires ground { Ground words.now tags.now targets.now n }
+    requires ground { Ground image.words.now image.tags.now target_bytes image.n }
     requires bearing { Bearing log.now logtags.now starts.now ends }
     requires maps_len { length maps.now ≡ 6 }
-    requires expressions { Expressions words.now tags.now places.now k }
+    requires expressions { Expressions image.words.now image.tags.now places.now k }
     requires e_lt_k { (e < k) × (ends.full ≡ false) }
     requires under { Under k exprmap.old stacks.old e1 ends }
-    ensures { Lays words.now k (pushE offset (mod_of words.now n) still (exprs_of words.now tags.now places.now k) e) log.now logtags.now starts.now maps.now exprmap.old stacks.old e1 ends result exprmap.new stacks.new }
+    ensures { Lays image.entry.words.now k (pushE offset (mod_of image.entry.words.now image.entry.n) still (exprs_of image.entry.words.now image.entry.tags.now places.now k) e) log.now logtags.now starts.now maps.now exprmap.old stacks.old e1 ends result exprmap.new stacks.new }
 {
-    let at = slot(places[e]);
-    let end = slot(places[e + 1]);
+    let at = places[e] as usize;
+    let end = places[e + 1] as usize;
     let exprtop = ends.exprtop as usize;
     let made = ends.made as usize;
     if 16384 - exprtop < end - at {
         return mark_full(ends);
     }
     write(
-        words, tags, targets, n, log, logtags, starts, maps, exprmap, stacks, ends, offset, at, end,
+        image, log, logtags, starts, maps, exprmap, stacks, ends, offset, at, end,
     );
     stacks[SEATS][e1 + made] = exprtop as u32;
     exprmap[e] = (made + 1) as u16;
@@ -270,10 +265,7 @@ fn alike_cell(a: u32, x: u32, b: u8, y: u32) -> bool
 // The first of the source's words, from `at` on, that does not become, ignoring spans, the word in its place of the expression on the stack from a to b, which
 // is as long; or `end`.
 fn first_difference(
-    words: &Words,
-    tags: &Tags,
-    targets: &Targets,
-    n: usize,
+    image: Image,
     log: &Log,
     logtags: &LogTags,
     starts: &Starts,
@@ -286,18 +278,26 @@ fn first_difference(
     a: usize,
     b: usize,
 ) -> usize
-    requires ground { Ground words.now tags.now targets.now n }
+    requires ground { Ground image.words.now image.tags.now target_bytes image.n }
     requires bearing { Bearing log.now logtags.now starts.now ends }
     requires maps_len { length maps.now ≡ 6 }
-    requires legible { Legible words.now tags.now 1024 at end }
+    requires legible { Legible image.words.now image.tags.now 1024 at end }
     requires stacks { (Stacks stacks.now ends) × (a ≤ b) × (b ≤ 16384) × (b - a ≡ end - at) }
-    ensures { Apart at end (alike (between (row stacks.now 1) (row stacks.now 0) a b) (carried_by (went_of words.now n log.now logtags.now starts.now maps.now ends exprmap.now) tags.now words.now at end)) result }
+    ensures { Apart at end (alike (between (row stacks.now 1) (row stacks.now 0) a b) (carried_by (went_of image.entry.words.now image.entry.n log.now logtags.now starts.now maps.now ends exprmap.now) image.entry.tags.now image.entry.words.now at end)) result }
 {
     for j in at..end {
         let q = a + (j - at);
-        let s = tags[j];
+        let s = image.tags[j];
         let y = carried(
-            words, tags, targets, n, log, logtags, starts, maps, exprmap, ends, s, words[j],
+            image,
+            log,
+            logtags,
+            starts,
+            maps,
+            exprmap,
+            ends,
+            s,
+            image.words[j],
         );
         if !alike_cell(stacks[CLASSES][q], stacks[WORDS][q], s, y) {
             return j;
@@ -312,7 +312,7 @@ fn expr_end(stacks: &StackRows, ends: Sizes, e1: usize, k: usize) -> usize
     ensures { result ≡ next_of (drop (k + 1) (seats_of stacks.now e1 ends)) ends.exprtop }
 {
     if k + 1 < ends.made as usize {
-        return wide(stacks[SEATS][e1 + k + 1]);
+        return stacks[SEATS][e1 + k + 1] as usize;
     }
     ends.exprtop as usize
 }
@@ -337,7 +337,7 @@ fn next_candidate(
         return k;
     }
     for h in k..made {
-        let q = wide(stacks[SEATS][e1 + h]) + i;
+        let q = stacks[SEATS][e1 + h] as usize + i;
         if q < 16384 {
             if stacks[WORDS][q] == y {
                 return h;
@@ -350,10 +350,7 @@ fn next_candidate(
 // The first expression that equals, ignoring spans, what the source's words become; or how many there are. Most of the others differ in one word: the last, or
 // the one in which another expression differed.
 fn find_equal(
-    words: &Words,
-    tags: &Tags,
-    targets: &Targets,
-    n: usize,
+    image: Image,
     log: &Log,
     logtags: &LogTags,
     starts: &Starts,
@@ -365,38 +362,52 @@ fn find_equal(
     at: usize,
     end: usize,
 ) -> usize
-    requires ground { Ground words.now tags.now targets.now n }
+    requires ground { Ground image.words.now image.tags.now target_bytes image.n }
     requires bearing { Bearing log.now logtags.now starts.now ends }
     requires maps_len { length maps.now ≡ 6 }
-    requires legible { Legible words.now tags.now 1024 at end }
+    requires legible { Legible image.words.now image.tags.now 1024 at end }
     requires stacks { (Stacks stacks.now ends) × (Rising (seats_of stacks.now e1 ends) e1 ends.exprtop) × (length (seats_of stacks.now e1 ends) ≡ ends.made) × (at < end) }
-    ensures { result ≡ seat_of (made_of stacks.now e1 ends) (carried_by (went_of words.now n log.now logtags.now starts.now maps.now ends exprmap.now) tags.now words.now at end) }
+    ensures { result ≡ seat_of (made_of stacks.now e1 ends) (carried_by (went_of image.entry.words.now image.entry.n log.now logtags.now starts.now maps.now ends exprmap.now) image.entry.tags.now image.entry.words.now at end) }
 {
     let made = ends.made as usize;
     let mut p = end - 1;
     let mut y = carried(
-        words, tags, targets, n, log, logtags, starts, maps, exprmap, ends, tags[p], words[p],
+        image,
+        log,
+        logtags,
+        starts,
+        maps,
+        exprmap,
+        ends,
+        image.tags[p],
+        image.words[p],
     );
     let mut k = 0;
     while k < made {
-        let j = next_candidate(stacks, e1, made, p - at, tags[p], y, k);
+        let j = next_candidate(stacks, e1, made, p - at, image.tags[p], y, k);
         if j == made {
             return made;
         }
         k = j + 1;
-        let a = wide(stacks[SEATS][e1 + j]);
+        let a = stacks[SEATS][e1 + j] as usize;
         let b = expr_end(stacks, ends, e1, j);
         if b - a == end - at {
             p = first_difference(
-                words, tags, targets, n, log, logtags, starts, maps, exprmap, stacks, ends, at,
-                end, a, b,
+                image, log, logtags, starts, maps, exprmap, stacks, ends, at, end, a, b,
             );
             if p == end {
                 return j;
             }
             y = carried(
-                words, tags, targets, n, log, logtags, starts, maps, exprmap, ends, tags[p],
-                words[p],
+                image,
+                log,
+                logtags,
+                starts,
+                maps,
+                exprmap,
+                ends,
+                image.tags[p],
+                image.words[p],
             );
         }
     }
@@ -405,10 +416,7 @@ fn find_equal(
 
 // Maps expression e to an equal one on the stack, or appends it.
 pub fn merge(
-    words: &Words,
-    tags: &Tags,
-    targets: &Targets,
-    n: usize,
+    image: Image,
     places: &Places,
     log: &Log,
     logtags: &LogTags,
@@ -422,26 +430,25 @@ pub fn merge(
     k: usize,
     e: usize,
 ) -> Sizes
-    requires ground { Ground words.now tags.now targets.now n }
+    requires ground { Ground image.words.now image.tags.now target_bytes image.n }
     requires bearing { Bearing log.now logtags.now starts.now ends }
     requires maps_len { length maps.now ≡ 6 }
-    requires expressions { Expressions words.now tags.now places.now k }
+    requires expressions { Expressions image.words.now image.tags.now places.now k }
     requires e_lt_k { (e < k) × (ends.full ≡ false) }
     requires under { Under k exprmap.old stacks.old e1 ends }
-    ensures { Lays words.now k (intern_expr offset (mod_of words.now n) still (exprs_of words.now tags.now places.now k) e) log.now logtags.now starts.now maps.now exprmap.old stacks.old e1 ends result exprmap.new stacks.new }
+    ensures { Lays image.entry.words.now k (intern_expr offset (mod_of image.entry.words.now image.entry.n) still (exprs_of image.entry.words.now image.entry.tags.now places.now k) e) log.now logtags.now starts.now maps.now exprmap.old stacks.old e1 ends result exprmap.new stacks.new }
 {
-    let at = slot(places[e]);
-    let end = slot(places[e + 1]);
+    let at = places[e] as usize;
+    let end = places[e + 1] as usize;
     let j = find_equal(
-        words, tags, targets, n, log, logtags, starts, maps, exprmap, stacks, ends, e1, at, end,
+        image, log, logtags, starts, maps, exprmap, stacks, ends, e1, at, end,
     );
     if j < ends.made as usize {
         exprmap[e] = (j + 1) as u16;
         return ends;
     }
     append(
-        words, tags, targets, n, places, log, logtags, starts, maps, exprmap, stacks, ends, offset,
-        e1, k, e,
+        image, places, log, logtags, starts, maps, exprmap, stacks, ends, offset, e1, k, e,
     )
 }
 

@@ -17,25 +17,20 @@ ghost use Rattle.function_references.specs.Cuts.{Expressions, exprs_of};
 ghost use Rattle.function_builder.specs.Stacks.{Under};
 ghost use Rattle.function_builder.specs.Makes.{Makes};
 ghost use Rattle.function_words.specs.Runs.{unites, Declares, Runs};
+ghost use Rattle.derive_state.specs.Refers.{target_bytes};
 
 use base_classes::EXPR;
-use base_views::EXPRESSIONS;
-use base_words::{Tags, Words, wide};
+use base_views::{EXPRESSIONS, Image};
 use derive_imports::refers_to;
-use derive_state::{
-    Buckets, ExprMap, Log, LogTags, Maps, Places, Sizes, StackRows, Starts, Targets,
-};
-use function_builder::{merge, slot};
+use derive_state::{Buckets, ExprMap, Log, LogTags, Maps, Places, Sizes, StackRows, Starts};
+use function_builder::merge;
 use function_outside::{import_by_table, import_record};
 use function_runs::{copy_mapped_run, span_undefined};
 use function_words::{advance, put_word};
 
 // Imports expression e of an initialiser, with its operands, where it is not mapped.
 fn import_initialiser(
-    words: &Words,
-    tags: &Tags,
-    targets: &Targets,
-    n: usize,
+    image: Image,
     places: &Places,
     log: &mut Log,
     logtags: &mut LogTags,
@@ -50,36 +45,32 @@ fn import_initialiser(
     k: usize,
     e: usize,
 ) -> Sizes
-    requires ground { Ground words.now tags.now targets.now n }
-    requires expressions { Expressions words.now tags.now places.now k }
+    requires ground { Ground image.words.now image.tags.now target_bytes image.n }
+    requires expressions { Expressions image.words.now image.tags.now places.now k }
     requires e_lt_k { (e < k) × (ends.full ≡ false) }
     requires valid_arrays { ValidArrays log.old logtags.old starts.old maps.old buckets.old ends }
     requires under { Under k exprmap.old stacks.old e1 ends }
-    ensures { Makes words.now k (initialiserE offset (mod_of words.now n) still (exprs_of words.now tags.now places.now k) e) log.old logtags.old starts.old maps.old buckets.old exprmap.old stacks.old e1 ends result log.new logtags.new starts.new maps.new buckets.new exprmap.new stacks.new }
+    ensures { Makes image.entry.words.now k (initialiserE offset (mod_of image.entry.words.now image.entry.n) still (exprs_of image.entry.words.now image.entry.tags.now places.now k) e) log.old logtags.old starts.old maps.old buckets.old exprmap.old stacks.old e1 ends result log.new logtags.new starts.new maps.new buckets.new exprmap.new stacks.new }
 {
     if exprmap[e] != 0 {
         return ends;
     }
-    let end = slot(places[e + 1]);
+    let end = places[e + 1] as usize;
     let mut got = ends;
-    let at = slot(places[e]);
+    let at = places[e] as usize;
     for j in at..end {
-        let s = tags[j];
-        let r = refers_to(targets, s, words[j]);
+        let s = image.tags[j];
+        let r = refers_to(s, image.words[j]);
         if s < EXPR {
             got = import_record(
-                words, tags, targets, n, log, logtags, starts, maps, buckets, got, offset, r.table,
-                r.number,
+                image, log, logtags, starts, maps, buckets, got, offset, r.table, r.number,
             );
             if got.full {
                 return got;
             }
         } else if r.table == EXPRESSIONS {
             got = import_initialiser(
-                words,
-                tags,
-                targets,
-                n,
+                image,
                 places,
                 log,
                 logtags,
@@ -92,7 +83,7 @@ fn import_initialiser(
                 offset,
                 e1,
                 k,
-                wide(r.number),
+                r.number as usize,
             );
             if got.full {
                 return got;
@@ -100,17 +91,13 @@ fn import_initialiser(
         }
     }
     merge(
-        words, tags, targets, n, places, log, logtags, starts, maps, exprmap, stacks, got, offset,
-        e1, k, e,
+        image, places, log, logtags, starts, maps, exprmap, stacks, got, offset, e1, k, e,
     )
 }
 
 // Imports what word i of declarations refers to: an expression of an initialiser, or a record of a table.
 fn import_declaration_word(
-    words: &Words,
-    tags: &Tags,
-    targets: &Targets,
-    n: usize,
+    image: Image,
     places: &Places,
     log: &mut Log,
     logtags: &mut LogTags,
@@ -125,30 +112,26 @@ fn import_declaration_word(
     k: usize,
     i: usize,
 ) -> Sizes
-    requires ground { Ground words.now tags.now targets.now n }
-    requires expressions { Expressions words.now tags.now places.now k }
-    requires i_bound { (i < 16384) × (All (FitN words.now k) (ref_of (target (get_or tags.now i 0)) (get_or words.now i 0) [])) }
+    requires ground { Ground image.words.now image.tags.now target_bytes image.n }
+    requires expressions { Expressions image.words.now image.tags.now places.now k }
+    requires i_bound { (i < 16384) × (All (FitN image.words.now k) (ref_of (target (get_or image.tags.now i 0)) (get_or image.words.now i 0) [])) }
     requires full_value { ends.full ≡ false }
     requires valid_arrays { ValidArrays log.old logtags.old starts.old maps.old buckets.old ends }
     requires under { Under k exprmap.old stacks.old e1 ends }
-    ensures { Makes words.now k (arriveE offset (mod_of words.now n) still (unites offset words.now tags.now n places.now k) (unites offset words.now tags.now n places.now k) (target (get_or tags.now i 0)) (get_or words.now i 0)) log.old logtags.old starts.old maps.old buckets.old exprmap.old stacks.old e1 ends result log.new logtags.new starts.new maps.new buckets.new exprmap.new stacks.new }
+    ensures { Makes image.entry.words.now k (arriveE offset (mod_of image.entry.words.now image.entry.n) still (unites offset image.entry.words.now image.entry.tags.now image.entry.n places.now k) (unites offset image.entry.words.now image.entry.tags.now image.entry.n places.now k) (target (get_or image.entry.tags.now i 0)) (get_or image.entry.words.now i 0)) log.old logtags.old starts.old maps.old buckets.old exprmap.old stacks.old e1 ends result log.new logtags.new starts.new maps.new buckets.new exprmap.new stacks.new }
 {
-    let s = tags[i];
-    let r = refers_to(targets, s, words[i]);
+    let s = image.tags[i];
+    let r = refers_to(s, image.words[i]);
     if s < EXPR {
         return import_by_table(
-            words, tags, targets, n, log, logtags, starts, maps, buckets, ends, offset, r.table,
-            r.number,
+            image, log, logtags, starts, maps, buckets, ends, offset, r.table, r.number,
         );
     }
     if r.table != EXPRESSIONS {
         return ends;
     }
     import_initialiser(
-        words,
-        tags,
-        targets,
-        n,
+        image,
         places,
         log,
         logtags,
@@ -161,16 +144,13 @@ fn import_declaration_word(
         offset,
         e1,
         k,
-        wide(r.number),
+        r.number as usize,
     )
 }
 
 // Imports and writes the declarations, from `at` to `end`.
 pub fn declare(
-    words: &Words,
-    tags: &Tags,
-    targets: &Targets,
-    n: usize,
+    image: Image,
     places: &Places,
     log: &mut Log,
     logtags: &mut LogTags,
@@ -186,22 +166,20 @@ pub fn declare(
     at: usize,
     end: usize,
 ) -> Sizes
-    requires ground { Ground words.now tags.now targets.now n }
-    requires expressions { Expressions words.now tags.now places.now k }
-    requires declares { Declares words.now tags.now k at end }
+    requires ground { Ground image.words.now image.tags.now target_bytes image.n }
+    requires expressions { Expressions image.words.now image.tags.now places.now k }
+    requires declares { Declares image.words.now image.tags.now k at end }
     requires full_value { ends.full ≡ false }
     requires valid_arrays { ValidArrays log.old logtags.old starts.old maps.old buckets.old ends }
     requires under { Under k exprmap.old stacks.old e1 ends }
-    ensures { Runs words.now k (after offset (mod_of words.now n) still (unites offset words.now tags.now n places.now k) (unites offset words.now tags.now n places.now k) (between tags.now words.now (at) end)) (λ (m : Builder). map word (written offset (mod_of words.now n) still (unites offset words.now tags.now n places.now k) (unites offset words.now tags.now n places.now k) (between tags.now words.now (at) end) false m)) log.old logtags.old starts.old maps.old buckets.old exprmap.old stacks.old e1 ends result log.new logtags.new starts.new maps.new buckets.new exprmap.new stacks.new }
+    ensures { Runs image.entry.words.now k (after offset (mod_of image.entry.words.now image.entry.n) still (unites offset image.entry.words.now image.entry.tags.now image.entry.n places.now k) (unites offset image.entry.words.now image.entry.tags.now image.entry.n places.now k) (between image.entry.tags.now image.entry.words.now (at) end)) (λ (m : Builder). map word (written offset (mod_of image.entry.words.now image.entry.n) still (unites offset image.entry.words.now image.entry.tags.now image.entry.n places.now k) (unites offset image.entry.words.now image.entry.tags.now image.entry.n places.now k) (between image.entry.tags.now image.entry.words.now (at) end) false m)) log.old logtags.old starts.old maps.old buckets.old exprmap.old stacks.old e1 ends result log.new logtags.new starts.new maps.new buckets.new exprmap.new stacks.new }
 {
     let mut e = ends;
     let mut i = at;
     let mut u = false;
     while i < end {
         let r = copy_mapped_run(
-            words,
-            tags,
-            targets,
+            image,
             maps,
             exprmap,
             stacks,
@@ -220,16 +198,16 @@ pub fn declare(
         }
         let j = i;
         i += 1;
-        u = span_undefined(words, tags, j, end, u);
+        u = span_undefined(image, j, end, u);
         e = import_declaration_word(
-            words, tags, targets, n, places, log, logtags, starts, maps, buckets, exprmap, stacks,
-            e, offset, e1, k, j,
+            image, places, log, logtags, starts, maps, buckets, exprmap, stacks, e, offset, e1, k,
+            j,
         );
         if e.full {
             return e;
         }
         e = put_word(
-            words, tags, targets, n, log, logtags, starts, maps, exprmap, stacks, e, offset, j, u,
+            image, log, logtags, starts, maps, exprmap, stacks, e, offset, j, u,
         );
         if e.full {
             return e;

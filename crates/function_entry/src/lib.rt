@@ -13,14 +13,10 @@ ghost use Rattle.function_builder.specs.Stacks.{Stacks};
 ghost use Rattle.model.specs.Session.{meets_ring, callees_of};
 ghost use Rattle.derive_session.specs.Valid.{ValidSession};
 ghost use Rattle.function_entry.specs.Entered.{NestedE, EnterEnsures, EnterAllEnsures};
+ghost use Rattle.derive_state.specs.Refers.{target_bytes};
 
-use base_views::{
-    ENTRIES, FUNCTIONS, body_at, count, entry_function, expressions_at, record_at, record_end,
-};
-use base_words::{Tags, Words};
-use derive_state::{
-    Buckets, Log, LogTags, Maps, Sizes, Special, StackRows, Starts, Targets, mark_full,
-};
+use base_views::{ENTRIES, FUNCTIONS, Image, count, expressions_at};
+use derive_state::{Buckets, Log, LogTags, Maps, Sizes, Special, StackRows, Starts, mark_full};
 use function_builder::write;
 use function_localize::localize;
 use function_outside::import_outside;
@@ -28,10 +24,7 @@ use function_record::append_record;
 
 // Imports entry point j, with room for `room` functions in progress.
 pub fn enter(
-    words: &Words,
-    tags: &Tags,
-    targets: &Targets,
-    n: usize,
+    image: Image,
     log: &mut Log,
     logtags: &mut LogTags,
     starts: &mut Starts,
@@ -43,22 +36,19 @@ pub fn enter(
     j: usize,
     room: usize,
 ) -> Sizes
-    requires ground { Ground words.now tags.now targets.now n }
-    requires j_bound { (j < count_at 7 words.now) × (in_scope (mod_of words.now n) ≡ true) }
-    requires nested_e { NestedE words.now n log.old logtags.old starts.old maps.old ends offset room (entry (mod_of words.now n) j) }
+    requires ground { Ground image.words.now image.tags.now target_bytes image.n }
+    requires j_bound { (j < count_at 7 image.words.now) × (in_scope (mod_of image.words.now image.n) ≡ true) }
+    requires nested_e { NestedE image.words.now image.n log.old logtags.old starts.old maps.old ends offset room (entry (mod_of image.words.now image.n) j) }
     requires full_value { (ends.full ≡ false) × (Stacks stacks.old ends) }
     requires valid_arrays { ValidArrays log.old logtags.old starts.old maps.old buckets.old ends }
-    ensures { EnterEnsures words.now n offset (Ready offset (mod_of words.now n) room) (follow_s offset (mod_of words.now n) room) (entry (mod_of words.now n) j) log.old logtags.old starts.old maps.old buckets.old stacks.old ends result log.new logtags.new starts.new maps.new buckets.new stacks.new }
+    ensures { EnterEnsures image.entry.words.now image.entry.n offset (Ready offset (mod_of image.entry.words.now image.entry.n) room) (follow_s offset (mod_of image.entry.words.now image.entry.n) room) (entry (mod_of image.entry.words.now image.entry.n) j) log.old logtags.old starts.old maps.old buckets.old stacks.old ends result log.new logtags.new starts.new maps.new buckets.new stacks.new }
 {
-    let at = record_at(words, tags, n, ENTRIES, j);
-    let s = entry_function(words, tags, n, j);
-    let end = record_end(words, tags, n, ENTRIES, j);
+    let at = image.record_at(ENTRIES, j);
+    let s = image.entry_function(j);
+    let end = image.record_end(ENTRIES, j);
     let mut places = [0u16; 1025];
     let got = localize(
-        words,
-        tags,
-        targets,
-        n,
+        image,
         log,
         logtags,
         starts,
@@ -76,7 +66,7 @@ pub fn enter(
         return got;
     }
     let led = import_outside(
-        words, tags, targets, n, log, logtags, starts, maps, buckets, got, offset, at, s,
+        image, log, logtags, starts, maps, buckets, got, offset, at, s,
     );
     if led.full {
         return led;
@@ -87,12 +77,12 @@ pub fn enter(
     }
     let exprmap = [0u16; 1024];
     write(
-        words, tags, targets, n, log, logtags, starts, maps, &exprmap, stacks, led, offset, at, s,
+        image, log, logtags, starts, maps, &exprmap, stacks, led, offset, at, s,
     );
-    let exprs = expressions_at(words, s);
-    let body = body_at(words, tags, s);
+    let exprs = expressions_at(image.words, s);
+    let body = image.body_at(s);
     append_record(
-        tags,
+        image.tags,
         log,
         logtags,
         starts,
@@ -111,10 +101,7 @@ pub fn enter(
 
 // Imports the source's entry points, from the first on.
 pub fn enter_all(
-    words: &Words,
-    tags: &Tags,
-    targets: &Targets,
-    n: usize,
+    image: Image,
     log: &mut Log,
     logtags: &mut LogTags,
     starts: &mut Starts,
@@ -125,18 +112,17 @@ pub fn enter_all(
     ends: Sizes,
     offset: u32,
 ) -> Sizes
-    requires valid_session { ValidSession true n offset words.now tags.now targets.now log.old logtags.old starts.old maps.old buckets.old special.now ends }
+    requires valid_session { ValidSession true image.n offset image.words.now image.tags.now target_bytes log.old logtags.old starts.old maps.old buckets.old special.now ends }
     requires stacks { Stacks stacks.old ends }
-    requires ends_value { meets_ring (callees_of (mod_of words.now n).entries) (mod_of words.now n) (st_of words.now log.old logtags.old starts.old maps.old special.now ends) ≡ false }
-    ensures { EnterAllEnsures words.now n offset special.now log.old logtags.old starts.old maps.old buckets.old ends result log.new logtags.new starts.new maps.new buckets.new stacks.new }
+    requires ends_value { meets_ring (callees_of (mod_of image.words.now image.n).entries) (mod_of image.words.now image.n) (st_of image.words.now log.old logtags.old starts.old maps.old special.now ends) ≡ false }
+    ensures { EnterAllEnsures image.entry.words.now image.entry.n offset special.now log.old logtags.old starts.old maps.old buckets.old ends result log.new logtags.new starts.new maps.new buckets.new stacks.new }
 {
-    let all = count(words, ENTRIES);
-    let room = count(words, FUNCTIONS);
+    let all = count(image.words, ENTRIES);
+    let room = count(image.words, FUNCTIONS);
     let mut e = ends;
     for j in 0..all {
         e = enter(
-            words, tags, targets, n, log, logtags, starts, maps, buckets, stacks, e, offset, j,
-            room,
+            image, log, logtags, starts, maps, buckets, stacks, e, offset, j, room,
         );
         if e.full {
             return e;

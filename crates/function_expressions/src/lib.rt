@@ -12,24 +12,20 @@ ghost use Rattle.function_references.specs.Fits.{Ground};
 ghost use Rattle.function_references.specs.Cuts.{exprs_of, Expressions};
 ghost use Rattle.function_builder.specs.Stacks.{Under};
 ghost use Rattle.function_builder.specs.Makes.{Makes};
+ghost use Rattle.derive_state.specs.Refers.{target_bytes};
 
 use base_classes::EXPR;
 use base_kinds::stands;
-use base_views::EXPRESSIONS;
-use base_words::{Tags, Words, wide};
+use base_views::{EXPRESSIONS, Image};
+use base_words::Words;
 use derive_imports::refers_to;
-use derive_state::{
-    Buckets, ExprMap, Log, LogTags, Maps, Places, Sizes, StackRows, Starts, Targets,
-};
-use function_builder::{append, slot};
+use derive_state::{Buckets, ExprMap, Log, LogTags, Maps, Places, Sizes, StackRows, Starts};
+use function_builder::append;
 use function_outside::{import_by_table, import_outside, missing};
 
 // Imports expression e of k, which is not mapped, with what it refers to outside the function.
 fn import_unmapped(
-    words: &Words,
-    tags: &Tags,
-    targets: &Targets,
-    n: usize,
+    image: Image,
     places: &Places,
     log: &mut Log,
     logtags: &mut LogTags,
@@ -44,36 +40,32 @@ fn import_unmapped(
     k: usize,
     e: usize,
 ) -> Sizes
-    requires ground { Ground words.now tags.now targets.now n }
-    requires expressions { Expressions words.now tags.now places.now k }
+    requires ground { Ground image.words.now image.tags.now target_bytes image.n }
+    requires expressions { Expressions image.words.now image.tags.now places.now k }
     requires e_lt_k { (e < k) × (ends.full ≡ false) }
     requires valid_arrays { ValidArrays log.old logtags.old starts.old maps.old buckets.old ends }
     requires under { Under k exprmap.old stacks.old e1 ends }
-    ensures { Makes words.now k (needE offset (mod_of words.now n) still (exprs_of words.now tags.now places.now k) e) log.old logtags.old starts.old maps.old buckets.old exprmap.old stacks.old e1 ends result log.new logtags.new starts.new maps.new buckets.new exprmap.new stacks.new }
+    ensures { Makes image.entry.words.now k (needE offset (mod_of image.entry.words.now image.entry.n) still (exprs_of image.entry.words.now image.entry.tags.now places.now k) e) log.old logtags.old starts.old maps.old buckets.old exprmap.old stacks.old e1 ends result log.new logtags.new starts.new maps.new buckets.new exprmap.new stacks.new }
 {
     if exprmap[e] != 0 {
         return ends;
     }
-    let at = slot(places[e]);
-    let end = slot(places[e + 1]);
+    let at = places[e] as usize;
+    let end = places[e + 1] as usize;
     let got = import_outside(
-        words, tags, targets, n, log, logtags, starts, maps, buckets, ends, offset, at, end,
+        image, log, logtags, starts, maps, buckets, ends, offset, at, end,
     );
     if got.full {
         return got;
     }
     append(
-        words, tags, targets, n, places, log, logtags, starts, maps, exprmap, stacks, got, offset,
-        e1, k, e,
+        image, places, log, logtags, starts, maps, exprmap, stacks, got, offset, e1, k, e,
     )
 }
 
 // The same, but tests first whether e is mapped: it is called for every operand and is small, since most are mapped.
 pub fn import_operand(
-    words: &Words,
-    tags: &Tags,
-    targets: &Targets,
-    n: usize,
+    image: Image,
     places: &Places,
     log: &mut Log,
     logtags: &mut LogTags,
@@ -88,19 +80,18 @@ pub fn import_operand(
     k: usize,
     e: usize,
 ) -> Sizes
-    requires ground { Ground words.now tags.now targets.now n }
-    requires expressions { Expressions words.now tags.now places.now k }
+    requires ground { Ground image.words.now image.tags.now target_bytes image.n }
+    requires expressions { Expressions image.words.now image.tags.now places.now k }
     requires e_lt_k { (e < k) × (ends.full ≡ false) }
     requires valid_arrays { ValidArrays log.old logtags.old starts.old maps.old buckets.old ends }
     requires under { Under k exprmap.old stacks.old e1 ends }
-    ensures { Makes words.now k (needE offset (mod_of words.now n) still (exprs_of words.now tags.now places.now k) e) log.old logtags.old starts.old maps.old buckets.old exprmap.old stacks.old e1 ends result log.new logtags.new starts.new maps.new buckets.new exprmap.new stacks.new }
+    ensures { Makes image.entry.words.now k (needE offset (mod_of image.entry.words.now image.entry.n) still (exprs_of image.entry.words.now image.entry.tags.now places.now k) e) log.old logtags.old starts.old maps.old buckets.old exprmap.old stacks.old e1 ends result log.new logtags.new starts.new maps.new buckets.new exprmap.new stacks.new }
 {
     if exprmap[e] != 0 {
         return ends;
     }
     import_unmapped(
-        words, tags, targets, n, places, log, logtags, starts, maps, buckets, exprmap, stacks,
-        ends, offset, e1, k, e,
+        image, places, log, logtags, starts, maps, buckets, exprmap, stacks, ends, offset, e1, k, e,
     )
 }
 
@@ -113,15 +104,12 @@ fn is_unmapped_standing(words: &Words, places: &Places, exprmap: &ExprMap, e: us
     if exprmap[e] != 0 {
         return false;
     }
-    stands(words[slot(places[e])])
+    stands(words[places[e] as usize])
 }
 
 // What an Emit's first pass imports of expression e, where it is not mapped.
 pub fn import_standing(
-    words: &Words,
-    tags: &Tags,
-    targets: &Targets,
-    n: usize,
+    image: Image,
     places: &Places,
     log: &mut Log,
     logtags: &mut LogTags,
@@ -136,38 +124,37 @@ pub fn import_standing(
     k: usize,
     e: usize,
 ) -> Sizes
-    requires ground { Ground words.now tags.now targets.now n }
-    requires expressions { Expressions words.now tags.now places.now k }
+    requires ground { Ground image.words.now image.tags.now target_bytes image.n }
+    requires expressions { Expressions image.words.now image.tags.now places.now k }
     requires e_lt_k { (e < k) × (ends.full ≡ false) }
     requires valid_arrays { ValidArrays log.old logtags.old starts.old maps.old buckets.old ends }
     requires under { Under k exprmap.old stacks.old e1 ends }
-    ensures { Makes words.now k (glanceE offset (mod_of words.now n) still (exprs_of words.now tags.now places.now k) e) log.old logtags.old starts.old maps.old buckets.old exprmap.old stacks.old e1 ends result log.new logtags.new starts.new maps.new buckets.new exprmap.new stacks.new }
+    ensures { Makes image.entry.words.now k (glanceE offset (mod_of image.entry.words.now image.entry.n) still (exprs_of image.entry.words.now image.entry.tags.now places.now k) e) log.old logtags.old starts.old maps.old buckets.old exprmap.old stacks.old e1 ends result log.new logtags.new starts.new maps.new buckets.new exprmap.new stacks.new }
 {
     if exprmap[e] != 0 {
         return ends;
     }
-    let end = slot(places[e + 1]);
+    let end = places[e + 1] as usize;
     let mut got = ends;
-    let at = slot(places[e]);
+    let at = places[e] as usize;
     for j in at..end {
-        let s = tags[j];
-        let r = refers_to(targets, s, words[j]);
+        let s = image.tags[j];
+        let r = refers_to(s, image.words[j]);
         if s < EXPR {
             if missing(maps, r.table, r.number) {
                 got = import_by_table(
-                    words, tags, targets, n, log, logtags, starts, maps, buckets, got, offset,
-                    r.table, r.number,
+                    image, log, logtags, starts, maps, buckets, got, offset, r.table, r.number,
                 );
                 if got.full {
                     return got;
                 }
             }
         } else if r.table == EXPRESSIONS {
-            let x = wide(r.number);
-            if is_unmapped_standing(words, places, exprmap, x) {
+            let x = r.number as usize;
+            if is_unmapped_standing(image.words, places, exprmap, x) {
                 got = import_unmapped(
-                    words, tags, targets, n, places, log, logtags, starts, maps, buckets, exprmap,
-                    stacks, got, offset, e1, k, x,
+                    image, places, log, logtags, starts, maps, buckets, exprmap, stacks, got,
+                    offset, e1, k, x,
                 );
                 if got.full {
                     return got;

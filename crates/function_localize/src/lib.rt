@@ -17,13 +17,14 @@ ghost use Rattle.function_references.specs.Fits.{Ground};
 ghost use Rattle.function_parts.specs.Part.{Part, Indexed};
 ghost use Rattle.function_builder.specs.Stacks.{Stacks};
 ghost use Rattle.function_localize.specs.Localized.{Nested, NestedF, NestedAt, LocalizeEnsures, ImportFunctionEnsures};
+ghost use Rattle.derive_state.specs.Refers.{target_bytes};
 
 use base_classes::CALLEE;
-use base_views::{FUNCTIONS, body_at, expressions_at, record_at, record_end};
-use base_words::{Tags, Words, wide};
+use base_views::{FUNCTIONS, Image, expressions_at};
+use base_words::Tags;
 use derive_lookup::known;
-use derive_state::{Buckets, Log, LogTags, Maps, Places, Sizes, StackRows, Starts, Targets};
-use function_builder::{index, slot};
+use derive_state::{Buckets, Log, LogTags, Maps, Places, Sizes, StackRows, Starts};
+use function_builder::index;
 use function_declarations::declare;
 use function_names::{import_names, keep_names};
 use function_passes::import_word;
@@ -66,22 +67,15 @@ struct Parts {
 }
 
 // Where the parts of the function from s to `end` are; `places` has where each expression starts.
-fn index_parts(
-    words: &Words,
-    tags: &Tags,
-    n: usize,
-    s: usize,
-    end: usize,
-    places: &mut Places,
-) -> Parts
-    requires { Part words.now tags.now n s end (function_of (between tags.now words.now s end)) }
-    ensures { Indexed words.now tags.now s end result.exprs places.new result.count result.named result.body }
+fn index_parts(image: Image, s: usize, end: usize, places: &mut Places) -> Parts
+    requires { Part image.words.now image.tags.now image.n s end (function_of (between image.tags.now image.words.now s end)) }
+    ensures { Indexed image.entry.words.now image.entry.tags.now s end result.exprs places.new result.count result.named result.body }
 {
-    let exprs = expressions_at(words, s);
-    let count = wide(words[exprs]);
-    index_expressions(tags, exprs + 1, end, places);
-    let named = slot(places[count]);
-    let body = named + 1 + 2 * wide(words[named]);
+    let exprs = expressions_at(image.words, s);
+    let count = image.words[exprs] as usize;
+    index_expressions(image.tags, exprs + 1, end, places);
+    let named = places[count] as usize;
+    let body = named + 1 + 2 * image.words[named] as usize;
     Parts {
         exprs: exprs,
         count: count,
@@ -93,10 +87,7 @@ fn index_parts(
 // Puts the function from s to `end` whole on the stacks, with room for `room` functions in progress.
 #[cycle(append_follow_localize)]
 pub fn localize(
-    words: &Words,
-    tags: &Tags,
-    targets: &Targets,
-    n: usize,
+    image: Image,
     log: &mut Log,
     logtags: &mut LogTags,
     starts: &mut Starts,
@@ -110,24 +101,21 @@ pub fn localize(
     end: usize,
     room: usize,
 ) -> Sizes
-    requires ground { Ground words.now tags.now targets.now n }
-    requires part { Part words.now tags.now n s end (function_of (between tags.now words.now s end)) }
-    requires nested { Nested words.now n log.old logtags.old starts.old maps.old ends offset room (function_of (between tags.now words.now s end)) }
+    requires ground { Ground image.words.now image.tags.now target_bytes image.n }
+    requires part { Part image.words.now image.tags.now image.n s end (function_of (between image.tags.now image.words.now s end)) }
+    requires nested { Nested image.words.now image.n log.old logtags.old starts.old maps.old ends offset room (function_of (between image.tags.now image.words.now s end)) }
     requires full_value { (ends.full ≡ false) × (Stacks stacks.old ends) }
     requires valid_arrays { ValidArrays log.old logtags.old starts.old maps.old buckets.old ends }
-    ensures { LocalizeEnsures words.now n offset (Ready offset (mod_of words.now n) room) (follow_s offset (mod_of words.now n) room) (function_of (between tags.now words.now s end)) log.old logtags.old starts.old maps.old buckets.old stacks.old ends result log.new logtags.new starts.new maps.new buckets.new stacks.new }
+    ensures { LocalizeEnsures image.entry.words.now image.entry.n offset (Ready offset (mod_of image.entry.words.now image.entry.n) room) (follow_s offset (mod_of image.entry.words.now image.entry.n) room) (function_of (between image.entry.tags.now image.entry.words.now s end)) log.old logtags.old starts.old maps.old buckets.old stacks.old ends result log.new logtags.new starts.new maps.new buckets.new stacks.new }
 {
     let e1 = ends.exprtop as usize;
     let mut exprmap = [0u16; 1024];
-    let at = index_parts(words, tags, n, s, end, places);
+    let at = index_parts(image, s, end, places);
     let exprs = at.exprs;
     let k = at.count;
     let named = at.named;
     let mut e = declare(
-        words,
-        tags,
-        targets,
-        n,
+        image,
         places,
         log,
         logtags,
@@ -150,9 +138,7 @@ pub fn localize(
     let mut u = false;
     while i < end {
         let r = copy_mapped_run(
-            words,
-            tags,
-            targets,
+            image,
             maps,
             &exprmap,
             stacks,
@@ -169,13 +155,10 @@ pub fn localize(
         if i < end {
             let j = i;
             i += 1;
-            u = span_undefined(words, tags, j, end, u);
-            if tags[j] == CALLEE {
+            u = span_undefined(image, j, end, u);
+            if image.tags[j] == CALLEE {
                 e = follow(
-                    words,
-                    tags,
-                    targets,
-                    n,
+                    image,
                     log,
                     logtags,
                     starts,
@@ -185,7 +168,7 @@ pub fn localize(
                     places,
                     e,
                     offset,
-                    wide(words[j]),
+                    image.words[j] as usize,
                     room,
                     exprs + 1,
                     end,
@@ -194,15 +177,11 @@ pub fn localize(
                     return e;
                 }
                 e = put_word(
-                    words, tags, targets, n, log, logtags, starts, maps, &exprmap, stacks, e,
-                    offset, j, u,
+                    image, log, logtags, starts, maps, &exprmap, stacks, e, offset, j, u,
                 );
             } else {
                 e = import_word(
-                    words,
-                    tags,
-                    targets,
-                    n,
+                    image,
                     places,
                     log,
                     logtags,
@@ -226,22 +205,19 @@ pub fn localize(
         }
     }
     let b = e.bodytop as usize;
-    let kept = keep_names(words, &exprmap, places, stacks, e, k, named);
+    let kept = keep_names(image.words, &exprmap, places, stacks, e, k, named);
     if kept.full {
         return kept;
     }
     import_names(
-        words, tags, targets, n, log, logtags, starts, maps, buckets, stacks, kept, offset, b,
+        image, log, logtags, starts, maps, buckets, stacks, kept, offset, b,
     )
 }
 
 // Appends function f.
 #[cycle(append_follow_localize)]
 pub fn append(
-    words: &Words,
-    tags: &Tags,
-    targets: &Targets,
-    n: usize,
+    image: Image,
     log: &mut Log,
     logtags: &mut LogTags,
     starts: &mut Starts,
@@ -254,26 +230,25 @@ pub fn append(
     f: usize,
     room: usize,
 ) -> Sizes
-    requires ground { Ground words.now tags.now targets.now n }
-    requires f_bound { f < count_at 6 words.now }
-    requires nested_f { NestedF words.now n log.old logtags.old starts.old maps.old ends offset room (function (mod_of words.now n) f) }
+    requires ground { Ground image.words.now image.tags.now target_bytes image.n }
+    requires f_bound { f < count_at 6 image.words.now }
+    requires nested_f { NestedF image.words.now image.n log.old logtags.old starts.old maps.old ends offset room (function (mod_of image.words.now image.n) f) }
     requires full_value { (ends.full ≡ false) × (Stacks stacks.old ends) }
     requires valid_arrays { ValidArrays log.old logtags.old starts.old maps.old buckets.old ends }
-    ensures { ImportFunctionEnsures words.now (ReadyF offset (mod_of words.now n) (Ready offset (mod_of words.now n) room) (follow_s offset (mod_of words.now n) room) (function (mod_of words.now n) f)) (append_s offset (mod_of words.now n) (follow_s offset (mod_of words.now n) room) f) log.old logtags.old starts.old maps.old buckets.old stacks.old ends result log.new logtags.new starts.new maps.new buckets.new stacks.new }
+    ensures { ImportFunctionEnsures image.entry.words.now (ReadyF offset (mod_of image.entry.words.now image.entry.n) (Ready offset (mod_of image.entry.words.now image.entry.n) room) (follow_s offset (mod_of image.entry.words.now image.entry.n) room) (function (mod_of image.entry.words.now image.entry.n) f)) (append_s offset (mod_of image.entry.words.now image.entry.n) (follow_s offset (mod_of image.entry.words.now image.entry.n) room) f) log.old logtags.old starts.old maps.old buckets.old stacks.old ends result log.new logtags.new starts.new maps.new buckets.new stacks.new }
 {
-    let s = record_at(words, tags, n, FUNCTIONS, f);
-    let end = record_end(words, tags, n, FUNCTIONS, f);
+    let s = image.record_at(FUNCTIONS, f);
+    let end = image.record_end(FUNCTIONS, f);
     let got = localize(
-        words, tags, targets, n, log, logtags, starts, maps, buckets, stacks, places, ends, offset,
-        s, end, room,
+        image, log, logtags, starts, maps, buckets, stacks, places, ends, offset, s, end, room,
     );
     if got.full {
         return got;
     }
-    let exprs = expressions_at(words, s);
-    let body = body_at(words, tags, s);
+    let exprs = expressions_at(image.words, s);
+    let body = image.body_at(s);
     append_record(
-        tags, log, logtags, starts, stacks, got, ends, s, exprs, body, end, FUNCTIONS, 0, 256,
+        image.tags, log, logtags, starts, stacks, got, ends, s, exprs, body, end, FUNCTIONS, 0, 256,
     )
 }
 
@@ -281,10 +256,7 @@ pub fn append(
 // `at`, and which ends at `end`.
 #[cycle(append_follow_localize)]
 pub fn follow(
-    words: &Words,
-    tags: &Tags,
-    targets: &Targets,
-    n: usize,
+    image: Image,
     log: &mut Log,
     logtags: &mut LogTags,
     starts: &mut Starts,
@@ -299,27 +271,24 @@ pub fn follow(
     at: usize,
     end: usize,
 ) -> Sizes
-    requires ground { Ground words.now tags.now targets.now n }
-    requires f_bound { f < count_at 6 words.now }
-    requires nested_at { NestedAt words.now n log.old logtags.old starts.old maps.old ends offset room f }
+    requires ground { Ground image.words.now image.tags.now target_bytes image.n }
+    requires f_bound { f < count_at 6 image.words.now }
+    requires nested_at { NestedAt image.words.now image.n log.old logtags.old starts.old maps.old ends offset room f }
     requires full_value { (ends.full ≡ false) × (Stacks stacks.old ends) }
     requires valid_arrays { ValidArrays log.old logtags.old starts.old maps.old buckets.old ends }
-    requires tags_len { (length tags.now ≡ 16384) × (at ≤ end) × (end ≤ 16384) × (length (finds at (slice at end tags.now)) ≤ 1025) }
-    requires places_value { places.old ≡ sets (replicate 1025 0) 0 (finds at (slice at end tags.now)) }
-    ensures import_function_ensures { ImportFunctionEnsures words.now (Ready offset (mod_of words.now n) room f) (follow_s offset (mod_of words.now n) room f) log.old logtags.old starts.old maps.old buckets.old stacks.old ends result log.new logtags.new starts.new maps.new buckets.new stacks.new }
-    ensures places_after { result.full ≡ false → places.new ≡ sets (replicate 1025 0) 0 (finds at (slice at end tags.now)) }
+    requires tags_len { (length image.tags.now ≡ 16384) × (at ≤ end) × (end ≤ 16384) × (length (finds at (slice at end image.tags.now)) ≤ 1025) }
+    requires places_value { places.old ≡ sets (replicate 1025 0) 0 (finds at (slice at end image.tags.now)) }
+    ensures import_function_ensures { ImportFunctionEnsures image.entry.words.now (Ready offset (mod_of image.entry.words.now image.entry.n) room f) (follow_s offset (mod_of image.entry.words.now image.entry.n) room f) log.old logtags.old starts.old maps.old buckets.old stacks.old ends result log.new logtags.new starts.new maps.new buckets.new stacks.new }
+    ensures places_after { result.full ≡ false → places.new ≡ sets (replicate 1025 0) 0 (finds at (slice at end image.entry.tags.now)) }
 {
     if room == 0 {
         return ends;
     }
-    if known(words, tags, n, log, logtags, starts, maps, ends, f) != 0 {
+    if known(image, log, logtags, starts, maps, ends, f) != 0 {
         return ends;
     }
     let got = append(
-        words,
-        tags,
-        targets,
-        n,
+        image,
         log,
         logtags,
         starts,
@@ -335,6 +304,6 @@ pub fn follow(
     if got.full {
         return got;
     }
-    index_expressions(tags, at, end, places);
+    index_expressions(image.tags, at, end, places);
     got
 }

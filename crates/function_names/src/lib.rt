@@ -8,13 +8,12 @@ ghost use Rattle.derive_state.specs.Held.{row, ValidArrays};
 ghost use Rattle.function_references.specs.Fits.{Ground};
 ghost use Rattle.function_builder.specs.Stacks.{Stacks};
 ghost use Rattle.function_names.specs.Named.{named_records, KeepNamesEnsures, ImportNamesEnsures};
+ghost use Rattle.derive_state.specs.Refers.{target_bytes};
 
-use base_views::NAMES;
-use base_words::{Tags, Words};
+use base_views::{Image, NAMES};
+use base_words::Words;
 use derive_imports::import;
-use derive_state::{
-    Buckets, ExprMap, Log, LogTags, Maps, Sizes, StackRows, Starts, Targets, mark_full,
-};
+use derive_state::{Buckets, ExprMap, Log, LogTags, Maps, Sizes, StackRows, Starts, mark_full};
 use function_builder::{BODY, push};
 
 // The named expressions that stay, of those whose count is word `at`, each with its name's word in the source: the last name counts, in the first's place.
@@ -61,10 +60,7 @@ pub fn keep_names(
 
 // Imports the names of the pairs that are on the stack from b on.
 pub fn import_names(
-    words: &Words,
-    tags: &Tags,
-    targets: &Targets,
-    n: usize,
+    image: Image,
     log: &mut Log,
     logtags: &mut LogTags,
     starts: &mut Starts,
@@ -75,12 +71,12 @@ pub fn import_names(
     offset: u32,
     b: usize,
 ) -> Sizes
-    requires ground { Ground words.now tags.now targets.now n }
+    requires ground { Ground image.words.now image.tags.now target_bytes image.n }
     requires b_le_bodytop { (b ≤ ends.bodytop) × (ends.full ≡ false) }
-    requires by_index { (i : ℕ) → b + 2 * i < ends.bodytop → (suc (b + 2 * i) < ends.bodytop) × (get_or (row stacks.old 3) (suc (b + 2 * i)) 0 ≤ count_at 0 words.now) }
+    requires by_index { (i : ℕ) → b + 2 * i < ends.bodytop → (suc (b + 2 * i) < ends.bodytop) × (get_or (row stacks.old 3) (suc (b + 2 * i)) 0 ≤ count_at 0 image.words.now) }
     requires stacks { Stacks stacks.old ends }
     requires valid_arrays { ValidArrays log.old logtags.old starts.old maps.old buckets.old ends }
-    ensures { ImportNamesEnsures words.now n offset b log.old logtags.old starts.old maps.old buckets.old stacks.old ends result log.new logtags.new starts.new maps.new buckets.new stacks.new }
+    ensures { ImportNamesEnsures image.entry.words.now image.entry.n offset b log.old logtags.old starts.old maps.old buckets.old stacks.old ends result log.new logtags.new starts.new maps.new buckets.new stacks.new }
 {
     let mut e = ends;
     let mut i = b;
@@ -90,10 +86,7 @@ pub fn import_names(
         let w = stacks[BODY][j];
         if w != 0 {
             e = import(
-                words,
-                tags,
-                targets,
-                n,
+                image,
                 log,
                 logtags,
                 starts,

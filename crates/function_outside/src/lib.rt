@@ -9,19 +9,16 @@ ghost use Rattle.theory_passes.specs.Light.{still};
 ghost use Rattle.derive_state.specs.Source.{mod_of, src_of};
 ghost use Rattle.derive_state.specs.Held.{cell, ValidArrays, ImportEnsures};
 ghost use Rattle.function_references.specs.Fits.{Ground, Legible, record_of};
+ghost use Rattle.derive_state.specs.Refers.{target_bytes};
 
 use base_classes::EXPR;
-use base_views::EXPRESSIONS;
-use base_words::{Tags, Words};
+use base_views::{EXPRESSIONS, Image};
 use derive_imports::{import, refers_to};
-use derive_state::{Buckets, Log, LogTags, Maps, Sizes, Starts, Targets};
+use derive_state::{Buckets, Log, LogTags, Maps, Sizes, Starts};
 
 // Imports record h of table t; nothing where t is no table.
 pub fn import_by_table(
-    words: &Words,
-    tags: &Tags,
-    targets: &Targets,
-    n: usize,
+    image: Image,
     log: &mut Log,
     logtags: &mut LogTags,
     starts: &mut Starts,
@@ -32,17 +29,17 @@ pub fn import_by_table(
     t: usize,
     h: u32,
 ) -> Sizes
-    requires ground { Ground words.now tags.now targets.now n }
-    requires h_bound { t < 6 → h < count_at t words.now }
+    requires ground { Ground image.words.now image.tags.now target_bytes image.n }
+    requires h_bound { t < 6 → h < count_at t image.words.now }
     requires full_value { ends.full ≡ false }
     requires valid_arrays { ValidArrays log.old logtags.old starts.old maps.old buckets.old ends }
-    ensures { ImportEnsures words.now (record_of offset (src_of words.now n) t h) log.old logtags.old starts.old maps.old buckets.old ends result log.new logtags.new starts.new maps.new buckets.new }
+    ensures { ImportEnsures image.entry.words.now (record_of offset (src_of image.entry.words.now image.entry.n) t h) log.old logtags.old starts.old maps.old buckets.old ends result log.new logtags.new starts.new maps.new buckets.new }
 {
     if EXPRESSIONS < t {
         return ends;
     }
     import(
-        words, tags, targets, n, log, logtags, starts, maps, buckets, ends, offset, t, h,
+        image, log, logtags, starts, maps, buckets, ends, offset, t, h,
     )
 }
 
@@ -57,10 +54,7 @@ pub fn missing(maps: &Maps, t: usize, h: u32) -> bool
 
 // The same as import_by_table, but tests first whether the record is mapped.
 pub fn import_record(
-    words: &Words,
-    tags: &Tags,
-    targets: &Targets,
-    n: usize,
+    image: Image,
     log: &mut Log,
     logtags: &mut LogTags,
     starts: &mut Starts,
@@ -71,26 +65,23 @@ pub fn import_record(
     t: usize,
     h: u32,
 ) -> Sizes
-    requires ground { Ground words.now tags.now targets.now n }
-    requires h_bound { t < 6 → h < count_at t words.now }
+    requires ground { Ground image.words.now image.tags.now target_bytes image.n }
+    requires h_bound { t < 6 → h < count_at t image.words.now }
     requires full_value { ends.full ≡ false }
     requires valid_arrays { ValidArrays log.old logtags.old starts.old maps.old buckets.old ends }
-    ensures { ImportEnsures words.now (record_of offset (src_of words.now n) t h) log.old logtags.old starts.old maps.old buckets.old ends result log.new logtags.new starts.new maps.new buckets.new }
+    ensures { ImportEnsures image.entry.words.now (record_of offset (src_of image.entry.words.now image.entry.n) t h) log.old logtags.old starts.old maps.old buckets.old ends result log.new logtags.new starts.new maps.new buckets.new }
 {
     if !missing(maps, t, h) {
         return ends;
     }
     import_by_table(
-        words, tags, targets, n, log, logtags, starts, maps, buckets, ends, offset, t, h,
+        image, log, logtags, starts, maps, buckets, ends, offset, t, h,
     )
 }
 
 // Imports what the words from `at` to `end` refer to outside the function.
 pub fn import_outside(
-    words: &Words,
-    tags: &Tags,
-    targets: &Targets,
-    n: usize,
+    image: Image,
     log: &mut Log,
     logtags: &mut LogTags,
     starts: &mut Starts,
@@ -101,21 +92,20 @@ pub fn import_outside(
     at: usize,
     end: usize,
 ) -> Sizes
-    requires ground { Ground words.now tags.now targets.now n }
-    requires legible { Legible words.now tags.now 1024 at end }
+    requires ground { Ground image.words.now image.tags.now target_bytes image.n }
+    requires legible { Legible image.words.now image.tags.now 1024 at end }
     requires full_value { ends.full ≡ false }
     requires valid_arrays { ValidArrays log.old logtags.old starts.old maps.old buckets.old ends }
-    ensures { ImportEnsures words.now (outward offset (mod_of words.now n) still (between tags.now words.now at end)) log.old logtags.old starts.old maps.old buckets.old ends result log.new logtags.new starts.new maps.new buckets.new }
+    ensures { ImportEnsures image.entry.words.now (outward offset (mod_of image.entry.words.now image.entry.n) still (between image.entry.tags.now image.entry.words.now at end)) log.old logtags.old starts.old maps.old buckets.old ends result log.new logtags.new starts.new maps.new buckets.new }
 {
     let mut e = ends;
     for j in at..end {
-        let s = tags[j];
+        let s = image.tags[j];
         if s < EXPR {
-            let r = refers_to(targets, s, words[j]);
+            let r = refers_to(s, image.words[j]);
             if missing(maps, r.table, r.number) {
                 e = import_by_table(
-                    words, tags, targets, n, log, logtags, starts, maps, buckets, e, offset,
-                    r.table, r.number,
+                    image, log, logtags, starts, maps, buckets, e, offset, r.table, r.number,
                 );
                 if e.full {
                     return e;

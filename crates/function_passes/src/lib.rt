@@ -19,14 +19,12 @@ ghost use Rattle.function_references.specs.Cuts.{Expressions};
 ghost use Rattle.function_builder.specs.Stacks.{Under};
 ghost use Rattle.function_builder.specs.Makes.{Makes, Lays};
 ghost use Rattle.function_words.specs.Runs.{needs, glances, Bodied, Drawn, Runs};
+ghost use Rattle.derive_state.specs.Refers.{target_bytes};
 
 use base_classes::{ATOMIC, EXPR, FROM, OPT_EXPR, STMT_KIND, TO};
-use base_views::EXPRESSIONS;
-use base_words::{Tags, Words, wide};
+use base_views::{EXPRESSIONS, Image};
 use derive_imports::refers_to;
-use derive_state::{
-    Buckets, ExprMap, Log, LogTags, Maps, Places, Sizes, StackRows, Starts, Targets,
-};
+use derive_state::{Buckets, ExprMap, Log, LogTags, Maps, Places, Sizes, StackRows, Starts};
 use function_builder::{append, push};
 use function_expressions::{import_operand, import_standing};
 use function_outside::import_record;
@@ -35,10 +33,7 @@ use function_words::put_word;
 
 // Imports what word i of a body refers to: an expression of the function, or a record of a table.
 fn import_body_word(
-    words: &Words,
-    tags: &Tags,
-    targets: &Targets,
-    n: usize,
+    image: Image,
     places: &Places,
     log: &mut Log,
     logtags: &mut LogTags,
@@ -53,30 +48,26 @@ fn import_body_word(
     k: usize,
     i: usize,
 ) -> Sizes
-    requires ground { Ground words.now tags.now targets.now n }
-    requires expressions { Expressions words.now tags.now places.now k }
-    requires i_bound { (i < 16384) × (All (FitN words.now k) (ref_of (target (get_or tags.now i 0)) (get_or words.now i 0) [])) }
+    requires ground { Ground image.words.now image.tags.now target_bytes image.n }
+    requires expressions { Expressions image.words.now image.tags.now places.now k }
+    requires i_bound { (i < 16384) × (All (FitN image.words.now k) (ref_of (target (get_or image.tags.now i 0)) (get_or image.words.now i 0) [])) }
     requires full_value { ends.full ≡ false }
     requires valid_arrays { ValidArrays log.old logtags.old starts.old maps.old buckets.old ends }
     requires under { Under k exprmap.old stacks.old e1 ends }
-    ensures { Makes words.now k (arriveE offset (mod_of words.now n) still (needs offset words.now tags.now n places.now k) (glances offset words.now tags.now n places.now k) (target (get_or tags.now i 0)) (get_or words.now i 0)) log.old logtags.old starts.old maps.old buckets.old exprmap.old stacks.old e1 ends result log.new logtags.new starts.new maps.new buckets.new exprmap.new stacks.new }
+    ensures { Makes image.entry.words.now k (arriveE offset (mod_of image.entry.words.now image.entry.n) still (needs offset image.entry.words.now image.entry.tags.now image.entry.n places.now k) (glances offset image.entry.words.now image.entry.tags.now image.entry.n places.now k) (target (get_or image.entry.tags.now i 0)) (get_or image.entry.words.now i 0)) log.old logtags.old starts.old maps.old buckets.old exprmap.old stacks.old e1 ends result log.new logtags.new starts.new maps.new buckets.new exprmap.new stacks.new }
 {
-    let s = tags[i];
-    let r = refers_to(targets, s, words[i]);
+    let s = image.tags[i];
+    let r = refers_to(s, image.words[i]);
     if s < EXPR {
         return import_record(
-            words, tags, targets, n, log, logtags, starts, maps, buckets, ends, offset, r.table,
-            r.number,
+            image, log, logtags, starts, maps, buckets, ends, offset, r.table, r.number,
         );
     }
     if r.table != EXPRESSIONS {
         return ends;
     }
     import_operand(
-        words,
-        tags,
-        targets,
-        n,
+        image,
         places,
         log,
         logtags,
@@ -89,16 +80,13 @@ fn import_body_word(
         offset,
         e1,
         k,
-        wide(r.number),
+        r.number as usize,
     )
 }
 
 // An Emit's first pass over the expressions from a to b.
 fn first_pass(
-    words: &Words,
-    tags: &Tags,
-    targets: &Targets,
-    n: usize,
+    image: Image,
     places: &Places,
     log: &mut Log,
     logtags: &mut LogTags,
@@ -114,19 +102,19 @@ fn first_pass(
     a: usize,
     b: usize,
 ) -> Sizes
-    requires ground { Ground words.now tags.now targets.now n }
-    requires expressions { Expressions words.now tags.now places.now k }
+    requires ground { Ground image.words.now image.tags.now target_bytes image.n }
+    requires expressions { Expressions image.words.now image.tags.now places.now k }
     requires b_le_k { b ≤ k }
     requires full_value { ends.full ≡ false }
     requires valid_arrays { ValidArrays log.old logtags.old starts.old maps.old buckets.old ends }
     requires under { Under k exprmap.old stacks.old e1 ends }
-    ensures { Makes words.now k (each_e (in_range (record { from = a; to = b })) (glances offset words.now tags.now n places.now k)) log.old logtags.old starts.old maps.old buckets.old exprmap.old stacks.old e1 ends result log.new logtags.new starts.new maps.new buckets.new exprmap.new stacks.new }
+    ensures { Makes image.entry.words.now k (each_e (in_range (record { from = a; to = b })) (glances offset image.entry.words.now image.entry.tags.now image.entry.n places.now k)) log.old logtags.old starts.old maps.old buckets.old exprmap.old stacks.old e1 ends result log.new logtags.new starts.new maps.new buckets.new exprmap.new stacks.new }
 {
     let mut e = ends;
     for y in a..b {
         e = import_standing(
-            words, tags, targets, n, places, log, logtags, starts, maps, buckets, exprmap, stacks,
-            e, offset, e1, k, y,
+            image, places, log, logtags, starts, maps, buckets, exprmap, stacks, e, offset, e1, k,
+            y,
         );
         if e.full {
             return e;
@@ -137,10 +125,7 @@ fn first_pass(
 
 // Its second pass: what the expressions refer to outside was imported by the first, so what is not mapped is appended.
 fn second_pass(
-    words: &Words,
-    tags: &Tags,
-    targets: &Targets,
-    n: usize,
+    image: Image,
     places: &Places,
     log: &Log,
     logtags: &LogTags,
@@ -155,21 +140,20 @@ fn second_pass(
     a: usize,
     b: usize,
 ) -> Sizes
-    requires ground { Ground words.now tags.now targets.now n }
-    requires expressions { Expressions words.now tags.now places.now k }
+    requires ground { Ground image.words.now image.tags.now target_bytes image.n }
+    requires expressions { Expressions image.words.now image.tags.now places.now k }
     requires b_le_k { b ≤ k }
     requires full_value { ends.full ≡ false }
     requires by_index { (buckets : List ℕ) × ValidArrays log.now logtags.now starts.now maps.now buckets ends }
     requires under { Under k exprmap.old stacks.old e1 ends }
-    requires drawn { Drawn words.now tags.now places.now k maps.now exprmap.old a b }
-    ensures { Lays words.now k (each_e (in_range (record { from = a; to = b })) (needs offset words.now tags.now n places.now k)) log.now logtags.now starts.now maps.now exprmap.old stacks.old e1 ends result exprmap.new stacks.new }
+    requires drawn { Drawn image.words.now image.tags.now places.now k maps.now exprmap.old a b }
+    ensures { Lays image.entry.words.now k (each_e (in_range (record { from = a; to = b })) (needs offset image.entry.words.now image.entry.tags.now image.entry.n places.now k)) log.now logtags.now starts.now maps.now exprmap.old stacks.old e1 ends result exprmap.new stacks.new }
 {
     let mut e = ends;
     for y in a..b {
         if exprmap[y] == 0 {
             e = append(
-                words, tags, targets, n, places, log, logtags, starts, maps, exprmap, stacks, e,
-                offset, e1, k, y,
+                image, places, log, logtags, starts, maps, exprmap, stacks, e, offset, e1, k, y,
             );
             if e.full {
                 return e;
@@ -181,10 +165,7 @@ fn second_pass(
 
 // Both passes of an Emit over the expressions from a to b; its new start is how many expressions are made before the second.
 fn emit(
-    words: &Words,
-    tags: &Tags,
-    targets: &Targets,
-    n: usize,
+    image: Image,
     places: &Places,
     log: &mut Log,
     logtags: &mut LogTags,
@@ -200,17 +181,17 @@ fn emit(
     a: usize,
     b: usize,
 ) -> Sizes
-    requires ground { Ground words.now tags.now targets.now n }
-    requires expressions { Expressions words.now tags.now places.now k }
+    requires ground { Ground image.words.now image.tags.now target_bytes image.n }
+    requires expressions { Expressions image.words.now image.tags.now places.now k }
     requires b_le_k { b ≤ k }
     requires full_value { ends.full ≡ false }
     requires valid_arrays { ValidArrays log.old logtags.old starts.old maps.old buckets.old ends }
     requires under { Under k exprmap.old stacks.old e1 ends }
-    ensures { Runs words.now k (both offset (mod_of words.now n) still (needs offset words.now tags.now n places.now k) (glances offset words.now tags.now n places.now k) a b) (λ (m : Builder). length (first offset (mod_of words.now n) still (needs offset words.now tags.now n places.now k) (glances offset words.now tags.now n places.now k) a b m).made ∷ []) log.old logtags.old starts.old maps.old buckets.old exprmap.old stacks.old e1 ends result log.new logtags.new starts.new maps.new buckets.new exprmap.new stacks.new }
+    ensures { Runs image.entry.words.now k (both offset (mod_of image.entry.words.now image.entry.n) still (needs offset image.entry.words.now image.entry.tags.now image.entry.n places.now k) (glances offset image.entry.words.now image.entry.tags.now image.entry.n places.now k) a b) (λ (m : Builder). length (first offset (mod_of image.entry.words.now image.entry.n) still (needs offset image.entry.words.now image.entry.tags.now image.entry.n places.now k) (glances offset image.entry.words.now image.entry.tags.now image.entry.n places.now k) a b m).made ∷ []) log.old logtags.old starts.old maps.old buckets.old exprmap.old stacks.old e1 ends result log.new logtags.new starts.new maps.new buckets.new exprmap.new stacks.new }
 {
     let got = first_pass(
-        words, tags, targets, n, places, log, logtags, starts, maps, buckets, exprmap, stacks,
-        ends, offset, e1, k, a, b,
+        image, places, log, logtags, starts, maps, buckets, exprmap, stacks, ends, offset, e1, k,
+        a, b,
     );
     if got.full {
         return got;
@@ -221,24 +202,23 @@ fn emit(
         return put;
     }
     second_pass(
-        words, tags, targets, n, places, log, logtags, starts, maps, exprmap, stacks, put, offset,
-        e1, k, a, b,
+        image, places, log, logtags, starts, maps, exprmap, stacks, put, offset, e1, k, a, b,
     )
 }
 
 // What the first code of an atomic function, from i on, compares: the number of an expression plus 1, or 0.
-fn compare_operand(words: &Words, tags: &Tags, i: usize, end: usize) -> u32
-    requires { Stretch words.now tags.now i end }
-    ensures { optional result [] ≡ compares_of (between tags.now words.now (i) end) }
+fn compare_operand(image: Image, i: usize, end: usize) -> u32
+    requires { Stretch image.words.now image.tags.now i end }
+    ensures { optional result [] ≡ compares_of (between image.entry.tags.now image.entry.words.now (i) end) }
 {
     for j in i..end {
-        if tags[j] == ATOMIC {
+        if image.tags[j] == ATOMIC {
             let k = j + 1;
             if end <= k {
                 return 0;
             }
-            if tags[k] == OPT_EXPR {
-                return words[k];
+            if image.tags[k] == OPT_EXPR {
+                return image.words[k];
             }
             return 0;
         }
@@ -248,10 +228,7 @@ fn compare_operand(words: &Words, tags: &Tags, i: usize, end: usize) -> u32
 
 // What an atomic statement compares, where its kind is word i.
 fn import_compare(
-    words: &Words,
-    tags: &Tags,
-    targets: &Targets,
-    n: usize,
+    image: Image,
     places: &Places,
     log: &mut Log,
     logtags: &mut LogTags,
@@ -267,26 +244,23 @@ fn import_compare(
     i: usize,
     end: usize,
 ) -> Sizes
-    requires ground { Ground words.now tags.now targets.now n }
-    requires expressions { Expressions words.now tags.now places.now k }
-    requires legible { (Legible words.now tags.now k i end) × (i < end) }
+    requires ground { Ground image.words.now image.tags.now target_bytes image.n }
+    requires expressions { Expressions image.words.now image.tags.now places.now k }
+    requires legible { (Legible image.words.now image.tags.now k i end) × (i < end) }
     requires full_value { ends.full ≡ false }
     requires valid_arrays { ValidArrays log.old logtags.old starts.old maps.old buckets.old ends }
     requires under { Under k exprmap.old stacks.old e1 ends }
-    ensures { Makes words.now k (early offset (mod_of words.now n) still (needs offset words.now tags.now n places.now k) (glances offset words.now tags.now n places.now k) (get_or words.now i 0) (between tags.now words.now (suc i) end)) log.old logtags.old starts.old maps.old buckets.old exprmap.old stacks.old e1 ends result log.new logtags.new starts.new maps.new buckets.new exprmap.new stacks.new }
+    ensures { Makes image.entry.words.now k (early offset (mod_of image.entry.words.now image.entry.n) still (needs offset image.entry.words.now image.entry.tags.now image.entry.n places.now k) (glances offset image.entry.words.now image.entry.tags.now image.entry.n places.now k) (get_or image.entry.words.now i 0) (between image.entry.tags.now image.entry.words.now (suc i) end)) log.old logtags.old starts.old maps.old buckets.old exprmap.old stacks.old e1 ends result log.new logtags.new starts.new maps.new buckets.new exprmap.new stacks.new }
 {
-    if !atomic(words[i]) {
+    if !atomic(image.words[i]) {
         return ends;
     }
-    let x = compare_operand(words, tags, i + 1, end);
+    let x = compare_operand(image, i + 1, end);
     if x == 0 {
         return ends;
     }
     import_operand(
-        words,
-        tags,
-        targets,
-        n,
+        image,
         places,
         log,
         logtags,
@@ -299,16 +273,13 @@ fn import_compare(
         offset,
         e1,
         k,
-        wide(x - 1),
+        (x - 1) as usize,
     )
 }
 
 // Imports and writes word i of a body, with the words up to `end` after it; it names no function. u: whether the span last met is undefined.
 pub fn import_word(
-    words: &Words,
-    tags: &Tags,
-    targets: &Targets,
-    n: usize,
+    image: Image,
     places: &Places,
     log: &mut Log,
     logtags: &mut LogTags,
@@ -325,21 +296,21 @@ pub fn import_word(
     end: usize,
     u: bool,
 ) -> Sizes
-    requires ground { Ground words.now tags.now targets.now n }
-    requires expressions { Expressions words.now tags.now places.now k }
-    requires bodied { (Bodied words.now tags.now k i end) × (i < end) }
+    requires ground { Ground image.words.now image.tags.now target_bytes image.n }
+    requires expressions { Expressions image.words.now image.tags.now places.now k }
+    requires bodied { (Bodied image.words.now image.tags.now k i end) × (i < end) }
     requires full_value { ends.full ≡ false }
     requires valid_arrays { ValidArrays log.old logtags.old starts.old maps.old buckets.old ends }
     requires under { Under k exprmap.old stacks.old e1 ends }
-    ensures { Runs words.now k (passed offset (mod_of words.now n) still (needs offset words.now tags.now n places.now k) (glances offset words.now tags.now n places.now k) (get_or tags.now i 0, get_or words.now i 0) (between tags.now words.now (suc i) end)) (λ (m : Builder). word_of offset (mod_of words.now n) still (needs offset words.now tags.now n places.now k) (glances offset words.now tags.now n places.now k) (get_or tags.now i 0, get_or words.now i 0) (between tags.now words.now (suc i) end) u m ∷ []) log.old logtags.old starts.old maps.old buckets.old exprmap.old stacks.old e1 ends result log.new logtags.new starts.new maps.new buckets.new exprmap.new stacks.new }
+    ensures { Runs image.entry.words.now k (passed offset (mod_of image.entry.words.now image.entry.n) still (needs offset image.entry.words.now image.entry.tags.now image.entry.n places.now k) (glances offset image.entry.words.now image.entry.tags.now image.entry.n places.now k) (get_or image.entry.tags.now i 0, get_or image.entry.words.now i 0) (between image.entry.tags.now image.entry.words.now (suc i) end)) (λ (m : Builder). word_of offset (mod_of image.entry.words.now image.entry.n) still (needs offset image.entry.words.now image.entry.tags.now image.entry.n places.now k) (glances offset image.entry.words.now image.entry.tags.now image.entry.n places.now k) (get_or image.entry.tags.now i 0, get_or image.entry.words.now i 0) (between image.entry.tags.now image.entry.words.now (suc i) end) u m ∷ []) log.old logtags.old starts.old maps.old buckets.old exprmap.old stacks.old e1 ends result log.new logtags.new starts.new maps.new buckets.new exprmap.new stacks.new }
 {
-    let s = tags[i];
+    let s = image.tags[i];
     if s == FROM {
-        let a = wide(words[i]);
-        let b = wide(words[i + 1]);
+        let a = image.words[i] as usize;
+        let b = image.words[i + 1] as usize;
         return emit(
-            words, tags, targets, n, places, log, logtags, starts, maps, buckets, exprmap, stacks,
-            ends, offset, e1, k, a, b,
+            image, places, log, logtags, starts, maps, buckets, exprmap, stacks, ends, offset, e1,
+            k, a, b,
         );
     }
     if s == TO {
@@ -348,22 +319,21 @@ pub fn import_word(
     }
     if s == STMT_KIND {
         let got = import_compare(
-            words, tags, targets, n, places, log, logtags, starts, maps, buckets, exprmap, stacks,
-            ends, offset, e1, k, i, end,
+            image, places, log, logtags, starts, maps, buckets, exprmap, stacks, ends, offset, e1,
+            k, i, end,
         );
         if got.full {
             return got;
         }
-        return push(stacks, got, words[i]);
+        return push(stacks, got, image.words[i]);
     }
     let got = import_body_word(
-        words, tags, targets, n, places, log, logtags, starts, maps, buckets, exprmap, stacks,
-        ends, offset, e1, k, i,
+        image, places, log, logtags, starts, maps, buckets, exprmap, stacks, ends, offset, e1, k, i,
     );
     if got.full {
         return got;
     }
     put_word(
-        words, tags, targets, n, log, logtags, starts, maps, exprmap, stacks, got, offset, i, u,
+        image, log, logtags, starts, maps, exprmap, stacks, got, offset, i, u,
     )
 }

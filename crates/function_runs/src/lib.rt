@@ -8,31 +8,30 @@ ghost use Rattle.model.specs.Between.{between, Stretch};
 ghost use Rattle.model.specs.References.{target, ref_of, first_word, undefined_at};
 ghost use Rattle.theory_records.specs.RecordLaws.{All};
 ghost use Rattle.theory_passes.specs.Pass.{atomic_kind};
-ghost use Rattle.derive_state.specs.Refers.{target_of, target_bytes};
+ghost use Rattle.derive_state.specs.Refers.{target_of};
 ghost use Rattle.derive_state.specs.Source.{refers_to, number_of};
 ghost use Rattle.function_references.specs.Fits.{FitN, Legible};
 ghost use Rattle.function_builder.specs.Stacks.{went_by};
 ghost use Rattle.function_runs.specs.Copied.{Quiet, becomes, Ran};
 
 use base_classes::{EXPR, FROM, SPAN, STMT_KIND, TO};
-use base_views::EXPRESSIONS;
-use base_words::{Tags, Words, wide};
+use base_views::{EXPRESSIONS, Image};
 use derive_imports::refers_to;
-use derive_state::{ExprMap, FUNCTION, Maps, NOTHING, StackRows, Targets, moved, target_of};
+use derive_state::{ExprMap, FUNCTION, Maps, NOTHING, StackRows, moved, target_of};
 use function_builder::{BODY, by_maps};
 
 // Whether the span last met is undefined, once word i is read.
-pub fn span_undefined(words: &Words, tags: &Tags, i: usize, end: usize, u: bool) -> bool
-    requires { (Stretch words.now tags.now i end) × (i < end) }
-    ensures { result ≡ undefined_at (target (get_or tags.now i 0)) (get_or words.now i 0) (first_word (between tags.now words.now (suc i) end)) u }
+pub fn span_undefined(image: Image, i: usize, end: usize, u: bool) -> bool
+    requires { (Stretch image.words.now image.tags.now i end) × (i < end) }
+    ensures { result ≡ undefined_at (target (get_or image.entry.tags.now i 0)) (get_or image.entry.words.now i 0) (first_word (between image.entry.tags.now image.entry.words.now (suc i) end)) u }
 {
-    if tags[i] != SPAN {
+    if image.tags[i] != SPAN {
         return u;
     }
     if i + 1 < end {
-        return wide(words[i]) + wide(words[i + 1]) == 0;
+        return image.words[i] as usize + image.words[i + 1] as usize == 0;
     }
-    words[i] == 0
+    image.words[i] == 0
 }
 
 // Whether a statement of the kind k is atomic.
@@ -46,12 +45,11 @@ pub fn atomic(k: u32) -> bool
 }
 
 // Whether the word w of the class s needs no import: it names no function, starts no Emit and no atomic statement, and what it refers to is mapped.
-fn is_mapped_word(targets: &Targets, maps: &Maps, exprmap: &ExprMap, s: u8, w: u32) -> bool
-    requires targets_value { targets.now ≡ target_bytes }
+fn is_mapped_word(maps: &Maps, exprmap: &ExprMap, s: u8, w: u32) -> bool
     requires w_bound { (s < EXPR' → refers_to (target s) w < 6 → number_of (target s) w < 512) × (EXPR' ≤ s → refers_to (target s) w ≡ 5 → number_of (target s) w < 1024) }
     ensures { result ≡ true → Quiet maps.now exprmap.now s w }
 {
-    let u = target_of(targets, s);
+    let u = target_of(s);
     if u == NOTHING {
         if s == FROM {
             return false;
@@ -64,9 +62,9 @@ fn is_mapped_word(targets: &Targets, maps: &Maps, exprmap: &ExprMap, s: u8, w: u
     if u == FUNCTION {
         return false;
     }
-    let r = refers_to(targets, s, w);
+    let r = refers_to(s, w);
     let t = r.table;
-    let h = wide(r.number);
+    let h = r.number as usize;
     if s < EXPR {
         if EXPRESSIONS < t {
             return true;
@@ -80,17 +78,7 @@ fn is_mapped_word(targets: &Targets, maps: &Maps, exprmap: &ExprMap, s: u8, w: u
 }
 
 // What such a word becomes, where so many expressions are made: that is the end of an Emit's range; any other goes through the maps, with its span moved.
-fn carry(
-    targets: &Targets,
-    maps: &Maps,
-    exprmap: &ExprMap,
-    made: usize,
-    offset: u32,
-    s: u8,
-    w: u32,
-    u: bool,
-) -> u32
-    requires targets_value { targets.now ≡ target_bytes }
+fn carry(maps: &Maps, exprmap: &ExprMap, made: usize, offset: u32, s: u8, w: u32, u: bool) -> u32
     requires maps_len { length maps.now ≡ 6 }
     requires fact { (target_of (target s) ≡ 7 → ⊥) × (made ≤ 16384) }
     requires by_index { (ws : List ℕ) × All (FitN ws 1024) (ref_of (target s) w []) }
@@ -99,7 +87,7 @@ fn carry(
     if s == TO {
         return made as u32;
     }
-    moved(s, by_maps(targets, maps, exprmap, s, w), offset, u)
+    moved(s, by_maps(maps, exprmap, s, w), offset, u)
 }
 
 // How far words were written, and whether the span last met is then undefined.
@@ -111,9 +99,7 @@ pub struct Reach {
 
 // Copies the words from `at` on to the stack of words, from `bodytop` on, as long as they need no import and there is room.
 pub fn copy_mapped_run(
-    words: &Words,
-    tags: &Tags,
-    targets: &Targets,
+    image: Image,
     maps: &Maps,
     exprmap: &ExprMap,
     stacks: &mut StackRows,
@@ -124,24 +110,23 @@ pub fn copy_mapped_run(
     end: usize,
     undefined: bool,
 ) -> Reach
-    requires targets_value { targets.now ≡ target_bytes }
     requires maps_len { length maps.now ≡ 6 }
-    requires legible { (Legible words.now tags.now 1024 at end) × (bodytop ≤ 16384) × (made ≤ 16384) }
-    ensures { Ran words.now tags.now maps.now exprmap.now (went_by maps.now exprmap.now) made offset at end bodytop undefined stacks.old result.at result.undefined stacks.new }
+    requires legible { (Legible image.words.now image.tags.now 1024 at end) × (bodytop ≤ 16384) × (made ≤ 16384) }
+    ensures { Ran image.entry.words.now image.entry.tags.now maps.now exprmap.now (went_by maps.now exprmap.now) made offset at end bodytop undefined stacks.old result.at result.undefined stacks.new }
 {
     let mut i = at;
     let mut p = bodytop;
     let mut u = undefined;
     while i < end {
-        let s = tags[i];
-        let w = words[i];
+        let s = image.tags[i];
+        let w = image.words[i];
         if p == 16384 {
             return Reach {
                 at: i,
                 undefined: u,
             };
         }
-        if !is_mapped_word(targets, maps, exprmap, s, w) {
+        if !is_mapped_word(maps, exprmap, s, w) {
             return Reach {
                 at: i,
                 undefined: u,
@@ -151,8 +136,8 @@ pub fn copy_mapped_run(
         let q = p;
         i += 1;
         p += 1;
-        u = span_undefined(words, tags, j, end, u);
-        stacks[BODY][q] = carry(targets, maps, exprmap, made, offset, s, w, u);
+        u = span_undefined(image, j, end, u);
+        stacks[BODY][q] = carry(maps, exprmap, made, offset, s, w, u);
     }
     Reach {
         at: i,

@@ -9,17 +9,15 @@ ghost use Rattle.derive_lookup.specs.Bearing.{Bearing};
 ghost use Rattle.function_references.specs.Fits.{FitN, Ground};
 ghost use Rattle.function_builder.specs.Stacks.{went_of, Stacks};
 ghost use Rattle.function_builder.specs.Makes.{Pushed};
+ghost use Rattle.derive_state.specs.Refers.{target_bytes};
 
-use base_words::{Tags, Words};
-use derive_state::{ExprMap, Log, LogTags, Maps, Sizes, StackRows, Starts, Targets, moved};
+use base_views::Image;
+use derive_state::{ExprMap, Log, LogTags, Maps, Sizes, StackRows, Starts, moved};
 use function_builder::{carried, push};
 
 // Pushes word i on the stack, carried through the maps and with its span moved.
 pub fn put_word(
-    words: &Words,
-    tags: &Tags,
-    targets: &Targets,
-    n: usize,
+    image: Image,
     log: &Log,
     logtags: &LogTags,
     starts: &Starts,
@@ -31,16 +29,24 @@ pub fn put_word(
     i: usize,
     u: bool,
 ) -> Sizes
-    requires ground { Ground words.now tags.now targets.now n }
+    requires ground { Ground image.words.now image.tags.now target_bytes image.n }
     requires bearing { Bearing log.now logtags.now starts.now ends }
     requires maps_len { length maps.now ≡ 6 }
-    requires i_bound { (i < 16384) × (All (FitN words.now 1024) (ref_of (target (get_or tags.now i 0)) (get_or words.now i 0) [])) }
+    requires i_bound { (i < 16384) × (All (FitN image.words.now 1024) (ref_of (target (get_or image.tags.now i 0)) (get_or image.words.now i 0) [])) }
     requires stacks { Stacks stacks.old ends }
-    ensures { Pushed (movedOf (target (get_or tags.now i 0)) (through (went_of words.now n log.now logtags.now starts.now maps.now ends exprmap.now) (get_or tags.now i 0) (get_or words.now i 0)) offset u) stacks.old ends result stacks.new }
+    ensures { Pushed (movedOf (target (get_or image.entry.tags.now i 0)) (through (went_of image.entry.words.now image.entry.n log.now logtags.now starts.now maps.now ends exprmap.now) (get_or image.entry.tags.now i 0) (get_or image.entry.words.now i 0)) offset u) stacks.old ends result stacks.new }
 {
-    let s = tags[i];
+    let s = image.tags[i];
     let w = carried(
-        words, tags, targets, n, log, logtags, starts, maps, exprmap, ends, s, words[i],
+        image,
+        log,
+        logtags,
+        starts,
+        maps,
+        exprmap,
+        ends,
+        s,
+        image.words[i],
     );
     push(stacks, ends, moved(s, w, offset, u))
 }

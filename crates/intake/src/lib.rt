@@ -7,26 +7,27 @@ ghost use Rattle.model.specs.Image.{IntakeEnsures};
 ghost use Rattle.intake.specs.Taken.{Tested, TakeInEnsures};
 
 use base_refusals::Refusal;
+use base_views::Image;
 use base_words::{Tags, Words};
 
 // Tests 3 to 6, of words and tags that hold an image of n words.
-fn test(words: &Words, tags: &Tags, n: usize) -> Result<usize, Refusal>
-    requires { Tape words.now tags.now n }
-    ensures { Tested result words.now tags.now n }
+fn test(image: Image) -> Result<usize, Refusal>
+    requires { Tape image.words.now image.tags.now image.n }
+    ensures { Tested result image.entry.words.now image.entry.tags.now image.entry.n }
 {
-    if !intake_numbers::numbered(words, tags, n) {
+    if !intake_numbers::numbered(image) {
         return Err(Refusal::BadRange);
     }
-    if !intake_lower::lower(words, tags, n) {
+    if !intake_lower::lower(image) {
         return Err(Refusal::BadReference);
     }
-    if !intake_names::named(words, tags, n) {
+    if !intake_names::named(image) {
         return Err(Refusal::BadNames);
     }
-    if !intake_scope::in_scope(words, tags, n) {
+    if !intake_scope::in_scope(image) {
         return Err(Refusal::BadScope);
     }
-    Ok(n)
+    Ok(image.n)
 }
 
 // Takes an image in: its count of words, or the refusal of the first test that fails. If it is accepted, words and tags hold it; if it is refused, nothing is
@@ -37,7 +38,7 @@ pub fn take_in(image: &[u8], words: &mut Words, tags: &mut Tags) -> Result<usize
     ensures { TakeInEnsures result words.new tags.new image.now }
 {
     let n = intake_layout::lay_out(image, words, tags)?;
-    test(words, tags, n)
+    test(Image { words, tags, n })
 }
 
 // Words and tags, to take an image in with.

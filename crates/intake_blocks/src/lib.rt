@@ -12,7 +12,8 @@ ghost use Rattle.intake_blocks.specs.Found.{place_of, kept_of, flow_of, StmtHere
 
 use base_classes::BLOCK;
 use base_kinds::{BREAK, CONTINUE, EMIT, LOOP, RETURN, SWITCH};
-use base_words::{Tags, Words};
+use base_views::Image;
+use base_words::Words;
 use intake_statements::{emit, read, simple};
 
 // Which statements may stand at a place: a Break, a Continue, a Return.
@@ -68,8 +69,7 @@ fn skip(words: &Words, at: usize) -> usize
 // A statement with blocks that is no Loop: its reads, and its blocks.
 #[cycle(block_looped_parts_stmt)]
 fn parts(
-    words: &Words,
-    tags: &Tags,
+    image: Image,
     starts: &[u32; 1025],
     initial: &[u8; 1024],
     until: &mut [usize; 1024],
@@ -79,21 +79,19 @@ fn parts(
     keep: usize,
     place: Place,
 ) -> Option<Flow>
-    requires stmt_here { StmtHere words.now tags.now starts.now count at stop keep }
-    requires nonzero { (0 < get_or words.now (at + 1) 0) × (get_or words.now (at + 1) 0 < 4) }
-    requires breaks_value { get_or words.now (at + 1) 0 ≡ 3 → place.breaks ≡ true }
-    ensures { FoundS words.now tags.now starts.now initial.now count at stop keep (place_of place.breaks place.continues place.returns) until.old until.new result }
+    requires stmt_here { StmtHere image.words.now image.tags.now starts.now count at stop keep }
+    requires nonzero { (0 < get_or image.words.now (at + 1) 0) × (get_or image.words.now (at + 1) 0 < 4) }
+    requires breaks_value { get_or image.words.now (at + 1) 0 ≡ 3 → place.breaks ≡ true }
+    ensures { FoundS image.entry.words.now image.entry.tags.now starts.now initial.now count at stop keep (place_of place.breaks place.continues place.returns) until.old until.new result }
 {
     let mut i = at + 4;
     let mut flow = Flow::Through;
     while i < stop {
-        if tags[i] == BLOCK {
-            let fin = skip(words, i);
-            flow = flow.then(block(
-                words, tags, starts, initial, until, count, i, fin, fin, place,
-            )?);
+        if image.tags[i] == BLOCK {
+            let fin = skip(image.words, i);
+            flow = flow.then(block(image, starts, initial, until, count, i, fin, fin, place)?);
             i = fin;
-        } else if read(words, tags, starts, until, count, i, i) {
+        } else if read(image, starts, until, count, i, i) {
             i += 1;
         } else {
             return None;
@@ -105,8 +103,7 @@ fn parts(
 // A Loop: its body, its continuing block, in which none of the three may stand, and what its break_if reads.
 #[cycle(block_looped_parts_stmt)]
 fn looped(
-    words: &Words,
-    tags: &Tags,
+    image: Image,
     starts: &[u32; 1025],
     initial: &[u8; 1024],
     until: &mut [usize; 1024],
@@ -116,9 +113,9 @@ fn looped(
     keep: usize,
     place: Place,
 ) -> Option<Flow>
-    requires stmt_here { StmtHere words.now tags.now starts.now count at stop keep }
-    requires at_value { get_or words.now (at + 1) 0 ≡ 4 }
-    ensures { FoundS words.now tags.now starts.now initial.now count at stop keep (place_of place.breaks place.continues place.returns) until.old until.new result }
+    requires stmt_here { StmtHere image.words.now image.tags.now starts.now count at stop keep }
+    requires at_value { get_or image.words.now (at + 1) 0 ≡ 4 }
+    ensures { FoundS image.entry.words.now image.entry.tags.now starts.now initial.now count at stop keep (place_of place.breaks place.continues place.returns) until.old until.new result }
 {
     let inside = Place {
         breaks: true,
@@ -131,22 +128,21 @@ fn looped(
         returns: false,
     };
     let body = at + 4;
-    let continuing = skip(words, body);
+    let continuing = skip(image.words, body);
     block(
-        words, tags, starts, initial, until, count, body, continuing, stop, inside,
+        image, starts, initial, until, count, body, continuing, stop, inside,
     )?;
-    let break_if = skip(words, continuing);
+    let break_if = skip(image.words, continuing);
     block(
-        words, tags, starts, initial, until, count, continuing, break_if, stop, bare,
+        image, starts, initial, until, count, continuing, break_if, stop, bare,
     )?;
-    read(words, tags, starts, until, count, break_if, break_if).then_some(Flow::Through)
+    read(image, starts, until, count, break_if, break_if).then_some(Flow::Through)
 }
 
 // The statement from the word `at` to the word `stop`.
 #[cycle(block_looped_parts_stmt)]
 fn stmt(
-    words: &Words,
-    tags: &Tags,
+    image: Image,
     starts: &[u32; 1025],
     initial: &[u8; 1024],
     until: &mut [usize; 1024],
@@ -156,39 +152,32 @@ fn stmt(
     keep: usize,
     place: Place,
 ) -> Option<Flow>
-    requires { StmtHere words.now tags.now starts.now count at stop keep }
-    ensures { FoundS words.now tags.now starts.now initial.now count at stop keep (place_of place.breaks place.continues place.returns) until.old until.new result }
+    requires { StmtHere image.words.now image.tags.now starts.now count at stop keep }
+    ensures { FoundS image.entry.words.now image.entry.tags.now starts.now initial.now count at stop keep (place_of place.breaks place.continues place.returns) until.old until.new result }
 {
-    match words[at + 1] {
-        EMIT => emit(words, tags, starts, initial, until, count, at, keep).then_some(Flow::Through),
+    match image.words[at + 1] {
+        EMIT => emit(image, starts, initial, until, count, at, keep).then_some(Flow::Through),
         // A Block or an If.
-        ..SWITCH => parts(
-            words, tags, starts, initial, until, count, at, stop, keep, place,
-        ),
+        ..SWITCH => parts(image, starts, initial, until, count, at, stop, keep, place),
         SWITCH => {
             let inside = Place {
                 breaks: true,
                 ..place
             };
-            parts(
-                words, tags, starts, initial, until, count, at, stop, keep, inside,
-            )
+            parts(image, starts, initial, until, count, at, stop, keep, inside)
         }
-        LOOP => looped(
-            words, tags, starts, initial, until, count, at, stop, keep, place,
-        ),
+        LOOP => looped(image, starts, initial, until, count, at, stop, keep, place),
         BREAK => place.breaks.then_some(Flow::Through),
         CONTINUE => place.continues.then_some(Flow::Continues),
         RETURN if !place.returns => None,
-        _ => simple(words, tags, starts, until, count, at, stop, keep).then_some(Flow::Through),
+        _ => simple(image, starts, until, count, at, stop, keep).then_some(Flow::Through),
     }
 }
 
 // The block from the word `at` to the word `fin`, whose evaluations stay up to the word `keep`, or up to its end from its first Continue on.
 #[cycle(block_looped_parts_stmt)]
 fn block(
-    words: &Words,
-    tags: &Tags,
+    image: Image,
     starts: &[u32; 1025],
     initial: &[u8; 1024],
     until: &mut [usize; 1024],
@@ -198,17 +187,15 @@ fn block(
     keep: usize,
     place: Place,
 ) -> Option<Flow>
-    requires { BlockHere words.now tags.now starts.now count at fin keep }
-    ensures { FoundB words.now tags.now starts.now initial.now count at fin keep (place_of place.breaks place.continues place.returns) until.old until.new result }
+    requires { BlockHere image.words.now image.tags.now starts.now count at fin keep }
+    ensures { FoundB image.entry.words.now image.entry.tags.now starts.now initial.now count at fin keep (place_of place.breaks place.continues place.returns) until.old until.new result }
 {
     let mut i = at + 1;
     let mut flow = Flow::Through;
     while i < fin {
-        let stop = i + words[i] as usize;
+        let stop = i + image.words[i] as usize;
         let kept = flow.kept(keep, fin);
-        flow = flow.then(stmt(
-            words, tags, starts, initial, until, count, i, stop, kept, place,
-        )?);
+        flow = flow.then(stmt(image, starts, initial, until, count, i, stop, kept, place)?);
         i = stop;
     }
     Some(flow)
@@ -217,8 +204,7 @@ fn block(
 // Is the body from the word `at` to the word `end` in scope? Nothing is evaluated where it begins. What `until` has past its first `count` numbers is left
 // from another function, and is not read.
 pub fn body(
-    words: &Words,
-    tags: &Tags,
+    image: Image,
     starts: &[u32; 1025],
     initial: &[u8; 1024],
     until: &mut [usize; 1024],
@@ -226,8 +212,8 @@ pub fn body(
     at: usize,
     end: usize,
 ) -> bool
-    requires block_here { BlockHere words.now tags.now starts.now count at end end }
-    ensures { result ≡ fine_b (exprs_of words.now tags.now starts.now count) (marks words.now tags.now starts.now count initial.now) (block_of words.now tags.now at end) in_body [] [] }
+    requires block_here { BlockHere image.words.now image.tags.now starts.now count at end end }
+    ensures { result ≡ fine_b (exprs_of image.entry.words.now image.entry.tags.now starts.now count) (marks image.entry.words.now image.entry.tags.now starts.now count initial.now) (block_of image.entry.words.now image.entry.tags.now at end) in_body [] [] }
 {
     let place = Place {
         breaks: false,
@@ -235,8 +221,5 @@ pub fn body(
         returns: true,
     };
     until[..count].fill(0);
-    block(
-        words, tags, starts, initial, until, count, at, end, end, place,
-    )
-    .is_some()
+    block(image, starts, initial, until, count, at, end, end, place).is_some()
 }

@@ -379,24 +379,24 @@ module _ (words tags : List ℕ) (locals exprs end : ℕ) (pre : Listed words ta
   pub init-end : end ≤ 16384
   init-end = end_in pre.lists
 
-  module _ (count e : ℕ) (count_is : (count ≡ get_or words locals 0) × (count < 2 ^ 32)) (e-is : (e ≡ get_or words exprs 0) × (e < 2 ^ 32)) where
+  module _ (count e : ℕ) (count_is : count ≡ get_or words locals 0) (e-is : e ≡ get_or words exprs 0) where
     pub init-count : locals + 1 + 5 * count ≤ 16384
-    init-count = let ls = pre.lists in omega (arith, exprs_in ls, end_in ls, locals_in ls count count_is.0)
+    init-count = let ls = pre.lists in omega (arith, exprs_in ls, end_in ls, locals_in ls count count_is)
 
     pub init-room : (l₀ : List ℕ) → length l₀ ≡ 1024 → Room e (replicate 1024 0) l₀ 0
-    init-room l₀ long = record { marks_long = length-replicate {A = ℕ} 1024 0; list_long = long; few = many_few pre.lists e e-is.0; room = omega (arith, blank_most e (replicate 1024 0)) }
+    init-room l₀ long = record { marks_long = length-replicate {A = ℕ} 1024 0; list_long = long; few = many_few pre.lists e e-is; room = omega (arith, blank_most e (replicate 1024 0)) }
 
     -- without locals nothing is reached
     pub init-empty : count ≡ 0 → Initialised true words tags locals exprs end
     unfolding inits
-    init-empty z = record { same = λ f ls. reached-fine f e (replicate 1024 0) (replicate 1024 0) (begun ls e e-is.0 count count_is.0 (replicate 1024 0) (replicate 1024 0) (replicate 1024 0) 0 (length-replicate {A = ℕ} 1024 0) (rw z (visits_none e (replicate 1024 0) (replicate 1024 0) 0))) }
+    init-empty z = record { same = λ f ls. reached-fine f e (replicate 1024 0) (replicate 1024 0) (begun ls e e-is count count_is (replicate 1024 0) (replicate 1024 0) (replicate 1024 0) 0 (length-replicate {A = ℕ} 1024 0) (rw z (visits_none e (replicate 1024 0) (replicate 1024 0) 0))) }
 
     pub init_few : length (finds (exprs + 1) (slice (exprs + 1) end tags)) ≤ 1025
-    init_few = found_few pre.lists e e-is.0
+    init_few = found_few pre.lists e e-is
 
     module _ (l₀ : List ℕ) (long : length l₀ ≡ 1024) (m l : List ℕ) (t : ℕ) (v : Visits e (inits count (drop (locals + 1) words)) (replicate 1024 0) l₀ 0 m l t) where
       pub init-none : t ≡ 0 → Initialised true words tags locals exprs end
-      init-none z = record { same = λ f ls. reached-fine f e m l (rw z at (begun ls e e-is.0 count count_is.0 l₀ m l t long v)) }
+      init-none z = record { same = λ f ls. reached-fine f e m l (rw z at (begun ls e e-is count count_is l₀ m l t long v)) }
 
       module _ (starts : List ℕ) (found_at : starts ≡ sets (replicate 1025 0) 0 (finds (exprs + 1) (slice (exprs + 1) end tags))) where
         pub init_reach : Reaching words tags starts m l t e
@@ -406,9 +406,9 @@ module _ (words tags : List ℕ) (locals exprs end : ℕ) (pre : Listed words ta
           exprs = exprs;
           end = end;
           lists = pre.lists;
-          starting = starting pre.lists e e-is.0 (replicate 1025 0) starts (length-replicate {A = ℕ} 1025 0) found_at;
-          work = begun pre.lists e e-is.0 count count_is.0 l₀ m l t long v;
+          starting = starting pre.lists e e-is (replicate 1025 0) starts (length-replicate {A = ℕ} 1025 0) found_at;
+          work = begun pre.lists e e-is count count_is l₀ m l t long v;
         }
 
         pub init_done : (r : Bool) (m₁ l₁ : List ℕ) → Reaches r words tags starts m l t e m₁ l₁ → Initialised r words tags locals exprs end
-        init_done r m₁ l₁ got = record { same = λ f ls. got.same f locals exprs end ls (starting ls e e-is.0 (replicate 1025 0) starts (length-replicate {A = ℕ} 1025 0) found_at) (begun ls e e-is.0 count count_is.0 l₀ m l t long v) }
+        init_done r m₁ l₁ got = record { same = λ f ls. got.same f locals exprs end ls (starting ls e e-is (replicate 1025 0) starts (length-replicate {A = ℕ} 1025 0) found_at) (begun ls e e-is count count_is l₀ m l t long v) }

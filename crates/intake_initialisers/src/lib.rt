@@ -12,6 +12,7 @@ ghost use Rattle.intake_initialisers.specs.Marks.{finds, reads, inits, Room, Vis
 
 use base_classes::{EXPR, EXPR_KIND, NAMED, OPT_EXPR};
 use base_kinds::constant;
+use base_views::Image;
 use base_words::{Tags, Words};
 
 // Where each expression record starts, from `at` on, and where the last one ends: a record starts with its kind, and the last is followed by the number of named
@@ -67,8 +68,7 @@ fn visit(marks: &mut [u8; 1024], list: &mut [u32; 1024], top: usize, e: usize, x
 
 // Visits what the words from `at` to `end` read.
 fn spread(
-    words: &Words,
-    tags: &Tags,
+    image: Image,
     at: usize,
     end: usize,
     marks: &mut [u8; 1024],
@@ -76,15 +76,15 @@ fn spread(
     top: usize,
     e: usize,
 ) -> usize
-    requires long { Long words.now tags.now }
+    requires long { Long image.words.now image.tags.now }
     requires at_le_end { at ≤ end }
     requires end_bound { end ≤ 16384 }
     requires room { Room e marks.old list.old top }
-    ensures { Visits e (ops_of (between tags.now words.now at end)) marks.old list.old top marks.new list.new result }
+    ensures { Visits e (ops_of (between image.entry.tags.now image.entry.words.now at end)) marks.old list.old top marks.new list.new result }
 {
     let mut n = top;
     for j in at..end {
-        if let Some(x) = operand(tags[j], words[j]) {
+        if let Some(x) = operand(image.tags[j], image.words[j]) {
             n = visit(marks, list, n, e, x);
         }
     }
@@ -116,16 +116,15 @@ pub fn roots(
 
 // Visits what is on the list, until nothing is: whether all of it is of kinds that are allowed outside functions too.
 pub fn reach(
-    words: &Words,
-    tags: &Tags,
+    image: Image,
     starts: &[u32; 1025],
     marks: &mut [u8; 1024],
     list: &mut [u32; 1024],
     first: usize,
     e: usize,
 ) -> bool
-    requires { Reaching words.now tags.now starts.now marks.old list.old first e }
-    ensures { Reaches result words.now tags.now starts.now marks.old list.old first e marks.new list.new }
+    requires { Reaching image.words.now image.tags.now starts.now marks.old list.old first e }
+    ensures { Reaches result image.entry.words.now image.entry.tags.now starts.now marks.old list.old first e marks.new list.new }
 {
     // A stack in fixed memory: what is still to be visited are the first `top` of `list`.
     let mut top = first;
@@ -133,32 +132,32 @@ pub fn reach(
         let n = top - 1;
         let x = list[n] as usize;
         let at = starts[x] as usize;
-        if !constant(words[at]) {
+        if !constant(image.words[at]) {
             return false;
         }
         let to = starts[x + 1] as usize;
-        top = spread(words, tags, at, to, marks, list, n, e);
+        top = spread(image, at, to, marks, list, n, e);
     }
     true
 }
 
 // Whether what the initialisers reach is of those kinds; `locals` and `exprs` are where the two lists have their numbers.
-pub fn initialised(words: &Words, tags: &Tags, locals: usize, exprs: usize, end: usize) -> bool
-    requires { Listed words.now tags.now locals exprs end }
-    ensures { Initialised result words.now tags.now locals exprs end }
+pub fn initialised(image: Image, locals: usize, exprs: usize, end: usize) -> bool
+    requires { Listed image.words.now image.tags.now locals exprs end }
+    ensures { Initialised result image.entry.words.now image.entry.tags.now locals exprs end }
 {
-    let count = words[locals] as usize;
-    let e = words[exprs] as usize;
+    let count = image.words[locals] as usize;
+    let e = image.words[exprs] as usize;
     if count == 0 {
         return true;
     }
     let mut marks = [0u8; 1024];
     let mut list = [0u32; 1024];
-    let top = roots(words, locals + 1, count, &mut marks, &mut list, e);
+    let top = roots(image.words, locals + 1, count, &mut marks, &mut list, e);
     if top == 0 {
         return true;
     }
     let mut starts = [0u32; 1025];
-    places(tags, exprs + 1, end, &mut starts);
-    reach(words, tags, &starts, &mut marks, &mut list, top, e)
+    places(image.tags, exprs + 1, end, &mut starts);
+    reach(image, &starts, &mut marks, &mut list, top, e)
 }

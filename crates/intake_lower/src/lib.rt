@@ -11,9 +11,9 @@ ghost use Rattle.intake_lower.specs.Passes.{type_next, type_ok, expr_next, expr_
 
 use base_classes::{CONSTANT, EXPR, EXPR_KIND, NAMED, OPT_EXPR, OVERRIDE, TYPE, TYPE_KIND};
 use base_views::{
-    CONSTANTS, ENTRIES, EXPRESSIONS, FUNCTIONS, OVERRIDES, SPECIAL, TYPES, offset, start_of,
+    CONSTANTS, ENTRIES, EXPRESSIONS, FUNCTIONS, Image, OVERRIDES, SPECIAL, TYPES, offset, start_of,
 };
-use base_words::{Tags, Words};
+use base_words::Words;
 
 // A type begins with its kind.
 #[tactic(auto, unfolding(crate::specs::Passes::type_next))]
@@ -86,23 +86,22 @@ fn init_ok(words: &Words, s: u8, w: u32, count: usize) -> bool
 
 // One pass over the words from `at` to `end`: `next` counts by the class of a word, and `ok` tests the word by the count.
 fn pass<N: Fn(u8, usize) -> usize, K: Fn(u8, u32, usize) -> bool>(
-    words: &Words,
-    tags: &Tags,
+    image: Image,
     at: usize,
     end: usize,
     next: N,
     ok: K,
 ) -> bool
-    requires stretch { Stretch words.now tags.now at end }
+    requires stretch { Stretch image.words.now image.tags.now at end }
     requires counts { (s n : ℕ) → s < 256 → n < 16384 → N.pre next s n }
     requires grows { (s n r : ℕ) → s < 256 → n < 16384 → N.post next s n r → r ≤ n + 1 }
     requires tests { (s w n : ℕ) → s < 256 → w < 2 ^ 32 → n ≤ 16384 → K.pre ok s w n }
-    ensures { Passed (N.post next) (K.post ok) result words.now tags.now at end }
+    ensures { Passed (N.post next) (K.post ok) result image.entry.words.now image.entry.tags.now at end }
 {
     let mut count = 0;
     for j in at..end {
-        count = next(tags[j], count);
-        if !ok(tags[j], words[j], count) {
+        count = next(image.tags[j], count);
+        if !ok(image.tags[j], image.words[j], count) {
             return false;
         }
     }
@@ -110,26 +109,25 @@ fn pass<N: Fn(u8, usize) -> usize, K: Fn(u8, u32, usize) -> bool>(
 }
 
 // Whether every reference of the image that words and tags hold is lower.
-pub fn lower(words: &Words, tags: &Tags, n: usize) -> bool
-    requires { Tape words.now tags.now n }
-    ensures { (m : Module) → Taped words.now tags.now n m → result ≡ lowerOf m }
+pub fn lower(image: Image) -> bool
+    requires { Tape image.words.now image.tags.now image.n }
+    ensures { (m : Module) → Taped image.entry.words.now image.entry.tags.now image.entry.n m → result ≡ lowerOf m }
 {
-    let exprs = offset(words, EXPRESSIONS);
-    let functions = offset(words, FUNCTIONS);
-    let entries = offset(words, ENTRIES);
-    let types = offset(words, TYPES);
-    let constants = offset(words, CONSTANTS);
-    let special = offset(words, SPECIAL);
-    pass(words, tags, types, constants, type_next, type_ok)
-        && pass(words, tags, exprs, functions, expr_next, expr_ok)
+    let exprs = offset(image.words, EXPRESSIONS);
+    let functions = offset(image.words, FUNCTIONS);
+    let entries = offset(image.words, ENTRIES);
+    let types = offset(image.words, TYPES);
+    let constants = offset(image.words, CONSTANTS);
+    let special = offset(image.words, SPECIAL);
+    pass(image, types, constants, type_next, type_ok)
+        && pass(image, exprs, functions, expr_next, expr_ok)
         && pass(
-            words,
-            tags,
+            image,
             exprs,
             functions,
             expr_next,
-            |s, w, n| init_ok(words, s, w, n),
+            |s, w, count| init_ok(image.words, s, w, count),
         )
-        && pass(words, tags, functions, entries, expr_next, expr_ok)
-        && pass(words, tags, entries, special, expr_next, expr_ok)
+        && pass(image, functions, entries, expr_next, expr_ok)
+        && pass(image, entries, special, expr_next, expr_ok)
 }

@@ -12,8 +12,8 @@ ghost use Rattle.intake_distinct.specs.Listed.{listing, number_at, Placed};
 ghost use Rattle.intake_names.specs.Passes.{unnamed as unnamedOf, NONE, marking, Small};
 
 use base_classes::{NAME, NAMED, NAMED_EXPR};
-use base_views::{ENTRIES, FUNCTIONS, SPECIAL, count, offset};
-use base_words::{Tags, Words};
+use base_views::{ENTRIES, FUNCTIONS, Image, SPECIAL, offset, count};
+use base_words::Words;
 use intake_distinct::{differ, distinct, number};
 
 // Whether all of section k have a name.
@@ -38,16 +38,16 @@ fn unnamed(before: u8, s: u8, w: u32) -> bool
 }
 
 // Whether each named expression has a name, and none is named twice in a function.
-fn expressions(words: &Words, tags: &Tags, at: usize, end: usize) -> bool
-    requires stretch { Stretch words.now tags.now at end }
-    requires each { Each Small (between tags.now words.now at end) }
-    ensures { result ≡ marking (between tags.now words.now at end) 0 NONE }
+fn expressions(image: Image, at: usize, end: usize) -> bool
+    requires stretch { Stretch image.words.now image.tags.now at end }
+    requires each { Each Small (between image.tags.now image.words.now at end) }
+    ensures { result ≡ marking (between image.entry.tags.now image.entry.words.now at end) 0 NONE }
 {
     let mut marks = [0u8; 1024];
     let mut before = 0;
     for j in at..end {
-        let s = tags[j];
-        let w = words[j];
+        let s = image.tags[j];
+        let w = image.words[j];
         if unnamed(before, s, w) {
             return false;
         }
@@ -66,31 +66,31 @@ fn expressions(words: &Words, tags: &Tags, at: usize, end: usize) -> bool
 }
 
 // Whether all that has to be named is, and what has to differ does, in the image that words and tags hold.
-pub fn named(words: &Words, tags: &Tags, n: usize) -> bool
-    requires { Numbered words.now tags.now n }
-    ensures { (m : Module) → Taped words.now tags.now n m → result ≡ named_of m }
+pub fn named(image: Image) -> bool
+    requires { Numbered image.words.now image.tags.now image.n }
+    ensures { (m : Module) → Taped image.entry.words.now image.entry.tags.now image.entry.n m → result ≡ named_of m }
 {
-    let functions = offset(words, FUNCTIONS);
-    let entries = offset(words, ENTRIES);
-    let special = offset(words, SPECIAL);
+    let functions = offset(image.words, FUNCTIONS);
+    let entries = offset(image.words, ENTRIES);
+    let special = offset(image.words, SPECIAL);
     // a ladder: of one `&&` of the seven tests the proof goes through six joins, at both its ends
-    if !present(words, FUNCTIONS) {
+    if !present(image.words, FUNCTIONS) {
         return false;
     }
-    if !present(words, ENTRIES) {
+    if !present(image.words, ENTRIES) {
         return false;
     }
-    if !expressions(words, tags, functions, entries) {
+    if !expressions(image, functions, entries) {
         return false;
     }
-    if !expressions(words, tags, entries, special) {
+    if !expressions(image, entries, special) {
         return false;
     }
-    if !differ(words) {
+    if !differ(image.words) {
         return false;
     }
-    if !distinct(words, FUNCTIONS) {
+    if !distinct(image.words, FUNCTIONS) {
         return false;
     }
-    distinct(words, SPECIAL)
+    distinct(image.words, SPECIAL)
 }

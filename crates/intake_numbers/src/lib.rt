@@ -14,76 +14,67 @@ ghost use Rattle.intake_numbers.specs.Passes.{TestEnsures, Tabled, Framed, Sound
 
 use base_kinds::constant;
 use base_views::{
-    ENTRIES, ENTRY_HEAD, EXPRESSIONS, FUNCTIONS, SPECIAL, TYPES, arguments_at, count,
-    expressions_at, locals_at, offset, record_at, record_end,
+    ENTRIES, ENTRY_HEAD, EXPRESSIONS, FUNCTIONS, Image, SPECIAL, TYPES, arguments_at, count,
+    expressions_at, locals_at, offset,
 };
-use base_words::{Tags, Words};
 use intake_initialisers::initialised;
 use intake_ranges::{code_bounds, function_bounds, function_in_range, in_range, module_bounds};
 
 // Sections 1 to 5, which lie one after the other, and 8.
-fn tables(words: &Words, tags: &Tags, n: usize, t: &[u64; 256]) -> bool
-    requires { Tape words.now tags.now n }
-    ensures { Tabled result words.now tags.now n t.now tables_fine }
+fn tables(image: Image, t: &[u64; 256]) -> bool
+    requires { Tape image.words.now image.tags.now image.n }
+    ensures { Tabled result image.entry.words.now image.entry.tags.now image.entry.n t.now tables_fine }
 {
-    let types = offset(words, TYPES);
-    let functions = offset(words, FUNCTIONS);
-    let special = offset(words, SPECIAL);
-    in_range(words, tags, t, types, functions) && in_range(words, tags, t, special, n)
+    let types = offset(image.words, TYPES);
+    let functions = offset(image.words, FUNCTIONS);
+    let special = offset(image.words, SPECIAL);
+    in_range(image.words, image.tags, t, types, functions)
+        && in_range(image.words, image.tags, t, special, image.n)
 }
 
 // Whether global expression i is of a kind that is allowed outside functions.
-fn constant_at(words: &Words, tags: &Tags, n: usize, i: usize) -> bool
-    requires tape { Tape words.now tags.now n }
-    requires i_bound { i < count_at 5 words.now }
-    ensures { result ≡ constant_kind (get_or words.now (recordAt 5 i words.now) 0) }
+fn constant_at(image: Image, i: usize) -> bool
+    requires tape { Tape image.words.now image.tags.now image.n }
+    requires i_bound { i < count_at 5 image.words.now }
+    ensures { result ≡ constant_kind (get_or image.entry.words.now (recordAt 5 i image.entry.words.now) 0) }
 {
-    constant(words[record_at(words, tags, n, EXPRESSIONS, i)])
+    constant(image.words[image.record_at(EXPRESSIONS, i)])
 }
 
 // The kinds of global expressions.
-fn kinds(words: &Words, tags: &Tags, n: usize) -> bool
-    requires { Tape words.now tags.now n }
-    ensures { TestEnsures result words.now tags.now n kinds_fine }
+fn kinds(image: Image) -> bool
+    requires { Tape image.words.now image.tags.now image.n }
+    ensures { TestEnsures result image.entry.words.now image.entry.tags.now image.entry.n kinds_fine }
 {
-    (0..count(words, EXPRESSIONS)).all(|i| constant_at(words, tags, n, i))
+    (0..count(image.words, EXPRESSIONS)).all(|i| constant_at(image, i))
 }
 
 // A record from `at` to `end` whose function starts at `from`: every word in range, Emit's ranges, and what initialisers reach.
-fn function(
-    words: &Words,
-    tags: &Tags,
-    t: &mut [u64; 256],
-    at: usize,
-    from: usize,
-    end: usize,
-) -> bool
-    requires { Framed words.now tags.now at from end }
-    ensures { Sound result t.new t.old words.now tags.now at from end }
+fn function(image: Image, t: &mut [u64; 256], at: usize, from: usize, end: usize) -> bool
+    requires { Framed image.words.now image.tags.now at from end }
+    ensures { Sound result t.new t.old image.entry.words.now image.entry.tags.now at from end }
 {
-    let locals = locals_at(words, from);
-    let exprs = expressions_at(words, from);
-    function_bounds(t, words[exprs], words[arguments_at(from)], words[locals]);
-    function_in_range(words, tags, t, at, end) && initialised(words, tags, locals, exprs, end)
+    let locals = locals_at(image.words, from);
+    let exprs = expressions_at(image.words, from);
+    function_bounds(
+        t,
+        image.words[exprs],
+        image.words[arguments_at(from)],
+        image.words[locals],
+    );
+    function_in_range(image.words, image.tags, t, at, end) && initialised(image, locals, exprs, end)
 }
 
 // The functions of section k: table functions, each of which starts its record, or entry points, whose function starts `head` words into the record.
-fn functions(
-    words: &Words,
-    tags: &Tags,
-    n: usize,
-    t: &mut [u64; 256],
-    k: usize,
-    head: usize,
-) -> bool
-    requires tape { Tape words.now tags.now n }
+fn functions(image: Image, t: &mut [u64; 256], k: usize, head: usize) -> bool
+    requires tape { Tape image.words.now image.tags.now image.n }
     requires heads { Heads k head }
-    ensures { Sectioned result k t.new words.now tags.now n t.old }
+    ensures { Sectioned result k t.new image.entry.words.now image.entry.tags.now image.entry.n t.old }
 {
-    for i in 0..count(words, k) {
-        let at = record_at(words, tags, n, k, i);
-        let end = record_end(words, tags, n, k, i);
-        if !function(words, tags, t, at, at + head, end) {
+    for i in 0..count(image.words, k) {
+        let at = image.record_at(k, i);
+        let end = image.record_end(k, i);
+        if !function(image, t, at, at + head, end) {
             return false;
         }
     }
@@ -91,14 +82,14 @@ fn functions(
 }
 
 // Whether every number and code is in range and every kind in its place.
-pub fn numbered(words: &Words, tags: &Tags, n: usize) -> bool
-    requires { Tape words.now tags.now n }
-    ensures { TestEnsures result words.now tags.now n numberedOf }
+pub fn numbered(image: Image) -> bool
+    requires { Tape image.words.now image.tags.now image.n }
+    ensures { TestEnsures result image.entry.words.now image.entry.tags.now image.entry.n numberedOf }
 {
     let mut t = code_bounds();
-    module_bounds(&mut t, words);
-    tables(words, tags, n, &t)
-        && kinds(words, tags, n)
-        && functions(words, tags, n, &mut t, FUNCTIONS, 0)
-        && functions(words, tags, n, &mut t, ENTRIES, ENTRY_HEAD)
+    module_bounds(&mut t, image.words);
+    tables(image, &t)
+        && kinds(image)
+        && functions(image, &mut t, FUNCTIONS, 0)
+        && functions(image, &mut t, ENTRIES, ENTRY_HEAD)
 }

@@ -70,7 +70,8 @@ pub fn function_bounds(t: &mut [u64; 256], exprs: u32, arguments: u32, locals: u
     t[LOCAL_INIT as usize] = e + 1;
 }
 
-// Whether word i is below the bound of its class.
+// Whether word i is below the bound of its class. Words and tags are parameters of their own here, and no Image: that they have 32 and 8 bits, which the bounds
+// lean on, is known of a parameter's array and not of a field's.
 fn bounded(words: &Words, tags: &Tags, t: &[u64; 256], i: usize) -> bool
     requires { i < 16384 }
     ensures { result ≡ ltb (get_or words.now i 0) (get_or t.now (get_or tags.now i 0) 0) }

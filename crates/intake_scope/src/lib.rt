@@ -6,10 +6,7 @@ ghost use Rattle.model.specs.Scope.{in_scope};
 ghost use Rattle.intake_numbers.specs.Passes.{TestEnsures};
 ghost use Rattle.intake_scope.specs.Functions.{Known, Tested, Stated, Scoped, InRange, Section, scoped_of};
 
-use base_views::{
-    ENTRIES, ENTRY_HEAD, FUNCTIONS, count, expressions_at, locals_at, record_at, record_end,
-};
-use base_words::{Tags, Words};
+use base_views::{ENTRIES, ENTRY_HEAD, FUNCTIONS, Image, count, expressions_at, locals_at};
 use intake_blocks::body;
 use intake_initialisers::{places, reach, roots};
 
@@ -24,25 +21,24 @@ struct Scratch {
 }
 
 // Is the body of a function in scope? Its lists of locals and expressions have their numbers at the words `locals` and `exprs`.
-fn scoped(
-    words: &Words,
-    tags: &Tags,
-    scratch: &mut Scratch,
-    locals: usize,
-    exprs: usize,
-    end: usize,
-) -> bool
-    requires { Known words.now tags.now locals exprs end }
-    ensures { Tested result words.now tags.now locals exprs end }
+fn scoped(image: Image, scratch: &mut Scratch, locals: usize, exprs: usize, end: usize) -> bool
+    requires { Known image.words.now image.tags.now locals exprs end }
+    ensures { Tested result image.entry.words.now image.entry.tags.now locals exprs end }
 {
     let mut initial = [0u8; 1024];
-    let count = words[locals] as usize;
-    let e = words[exprs] as usize;
-    let top = roots(words, locals + 1, count, &mut initial, &mut scratch.list, e);
-    places(tags, exprs + 1, end, &mut scratch.starts);
+    let count = image.words[locals] as usize;
+    let e = image.words[exprs] as usize;
+    let top = roots(
+        image.words,
+        locals + 1,
+        count,
+        &mut initial,
+        &mut scratch.list,
+        e,
+    );
+    places(image.tags, exprs + 1, end, &mut scratch.starts);
     reach(
-        words,
-        tags,
+        image,
         &scratch.starts,
         &mut initial,
         &mut scratch.list,
@@ -50,10 +46,9 @@ fn scoped(
         e,
     );
     let named = scratch.starts[e] as usize;
-    let at = named + 1 + 2 * (words[named] as usize);
+    let at = named + 1 + 2 * (image.words[named] as usize);
     body(
-        words,
-        tags,
+        image,
         &scratch.starts,
         &initial,
         &mut scratch.until,
@@ -64,40 +59,26 @@ fn scoped(
 }
 
 // The same of the record from `at` to `end` whose function starts at `from`.
-fn function(
-    words: &Words,
-    tags: &Tags,
-    scratch: &mut Scratch,
-    at: usize,
-    from: usize,
-    end: usize,
-) -> bool
-    requires { Stated words.now tags.now at from end }
-    ensures { Scoped result words.now tags.now at from end }
+fn function(image: Image, scratch: &mut Scratch, at: usize, from: usize, end: usize) -> bool
+    requires { Stated image.words.now image.tags.now at from end }
+    ensures { Scoped result image.entry.words.now image.entry.tags.now at from end }
 {
-    let locals = locals_at(words, from);
-    let exprs = expressions_at(words, from);
-    scoped(words, tags, scratch, locals, exprs, end)
+    let locals = locals_at(image.words, from);
+    let exprs = expressions_at(image.words, from);
+    scoped(image, scratch, locals, exprs, end)
 }
 
 // The same of every record of section k: its function starts `head` words after it.
-fn section(
-    words: &Words,
-    tags: &Tags,
-    scratch: &mut Scratch,
-    n: usize,
-    k: usize,
-    head: usize,
-) -> bool
-    requires tape { Tape words.now tags.now n }
-    requires in_range { InRange words.now tags.now n }
+fn section(image: Image, scratch: &mut Scratch, k: usize, head: usize) -> bool
+    requires tape { Tape image.words.now image.tags.now image.n }
+    requires in_range { InRange image.words.now image.tags.now image.n }
     requires section { Section k head }
-    ensures { (s : Section k head) → TestEnsures result words.now tags.now n (scoped_of s) }
+    ensures { (s : Section k head) → TestEnsures result image.entry.words.now image.entry.tags.now image.entry.n (scoped_of s) }
 {
-    for j in 0..count(words, k) {
-        let at = record_at(words, tags, n, k, j);
-        let end = record_end(words, tags, n, k, j);
-        if !function(words, tags, scratch, at, at + head, end) {
+    for j in 0..count(image.words, k) {
+        let at = image.record_at(k, j);
+        let end = image.record_end(k, j);
+        if !function(image, scratch, at, at + head, end) {
             return false;
         }
     }
@@ -105,16 +86,15 @@ fn section(
 }
 
 // Is an image whose numbers are in range in scope?
-pub fn in_scope(words: &Words, tags: &Tags, n: usize) -> bool
-    requires tape { Tape words.now tags.now n }
-    requires in_range { InRange words.now tags.now n }
-    ensures { TestEnsures result words.now tags.now n in_scope }
+pub fn in_scope(image: Image) -> bool
+    requires tape { Tape image.words.now image.tags.now image.n }
+    requires in_range { InRange image.words.now image.tags.now image.n }
+    ensures { TestEnsures result image.entry.words.now image.entry.tags.now image.entry.n in_scope }
 {
     let mut scratch = Scratch {
         starts: [0; 1025],
         list: [0; 1024],
         until: [0; 1024],
     };
-    section(words, tags, &mut scratch, n, FUNCTIONS, 0)
-        && section(words, tags, &mut scratch, n, ENTRIES, ENTRY_HEAD)
+    section(image, &mut scratch, FUNCTIONS, 0) && section(image, &mut scratch, ENTRIES, ENTRY_HEAD)
 }

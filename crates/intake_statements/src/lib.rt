@@ -15,7 +15,8 @@ use base_kinds::{
     ATOMIC_RESULT, CALL, CALL_RESULT, WORK_GROUP_UNIFORM_LOAD, WORK_GROUP_UNIFORM_LOAD_RESULT,
     emits, stands,
 };
-use base_words::{Tags, Words};
+use base_views::Image;
+use base_words::Words;
 
 // The kind of expression e.
 fn kind(words: &Words, starts: &[u32; 1025], e: usize) -> u32
@@ -48,8 +49,7 @@ fn visible(
 
 // Does the word j read only what is in scope at the word `at`?
 pub fn read(
-    words: &Words,
-    tags: &Tags,
+    image: Image,
     starts: &[u32; 1025],
     until: &[usize; 1024],
     count: usize,
@@ -58,20 +58,19 @@ pub fn read(
 ) -> bool
     requires placed { Placed starts.now count }
     requires j_bound { j < 16384 }
-    ensures { result ≡ all_seen (operand (get_or tags.now j 0) (get_or words.now j 0) []) (visible_at words.now starts.now until.now count at) }
+    ensures { result ≡ all_seen (operand (get_or image.entry.tags.now j 0) (get_or image.entry.words.now j 0) []) (visible_at image.entry.words.now starts.now until.now count at) }
 {
-    let w = words[j] as usize;
-    match tags[j] {
-        EXPR => visible(words, starts, until, count, at, w),
-        OPT_EXPR => w == 0 || visible(words, starts, until, count, at, w - 1),
+    let w = image.words[j] as usize;
+    match image.tags[j] {
+        EXPR => visible(image.words, starts, until, count, at, w),
+        OPT_EXPR => w == 0 || visible(image.words, starts, until, count, at, w - 1),
         _ => true,
     }
 }
 
 // The same of the words from `from` to `to`.
 fn reads(
-    words: &Words,
-    tags: &Tags,
+    image: Image,
     starts: &[u32; 1025],
     until: &[usize; 1024],
     count: usize,
@@ -81,15 +80,14 @@ fn reads(
 ) -> bool
     requires placed { Placed starts.now count }
     requires to_bound { to ≤ 16384 }
-    ensures { result ≡ all_seen (ops_of (cells_in words.now tags.now from to)) (visible_at words.now starts.now until.now count at) }
+    ensures { result ≡ all_seen (ops_of (cells_in image.entry.words.now image.entry.tags.now from to)) (visible_at image.entry.words.now starts.now until.now count at) }
 {
-    (from..to).all(|j| read(words, tags, starts, until, count, at, j))
+    (from..to).all(|j| read(image, starts, until, count, at, j))
 }
 
 // Expression e of an Emit at the word `at`, in scope up to the word `keep`.
 fn evaluated(
-    words: &Words,
-    tags: &Tags,
+    image: Image,
     starts: &[u32; 1025],
     initial: &[u8; 1024],
     until: &mut [usize; 1024],
@@ -98,12 +96,12 @@ fn evaluated(
     keep: usize,
     e: usize,
 ) -> bool
-    requires exprs { Exprs words.now tags.now starts.now count }
+    requires exprs { Exprs image.words.now image.tags.now starts.now count }
     requires at_lt_keep { at < keep }
     requires e_lt_count { e < count }
-    ensures { FoundE words.now tags.now starts.now initial.now count at keep e until.old until.new result }
+    ensures { FoundE image.entry.words.now image.entry.tags.now starts.now initial.now count at keep e until.old until.new result }
 {
-    if !emits(kind(words, starts, e)) || until[e] != 0 {
+    if !emits(kind(image.words, starts, e)) || until[e] != 0 {
         return false;
     }
     if initial[e] != 0 {
@@ -112,7 +110,7 @@ fn evaluated(
     }
     let from = starts[e] as usize;
     let to = starts[e + 1] as usize;
-    if !reads(words, tags, starts, until, count, at, from, to) {
+    if !reads(image, starts, until, count, at, from, to) {
         return false;
     }
     until[e] = keep;
@@ -121,8 +119,7 @@ fn evaluated(
 
 // The Emit at the word `at`.
 pub fn emit(
-    words: &Words,
-    tags: &Tags,
+    image: Image,
     starts: &[u32; 1025],
     initial: &[u8; 1024],
     until: &mut [usize; 1024],
@@ -130,14 +127,14 @@ pub fn emit(
     at: usize,
     keep: usize,
 ) -> bool
-    requires exprs { Exprs words.now tags.now starts.now count }
+    requires exprs { Exprs image.words.now image.tags.now starts.now count }
     requires at_lt_keep { at < keep }
     requires at_bound { at + 5 < 16384 }
-    requires at_bound_2 { get_or words.now (at + 5) 0 ≤ count }
-    ensures { FoundR words.now tags.now starts.now initial.now count at keep (get_or words.now (at + 4) 0) (get_or words.now (at + 5) 0) until.old until.new result }
+    requires at_bound_2 { get_or image.words.now (at + 5) 0 ≤ count }
+    ensures { FoundR image.entry.words.now image.entry.tags.now starts.now initial.now count at keep (get_or image.entry.words.now (at + 4) 0) (get_or image.entry.words.now (at + 5) 0) until.old until.new result }
 {
-    for e in words[at + 4] as usize..words[at + 5] as usize {
-        if !evaluated(words, tags, starts, initial, until, count, at, keep, e) {
+    for e in image.words[at + 4] as usize..image.words[at + 5] as usize {
+        if !evaluated(image, starts, initial, until, count, at, keep, e) {
             return false;
         }
     }
@@ -145,14 +142,14 @@ pub fn emit(
 }
 
 // What the words from `from` to `to` evaluate, if anything.
-fn result_of(words: &Words, tags: &Tags, from: usize, to: usize) -> Option<u32>
+fn result_of(image: Image, from: usize, to: usize) -> Option<u32>
     requires { to ≤ 16384 }
-    ensures { result ≡ option_of (result_of (cells_in words.now tags.now from to)) }
+    ensures { result ≡ option_of (result_of (cells_in image.entry.words.now image.entry.tags.now from to)) }
 {
     for j in from..to {
-        match tags[j] {
-            RESULT => return Some(words[j]),
-            OPT_RESULT => return words[j].checked_sub(1),
+        match image.tags[j] {
+            RESULT => return Some(image.words[j]),
+            OPT_RESULT => return image.words[j].checked_sub(1),
             _ => {}
         }
     }
@@ -160,22 +157,15 @@ fn result_of(words: &Words, tags: &Tags, from: usize, to: usize) -> Option<u32>
 }
 
 // Is expression e a result that the statement at the word `at` may have?
-fn result_fits(
-    words: &Words,
-    tags: &Tags,
-    starts: &[u32; 1025],
-    count: usize,
-    at: usize,
-    e: usize,
-) -> bool
-    requires exprs { Exprs words.now tags.now starts.now count }
+fn result_fits(image: Image, starts: &[u32; 1025], count: usize, at: usize, e: usize) -> bool
+    requires exprs { Exprs image.words.now image.tags.now starts.now count }
     requires at_bound { at + 4 < 16384 }
     requires e_lt_count { e < count }
-    ensures { result ≡ fits_result (exprs_of words.now tags.now starts.now count) (get_or words.now (at + 1) 0) (get_or words.now (at + 4) 0) (some e) }
+    ensures { result ≡ fits_result (exprs_of image.entry.words.now image.entry.tags.now starts.now count) (get_or image.entry.words.now (at + 1) 0) (get_or image.entry.words.now (at + 4) 0) (some e) }
 {
-    let k = kind(words, starts, e);
-    match words[at + 1] {
-        CALL => k == CALL_RESULT && words[starts[e] as usize + 3] == words[at + 4],
+    let k = kind(image.words, starts, e);
+    match image.words[at + 1] {
+        CALL => k == CALL_RESULT && image.words[starts[e] as usize + 3] == image.words[at + 4],
         WORK_GROUP_UNIFORM_LOAD => k == WORK_GROUP_UNIFORM_LOAD_RESULT,
         _ => k == ATOMIC_RESULT,
     }
@@ -183,8 +173,7 @@ fn result_fits(
 
 // The result of the statement from the word `at` to the word `stop`.
 fn result(
-    words: &Words,
-    tags: &Tags,
+    image: Image,
     starts: &[u32; 1025],
     until: &mut [usize; 1024],
     count: usize,
@@ -192,17 +181,17 @@ fn result(
     stop: usize,
     keep: usize,
 ) -> bool
-    requires exprs { Exprs words.now tags.now starts.now count }
+    requires exprs { Exprs image.words.now image.tags.now starts.now count }
     requires stop_le_keep { stop ≤ keep }
     requires stop_bound { stop ≤ 16384 }
     requires at_bound { at + 4 ≤ stop }
-    ensures { FoundO words.now tags.now starts.now count at stop keep until.old until.new result }
+    ensures { FoundO image.entry.words.now image.entry.tags.now starts.now count at stop keep until.old until.new result }
 {
-    let Some(e) = result_of(words, tags, at + 4, stop) else {
+    let Some(e) = result_of(image, at + 4, stop) else {
         return true;
     };
     let e = e as usize;
-    if count <= e || !result_fits(words, tags, starts, count, at, e) || until[e] != 0 {
+    if count <= e || !result_fits(image, starts, count, at, e) || until[e] != 0 {
         return false;
     }
     until[e] = keep;
@@ -211,8 +200,7 @@ fn result(
 
 // A statement without blocks that is no Emit: its reads, and its result.
 pub fn simple(
-    words: &Words,
-    tags: &Tags,
+    image: Image,
     starts: &[u32; 1025],
     until: &mut [usize; 1024],
     count: usize,
@@ -220,12 +208,12 @@ pub fn simple(
     stop: usize,
     keep: usize,
 ) -> bool
-    requires exprs { Exprs words.now tags.now starts.now count }
+    requires exprs { Exprs image.words.now image.tags.now starts.now count }
     requires stop_le_keep { stop ≤ keep }
     requires stop_bound { stop ≤ 16384 }
     requires at_bound { at + 4 ≤ stop }
-    ensures { FoundL words.now tags.now starts.now count at stop keep until.old until.new result }
+    ensures { FoundL image.entry.words.now image.entry.tags.now starts.now count at stop keep until.old until.new result }
 {
-    reads(words, tags, starts, until, count, at, at + 4, stop)
-        && result(words, tags, starts, until, count, at, stop, keep)
+    reads(image, starts, until, count, at, at + 4, stop)
+        && result(image, starts, until, count, at, stop, keep)
 }

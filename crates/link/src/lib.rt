@@ -7,6 +7,7 @@ ghost use Rattle.model.specs.Image.{ScratchLengths, LinkEnsures};
 ghost use Rattle.base_refusals.specs.Numbers.{ended};
 
 use base_refusals::{Refusal, answer};
+use base_views::Image;
 use base_words::{Tags, Words};
 use derive_state::{Buckets, Log, LogTags, Maps, StackRows, Starts};
 use link_words::link_in_order;
@@ -35,7 +36,7 @@ fn linked_in(
         return Err(Refusal::ShortOutput);
     }
     let mut order = [0u32; 256];
-    order_of(words, tags, n, &mut order)?;
+    order_of(Image { words, tags, n }, &mut order)?;
     let linked = link_in_order(
         words, tags, n, &order, output, log, logtags, starts, maps, buckets, stacks,
     );

@@ -9,23 +9,19 @@ ghost use Rattle.function_builder.specs.Stacks.{Stacks};
 ghost use Rattle.derive_session.specs.Valid.{ValidSession};
 ghost use Rattle.model.specs.Image.{ScratchLengths};
 ghost use Rattle.link_words.specs.Appends.{Roomy, Sequence, AppendAllEnsures, Linkable, LinkInOrderEnsures};
+ghost use Rattle.derive_state.specs.Refers.{target_bytes};
 
 use base_refusals::pack;
-use base_views::{FUNCTIONS, count};
-use base_words::{Tags, Words, wide};
+use base_views::{FUNCTIONS, Image, count};
+use base_words::{Tags, Words};
 use derive_source::source_types;
-use derive_state::{
-    Buckets, Log, LogTags, Maps, Sizes, Special, StackRows, Starts, Targets, empty, targets,
-};
+use derive_state::{Buckets, Log, LogTags, Maps, Sizes, Special, StackRows, Starts, empty};
 use function_entry::enter_all;
 use function_localize::append;
 
 // Appends the first `all` functions of the order.
 fn append_all(
-    words: &Words,
-    tags: &Tags,
-    targets: &Targets,
-    n: usize,
+    image: Image,
     log: &mut Log,
     logtags: &mut LogTags,
     starts: &mut Starts,
@@ -37,20 +33,17 @@ fn append_all(
     order: &[u32; 256],
     all: usize,
 ) -> Sizes
-    requires valid_session { ValidSession true n 0 words.now tags.now targets.now log.old logtags.old starts.old maps.old buckets.old special.now ends }
+    requires valid_session { ValidSession true image.n 0 image.words.now image.tags.now target_bytes log.old logtags.old starts.old maps.old buckets.old special.now ends }
     requires stacks { Stacks stacks.old ends }
-    requires sequence { Sequence words.now n order.now all }
-    requires roomy { Roomy (mod_of words.now n) (take all order.now) (st_of words.now log.old logtags.old starts.old maps.old special.now ends) }
-    ensures { AppendAllEnsures words.now tags.now targets.now n (take all order.now) log.old logtags.old starts.old maps.old ends result log.new logtags.new starts.new maps.new buckets.new special.now stacks.new }
+    requires sequence { Sequence image.words.now image.n order.now all }
+    requires roomy { Roomy (mod_of image.words.now image.n) (take all order.now) (st_of image.words.now log.old logtags.old starts.old maps.old special.now ends) }
+    ensures { AppendAllEnsures image.entry.words.now image.entry.tags.now target_bytes image.entry.n (take all order.now) log.old logtags.old starts.old maps.old ends result log.new logtags.new starts.new maps.new buckets.new special.now stacks.new }
 {
     let mut e = ends;
     let mut places = [0u16; 1025];
     for j in 0..all {
         e = append(
-            words,
-            tags,
-            targets,
-            n,
+            image,
             log,
             logtags,
             starts,
@@ -60,7 +53,7 @@ fn append_all(
             &mut places,
             e,
             0,
-            wide(order[j]),
+            order[j] as usize,
             all,
         );
     }
@@ -85,15 +78,11 @@ pub fn link_in_order(
     requires scratch_lengths { ScratchLengths log.old logtags.old starts.old stacks.old }
     ensures { LinkInOrderEnsures words.old n order.now output.old result output.new }
 {
-    let targets = targets();
     let mut special = [0u32; 1027];
     // buckets left by another image would only cost time; the answer does not depend on them
     *buckets = [0; 16384];
     let set = source_types(
-        words,
-        tags,
-        &targets,
-        n,
+        Image { words, tags, n },
         log,
         logtags,
         starts,
@@ -104,10 +93,7 @@ pub fn link_in_order(
         0,
     );
     let appended = append_all(
-        words,
-        tags,
-        &targets,
-        n,
+        Image { words, tags, n },
         log,
         logtags,
         starts,
@@ -120,7 +106,15 @@ pub fn link_in_order(
         count(words, FUNCTIONS),
     );
     let ends = enter_all(
-        words, tags, &targets, n, log, logtags, starts, maps, buckets, &special, stacks, appended,
+        Image { words, tags, n },
+        log,
+        logtags,
+        starts,
+        maps,
+        buckets,
+        &special,
+        stacks,
+        appended,
         0,
     );
     match derive_finish::finish(log, logtags, starts, &special, ends, words, output) {

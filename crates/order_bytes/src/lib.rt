@@ -11,7 +11,7 @@ ghost use Rattle.base_refusals.specs.Numbers.{ended};
 ghost use Rattle.order_bytes.specs.Listing.{ListEnsures};
 
 use base_refusals::{Refusal, answer};
-use base_words::{Tags, Words};
+use base_views::Image;
 
 // The first `count` numbers go to the start of `out`, as far as there is room.
 fn copy(order: &[u32; 256], count: usize, out: &mut [u32])
@@ -24,14 +24,14 @@ fn copy(order: &[u32; 256], count: usize, out: &mut [u32])
 }
 
 // The order of a module whose callees are functions goes to the start of `out`, as far as there is room: the count of functions, or the refusal of a ring.
-fn list(words: &Words, tags: &Tags, n: usize, out: &mut [u32]) -> Result<u32, Refusal>
-    requires tape { Tape words.now tags.now n }
-    requires known { Known words.now tags.now n }
-    ensures { ListEnsures (answer_by (λ v. v) (ended result)) out.old out.new words.now tags.now n }
+fn list(image: Image, out: &mut [u32]) -> Result<u32, Refusal>
+    requires tape { Tape image.words.now image.tags.now image.n }
+    requires known { Known image.words.now image.tags.now image.n }
+    ensures { ListEnsures (answer_by (λ v. v) (ended result)) out.old out.new image.entry.words.now image.entry.tags.now image.entry.n }
 {
     let mut order = [0u32; 256];
-    order_callees::order_of(words, tags, n, &mut order)?;
-    let count = base_views::count(words, base_views::FUNCTIONS);
+    order_callees::order_of(image, &mut order)?;
+    let count = base_views::count(image.words, base_views::FUNCTIONS);
     copy(&order, count, out);
     Ok(count as u32)
 }
@@ -43,7 +43,14 @@ fn list_image(image: &[u8], out: &mut [u32]) -> Result<u32, Refusal>
     let mut words = intake::fresh_words();
     let mut tags = intake::fresh_tags();
     let n = intake::take_in(image, &mut words, &mut tags)?;
-    list(&words, &tags, n, out)
+    list(
+        Image {
+            words: &words,
+            tags: &tags,
+            n,
+        },
+        out,
+    )
 }
 
 // The same, its answer as one number: the count of functions in the high half; or the refusal in the low half, and of a ring, in the high half, the count of

@@ -7,7 +7,7 @@ ghost use Rattle.model.specs.Taped.{Tape};
 ghost use Rattle.order_text.specs.Telling.{refusal_of, left_of, telling_of, Passed, TellEnsures, Tells};
 
 use base_refusals::Refusal;
-use base_words::{Tags, Words};
+use base_views::Image;
 use order_lines::{head, text};
 
 // How many bytes the text has, and the refusal if it tells one.
@@ -18,18 +18,18 @@ pub struct Said {
 }
 
 // What is printed and answered for a module that intake has passed: its order, or refusal 12.
-pub fn tell(words: &Words, tags: &Tags, n: usize, out: &mut [u8; 65536]) -> Said
-    requires tape { Tape words.now tags.now n }
-    requires passed { Passed words.now tags.now n }
+pub fn tell(image: Image, out: &mut [u8; 65536]) -> Said
+    requires tape { Tape image.words.now image.tags.now image.n }
+    requires passed { Passed image.words.now image.tags.now image.n }
     requires out_len { length out.old ≡ 65536 }
-    ensures { Tells words.now tags.now n out.old out.new result.count (refusal_of result.ended) (left_of result.ended) }
+    ensures { Tells image.entry.words.now image.entry.tags.now image.entry.n out.old out.new result.count (refusal_of result.ended) (left_of result.ended) }
 {
     let mut order = [0u32; 256];
-    let ended = order_callees::order_of(words, tags, n, &mut order);
+    let ended = order_callees::order_of(image, &mut order);
     let count = match ended {
         Ok(()) => {
-            let functions = base_views::count(words, base_views::FUNCTIONS);
-            text(words, &order, functions, out)
+            let functions = base_views::count(image.words, base_views::FUNCTIONS);
+            text(image.words, &order, functions, out)
         }
         // Only a ring is refused.
         Err(refusal) => head(b"refused 12 left ", refusal.count() as usize, out),
@@ -45,7 +45,14 @@ pub fn tell_of(image: &[u8], out: &mut [u8; 65536]) -> Said
     let mut words = intake::fresh_words();
     let mut tags = intake::fresh_tags();
     match intake::take_in(image, &mut words, &mut tags) {
-        Ok(n) => tell(&words, &tags, n, out),
+        Ok(n) => tell(
+            Image {
+                words: &words,
+                tags: &tags,
+                n,
+            },
+            out,
+        ),
         Err(refusal) => Said {
             count: head(b"refused ", refusal.number() as usize, out),
             ended: Err(refusal),

@@ -12,7 +12,7 @@ ghost use Rattle.model.specs.Redirect.{omitted as omittedOf, redirecting, stays 
 ghost use Rattle.redirect_calls.specs.Turns.{RedirectAllEnsures, turn_one, turn_all, redirected_by};
 
 use base_classes::{CALLEE, FUNCTION};
-use base_views::{ENTRIES, FUNCTIONS, SPECIAL, count, offset, record_at, record_end};
+use base_views::{ENTRIES, FUNCTIONS, Image, SPECIAL, count, offset};
 use base_words::{Tags, Words};
 
 // Whether an optional name is the name with a number.
@@ -80,9 +80,10 @@ fn redirect_one(
     requires j_bound { j < count_at 6 words.old }
     ensures { RedirectAllEnsures words.new words.old tags.now n (turn_one j original replacement omit.now) }
 {
-    let at = record_at(words, tags, n, FUNCTIONS, j);
+    let image = Image { words, tags, n };
+    let at = image.record_at(FUNCTIONS, j);
+    let end = image.record_end(FUNCTIONS, j);
     if !stays(replacement, omit, j, words[at]) {
-        let end = record_end(words, tags, n, FUNCTIONS, j);
         redirect_fn(words, tags, at, end, original, replacement);
     }
 }

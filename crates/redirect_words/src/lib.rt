@@ -13,18 +13,18 @@ ghost use Rattle.redirect_words.specs.Passes.{Finds, Agrees, Returns, Compares, 
 
 use base_handles::FunctionHandle;
 use base_refusals::Refusal;
-use base_views::{FUNCTIONS, NAMES, argument_at, arguments, count, record_at};
+use base_views::{FUNCTIONS, Image, NAMES, argument_at, arguments, count};
 use base_words::{Tags, Words, store};
 use redirect_calls::{is_named, redirect_all};
 
 // The table function with a name.
-pub fn find(words: &Words, tags: &Tags, n: usize, name: u32) -> Option<FunctionHandle>
-    requires { Tape words.now tags.now n }
-    ensures { Finds result words.now tags.now n name }
+pub fn find(image: Image, name: u32) -> Option<FunctionHandle>
+    requires { Tape image.words.now image.tags.now image.n }
+    ensures { Finds result image.entry.words.now image.entry.tags.now image.entry.n name }
 {
-    for j in 0..count(words, FUNCTIONS) {
-        let at = record_at(words, tags, n, FUNCTIONS, j);
-        if is_named(words[at], name) {
+    for j in 0..count(image.words, FUNCTIONS) {
+        let at = image.record_at(FUNCTIONS, j);
+        if is_named(image.words[at], name) {
             return Some(FunctionHandle(j as u32));
         }
     }
@@ -47,16 +47,16 @@ fn type_at(words: &Words, s: usize, i: usize) -> u32
 }
 
 // Whether the argument types of table functions i and k are equal, up to the shorter list.
-fn arguments_agree(words: &Words, tags: &Tags, n: usize, i: usize, k: usize) -> bool
-    requires tape { Tape words.now tags.now n }
-    requires i_bound { (i < count_at 6 words.now) × (k < count_at 6 words.now) }
-    ensures { Agrees result words.now tags.now n i k }
+fn arguments_agree(image: Image, i: usize, k: usize) -> bool
+    requires tape { Tape image.words.now image.tags.now image.n }
+    requires i_bound { (i < count_at 6 image.words.now) × (k < count_at 6 image.words.now) }
+    ensures { Agrees result image.entry.words.now image.entry.tags.now image.entry.n i k }
 {
-    let a = record_at(words, tags, n, FUNCTIONS, i);
-    let b = record_at(words, tags, n, FUNCTIONS, k);
-    let shorter = arguments(words, a).min(arguments(words, b));
+    let a = image.record_at(FUNCTIONS, i);
+    let b = image.record_at(FUNCTIONS, k);
+    let shorter = arguments(image.words, a).min(arguments(image.words, b));
     for j in 0..shorter {
-        if type_at(words, a, j) != type_at(words, b, j) {
+        if type_at(image.words, a, j) != type_at(image.words, b, j) {
             return false;
         }
     }
@@ -64,44 +64,43 @@ fn arguments_agree(words: &Words, tags: &Tags, n: usize, i: usize, k: usize) -> 
 }
 
 // Where the result of table function i is.
-fn returns_at(words: &Words, tags: &Tags, n: usize, i: usize) -> usize
-    requires tape { Tape words.now tags.now n }
-    requires i_bound { i < count_at 6 words.now }
-    ensures { (result ≡ returns_at (record_at 6 i words.now) words.now) × (result < 16384) }
+fn returns_at(image: Image, i: usize) -> usize
+    requires tape { Tape image.words.now image.tags.now image.n }
+    requires i_bound { i < count_at 6 image.words.now }
+    ensures { (result ≡ returns_at (record_at 6 i image.entry.words.now) image.entry.words.now) × (result < 16384) }
 {
-    let s = record_at(words, tags, n, FUNCTIONS, i);
-    base_views::returns_at(words, s)
+    let s = image.record_at(FUNCTIONS, i);
+    base_views::returns_at(image.words, s)
 }
 
 // Whether two functions have no result, or results of one type.
-fn results_agree(words: &Words, tags: &Tags, n: usize, i: usize, k: usize) -> bool
-    requires tape { Tape words.now tags.now n }
-    requires i_bound { (i < count_at 6 words.now) × (k < count_at 6 words.now) }
-    ensures { Returns result words.now tags.now n i k }
+fn results_agree(image: Image, i: usize, k: usize) -> bool
+    requires tape { Tape image.words.now image.tags.now image.n }
+    requires i_bound { (i < count_at 6 image.words.now) × (k < count_at 6 image.words.now) }
+    ensures { Returns result image.entry.words.now image.entry.tags.now image.entry.n i k }
 {
-    let x = returns_at(words, tags, n, i);
-    let y = returns_at(words, tags, n, k);
-    words[x] == words[y] && (words[x] == 0 || words[x + 1] == words[y + 1])
+    let x = returns_at(image, i);
+    let y = returns_at(image, k);
+    image.words[x] == image.words[y]
+        && (image.words[x] == 0 || image.words[x + 1] == image.words[y + 1])
 }
 
 // Both functions, the original first, where their argument types and then their result types agree.
 pub fn compare(
-    words: &Words,
-    tags: &Tags,
-    n: usize,
+    image: Image,
     original: FunctionHandle,
     replacement: FunctionHandle,
 ) -> Result<(FunctionHandle, FunctionHandle), Refusal>
-    requires tape { Tape words.now tags.now n }
-    requires original_bound { (original.0 < count_at 6 words.now) × (replacement.0 < count_at 6 words.now) }
-    ensures { Compares result words.now tags.now n original.0 replacement.0 }
+    requires tape { Tape image.words.now image.tags.now image.n }
+    requires original_bound { (original.0 < count_at 6 image.words.now) × (replacement.0 < count_at 6 image.words.now) }
+    ensures { Compares result image.entry.words.now image.entry.tags.now image.entry.n original.0 replacement.0 }
 {
     let i = original.0 as usize;
     let k = replacement.0 as usize;
-    if !arguments_agree(words, tags, n, i, k) {
+    if !arguments_agree(image, i, k) {
         return Err(Refusal::ArgumentTypes);
     }
-    if !results_agree(words, tags, n, i, k) {
+    if !results_agree(image, i, k) {
         return Err(Refusal::ResultTypes);
     }
     Ok((original, replacement))
@@ -109,22 +108,25 @@ pub fn compare(
 
 // The tests in sequence: the numbers given, both names, the argument types, and the result types.
 fn test(
-    words: &Words,
-    tags: &Tags,
-    n: usize,
+    image: Image,
     original: u32,
     replacement: u32,
     omit: &[u32],
 ) -> Result<(FunctionHandle, FunctionHandle), Refusal>
-    requires { Tape words.now tags.now n }
-    ensures { Tests result words.now tags.now n original replacement omit.now }
+    requires { Tape image.words.now image.tags.now image.n }
+    ensures { Tests result image.entry.words.now image.entry.tags.now image.entry.n original replacement omit.now }
 {
-    if !inside(original, replacement, omit, count(words, NAMES) as u32) {
+    if !inside(
+        original,
+        replacement,
+        omit,
+        count(image.words, NAMES) as u32,
+    ) {
         return Err(Refusal::NumberGiven);
     }
-    let a = find(words, tags, n, original).ok_or(Refusal::OriginalNotFound)?;
-    let b = find(words, tags, n, replacement).ok_or(Refusal::ReplacementNotFound)?;
-    compare(words, tags, n, a, b)
+    let a = find(image, original).ok_or(Refusal::OriginalNotFound)?;
+    let b = find(image, replacement).ok_or(Refusal::ReplacementNotFound)?;
+    compare(image, a, b)
 }
 
 // Calls of the function named `original` become calls of the function named `replacement`, but for those in the replacement and in the functions
@@ -140,7 +142,7 @@ pub fn redirect_words(
     requires { Tape words.old tags.now n }
     ensures { Redirects result words.new words.old tags.now n original replacement omit.now }
 {
-    let (a, b) = test(words, tags, n, original, replacement, omit)?;
+    let (a, b) = test(Image { words, tags, n }, original, replacement, omit)?;
     redirect_all(words, tags, n, a.0, b.0, omit);
     Ok((a, b))
 }

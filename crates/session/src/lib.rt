@@ -9,7 +9,7 @@ ghost use Rattle.session.specs.Sessions.{or_else, numbered};
 
 use base_refusals::pack;
 use base_words::{Tags, Words};
-use derive_state::{Buckets, Log, LogTags, Maps, StackRows, Starts, clear_maps, empty, targets};
+use derive_state::{Buckets, Log, LogTags, Maps, StackRows, Starts, clear_maps, empty};
 use session_steps::{Step, perform};
 
 // An answer's word, where there is room for it.
@@ -58,7 +58,6 @@ pub fn session_in(
     clear_maps(maps);
     // buckets left by another session would only cost time; the answer does not depend on them
     *buckets = [0; 16384];
-    let targets = targets();
     let mut special = [0u32; 1027];
     let mut ends = empty();
     let mut set = false;
@@ -76,7 +75,6 @@ pub fn session_in(
         let said = perform(
             words,
             tags,
-            &targets,
             log,
             logtags,
             starts,

@@ -14,15 +14,15 @@ ghost use Rattle.function_builder.specs.Stacks.{Stacks};
 ghost use Rattle.derive_session.specs.Valid.{session_of, ValidSession};
 ghost use Rattle.session_operations.specs.Operations.{OperationEnsures, FinishEnsures};
 ghost use Rattle.session_functions.specs.Brought.{Brings};
+ghost use Rattle.derive_state.specs.Refers.{target_bytes};
 
 use base_refusals::{FULL, NO_SOURCE, NUMBER_GIVEN, UNKNOWN_RING};
-use base_views::{ENTRIES, FUNCTIONS, count};
-use base_words::{Tags, Words, wide};
+use base_views::{FUNCTIONS, Image, count};
 use derive_lookup::known;
 use derive_rings::{entries_ring, follow_rings, import_rings};
 use derive_snapshot::{restore, save};
 use derive_state::{
-    Buckets, Log, LogTags, Maps, Sizes, Special, StackRows, Starts, Targets, clear_maps, empty,
+    Buckets, Log, LogTags, Maps, Sizes, Special, StackRows, Starts, clear_maps, empty,
 };
 use function_entry::enter_all;
 use function_localize::{append, follow};
@@ -47,10 +47,7 @@ fn number_before(v: u32) -> u32
 
 // Appends function f; where it does not fit nothing has changed.
 fn append_or_undo(
-    words: &Words,
-    tags: &Tags,
-    targets: &Targets,
-    n: usize,
+    image: Image,
     log: &mut Log,
     logtags: &mut LogTags,
     starts: &mut Starts,
@@ -63,20 +60,17 @@ fn append_or_undo(
     f: usize,
     room: usize,
 ) -> Sizes
-    requires valid_session { ValidSession true n offset words.now tags.now targets.now log.old logtags.old starts.old maps.old buckets.old special.now ends }
-    requires f_bound { (f < count_at 6 words.now) × (room ≡ count_at 6 words.now) × (Stacks stacks.old ends) }
-    requires ends_value { meets_ring (f ∷ callees (function (mod_of words.now n) f)) (mod_of words.now n) (st_of words.now log.old logtags.old starts.old maps.old special.now ends) ≡ false }
-    ensures { Brings words.now special.now (append_s offset (mod_of words.now n) (follow_s offset (mod_of words.now n) room) f) log.old logtags.old starts.old maps.old ends result log.new logtags.new starts.new maps.new buckets.new stacks.new }
+    requires valid_session { ValidSession true image.n offset image.words.now image.tags.now target_bytes log.old logtags.old starts.old maps.old buckets.old special.now ends }
+    requires f_bound { (f < count_at 6 image.words.now) × (room ≡ count_at 6 image.words.now) × (Stacks stacks.old ends) }
+    requires ends_value { meets_ring (f ∷ callees (function (mod_of image.words.now image.n) f)) (mod_of image.words.now image.n) (st_of image.words.now log.old logtags.old starts.old maps.old special.now ends) ≡ false }
+    ensures { Brings image.entry.words.now special.now (append_s offset (mod_of image.entry.words.now image.entry.n) (follow_s offset (mod_of image.entry.words.now image.entry.n) room) f) log.old logtags.old starts.old maps.old ends result log.new logtags.new starts.new maps.new buckets.new stacks.new }
 {
     let mut s = [[0u32; 512]; 8];
     let mut m = [[0u32; 512]; 6];
-    save(words, starts, maps, ends, &mut s, &mut m);
+    save(image.words, starts, maps, ends, &mut s, &mut m);
     let mut places = [0u16; 1025];
     let got = append(
-        words,
-        tags,
-        targets,
-        n,
+        image,
         log,
         logtags,
         starts,
@@ -99,10 +93,7 @@ fn append_or_undo(
 
 // Imports function f if its name is not known; where it does not fit nothing has changed.
 fn follow_or_undo(
-    words: &Words,
-    tags: &Tags,
-    targets: &Targets,
-    n: usize,
+    image: Image,
     log: &mut Log,
     logtags: &mut LogTags,
     starts: &mut Starts,
@@ -115,20 +106,17 @@ fn follow_or_undo(
     f: usize,
     room: usize,
 ) -> Sizes
-    requires valid_session { ValidSession true n offset words.now tags.now targets.now log.old logtags.old starts.old maps.old buckets.old special.now ends }
-    requires f_bound { (f < count_at 6 words.now) × (room ≡ count_at 6 words.now) × (Stacks stacks.old ends) }
-    requires ends_value { meets_ring (f ∷ []) (mod_of words.now n) (st_of words.now log.old logtags.old starts.old maps.old special.now ends) ≡ false }
-    ensures { Brings words.now special.now (follow_s offset (mod_of words.now n) room f) log.old logtags.old starts.old maps.old ends result log.new logtags.new starts.new maps.new buckets.new stacks.new }
+    requires valid_session { ValidSession true image.n offset image.words.now image.tags.now target_bytes log.old logtags.old starts.old maps.old buckets.old special.now ends }
+    requires f_bound { (f < count_at 6 image.words.now) × (room ≡ count_at 6 image.words.now) × (Stacks stacks.old ends) }
+    requires ends_value { meets_ring (f ∷ []) (mod_of image.words.now image.n) (st_of image.words.now log.old logtags.old starts.old maps.old special.now ends) ≡ false }
+    ensures { Brings image.entry.words.now special.now (follow_s offset (mod_of image.entry.words.now image.entry.n) room f) log.old logtags.old starts.old maps.old ends result log.new logtags.new starts.new maps.new buckets.new stacks.new }
 {
     let mut s = [[0u32; 512]; 8];
     let mut m = [[0u32; 512]; 6];
-    save(words, starts, maps, ends, &mut s, &mut m);
+    save(image.words, starts, maps, ends, &mut s, &mut m);
     let mut places = [0u16; 1025];
     let got = follow(
-        words,
-        tags,
-        targets,
-        n,
+        image,
         log,
         logtags,
         starts,
@@ -153,10 +141,7 @@ fn follow_or_undo(
 
 // import_function: appends function f.
 pub fn import_function(
-    words: &Words,
-    tags: &Tags,
-    targets: &Targets,
-    n: usize,
+    image: Image,
     log: &mut Log,
     logtags: &mut LogTags,
     starts: &mut Starts,
@@ -169,10 +154,10 @@ pub fn import_function(
     offset: u32,
     f: u32,
 ) -> Answer
-    requires valid_session { ValidSession set n offset words.now tags.now targets.now log.old logtags.old starts.old maps.old buckets.old special.now ends }
+    requires valid_session { ValidSession set image.n offset image.words.now image.tags.now target_bytes log.old logtags.old starts.old maps.old buckets.old special.now ends }
     requires stacks { Stacks stacks.old ends }
-    ensures operation_ensures { OperationEnsures {A = ℕ} (import_function f) (session_of set n offset words.now log.old logtags.old starts.old maps.old special.now ends) result.refusal result.value (session_of set n offset words.now log.new logtags.new starts.new maps.new special.now result.ends) }
-    ensures valid_session_2 { ValidSession set n offset words.now tags.now targets.now log.new logtags.new starts.new maps.new buckets.new special.now result.ends }
+    ensures operation_ensures { OperationEnsures {A = ℕ} (import_function f) (session_of set image.entry.n offset image.entry.words.now log.old logtags.old starts.old maps.old special.now ends) result.refusal result.value (session_of set image.entry.n offset image.entry.words.now log.new logtags.new starts.new maps.new special.now result.ends) }
+    ensures valid_session_2 { ValidSession set image.entry.n offset image.entry.words.now image.entry.tags.now target_bytes log.new logtags.new starts.new maps.new buckets.new special.now result.ends }
     ensures stacks_2 { Stacks stacks.new result.ends }
 {
     if !set {
@@ -182,15 +167,15 @@ pub fn import_function(
             ends: ends,
         };
     }
-    let room = count(words, FUNCTIONS);
-    if room <= wide(f) {
+    let room = count(image.words, FUNCTIONS);
+    if room <= f as usize {
         return Answer {
             refusal: NUMBER_GIVEN,
             value: 0,
             ends: ends,
         };
     }
-    if import_rings(words, tags, n, log, logtags, starts, maps, ends, wide(f)) {
+    if import_rings(image, log, logtags, starts, maps, ends, f as usize) {
         return Answer {
             refusal: UNKNOWN_RING,
             value: 0,
@@ -198,21 +183,7 @@ pub fn import_function(
         };
     }
     let got = append_or_undo(
-        words,
-        tags,
-        targets,
-        n,
-        log,
-        logtags,
-        starts,
-        maps,
-        buckets,
-        special,
-        stacks,
-        ends,
-        offset,
-        wide(f),
-        room,
+        image, log, logtags, starts, maps, buckets, special, stacks, ends, offset, f as usize, room,
     );
     if got.full {
         return Answer {
@@ -231,10 +202,7 @@ pub fn import_function(
 
 // map_function_handle, import_function_if_new: the derived function that has the name of function f, imported first if there is none.
 pub fn map_function_handle(
-    words: &Words,
-    tags: &Tags,
-    targets: &Targets,
-    n: usize,
+    image: Image,
     log: &mut Log,
     logtags: &mut LogTags,
     starts: &mut Starts,
@@ -247,10 +215,10 @@ pub fn map_function_handle(
     offset: u32,
     f: u32,
 ) -> Answer
-    requires valid_session { ValidSession set n offset words.now tags.now targets.now log.old logtags.old starts.old maps.old buckets.old special.now ends }
+    requires valid_session { ValidSession set image.n offset image.words.now image.tags.now target_bytes log.old logtags.old starts.old maps.old buckets.old special.now ends }
     requires stacks { Stacks stacks.old ends }
-    ensures operation_ensures { OperationEnsures {A = ℕ} (map_function_handle f) (session_of set n offset words.now log.old logtags.old starts.old maps.old special.now ends) result.refusal result.value (session_of set n offset words.now log.new logtags.new starts.new maps.new special.now result.ends) }
-    ensures valid_session_2 { ValidSession set n offset words.now tags.now targets.now log.new logtags.new starts.new maps.new buckets.new special.now result.ends }
+    ensures operation_ensures { OperationEnsures {A = ℕ} (map_function_handle f) (session_of set image.entry.n offset image.entry.words.now log.old logtags.old starts.old maps.old special.now ends) result.refusal result.value (session_of set image.entry.n offset image.entry.words.now log.new logtags.new starts.new maps.new special.now result.ends) }
+    ensures valid_session_2 { ValidSession set image.entry.n offset image.entry.words.now image.entry.tags.now target_bytes log.new logtags.new starts.new maps.new buckets.new special.now result.ends }
     ensures stacks_2 { Stacks stacks.new result.ends }
 {
     if !set {
@@ -260,15 +228,15 @@ pub fn map_function_handle(
             ends: ends,
         };
     }
-    let room = count(words, FUNCTIONS);
-    if room <= wide(f) {
+    let room = count(image.words, FUNCTIONS);
+    if room <= f as usize {
         return Answer {
             refusal: NUMBER_GIVEN,
             value: 0,
             ends: ends,
         };
     }
-    if follow_rings(words, tags, n, log, logtags, starts, maps, ends, wide(f)) {
+    if follow_rings(image, log, logtags, starts, maps, ends, f as usize) {
         return Answer {
             refusal: UNKNOWN_RING,
             value: 0,
@@ -276,21 +244,7 @@ pub fn map_function_handle(
         };
     }
     let got = follow_or_undo(
-        words,
-        tags,
-        targets,
-        n,
-        log,
-        logtags,
-        starts,
-        maps,
-        buckets,
-        special,
-        stacks,
-        ends,
-        offset,
-        wide(f),
-        room,
+        image, log, logtags, starts, maps, buckets, special, stacks, ends, offset, f as usize, room,
     );
     if got.full {
         return Answer {
@@ -299,7 +253,7 @@ pub fn map_function_handle(
             ends: ends,
         };
     }
-    let v = number_before(known(words, tags, n, log, logtags, starts, maps, got, wide(f)));
+    let v = number_before(known(image, log, logtags, starts, maps, got, f as usize));
     Answer {
         refusal: 0,
         value: v,
@@ -309,10 +263,7 @@ pub fn map_function_handle(
 
 // finish, with the source's entry points.
 pub fn finish_with_entries(
-    words: &Words,
-    tags: &Tags,
-    targets: &Targets,
-    n: usize,
+    image: Image,
     log: &mut Log,
     logtags: &mut LogTags,
     starts: &Starts,
@@ -325,10 +276,10 @@ pub fn finish_with_entries(
     offset: u32,
     output: &mut [u8],
 ) -> Finished
-    requires valid_session { ValidSession set n offset words.now tags.now targets.now log.old logtags.old starts.now maps.old buckets.old special.old ends }
+    requires valid_session { ValidSession set image.n offset image.words.now image.tags.now target_bytes log.old logtags.old starts.now maps.old buckets.old special.old ends }
     requires stacks { Stacks stacks.old ends }
-    ensures finish_ensures { FinishEnsures (finish_with_entry_points (length output.old) (session_of set n offset words.now log.old logtags.old starts.now maps.old special.old ends)) (session_of set n offset words.now log.old logtags.old starts.now maps.old special.old ends) result.refusal result.bytes output.old output.new (session_of result.set n offset words.now log.new logtags.new starts.now maps.new special.new result.ends) }
-    ensures valid_session_2 { ValidSession result.set n offset words.now tags.now targets.now log.new logtags.new starts.now maps.new buckets.new special.new result.ends }
+    ensures finish_ensures { FinishEnsures (finish_with_entry_points (length output.old) (session_of set image.entry.n offset image.entry.words.now log.old logtags.old starts.now maps.old special.old ends)) (session_of set image.entry.n offset image.entry.words.now log.old logtags.old starts.now maps.old special.old ends) result.refusal result.bytes output.old output.new (session_of result.set image.entry.n offset image.entry.words.now log.new logtags.new starts.now maps.new special.new result.ends) }
+    ensures valid_session_2 { ValidSession result.set image.entry.n offset image.entry.words.now image.entry.tags.now target_bytes log.new logtags.new starts.now maps.new buckets.new special.new result.ends }
     ensures stacks_2 { Stacks stacks.new result.ends }
 {
     if !set {
@@ -339,7 +290,7 @@ pub fn finish_with_entries(
             ends: ends,
         };
     }
-    if entries_ring(words, tags, n, log, logtags, starts, maps, ends) {
+    if entries_ring(image, log, logtags, starts, maps, ends) {
         return Finished {
             refusal: UNKNOWN_RING,
             bytes: 0,
@@ -350,8 +301,7 @@ pub fn finish_with_entries(
     let mut s = *starts;
     let mut m = *maps;
     let e = enter_all(
-        words, tags, targets, n, log, logtags, &mut s, &mut m, buckets, special, stacks, ends,
-        offset,
+        image, log, logtags, &mut s, &mut m, buckets, special, stacks, ends, offset,
     );
     if e.full {
         empty_stacks(stacks);

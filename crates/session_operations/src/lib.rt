@@ -5,21 +5,19 @@
 ghost use Rattle.std.specs.Prelude.{◌≡◌, ℕ, ◌<◌, ◌≤◌, false, length};
 ghost use Rattle.base_words.specs.Words.{words_of};
 ghost use Rattle.model.specs.Session.{importing, rename_type, set as setOf, finish as finishOf};
-ghost use Rattle.derive_state.specs.Refers.{tab_of};
+ghost use Rattle.derive_state.specs.Refers.{tab_of, target_bytes};
 ghost use Rattle.derive_state.specs.Held.{Specials};
 ghost use Rattle.derive_session.specs.Valid.{session_of, ValidSession};
 ghost use Rattle.session_operations.specs.Operations.{OperationEnsures, MapSpanEnsures, RequiredEnsures, FinishEnsures};
 
 use base_handles::TypeHandle;
 use base_refusals::{FULL, NO_SOURCE, NUMBER_GIVEN};
-use base_views::{NAMES, TYPES, count};
-use base_words::{Tags, Words, wide};
+use base_views::{Image, NAMES, TYPES, count};
+use base_words::{Tags, Words};
 use derive_finish::finish;
 use derive_rollback::mapped_to;
 use derive_source::set_source;
-use derive_state::{
-    Buckets, Log, LogTags, Maps, Sizes, Special, Starts, Targets, clear_maps, empty,
-};
+use derive_state::{Buckets, Log, LogTags, Maps, Sizes, Special, Starts, clear_maps, empty};
 use std::num::wrapping_add_u32;
 
 // What an operation answers: its refusal, 0 for none; a value; and the sizes of the derived module after it.
@@ -32,10 +30,7 @@ pub struct Answer {
 
 // import_type, import_const, import_pipeline_override, import_global, import_global_expression: record h of table t.
 pub fn import(
-    words: &Words,
-    tags: &Tags,
-    targets: &Targets,
-    n: usize,
+    image: Image,
     log: &mut Log,
     logtags: &mut LogTags,
     starts: &mut Starts,
@@ -49,9 +44,9 @@ pub fn import(
     h: u32,
 ) -> Answer
     requires le_t { (1 ≤ t) × (t < 6) }
-    requires valid_session { ValidSession set n offset words.now tags.now targets.now log.old logtags.old starts.old maps.old buckets.old special.now ends }
-    ensures operation_ensures { OperationEnsures {A = ℕ} (importing (tab_of t) h) (session_of set n offset words.now log.old logtags.old starts.old maps.old special.now ends) result.refusal result.value (session_of set n offset words.now log.new logtags.new starts.new maps.new special.now result.ends) }
-    ensures valid_session_2 { ValidSession set n offset words.now tags.now targets.now log.new logtags.new starts.new maps.new buckets.new special.now result.ends }
+    requires valid_session { ValidSession set image.n offset image.words.now image.tags.now target_bytes log.old logtags.old starts.old maps.old buckets.old special.now ends }
+    ensures operation_ensures { OperationEnsures {A = ℕ} (importing (tab_of t) h) (session_of set image.entry.n offset image.entry.words.now log.old logtags.old starts.old maps.old special.now ends) result.refusal result.value (session_of set image.entry.n offset image.entry.words.now log.new logtags.new starts.new maps.new special.now result.ends) }
+    ensures valid_session_2 { ValidSession set image.entry.n offset image.entry.words.now image.entry.tags.now target_bytes log.new logtags.new starts.new maps.new buckets.new special.now result.ends }
 {
     if !set {
         return Answer {
@@ -60,7 +55,7 @@ pub fn import(
             ends: ends,
         };
     }
-    if count(words, t) <= wide(h) {
+    if count(image.words, t) <= h as usize {
         return Answer {
             refusal: NUMBER_GIVEN,
             value: 0,
@@ -68,7 +63,7 @@ pub fn import(
         };
     }
     let imported = derive_rollback::import(
-        words, tags, targets, n, log, logtags, starts, maps, buckets, ends, offset, t, h,
+        image, log, logtags, starts, maps, buckets, ends, offset, t, h,
     );
     if imported.full {
         return Answer {
@@ -87,10 +82,7 @@ pub fn import(
 
 // rename_type: imports type h under the name with the given number.
 pub fn rename_type(
-    words: &Words,
-    tags: &Tags,
-    targets: &Targets,
-    n: usize,
+    image: Image,
     log: &mut Log,
     logtags: &mut LogTags,
     starts: &mut Starts,
@@ -103,9 +95,9 @@ pub fn rename_type(
     h: u32,
     name: u32,
 ) -> Answer
-    requires { ValidSession set n offset words.now tags.now targets.now log.old logtags.old starts.old maps.old buckets.old special.now ends }
-    ensures operation_ensures { OperationEnsures {A = ℕ} (rename_type h name) (session_of set n offset words.now log.old logtags.old starts.old maps.old special.now ends) result.refusal result.value (session_of set n offset words.now log.new logtags.new starts.new maps.new special.now result.ends) }
-    ensures valid_session { ValidSession set n offset words.now tags.now targets.now log.new logtags.new starts.new maps.new buckets.new special.now result.ends }
+    requires { ValidSession set image.n offset image.words.now image.tags.now target_bytes log.old logtags.old starts.old maps.old buckets.old special.now ends }
+    ensures operation_ensures { OperationEnsures {A = ℕ} (rename_type h name) (session_of set image.entry.n offset image.entry.words.now log.old logtags.old starts.old maps.old special.now ends) result.refusal result.value (session_of set image.entry.n offset image.entry.words.now log.new logtags.new starts.new maps.new special.now result.ends) }
+    ensures valid_session { ValidSession set image.entry.n offset image.entry.words.now image.entry.tags.now target_bytes log.new logtags.new starts.new maps.new buckets.new special.now result.ends }
 {
     if !set {
         return Answer {
@@ -114,14 +106,14 @@ pub fn rename_type(
             ends: ends,
         };
     }
-    if count(words, TYPES) <= wide(h) {
+    if count(image.words, TYPES) <= h as usize {
         return Answer {
             refusal: NUMBER_GIVEN,
             value: 0,
             ends: ends,
         };
     }
-    if count(words, NAMES) <= wide(name) {
+    if count(image.words, NAMES) <= name as usize {
         return Answer {
             refusal: NUMBER_GIVEN,
             value: 0,
@@ -129,10 +121,7 @@ pub fn rename_type(
         };
     }
     let renamed = derive_rollback::rename_type(
-        words,
-        tags,
-        targets,
-        n,
+        image,
         log,
         logtags,
         starts,
@@ -229,7 +218,6 @@ fn set_first_source(
     image: &[u8],
     words: &mut Words,
     tags: &mut Tags,
-    targets: &Targets,
     n: usize,
     log: &mut Log,
     logtags: &mut LogTags,
@@ -241,9 +229,9 @@ fn set_first_source(
     offset: u32,
     o: u32,
 ) -> Set
-    requires { ValidSession false n offset words.old tags.old targets.now log.old logtags.old starts.old maps.old buckets.old special.old ends }
+    requires { ValidSession false n offset words.old tags.old target_bytes log.old logtags.old starts.old maps.old buckets.old special.old ends }
     ensures operation_ensures { OperationEnsures {A = Unit {0}} (setOf (length image.now) (words_of image.now) o) (session_of false n offset words.old log.old logtags.old starts.old maps.old special.old ends) result.refusal tt (session_of result.set result.n result.offset words.new log.new logtags.new starts.new maps.new special.new result.ends) }
-    ensures valid_session { ValidSession result.set result.n result.offset words.new tags.new targets.now log.new logtags.new starts.new maps.new buckets.new special.new result.ends }
+    ensures valid_session { ValidSession result.set result.n result.offset words.new tags.new target_bytes log.new logtags.new starts.new maps.new buckets.new special.new result.ends }
 {
     let m = match intake::take_in(image, words, tags) {
         Ok(m) => m,
@@ -260,7 +248,15 @@ fn set_first_source(
         }
     };
     let got = set_source(
-        words, tags, targets, m, log, logtags, starts, maps, buckets, special, ends, o,
+        Image { words, tags, n: m },
+        log,
+        logtags,
+        starts,
+        maps,
+        buckets,
+        special,
+        ends,
+        o,
     );
     if got.full {
         return Set {
@@ -285,7 +281,6 @@ pub fn set_shader_source(
     image: &[u8],
     words: &mut Words,
     tags: &mut Tags,
-    targets: &Targets,
     n: usize,
     log: &mut Log,
     logtags: &mut LogTags,
@@ -298,14 +293,13 @@ pub fn set_shader_source(
     offset: u32,
     o: u32,
 ) -> Set
-    requires { ValidSession set n offset words.old tags.old targets.now log.old logtags.old starts.old maps.old buckets.old special.old ends }
+    requires { ValidSession set n offset words.old tags.old target_bytes log.old logtags.old starts.old maps.old buckets.old special.old ends }
     ensures operation_ensures { OperationEnsures {A = Unit {0}} (setOf (length image.now) (words_of image.now) o) (session_of set n offset words.old log.old logtags.old starts.old maps.old special.old ends) result.refusal tt (session_of result.set result.n result.offset words.new log.new logtags.new starts.new maps.new special.new result.ends) }
-    ensures valid_session { ValidSession result.set result.n result.offset words.new tags.new targets.now log.new logtags.new starts.new maps.new buckets.new special.new result.ends }
+    ensures valid_session { ValidSession result.set result.n result.offset words.new tags.new target_bytes log.new logtags.new starts.new maps.new buckets.new special.new result.ends }
 {
     if !set {
         return set_first_source(
-            image, words, tags, targets, n, log, logtags, starts, maps, buckets, special, ends,
-            offset, o,
+            image, words, tags, n, log, logtags, starts, maps, buckets, special, ends, offset, o,
         );
     }
     let mut w = intake::fresh_words();
@@ -323,7 +317,19 @@ pub fn set_shader_source(
         }
     };
     let got = set_source(
-        &w, &t, targets, m, log, logtags, starts, maps, buckets, special, ends, o,
+        Image {
+            words: &w,
+            tags: &t,
+            n: m,
+        },
+        log,
+        logtags,
+        starts,
+        maps,
+        buckets,
+        special,
+        ends,
+        o,
     );
     if got.full {
         return Set {
@@ -356,10 +362,7 @@ pub struct Finished {
 
 // finish, without entry points.
 pub fn finish_plain(
-    words: &Words,
-    tags: &Tags,
-    targets: &Targets,
-    n: usize,
+    image: Image,
     log: &Log,
     logtags: &LogTags,
     starts: &Starts,
@@ -371,9 +374,9 @@ pub fn finish_plain(
     offset: u32,
     output: &mut [u8],
 ) -> Finished
-    requires { ValidSession set n offset words.now tags.now targets.now log.now logtags.now starts.now maps.old buckets.now special.old ends }
-    ensures finish_ensures { FinishEnsures (finishOf (length output.old) (session_of set n offset words.now log.now logtags.now starts.now maps.old special.old ends)) (session_of set n offset words.now log.now logtags.now starts.now maps.old special.old ends) result.refusal result.bytes output.old output.new (session_of result.set n offset words.now log.now logtags.now starts.now maps.new special.new result.ends) }
-    ensures valid_session { ValidSession result.set n offset words.now tags.now targets.now log.now logtags.now starts.now maps.new buckets.now special.new result.ends }
+    requires { ValidSession set image.n offset image.words.now image.tags.now target_bytes log.now logtags.now starts.now maps.old buckets.now special.old ends }
+    ensures finish_ensures { FinishEnsures (finishOf (length output.old) (session_of set image.entry.n offset image.entry.words.now log.now logtags.now starts.now maps.old special.old ends)) (session_of set image.entry.n offset image.entry.words.now log.now logtags.now starts.now maps.old special.old ends) result.refusal result.bytes output.old output.new (session_of result.set image.entry.n offset image.entry.words.now log.now logtags.now starts.now maps.new special.new result.ends) }
+    ensures valid_session { ValidSession result.set image.entry.n offset image.entry.words.now image.entry.tags.now target_bytes log.now logtags.now starts.now maps.new buckets.now special.new result.ends }
 {
     let mut out = [0u32; 16384];
     let bytes = match finish(log, logtags, starts, special, ends, &mut out, output) {

@@ -6,11 +6,12 @@ ghost use Rattle.std.specs.Prelude.{◌≡◌, ◌≤◌};
 ghost use Rattle.function_builder.specs.Stacks.{Stacks};
 ghost use Rattle.derive_session.specs.Valid.{session_of, ValidSession};
 ghost use Rattle.session_steps.specs.Stepped.{saying, PerformEnsures, Quiet, Wrote, Recorded, value_of};
+ghost use Rattle.derive_state.specs.Refers.{target_bytes};
 
 use base_refusals::NUMBER_GIVEN;
-use base_views::{CONSTANTS, TYPES};
+use base_views::{CONSTANTS, Image, TYPES};
 use base_words::{Tags, Words};
-use derive_state::{Buckets, Log, LogTags, Maps, Sizes, Special, StackRows, Starts, Targets};
+use derive_state::{Buckets, Log, LogTags, Maps, Sizes, Special, StackRows, Starts};
 use session_functions::{finish_with_entries, import_function, map_function_handle};
 use session_operations::{
     finish_plain, has_required_special_types, import, map_span, rename_type, set_shader_source,
@@ -83,7 +84,6 @@ fn value_of(refusal: u32, v: u32) -> u32
 fn set_step(
     words: &mut Words,
     tags: &mut Tags,
-    targets: &Targets,
     log: &mut Log,
     logtags: &mut LogTags,
     starts: &mut Starts,
@@ -97,9 +97,9 @@ fn set_step(
     offset: u32,
     step: Step,
 ) -> Answered
-    requires { ValidSession set n offset words.old tags.old targets.now log.old logtags.old starts.old maps.old buckets.old special.old ends }
+    requires { ValidSession set n offset words.old tags.old target_bytes log.old logtags.old starts.old maps.old buckets.old special.old ends }
     ensures quiet { Quiet 0 step.a step.b step.c sources.now (session_of set n offset words.old log.old logtags.old starts.old maps.old special.old ends) result.refusal result.first result.second (session_of result.set result.n result.offset words.new log.new logtags.new starts.new maps.new special.new result.ends) }
-    ensures valid_session { ValidSession result.set result.n result.offset words.new tags.new targets.now log.new logtags.new starts.new maps.new buckets.new special.new result.ends }
+    ensures valid_session { ValidSession result.set result.n result.offset words.new tags.new target_bytes log.new logtags.new starts.new maps.new buckets.new special.new result.ends }
 {
     let from = (step.a as usize).min(sources.len());
     let to = from + (step.b as usize).min(sources.len() - from);
@@ -107,7 +107,6 @@ fn set_step(
         &sources[from..to],
         words,
         tags,
-        targets,
         n,
         log,
         logtags,
@@ -133,9 +132,7 @@ fn set_step(
 
 // A finish without entry points into a part of the output.
 fn plain_step(
-    words: &Words,
-    tags: &Tags,
-    targets: &Targets,
+    image: Image,
     log: &Log,
     logtags: &LogTags,
     starts: &Starts,
@@ -143,23 +140,19 @@ fn plain_step(
     buckets: &Buckets,
     special: &mut Special,
     output: &mut [u8],
-    n: usize,
     ends: Sizes,
     set: bool,
     offset: u32,
     step: Step,
 ) -> Answered
-    requires { ValidSession set n offset words.now tags.now targets.now log.now logtags.now starts.now maps.old buckets.now special.old ends }
-    ensures wrote { Wrote 13 step.a step.b step.c (session_of set n offset words.now log.now logtags.now starts.now maps.old special.old ends) result.refusal result.first result.second output.old output.new (session_of result.set result.n result.offset words.now log.now logtags.now starts.now maps.new special.new result.ends) }
-    ensures valid_session { ValidSession result.set result.n result.offset words.now tags.now targets.now log.now logtags.now starts.now maps.new buckets.now special.new result.ends }
+    requires { ValidSession set image.n offset image.words.now image.tags.now target_bytes log.now logtags.now starts.now maps.old buckets.now special.old ends }
+    ensures wrote { Wrote 13 step.a step.b step.c (session_of set image.entry.n offset image.entry.words.now log.now logtags.now starts.now maps.old special.old ends) result.refusal result.first result.second output.old output.new (session_of result.set result.n result.offset image.entry.words.now log.now logtags.now starts.now maps.new special.new result.ends) }
+    ensures valid_session { ValidSession result.set result.n result.offset image.entry.words.now image.entry.tags.now target_bytes log.now logtags.now starts.now maps.new buckets.now special.new result.ends }
 {
     let from = (step.a as usize).min(output.len());
     let to = from + (step.b as usize).min(output.len() - from);
     let got = finish_plain(
-        words,
-        tags,
-        targets,
-        n,
+        image,
         log,
         logtags,
         starts,
@@ -176,7 +169,7 @@ fn plain_step(
         first: got.bytes as u32,
         second: 0,
         set: got.set,
-        n,
+        n: image.n,
         offset,
         ends: got.ends,
     }
@@ -184,9 +177,7 @@ fn plain_step(
 
 // A finish with the source's entry points into a part of the output.
 fn entries_step(
-    words: &Words,
-    tags: &Tags,
-    targets: &Targets,
+    image: Image,
     log: &mut Log,
     logtags: &mut LogTags,
     starts: &Starts,
@@ -195,25 +186,21 @@ fn entries_step(
     special: &mut Special,
     stacks: &mut StackRows,
     output: &mut [u8],
-    n: usize,
     ends: Sizes,
     set: bool,
     offset: u32,
     step: Step,
 ) -> Answered
-    requires valid_session { ValidSession set n offset words.now tags.now targets.now log.old logtags.old starts.now maps.old buckets.old special.old ends }
+    requires valid_session { ValidSession set image.n offset image.words.now image.tags.now target_bytes log.old logtags.old starts.now maps.old buckets.old special.old ends }
     requires stacks { Stacks stacks.old ends }
-    ensures wrote { Wrote 14 step.a step.b step.c (session_of set n offset words.now log.old logtags.old starts.now maps.old special.old ends) result.refusal result.first result.second output.old output.new (session_of result.set result.n result.offset words.now log.new logtags.new starts.now maps.new special.new result.ends) }
-    ensures valid_session_2 { ValidSession result.set result.n result.offset words.now tags.now targets.now log.new logtags.new starts.now maps.new buckets.new special.new result.ends }
+    ensures wrote { Wrote 14 step.a step.b step.c (session_of set image.entry.n offset image.entry.words.now log.old logtags.old starts.now maps.old special.old ends) result.refusal result.first result.second output.old output.new (session_of result.set result.n result.offset image.entry.words.now log.new logtags.new starts.now maps.new special.new result.ends) }
+    ensures valid_session_2 { ValidSession result.set result.n result.offset image.entry.words.now image.entry.tags.now target_bytes log.new logtags.new starts.now maps.new buckets.new special.new result.ends }
     ensures stacks_2 { Stacks stacks.new result.ends }
 {
     let from = (step.a as usize).min(output.len());
     let to = from + (step.b as usize).min(output.len() - from);
     let got = finish_with_entries(
-        words,
-        tags,
-        targets,
-        n,
+        image,
         log,
         logtags,
         starts,
@@ -231,7 +218,7 @@ fn entries_step(
         first: got.bytes as u32,
         second: 0,
         set: got.set,
-        n,
+        n: image.n,
         offset,
         ends: got.ends,
     }
@@ -241,7 +228,6 @@ fn entries_step(
 pub fn perform(
     words: &mut Words,
     tags: &mut Tags,
-    targets: &Targets,
     log: &mut Log,
     logtags: &mut LogTags,
     starts: &mut Starts,
@@ -257,16 +243,16 @@ pub fn perform(
     offset: u32,
     step: Step,
 ) -> Answered
-    requires valid_session { ValidSession set n offset words.old tags.old targets.now log.old logtags.old starts.old maps.old buckets.old special.old ends }
+    requires valid_session { ValidSession set n offset words.old tags.old target_bytes log.old logtags.old starts.old maps.old buckets.old special.old ends }
     requires stacks { Stacks stacks.old ends }
     ensures perform_ensures { PerformEnsures (saying step.operation step.a step.b step.c sources.now output.old (session_of set n offset words.old log.old logtags.old starts.old maps.old special.old ends)) result.refusal result.first result.second output.old output.new (session_of result.set result.n result.offset words.new log.new logtags.new starts.new maps.new special.new result.ends) }
-    ensures valid_session_2 { ValidSession result.set result.n result.offset words.new tags.new targets.now log.new logtags.new starts.new maps.new buckets.new special.new result.ends }
+    ensures valid_session_2 { ValidSession result.set result.n result.offset words.new tags.new target_bytes log.new logtags.new starts.new maps.new buckets.new special.new result.ends }
     ensures stacks_2 { Stacks stacks.new result.ends }
 {
     if step.operation == SET {
         return set_step(
-            words, tags, targets, log, logtags, starts, maps, buckets, special, sources, n, ends,
-            set, offset, step,
+            words, tags, log, logtags, starts, maps, buckets, special, sources, n, ends, set,
+            offset, step,
         );
     }
     if step.operation == CLEAR {
@@ -306,19 +292,50 @@ pub fn perform(
     }
     if step.operation == FINISH {
         return plain_step(
-            words, tags, targets, log, logtags, starts, maps, buckets, special, output, n, ends,
-            set, offset, step,
+            Image { words, tags, n },
+            log,
+            logtags,
+            starts,
+            maps,
+            buckets,
+            special,
+            output,
+            ends,
+            set,
+            offset,
+            step,
         );
     }
     if step.operation == FINISH_WITH_ENTRY_POINTS {
         return entries_step(
-            words, tags, targets, log, logtags, starts, maps, buckets, special, stacks, output, n,
-            ends, set, offset, step,
+            Image { words, tags, n },
+            log,
+            logtags,
+            starts,
+            maps,
+            buckets,
+            special,
+            stacks,
+            output,
+            ends,
+            set,
+            offset,
+            step,
         );
     }
     let said = record_step(
-        words, tags, targets, n, log, logtags, starts, maps, buckets, special, stacks, ends, set,
-        offset, step,
+        Image { words, tags, n },
+        log,
+        logtags,
+        starts,
+        maps,
+        buckets,
+        special,
+        stacks,
+        ends,
+        set,
+        offset,
+        step,
     );
     Answered {
         refusal: said.refusal,
@@ -333,10 +350,7 @@ pub fn perform(
 
 // The steps that import a record of a table or a function; 13 for any other.
 fn record_step(
-    words: &Words,
-    tags: &Tags,
-    targets: &Targets,
-    n: usize,
+    image: Image,
     log: &mut Log,
     logtags: &mut LogTags,
     starts: &mut Starts,
@@ -350,30 +364,25 @@ fn record_step(
     step: Step,
 ) -> session_operations::Answer
     requires le_operation { (3 ≤ step.operation) × (step.operation ≡ 12 → ⊥) × (step.operation ≡ 13 → ⊥) × (step.operation ≡ 14 → ⊥) }
-    requires valid_session { ValidSession set n offset words.now tags.now targets.now log.old logtags.old starts.old maps.old buckets.old special.now ends }
+    requires valid_session { ValidSession set image.n offset image.words.now image.tags.now target_bytes log.old logtags.old starts.old maps.old buckets.old special.now ends }
     requires stacks { Stacks stacks.old ends }
-    ensures recorded { Recorded step.operation step.a step.b step.c (session_of set n offset words.now log.old logtags.old starts.old maps.old special.now ends) result.refusal (value_of result.refusal result.value) (session_of set n offset words.now log.new logtags.new starts.new maps.new special.now result.ends) }
-    ensures valid_session_2 { ValidSession set n offset words.now tags.now targets.now log.new logtags.new starts.new maps.new buckets.new special.now result.ends }
+    ensures recorded { Recorded step.operation step.a step.b step.c (session_of set image.entry.n offset image.entry.words.now log.old logtags.old starts.old maps.old special.now ends) result.refusal (value_of result.refusal result.value) (session_of set image.entry.n offset image.entry.words.now log.new logtags.new starts.new maps.new special.now result.ends) }
+    ensures valid_session_2 { ValidSession set image.entry.n offset image.entry.words.now image.entry.tags.now target_bytes log.new logtags.new starts.new maps.new buckets.new special.now result.ends }
     ensures stacks_2 { Stacks stacks.new result.ends }
 {
     if step.operation == IMPORT_TYPE {
         return import(
-            words, tags, targets, n, log, logtags, starts, maps, buckets, special, ends, set,
-            offset, TYPES, step.a,
+            image, log, logtags, starts, maps, buckets, special, ends, set, offset, TYPES, step.a,
         );
     }
     if step.operation == RENAME_TYPE {
         return rename_type(
-            words, tags, targets, n, log, logtags, starts, maps, buckets, special, ends, set,
-            offset, step.a, step.b,
+            image, log, logtags, starts, maps, buckets, special, ends, set, offset, step.a, step.b,
         );
     }
     if step.operation < IMPORT_FUNCTION {
         return import(
-            words,
-            tags,
-            targets,
-            n,
+            image,
             log,
             logtags,
             starts,
@@ -389,14 +398,12 @@ fn record_step(
     }
     if step.operation == IMPORT_FUNCTION {
         return import_function(
-            words, tags, targets, n, log, logtags, starts, maps, buckets, special, stacks, ends,
-            set, offset, step.a,
+            image, log, logtags, starts, maps, buckets, special, stacks, ends, set, offset, step.a,
         );
     }
     if step.operation < HAS_REQUIRED_SPECIAL_TYPES {
         return map_function_handle(
-            words, tags, targets, n, log, logtags, starts, maps, buckets, special, stacks, ends,
-            set, offset, step.a,
+            image, log, logtags, starts, maps, buckets, special, stacks, ends, set, offset, step.a,
         );
     }
     session_operations::Answer {

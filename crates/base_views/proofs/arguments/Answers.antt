@@ -1,3 +1,4 @@
+use mathlib.Core.Path.{refl}
 use Rattle.base_views.proofs.Places.{arguments_inside}
 use mathlib.Core.Path.{ap, ◌∙◌}
 use native.Mathlib.Omega.{arith}
@@ -14,4 +15,4 @@ pub bounds-words-arguments_at : goal.bounds-words-arguments_at
 bounds-words-arguments_at c = omega (arith, arguments_inside _ _ c.requires, c.arguments_at.ensures)
 
 pub returns : goal.returns
-returns c = (c.wide.ensures.0 ∙ ap (λ i. get_or c.args.words.now i 0) c.arguments_at.ensures, c.wide.ensures.1)
+returns c = (refl ∙ ap (λ i. get_or c.args.words.now i 0) c.arguments_at.ensures, c.fits-words _)

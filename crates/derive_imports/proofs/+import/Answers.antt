@@ -1,3 +1,4 @@
+use mathlib.Core.Path.{refl}
 -- `derive_imports::import` meets its contract: it passes the record's words as `Turn` says, and then interns the record.
 use Rattle.std.proofs.Common.{arith}
 use Rattle.derive_imports.proofs.Sources.{tape, small_number, readable, plain_name}
@@ -21,14 +22,14 @@ record_end-end-requires t c = let q = c.requires.number_bound in record { tape =
 pub loop-j-init : goal.loop-j-init
 loop-j-init t c = let q = c.requires.number_bound in turn-first _ _ _ c.requires.source _ _ _ q.0 q.1 _ _ _ _ _ _ q.2 c.requires.valid_arrays c.if-maps-table-ne0.false _ _ c.record_at-at.ensures c.record_end-end.ensures
 
-pub bounds-tags-j : goal.bounds-tags-j
-bounds-tags-j t c = word_in c.requires.source c.requires.number_bound c.requires.valid_arrays c.if-maps-table-ne0.false c.record_at-at.ensures c.record_end-end.ensures c.loop-j.invariant c.loop-j-test.true
+pub bounds-image-j : goal.bounds-image-j
+bounds-image-j t c = word_in c.requires.source c.requires.number_bound c.requires.valid_arrays c.if-maps-table-ne0.false c.record_at-at.ensures c.record_end-end.ensures c.loop-j.invariant c.loop-j-test.true
 
-pub bounds-words-j : goal.bounds-words-j
-bounds-words-j t c = word_in c.requires.source c.requires.number_bound c.requires.valid_arrays c.if-maps-table-ne0.false c.record_at-at.ensures c.record_end-end.ensures c.loop-j.invariant c.loop-j-test.true
+pub bounds-image-j-in-loop-j : goal.bounds-image-j-in-loop-j
+bounds-image-j-in-loop-j t c = word_in c.requires.source c.requires.number_bound c.requires.valid_arrays c.if-maps-table-ne0.false c.record_at-at.ensures c.record_end-end.ensures c.loop-j.invariant c.loop-j-test.true
 
-pub offset_bounds-words-j : goal.offset_bounds-words-j
-offset_bounds-words-j t c = omega (arith, word_in c.requires.source c.requires.number_bound c.requires.valid_arrays c.if-maps-table-ne0.false c.record_at-at.ensures c.record_end-end.ensures c.loop-j.invariant c.loop-j-test.true)
+pub offset_bounds-image-j : goal.offset_bounds-image-j
+offset_bounds-image-j t c = omega (arith, word_in c.requires.source c.requires.number_bound c.requires.valid_arrays c.if-maps-table-ne0.false c.record_at-at.ensures c.record_end-end.ensures c.loop-j.invariant c.loop-j-test.true)
 
 pub import-e-requires : goal.import-e-requires
 import-e-requires t c =
@@ -37,7 +38,7 @@ import-e-requires t c =
     let inv = c.loop-j.invariant in
     let inside = number_in R.source R.number_bound R.valid_arrays c.if-maps-table-ne0.false c.record_at-at.ensures c.record_end-end.ensures inv c.loop-j-test.true q.0 c.if-r-lt-NOTHING.true q.1 in
     let falls = lower R.source R.number_bound R.valid_arrays c.if-maps-table-ne0.false c.record_at-at.ensures c.record_end-end.ensures inv c.loop-j-test.true q.0 c.if-r-lt-NOTHING.true q.1 in
-    (rw (← c.decreases) falls, (R.source, ((c.if-r-lt-NOTHING.true, inside, inv.going), (R.targets_value, inv.kept))))
+    (rw (← c.decreases) falls, (R.source, ((c.if-r-lt-NOTHING.true, inside, inv.going), inv.kept)))
 
 pub returns-then-e : goal.returns-then-e
 returns-then-e t c =
@@ -53,7 +54,7 @@ loop-j-preserved t c =
     ]
 
 pub intern-requires-clause-readable : goal.intern-requires-clause-readable
-intern-requires-clause-readable t c = let q = c.requires.number_bound in readable _ _ _ c.requires.source c.args.table c.args.number q.0 q.1 _ _ c.record_at-at.ensures c.record_end-end.ensures _ c.requires.targets_value
+intern-requires-clause-readable t c = let q = c.requires.number_bound in readable _ _ _ c.requires.source c.args.table c.args.number q.0 q.1 _ _ c.record_at-at.ensures c.record_end-end.ensures _ refl
 
 pub intern-requires-clause-t_bound : goal.intern-requires-clause-t_bound
 intern-requires-clause-t_bound t c = let q = c.requires.number_bound in (q.0, q.1, small_number _ _ _ c.requires.source c.args.table c.args.number q.0 q.1, c.loop-j.invariant.going)

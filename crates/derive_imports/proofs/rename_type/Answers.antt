@@ -20,7 +20,7 @@ pub record_end-end-requires : goal.record_end-end-requires
 record_end-end-requires c = record { tape = tape _ _ _ c.requires.source; k_bound = omega arith; j_bound = c.requires.h_bound.0 }
 
 pub import-e-requires : goal.import-e-requires
-import-e-requires c = let q = c.requires.h_bound in record { source = c.requires.source; number_bound = (omega arith, q.1, q.2); targets_value = c.requires.targets_value; valid_arrays = c.requires.valid_arrays }
+import-e-requires c = let q = c.requires.h_bound in record { source = c.requires.source; number_bound = (omega arith, q.1, q.2); valid_arrays = c.requires.valid_arrays }
 
 pub returns-then-e : goal.returns-then-e
 unfolding tab_of
@@ -32,20 +32,20 @@ overflow_step-j c = let z = next_word _ _ _ c.requires.source c.args.offset c.ar
 pub loop-j-init : goal.loop-j-init
 loop-j-init c = rename-first _ _ _ c.requires.source c.args.offset c.args.h.0 c.requires.h_bound.0 c.args.name c.requires.h_bound.1 c.record_at-at.result c.record_end-end.result c.record_at-at.ensures c.record_end-end.ensures _ _ _ _ _ _ c.if-e.false (c.import-e.ensures.kept c.if-e.false)
 
-pub bounds-tags-j : goal.bounds-tags-j
-bounds-tags-j c = word_in c.requires.source c.requires.h_bound.0 c.requires.h_bound.1 c.record_at-at.ensures c.record_end-end.ensures c.if-e.false (c.import-e.ensures.kept c.if-e.false) c.loop-j.invariant c.loop-j-test.true
+pub bounds-image-j : goal.bounds-image-j
+bounds-image-j c = word_in c.requires.source c.requires.h_bound.0 c.requires.h_bound.1 c.record_at-at.ensures c.record_end-end.ensures c.if-e.false (c.import-e.ensures.kept c.if-e.false) c.loop-j.invariant c.loop-j-test.true
 
-pub bounds-words-j : goal.bounds-words-j
-bounds-words-j c = word_in c.requires.source c.requires.h_bound.0 c.requires.h_bound.1 c.record_at-at.ensures c.record_end-end.ensures c.if-e.false (c.import-e.ensures.kept c.if-e.false) c.loop-j.invariant c.loop-j-test.true
+pub bounds-image-j-in-loop-j : goal.bounds-image-j-in-loop-j
+bounds-image-j-in-loop-j c = word_in c.requires.source c.requires.h_bound.0 c.requires.h_bound.1 c.record_at-at.ensures c.record_end-end.ensures c.if-e.false (c.import-e.ensures.kept c.if-e.false) c.loop-j.invariant c.loop-j-test.true
 
-pub offset_bounds-words-j : goal.offset_bounds-words-j
-offset_bounds-words-j c = omega (arith, word_in c.requires.source c.requires.h_bound.0 c.requires.h_bound.1 c.record_at-at.ensures c.record_end-end.ensures c.if-e.false (c.import-e.ensures.kept c.if-e.false) c.loop-j.invariant c.loop-j-test.true)
+pub offset_bounds-image-j : goal.offset_bounds-image-j
+offset_bounds-image-j c = omega (arith, word_in c.requires.source c.requires.h_bound.0 c.requires.h_bound.1 c.record_at-at.ensures c.record_end-end.ensures c.if-e.false (c.import-e.ensures.kept c.if-e.false) c.loop-j.invariant c.loop-j-test.true)
 
 pub import-e-requires-then-r-lt-NOTHING : goal.import-e-requires-then-r-lt-NOTHING
 import-e-requires-then-r-lt-NOTHING c =
     let q = c.refers_to-r.ensures in
     let inside = number_in c.requires.source c.requires.h_bound.0 c.requires.h_bound.1 c.record_at-at.ensures c.record_end-end.ensures c.if-e.false (c.import-e.ensures.kept c.if-e.false) c.loop-j.invariant c.loop-j-test.true q.0 c.if-r-lt-NOTHING.true q.1 in
-    record { source = c.requires.source; number_bound = (c.if-r-lt-NOTHING.true, inside, c.loop-j.invariant.going); targets_value = c.requires.targets_value; valid_arrays = c.loop-j.invariant.kept }
+    record { source = c.requires.source; number_bound = (c.if-r-lt-NOTHING.true, inside, c.loop-j.invariant.going); valid_arrays = c.loop-j.invariant.kept }
 
 pub returns-then-e-2 : goal.returns-then-e-2
 unfolding tab_of
@@ -72,7 +72,7 @@ offset_bounds-view-at c = let z = next_word _ _ _ c.requires.source c.args.offse
 
 pub intern-requires : goal.intern-requires
 intern-requires c = record {
-  readable = view_readable _ _ _ c.requires.source c.args.offset c.args.h.0 c.requires.h_bound.0 c.args.name c.requires.h_bound.1 c.record_at-at.result c.record_end-end.result c.record_at-at.ensures c.record_end-end.ensures _ c.requires.targets_value;
+  readable = view_readable _ _ _ c.requires.source c.args.offset c.args.h.0 c.requires.h_bound.0 c.args.name c.requires.h_bound.1 c.record_at-at.result c.record_end-end.result c.record_at-at.ensures c.record_end-end.ensures _ refl;
   t_bound = (omega arith, rw (view_count _ _ _ c.requires.source c.args.offset c.args.h.0 c.requires.h_bound.0 c.args.name c.requires.h_bound.1 c.record_at-at.result c.record_end-end.result c.record_at-at.ensures c.record_end-end.ensures 1 (omega arith)) c.requires.h_bound.0, small_number _ _ _ c.requires.source 1 c.args.h.0 (omega arith) c.requires.h_bound.0, c.loop-j.invariant.going);
   nameless = λ e. absurd (omega arith);
   valid_arrays = c.loop-j.invariant.kept;

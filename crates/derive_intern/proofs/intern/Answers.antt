@@ -17,16 +17,16 @@ pub overflow_cast-maps : goal.overflow_cast-maps
 overflow_cast-maps c = let a = c.args in let R = c.requires.readable in let q = c.requires.t_bound in let pl = c.requires.nameless in let K = c.requires.valid_arrays in let f = K.few a.t (let z = q.0 in omega arith) in let rm = K.room in omega arith
 
 pub returns-in-Some : goal.returns-in-Some
-returns-in-Some c = let a = c.args in let R = c.requires.readable in let q = c.requires.t_bound in let pl = c.requires.nameless in let K = c.requires.valid_arrays in let f = K.few a.t (let z = q.0 in omega arith) in let rm = K.room in settle_old a.words.now a.tags.now a.log.now a.logtags.now a.starts.now a.maps.now a.buckets.now a.ends q.3 K a.t a.k a.at a.end a.offset q.0 q.1 q.2 R.stretch pl c.in-Some.j c.in-Some.ensures.1 c.in-Some.ensures.0
+returns-in-Some c = let a = c.args in let R = c.requires.readable in let q = c.requires.t_bound in let pl = c.requires.nameless in let K = c.requires.valid_arrays in let f = K.few a.t (let z = q.0 in omega arith) in let rm = K.room in settle_old a.image.words.now a.image.tags.now a.log.now a.logtags.now a.starts.now a.maps.now a.buckets.now a.ends q.3 K a.t a.k a.at a.end a.offset q.0 q.1 q.2 R.stretch pl c.in-Some.j c.in-Some.ensures.1 c.in-Some.ensures.0
 
 pub returns-then-n-eq512 : goal.returns-then-n-eq512
-returns-then-n-eq512 c = let a = c.args in let R = c.requires.readable in let q = c.requires.t_bound in let pl = c.requires.nameless in let K = c.requires.valid_arrays in let f = K.few a.t (let z = q.0 in omega arith) in let rm = K.room in settle_many a.words.now a.tags.now a.log.now a.logtags.now a.starts.now a.maps.now a.buckets.now a.ends q.3 K a.t a.k a.at a.end a.offset q.0 q.1 q.2 R.stretch pl _ c.in_default.ensures (omega arith) c.if-n-eq512.true _ c.mark_full.ensures
+returns-then-n-eq512 c = let a = c.args in let R = c.requires.readable in let q = c.requires.t_bound in let pl = c.requires.nameless in let K = c.requires.valid_arrays in let f = K.few a.t (let z = q.0 in omega arith) in let rm = K.room in settle_many a.image.words.now a.image.tags.now a.log.now a.logtags.now a.starts.now a.maps.now a.buckets.now a.ends q.3 K a.t a.k a.at a.end a.offset q.0 q.1 q.2 R.stretch pl _ c.in_default.ensures (omega arith) c.if-n-eq512.true _ c.mark_full.ensures
 
 pub words_left-requires : goal.words_left-requires
 words_left-requires c = let a = c.args in let R = c.requires.readable in let q = c.requires.t_bound in let pl = c.requires.nameless in let K = c.requires.valid_arrays in let f = K.few a.t (let z = q.0 in omega arith) in let rm = K.room in rm
 
 pub returns-then-words_left-end : goal.returns-then-words_left-end
-returns-then-words_left-end c = let a = c.args in let R = c.requires.readable in let q = c.requires.t_bound in let pl = c.requires.nameless in let K = c.requires.valid_arrays in let f = K.few a.t (let z = q.0 in omega arith) in let rm = K.room in settle_long a.words.now a.tags.now a.log.now a.logtags.now a.starts.now a.maps.now a.buckets.now a.ends q.3 K a.t a.k a.at a.end a.offset q.0 q.1 q.2 R.stretch pl _ c.in_default.ensures (omega arith) _ c.words_left.ensures c.if-words_left-end.true _ c.mark_full-then-words_left-end.ensures
+returns-then-words_left-end c = let a = c.args in let R = c.requires.readable in let q = c.requires.t_bound in let pl = c.requires.nameless in let K = c.requires.valid_arrays in let f = K.few a.t (let z = q.0 in omega arith) in let rm = K.room in settle_long a.image.words.now a.image.tags.now a.log.now a.logtags.now a.starts.now a.maps.now a.buckets.now a.ends q.3 K a.t a.k a.at a.end a.offset q.0 q.1 q.2 R.stretch pl _ c.in_default.ensures (omega arith) _ c.words_left.ensures c.if-words_left-end.true _ c.mark_full-then-words_left-end.ensures
 
 pub overflow_sub-log : goal.overflow_sub-log
 overflow_sub-log c = let a = c.args in let R = c.requires.readable in let q = c.requires.t_bound in let pl = c.requires.nameless in let K = c.requires.valid_arrays in let f = K.few a.t (let z = q.0 in omega arith) in let rm = K.room in let z = q.0 in let y = q.2 in let x = R.stretch.rising in let w = R.stretch.small in omega arith
@@ -86,4 +86,4 @@ pub with_record-requires : goal.with_record-requires
 with_record-requires c = let a = c.args in let R = c.requires.readable in let q = c.requires.t_bound in let pl = c.requires.nameless in let K = c.requires.valid_arrays in let f = K.few a.t (let z = q.0 in omega arith) in let rm = K.room in let z = c.if-n-eq512.false in let y = c.if-words_left-end.false in let x = c.words_left.ensures in let w = q.0 in (omega arith, omega arith, omega arith)
 
 pub returns : goal.returns
-returns c = let a = c.args in let R = c.requires.readable in let q = c.requires.t_bound in let pl = c.requires.nameless in let K = c.requires.valid_arrays in let f = K.few a.t (let z = q.0 in omega arith) in let rm = K.room in settle_new a.words.now a.tags.now a.log.now a.logtags.now a.starts.now a.maps.now a.buckets.now a.ends q.3 K a.t a.k a.at a.end a.offset q.0 q.1 q.2 R.stretch pl _ c.in_default.ensures (omega arith) c.if-n-eq512.false _ c.words_left.ensures c.if-words_left-end.false _ _ c.write.ensures c.bucket_of-p.result c.bucket_of-p.ensures.0 _ c.set_bucket.ensures _ c.with_record.ensures
+returns c = let a = c.args in let R = c.requires.readable in let q = c.requires.t_bound in let pl = c.requires.nameless in let K = c.requires.valid_arrays in let f = K.few a.t (let z = q.0 in omega arith) in let rm = K.room in settle_new a.image.words.now a.image.tags.now a.log.now a.logtags.now a.starts.now a.maps.now a.buckets.now a.ends q.3 K a.t a.k a.at a.end a.offset q.0 q.1 q.2 R.stretch pl _ c.in_default.ensures (omega arith) c.if-n-eq512.false _ c.words_left.ensures c.if-words_left-end.false _ _ c.write.ensures c.bucket_of-p.result c.bucket_of-p.ensures.0 _ c.set_bucket.ensures _ c.with_record.ensures

@@ -8,25 +8,25 @@ use mathlib.Core.Bool.{not}
 use Rattle.derive_lookup.proofs.equals_name.Goals as goal
 
 pub returns-then-log-s : goal.returns-then-log-s
-returns-then-log-s c = plainly c.args.words.now c.args.tags.now c.args.at c.args.end _ _ (compare-short c.args.words.now c.args.tags.now c.args.log.now c.args.logtags.now stay c.args.at c.args.end c.args.s c.requires.readable.stretch c.requires.readable.small c.requires.s_bound.0 c.requires.s_bound.1 c.requires.s_bound.2 _ refl c.if-log-s.true)
+returns-then-log-s c = plainly c.args.image.words.now c.args.image.tags.now c.args.at c.args.end _ _ (compare-short c.args.image.words.now c.args.image.tags.now c.args.log.now c.args.logtags.now stay c.args.at c.args.end c.args.s c.requires.readable.stretch c.requires.readable.small c.requires.s_bound.0 c.requires.s_bound.1 c.requires.s_bound.2 _ refl c.if-log-s.true)
 
 pub loop-j-init : goal.loop-j-init
-loop-j-init c = let z : c.args.s + 1 + (c.args.at - c.args.at) ≡ c.args.s + 1 = omega arith in rw z (compare-begin c.args.words.now c.args.tags.now c.args.log.now c.args.logtags.now stay c.args.at c.args.end c.args.s c.requires.readable.stretch c.requires.readable.small c.requires.s_bound.0 c.requires.s_bound.1 c.requires.s_bound.2 _ refl c.if-log-s.false)
+loop-j-init c = let z : c.args.s + 1 + (c.args.at - c.args.at) ≡ c.args.s + 1 = omega arith in rw z (compare-begin c.args.image.words.now c.args.image.tags.now c.args.log.now c.args.logtags.now stay c.args.at c.args.end c.args.s c.requires.readable.stretch c.requires.readable.small c.requires.s_bound.0 c.requires.s_bound.1 c.requires.s_bound.2 _ refl c.if-log-s.false)
 
 pub bounds-logtags-q : goal.bounds-logtags-q
-bounds-logtags-q c = let q = compare_in c.args.words.now c.args.tags.now c.args.log.now c.args.logtags.now stay c.args.at c.args.end c.args.s c.requires.readable.stretch c.requires.readable.small c.requires.s_bound.0 c.requires.s_bound.1 c.requires.s_bound.2 c.loop-j.j _ c.loop-j.invariant c.loop-j-test.true in omega arith
+bounds-logtags-q c = let q = compare_in c.args.image.words.now c.args.image.tags.now c.args.log.now c.args.logtags.now stay c.args.at c.args.end c.args.s c.requires.readable.stretch c.requires.readable.small c.requires.s_bound.0 c.requires.s_bound.1 c.requires.s_bound.2 c.loop-j.j _ c.loop-j.invariant c.loop-j-test.true in omega arith
 
 pub offset_bounds-log-q : goal.offset_bounds-log-q
-offset_bounds-log-q c = let q = compare_in c.args.words.now c.args.tags.now c.args.log.now c.args.logtags.now stay c.args.at c.args.end c.args.s c.requires.readable.stretch c.requires.readable.small c.requires.s_bound.0 c.requires.s_bound.1 c.requires.s_bound.2 c.loop-j.j _ c.loop-j.invariant c.loop-j-test.true in omega arith
+offset_bounds-log-q c = let q = compare_in c.args.image.words.now c.args.image.tags.now c.args.log.now c.args.logtags.now stay c.args.at c.args.end c.args.s c.requires.readable.stretch c.requires.readable.small c.requires.s_bound.0 c.requires.s_bound.1 c.requires.s_bound.2 c.loop-j.j _ c.loop-j.invariant c.loop-j-test.true in omega arith
 
 pub bounds-log-q : goal.bounds-log-q
-bounds-log-q c = let q = compare_in c.args.words.now c.args.tags.now c.args.log.now c.args.logtags.now stay c.args.at c.args.end c.args.s c.requires.readable.stretch c.requires.readable.small c.requires.s_bound.0 c.requires.s_bound.1 c.requires.s_bound.2 c.loop-j.j _ c.loop-j.invariant c.loop-j-test.true in omega arith
+bounds-log-q c = let q = compare_in c.args.image.words.now c.args.image.tags.now c.args.log.now c.args.logtags.now stay c.args.at c.args.end c.args.s c.requires.readable.stretch c.requires.readable.small c.requires.s_bound.0 c.requires.s_bound.1 c.requires.s_bound.2 c.loop-j.j _ c.loop-j.invariant c.loop-j-test.true in omega arith
 
 pub returns-then-not-alike_cell : goal.returns-then-not-alike_cell
-returns-then-not-alike_cell c = plainly c.args.words.now c.args.tags.now c.args.at c.args.end _ _ (compare_not c.args.words.now c.args.tags.now c.args.log.now c.args.logtags.now stay c.args.at c.args.end c.args.s c.requires.readable.stretch c.requires.readable.small c.requires.s_bound.0 c.requires.s_bound.1 c.requires.s_bound.2 c.loop-j.j _ c.loop-j.invariant c.loop-j-test.true _ (word-stays _ _) _ c.alike_cell.ensures (not-true _ (ap not c.if-not-alike_cell.true)))
+returns-then-not-alike_cell c = plainly c.args.image.words.now c.args.image.tags.now c.args.at c.args.end _ _ (compare_not c.args.image.words.now c.args.image.tags.now c.args.log.now c.args.logtags.now stay c.args.at c.args.end c.args.s c.requires.readable.stretch c.requires.readable.small c.requires.s_bound.0 c.requires.s_bound.1 c.requires.s_bound.2 c.loop-j.j _ c.loop-j.invariant c.loop-j-test.true _ (word-stays _ _) _ c.alike_cell.ensures (not-true _ (ap not c.if-not-alike_cell.true)))
 
 pub loop-j-preserved : goal.loop-j-preserved
-loop-j-preserved c = let z : c.args.s + 1 + (c.loop-j.j + 1 - c.args.at) ≡ c.args.s + 1 + (c.loop-j.j - c.args.at) + 1 = omega arith in rw z (compare-next c.args.words.now c.args.tags.now c.args.log.now c.args.logtags.now stay c.args.at c.args.end c.args.s c.requires.readable.stretch c.requires.readable.small c.requires.s_bound.0 c.requires.s_bound.1 c.requires.s_bound.2 c.loop-j.j _ c.loop-j.invariant c.loop-j-test.true _ (word-stays _ _) _ c.alike_cell.ensures (not-false _ (ap not c.if-not-alike_cell.false)))
+loop-j-preserved c = let z : c.args.s + 1 + (c.loop-j.j + 1 - c.args.at) ≡ c.args.s + 1 + (c.loop-j.j - c.args.at) + 1 = omega arith in rw z (compare-next c.args.image.words.now c.args.image.tags.now c.args.log.now c.args.logtags.now stay c.args.at c.args.end c.args.s c.requires.readable.stretch c.requires.readable.small c.requires.s_bound.0 c.requires.s_bound.1 c.requires.s_bound.2 c.loop-j.j _ c.loop-j.invariant c.loop-j-test.true _ (word-stays _ _) _ c.alike_cell.ensures (not-false _ (ap not c.if-not-alike_cell.false)))
 
 pub returns : goal.returns
-returns c = plainly c.args.words.now c.args.tags.now c.args.at c.args.end _ _ (compare_done c.args.words.now c.args.tags.now c.args.log.now c.args.logtags.now stay c.args.at c.args.end c.args.s c.requires.readable.stretch c.requires.readable.small c.requires.s_bound.0 c.requires.s_bound.1 c.requires.s_bound.2 c.loop-j.j _ c.loop-j.invariant c.loop-j-test.false)
+returns c = plainly c.args.image.words.now c.args.image.tags.now c.args.at c.args.end _ _ (compare_done c.args.image.words.now c.args.image.tags.now c.args.log.now c.args.logtags.now stay c.args.at c.args.end c.args.s c.requires.readable.stretch c.requires.readable.small c.requires.s_bound.0 c.requires.s_bound.1 c.requires.s_bound.2 c.loop-j.j _ c.loop-j.invariant c.loop-j-test.false)

@@ -4,4 +4,4 @@ use Rattle.derive_lookup.proofs.Firsts.{went-first}
 use Rattle.derive_lookup.proofs.is_mapped_name.Goals as goal
 
 pub returns-then-m-n : goal.returns-then-m-n
-returns-then-m-n c = let a = c.args in went-first a.log.now a.logtags.now a.starts.now a.n c.requires.names a.m c.if-m-n.true.0 c.if-m-n.true.1 (between a.tags.now a.words.now a.at a.end) _ refl _ c.equals_name.ensures
+returns-then-m-n c = let a = c.args in went-first a.log.now a.logtags.now a.starts.now a.n c.requires.names a.m c.if-m-n.true.0 c.if-m-n.true.1 (between a.image.tags.now a.image.words.now a.at a.end) _ refl _ c.equals_name.ensures

@@ -4,26 +4,26 @@ use Rattle.derive_imports.proofs.Sources.{tape}
 use Rattle.derive_lookup.proofs.Finds.{head_in, some_name, name_in_lem, name_few, name_reads, knows}
 use Rattle.derive_lookup.proofs.known.Goals as goal
 
-pub offset_bounds-words-s : goal.offset_bounds-words-s
-offset_bounds-words-s c = let h = head_in c.args.words.now c.args.tags.now c.args.n c.requires.source c.requires.n_value c.args.f c.requires.f_bound _ c.record_at-s.ensures in omega arith
+pub offset_bounds-image-s : goal.offset_bounds-image-s
+offset_bounds-image-s c = let h = head_in c.args.image.words.now c.args.image.tags.now c.args.image.n c.requires.source c.requires.n_value c.args.f c.requires.f_bound _ c.record_at-s.ensures in omega arith
 
-pub bounds-words-s : goal.bounds-words-s
-bounds-words-s c = head_in c.args.words.now c.args.tags.now c.args.n c.requires.source c.requires.n_value c.args.f c.requires.f_bound _ c.record_at-s.ensures
+pub bounds-image-s : goal.bounds-image-s
+bounds-image-s c = head_in c.args.image.words.now c.args.image.tags.now c.args.image.n c.requires.source c.requires.n_value c.args.f c.requires.f_bound _ c.record_at-s.ensures
 
 pub overflow_sub-k : goal.overflow_sub-k
-overflow_sub-k c = some_name c.args.words.now c.args.tags.now c.args.n c.requires.source c.requires.n_value c.args.f c.requires.f_bound _ c.record_at-s.ensures _ refl
+overflow_sub-k c = some_name c.args.image.words.now c.args.image.tags.now c.args.image.n c.requires.source c.requires.n_value c.args.f c.requires.f_bound _ c.record_at-s.ensures _ refl
 
 pub record_at-at-requires : goal.record_at-at-requires
-record_at-at-requires c = record { tape = tape c.args.words.now c.args.tags.now c.args.n c.requires.source; k_bound = omega arith; j_bound = name_in_lem c.args.words.now c.args.tags.now c.args.n c.requires.source c.requires.n_value c.args.f c.requires.f_bound _ c.record_at-s.ensures _ refl }
+record_at-at-requires c = record { tape = tape c.args.image.words.now c.args.image.tags.now c.args.image.n c.requires.source; k_bound = omega arith; j_bound = name_in_lem c.args.image.words.now c.args.image.tags.now c.args.image.n c.requires.source c.requires.n_value c.args.f c.requires.f_bound _ c.record_at-s.ensures _ refl }
 
 pub record_end-end-requires : goal.record_end-end-requires
-record_end-end-requires c = record { tape = tape c.args.words.now c.args.tags.now c.args.n c.requires.source; k_bound = omega arith; j_bound = name_in_lem c.args.words.now c.args.tags.now c.args.n c.requires.source c.requires.n_value c.args.f c.requires.f_bound _ c.record_at-s.ensures _ refl }
+record_end-end-requires c = record { tape = tape c.args.image.words.now c.args.image.tags.now c.args.image.n c.requires.source; k_bound = omega arith; j_bound = name_in_lem c.args.image.words.now c.args.image.tags.now c.args.image.n c.requires.source c.requires.n_value c.args.f c.requires.f_bound _ c.record_at-s.ensures _ refl }
 
 pub bounds-maps-k : goal.bounds-maps-k
-bounds-maps-k c = let a = c.args in let h = name_few a.words.now a.tags.now a.n c.requires.source c.requires.n_value a.f c.requires.f_bound _ c.record_at-s.ensures _ refl in omega arith
+bounds-maps-k c = let a = c.args in let h = name_few a.image.words.now a.image.tags.now a.image.n c.requires.source c.requires.n_value a.f c.requires.f_bound _ c.record_at-s.ensures _ refl in omega arith
 
 pub find_name_from-d-requires : goal.find_name_from-d-requires
-find_name_from-d-requires c = let a = c.args in record { readable = name_reads a.words.now a.tags.now a.n c.requires.source c.requires.n_value a.f c.requires.f_bound _ c.record_at-s.ensures _ refl _ _ c.record_at-at.ensures c.record_end-end.ensures; names = c.requires.bearing.names }
+find_name_from-d-requires c = let a = c.args in record { readable = name_reads a.image.words.now a.image.tags.now a.image.n c.requires.source c.requires.n_value a.f c.requires.f_bound _ c.record_at-s.ensures _ refl _ _ c.record_at-at.ensures c.record_end-end.ensures; names = c.requires.bearing.names }
 
 pub returns : goal.returns
-returns c = let a = c.args in knows a.words.now a.tags.now a.n c.requires.source c.requires.n_value a.f c.requires.f_bound _ c.record_at-s.ensures _ refl _ _ c.record_at-at.ensures c.record_end-end.ensures a.log.now a.logtags.now a.starts.now a.ends _ _ c.find_name_from-d.ensures.0 c.last.ensures
+returns c = let a = c.args in knows a.image.words.now a.image.tags.now a.image.n c.requires.source c.requires.n_value a.f c.requires.f_bound _ c.record_at-s.ensures _ refl _ _ c.record_at-at.ensures c.record_end-end.ensures a.log.now a.logtags.now a.starts.now a.ends _ _ c.find_name_from-d.ensures.0 c.last.ensures

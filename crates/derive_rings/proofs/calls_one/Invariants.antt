@@ -3,4 +3,4 @@ use Rattle.derive_rings.proofs.Asking.{is_of, Asking}
 use Rattle.derive_rings.proofs.calls_one.Given as goal
 
 abbrev pub invariant-loop-k : goal.invariant-loop-k
-invariant-loop-k l = Asking l.words l.tags l.at l.end 256 (is_of l.set.0) l.k
+invariant-loop-k l = Asking l.image.words.now l.image.tags.now l.at l.end 256 (is_of l.set.0) l.k

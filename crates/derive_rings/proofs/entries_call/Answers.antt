@@ -9,10 +9,10 @@ pub loop-e-init : goal.loop-e-init
 loop-e-init c = look _ _
 
 pub entry_function-at-requires : goal.entry_function-at-requires
-entry_function-at-requires c = let a = c.args in let p = c.requires in record { tape = tape a.words.now a.tags.now a.n (p); j_bound = entry_in_lem p c.count-entries.ensures.0 c.loop-e-test.true }
+entry_function-at-requires c = let a = c.args in let p = c.requires in record { tape = tape a.image.words.now a.image.tags.now a.image.n (p); j_bound = entry_in_lem p c.count-entries.ensures.0 c.loop-e-test.true }
 
 pub record_end-end-requires : goal.record_end-end-requires
-record_end-end-requires c = let a = c.args in let p = c.requires in record { tape = tape a.words.now a.tags.now a.n (p); k_bound = omega arith; j_bound = entry_in_lem p c.count-entries.ensures.0 c.loop-e-test.true }
+record_end-end-requires c = let a = c.args in let p = c.requires in record { tape = tape a.image.words.now a.image.tags.now a.image.n (p); k_bound = omega arith; j_bound = entry_in_lem p c.count-entries.ensures.0 c.loop-e-test.true }
 
 pub calls_one-requires : goal.calls_one-requires
 calls_one-requires c = let p = c.requires in widened (few p) (scannable p c.count-entries.ensures.0 c.loop-e-test.true c.entry_function-at.ensures c.record_end-end.ensures)

@@ -4,4 +4,4 @@ use Rattle.derive_rings.proofs.Asking.{is_of, Looking}
 use Rattle.derive_rings.proofs.entries_call.Given as goal
 
 abbrev pub invariant-loop-e : goal.invariant-loop-e
-invariant-loop-e l = Looking (mod_of l.words l.n).entries (is_of l.set.0) l.e
+invariant-loop-e l = Looking (mod_of l.image.words.now l.image.n).entries (is_of l.set.0) l.e

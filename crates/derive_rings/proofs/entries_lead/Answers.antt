@@ -8,10 +8,10 @@ pub loop-e-init : goal.loop-e-init
 loop-e-init c = look _ _
 
 pub entry_function-at-requires : goal.entry_function-at-requires
-entry_function-at-requires c = let a = c.args in record { tape = tape a.words.now a.tags.now a.n c.requires.source; j_bound = entry_in_lem c.requires.source c.count-entries.ensures.0 c.loop-e-test.true }
+entry_function-at-requires c = let a = c.args in record { tape = tape a.image.words.now a.image.tags.now a.image.n c.requires.source; j_bound = entry_in_lem c.requires.source c.count-entries.ensures.0 c.loop-e-test.true }
 
 pub record_end-end-requires : goal.record_end-end-requires
-record_end-end-requires c = let a = c.args in record { tape = tape a.words.now a.tags.now a.n c.requires.source; k_bound = omega arith; j_bound = entry_in_lem c.requires.source c.count-entries.ensures.0 c.loop-e-test.true }
+record_end-end-requires c = let a = c.args in record { tape = tape a.image.words.now a.image.tags.now a.image.n c.requires.source; k_bound = omega arith; j_bound = entry_in_lem c.requires.source c.count-entries.ensures.0 c.loop-e-test.true }
 
 pub calls_unknown-requires : goal.calls_unknown-requires
 calls_unknown-requires c = record { source = c.requires.source; n_value = c.requires.n_value; bearing = c.requires.bearing; scannable = scannable c.requires.source c.count-entries.ensures.0 c.loop-e-test.true c.entry_function-at.ensures c.record_end-end.ensures }

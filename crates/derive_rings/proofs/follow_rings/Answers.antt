@@ -14,12 +14,12 @@ pub returns-then-known-ne0 : goal.returns-then-known-ne0
 returns-then-known-ne0 c =
     let a = c.args in
     elim c.then-known-ne0.branch [
-      | then-known-ne0-via-then-known-ne0 w ↦ known-free a.words.now a.n a.log.now a.logtags.now a.starts.now a.ends a.tags.now c.requires.source a.f c.requires.f_bound (is_known a.words.now a.n a.log.now a.logtags.now a.starts.now a.ends _ _ c.known.ensures w.if-known-ne0.true)
-      | then-known-ne0-via-else-known-ne0+then-not-calls_unknown_name w ↦ leads_not a.words.now a.n a.log.now a.logtags.now a.starts.now a.ends a.tags.now c.requires.source a.f c.requires.f_bound _ w.calls_unknown_name.ensures (not-true _ (ap not w.if-not-calls_unknown_name.true))
+      | then-known-ne0-via-then-known-ne0 w ↦ known-free a.image.words.now a.image.n a.log.now a.logtags.now a.starts.now a.ends a.image.tags.now c.requires.source a.f c.requires.f_bound (is_known a.image.words.now a.image.n a.log.now a.logtags.now a.starts.now a.ends _ _ c.known.ensures w.if-known-ne0.true)
+      | then-known-ne0-via-else-known-ne0+then-not-calls_unknown_name w ↦ leads_not a.image.words.now a.image.n a.log.now a.logtags.now a.starts.now a.ends a.image.tags.now c.requires.source a.f c.requires.f_bound _ w.calls_unknown_name.ensures (not-true _ (ap not w.if-not-calls_unknown_name.true))
     ]
 
 pub gather_requirements-requires : goal.gather_requirements-requires
-gather_requirements-requires c = record { tape = tape c.args.words.now c.args.tags.now c.args.n c.requires.source; known = callees-known c.requires.source; no_calls = c.clear-callees.ensures }
+gather_requirements-requires c = record { tape = tape c.args.image.words.now c.args.image.tags.now c.args.image.n c.requires.source; known = callees-known c.requires.source; no_calls = c.clear-callees.ensures }
 
 pub unknown_in_ring-set-requires : goal.unknown_in_ring-set-requires
 unknown_in_ring-set-requires c = record { source = c.requires.source; n_value = c.requires.n_value; bearing = c.requires.bearing; gathered = c.gather_requirements.ensures }
@@ -28,4 +28,4 @@ pub has-requires : goal.has-requires
 has-requires c = omega (arith, few c.requires.source, c.requires.f_bound)
 
 pub returns : goal.returns
-returns c = rings-one c.args.words.now c.args.n c.args.log.now c.args.logtags.now c.args.starts.now c.args.ends c.args.tags.now c.requires.source _ c.gather_requirements.ensures _ c.unknown_in_ring-set.ensures c.args.f c.requires.f_bound _ c.has.ensures
+returns c = rings-one c.args.image.words.now c.args.image.n c.args.log.now c.args.logtags.now c.args.starts.now c.args.ends c.args.image.tags.now c.requires.source _ c.gather_requirements.ensures _ c.unknown_in_ring-set.ensures c.args.f c.requires.f_bound _ c.has.ensures

@@ -5,28 +5,28 @@ use Rattle.function_builder.proofs.Appends.{rises, legible, room, append_full, a
 use Rattle.function_builder.proofs.append.Goals as goal
 
 pub overflow_sub-end : goal.overflow_sub-end
-overflow_sub-end c = let X = c.requires.expressions in let h = c.requires.e_lt_k.0 in let r = rises X h c.slot-at.ensures.0 c.slot-end.ensures.0 in omega arith
+overflow_sub-end c = let X = c.requires.expressions in let h = c.requires.e_lt_k.0 in let r = rises X h refl refl in omega arith
 
 pub returns-then-exprtop-end : goal.returns-then-exprtop-end
-returns-then-exprtop-end c = let a = c.args in append_full a.words.now a.tags.now a.places.now a.n a.k c.requires.expressions a.log.now a.logtags.now a.starts.now a.maps.now a.exprmap.now a.stacks.now a.ends a.offset a.e1 a.e c.requires.e_lt_k.0 c.requires.e_lt_k.1 c.requires.under c.slot-at.result c.slot-end.result c.slot-at.ensures.0 c.slot-end.ensures.0 _ c.mark_full.ensures c.if-exprtop-end.true
+returns-then-exprtop-end c = let a = c.args in append_full a.image.words.now a.image.tags.now a.places.now a.image.n a.k c.requires.expressions a.log.now a.logtags.now a.starts.now a.maps.now a.exprmap.now a.stacks.now a.ends a.offset a.e1 a.e c.requires.e_lt_k.0 c.requires.e_lt_k.1 c.requires.under _ _ refl refl _ c.mark_full.ensures c.if-exprtop-end.true
 
 pub write-requires : goal.write-requires
-write-requires c = let r = room c.requires.expressions c.requires.e_lt_k.0 c.slot-at.ensures.0 c.slot-end.ensures.0 c.requires.under c.if-exprtop-end.false in record { ground = c.requires.ground; bearing = c.requires.bearing; maps_len = c.requires.maps_len; legible = legible c.requires.expressions c.requires.e_lt_k.0 c.slot-at.ensures.0 c.slot-end.ensures.0; stacks = (c.requires.under.stacks_are, r.fits) }
+write-requires c = let r = room c.requires.expressions c.requires.e_lt_k.0 refl refl c.requires.under c.if-exprtop-end.false in record { ground = c.requires.ground; bearing = c.requires.bearing; maps_len = c.requires.maps_len; legible = legible c.requires.expressions c.requires.e_lt_k.0 refl refl; stacks = (c.requires.under.stacks_are, r.fits) }
 
 pub overflow_add-stacks : goal.overflow_add-stacks
-overflow_add-stacks c = let r = room c.requires.expressions c.requires.e_lt_k.0 c.slot-at.ensures.0 c.slot-end.ensures.0 c.requires.under c.if-exprtop-end.false in omega arith
+overflow_add-stacks c = let r = room c.requires.expressions c.requires.e_lt_k.0 refl refl c.requires.under c.if-exprtop-end.false in omega arith
 
 pub offset_bounds-stacks-e1 : goal.offset_bounds-stacks-e1
-offset_bounds-stacks-e1 c = let r = room c.requires.expressions c.requires.e_lt_k.0 c.slot-at.ensures.0 c.slot-end.ensures.0 c.requires.under c.if-exprtop-end.false in omega arith
+offset_bounds-stacks-e1 c = let r = room c.requires.expressions c.requires.e_lt_k.0 refl refl c.requires.under c.if-exprtop-end.false in omega arith
 
 pub bounds-stacks-e1 : goal.bounds-stacks-e1
-bounds-stacks-e1 c = let r = room c.requires.expressions c.requires.e_lt_k.0 c.slot-at.ensures.0 c.slot-end.ensures.0 c.requires.under c.if-exprtop-end.false in omega arith
+bounds-stacks-e1 c = let r = room c.requires.expressions c.requires.e_lt_k.0 refl refl c.requires.under c.if-exprtop-end.false in omega arith
 
 pub overflow_add-exprmap : goal.overflow_add-exprmap
-overflow_add-exprmap c = let r = room c.requires.expressions c.requires.e_lt_k.0 c.slot-at.ensures.0 c.slot-end.ensures.0 c.requires.under c.if-exprtop-end.false in omega arith
+overflow_add-exprmap c = let r = room c.requires.expressions c.requires.e_lt_k.0 refl refl c.requires.under c.if-exprtop-end.false in omega arith
 
 pub overflow_cast-exprmap : goal.overflow_cast-exprmap
-overflow_cast-exprmap c = let r = room c.requires.expressions c.requires.e_lt_k.0 c.slot-at.ensures.0 c.slot-end.ensures.0 c.requires.under c.if-exprtop-end.false in omega arith
+overflow_cast-exprmap c = let r = room c.requires.expressions c.requires.e_lt_k.0 refl refl c.requires.under c.if-exprtop-end.false in omega arith
 
 pub offset_bounds-exprmap-e : goal.offset_bounds-exprmap-e
 offset_bounds-exprmap-e c = let h = c.requires.e_lt_k.0 in let f = c.requires.under.few in omega (arith, h, f)
@@ -35,16 +35,16 @@ pub bounds-exprmap-e : goal.bounds-exprmap-e
 bounds-exprmap-e c = let h = c.requires.e_lt_k.0 in let f = c.requires.under.few in omega (arith, h, f)
 
 pub overflow_sub-result : goal.overflow_sub-result
-overflow_sub-result c = let r = room c.requires.expressions c.requires.e_lt_k.0 c.slot-at.ensures.0 c.slot-end.ensures.0 c.requires.under c.if-exprtop-end.false in omega arith
+overflow_sub-result c = let r = room c.requires.expressions c.requires.e_lt_k.0 refl refl c.requires.under c.if-exprtop-end.false in omega arith
 
 pub overflow_add-result : goal.overflow_add-result
-overflow_add-result c = let r = room c.requires.expressions c.requires.e_lt_k.0 c.slot-at.ensures.0 c.slot-end.ensures.0 c.requires.under c.if-exprtop-end.false in omega arith
+overflow_add-result c = let r = room c.requires.expressions c.requires.e_lt_k.0 refl refl c.requires.under c.if-exprtop-end.false in omega arith
 
 pub overflow_add-result-2 : goal.overflow_add-result-2
-overflow_add-result-2 c = let r = room c.requires.expressions c.requires.e_lt_k.0 c.slot-at.ensures.0 c.slot-end.ensures.0 c.requires.under c.if-exprtop-end.false in omega arith
+overflow_add-result-2 c = let r = room c.requires.expressions c.requires.e_lt_k.0 refl refl c.requires.under c.if-exprtop-end.false in omega arith
 
 pub overflow_cast-result-2 : goal.overflow_cast-result-2
-overflow_cast-result-2 c = let r = room c.requires.expressions c.requires.e_lt_k.0 c.slot-at.ensures.0 c.slot-end.ensures.0 c.requires.under c.if-exprtop-end.false in omega arith
+overflow_cast-result-2 c = let r = room c.requires.expressions c.requires.e_lt_k.0 refl refl c.requires.under c.if-exprtop-end.false in omega arith
 
 pub returns : goal.returns
-returns c = let a = c.args in append_done a.words.now a.tags.now a.places.now a.n a.k c.requires.expressions a.log.now a.logtags.now a.starts.now a.maps.now a.exprmap.now a.stacks.now a.ends a.offset a.e1 a.e c.requires.e_lt_k.0 c.requires.e_lt_k.1 c.requires.under c.slot-at.result c.slot-end.result c.slot-at.ensures.0 c.slot-end.ensures.0 c.if-exprtop-end.false _ c.write.ensures _ refl
+returns c = let a = c.args in append_done a.image.words.now a.image.tags.now a.places.now a.image.n a.k c.requires.expressions a.log.now a.logtags.now a.starts.now a.maps.now a.exprmap.now a.stacks.now a.ends a.offset a.e1 a.e c.requires.e_lt_k.0 c.requires.e_lt_k.1 c.requires.under _ _ refl refl c.if-exprtop-end.false _ c.write.ensures _ refl

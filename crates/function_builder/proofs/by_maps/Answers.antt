@@ -7,7 +7,7 @@ pub returns-then-u-eq-NOTHING : goal.returns-then-u-eq-NOTHING
 returns-then-u-eq-NOTHING c = let a = c.args in let u = c.target_of-u in carries_nothing c.requires.by_index.0 a.maps.now a.exprmap.now a.s a.w u.result c.target_of-u.ensures c.requires.by_index.1 c.if-u-eq-NOTHING.true
 
 pub carried-requires : goal.carried-requires
-carried-requires c = let a = c.args in let u = c.target_of-u in record { all = carries_small c.requires.by_index.0 a.maps.now a.exprmap.now a.s a.w u.result c.target_of-u.ensures c.requires.by_index.1 (λ q. c.requires.fact (sym c.target_of-u.ensures.0 ∙ q)) c.if-s-lt-EXPR.true; maps_len = c.requires.maps_len; targets_value = c.requires.targets_value }
+carried-requires c = let a = c.args in let u = c.target_of-u in record { all = carries_small c.requires.by_index.0 a.maps.now a.exprmap.now a.s a.w u.result c.target_of-u.ensures c.requires.by_index.1 (λ q. c.requires.fact (sym c.target_of-u.ensures.0 ∙ q)) c.if-s-lt-EXPR.true; maps_len = c.requires.maps_len }
 
 pub returns-then-s-lt-EXPR : goal.returns-then-s-lt-EXPR
 returns-then-s-lt-EXPR c = let a = c.args in let u = c.target_of-u in carries_row c.requires.by_index.0 a.maps.now a.exprmap.now a.s a.w u.result c.target_of-u.ensures c.requires.by_index.1 (λ q. c.requires.fact (sym c.target_of-u.ensures.0 ∙ q)) c.if-s-lt-EXPR.true _ c.carried.ensures

@@ -5,7 +5,7 @@ use Rattle.function_builder.proofs.Sieve.{Sieving}
 use Rattle.function_builder.proofs.find_equal.Given as goal
 
 abbrev pub invariant-loop-k : goal.invariant-loop-k
-invariant-loop-k l = Sieving l.words l.tags (went_of l.words l.n l.log l.logtags l.starts l.maps l.ends l.exprmap) l.at l.end l.stacks l.e1 l.ends l.k l.p l.y
+invariant-loop-k l = Sieving l.image.words.now l.image.tags.now (went_of l.image.words.now l.image.n l.log l.logtags l.starts l.maps l.ends l.exprmap) l.at l.end l.stacks l.e1 l.ends l.k l.p l.y
 
 abbrev pub decreases-loop-k : goal.decreases-loop-k
 decreases-loop-k l = l.ends.made - l.k

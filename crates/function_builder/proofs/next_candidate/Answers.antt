@@ -1,3 +1,4 @@
+use mathlib.Core.Path.{refl}
 use native.Mathlib.Omega.{arith}
 use Rattle.function_builder.proofs.Sieve.{hop_none, hop_last, hop_next}
 use Rattle.function_builder.proofs.next_candidate.Goals.{then-q-lt16384+else-stacks-q, else-q-lt16384}
@@ -18,8 +19,8 @@ returns-then-stacks-q c = c.loop-h.invariant
 pub loop-h-preserved : goal.loop-h-preserved
 loop-h-preserved c =
     elim c.if-q-lt16384.branch [
-      | then-q-lt16384+else-stacks-q w ↦ let a = c.args in let p = c.requires in let l = c.loop-h in hop_next a.stacks.now a.e1 a.made a.i a.s a.y a.k l.h l.invariant c.if-s-eq-SPAN.false c.if-s-eq-UPTO.false _ c.wide.ensures.0 (λ _ e. w.if-stacks-q.false e) c.loop-h-test.true
-      | else-q-lt16384 w ↦ let a = c.args in let p = c.requires in let l = c.loop-h in let h = w.if-q-lt16384.false in hop_next a.stacks.now a.e1 a.made a.i a.s a.y a.k l.h l.invariant c.if-s-eq-SPAN.false c.if-s-eq-UPTO.false _ c.wide.ensures.0 (λ v _. absurd (omega arith)) c.loop-h-test.true
+      | then-q-lt16384+else-stacks-q w ↦ let a = c.args in let p = c.requires in let l = c.loop-h in hop_next a.stacks.now a.e1 a.made a.i a.s a.y a.k l.h l.invariant c.if-s-eq-SPAN.false c.if-s-eq-UPTO.false _ refl (λ _ e. w.if-stacks-q.false e) c.loop-h-test.true
+      | else-q-lt16384 w ↦ let a = c.args in let p = c.requires in let l = c.loop-h in let h = w.if-q-lt16384.false in hop_next a.stacks.now a.e1 a.made a.i a.s a.y a.k l.h l.invariant c.if-s-eq-SPAN.false c.if-s-eq-UPTO.false _ refl (λ v _. absurd (omega arith)) c.loop-h-test.true
     ]
 
 pub returns : goal.returns

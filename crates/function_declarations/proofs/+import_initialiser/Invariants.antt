@@ -12,4 +12,4 @@ abbrev pub decreases-import_initialiser : goal.decreases-import_initialiser
 decreases-import_initialiser l = l.e
 
 abbrev pub invariant-loop-j : goal.invariant-loop-j
-invariant-loop-j l = Alongs l.words l.tags l.n l.k l.offset l.e l.at l.end (initialiserE l.offset (mod_of l.words l.n) still (exprs_of l.words l.tags l.places l.k)) l.initial.log l.initial.logtags l.initial.starts l.initial.maps l.initial.buckets l.initial.exprmap l.initial.stacks l.e1 l.initial.got l.log l.logtags l.starts l.maps l.buckets l.exprmap l.stacks l.got l.j
+invariant-loop-j l = Alongs l.image.words.now l.image.tags.now l.image.n l.k l.offset l.e l.at l.end (initialiserE l.offset (mod_of l.image.words.now l.image.n) still (exprs_of l.image.words.now l.image.tags.now l.places l.k)) l.initial.log l.initial.logtags l.initial.starts l.initial.maps l.initial.buckets l.initial.exprmap l.initial.stacks l.e1 l.initial.got l.log l.logtags l.starts l.maps l.buckets l.exprmap l.stacks l.got l.j

@@ -3,7 +3,7 @@ use Rattle.function_expressions.proofs.Needs.{need-idle}
 use Rattle.function_expressions.proofs.import_operand.Goals as goal
 
 pub returns-then-exprmap-e-ne0 : goal.returns-then-exprmap-e-ne0
-returns-then-exprmap-e-ne0 c = let a = c.args in need-idle c.requires.expressions a.n a.offset c.requires.e_lt_k.1 c.requires.valid_arrays c.requires.under c.requires.e_lt_k.0 c.if-exprmap-e-ne0.true
+returns-then-exprmap-e-ne0 c = let a = c.args in need-idle c.requires.expressions a.image.n a.offset c.requires.e_lt_k.1 c.requires.valid_arrays c.requires.under c.requires.e_lt_k.0 c.if-exprmap-e-ne0.true
 
 pub import_unmapped-requires : goal.import_unmapped-requires
 import_unmapped-requires c = record { ground = c.requires.ground; expressions = c.requires.expressions; e_lt_k = c.requires.e_lt_k; valid_arrays = c.requires.valid_arrays; under = c.requires.under }

@@ -16,13 +16,13 @@ use Rattle.function_localize.proofs.Locals.{exprs_low, runs_at, runs_from, going
 use Rattle.function_localize.proofs.Follows.{follow-none, follow_old, follow-ready, follow-append}
 use Rattle.function_localize.proofs.Appending.{append-part, append-nested, append-standing, close-order, close_few, close_stacks, close_names, close-classes, close-room, append_done, append-none}
 use Rattle.function_localize.proofs.+append_follow_localize.Goals as goal
-use Rattle.function_localize.proofs.+append_follow_localize.Goals.{localize-then-tags-j-eq-CALLEE+else-e-2, localize-else-tags-j-eq-CALLEE}
+use Rattle.function_localize.proofs.+append_follow_localize.Goals.{localize-then-image-j-eq-CALLEE+else-e-2, localize-else-image-j-eq-CALLEE}
 
 pub append-record_at-s-requires : goal.append-record_at-s-requires
-append-record_at-s-requires t c = let a = c.args in record { tape = tape a.words.now a.tags.now a.n c.requires.ground.source; k_bound = omega arith; j_bound = c.requires.f_bound }
+append-record_at-s-requires t c = let a = c.args in record { tape = tape a.image.words.now a.image.tags.now a.image.n c.requires.ground.source; k_bound = omega arith; j_bound = c.requires.f_bound }
 
 pub append-record_end-end-requires : goal.append-record_end-end-requires
-append-record_end-end-requires t c = let a = c.args in record { tape = tape a.words.now a.tags.now a.n c.requires.ground.source; k_bound = omega arith; j_bound = c.requires.f_bound }
+append-record_end-end-requires t c = let a = c.args in record { tape = tape a.image.words.now a.image.tags.now a.image.n c.requires.ground.source; k_bound = omega arith; j_bound = c.requires.f_bound }
 
 pub append-localize-got-requires : goal.append-localize-got-requires
 append-localize-got-requires t c = let a = c.args in let q = c.decreases in (omega arith, (c.requires.ground, (append-part c.requires.ground c.requires.f_bound c.record_at-s.ensures c.record_end-end.ensures c.requires.nested_f.scopes, (append-nested c.requires.ground c.requires.f_bound c.record_at-s.ensures c.record_end-end.ensures c.requires.nested_f.scopes c.requires.nested_f, (c.requires.full_value, c.requires.valid_arrays)))))
@@ -43,28 +43,28 @@ pub append-returns : goal.append-returns
 append-returns t c = let a = c.args in append_done c.requires.ground c.requires.f_bound c.record_at-s.ensures c.record_end-end.ensures c.requires.nested_f.scopes c.expressions_at-exprs.ensures.0 c.body_at-body.ensures a.room c.requires.valid_arrays c.localize-got.ensures c.if-got.false c.requires.nested_f c.append_record.ensures
 
 pub follow-returns-then-room-eq0 : goal.follow-returns-then-room-eq0
-follow-returns-then-room-eq0 t c = let a = c.args in record { import_function_ensures = follow-none a.words.now a.n a.offset a.f a.log.now a.logtags.now a.starts.now a.maps.now a.buckets.now a.stacks.now a.ends a.room c.if-room-eq0.true c.requires.full_value.0 c.requires.full_value.1 c.requires.valid_arrays; places_after = λ _. c.requires.places_value }
+follow-returns-then-room-eq0 t c = let a = c.args in record { import_function_ensures = follow-none a.image.words.now a.image.n a.offset a.f a.log.now a.logtags.now a.starts.now a.maps.now a.buckets.now a.stacks.now a.ends a.room c.if-room-eq0.true c.requires.full_value.0 c.requires.full_value.1 c.requires.valid_arrays; places_after = λ _. c.requires.places_value }
 
 pub follow-known-requires : goal.follow-known-requires
 follow-known-requires t c = let a = c.args in record { source = c.requires.ground.source; n_value = c.requires.ground.names; f_bound = c.requires.f_bound; bearing = bearing c.requires.valid_arrays }
 
 pub follow-returns-then-known-ne0 : goal.follow-returns-then-known-ne0
-follow-returns-then-known-ne0 t c = let a = c.args in record { import_function_ensures = follow_old a.words.now a.n a.offset a.f a.log.now a.logtags.now a.starts.now a.maps.now a.buckets.now a.stacks.now a.ends a.room c.if-room-eq0.false c.known.result c.known.ensures c.if-known-ne0.true c.requires.full_value.0 c.requires.full_value.1 c.requires.valid_arrays; places_after = λ _. c.requires.places_value }
+follow-returns-then-known-ne0 t c = let a = c.args in record { import_function_ensures = follow_old a.image.words.now a.image.n a.offset a.f a.log.now a.logtags.now a.starts.now a.maps.now a.buckets.now a.stacks.now a.ends a.room c.if-room-eq0.false c.known.result c.known.ensures c.if-known-ne0.true c.requires.full_value.0 c.requires.full_value.1 c.requires.valid_arrays; places_after = λ _. c.requires.places_value }
 
 pub follow-overflow_sub-room : goal.follow-overflow_sub-room
 follow-overflow_sub-room t c = let h = c.if-room-eq0.false in omega arith
 
 pub follow-append-got-requires : goal.follow-append-got-requires
-follow-append-got-requires t c = let a = c.args in let h = c.if-room-eq0.false in let q = c.decreases in (omega arith, (c.requires.ground, (c.requires.f_bound, (follow-ready a.words.now a.n a.offset a.f a.log.now a.logtags.now a.starts.now a.maps.now a.buckets.now a.stacks.now a.ends a.room c.if-room-eq0.false c.known.result c.known.ensures c.if-known-ne0.false c.requires.nested_at, (c.requires.full_value, c.requires.valid_arrays)))))
+follow-append-got-requires t c = let a = c.args in let h = c.if-room-eq0.false in let q = c.decreases in (omega arith, (c.requires.ground, (c.requires.f_bound, (follow-ready a.image.words.now a.image.n a.offset a.f a.log.now a.logtags.now a.starts.now a.maps.now a.buckets.now a.stacks.now a.ends a.room c.if-room-eq0.false c.known.result c.known.ensures c.if-known-ne0.false c.requires.nested_at, (c.requires.full_value, c.requires.valid_arrays)))))
 
 pub follow-returns-then-got : goal.follow-returns-then-got
-follow-returns-then-got t c = let a = c.args in record { import_function_ensures = follow-append a.words.now a.n a.offset a.f a.log.now a.logtags.now a.starts.now a.maps.now a.buckets.now a.stacks.now a.ends a.room c.if-room-eq0.false c.known.result c.known.ensures c.if-known-ne0.false c.append-got.ensures; places_after = λ q. absurd (false≢true (sym q ∙ c.if-got.true)) }
+follow-returns-then-got t c = let a = c.args in record { import_function_ensures = follow-append a.image.words.now a.image.n a.offset a.f a.log.now a.logtags.now a.starts.now a.maps.now a.buckets.now a.stacks.now a.ends a.room c.if-room-eq0.false c.known.result c.known.ensures c.if-known-ne0.false c.append-got.ensures; places_after = λ q. absurd (false≢true (sym q ∙ c.if-got.true)) }
 
 pub follow-index_expressions-requires : goal.follow-index_expressions-requires
 follow-index_expressions-requires t c = c.requires.tags_len
 
 pub follow-returns : goal.follow-returns
-follow-returns t c = let a = c.args in record { import_function_ensures = follow-append a.words.now a.n a.offset a.f a.log.now a.logtags.now a.starts.now a.maps.now a.buckets.now a.stacks.now a.ends a.room c.if-room-eq0.false c.known.result c.known.ensures c.if-known-ne0.false c.append-got.ensures; places_after = λ _. c.index_expressions.ensures }
+follow-returns t c = let a = c.args in record { import_function_ensures = follow-append a.image.words.now a.image.n a.offset a.f a.log.now a.logtags.now a.starts.now a.maps.now a.buckets.now a.stacks.now a.ends a.room c.if-room-eq0.false c.known.result c.known.ensures c.if-known-ne0.false c.append-got.ensures; places_after = λ _. c.index_expressions.ensures }
 
 pub localize-index_parts-at-requires : goal.localize-index_parts-at-requires
 localize-index_parts-at-requires t c = c.requires.part
@@ -82,7 +82,7 @@ pub localize-loop-i-init : goal.localize-loop-i-init
 localize-loop-i-init t c = record { on = λ _ _ g. g }
 
 pub localize-copy_mapped_run-r-requires : goal.localize-copy_mapped_run-r-requires
-localize-copy_mapped_run-r-requires t c = let a = c.args in let g = c.loop-i.invariant.on refl c.requires.valid_arrays (going_start c.requires.part c.index_parts-at.ensures c.requires.valid_arrays a.room c.no_expressions.ensures c.declare-e.ensures c.if-e.false) in let K = g.turn.way.kept in let U = g.turn.way.under in record { targets_value = c.requires.ground.targets_are; maps_len = K.maps-six; legible = (legible_all (k_few c.requires.part g.read) g.turn.legible, U.stacks_are.high', made_small U) }
+localize-copy_mapped_run-r-requires t c = let a = c.args in let g = c.loop-i.invariant.on refl c.requires.valid_arrays (going_start c.requires.part c.index_parts-at.ensures c.requires.valid_arrays a.room c.no_expressions.ensures c.declare-e.ensures c.if-e.false) in let K = g.turn.way.kept in let U = g.turn.way.under in record { maps_len = K.maps-six; legible = (legible_all (k_few c.requires.part g.read) g.turn.legible, U.stacks_are.high', made_small U) }
 
 pub localize-overflow_sub-r : goal.localize-overflow_sub-r
 localize-overflow_sub-r t c = run_on _ _ _ c.copy_mapped_run-r.ensures.reach
@@ -96,26 +96,23 @@ localize-overflow_add-i t c = let a = c.args in let g = c.loop-i.invariant.on re
 pub localize-span_undefined-u-requires : goal.localize-span_undefined-u-requires
 localize-span_undefined-u-requires t c = let a = c.args in let g = c.loop-i.invariant.on refl c.requires.valid_arrays (going_start c.requires.part c.index_parts-at.ensures c.requires.valid_arrays a.room c.no_expressions.ensures c.declare-e.ensures c.if-e.false) in let l = c.loop-i in let k = going_run c.requires.ground.source c.requires.part a.offset a.room _ (expressions c.requires.part g.read) _ _ c.requires.valid_arrays a.stacks.now l.log l.logtags l.starts l.maps l.buckets l.exprmap l.e g c.copy_mapped_run-r.ensures c.advance-e.ensures in (k.turn.legible.stretch, c.if-i-end.true)
 
-pub localize-bounds-tags-j : goal.localize-bounds-tags-j
-localize-bounds-tags-j t c = let a = c.args in let g = c.loop-i.invariant.on refl c.requires.valid_arrays (going_start c.requires.part c.index_parts-at.ensures c.requires.valid_arrays a.room c.no_expressions.ensures c.declare-e.ensures c.if-e.false) in let l = c.loop-i in let k = going_run c.requires.ground.source c.requires.part a.offset a.room _ (expressions c.requires.part g.read) _ _ c.requires.valid_arrays a.stacks.now l.log l.logtags l.starts l.maps l.buckets l.exprmap l.e g c.copy_mapped_run-r.ensures c.advance-e.ensures in let h = word_in c.requires.part c.requires.valid_arrays k c.if-i-end.true in h
+pub localize-bounds-image-j : goal.localize-bounds-image-j
+localize-bounds-image-j t c = let a = c.args in let g = c.loop-i.invariant.on refl c.requires.valid_arrays (going_start c.requires.part c.index_parts-at.ensures c.requires.valid_arrays a.room c.no_expressions.ensures c.declare-e.ensures c.if-e.false) in let l = c.loop-i in let k = going_run c.requires.ground.source c.requires.part a.offset a.room _ (expressions c.requires.part g.read) _ _ c.requires.valid_arrays a.stacks.now l.log l.logtags l.starts l.maps l.buckets l.exprmap l.e g c.copy_mapped_run-r.ensures c.advance-e.ensures in let h = word_in c.requires.part c.requires.valid_arrays k c.if-i-end.true in h
 
-pub localize-offset_bounds-words-j : goal.localize-offset_bounds-words-j
-localize-offset_bounds-words-j t c = let a = c.args in let g = c.loop-i.invariant.on refl c.requires.valid_arrays (going_start c.requires.part c.index_parts-at.ensures c.requires.valid_arrays a.room c.no_expressions.ensures c.declare-e.ensures c.if-e.false) in let l = c.loop-i in let k = going_run c.requires.ground.source c.requires.part a.offset a.room _ (expressions c.requires.part g.read) _ _ c.requires.valid_arrays a.stacks.now l.log l.logtags l.starts l.maps l.buckets l.exprmap l.e g c.copy_mapped_run-r.ensures c.advance-e.ensures in let h = word_in c.requires.part c.requires.valid_arrays k c.if-i-end.true in place_4 h
+pub localize-offset_bounds-image-j : goal.localize-offset_bounds-image-j
+localize-offset_bounds-image-j t c = let a = c.args in let g = c.loop-i.invariant.on refl c.requires.valid_arrays (going_start c.requires.part c.index_parts-at.ensures c.requires.valid_arrays a.room c.no_expressions.ensures c.declare-e.ensures c.if-e.false) in let l = c.loop-i in let k = going_run c.requires.ground.source c.requires.part a.offset a.room _ (expressions c.requires.part g.read) _ _ c.requires.valid_arrays a.stacks.now l.log l.logtags l.starts l.maps l.buckets l.exprmap l.e g c.copy_mapped_run-r.ensures c.advance-e.ensures in let h = word_in c.requires.part c.requires.valid_arrays k c.if-i-end.true in place_4 h
 
-pub localize-bounds-words-j : goal.localize-bounds-words-j
-localize-bounds-words-j t c = let a = c.args in let g = c.loop-i.invariant.on refl c.requires.valid_arrays (going_start c.requires.part c.index_parts-at.ensures c.requires.valid_arrays a.room c.no_expressions.ensures c.declare-e.ensures c.if-e.false) in let l = c.loop-i in let k = going_run c.requires.ground.source c.requires.part a.offset a.room _ (expressions c.requires.part g.read) _ _ c.requires.valid_arrays a.stacks.now l.log l.logtags l.starts l.maps l.buckets l.exprmap l.e g c.copy_mapped_run-r.ensures c.advance-e.ensures in let h = word_in c.requires.part c.requires.valid_arrays k c.if-i-end.true in h
-
-pub localize-wide-requires : goal.localize-wide-requires
-localize-wide-requires t c = tt
+pub localize-bounds-image-j-in-loop-j : goal.localize-bounds-image-j-in-loop-j
+localize-bounds-image-j-in-loop-j t c = let a = c.args in let g = c.loop-i.invariant.on refl c.requires.valid_arrays (going_start c.requires.part c.index_parts-at.ensures c.requires.valid_arrays a.room c.no_expressions.ensures c.declare-e.ensures c.if-e.false) in let l = c.loop-i in let k = going_run c.requires.ground.source c.requires.part a.offset a.room _ (expressions c.requires.part g.read) _ _ c.requires.valid_arrays a.stacks.now l.log l.logtags l.starts l.maps l.buckets l.exprmap l.e g c.copy_mapped_run-r.ensures c.advance-e.ensures in let h = word_in c.requires.part c.requires.valid_arrays k c.if-i-end.true in h
 
 pub localize-overflow_add-exprs : goal.localize-overflow_add-exprs
 localize-overflow_add-exprs t c = place-next (exprs_low c.requires.part c.index_parts-at.ensures)
 
 pub localize-follow-e-requires : goal.localize-follow-e-requires
-localize-follow-e-requires t c = let a = c.args in let g = c.loop-i.invariant.on refl c.requires.valid_arrays (going_start c.requires.part c.index_parts-at.ensures c.requires.valid_arrays a.room c.no_expressions.ensures c.declare-e.ensures c.if-e.false) in let l = c.loop-i in let k = going_run c.requires.ground.source c.requires.part a.offset a.room _ (expressions c.requires.part g.read) _ _ c.requires.valid_arrays a.stacks.now l.log l.logtags l.starts l.maps l.buckets l.exprmap l.e g c.copy_mapped_run-r.ensures c.advance-e.ensures in let q = c.decreases in (omega arith, (c.requires.ground, (callee_low c.requires.part c.requires.valid_arrays k c.if-i-end.true c.if-tags-j-eq-CALLEE.true c.wide.ensures.0, (callee-ready c.requires.part c.requires.valid_arrays k c.if-i-end.true c.if-tags-j-eq-CALLEE.true c.wide.ensures.0 c.requires.nested, ((k.turn.way.going, k.turn.way.under.stacks_are), (k.turn.way.kept, (index_in c.requires.part k.read.ea_is, k.read.places_are)))))))
+localize-follow-e-requires t c = let a = c.args in let g = c.loop-i.invariant.on refl c.requires.valid_arrays (going_start c.requires.part c.index_parts-at.ensures c.requires.valid_arrays a.room c.no_expressions.ensures c.declare-e.ensures c.if-e.false) in let l = c.loop-i in let k = going_run c.requires.ground.source c.requires.part a.offset a.room _ (expressions c.requires.part g.read) _ _ c.requires.valid_arrays a.stacks.now l.log l.logtags l.starts l.maps l.buckets l.exprmap l.e g c.copy_mapped_run-r.ensures c.advance-e.ensures in let q = c.decreases in (omega arith, (c.requires.ground, (callee_low c.requires.part c.requires.valid_arrays k c.if-i-end.true c.if-image-j-eq-CALLEE.true refl, (callee-ready c.requires.part c.requires.valid_arrays k c.if-i-end.true c.if-image-j-eq-CALLEE.true refl c.requires.nested, ((k.turn.way.going, k.turn.way.under.stacks_are), (k.turn.way.kept, (index_in c.requires.part k.read.ea_is, k.read.places_are)))))))
 
 pub localize-returns-then-e-2 : goal.localize-returns-then-e-2
-localize-returns-then-e-2 t c = let a = c.args in let g = c.loop-i.invariant.on refl c.requires.valid_arrays (going_start c.requires.part c.index_parts-at.ensures c.requires.valid_arrays a.room c.no_expressions.ensures c.declare-e.ensures c.if-e.false) in let l = c.loop-i in let k = going_run c.requires.ground.source c.requires.part a.offset a.room _ (expressions c.requires.part g.read) _ _ c.requires.valid_arrays a.stacks.now l.log l.logtags l.starts l.maps l.buckets l.exprmap l.e g c.copy_mapped_run-r.ensures c.advance-e.ensures in callee_full c.requires.part c.requires.valid_arrays k c.if-i-end.true c.if-tags-j-eq-CALLEE.true c.wide.ensures.0 c.follow-e.ensures.import_function_ensures c.if-e-2.true
+localize-returns-then-e-2 t c = let a = c.args in let g = c.loop-i.invariant.on refl c.requires.valid_arrays (going_start c.requires.part c.index_parts-at.ensures c.requires.valid_arrays a.room c.no_expressions.ensures c.declare-e.ensures c.if-e.false) in let l = c.loop-i in let k = going_run c.requires.ground.source c.requires.part a.offset a.room _ (expressions c.requires.part g.read) _ _ c.requires.valid_arrays a.stacks.now l.log l.logtags l.starts l.maps l.buckets l.exprmap l.e g c.copy_mapped_run-r.ensures c.advance-e.ensures in callee_full c.requires.part c.requires.valid_arrays k c.if-i-end.true c.if-image-j-eq-CALLEE.true refl c.follow-e.ensures.import_function_ensures c.if-e-2.true
 
 pub localize-put_word-e-requires : goal.localize-put_word-e-requires
 localize-put_word-e-requires t c = let a = c.args in let g = c.loop-i.invariant.on refl c.requires.valid_arrays (going_start c.requires.part c.index_parts-at.ensures c.requires.valid_arrays a.room c.no_expressions.ensures c.declare-e.ensures c.if-e.false) in let l = c.loop-i in let k = going_run c.requires.ground.source c.requires.part a.offset a.room _ (expressions c.requires.part g.read) _ _ c.requires.valid_arrays a.stacks.now l.log l.logtags l.starts l.maps l.buckets l.exprmap l.e g c.copy_mapped_run-r.ensures c.advance-e.ensures in let w = c.follow-e.ensures.import_function_ensures in let z = c.if-e-2.false in record { ground = c.requires.ground; bearing = bearing (w.kept z); maps_len = (w.kept z).maps-six; i_bound = word_fits c.requires.part c.requires.valid_arrays k c.if-i-end.true; stacks = w.stacks_are z }
@@ -124,13 +121,13 @@ pub localize-import_word-e-requires : goal.localize-import_word-e-requires
 localize-import_word-e-requires t c = let a = c.args in let g = c.loop-i.invariant.on refl c.requires.valid_arrays (going_start c.requires.part c.index_parts-at.ensures c.requires.valid_arrays a.room c.no_expressions.ensures c.declare-e.ensures c.if-e.false) in let l = c.loop-i in let k = going_run c.requires.ground.source c.requires.part a.offset a.room _ (expressions c.requires.part g.read) _ _ c.requires.valid_arrays a.stacks.now l.log l.logtags l.starts l.maps l.buckets l.exprmap l.e g c.copy_mapped_run-r.ensures c.advance-e.ensures in record { ground = c.requires.ground; expressions = expressions c.requires.part k.read; bodied = word_bodied c.requires.part c.requires.valid_arrays k c.if-i-end.true; full_value = k.turn.way.going; valid_arrays = k.turn.way.kept; under = k.turn.way.under }
 
 pub localize-returns-then-e-3 : goal.localize-returns-then-e-3
-localize-returns-then-e-3 t c = let a = c.args in let g = c.loop-i.invariant.on refl c.requires.valid_arrays (going_start c.requires.part c.index_parts-at.ensures c.requires.valid_arrays a.room c.no_expressions.ensures c.declare-e.ensures c.if-e.false) in let l = c.loop-i in let k = going_run c.requires.ground.source c.requires.part a.offset a.room _ (expressions c.requires.part g.read) _ _ c.requires.valid_arrays a.stacks.now l.log l.logtags l.starts l.maps l.buckets l.exprmap l.e g c.copy_mapped_run-r.ensures c.advance-e.ensures in elim c.if-tags-j-eq-CALLEE.branch [ localize-then-tags-j-eq-CALLEE+else-e-2 w ↦ going_full c.requires.part c.requires.valid_arrays k c.if-i-end.true c.span_undefined-u.ensures (runs_at (callee_runs c.requires.part c.requires.valid_arrays k c.if-i-end.true w.if-tags-j-eq-CALLEE.true w.wide.ensures.0 w.follow-e.ensures.import_function_ensures w.if-e-2.false c.span_undefined-u.result w.put_word-e.ensures) w.log-is w.logtags-is w.starts-is w.maps-is w.buckets-is w.stacks-is w.exprmap-is w.e-is) c.if-e-3.true | localize-else-tags-j-eq-CALLEE w ↦ going_full c.requires.part c.requires.valid_arrays k c.if-i-end.true c.span_undefined-u.ensures (runs_at (other_runs c.requires.part c.requires.valid_arrays k c.if-i-end.true w.if-tags-j-eq-CALLEE.false c.span_undefined-u.result (runs_from refl w.import_word-e.ensures)) w.log-is w.logtags-is w.starts-is w.maps-is w.buckets-is w.stacks-is w.exprmap-is w.e-is) c.if-e-3.true ]
+localize-returns-then-e-3 t c = let a = c.args in let g = c.loop-i.invariant.on refl c.requires.valid_arrays (going_start c.requires.part c.index_parts-at.ensures c.requires.valid_arrays a.room c.no_expressions.ensures c.declare-e.ensures c.if-e.false) in let l = c.loop-i in let k = going_run c.requires.ground.source c.requires.part a.offset a.room _ (expressions c.requires.part g.read) _ _ c.requires.valid_arrays a.stacks.now l.log l.logtags l.starts l.maps l.buckets l.exprmap l.e g c.copy_mapped_run-r.ensures c.advance-e.ensures in elim c.if-image-j-eq-CALLEE.branch [ localize-then-image-j-eq-CALLEE+else-e-2 w ↦ going_full c.requires.part c.requires.valid_arrays k c.if-i-end.true c.span_undefined-u.ensures (runs_at (callee_runs c.requires.part c.requires.valid_arrays k c.if-i-end.true w.if-image-j-eq-CALLEE.true refl w.follow-e.ensures.import_function_ensures w.if-e-2.false c.span_undefined-u.result w.put_word-e.ensures) w.log-is w.logtags-is w.starts-is w.maps-is w.buckets-is w.stacks-is w.exprmap-is w.e-is) c.if-e-3.true | localize-else-image-j-eq-CALLEE w ↦ going_full c.requires.part c.requires.valid_arrays k c.if-i-end.true c.span_undefined-u.ensures (runs_at (other_runs c.requires.part c.requires.valid_arrays k c.if-i-end.true w.if-image-j-eq-CALLEE.false c.span_undefined-u.result (runs_from refl w.import_word-e.ensures)) w.log-is w.logtags-is w.starts-is w.maps-is w.buckets-is w.stacks-is w.exprmap-is w.e-is) c.if-e-3.true ]
 
 pub localize-loop-i-smaller-else-e-3 : goal.localize-loop-i-smaller-else-e-3
 localize-loop-i-smaller-else-e-3 t c = let h = c.loop-i-test.true in let z = c.copy_mapped_run-r.ensures.reach in fewer_word _ _ _ _ h z
 
 pub localize-loop-i-preserved-else-e-3 : goal.localize-loop-i-preserved-else-e-3
-localize-loop-i-preserved-else-e-3 t c = let a = c.args in record { on = λ q K₀ g₀. let g = c.loop-i.invariant.on q K₀ g₀ in let l = c.loop-i in let k = going_run c.requires.ground.source c.requires.part a.offset a.room _ (expressions c.requires.part g.read) _ _ K₀ _ l.log l.logtags l.starts l.maps l.buckets l.exprmap l.e g c.copy_mapped_run-r.ensures c.advance-e.ensures in elim c.if-tags-j-eq-CALLEE.branch [ localize-then-tags-j-eq-CALLEE+else-e-2 w ↦ going_at (w.places-is ∙ w.follow-e.ensures.places_after w.if-e-2.false ∙ sym k.read.places_are) (going_next c.requires.part K₀ k c.if-i-end.true c.span_undefined-u.ensures (runs_at (callee_runs c.requires.part K₀ k c.if-i-end.true w.if-tags-j-eq-CALLEE.true w.wide.ensures.0 w.follow-e.ensures.import_function_ensures w.if-e-2.false c.span_undefined-u.result w.put_word-e.ensures) w.log-is w.logtags-is w.starts-is w.maps-is w.buckets-is w.stacks-is w.exprmap-is w.e-is) c.if-e-3.false) | localize-else-tags-j-eq-CALLEE w ↦ going_at w.places-is (going_next c.requires.part K₀ k c.if-i-end.true c.span_undefined-u.ensures (runs_at (other_runs c.requires.part K₀ k c.if-i-end.true w.if-tags-j-eq-CALLEE.false c.span_undefined-u.result (runs_from q w.import_word-e.ensures)) w.log-is w.logtags-is w.starts-is w.maps-is w.buckets-is w.stacks-is w.exprmap-is w.e-is) c.if-e-3.false) ] }
+localize-loop-i-preserved-else-e-3 t c = let a = c.args in record { on = λ q K₀ g₀. let g = c.loop-i.invariant.on q K₀ g₀ in let l = c.loop-i in let k = going_run c.requires.ground.source c.requires.part a.offset a.room _ (expressions c.requires.part g.read) _ _ K₀ _ l.log l.logtags l.starts l.maps l.buckets l.exprmap l.e g c.copy_mapped_run-r.ensures c.advance-e.ensures in elim c.if-image-j-eq-CALLEE.branch [ localize-then-image-j-eq-CALLEE+else-e-2 w ↦ going_at (w.places-is ∙ w.follow-e.ensures.places_after w.if-e-2.false ∙ sym k.read.places_are) (going_next c.requires.part K₀ k c.if-i-end.true c.span_undefined-u.ensures (runs_at (callee_runs c.requires.part K₀ k c.if-i-end.true w.if-image-j-eq-CALLEE.true refl w.follow-e.ensures.import_function_ensures w.if-e-2.false c.span_undefined-u.result w.put_word-e.ensures) w.log-is w.logtags-is w.starts-is w.maps-is w.buckets-is w.stacks-is w.exprmap-is w.e-is) c.if-e-3.false) | localize-else-image-j-eq-CALLEE w ↦ going_at w.places-is (going_next c.requires.part K₀ k c.if-i-end.true c.span_undefined-u.ensures (runs_at (other_runs c.requires.part K₀ k c.if-i-end.true w.if-image-j-eq-CALLEE.false c.span_undefined-u.result (runs_from q w.import_word-e.ensures)) w.log-is w.logtags-is w.starts-is w.maps-is w.buckets-is w.stacks-is w.exprmap-is w.e-is) c.if-e-3.false) ] }
 
 pub localize-loop-i-smaller : goal.localize-loop-i-smaller
 localize-loop-i-smaller t c = let h = c.loop-i-test.true in let z = c.copy_mapped_run-r.ensures.reach in let y = c.if-i-end.false in fewer_run _ _ _ _ h z y

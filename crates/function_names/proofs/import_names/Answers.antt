@@ -10,51 +10,51 @@ use Rattle.function_names.proofs.Naming.{name_first, name_in_lem, name_number, n
 use Rattle.function_names.proofs.import_names.Goals as goal
 
 pub loop-i-init : goal.loop-i-init
-loop-i-init c = let a = c.args in name_first a.words.now a.n a.offset a.b a.log.now a.logtags.now a.starts.now a.maps.now a.buckets.now a.stacks.now a.ends c.requires.valid_arrays c.requires.b_le_bodytop.0 c.requires.by_index c.requires.b_le_bodytop.1 c.requires.stacks
+loop-i-init c = let a = c.args in name_first a.image.words.now a.image.n a.offset a.b a.log.now a.logtags.now a.starts.now a.maps.now a.buckets.now a.stacks.now a.ends c.requires.valid_arrays c.requires.b_le_bodytop.0 c.requires.by_index c.requires.b_le_bodytop.1 c.requires.stacks
 
 pub overflow_add-j : goal.overflow_add-j
-overflow_add-j c = let a = c.args in let l = c.loop-i in let z = name_in_lem a.words.now a.n a.offset a.b a.log.now a.logtags.now a.starts.now a.maps.now a.buckets.now a.stacks.now a.ends c.requires.valid_arrays l.log l.logtags l.starts l.maps l.buckets l.stacks l.e l.i l.invariant c.loop-i-test.true in omega arith
+overflow_add-j c = let a = c.args in let l = c.loop-i in let z = name_in_lem a.image.words.now a.image.n a.offset a.b a.log.now a.logtags.now a.starts.now a.maps.now a.buckets.now a.stacks.now a.ends c.requires.valid_arrays l.log l.logtags l.starts l.maps l.buckets l.stacks l.e l.i l.invariant c.loop-i-test.true in omega arith
 
 pub overflow_add-i : goal.overflow_add-i
-overflow_add-i c = let a = c.args in let l = c.loop-i in let z = name_in_lem a.words.now a.n a.offset a.b a.log.now a.logtags.now a.starts.now a.maps.now a.buckets.now a.stacks.now a.ends c.requires.valid_arrays l.log l.logtags l.starts l.maps l.buckets l.stacks l.e l.i l.invariant c.loop-i-test.true in omega arith
+overflow_add-i c = let a = c.args in let l = c.loop-i in let z = name_in_lem a.image.words.now a.image.n a.offset a.b a.log.now a.logtags.now a.starts.now a.maps.now a.buckets.now a.stacks.now a.ends c.requires.valid_arrays l.log l.logtags l.starts l.maps l.buckets l.stacks l.e l.i l.invariant c.loop-i-test.true in omega arith
 
 pub offset_bounds-stacks-j : goal.offset_bounds-stacks-j
-offset_bounds-stacks-j c = let a = c.args in let l = c.loop-i in let z = name_in_lem a.words.now a.n a.offset a.b a.log.now a.logtags.now a.starts.now a.maps.now a.buckets.now a.stacks.now a.ends c.requires.valid_arrays l.log l.logtags l.starts l.maps l.buckets l.stacks l.e l.i l.invariant c.loop-i-test.true in omega arith
+offset_bounds-stacks-j c = let a = c.args in let l = c.loop-i in let z = name_in_lem a.image.words.now a.image.n a.offset a.b a.log.now a.logtags.now a.starts.now a.maps.now a.buckets.now a.stacks.now a.ends c.requires.valid_arrays l.log l.logtags l.starts l.maps l.buckets l.stacks l.e l.i l.invariant c.loop-i-test.true in omega arith
 
 pub bounds-stacks-j : goal.bounds-stacks-j
-bounds-stacks-j c = let a = c.args in let l = c.loop-i in let z = name_in_lem a.words.now a.n a.offset a.b a.log.now a.logtags.now a.starts.now a.maps.now a.buckets.now a.stacks.now a.ends c.requires.valid_arrays l.log l.logtags l.starts l.maps l.buckets l.stacks l.e l.i l.invariant c.loop-i-test.true in omega arith
+bounds-stacks-j c = let a = c.args in let l = c.loop-i in let z = name_in_lem a.image.words.now a.image.n a.offset a.b a.log.now a.logtags.now a.starts.now a.maps.now a.buckets.now a.stacks.now a.ends c.requires.valid_arrays l.log l.logtags l.starts l.maps l.buckets l.stacks l.e l.i l.invariant c.loop-i-test.true in omega arith
 
 pub overflow_sub-w : goal.overflow_sub-w
 overflow_sub-w c = let h = c.if-w-ne0.true in omega arith
 
 pub import-e-requires : goal.import-e-requires
-import-e-requires c = let a = c.args in let l = c.loop-i in let h = name_number a.words.now a.n a.offset a.b a.log.now a.logtags.now a.starts.now a.maps.now a.buckets.now a.stacks.now a.ends c.requires.valid_arrays l.log l.logtags l.starts l.maps l.buckets l.stacks l.e l.i l.invariant c.loop-i-test.true (get_or (row l.stacks 3) (l.i + 1) 0) ((get_or (row l.stacks 3) (l.i + 1) 0) - 1) refl c.if-w-ne0.true refl in record { source = c.requires.ground.source; number_bound = (omega arith, h, l.invariant.going); targets_value = c.requires.ground.targets_are; valid_arrays = l.invariant.kept }
+import-e-requires c = let a = c.args in let l = c.loop-i in let h = name_number a.image.words.now a.image.n a.offset a.b a.log.now a.logtags.now a.starts.now a.maps.now a.buckets.now a.stacks.now a.ends c.requires.valid_arrays l.log l.logtags l.starts l.maps l.buckets l.stacks l.e l.i l.invariant c.loop-i-test.true (get_or (row l.stacks 3) (l.i + 1) 0) ((get_or (row l.stacks 3) (l.i + 1) 0) - 1) refl c.if-w-ne0.true refl in record { source = c.requires.ground.source; number_bound = (omega arith, h, l.invariant.going); valid_arrays = l.invariant.kept }
 
 pub returns-then-e : goal.returns-then-e
 unfolding tab_of
-returns-then-e c = let a = c.args in let l = c.loop-i in let h = name_number a.words.now a.n a.offset a.b a.log.now a.logtags.now a.starts.now a.maps.now a.buckets.now a.stacks.now a.ends c.requires.valid_arrays l.log l.logtags l.starts l.maps l.buckets l.stacks l.e l.i l.invariant c.loop-i-test.true (get_or (row l.stacks 3) (l.i + 1) 0) ((get_or (row l.stacks 3) (l.i + 1) 0) - 1) refl c.if-w-ne0.true refl in let u = c.import-e in name_full a.words.now a.n a.offset a.b a.log.now a.logtags.now a.starts.now a.maps.now a.buckets.now a.stacks.now a.ends c.requires.valid_arrays l.log l.logtags l.starts l.maps l.buckets l.stacks l.e l.i l.invariant c.loop-i-test.true (get_or (row l.stacks 3) (l.i + 1) 0) ((get_or (row l.stacks 3) (l.i + 1) 0) - 1) refl c.if-w-ne0.true refl u.result c.import-e.new.log c.import-e.new.logtags c.import-e.new.starts c.import-e.new.maps c.import-e.new.buckets c.import-e.ensures c.if-e.true
+returns-then-e c = let a = c.args in let l = c.loop-i in let h = name_number a.image.words.now a.image.n a.offset a.b a.log.now a.logtags.now a.starts.now a.maps.now a.buckets.now a.stacks.now a.ends c.requires.valid_arrays l.log l.logtags l.starts l.maps l.buckets l.stacks l.e l.i l.invariant c.loop-i-test.true (get_or (row l.stacks 3) (l.i + 1) 0) ((get_or (row l.stacks 3) (l.i + 1) 0) - 1) refl c.if-w-ne0.true refl in let u = c.import-e in name_full a.image.words.now a.image.n a.offset a.b a.log.now a.logtags.now a.starts.now a.maps.now a.buckets.now a.stacks.now a.ends c.requires.valid_arrays l.log l.logtags l.starts l.maps l.buckets l.stacks l.e l.i l.invariant c.loop-i-test.true (get_or (row l.stacks 3) (l.i + 1) 0) ((get_or (row l.stacks 3) (l.i + 1) 0) - 1) refl c.if-w-ne0.true refl u.result c.import-e.new.log c.import-e.new.logtags c.import-e.new.starts c.import-e.new.maps c.import-e.new.buckets c.import-e.ensures c.if-e.true
 
 pub bounds-maps-w : goal.bounds-maps-w
-bounds-maps-w c = let a = c.args in let l = c.loop-i in let h = name_number a.words.now a.n a.offset a.b a.log.now a.logtags.now a.starts.now a.maps.now a.buckets.now a.stacks.now a.ends c.requires.valid_arrays l.log l.logtags l.starts l.maps l.buckets l.stacks l.e l.i l.invariant c.loop-i-test.true (get_or (row l.stacks 3) (l.i + 1) 0) ((get_or (row l.stacks 3) (l.i + 1) 0) - 1) refl c.if-w-ne0.true refl in let s = small_number a.words.now a.tags.now a.n c.requires.ground.source 0 ((get_or (row l.stacks 3) (l.i + 1) 0) - 1) (omega arith) h in omega arith
+bounds-maps-w c = let a = c.args in let l = c.loop-i in let h = name_number a.image.words.now a.image.n a.offset a.b a.log.now a.logtags.now a.starts.now a.maps.now a.buckets.now a.stacks.now a.ends c.requires.valid_arrays l.log l.logtags l.starts l.maps l.buckets l.stacks l.e l.i l.invariant c.loop-i-test.true (get_or (row l.stacks 3) (l.i + 1) 0) ((get_or (row l.stacks 3) (l.i + 1) 0) - 1) refl c.if-w-ne0.true refl in let s = small_number a.image.words.now a.image.tags.now a.image.n c.requires.ground.source 0 ((get_or (row l.stacks 3) (l.i + 1) 0) - 1) (omega arith) h in omega arith
 
 pub offset_bounds-stacks-j-then-w-ne0 : goal.offset_bounds-stacks-j-then-w-ne0
-offset_bounds-stacks-j-then-w-ne0 c = let a = c.args in let l = c.loop-i in let z = name_in_lem a.words.now a.n a.offset a.b a.log.now a.logtags.now a.starts.now a.maps.now a.buckets.now a.stacks.now a.ends c.requires.valid_arrays l.log l.logtags l.starts l.maps l.buckets l.stacks l.e l.i l.invariant c.loop-i-test.true in omega arith
+offset_bounds-stacks-j-then-w-ne0 c = let a = c.args in let l = c.loop-i in let z = name_in_lem a.image.words.now a.image.n a.offset a.b a.log.now a.logtags.now a.starts.now a.maps.now a.buckets.now a.stacks.now a.ends c.requires.valid_arrays l.log l.logtags l.starts l.maps l.buckets l.stacks l.e l.i l.invariant c.loop-i-test.true in omega arith
 
 pub bounds-stacks-j-else-e : goal.bounds-stacks-j-else-e
-bounds-stacks-j-else-e c = let a = c.args in let l = c.loop-i in let z = name_in_lem a.words.now a.n a.offset a.b a.log.now a.logtags.now a.starts.now a.maps.now a.buckets.now a.stacks.now a.ends c.requires.valid_arrays l.log l.logtags l.starts l.maps l.buckets l.stacks l.e l.i l.invariant c.loop-i-test.true in omega arith
+bounds-stacks-j-else-e c = let a = c.args in let l = c.loop-i in let z = name_in_lem a.image.words.now a.image.n a.offset a.b a.log.now a.logtags.now a.starts.now a.maps.now a.buckets.now a.stacks.now a.ends c.requires.valid_arrays l.log l.logtags l.starts l.maps l.buckets l.stacks l.e l.i l.invariant c.loop-i-test.true in omega arith
 
 pub loop-i-smaller-then-w-ne0 : goal.loop-i-smaller-then-w-ne0
 loop-i-smaller-then-w-ne0 c = let h = c.loop-i-test.true in omega arith
 
 pub loop-i-preserved-then-w-ne0 : goal.loop-i-preserved-then-w-ne0
 unfolding tab_of
-loop-i-preserved-then-w-ne0 c = let a = c.args in let l = c.loop-i in let h = name_number a.words.now a.n a.offset a.b a.log.now a.logtags.now a.starts.now a.maps.now a.buckets.now a.stacks.now a.ends c.requires.valid_arrays l.log l.logtags l.starts l.maps l.buckets l.stacks l.e l.i l.invariant c.loop-i-test.true (get_or (row l.stacks 3) (l.i + 1) 0) ((get_or (row l.stacks 3) (l.i + 1) 0) - 1) refl c.if-w-ne0.true refl in let u = c.import-e in name_next a.words.now a.n a.offset a.b a.log.now a.logtags.now a.starts.now a.maps.now a.buckets.now a.stacks.now a.ends c.requires.valid_arrays l.log l.logtags l.starts l.maps l.buckets l.stacks l.e l.i l.invariant c.loop-i-test.true (get_or (row l.stacks 3) (l.i + 1) 0) ((get_or (row l.stacks 3) (l.i + 1) 0) - 1) refl c.if-w-ne0.true refl u.result c.import-e.new.log c.import-e.new.logtags c.import-e.new.starts c.import-e.new.maps c.import-e.new.buckets c.import-e.ensures c.if-e.false _ refl _ refl
+loop-i-preserved-then-w-ne0 c = let a = c.args in let l = c.loop-i in let h = name_number a.image.words.now a.image.n a.offset a.b a.log.now a.logtags.now a.starts.now a.maps.now a.buckets.now a.stacks.now a.ends c.requires.valid_arrays l.log l.logtags l.starts l.maps l.buckets l.stacks l.e l.i l.invariant c.loop-i-test.true (get_or (row l.stacks 3) (l.i + 1) 0) ((get_or (row l.stacks 3) (l.i + 1) 0) - 1) refl c.if-w-ne0.true refl in let u = c.import-e in name_next a.image.words.now a.image.n a.offset a.b a.log.now a.logtags.now a.starts.now a.maps.now a.buckets.now a.stacks.now a.ends c.requires.valid_arrays l.log l.logtags l.starts l.maps l.buckets l.stacks l.e l.i l.invariant c.loop-i-test.true (get_or (row l.stacks 3) (l.i + 1) 0) ((get_or (row l.stacks 3) (l.i + 1) 0) - 1) refl c.if-w-ne0.true refl u.result c.import-e.new.log c.import-e.new.logtags c.import-e.new.starts c.import-e.new.maps c.import-e.new.buckets c.import-e.ensures c.if-e.false _ refl _ refl
 
 pub loop-i-smaller : goal.loop-i-smaller
 loop-i-smaller c = let h = c.loop-i-test.true in omega arith
 
 pub loop-i-preserved : goal.loop-i-preserved
-loop-i-preserved c = let a = c.args in let l = c.loop-i in name_skip a.words.now a.n a.offset a.b a.log.now a.logtags.now a.starts.now a.maps.now a.buckets.now a.stacks.now a.ends c.requires.valid_arrays l.log l.logtags l.starts l.maps l.buckets l.stacks l.e l.i l.invariant c.loop-i-test.true (get_or (row l.stacks 3) (l.i + 1) 0) refl c.if-w-ne0.false
+loop-i-preserved c = let a = c.args in let l = c.loop-i in name_skip a.image.words.now a.image.n a.offset a.b a.log.now a.logtags.now a.starts.now a.maps.now a.buckets.now a.stacks.now a.ends c.requires.valid_arrays l.log l.logtags l.starts l.maps l.buckets l.stacks l.e l.i l.invariant c.loop-i-test.true (get_or (row l.stacks 3) (l.i + 1) 0) refl c.if-w-ne0.false
 
 pub returns : goal.returns
-returns c = let a = c.args in let l = c.loop-i in name_done a.words.now a.n a.offset a.b a.log.now a.logtags.now a.starts.now a.maps.now a.buckets.now a.stacks.now a.ends c.requires.valid_arrays l.log l.logtags l.starts l.maps l.buckets l.stacks l.e l.i l.invariant c.loop-i-test.false
+returns c = let a = c.args in let l = c.loop-i in name_done a.image.words.now a.image.n a.offset a.b a.log.now a.logtags.now a.starts.now a.maps.now a.buckets.now a.stacks.now a.ends c.requires.valid_arrays l.log l.logtags l.starts l.maps l.buckets l.stacks l.e l.i l.invariant c.loop-i-test.false

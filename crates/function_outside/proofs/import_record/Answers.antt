@@ -7,7 +7,7 @@ use mathlib.Core.Path.{ap}
 use Rattle.function_outside.proofs.import_record.Goals as goal
 
 pub missing-requires : goal.missing-requires
-missing-requires c = λ l. let a = c.args in small_number a.words.now a.tags.now a.n c.requires.ground.source a.t a.h l (c.requires.h_bound l)
+missing-requires c = λ l. let a = c.args in small_number a.image.words.now a.image.tags.now a.image.n c.requires.ground.source a.t a.h l (c.requires.h_bound l)
 
 pub returns-then-not-missing : goal.returns-then-not-missing
 returns-then-not-missing c = let a = c.args in lands_mapped c.requires.ground.source a.offset c.requires.h_bound c.requires.full_value c.requires.valid_arrays (c.missing.ensures.h_nonzero (not-true _ (ap not c.if-not-missing.true)))

@@ -7,29 +7,29 @@ use Rattle.function_passes.proofs.compare_operand.Goals as goal
 pub loop-j-init : goal.loop-j-init
 loop-j-init c = compare-begin c.requires
 
-pub bounds-tags-j : goal.bounds-tags-j
-bounds-tags-j c = let S = c.loop-j.invariant.left in omega arith
+pub bounds-image-j : goal.bounds-image-j
+bounds-image-j c = let S = c.loop-j.invariant.left in omega arith
 
 pub returns-then-end-k : goal.returns-then-end-k
-returns-then-end-k c = compare-last c.loop-j.invariant c.loop-j-test.true c.if-tags-j-eq-ATOMIC.true c.if-end-k.true
+returns-then-end-k c = compare-last c.loop-j.invariant c.loop-j-test.true c.if-image-j-eq-ATOMIC.true c.if-end-k.true
 
-pub bounds-tags-k : goal.bounds-tags-k
-bounds-tags-k c = let S = c.loop-j.invariant.left in omega arith
+pub bounds-image-k : goal.bounds-image-k
+bounds-image-k c = let S = c.loop-j.invariant.left in omega arith
 
-pub offset_bounds-words-k : goal.offset_bounds-words-k
-offset_bounds-words-k c = let S = c.loop-j.invariant.left in let h = c.if-end-k.false in omega arith
+pub offset_bounds-image-k : goal.offset_bounds-image-k
+offset_bounds-image-k c = let S = c.loop-j.invariant.left in let h = c.if-end-k.false in omega arith
 
-pub bounds-words-k : goal.bounds-words-k
-bounds-words-k c = let S = c.loop-j.invariant.left in let h = c.if-end-k.false in omega arith
+pub bounds-image-k-then-image-k-eq-OPT_EXPR : goal.bounds-image-k-then-image-k-eq-OPT_EXPR
+bounds-image-k-then-image-k-eq-OPT_EXPR c = let S = c.loop-j.invariant.left in let h = c.if-end-k.false in omega arith
 
-pub returns-then-tags-k-eq-OPT_EXPR : goal.returns-then-tags-k-eq-OPT_EXPR
-returns-then-tags-k-eq-OPT_EXPR c = compare_some c.loop-j.invariant c.loop-j-test.true c.if-tags-j-eq-ATOMIC.true c.if-end-k.false c.if-tags-k-eq-OPT_EXPR.true
+pub returns-then-image-k-eq-OPT_EXPR : goal.returns-then-image-k-eq-OPT_EXPR
+returns-then-image-k-eq-OPT_EXPR c = compare_some c.loop-j.invariant c.loop-j-test.true c.if-image-j-eq-ATOMIC.true c.if-end-k.false c.if-image-k-eq-OPT_EXPR.true
 
-pub returns-then-tags-j-eq-ATOMIC : goal.returns-then-tags-j-eq-ATOMIC
-returns-then-tags-j-eq-ATOMIC c = compare-other c.loop-j.invariant c.loop-j-test.true c.if-tags-j-eq-ATOMIC.true c.if-end-k.false c.if-tags-k-eq-OPT_EXPR.false
+pub returns-then-image-j-eq-ATOMIC : goal.returns-then-image-j-eq-ATOMIC
+returns-then-image-j-eq-ATOMIC c = compare-other c.loop-j.invariant c.loop-j-test.true c.if-image-j-eq-ATOMIC.true c.if-end-k.false c.if-image-k-eq-OPT_EXPR.false
 
 pub loop-j-preserved : goal.loop-j-preserved
-loop-j-preserved c = compare-next c.loop-j.invariant c.loop-j-test.true c.if-tags-j-eq-ATOMIC.false
+loop-j-preserved c = compare-next c.loop-j.invariant c.loop-j-test.true c.if-image-j-eq-ATOMIC.false
 
 pub returns : goal.returns
 returns c = compare_done c.loop-j.invariant c.loop-j-test.false

@@ -4,4 +4,4 @@ use Rattle.function_words.proofs.Words.{Comparing}
 use Rattle.function_passes.proofs.compare_operand.Given as goal
 
 abbrev pub invariant-loop-j : goal.invariant-loop-j
-invariant-loop-j l = Comparing l.words l.tags l.i l.end l.j
+invariant-loop-j l = Comparing l.image.words.now l.image.tags.now l.i l.end l.j

@@ -11,7 +11,7 @@ pub import_standing-e-requires : goal.import_standing-e-requires
 import_standing-e-requires c = let inv = c.loop-y.invariant in let l = c.requires.b_le_k in let h = c.loop-y-test.true in record { ground = c.requires.ground; expressions = c.requires.expressions; e_lt_k = (omega arith, inv.going); valid_arrays = inv.makes.kept inv.going; under = inv.makes.under inv.going }
 
 pub returns-then-e : goal.returns-then-e
-returns-then-e c = let a = c.args in range_full c.requires.valid_arrays c.loop-y.invariant c.loop-y-test.true c.import_standing-e.ensures c.if-e.true (glances_grow a.offset a.words.now a.tags.now a.n a.places.now a.k)
+returns-then-e c = let a = c.args in range_full c.requires.valid_arrays c.loop-y.invariant c.loop-y-test.true c.import_standing-e.ensures c.if-e.true (glances_grow a.offset a.image.words.now a.image.tags.now a.image.n a.places.now a.k)
 
 pub loop-y-preserved : goal.loop-y-preserved
 loop-y-preserved c = range_more c.requires.valid_arrays c.loop-y.invariant c.loop-y-test.true c.import_standing-e.ensures c.if-e.false

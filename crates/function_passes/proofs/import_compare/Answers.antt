@@ -1,3 +1,4 @@
+use mathlib.Core.Path.{refl}
 -- `import_compare` meets its contract: an atomic statement has what it compares, where it compares.
 use mathlib.Core.Path.{sym, ap, ◌∙◌}
 use mathlib.Core.List.{[]}
@@ -17,13 +18,13 @@ use mathlib.Core.Bool.{not}
 use Rattle.function_passes.proofs.import_compare.Goals as goal
 
 pub returns-then-not-atomic : goal.returns-then-not-atomic
-returns-then-not-atomic c = let a = c.args in makes-idle c.requires.valid_arrays c.requires.under c.requires.full_value (λ m. early-other a.offset (mod_of a.words.now a.n) still (needsE a.offset a.words.now a.tags.now a.n a.places.now a.k) (glances a.offset a.words.now a.tags.now a.n a.places.now a.k) (get_or a.words.now a.i 0) (between a.tags.now a.words.now (suc a.i) a.end) m (sym c.atomic.ensures ∙ not-true _ (ap not c.if-not-atomic.true)))
+returns-then-not-atomic c = let a = c.args in makes-idle c.requires.valid_arrays c.requires.under c.requires.full_value (λ m. early-other a.offset (mod_of a.image.words.now a.image.n) still (needsE a.offset a.image.words.now a.image.tags.now a.image.n a.places.now a.k) (glances a.offset a.image.words.now a.image.tags.now a.image.n a.places.now a.k) (get_or a.image.words.now a.i 0) (between a.image.tags.now a.image.words.now (suc a.i) a.end) m (sym c.atomic.ensures ∙ not-true _ (ap not c.if-not-atomic.true)))
 
 pub returns-then-x-eq0 : goal.returns-then-x-eq0
-returns-then-x-eq0 c = let a = c.args in makes-idle c.requires.valid_arrays c.requires.under c.requires.full_value (λ m. early-none a.offset (mod_of a.words.now a.n) (needsE a.offset a.words.now a.tags.now a.n a.places.now a.k) (glances a.offset a.words.now a.tags.now a.n a.places.now a.k) (get_or a.words.now a.i 0) (between a.tags.now a.words.now (suc a.i) a.end) m (ap (λ (x : ℕ). optional x []) (sym c.if-x-eq0.true) ∙ (compared_as a.tags.now a.words.now a.i a.end _ c.compare_operand-x.ensures)))
+returns-then-x-eq0 c = let a = c.args in makes-idle c.requires.valid_arrays c.requires.under c.requires.full_value (λ m. early-none a.offset (mod_of a.image.words.now a.image.n) (needsE a.offset a.image.words.now a.image.tags.now a.image.n a.places.now a.k) (glances a.offset a.image.words.now a.image.tags.now a.image.n a.places.now a.k) (get_or a.image.words.now a.i 0) (between a.image.tags.now a.image.words.now (suc a.i) a.end) m (ap (λ (x : ℕ). optional x []) (sym c.if-x-eq0.true) ∙ (compared_as a.image.tags.now a.image.words.now a.i a.end _ c.compare_operand-x.ensures)))
 
 pub import_operand-requires : goal.import_operand-requires
-import_operand-requires c = let a = c.args in let L = legible_next c.requires.legible.0 c.requires.legible.1 in record { ground = c.requires.ground; expressions = c.requires.expressions; e_lt_k = (compare_low a.words.now a.k (between a.tags.now a.words.now (suc a.i) a.end) L.fits _ _ (compared_as a.tags.now a.words.now a.i a.end _ c.compare_operand-x.ensures) c.if-x-eq0.false c.wide.ensures.0, c.requires.full_value); valid_arrays = c.requires.valid_arrays; under = c.requires.under }
+import_operand-requires c = let a = c.args in let L = legible_next c.requires.legible.0 c.requires.legible.1 in record { ground = c.requires.ground; expressions = c.requires.expressions; e_lt_k = (compare_low a.image.words.now a.k (between a.image.tags.now a.image.words.now (suc a.i) a.end) L.fits _ _ (compared_as a.image.tags.now a.image.words.now a.i a.end _ c.compare_operand-x.ensures) c.if-x-eq0.false refl, c.requires.full_value); valid_arrays = c.requires.valid_arrays; under = c.requires.under }
 
 pub returns : goal.returns
-returns c = let a = c.args in makes_as c.import_operand.ensures (λ m. early-one a.offset (mod_of a.words.now a.n) (needsE a.offset a.words.now a.tags.now a.n a.places.now a.k) (glances a.offset a.words.now a.tags.now a.n a.places.now a.k) (get_or a.words.now a.i 0) (between a.tags.now a.words.now (suc a.i) a.end) m (sym c.atomic.ensures ∙ not-false _ (ap not c.if-not-atomic.false)) _ _ (compared_as a.tags.now a.words.now a.i a.end _ c.compare_operand-x.ensures) c.if-x-eq0.false c.wide.ensures.0)
+returns c = let a = c.args in makes_as c.import_operand.ensures (λ m. early-one a.offset (mod_of a.image.words.now a.image.n) (needsE a.offset a.image.words.now a.image.tags.now a.image.n a.places.now a.k) (glances a.offset a.image.words.now a.image.tags.now a.image.n a.places.now a.k) (get_or a.image.words.now a.i 0) (between a.image.tags.now a.image.words.now (suc a.i) a.end) m (sym c.atomic.ensures ∙ not-false _ (ap not c.if-not-atomic.false)) _ _ (compared_as a.image.tags.now a.image.words.now a.i a.end _ c.compare_operand-x.ensures) c.if-x-eq0.false refl)

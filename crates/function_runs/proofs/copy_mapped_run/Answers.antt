@@ -10,20 +10,20 @@ use Rattle.function_runs.proofs.copy_mapped_run.Goals as goal
 pub loop-i-init : goal.loop-i-init
 loop-i-init c = onto_begin c.requires.legible.0 c.requires.legible.1
 
-pub bounds-tags-i : goal.bounds-tags-i
-bounds-tags-i c = onto_in c.loop-i.invariant c.loop-i-test.true
+pub bounds-image-i : goal.bounds-image-i
+bounds-image-i c = onto_in c.loop-i.invariant c.loop-i-test.true
 
-pub offset_bounds-words-i : goal.offset_bounds-words-i
-offset_bounds-words-i c = let z = onto_in c.loop-i.invariant c.loop-i-test.true in omega arith
+pub offset_bounds-image-i : goal.offset_bounds-image-i
+offset_bounds-image-i c = let z = onto_in c.loop-i.invariant c.loop-i-test.true in omega arith
 
-pub bounds-words-i : goal.bounds-words-i
-bounds-words-i c = onto_in c.loop-i.invariant c.loop-i-test.true
+pub bounds-image-i-in-loop-i : goal.bounds-image-i-in-loop-i
+bounds-image-i-in-loop-i c = onto_in c.loop-i.invariant c.loop-i-test.true
 
 pub returns-then-p-eq16384 : goal.returns-then-p-eq16384
 returns-then-p-eq16384 c = onto_done c.loop-i.invariant
 
 pub is_mapped_word-requires : goal.is_mapped_word-requires
-is_mapped_word-requires c = let a = c.args in record { targets_value = c.requires.targets_value; w_bound = numbers_low a.words.now _ _ (onto_fits c.loop-i.invariant c.loop-i-test.true) }
+is_mapped_word-requires c = let a = c.args in record { w_bound = numbers_low a.image.words.now _ _ (onto_fits c.loop-i.invariant c.loop-i-test.true) }
 
 pub returns-then-not-is_mapped_word : goal.returns-then-not-is_mapped_word
 returns-then-not-is_mapped_word c = onto_done c.loop-i.invariant
@@ -38,7 +38,7 @@ pub span_undefined-u-requires : goal.span_undefined-u-requires
 span_undefined-u-requires c = (c.loop-i.invariant.left.stretch, c.loop-i-test.true)
 
 pub carry-requires : goal.carry-requires
-carry-requires c = let a = c.args in let Q = c.is_mapped_word.ensures (not-false _ (ap not c.if-not-is_mapped_word.false)) in record { targets_value = c.requires.targets_value; maps_len = c.requires.maps_len; fact = (Q.callee, c.requires.legible.2); by_index = (a.words.now, onto_fits c.loop-i.invariant c.loop-i-test.true) }
+carry-requires c = let a = c.args in let Q = c.is_mapped_word.ensures (not-false _ (ap not c.if-not-is_mapped_word.false)) in record { maps_len = c.requires.maps_len; fact = (Q.callee, c.requires.legible.2); by_index = (a.image.words.now, onto_fits c.loop-i.invariant c.loop-i-test.true) }
 
 pub offset_bounds-stacks-q : goal.offset_bounds-stacks-q
 offset_bounds-stacks-q c = let z = c.loop-i.invariant.room in omega arith

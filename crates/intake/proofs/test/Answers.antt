@@ -23,4 +23,4 @@ pub returns-then-not-in_scope : goal.returns-then-not-in_scope
 returns-then-not-in_scope c = search (scope_fails, rules)
 
 pub returns : goal.returns
-returns c = all_pass c.args.words.now c.args.tags.now c.args.n c.numbered.result c.numbered.ensures (ap not c.if-not-numbered.false) c.lower.result c.lower.ensures (ap not c.if-not-lower.false) c.named.result c.named.ensures (ap not c.if-not-named.false) c.in_scope.result c.in_scope.ensures (ap not c.if-not-in_scope.false)
+returns c = all_pass c.args.image.words.now c.args.image.tags.now c.args.image.n c.numbered.result c.numbered.ensures (ap not c.if-not-numbered.false) c.lower.result c.lower.ensures (ap not c.if-not-lower.false) c.named.result c.named.ensures (ap not c.if-not-named.false) c.in_scope.result c.in_scope.ensures (ap not c.if-not-in_scope.false)

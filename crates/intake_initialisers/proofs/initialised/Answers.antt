@@ -5,38 +5,38 @@ use lib.ListN.{replicate, length-replicate}
 use Rattle.intake_initialisers.proofs.Reaching.{init_locals, init_exprs, init-after, init-end, init-count, init-room, init-empty, init_few, init-none, init_reach, init_done}
 use Rattle.intake_initialisers.proofs.initialised.Goals as goal
 
-pub offset_bounds-words-locals : goal.offset_bounds-words-locals
-offset_bounds-words-locals c = omega (arith, init_locals _ _ _ _ _ c.requires)
+pub offset_bounds-image-locals : goal.offset_bounds-image-locals
+offset_bounds-image-locals c = omega (arith, init_locals _ _ _ _ _ c.requires)
 
-pub bounds-words-locals : goal.bounds-words-locals
-bounds-words-locals c = init_locals _ _ _ _ _ c.requires
+pub bounds-image-locals : goal.bounds-image-locals
+bounds-image-locals c = init_locals _ _ _ _ _ c.requires
 
-pub offset_bounds-words-exprs : goal.offset_bounds-words-exprs
-offset_bounds-words-exprs c = omega (arith, init_exprs _ _ _ _ _ c.requires)
+pub offset_bounds-image-exprs : goal.offset_bounds-image-exprs
+offset_bounds-image-exprs c = omega (arith, init_exprs _ _ _ _ _ c.requires)
 
-pub bounds-words-exprs : goal.bounds-words-exprs
-bounds-words-exprs c = init_exprs _ _ _ _ _ c.requires
+pub bounds-image-exprs : goal.bounds-image-exprs
+bounds-image-exprs c = init_exprs _ _ _ _ _ c.requires
 
 pub returns-then-count-eq0 : goal.returns-then-count-eq0
-returns-then-count-eq0 c = init-empty _ _ _ _ _ c.requires _ _ (refl, c.fits-words _) (refl, c.fits-words _) c.if-count-eq0.true
+returns-then-count-eq0 c = init-empty _ _ _ _ _ c.requires _ _ refl refl c.if-count-eq0.true
 
 pub overflow_add-locals : goal.overflow_add-locals
 overflow_add-locals c = omega (arith, init_locals _ _ _ _ _ c.requires)
 
 pub roots-top-requires : goal.roots-top-requires
-roots-top-requires c = record { words_len = c.requires.lists.long.words_long; count_bound = init-count _ _ _ _ _ c.requires _ _ (refl, c.fits-words _) (refl, c.fits-words _); room = init-room _ _ _ _ _ c.requires _ _ (refl, c.fits-words _) (refl, c.fits-words _) (replicate 1024 0) (length-replicate {A = ℕ} 1024 0) }
+roots-top-requires c = record { words_len = c.requires.lists.long.words_long; count_bound = init-count _ _ _ _ _ c.requires _ _ refl refl; room = init-room _ _ _ _ _ c.requires _ _ refl refl (replicate 1024 0) (length-replicate {A = ℕ} 1024 0) }
 
 pub returns-then-top-eq0 : goal.returns-then-top-eq0
-returns-then-top-eq0 c = init-none _ _ _ _ _ c.requires _ _ (refl, c.fits-words _) (refl, c.fits-words _) (replicate 1024 0) (length-replicate {A = ℕ} 1024 0) _ _ _ c.roots-top.ensures c.if-top-eq0.true
+returns-then-top-eq0 c = init-none _ _ _ _ _ c.requires _ _ refl refl (replicate 1024 0) (length-replicate {A = ℕ} 1024 0) _ _ _ c.roots-top.ensures c.if-top-eq0.true
 
 pub overflow_add-exprs : goal.overflow_add-exprs
 overflow_add-exprs c = omega (arith, init_exprs _ _ _ _ _ c.requires)
 
 pub places-requires : goal.places-requires
-places-requires c = record { tags_len = c.requires.lists.long.tags_long; at_le_end = init-after _ _ _ _ _ c.requires; end_bound = init-end _ _ _ _ _ c.requires; tags_len_bound = init_few _ _ _ _ _ c.requires _ _ (refl, c.fits-words _) (refl, c.fits-words _) }
+places-requires c = record { tags_len = c.requires.lists.long.tags_long; at_le_end = init-after _ _ _ _ _ c.requires; end_bound = init-end _ _ _ _ _ c.requires; tags_len_bound = init_few _ _ _ _ _ c.requires _ _ refl refl }
 
 pub reach-requires : goal.reach-requires
-reach-requires c = init_reach _ _ _ _ _ c.requires _ _ (refl, c.fits-words _) (refl, c.fits-words _) (replicate 1024 0) (length-replicate {A = ℕ} 1024 0) _ _ _ c.roots-top.ensures _ c.places.ensures
+reach-requires c = init_reach _ _ _ _ _ c.requires _ _ refl refl (replicate 1024 0) (length-replicate {A = ℕ} 1024 0) _ _ _ c.roots-top.ensures _ c.places.ensures
 
 pub returns : goal.returns
-returns c = init_done _ _ _ _ _ c.requires _ _ (refl, c.fits-words _) (refl, c.fits-words _) (replicate 1024 0) (length-replicate {A = ℕ} 1024 0) _ _ _ c.roots-top.ensures _ c.places.ensures _ _ _ c.reach.ensures
+returns c = init_done _ _ _ _ _ c.requires _ _ refl refl (replicate 1024 0) (length-replicate {A = ℕ} 1024 0) _ _ _ c.roots-top.ensures _ c.places.ensures _ _ _ c.reach.ensures

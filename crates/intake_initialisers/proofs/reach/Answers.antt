@@ -19,11 +19,11 @@ offset_bounds-starts-x c = omega (arith, reach_start _ _ _ _ _ _ _ _ _ _ c.loop-
 pub bounds-starts-x : goal.bounds-starts-x
 bounds-starts-x c = omega (arith, reach_start _ _ _ _ _ _ _ _ _ _ c.loop-top.invariant c.requires c.loop-top-test.true _ refl)
 
-pub offset_bounds-words-at : goal.offset_bounds-words-at
-offset_bounds-words-at c = omega (arith, reach_at _ _ _ _ _ _ _ _ _ _ c.loop-top.invariant c.requires c.loop-top-test.true _ refl _ refl)
+pub offset_bounds-image-at : goal.offset_bounds-image-at
+offset_bounds-image-at c = omega (arith, reach_at _ _ _ _ _ _ _ _ _ _ c.loop-top.invariant c.requires c.loop-top-test.true _ refl _ refl)
 
-pub bounds-words-at : goal.bounds-words-at
-bounds-words-at c = reach_at _ _ _ _ _ _ _ _ _ _ c.loop-top.invariant c.requires c.loop-top-test.true _ refl _ refl
+pub bounds-image-at : goal.bounds-image-at
+bounds-image-at c = reach_at _ _ _ _ _ _ _ _ _ _ c.loop-top.invariant c.requires c.loop-top-test.true _ refl _ refl
 
 pub returns-then-not-constant : goal.returns-then-not-constant
 returns-then-not-constant c = reach_barred _ _ _ _ _ _ _ _ _ _ c.loop-top.invariant c.requires c.loop-top-test.true _ refl _ refl _ c.constant.ensures (ap not c.if-not-constant.true)

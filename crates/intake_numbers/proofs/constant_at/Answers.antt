@@ -2,8 +2,8 @@ use native.Mathlib.Omega.{arith}
 use Rattle.intake_numbers.proofs.Tabling.{kinds_inside}
 use Rattle.intake_numbers.proofs.constant_at.Goals as goal
 
-pub offset_bounds-words-record_at : goal.offset_bounds-words-record_at
-offset_bounds-words-record_at c = omega (arith, c.record_at.ensures, kinds_inside _ _ _ c.requires.tape _ c.requires.i_bound)
+pub offset_bounds-image-record_at : goal.offset_bounds-image-record_at
+offset_bounds-image-record_at c = omega (arith, c.record_at.ensures, kinds_inside _ _ _ c.requires.tape _ c.requires.i_bound)
 
-pub bounds-words-record_at : goal.bounds-words-record_at
-bounds-words-record_at c = omega (arith, c.record_at.ensures, kinds_inside _ _ _ c.requires.tape _ c.requires.i_bound)
+pub bounds-image-record_at : goal.bounds-image-record_at
+bounds-image-record_at c = omega (arith, c.record_at.ensures, kinds_inside _ _ _ c.requires.tape _ c.requires.i_bound)

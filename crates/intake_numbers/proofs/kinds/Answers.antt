@@ -13,6 +13,6 @@ use Rattle.intake_numbers.proofs.kinds.Goals as goal
 pub returns : goal.returns
 returns c = record {
   same = λ m tp.
-      all_from_yields_List (λ j. constant_kind (get_or c.args.words.now (record_at 5 j c.args.words.now) 0)) _ _ c.all.result c.all.ensures.ran (YieldsList-from_range 0 c.count.result c.count.result refl (omega arith)) (λ x v q k. search (rules, tests))
-      ∙ kinds_are c.args.words.now c.args.tags.now c.args.n tp c.count.result c.count.ensures.0;
+      all_from_yields_List (λ j. constant_kind (get_or c.args.image.words.now (record_at 5 j c.args.image.words.now) 0)) _ _ c.all.result c.all.ensures.ran (YieldsList-from_range 0 c.count.result c.count.result refl (omega arith)) (λ x v q k. search (rules, tests))
+      ∙ kinds_are c.args.image.words.now c.args.image.tags.now c.args.image.n tp c.count.result c.count.ensures.0;
 }

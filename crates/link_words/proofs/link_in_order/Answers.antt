@@ -7,7 +7,7 @@ use Rattle.link_words.proofs.ByOrder.{source_asks, append_asks, enter_asks, fini
 use Rattle.link_words.proofs.link_in_order.Goals as goal
 
 pub source_types-set-requires : goal.source_types-set-requires
-source_types-set-requires c = let a = c.args in let K = c.requires.linkable in let k = c.targets-targets in let e = c.empty in let z = source_asks a.words.now a.tags.now a.n a.order.now a.output.now K a.log.now a.logtags.now a.starts.now (replicate 16384 0) a.stacks.now c.requires.scratch_lengths (length-replicate {A = ℕ} 16384 0) k.result c.targets-targets.ensures e.result c.empty.ensures in record { source = z.0; full_value = z.1; targets_value = z.2; valid_arrays = z.3; specials = z.4 }
+source_types-set-requires c = let a = c.args in let K = c.requires.linkable in let k = c.targets-targets in let e = c.empty in let z = source_asks a.words.now a.tags.now a.n a.order.now a.output.now K a.log.now a.logtags.now a.starts.now (replicate 16384 0) a.stacks.now c.requires.scratch_lengths (length-replicate {A = ℕ} 16384 0) k.result c.targets-targets.ensures e.result c.empty.ensures in record { source = z.0; full_value = z.1; valid_arrays = z.3; specials = z.4 }
 
 pub append_all-appended-requires : goal.append_all-appended-requires
 append_all-appended-requires c = let a = c.args in let K = c.requires.linkable in let k = c.targets-targets in let e = c.empty in let s = c.source_types-set in let t = c.count in let z = append_asks a.words.now a.tags.now a.n a.order.now a.output.now K a.log.now a.logtags.now a.starts.now (replicate 16384 0) a.stacks.now c.requires.scratch_lengths (length-replicate {A = ℕ} 16384 0) k.result c.targets-targets.ensures e.result c.empty.ensures s.result c.source_types-set.new.log c.source_types-set.new.logtags c.source_types-set.new.starts c.source_types-set.new.maps c.source_types-set.new.buckets c.source_types-set.new.special c.source_types-set.ensures t.result c.count.ensures.0 in record { valid_session = z.0; stacks = z.1; sequence = z.2; roomy = z.3 }

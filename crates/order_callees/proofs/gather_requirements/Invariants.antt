@@ -3,4 +3,4 @@ use Rattle.order_callees.proofs.Whole.{Going}
 use Rattle.order_callees.proofs.gather_requirements.Given as goal
 
 abbrev pub invariant-loop-f : goal.invariant-loop-f
-invariant-loop-f l = Going l.words l.tags l.f l.callees
+invariant-loop-f l = Going l.image.words.now l.image.tags.now l.f l.callees

@@ -3,4 +3,4 @@ use Rattle.order_callees.proofs.Marking.{Scanning}
 use Rattle.order_callees.proofs.mark_callees.Given as goal
 
 abbrev pub invariant-loop-k : goal.invariant-loop-k
-invariant-loop-k l = Scanning l.words l.tags l.at l.end l.i l.initial.callees l.k l.callees
+invariant-loop-k l = Scanning l.image.words.now l.image.tags.now l.at l.end l.i l.initial.callees l.k l.callees

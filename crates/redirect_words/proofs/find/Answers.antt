@@ -2,11 +2,11 @@ use Rattle.redirect_words.proofs.Finding.{seek_at, seek_fits, seek_here, seek_on
 use borrow.Author.Rules.{rules}
 use Rattle.redirect_words.proofs.find.Goals as goal
 
-pub offset_bounds-words-at : goal.offset_bounds-words-at
-offset_bounds-words-at c = search (seek_fits, rules)
+pub offset_bounds-image-at : goal.offset_bounds-image-at
+offset_bounds-image-at c = search (seek_fits, rules)
 
-pub bounds-words-at : goal.bounds-words-at
-bounds-words-at c = search (seek_at, rules)
+pub bounds-image-at : goal.bounds-image-at
+bounds-image-at c = search (seek_at, rules)
 
 pub returns-then-is_named : goal.returns-then-is_named
 returns-then-is_named c = search (seek_here, rules)

@@ -7,4 +7,4 @@ pub returns_at-requires : goal.returns_at-requires
 returns_at-requires c = lists_in _ _ _ _ c.requires.tape c.requires.i_bound _ c.record_at-s.ensures
 
 pub returns : goal.returns
-returns c = (c.returns_at.ensures.0 ∙ ap (λ s. returns_at s c.args.words.now) c.record_at-s.ensures, c.returns_at.ensures.1)
+returns c = (c.returns_at.ensures.0 ∙ ap (λ s. returns_at s c.args.image.words.now) c.record_at-s.ensures, c.returns_at.ensures.1)

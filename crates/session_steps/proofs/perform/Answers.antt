@@ -1,3 +1,4 @@
+use Rattle.derive_state.specs.Refers.{target_bytes}
 use native.Mathlib.Omega.{arith}
 use Rattle.derive_session.specs.Valid.{session_of}
 use Rattle.session_steps.proofs.Saying.{clear-stepped, clear-live, span_stepped, required_stepped, stacks_low, by_number, by_first}
@@ -7,7 +8,7 @@ pub returns-then-step-eq-SET : goal.returns-then-step-eq-SET
 returns-then-step-eq-SET c = let a = c.args in record { perform_ensures = by_number a.step.a a.step.b a.step.c a.sources.now a.output.now (session_of a.set a.n a.offset a.words.now a.log.now a.logtags.now a.starts.now a.maps.now a.special.now a.ends) c.if-step-eq-SET.true (c.set_step.ensures.quiet.is a.output.now); valid_session_2 = c.set_step.ensures.valid_session; stacks_2 = stacks_low c.requires.stacks c.set_step.ensures.valid_session.lowest }
 
 pub returns-then-step-eq-CLEAR : goal.returns-then-step-eq-CLEAR
-returns-then-step-eq-CLEAR c = let a = c.args in record { perform_ensures = by_number a.step.a a.step.b a.step.c a.sources.now a.output.now (session_of a.set a.n a.offset a.words.now a.log.now a.logtags.now a.starts.now a.maps.now a.special.now a.ends) c.if-step-eq-CLEAR.true (clear-stepped a.set a.n a.offset a.words.now a.log.now a.logtags.now a.starts.now a.maps.now a.special.now a.ends a.step.a a.step.b a.step.c a.sources.now a.output.now); valid_session_2 = clear-live a.set a.n a.offset a.words.now a.log.now a.logtags.now a.starts.now a.maps.now a.special.now a.ends a.step.a a.step.b a.step.c a.sources.now a.output.now a.tags.now a.targets.now a.buckets.now c.requires.valid_session; stacks_2 = c.requires.stacks }
+returns-then-step-eq-CLEAR c = let a = c.args in record { perform_ensures = by_number a.step.a a.step.b a.step.c a.sources.now a.output.now (session_of a.set a.n a.offset a.words.now a.log.now a.logtags.now a.starts.now a.maps.now a.special.now a.ends) c.if-step-eq-CLEAR.true (clear-stepped a.set a.n a.offset a.words.now a.log.now a.logtags.now a.starts.now a.maps.now a.special.now a.ends a.step.a a.step.b a.step.c a.sources.now a.output.now); valid_session_2 = clear-live a.set a.n a.offset a.words.now a.log.now a.logtags.now a.starts.now a.maps.now a.special.now a.ends a.step.a a.step.b a.step.c a.sources.now a.output.now a.tags.now target_bytes a.buckets.now c.requires.valid_session; stacks_2 = c.requires.stacks }
 
 pub returns-then-step-eq-MAP_SPAN : goal.returns-then-step-eq-MAP_SPAN
 returns-then-step-eq-MAP_SPAN c = let a = c.args in record { perform_ensures = by_number a.step.a a.step.b a.step.c a.sources.now a.output.now (session_of a.set a.n a.offset a.words.now a.log.now a.logtags.now a.starts.now a.maps.now a.special.now a.ends) c.if-step-eq-MAP_SPAN.true (span_stepped a.set a.n a.offset a.words.now a.log.now a.logtags.now a.starts.now a.maps.now a.special.now a.ends a.step.a a.step.b a.step.c a.sources.now a.output.now _ _ _ c.map_span-got.ensures); valid_session_2 = c.requires.valid_session; stacks_2 = c.requires.stacks }

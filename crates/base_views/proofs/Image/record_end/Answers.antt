@@ -1,6 +1,6 @@
 use Rattle.base_views.proofs.Places.{offsets-inside}
 use borrow.Author.Rules.{rules}
-use Rattle.base_views.proofs.record_end.Goals as goal
+use Rattle.base_views.proofs.Image.record_end.Goals as goal
 
 pub end_of-requires : goal.end_of-requires
 end_of-requires c = search (offsets-inside, rules)

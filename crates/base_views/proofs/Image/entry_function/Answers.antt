@@ -1,6 +1,6 @@
 use Rattle.base_views.proofs.Places.{offset_inside}
 use borrow.Author.Rules.{rules}
-use Rattle.base_views.proofs.entry_function.Goals as goal
+use Rattle.base_views.proofs.Image.entry_function.Goals as goal
 
 pub start_of-requires : goal.start_of-requires
 start_of-requires c = search (offset_inside, rules)

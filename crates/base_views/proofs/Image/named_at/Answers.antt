@@ -1,7 +1,7 @@
 use Rattle.base_views.proofs.Places.{standing-inside, seek_begin, seek_inside, seek_next, seek_done}
 use Prim.Native.Nat.{◌-◌}
 use borrow.Author.Rules.{rules}
-use Rattle.base_views.proofs.named_at.Goals as goal
+use Rattle.base_views.proofs.Image.named_at.Goals as goal
 
 pub expressions_at-i-requires : goal.expressions_at-i-requires
 expressions_at-i-requires c = standing-inside c.requires
@@ -9,8 +9,8 @@ expressions_at-i-requires c = standing-inside c.requires
 pub loop-i-init : goal.loop-i-init
 loop-i-init c = seek_begin _ c.expressions_at-i.ensures.0
 
-pub bounds-tags-i : goal.bounds-tags-i
-bounds-tags-i c = seek_inside c.loop-i.invariant c.requires
+pub bounds-self-i : goal.bounds-self-i
+bounds-self-i c = seek_inside c.loop-i.invariant c.requires
 
 pub overflow_add-i-in-loop-i : goal.overflow_add-i-in-loop-i
 overflow_add-i-in-loop-i c = let h = seek_inside c.loop-i.invariant c.requires in search rules

@@ -1,5 +1,0 @@
-use Rattle.base_views.proofs.Places.{body_is}
-use Rattle.base_views.proofs.body_at.Goals as goal
-
-pub returns : goal.returns
-returns c = body_is c.named_at-at.ensures _ c.wide.ensures.0 c.requires
