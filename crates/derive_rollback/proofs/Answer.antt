@@ -1,8 +1,7 @@
 -- The number that the maps have is what an import answers.
 use mathlib.Core.Path.{◌≡◌, sym, ap, ◌∙◌}
 use mathlib.Core.List.{List}
-use Prim.Native.Nat.{ℕ, ◌-◌, ◌<◌, pred}
-use native.Mathlib.Omega.{arith}
+use Prim.Native.Nat.{ℕ, ◌<◌, pred}
 use Rattle.derive_state.specs.Refers.{tab_of}
 use Rattle.derive_state.specs.Held.{cell}
 use Rattle.derive_state.proofs.State.{code_tab}

@@ -16,7 +16,7 @@ use Rattle.model.specs.Tree.{flat_all}
 use Rattle.model.specs.Module.{Module, pair_row, count_at, offset_at, end_at, flat_special, flat_module, write}
 use Rattle.model.specs.Carry.{Lays, Each, each_none, each_next}
 use Rattle.model.specs.Numbers.{bound, caps, below as under, within, outside}
-use Rattle.model.specs.Tables.{types, at, tables, count}
+use Rattle.model.specs.Tables.{at, tables, count}
 use Rattle.theory_image.specs.Plain.{plain?, plain_start}
 use Rattle.theory_image.specs.Sections.{start_end}
 use Rattle.theory_image.specs.Quiet.{Plainly, plain-none, plain-next, plainly}

@@ -5,7 +5,6 @@ use Rattle.std.proofs.Math.Path.{refl, ap}
 use Rattle.std.proofs.Common.{◌∙◌}
 use Rattle.std.proofs.Math.Option.{some}
 use Rattle.model.specs.Refusals.{FULL}
-use Rattle.model.specs.Outcome.{laid}
 use Rattle.model.specs.Carry.{WellFormed}
 use Rattle.model.specs.Intake.{Passes}
 use Rattle.model.specs.Tables.{six, tables, Maps}

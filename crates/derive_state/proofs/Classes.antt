@@ -3,7 +3,6 @@ use Rattle.std.proofs.Common.{◌≡◌, ℕ, zero, suc, pred, ◌+◌, ◌-◌,
 use lib.ListN.{get_or-eq_default}
 use borrow.Author.Tests.{eqb-false}
 use Rattle.theory_lists.specs.Booleans.{and_split}
-use Rattle.model.specs.Outcome.{word}
 use Rattle.model.specs.Tables.{code_t}
 use Rattle.model.specs.References.{Place, table, own, function, Target, copied, start, upto, ref, opt, targets, target, ref_of, carry_w, through, undefined, add, undefined_at, moved, alike_c}
 use Rattle.derive_state.proofs.State.{code_low}

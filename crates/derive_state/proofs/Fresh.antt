@@ -1,14 +1,14 @@
 -- The start of a session, and a new source.
-use Rattle.std.proofs.Common.{◌≡◌, ℕ, zero, suc, ◌+◌, ◌<◌, ◌≤◌, true, false, List, [], ◌∷◌, length, get_or, take, replicate, sym, refl, ap, ◌∙◌, ap₂, arith}
+use Rattle.std.proofs.Common.{◌≡◌, ℕ, zero, suc, ◌+◌, ◌<◌, ◌≤◌, false, List, [], ◌∷◌, length, get_or, take, replicate, sym, refl, ap, ◌∙◌, ap₂, arith}
 use lib.ListN.{length-replicate}
 use Rattle.theory_lists.specs.Lists.{zeros}
 use Rattle.model.specs.Module.{count_at}
-use Rattle.model.specs.Tables.{Tab, names, types, constants, overrides, globals, exprs, code_t, at, six, Tables, count, Maps}
-use Rattle.model.specs.Imports.{Derived, fresh, unmapped, emptied}
+use Rattle.model.specs.Tables.{Tab, code_t, Tables, count, Maps}
+use Rattle.model.specs.Imports.{fresh, unmapped, emptied}
 use Rattle.theory_records.specs.TableLaws.{at-six}
 use Rattle.derive_state.specs.Flats.{pairs_at, special_of}
 use Rattle.derive_state.specs.Marks.{MARKS}
-use Rattle.derive_state.specs.Held.{row, cell, recs_at, table_of, recs_of, functions_of, entries_of, maps_of, st_of, size_r, sizes_of, ValidArrays}
+use Rattle.derive_state.specs.Held.{row, recs_at, table_of, recs_of, functions_of, entries_of, maps_of, st_of, size_r, sizes_of, ValidArrays}
 use Rattle.derive_state.specs.declared.Sizes.{Sizes}
 use Rattle.derive_state.proofs.State.{code_low, six_ext}
 

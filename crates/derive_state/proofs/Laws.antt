@@ -1,13 +1,13 @@
 -- What a good state gives to those who write it out: flat records read back are the functions and entry points that they came from, names' records have no names, and
 -- the words of special types are theirs.
-use Rattle.std.proofs.Common.{◌≡◌, ℕ, zero, suc, ◌+◌, ◌*◌, ◌<◌, ◌≤◌, eqb, List, [], ◌∷◌, ◌++◌, map, length, get_or, take, drop, sym, refl, ap, ◌∙◌, ap₂, ⊎_elim, append-nil, add-one, arith, ne_eqb}
+use Rattle.std.proofs.Common.{◌≡◌, ℕ, zero, suc, ◌+◌, ◌*◌, ◌<◌, ◌≤◌, List, [], ◌∷◌, map, length, get_or, take, sym, refl, ap, ◌∙◌, ⊎_elim, append-nil, arith, ne_eqb}
 use lib.Seq.{slice, slice-cons}
 use Rattle.model.specs.Outcome.{Cells, class, word}
 use Rattle.model.specs.Table.{NAME}
 use Rattle.model.specs.Tree.{Function, Entry, flat, flat_entry, flat_all}
 use Rattle.model.specs.Module.{flat_special}
 use Rattle.model.specs.Between.{between}
-use Rattle.model.specs.Carry.{Each, each_none, each_next, WellFunction, WellEntry}
+use Rattle.model.specs.Carry.{each_none, each_next, WellFunction, WellEntry}
 use Rattle.model.specs.Finish.{names_in}
 use Rattle.theory_image.specs.Writing.{write-function, write-entry}
 use Rattle.theory_image.specs.Betweens.{between_next, slice-none}

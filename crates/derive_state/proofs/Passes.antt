@@ -1,8 +1,8 @@
 -- The passes over words and tags: comparing, searching, writing.
-use Rattle.std.proofs.Common.{◌≡◌, ℕ, zero, suc, ◌+◌, ◌-◌, ◌^◌, ◌<◌, ◌≤◌, Bool, true, false, List, [], ◌∷◌, map, length, get_or, take, drop, set, sym, refl, ap, ◌∙◌, ap₂, add-zero, zero-add, add-one, arith, length-set, drop_of_length-le, length-take-le, drop-cons, get_or-take}
+use Rattle.std.proofs.Common.{◌≡◌, ℕ, zero, suc, ◌+◌, ◌-◌, ◌^◌, ◌<◌, ◌≤◌, Bool, true, false, List, [], ◌∷◌, map, length, get_or, take, drop, set, sym, refl, ap, ◌∙◌, add-zero, zero-add, add-one, arith, length-set, drop_of_length-le, length-take-le, drop-cons, get_or-take}
 use lib.ListN.{length-map}
 use lib.Seq.{slice, sets, length-slice}
-use Rattle.model.specs.Outcome.{Cells, Cell, class, word}
+use Rattle.model.specs.Outcome.{Cells, class, word}
 use Rattle.model.specs.Between.{beside, between, Stretch}
 use Rattle.model.specs.Carry.{carry_cell}
 use Rattle.model.specs.References.{Place, Target, copied, start, upto, ref, opt, target, Node, ref_of, refs, through, first_word, undefined_at, moved, shift, alike_c, alike, index_of}

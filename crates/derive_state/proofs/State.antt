@@ -1,5 +1,5 @@
 -- The arrays as the model's state: one map more, one record more, and what interning a record does.
-use Rattle.std.proofs.Common.{◌≡◌, ℕ, zero, suc, pred, ◌+◌, ◌-◌, ◌*◌, ◌%◌, ◌<◌, ◌≤◌, Bool, true, false, cond, eqb, ◌⊎◌, List, [], ◌∷◌, ◌++◌, map, length, get_or, take, drop, set, sym, refl, ap, ◌∙◌, subst, ap₂, inl, inr, ⊎_elim, le_refl, not-suc-le-zero, add-one, arith, length-append, length-set, length-take-le, get_or-set_other, get_or-take, get_or-set_same, take-suc-set, take_at, drop_at, eqb-true}
+use Rattle.std.proofs.Common.{◌≡◌, ℕ, zero, suc, ◌+◌, ◌-◌, ◌*◌, ◌<◌, ◌≤◌, Bool, true, false, eqb, ◌⊎◌, List, [], ◌∷◌, ◌++◌, map, length, get_or, take, drop, set, sym, refl, ap, ◌∙◌, subst, ap₂, inl, inr, ⊎_elim, le_refl, not-suc-le-zero, add-one, arith, length-append, length-set, length-take-le, get_or-set_other, get_or-take, get_or-set_same, take-suc-set, take_at, drop_at, eqb-true}
 use mathlib.Core.Bool.{false≢true}
 use lib.ListN.{length-map, get_or-append}
 use lib.Seq.{slice, sets, sets-eq, length-sets, take-set-le, take-set-lt, get_or-append_seam}
@@ -11,10 +11,10 @@ use Rattle.model.specs.Module.{Special, count_at}
 use Rattle.model.specs.Between.{beside, between, Stretch}
 use Rattle.model.specs.Carry.{carry_cell, carry_cells}
 use Rattle.model.specs.Tables.{Tab, names, types, constants, overrides, globals, exprs, Six, code_t, is_t, at, upd, six, Tables, count, Maps}
-use Rattle.model.specs.References.{Place, table, target, targets, through, carry_w, first_word, undefined_at, moved, shift, alike, index_of, interned}
+use Rattle.model.specs.References.{target, targets, through, carry_w, first_word, undefined_at, moved, shift, alike, index_of, interned}
 use Rattle.model.specs.Tree.{Function, flat, flat_entry}
 use Rattle.model.specs.Table.{NAME}
-use Rattle.model.specs.Carry.{Each, each_none, each_next}
+use Rattle.model.specs.Carry.{each_none, each_next}
 use Rattle.model.specs.Imports.{Derived, intern}
 use Rattle.theory_records.specs.RecordLaws.{bare, alike_is, alike_self, bare-shift, length_shift, length-carry}
 use Rattle.theory_records.specs.TableLaws.{Tab_dec, at_same, at_other, upd-at, at-six}

@@ -2,7 +2,7 @@
 -- The log holds the records of all tables, each a count and that many words, with the class of each word in `logtags`. Rows 0 to 5 of `starts` say where the
 -- records of the six tables start, row 6 where functions do and row 7 where entry points do, which are flat records. A row of `maps` says of each number of
 -- the source 0, or its derived number plus 1.
-use Rattle.std.specs.Prelude.{◌≡◌, ℕ, zero, suc, ◌+◌, ◌*◌, ◌<◌, ◌≤◌, Bool, true, false, List, [], ◌∷◌, map, length, get_or, take, ◌≢◌, slice_index, slice_index_or, slice_set}
+use Rattle.std.specs.Prelude.{◌≡◌, ℕ, zero, suc, ◌+◌, ◌*◌, ◌<◌, ◌≤◌, true, false, List, [], ◌∷◌, map, length, get_or, take, ◌≢◌, slice_index, slice_index_or, slice_set}
 use Rattle.std.proofs.lemmas.List.Edits.{sets}
 use Rattle.model.specs.Outcome.{Cells, class, word}
 use Rattle.model.specs.Table.{NAME}

@@ -1,6 +1,5 @@
 -- What a word refers to, as the code has it: the code of a table, and what the numbers of the source are mapped to by rows of words.
-use Rattle.std.specs.Prelude.{ℕ, zero, suc, ◌+◌, ◌<◌, Bool, true, false, cond, List, [], ◌∷◌, slice_index, slice_index_or}
-use Rattle.model.specs.Outcome.{Cells}
+use Rattle.std.specs.Prelude.{ℕ, zero, suc, ◌+◌, ◌<◌, List, [], ◌∷◌, slice_index, slice_index_or}
 use Rattle.model.specs.Tables.{Tab, names, types, constants, overrides, globals, exprs, code_t}
 use Rattle.model.specs.References.{Place, table, own, function, Target, copied, start, upto, ref, opt, target, Node}
 

@@ -11,7 +11,7 @@ ghost use Rattle.model.specs.Names.{absent as absentOf, distinct as distinctOf, 
 ghost use Rattle.intake_distinct.specs.Listed.{listing, place_of, number_at, Placed, name_at, Spelled};
 ghost use Rattle.intake_distinct.specs.Places.{mix as mixOf, hash as hashOf, itself, print as printOf, Leaves, Seen, New};
 
-use base_views::{NAMES, SPECIAL, end_of, pair_at, start_of, count};
+use base_views::{NAMES, SPECIAL, count, end_of, pair_at, start_of};
 use base_words::Words;
 
 // Where record j of section k starts, or pair j of the special types.

@@ -7,8 +7,8 @@ pub mod section;
 ghost use Rattle.std.specs.Prelude.{◌≤◌, length, take};
 ghost use Rattle.intake_layout.specs.Layout.{LayOutEnsures, Laying};
 
-use base_views::HEADER;
 use base_refusals::Refusal;
+use base_views::HEADER;
 use base_words::{Tags, Words, word_at};
 
 // Lays out the first `total` words.

@@ -12,7 +12,7 @@ ghost use Rattle.intake_distinct.specs.Listed.{listing, number_at, Placed};
 ghost use Rattle.intake_names.specs.Passes.{unnamed as unnamedOf, NONE, marking, Small};
 
 use base_classes::{NAME, NAMED, NAMED_EXPR};
-use base_views::{ENTRIES, FUNCTIONS, Image, SPECIAL, offset, count};
+use base_views::{ENTRIES, FUNCTIONS, Image, SPECIAL, count, offset};
 use base_words::Words;
 use intake_distinct::{differ, distinct, number};
 

@@ -81,8 +81,9 @@ pub fn link_in_order(
     let mut special = [0u32; 1027];
     // buckets left by another image would only cost time; the answer does not depend on them
     *buckets = [0; 16384];
+    let image = Image { words, tags, n };
     let set = source_types(
-        Image { words, tags, n },
+        image,
         log,
         logtags,
         starts,
@@ -93,7 +94,7 @@ pub fn link_in_order(
         0,
     );
     let appended = append_all(
-        Image { words, tags, n },
+        image,
         log,
         logtags,
         starts,
@@ -103,19 +104,10 @@ pub fn link_in_order(
         stacks,
         set,
         order,
-        count(words, FUNCTIONS),
+        count(image.words, FUNCTIONS),
     );
     let ends = enter_all(
-        Image { words, tags, n },
-        log,
-        logtags,
-        starts,
-        maps,
-        buckets,
-        &special,
-        stacks,
-        appended,
-        0,
+        image, log, logtags, starts, maps, buckets, &special, stacks, appended, 0,
     );
     match derive_finish::finish(log, logtags, starts, &special, ends, words, output) {
         Ok(bytes) => pack(0, bytes as u32),

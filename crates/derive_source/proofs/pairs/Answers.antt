@@ -1,6 +1,4 @@
-use mathlib.Core.Path.{refl}
 use native.Mathlib.Omega.{arith}
-use Prim.Native.Nat.{◌-◌}
 use Rattle.derive_source.proofs.Loops.{pairs_first, pairs_done, pairs_low, pairs_in_lem, pairs_full, pairs_next}
 use Rattle.derive_source.proofs.pairs.Goals as goal
 

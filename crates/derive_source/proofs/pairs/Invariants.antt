@@ -1,4 +1,3 @@
-use Prim.Native.Nat.{◌-◌}
 use Rattle.derive_source.proofs.Loops.{Pairing}
 use Rattle.derive_source.proofs.pairs.Given as goal
 

@@ -1,6 +1,4 @@
-use mathlib.Core.Path.{refl}
 use native.Mathlib.Omega.{arith}
-use Prim.Native.Nat.{◌-◌}
 use Rattle.derive_source.proofs.Loops.{rays-first, rays_done, rays_low, rays_in, rays_full, rays-next}
 use Rattle.derive_source.proofs.rays.Goals as goal
 

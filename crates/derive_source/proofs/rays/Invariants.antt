@@ -1,4 +1,3 @@
-use Prim.Native.Nat.{◌-◌}
 use Rattle.derive_source.proofs.Loops.{Raying}
 use Rattle.derive_source.proofs.rays.Given as goal
 

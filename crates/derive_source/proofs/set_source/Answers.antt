@@ -1,4 +1,3 @@
-use mathlib.Core.Path.{refl}
 use Rattle.derive_state.proofs.Fresh.{kept_forgotten}
 use Rattle.derive_source.proofs.Setting.{set_of}
 use Rattle.derive_source.proofs.set_source.Goals as goal

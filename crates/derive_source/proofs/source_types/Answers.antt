@@ -1,4 +1,3 @@
-use mathlib.Core.Path.{refl}
 use lib.ListN.{replicate}
 use Rattle.derive_source.proofs.Setting.{forget_kept, set_rays_full, set-pairs}
 use Rattle.derive_source.proofs.source_types.Goals as goal

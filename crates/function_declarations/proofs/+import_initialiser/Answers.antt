@@ -1,8 +1,6 @@
 -- `import_initialiser` meets its contract: the cycle of calls {import_initialiser}. Expression e is mapped; or its words are passed one at a turn, a record of a table imported and an operand, whose number is lower, taken by `import_initialiser` itself; and then it is merged. The measure is the expression's number.
 use mathlib.Core.Path.{refl, ◌∙◌}
-use Prim.Native.Nat.{◌-◌}
 use native.Mathlib.Omega.{arith}
-use borrow.Fn.PlainCycle.{is, and}
 use Rattle.derive_lookup.proofs.Bears.{bearing}
 use Rattle.function_expressions.proofs.Needs.{cells_legible, unique_idle}
 use Rattle.function_expressions.proofs.Alongs.{along-begin, along-kept, along_under, along_in, along_number, along_record, along-lower, along_own, along-none, along-next, unique_full, unique_done}

@@ -1,6 +1,4 @@
 -- `import_initialiser` meets its contract: the cycle of calls {import_initialiser}. Expression e is mapped; or its words are passed one at a turn, a record of a table imported and an operand, whose number is lower, taken by `import_initialiser` itself; and then it is merged. The measure is the expression's number.
-use Prim.Native.Nat.{◌-◌}
-use borrow.Fn.PlainCycle.{is, and}
 use Rattle.model.specs.Bodies.{import_initialiser as initialiserE}
 use Rattle.theory_passes.specs.Light.{still}
 use Rattle.derive_state.specs.Source.{mod_of}

@@ -1,5 +1,5 @@
 -- `declare` meets its contract: at each turn the words that import nothing are written, then one word has what it refers to, and is written.
-use Prim.Native.Nat.{◌-◌, ◌<◌}
+use Prim.Native.Nat.{◌<◌}
 use native.Mathlib.Omega.{arith}
 use Rattle.derive_lookup.proofs.Bears.{bearing}
 use Rattle.function_words.proofs.Running.{made_small}

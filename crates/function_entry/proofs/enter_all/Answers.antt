@@ -1,7 +1,7 @@
 use Rattle.derive_state.specs.Refers.{target_bytes}
 -- The loop over the entry points: those before i are entered, or the arrays are full.
 use native.Mathlib.Omega.{arith}
-use Prim.Native.Nat.{◌-◌, ◌<◌}
+use Prim.Native.Nat.{◌<◌}
 use Rattle.model.specs.Module.{count_at}
 use Rattle.function_entry.proofs.Sources as Sources
 use Rattle.function_entry.proofs.Entering.{turn-first, turn_done, nested-entry, turn_full, turn-next}

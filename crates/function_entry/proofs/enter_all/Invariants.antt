@@ -1,5 +1,4 @@
 -- The loop over the entry points: those before i are entered, or the arrays are full.
-use Prim.Native.Nat.{◌-◌}
 use Rattle.function_entry.proofs.Entering.{Turn}
 use Rattle.function_entry.proofs.enter_all.Given as goal
 

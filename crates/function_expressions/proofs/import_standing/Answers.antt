@@ -1,6 +1,5 @@
 -- `import_standing` meets its contract: expression e is mapped; or its words are passed one at a turn, a record of a table that is not mapped is imported, and so is a standing operand that is not mapped.
 use mathlib.Core.Path.{refl, ◌∙◌}
-use Prim.Native.Nat.{◌-◌}
 use native.Mathlib.Omega.{arith}
 use Rattle.derive_imports.proofs.Sources.{small_number}
 use Rattle.function_outside.proofs.Records.{lands_mapped}

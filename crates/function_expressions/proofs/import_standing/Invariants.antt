@@ -1,5 +1,4 @@
 -- `import_standing` meets its contract: expression e is mapped; or its words are passed one at a turn, a record of a table that is not mapped is imported, and so is a standing operand that is not mapped.
-use Prim.Native.Nat.{◌-◌}
 use Rattle.theory_bodies.specs.Shallow.{peek}
 use Rattle.theory_passes.specs.Light.{still}
 use Rattle.derive_state.specs.Source.{mod_of}

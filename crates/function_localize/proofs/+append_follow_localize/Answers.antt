@@ -1,7 +1,6 @@
 -- The cycle of calls: localize follows a callee with the same room, follow appends it with less, append localizes with the same.
 use mathlib.Core.Path.{refl, sym, ap, ◌∙◌}
 use mathlib.Core.Bool.{false≢true}
-use Prim.Native.Nat.{◌+◌, ◌-◌}
 use native.Mathlib.Omega.{arith}
 use Rattle.derive_lookup.proofs.Bears.{bearing}
 use Rattle.derive_imports.proofs.Sources.{tape}
@@ -102,8 +101,8 @@ localize-bounds-image-j t c = let a = c.args in let g = c.loop-i.invariant.on re
 pub localize-offset_bounds-image-j : goal.localize-offset_bounds-image-j
 localize-offset_bounds-image-j t c = let a = c.args in let g = c.loop-i.invariant.on refl c.requires.valid_arrays (going_start c.requires.part c.index_parts-at.ensures c.requires.valid_arrays a.room c.no_expressions.ensures c.declare-e.ensures c.if-e.false) in let l = c.loop-i in let k = going_run c.requires.ground.source c.requires.part a.offset a.room _ (expressions c.requires.part g.read) _ _ c.requires.valid_arrays a.stacks.now l.log l.logtags l.starts l.maps l.buckets l.exprmap l.e g c.copy_mapped_run-r.ensures c.advance-e.ensures in let h = word_in c.requires.part c.requires.valid_arrays k c.if-i-end.true in place_4 h
 
-pub localize-bounds-image-j-in-loop-j : goal.localize-bounds-image-j-in-loop-j
-localize-bounds-image-j-in-loop-j t c = let a = c.args in let g = c.loop-i.invariant.on refl c.requires.valid_arrays (going_start c.requires.part c.index_parts-at.ensures c.requires.valid_arrays a.room c.no_expressions.ensures c.declare-e.ensures c.if-e.false) in let l = c.loop-i in let k = going_run c.requires.ground.source c.requires.part a.offset a.room _ (expressions c.requires.part g.read) _ _ c.requires.valid_arrays a.stacks.now l.log l.logtags l.starts l.maps l.buckets l.exprmap l.e g c.copy_mapped_run-r.ensures c.advance-e.ensures in let h = word_in c.requires.part c.requires.valid_arrays k c.if-i-end.true in h
+pub localize-bounds-image-j-then-image-j-eq-CALLEE : goal.localize-bounds-image-j-then-image-j-eq-CALLEE
+localize-bounds-image-j-then-image-j-eq-CALLEE t c = let a = c.args in let g = c.loop-i.invariant.on refl c.requires.valid_arrays (going_start c.requires.part c.index_parts-at.ensures c.requires.valid_arrays a.room c.no_expressions.ensures c.declare-e.ensures c.if-e.false) in let l = c.loop-i in let k = going_run c.requires.ground.source c.requires.part a.offset a.room _ (expressions c.requires.part g.read) _ _ c.requires.valid_arrays a.stacks.now l.log l.logtags l.starts l.maps l.buckets l.exprmap l.e g c.copy_mapped_run-r.ensures c.advance-e.ensures in let h = word_in c.requires.part c.requires.valid_arrays k c.if-i-end.true in h
 
 pub localize-overflow_add-exprs : goal.localize-overflow_add-exprs
 localize-overflow_add-exprs t c = place-next (exprs_low c.requires.part c.index_parts-at.ensures)

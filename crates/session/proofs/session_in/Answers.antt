@@ -1,3 +1,5 @@
+use mathlib.Core.Path.{refl}
+use Rattle.derive_state.specs.Refers.{target_bytes}
 use Prim.Native.Nat.{◌*◌, ◌/◌}
 use lib.ListN.{length}
 use native.Mathlib.Omega.{arith}
@@ -5,7 +7,7 @@ use Rattle.session.proofs.Going.{going_first, going_next, going_last, told_so}
 use Rattle.session.proofs.session_in.Goals as goal
 
 pub loop-j-init : goal.loop-j-init
-loop-j-init c = let a = c.args in going_first a.words.now a.tags.now a.log.now a.logtags.now a.starts.now a.stacks.now c.targets-targets.result c.requires.words_len.0 c.requires.words_len.1 c.requires.scratch_lengths c.targets-targets.ensures a.sources.now a.steps.now a.answers.now a.output.now (length a.steps.now / 4) _ c.clear_maps.ensures _ c.empty-ends.ensures (omega arith) (omega arith)
+loop-j-init c = let a = c.args in going_first a.words.now a.tags.now a.log.now a.logtags.now a.starts.now a.stacks.now target_bytes c.requires.words_len.0 c.requires.words_len.1 c.requires.scratch_lengths refl a.sources.now a.steps.now a.answers.now a.output.now (length a.steps.now / 4) _ c.clear_maps.ensures _ c.empty-ends.ensures (omega arith) (omega arith)
 
 pub perform-said-requires : goal.perform-said-requires
 perform-said-requires c = let g = c.loop-j.invariant in record { valid_session = g.live; stacks = g.stacks_are }

@@ -1,5 +1,4 @@
 use Rattle.base_views.proofs.Places.{standing-inside, seek_begin, seek_inside, seek_next, seek_done}
-use Prim.Native.Nat.{◌-◌}
 use borrow.Author.Rules.{rules}
 use Rattle.base_views.proofs.Image.named_at.Goals as goal
 
