@@ -13,7 +13,7 @@ use base_refusals::Refusal;
 use base_views::{ENTRIES, FUNCTIONS, HEADER};
 use base_words::store;
 use derive_sections::{all_sizes, appearing, write_heads, write_tables};
-use derive_state::{Log, LogTags, Special, Starts};
+use derive_state::{Derived, Log, LogTags, Special, Starts};
 
 // How many functions and entry points an image may have.
 const MOST_FUNCTIONS: usize = 256;
@@ -46,41 +46,35 @@ fn choose(row: &[u32; 512], order: &[u32; 512], n: usize) -> [u32; 512]
 
 // Writes the image as words, and answers how many they are; or none, and nothing is written, where they are too many.
 pub fn finish_words(
-    log: &Log,
-    logtags: &LogTags,
-    starts: &Starts,
+    derived: &Derived,
     counts: [usize; 8],
     special: &Special,
     pairs: usize,
     out: &mut [u32; 16384],
 ) -> Option<usize>
-    requires valid_tables { ValidTables log.now logtags.now starts.now counts }
+    requires valid_tables { ValidTables derived.now.log.now derived.now.logtags.now derived.now.starts.now counts }
     requires pairs_bound { (pairs ≤ 512) × (length special.now ≡ 1027) × (length out.old ≡ 16384) }
-    ensures { Finishes (tabs_of log.now logtags.now starts.now counts) pairs (take (3 + 2 * pairs) special.now) out.old result out.new }
+    ensures { Finishes (tabs_of derived.now.log.now derived.now.logtags.now derived.now.starts.now counts) pairs (take (3 + 2 * pairs) special.now) out.old result out.new }
 {
     let mut order = [0u32; 512];
     let mut places = [0u32; 512];
-    let n = appearing(
-        log,
-        logtags,
-        starts,
-        counts,
-        &mut order,
-        &mut places,
-        counts[0],
-    );
-    let mut s = *starts;
-    s[0] = choose(&starts[0], &order, n);
+    let n = appearing(derived, counts, &mut order, &mut places, counts[0]);
+    let mut s = *derived.starts;
+    s[0] = choose(&derived.starts[0], &order, n);
+    let chosen = Derived {
+        starts: &s,
+        ..*derived
+    };
     let mut c = counts;
     c[0] = n;
-    let k = HEADER + all_sizes(log, logtags, &s, c) + 3 + 2 * pairs;
+    let k = HEADER + all_sizes(&chosen, c) + 3 + 2 * pairs;
     if MOST_WORDS < k {
         return None;
     }
     out[0] = 1;
     out[1] = k as u32;
-    write_heads(log, logtags, &s, c, pairs as u32, out);
-    let at = write_tables(log, logtags, &places, &s, c, out, HEADER);
+    write_heads(&chosen, c, pairs as u32, out);
+    let at = write_tables(&chosen, &places, c, out, HEADER);
     copy(special, 3 + 2 * pairs, out, at);
     Some(k)
 }
@@ -88,23 +82,21 @@ pub fn finish_words(
 // Writes the image as bytes, and answers how many they are; refused, the output is as it was. Its words are put together in `out`,
 // which may hold anything before and holds anything after.
 pub fn finish(
-    log: &Log,
-    logtags: &LogTags,
-    starts: &Starts,
+    derived: &Derived,
     counts: [usize; 8],
     special: &Special,
     pairs: usize,
     out: &mut [u32; 16384],
     output: &mut [u8],
 ) -> Result<usize, Refusal>
-    requires valid_tables { ValidTables log.now logtags.now starts.now counts }
+    requires valid_tables { ValidTables derived.now.log.now derived.now.logtags.now derived.now.starts.now counts }
     requires pairs_bound { (pairs ≤ 512) × (length special.now ≡ 1027) × (length out.old ≡ 16384) }
-    ensures { Stored (tabs_of log.now logtags.now starts.now counts) pairs (take (3 + 2 * pairs) special.now) output.old result output.new }
+    ensures { Stored (tabs_of derived.now.log.now derived.now.logtags.now derived.now.starts.now counts) pairs (take (3 + 2 * pairs) special.now) output.old result output.new }
 {
     if MOST_FUNCTIONS < counts[FUNCTIONS] || MOST_ENTRIES < counts[ENTRIES] {
         return Err(Refusal::Full);
     }
-    let k = finish_words(log, logtags, starts, counts, special, pairs, out).ok_or(Refusal::Full)?;
+    let k = finish_words(derived, counts, special, pairs, out).ok_or(Refusal::Full)?;
     if output.len() < 4 * k {
         return Err(Refusal::ShortOutput);
     }

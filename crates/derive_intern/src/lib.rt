@@ -13,60 +13,42 @@ ghost use Rattle.derive_state.specs.Held.{row, cell, rec_at, recs_at, ValidArray
 
 use base_views::Image;
 use derive_state::{
-    Buckets, Log, LogTags, Maps, Sizes, Starts, alike, alike_cell, bucket_of, carried, mark_full,
-    with_record, words_left, write,
+    Buckets, Derived, Log, LogTags, Maps, Sizes, Starts, alike, alike_cell, bucket_of, carried,
+    mark_full, with_record, words_left, write,
 };
 
 // Whether the record at s is what the source's words from `at` to `end` become, ignoring spans: the same as `alike`, but the last word is compared first, since
 // records that are not equal mostly differ there.
-fn equals_record(
-    image: Image,
-    log: &Log,
-    logtags: &LogTags,
-    maps: &Maps,
-    at: usize,
-    end: usize,
-    s: usize,
-) -> bool
+fn equals_record(image: Image, derived: &Derived, at: usize, end: usize, s: usize) -> bool
     requires readable { Readable image.words.now image.tags.now target_bytes at end }
-    requires s_bound { (s + suc (get_or log.now s 0) ≤ 16384) × (length log.now ≡ 16384) × (length logtags.now ≡ 16384) × (length maps.now ≡ 6) }
-    ensures { result ≡ alikeOf (rec_at log.now logtags.now s) (carried_by (went_r maps.now) image.entry.tags.now image.entry.words.now at end) }
+    requires s_bound { (s + suc (get_or derived.now.log.now s 0) ≤ 16384) × (length derived.now.log.now ≡ 16384) × (length derived.now.logtags.now ≡ 16384) × (length derived.now.maps.now ≡ 6) }
+    ensures { result ≡ alikeOf (rec_at derived.now.log.now derived.now.logtags.now s) (carried_by (went_r derived.now.maps.now) image.entry.tags.now image.entry.words.now at end) }
 {
     let n = end - at;
     if n == 0 {
-        return alike(image, log, logtags, maps, at, end, s);
+        return alike(image, derived, at, end, s);
     }
-    if log[s] as usize != n {
+    if derived.log[s] as usize != n {
         return false;
     }
     let b = image.tags[end - 1];
-    let y = carried(maps, b, image.words[end - 1]);
-    if !alike_cell(logtags[s + n], log[s + n], b, y) {
+    let y = carried(derived.maps, b, image.words[end - 1]);
+    if !alike_cell(derived.logtags[s + n], derived.log[s + n], b, y) {
         return false;
     }
-    alike(image, log, logtags, maps, at, end, s)
+    alike(image, derived, at, end, s)
 }
 
 // The first of table t's n records that is, ignoring spans, what the source's words become.
-fn find(
-    image: Image,
-    log: &Log,
-    logtags: &LogTags,
-    starts: &Starts,
-    maps: &Maps,
-    at: usize,
-    end: usize,
-    t: usize,
-    n: usize,
-) -> Option<usize>
+fn find(image: Image, derived: &Derived, at: usize, end: usize, t: usize, n: usize) -> Option<usize>
     requires readable { Readable image.words.now image.tags.now target_bytes at end }
-    requires t_bound { (t < 8) × (n ≤ 512) × (length log.now ≡ 16384) × (length logtags.now ≡ 16384) × (length maps.now ≡ 6) × (length (row starts.now t) ≡ 512) }
-    requires by_index { (k : ℕ) → k < n → cell starts.now t k + suc (get_or log.now (cell starts.now t k) 0) ≤ 16384 }
-    ensures { MatchOption result (n ≡ index_of (recs_at log.now logtags.now (take n (row starts.now t))) (carried_by (went_r maps.now) image.entry.tags.now image.entry.words.now at end)) (λ j. (j < n) × (j ≡ index_of (recs_at log.now logtags.now (take n (row starts.now t))) (carried_by (went_r maps.now) image.entry.tags.now image.entry.words.now at end))) }
+    requires t_bound { (t < 8) × (n ≤ 512) × (length derived.now.log.now ≡ 16384) × (length derived.now.logtags.now ≡ 16384) × (length derived.now.maps.now ≡ 6) × (length (row derived.now.starts.now t) ≡ 512) }
+    requires by_index { (k : ℕ) → k < n → cell derived.now.starts.now t k + suc (get_or derived.now.log.now (cell derived.now.starts.now t k) 0) ≤ 16384 }
+    ensures { MatchOption result (n ≡ index_of (recs_at derived.now.log.now derived.now.logtags.now (take n (row derived.now.starts.now t))) (carried_by (went_r derived.now.maps.now) image.entry.tags.now image.entry.words.now at end)) (λ j. (j < n) × (j ≡ index_of (recs_at derived.now.log.now derived.now.logtags.now (take n (row derived.now.starts.now t))) (carried_by (went_r derived.now.maps.now) image.entry.tags.now image.entry.words.now at end))) }
 {
     for j in 0..n {
-        let s = starts[t][j] as usize;
-        if equals_record(image, log, logtags, maps, at, end, s) {
+        let s = derived.starts[t][j] as usize;
+        if equals_record(image, derived, at, end, s) {
             return Some(j);
         }
     }
@@ -88,36 +70,31 @@ fn set_bucket(buckets: &mut Buckets, p: usize, k: usize)
 // The same as `find`, by bucket p.
 fn find_by_bucket(
     image: Image,
-    log: &Log,
-    logtags: &LogTags,
-    starts: &Starts,
-    maps: &Maps,
-    buckets: &Buckets,
-    ends: Sizes,
+    derived: &Derived,
     at: usize,
     end: usize,
     t: usize,
     p: usize,
 ) -> Option<usize>
     requires readable { Readable image.words.now image.tags.now target_bytes at end }
-    requires t_bound { (t < 6) × (p ≡ place_r t (carried_by (went_r maps.now) image.tags.now image.words.now at end)) × (p < MARKS) }
-    requires valid_arrays { ValidArrays log.now logtags.now starts.now maps.now buckets.now ends }
-    ensures { MatchOption result (get_or ends.counts t 0 ≡ index_of (recs_at log.now logtags.now (take (get_or ends.counts t 0) (row starts.now t))) (carried_by (went_r maps.now) image.entry.tags.now image.entry.words.now at end)) (λ j. (j < get_or ends.counts t 0) × (j ≡ index_of (recs_at log.now logtags.now (take (get_or ends.counts t 0) (row starts.now t))) (carried_by (went_r maps.now) image.entry.tags.now image.entry.words.now at end))) }
+    requires t_bound { (t < 6) × (p ≡ place_r t (carried_by (went_r derived.now.maps.now) image.tags.now image.words.now at end)) × (p < MARKS) }
+    requires valid_arrays { ValidArrays derived.now.log.now derived.now.logtags.now derived.now.starts.now derived.now.maps.now derived.now.buckets.now derived.now.sizes }
+    ensures { MatchOption result (get_or derived.now.sizes.counts t 0 ≡ index_of (recs_at derived.now.log.now derived.now.logtags.now (take (get_or derived.now.sizes.counts t 0) (row derived.now.starts.now t))) (carried_by (went_r derived.now.maps.now) image.entry.tags.now image.entry.words.now at end)) (λ j. (j < get_or derived.now.sizes.counts t 0) × (j ≡ index_of (recs_at derived.now.log.now derived.now.logtags.now (take (get_or derived.now.sizes.counts t 0) (row derived.now.starts.now t))) (carried_by (went_r derived.now.maps.now) image.entry.tags.now image.entry.words.now at end))) }
 {
-    let n = ends.counts[t] as usize;
-    let v = buckets[p] as usize;
+    let n = derived.sizes.counts[t] as usize;
+    let v = derived.buckets[p] as usize;
     if v == 0 {
         return None;
     }
     if v == 65535 {
-        return find(image, log, logtags, starts, maps, at, end, t, n);
+        return find(image, derived, at, end, t, n);
     }
     let j = v - 1;
     if n <= j {
         return None;
     }
-    let s = starts[t][j] as usize;
-    if alike(image, log, logtags, maps, at, end, s) {
+    let s = derived.starts[t][j] as usize;
+    if alike(image, derived, at, end, s) {
         return Some(j);
     }
     None
@@ -148,7 +125,19 @@ pub fn intern(
     let loglen = ends.loglen as usize;
     let p = bucket_of(image, maps, at, end, t);
     let found = find_by_bucket(
-        image, log, logtags, starts, maps, buckets, ends, at, end, t, p,
+        image,
+        &Derived {
+            log,
+            logtags,
+            starts,
+            maps,
+            buckets,
+            sizes: ends,
+        },
+        at,
+        end,
+        t,
+        p,
     );
     if let Some(j) = found {
         maps[t][k] = (j + 1) as u32;

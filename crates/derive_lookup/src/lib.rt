@@ -16,7 +16,7 @@ ghost use Rattle.derive_state.specs.Held.{rec_at, recs_at, Readable};
 ghost use Rattle.derive_lookup.specs.Bearing.{Names, Went, Heads, Bearing, KnownEnsures};
 
 use base_views::{FUNCTIONS, Image, NAMES};
-use derive_state::{Log, LogTags, Maps, Sizes, Starts, alike_cell};
+use derive_state::{Derived, Log, LogTags, Maps, Sizes, Starts, alike_cell};
 
 // Whether the record at s equals the source's words from `at` to `end`.
 fn equals_name(image: Image, log: &Log, logtags: &LogTags, at: usize, end: usize, s: usize) -> bool
@@ -113,28 +113,35 @@ fn last(log: &Log, logtags: &LogTags, starts: &[u32; 512], n: usize, w: u32) -> 
 }
 
 // The last derived function that has the name of the source's function f: its number plus 1, or 0.
-pub fn known(
-    image: Image,
-    log: &Log,
-    logtags: &LogTags,
-    starts: &Starts,
-    maps: &Maps,
-    ends: Sizes,
-    f: usize,
-) -> u32
+pub fn known(image: Image, derived: &Derived, f: usize) -> u32
     requires source { Source image.words.now image.tags.now image.n }
     requires n_value { named (mod_of image.words.now image.n) ≡ true }
     requires f_bound { f < count_at 6 image.words.now }
-    requires bearing { Bearing log.now logtags.now starts.now ends }
-    ensures { KnownEnsures image.entry.words.now image.entry.n log.now logtags.now starts.now ends f result }
+    requires bearing { Bearing derived.now.log.now derived.now.logtags.now derived.now.starts.now derived.now.sizes }
+    ensures { KnownEnsures image.entry.words.now image.entry.n derived.now.log.now derived.now.logtags.now derived.now.starts.now derived.now.sizes f result }
 {
     let s = image.record_at(FUNCTIONS, f);
     let k = image.words[s] as usize - 1;
     let at = image.record_at(NAMES, k);
     let end = image.record_end(NAMES, k);
-    let names = ends.counts[NAMES] as usize;
-    let functions = ends.counts[FUNCTIONS] as usize;
-    let m = maps[NAMES][k] as usize;
-    let d = find_name_from(image, log, logtags, &starts[NAMES], names, m, at, end);
-    last(log, logtags, &starts[FUNCTIONS], functions, (d + 1) as u32)
+    let names = derived.sizes.counts[NAMES] as usize;
+    let functions = derived.sizes.counts[FUNCTIONS] as usize;
+    let m = derived.maps[NAMES][k] as usize;
+    let d = find_name_from(
+        image,
+        derived.log,
+        derived.logtags,
+        &derived.starts[NAMES],
+        names,
+        m,
+        at,
+        end,
+    );
+    last(
+        derived.log,
+        derived.logtags,
+        &derived.starts[FUNCTIONS],
+        functions,
+        (d + 1) as u32,
+    )
 }

@@ -20,32 +20,24 @@ ghost use Rattle.derive_rings.specs.Rings.{unknown_by, Unknowns, Stuck, RingsEns
 use base_classes::CALLEE;
 use base_views::{ENTRIES, FUNCTIONS, Image, count};
 use derive_lookup::known;
-use derive_state::{Log, LogTags, Maps, Sizes, Starts};
+use derive_state::{Derived, Log, LogTags, Maps, Sizes, Starts};
 use order_callees::gather_requirements;
 use order_ranks::{FunctionSet, clear, left};
 
 // Those of a set whose names are unknown.
-fn unknown(
-    image: Image,
-    log: &Log,
-    logtags: &LogTags,
-    starts: &Starts,
-    maps: &Maps,
-    ends: Sizes,
-    began: FunctionSet,
-) -> FunctionSet
+fn unknown(image: Image, derived: &Derived, began: FunctionSet) -> FunctionSet
     requires source { Source image.words.now image.tags.now image.n }
     requires n_value { named (mod_of image.words.now image.n) ≡ true }
-    requires bearing { Bearing log.now logtags.now starts.now ends }
+    requires bearing { Bearing derived.now.log.now derived.now.logtags.now derived.now.starts.now derived.now.sizes }
     requires began_len { Below (count_at 6 image.words.now) began.0 }
-    ensures { Unknowns image.entry.words.now image.entry.n log.now logtags.now starts.now ends began.0 result.0 }
+    ensures { Unknowns image.entry.words.now image.entry.n derived.now.log.now derived.now.logtags.now derived.now.starts.now derived.now.sizes began.0 result.0 }
 {
     let functions = count(image.words, FUNCTIONS);
     let mut set = began;
     for f in 0..functions {
         // kept: as one condition its proof's names hold the 0, and the must-fail edit is then refused for a name alone
         if began.has(f) {
-            let is_known = known(image, log, logtags, starts, maps, ends, f) != 0;
+            let is_known = known(image, derived, f) != 0;
             if is_known {
                 set.leave(f);
             }
@@ -55,25 +47,17 @@ fn unknown(
 }
 
 // The functions of unknown name from which calls lead, through such functions, to a ring.
-pub fn unknown_in_ring(
-    image: Image,
-    log: &Log,
-    logtags: &LogTags,
-    starts: &Starts,
-    maps: &Maps,
-    ends: Sizes,
-    callees: &[FunctionSet; 256],
-) -> FunctionSet
+pub fn unknown_in_ring(image: Image, derived: &Derived, callees: &[FunctionSet; 256]) -> FunctionSet
     requires source { Source image.words.now image.tags.now image.n }
     requires n_value { named (mod_of image.words.now image.n) ≡ true }
-    requires bearing { Bearing log.now logtags.now starts.now ends }
+    requires bearing { Bearing derived.now.log.now derived.now.logtags.now derived.now.starts.now derived.now.sizes }
     requires gathered { Gathered image.words.now image.tags.now image.n callees.now }
-    ensures { Stuck image.entry.words.now image.entry.n log.now logtags.now starts.now ends result.0 }
+    ensures { Stuck image.entry.words.now image.entry.n derived.now.log.now derived.now.logtags.now derived.now.starts.now derived.now.sizes result.0 }
 {
     let functions = count(image.words, FUNCTIONS);
     let all = FunctionSet::first(functions);
     let led = left(callees, functions, all);
-    let waiting = unknown(image, log, logtags, starts, maps, ends, led);
+    let waiting = unknown(image, derived, led);
     left(callees, functions, waiting)
 }
 
@@ -107,26 +91,17 @@ fn entries_call(image: Image, set: &FunctionSet) -> bool
 }
 
 // Whether the words from `at` to `end` call a function of unknown name.
-fn calls_unknown(
-    image: Image,
-    log: &Log,
-    logtags: &LogTags,
-    starts: &Starts,
-    maps: &Maps,
-    ends: Sizes,
-    at: usize,
-    end: usize,
-) -> bool
+fn calls_unknown(image: Image, derived: &Derived, at: usize, end: usize) -> bool
     requires source { Source image.words.now image.tags.now image.n }
     requires n_value { named (mod_of image.words.now image.n) ≡ true }
-    requires bearing { Bearing log.now logtags.now starts.now ends }
+    requires bearing { Bearing derived.now.log.now derived.now.logtags.now derived.now.starts.now derived.now.sizes }
     requires scannable { Scannable image.words.now image.tags.now at end (count_at 6 image.words.now) }
-    ensures { result ≡ any (picked image.entry.words.now image.entry.tags.now at end) (unknown_by image.entry.words.now image.entry.n log.now logtags.now starts.now ends) }
+    ensures { result ≡ any (picked image.entry.words.now image.entry.tags.now at end) (unknown_by image.entry.words.now image.entry.n derived.now.log.now derived.now.logtags.now derived.now.starts.now derived.now.sizes) }
 {
     for k in at..end {
         if image.tags[k] == CALLEE {
             let f = image.words[k] as usize;
-            if known(image, log, logtags, starts, maps, ends, f) == 0 {
+            if known(image, derived, f) == 0 {
                 return true;
             }
         }
@@ -135,97 +110,64 @@ fn calls_unknown(
 }
 
 // Whether function f calls one of unknown name: where not, neither it nor one that it calls is stuck.
-fn calls_unknown_name(
-    image: Image,
-    log: &Log,
-    logtags: &LogTags,
-    starts: &Starts,
-    maps: &Maps,
-    ends: Sizes,
-    f: usize,
-) -> bool
+fn calls_unknown_name(image: Image, derived: &Derived, f: usize) -> bool
     requires source { Source image.words.now image.tags.now image.n }
     requires n_value { named (mod_of image.words.now image.n) ≡ true }
-    requires bearing { Bearing log.now logtags.now starts.now ends }
+    requires bearing { Bearing derived.now.log.now derived.now.logtags.now derived.now.starts.now derived.now.sizes }
     requires f_bound { f < count_at 6 image.words.now }
-    ensures { result ≡ any (callees_of (function (mod_of image.entry.words.now image.entry.n) f)) (unknown_by image.entry.words.now image.entry.n log.now logtags.now starts.now ends) }
+    ensures { result ≡ any (callees_of (function (mod_of image.entry.words.now image.entry.n) f)) (unknown_by image.entry.words.now image.entry.n derived.now.log.now derived.now.logtags.now derived.now.starts.now derived.now.sizes) }
 {
     let at = image.record_at(FUNCTIONS, f);
     let end = image.record_end(FUNCTIONS, f);
-    calls_unknown(image, log, logtags, starts, maps, ends, at, end)
+    calls_unknown(image, derived, at, end)
 }
 
 // Refusal 22 of import_function: function f, or one that it calls, is stuck.
-pub fn import_rings(
-    image: Image,
-    log: &Log,
-    logtags: &LogTags,
-    starts: &Starts,
-    maps: &Maps,
-    ends: Sizes,
-    f: usize,
-) -> bool
+pub fn import_rings(image: Image, derived: &Derived, f: usize) -> bool
     requires source { Source image.words.now image.tags.now image.n }
     requires n_value { named (mod_of image.words.now image.n) ≡ true }
-    requires bearing { Bearing log.now logtags.now starts.now ends }
+    requires bearing { Bearing derived.now.log.now derived.now.logtags.now derived.now.starts.now derived.now.sizes }
     requires f_bound { f < count_at 6 image.words.now }
-    ensures { RingsEnsures (f ∷ callees_of (function (mod_of image.entry.words.now image.entry.n) f)) image.entry.words.now image.entry.n log.now logtags.now starts.now ends result }
+    ensures { RingsEnsures (f ∷ callees_of (function (mod_of image.entry.words.now image.entry.n) f)) image.entry.words.now image.entry.n derived.now.log.now derived.now.logtags.now derived.now.starts.now derived.now.sizes result }
 {
-    if !calls_unknown_name(image, log, logtags, starts, maps, ends, f) {
+    if !calls_unknown_name(image, derived, f) {
         return false;
     }
     let mut callees = clear();
     gather_requirements(image, &mut callees);
-    let set = unknown_in_ring(image, log, logtags, starts, maps, ends, &callees);
+    let set = unknown_in_ring(image, derived, &callees);
     set.has(f) || callees[f].meets(&set)
 }
 
 // Refusal 22 of map_function_handle: function f is stuck.
-pub fn follow_rings(
-    image: Image,
-    log: &Log,
-    logtags: &LogTags,
-    starts: &Starts,
-    maps: &Maps,
-    ends: Sizes,
-    f: usize,
-) -> bool
+pub fn follow_rings(image: Image, derived: &Derived, f: usize) -> bool
     requires source { Source image.words.now image.tags.now image.n }
     requires n_value { named (mod_of image.words.now image.n) ≡ true }
-    requires bearing { Bearing log.now logtags.now starts.now ends }
+    requires bearing { Bearing derived.now.log.now derived.now.logtags.now derived.now.starts.now derived.now.sizes }
     requires f_bound { f < count_at 6 image.words.now }
-    ensures { RingsEnsures (f ∷ []) image.entry.words.now image.entry.n log.now logtags.now starts.now ends result }
+    ensures { RingsEnsures (f ∷ []) image.entry.words.now image.entry.n derived.now.log.now derived.now.logtags.now derived.now.starts.now derived.now.sizes result }
 {
-    if known(image, log, logtags, starts, maps, ends, f) != 0
-        || !calls_unknown_name(image, log, logtags, starts, maps, ends, f)
-    {
+    if known(image, derived, f) != 0 || !calls_unknown_name(image, derived, f) {
         return false;
     }
     let mut callees = clear();
     gather_requirements(image, &mut callees);
-    let set = unknown_in_ring(image, log, logtags, starts, maps, ends, &callees);
+    let set = unknown_in_ring(image, derived, &callees);
     set.has(f)
 }
 
 // Whether the function of an entry point calls one of unknown name.
-fn entries_lead(
-    image: Image,
-    log: &Log,
-    logtags: &LogTags,
-    starts: &Starts,
-    maps: &Maps,
-    ends: Sizes,
-) -> bool
+fn entries_lead(image: Image, derived: &Derived) -> bool
     requires source { Source image.words.now image.tags.now image.n }
     requires n_value { named (mod_of image.words.now image.n) ≡ true }
-    requires bearing { Bearing log.now logtags.now starts.now ends }
-    ensures { result ≡ any (calleesOfAll (mod_of image.entry.words.now image.entry.n).entries) (unknown_by image.entry.words.now image.entry.n log.now logtags.now starts.now ends) }
+    requires bearing { Bearing derived.now.log.now derived.now.logtags.now derived.now.starts.now derived.now.sizes }
+    ensures { result ≡ any (calleesOfAll (mod_of image.entry.words.now image.entry.n).entries) (unknown_by image.entry.words.now image.entry.n derived.now.log.now derived.now.logtags.now derived.now.starts.now derived.now.sizes) }
 {
     let entries = count(image.words, ENTRIES);
     for e in 0..entries {
         let at = image.entry_function(e);
         let end = image.record_end(ENTRIES, e);
-        if calls_unknown(image, log, logtags, starts, maps, ends, at, end) {
+        if calls_unknown(image, derived, at, end) {
             return true;
         }
     }
@@ -233,24 +175,17 @@ fn entries_lead(
 }
 
 // Refusal 22 of finishing with entry points: a function that one of them calls is stuck.
-pub fn entries_ring(
-    image: Image,
-    log: &Log,
-    logtags: &LogTags,
-    starts: &Starts,
-    maps: &Maps,
-    ends: Sizes,
-) -> bool
+pub fn entries_ring(image: Image, derived: &Derived) -> bool
     requires source { Source image.words.now image.tags.now image.n }
     requires n_value { named (mod_of image.words.now image.n) ≡ true }
-    requires bearing { Bearing log.now logtags.now starts.now ends }
-    ensures { RingsEnsures (calleesOfAll (mod_of image.entry.words.now image.entry.n).entries) image.entry.words.now image.entry.n log.now logtags.now starts.now ends result }
+    requires bearing { Bearing derived.now.log.now derived.now.logtags.now derived.now.starts.now derived.now.sizes }
+    ensures { RingsEnsures (calleesOfAll (mod_of image.entry.words.now image.entry.n).entries) image.entry.words.now image.entry.n derived.now.log.now derived.now.logtags.now derived.now.starts.now derived.now.sizes result }
 {
-    if !entries_lead(image, log, logtags, starts, maps, ends) {
+    if !entries_lead(image, derived) {
         return false;
     }
     let mut callees = clear();
     gather_requirements(image, &mut callees);
-    let set = unknown_in_ring(image, log, logtags, starts, maps, ends, &callees);
+    let set = unknown_in_ring(image, derived, &callees);
     entries_call(image, &set)
 }

@@ -55,6 +55,17 @@ pub struct Sizes {
     pub made: u16,
 }
 
+// The derived module for those that only read it: the arrays, and how much of them is in use.
+#[derive(Clone, Copy)]
+pub struct Derived<'a> {
+    pub log: &'a Log,
+    pub logtags: &'a LogTags,
+    pub starts: &'a Starts,
+    pub maps: &'a Maps,
+    pub buckets: &'a Buckets,
+    pub sizes: Sizes,
+}
+
 // The sizes of an empty module.
 pub fn empty() -> Sizes
     ensures { result ≡ record { full = false; loglen = 0; counts = replicate 8 0; pairs = 0; exprtop = 0; bodytop = 0; made = 0 } }
@@ -193,27 +204,19 @@ pub fn alike_cell(a: u8, x: u32, b: u8, y: u32) -> bool
 }
 
 // Whether the record at s is what the source's words from `at` to `end` become, ignoring spans.
-pub fn alike(
-    image: Image,
-    log: &Log,
-    logtags: &LogTags,
-    maps: &Maps,
-    at: usize,
-    end: usize,
-    s: usize,
-) -> bool
+pub fn alike(image: Image, derived: &Derived, at: usize, end: usize, s: usize) -> bool
     requires readable { Readable image.words.now image.tags.now target_bytes at end }
-    requires s_bound { (s + suc (slice_index log.now s) ≤ 16384) × (length log.now ≡ 16384) × (length logtags.now ≡ 16384) × (length maps.now ≡ 6) }
-    ensures { result ≡ alikeOf (rec_at log.now logtags.now s) (carried_by (went_r maps.now) image.entry.tags.now image.entry.words.now at end) }
+    requires s_bound { (s + suc (slice_index derived.now.log.now s) ≤ 16384) × (length derived.now.log.now ≡ 16384) × (length derived.now.logtags.now ≡ 16384) × (length derived.now.maps.now ≡ 6) }
+    ensures { result ≡ alikeOf (rec_at derived.now.log.now derived.now.logtags.now s) (carried_by (went_r derived.now.maps.now) image.entry.tags.now image.entry.words.now at end) }
 {
-    if log[s] as usize != end - at {
+    if derived.log[s] as usize != end - at {
         return false;
     }
     for j in at..end {
         let q = s + 1 + (j - at);
         let b = image.tags[j];
-        let y = carried(maps, b, image.words[j]);
-        if !alike_cell(logtags[q], log[q], b, y) {
+        let y = carried(derived.maps, b, image.words[j]);
+        if !alike_cell(derived.logtags[q], derived.log[q], b, y) {
             return false;
         }
     }

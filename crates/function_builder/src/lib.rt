@@ -26,8 +26,8 @@ use base_views::Image;
 use base_words::Tags;
 use derive_lookup::known;
 use derive_state::{
-    ExprMap, FUNCTION, Log, LogTags, Maps, NOTHING, OPT_OWN, OWN, Places, Sizes, StackRows, Starts,
-    mark_full, moved, number_of, target_of,
+    Derived, ExprMap, FUNCTION, Log, LogTags, Maps, NOTHING, OPT_OWN, OWN, Places, Sizes,
+    StackRows, Starts, mark_full, moved, number_of, target_of,
 };
 
 // The rows of the stacks: words and classes of expressions, where each of them starts, and words of declarations, bodies and names.
@@ -86,38 +86,24 @@ pub fn by_maps(maps: &Maps, exprmap: &ExprMap, s: u8, w: u32) -> u32
 }
 
 // A word carried through the maps, or to the function of its name.
-pub fn carried(
-    image: Image,
-    log: &Log,
-    logtags: &LogTags,
-    starts: &Starts,
-    maps: &Maps,
-    exprmap: &ExprMap,
-    ends: Sizes,
-    s: u8,
-    w: u32,
-) -> u32
+pub fn carried(image: Image, derived: &Derived, exprmap: &ExprMap, s: u8, w: u32) -> u32
     requires ground { Ground image.words.now image.tags.now target_bytes image.n }
-    requires bearing { Bearing log.now logtags.now starts.now ends }
-    requires maps_len { length maps.now ≡ 6 }
+    requires bearing { Bearing derived.now.log.now derived.now.logtags.now derived.now.starts.now derived.now.sizes }
+    requires maps_len { length derived.now.maps.now ≡ 6 }
     requires all { All (FitN image.words.now 1024) (ref_of (target s) w []) }
-    ensures { result ≡ through (went_of image.entry.words.now image.entry.n log.now logtags.now starts.now maps.now ends exprmap.now) s w }
+    ensures { result ≡ through (went_of image.entry.words.now image.entry.n derived.now.log.now derived.now.logtags.now derived.now.starts.now derived.now.maps.now derived.now.sizes exprmap.now) s w }
 {
     if target_of(s) == FUNCTION {
-        return number_of(known(image, log, logtags, starts, maps, ends, w as usize));
+        return number_of(known(image, derived, w as usize));
     }
-    by_maps(maps, exprmap, s, w)
+    by_maps(derived.maps, exprmap, s, w)
 }
 
 // Whether the span last met is undefined, once the word w of the class s is read; the words from i on follow it.
 fn undefined_at(
     image: Image,
-    log: &Log,
-    logtags: &LogTags,
-    starts: &Starts,
-    maps: &Maps,
+    derived: &Derived,
     exprmap: &ExprMap,
-    ends: Sizes,
     s: u8,
     w: u32,
     i: usize,
@@ -125,10 +111,10 @@ fn undefined_at(
     u: bool,
 ) -> bool
     requires ground { Ground image.words.now image.tags.now target_bytes image.n }
-    requires bearing { Bearing log.now logtags.now starts.now ends }
-    requires maps_len { length maps.now ≡ 6 }
+    requires bearing { Bearing derived.now.log.now derived.now.logtags.now derived.now.starts.now derived.now.sizes }
+    requires maps_len { length derived.now.maps.now ≡ 6 }
     requires legible { Legible image.words.now image.tags.now 1024 i end }
-    ensures { result ≡ undefined_at (target s) w (first_word (carried_by (went_of image.entry.words.now image.entry.n log.now logtags.now starts.now maps.now ends exprmap.now) image.entry.tags.now image.entry.words.now i end)) u }
+    ensures { result ≡ undefined_at (target s) w (first_word (carried_by (went_of image.entry.words.now image.entry.n derived.now.log.now derived.now.logtags.now derived.now.starts.now derived.now.maps.now derived.now.sizes exprmap.now) image.entry.tags.now image.entry.words.now i end)) u }
 {
     if s != SPAN {
         return u;
@@ -137,17 +123,7 @@ fn undefined_at(
         return false;
     }
     if i < end {
-        return carried(
-            image,
-            log,
-            logtags,
-            starts,
-            maps,
-            exprmap,
-            ends,
-            image.tags[i],
-            image.words[i],
-        ) == 0;
+        return carried(image, derived, exprmap, image.tags[i], image.words[i]) == 0;
     }
     true
 }
@@ -155,53 +131,26 @@ fn undefined_at(
 // Writes what the source's words from `at` to `end` become on the top of the stack of expressions.
 pub fn write(
     image: Image,
-    log: &Log,
-    logtags: &LogTags,
-    starts: &Starts,
-    maps: &Maps,
+    derived: &Derived,
     exprmap: &ExprMap,
     stacks: &mut StackRows,
-    ends: Sizes,
     offset: u32,
     at: usize,
     end: usize,
 )
     requires ground { Ground image.words.now image.tags.now target_bytes image.n }
-    requires bearing { Bearing log.now logtags.now starts.now ends }
-    requires maps_len { length maps.now ≡ 6 }
+    requires bearing { Bearing derived.now.log.now derived.now.logtags.now derived.now.starts.now derived.now.sizes }
+    requires maps_len { length derived.now.maps.now ≡ 6 }
     requires legible { Legible image.words.now image.tags.now 1024 at end }
-    requires stacks { (Stacks stacks.old ends) × (ends.exprtop + (end - at) ≤ 16384) }
-    ensures { Wrote (shift (carried_by (went_of image.entry.words.now image.entry.n log.now logtags.now starts.now maps.now ends exprmap.now) image.entry.tags.now image.entry.words.now at end) offset false) ends.exprtop stacks.old stacks.new }
+    requires stacks { (Stacks stacks.old derived.now.sizes) × (derived.now.sizes.exprtop + (end - at) ≤ 16384) }
+    ensures { Wrote (shift (carried_by (went_of image.entry.words.now image.entry.n derived.now.log.now derived.now.logtags.now derived.now.starts.now derived.now.maps.now derived.now.sizes exprmap.now) image.entry.tags.now image.entry.words.now at end) offset false) derived.now.sizes.exprtop stacks.old stacks.new }
 {
     let mut u = false;
     for j in at..end {
-        let q = ends.exprtop as usize + (j - at);
+        let q = derived.sizes.exprtop as usize + (j - at);
         let s = image.tags[j];
-        let w = carried(
-            image,
-            log,
-            logtags,
-            starts,
-            maps,
-            exprmap,
-            ends,
-            s,
-            image.words[j],
-        );
-        u = undefined_at(
-            image,
-            log,
-            logtags,
-            starts,
-            maps,
-            exprmap,
-            ends,
-            s,
-            w,
-            j + 1,
-            end,
-            u,
-        );
+        let w = carried(image, derived, exprmap, s, image.words[j]);
+        u = undefined_at(image, derived, exprmap, s, w, j + 1, end, u);
         stacks[WORDS][q] = moved(s, w, offset, u);
         stacks[CLASSES][q] = s as u32;
     }
@@ -211,46 +160,40 @@ pub fn write(
 pub fn append(
     image: Image,
     places: &Places,
-    log: &Log,
-    logtags: &LogTags,
-    starts: &Starts,
-    maps: &Maps,
+    derived: &Derived,
     exprmap: &mut ExprMap,
     stacks: &mut StackRows,
-    ends: Sizes,
     offset: u32,
     e1: usize,
     k: usize,
     e: usize,
 ) -> Sizes
     requires ground { Ground image.words.now image.tags.now target_bytes image.n }
-    requires bearing { Bearing log.now logtags.now starts.now ends }
-    requires maps_len { length maps.now ≡ 6 }
+    requires bearing { Bearing derived.now.log.now derived.now.logtags.now derived.now.starts.now derived.now.sizes }
+    requires maps_len { length derived.now.maps.now ≡ 6 }
     requires expressions { Expressions image.words.now image.tags.now places.now k }
-    requires e_lt_k { (e < k) × (ends.full ≡ false) }
-    requires under { Under k exprmap.old stacks.old e1 ends }
-    ensures { Lays image.entry.words.now k (pushE offset (mod_of image.entry.words.now image.entry.n) still (exprs_of image.entry.words.now image.entry.tags.now places.now k) e) log.now logtags.now starts.now maps.now exprmap.old stacks.old e1 ends result exprmap.new stacks.new }
+    requires e_lt_k { (e < k) × (derived.now.sizes.full ≡ false) }
+    requires under { Under k exprmap.old stacks.old e1 derived.now.sizes }
+    ensures { Lays image.entry.words.now k (pushE offset (mod_of image.entry.words.now image.entry.n) still (exprs_of image.entry.words.now image.entry.tags.now places.now k) e) derived.now.log.now derived.now.logtags.now derived.now.starts.now derived.now.maps.now exprmap.old stacks.old e1 derived.now.sizes result exprmap.new stacks.new }
 {
     let at = places[e] as usize;
     let end = places[e + 1] as usize;
-    let exprtop = ends.exprtop as usize;
-    let made = ends.made as usize;
+    let exprtop = derived.sizes.exprtop as usize;
+    let made = derived.sizes.made as usize;
     if 16384 - exprtop < end - at {
-        return mark_full(ends);
+        return mark_full(derived.sizes);
     }
-    write(
-        image, log, logtags, starts, maps, exprmap, stacks, ends, offset, at, end,
-    );
+    write(image, derived, exprmap, stacks, offset, at, end);
     stacks[SEATS][e1 + made] = exprtop as u32;
     exprmap[e] = (made + 1) as u16;
-    let c = ends.counts;
+    let c = derived.sizes.counts;
     Sizes {
         full: false,
-        loglen: ends.loglen,
+        loglen: derived.sizes.loglen,
         counts: c,
-        pairs: ends.pairs,
+        pairs: derived.sizes.pairs,
         exprtop: (exprtop + (end - at)) as u16,
-        bodytop: ends.bodytop,
+        bodytop: derived.sizes.bodytop,
         made: (made + 1) as u16,
     }
 }
@@ -266,39 +209,25 @@ fn alike_cell(a: u32, x: u32, b: u8, y: u32) -> bool
 // is as long; or `end`.
 fn first_difference(
     image: Image,
-    log: &Log,
-    logtags: &LogTags,
-    starts: &Starts,
-    maps: &Maps,
+    derived: &Derived,
     exprmap: &ExprMap,
     stacks: &StackRows,
-    ends: Sizes,
     at: usize,
     end: usize,
     a: usize,
     b: usize,
 ) -> usize
     requires ground { Ground image.words.now image.tags.now target_bytes image.n }
-    requires bearing { Bearing log.now logtags.now starts.now ends }
-    requires maps_len { length maps.now ≡ 6 }
+    requires bearing { Bearing derived.now.log.now derived.now.logtags.now derived.now.starts.now derived.now.sizes }
+    requires maps_len { length derived.now.maps.now ≡ 6 }
     requires legible { Legible image.words.now image.tags.now 1024 at end }
-    requires stacks { (Stacks stacks.now ends) × (a ≤ b) × (b ≤ 16384) × (b - a ≡ end - at) }
-    ensures { Apart at end (alike (between (row stacks.now 1) (row stacks.now 0) a b) (carried_by (went_of image.entry.words.now image.entry.n log.now logtags.now starts.now maps.now ends exprmap.now) image.entry.tags.now image.entry.words.now at end)) result }
+    requires stacks { (Stacks stacks.now derived.now.sizes) × (a ≤ b) × (b ≤ 16384) × (b - a ≡ end - at) }
+    ensures { Apart at end (alike (between (row stacks.now 1) (row stacks.now 0) a b) (carried_by (went_of image.entry.words.now image.entry.n derived.now.log.now derived.now.logtags.now derived.now.starts.now derived.now.maps.now derived.now.sizes exprmap.now) image.entry.tags.now image.entry.words.now at end)) result }
 {
     for j in at..end {
         let q = a + (j - at);
         let s = image.tags[j];
-        let y = carried(
-            image,
-            log,
-            logtags,
-            starts,
-            maps,
-            exprmap,
-            ends,
-            s,
-            image.words[j],
-        );
+        let y = carried(image, derived, exprmap, s, image.words[j]);
         if !alike_cell(stacks[CLASSES][q], stacks[WORDS][q], s, y) {
             return j;
         }
@@ -351,37 +280,23 @@ fn next_candidate(
 // the one in which another expression differed.
 fn find_equal(
     image: Image,
-    log: &Log,
-    logtags: &LogTags,
-    starts: &Starts,
-    maps: &Maps,
+    derived: &Derived,
     exprmap: &ExprMap,
     stacks: &StackRows,
-    ends: Sizes,
     e1: usize,
     at: usize,
     end: usize,
 ) -> usize
     requires ground { Ground image.words.now image.tags.now target_bytes image.n }
-    requires bearing { Bearing log.now logtags.now starts.now ends }
-    requires maps_len { length maps.now ≡ 6 }
+    requires bearing { Bearing derived.now.log.now derived.now.logtags.now derived.now.starts.now derived.now.sizes }
+    requires maps_len { length derived.now.maps.now ≡ 6 }
     requires legible { Legible image.words.now image.tags.now 1024 at end }
-    requires stacks { (Stacks stacks.now ends) × (Rising (seats_of stacks.now e1 ends) e1 ends.exprtop) × (length (seats_of stacks.now e1 ends) ≡ ends.made) × (at < end) }
-    ensures { result ≡ seat_of (made_of stacks.now e1 ends) (carried_by (went_of image.entry.words.now image.entry.n log.now logtags.now starts.now maps.now ends exprmap.now) image.entry.tags.now image.entry.words.now at end) }
+    requires stacks { (Stacks stacks.now derived.now.sizes) × (Rising (seats_of stacks.now e1 derived.now.sizes) e1 derived.now.sizes.exprtop) × (length (seats_of stacks.now e1 derived.now.sizes) ≡ derived.now.sizes.made) × (at < end) }
+    ensures { result ≡ seat_of (made_of stacks.now e1 derived.now.sizes) (carried_by (went_of image.entry.words.now image.entry.n derived.now.log.now derived.now.logtags.now derived.now.starts.now derived.now.maps.now derived.now.sizes exprmap.now) image.entry.tags.now image.entry.words.now at end) }
 {
-    let made = ends.made as usize;
+    let made = derived.sizes.made as usize;
     let mut p = end - 1;
-    let mut y = carried(
-        image,
-        log,
-        logtags,
-        starts,
-        maps,
-        exprmap,
-        ends,
-        image.tags[p],
-        image.words[p],
-    );
+    let mut y = carried(image, derived, exprmap, image.tags[p], image.words[p]);
     let mut k = 0;
     while k < made {
         let j = next_candidate(stacks, e1, made, p - at, image.tags[p], y, k);
@@ -390,25 +305,13 @@ fn find_equal(
         }
         k = j + 1;
         let a = stacks[SEATS][e1 + j] as usize;
-        let b = expr_end(stacks, ends, e1, j);
+        let b = expr_end(stacks, derived.sizes, e1, j);
         if b - a == end - at {
-            p = first_difference(
-                image, log, logtags, starts, maps, exprmap, stacks, ends, at, end, a, b,
-            );
+            p = first_difference(image, derived, exprmap, stacks, at, end, a, b);
             if p == end {
                 return j;
             }
-            y = carried(
-                image,
-                log,
-                logtags,
-                starts,
-                maps,
-                exprmap,
-                ends,
-                image.tags[p],
-                image.words[p],
-            );
+            y = carried(image, derived, exprmap, image.tags[p], image.words[p]);
         }
     }
     made
@@ -418,38 +321,30 @@ fn find_equal(
 pub fn merge(
     image: Image,
     places: &Places,
-    log: &Log,
-    logtags: &LogTags,
-    starts: &Starts,
-    maps: &Maps,
+    derived: &Derived,
     exprmap: &mut ExprMap,
     stacks: &mut StackRows,
-    ends: Sizes,
     offset: u32,
     e1: usize,
     k: usize,
     e: usize,
 ) -> Sizes
     requires ground { Ground image.words.now image.tags.now target_bytes image.n }
-    requires bearing { Bearing log.now logtags.now starts.now ends }
-    requires maps_len { length maps.now ≡ 6 }
+    requires bearing { Bearing derived.now.log.now derived.now.logtags.now derived.now.starts.now derived.now.sizes }
+    requires maps_len { length derived.now.maps.now ≡ 6 }
     requires expressions { Expressions image.words.now image.tags.now places.now k }
-    requires e_lt_k { (e < k) × (ends.full ≡ false) }
-    requires under { Under k exprmap.old stacks.old e1 ends }
-    ensures { Lays image.entry.words.now k (intern_expr offset (mod_of image.entry.words.now image.entry.n) still (exprs_of image.entry.words.now image.entry.tags.now places.now k) e) log.now logtags.now starts.now maps.now exprmap.old stacks.old e1 ends result exprmap.new stacks.new }
+    requires e_lt_k { (e < k) × (derived.now.sizes.full ≡ false) }
+    requires under { Under k exprmap.old stacks.old e1 derived.now.sizes }
+    ensures { Lays image.entry.words.now k (intern_expr offset (mod_of image.entry.words.now image.entry.n) still (exprs_of image.entry.words.now image.entry.tags.now places.now k) e) derived.now.log.now derived.now.logtags.now derived.now.starts.now derived.now.maps.now exprmap.old stacks.old e1 derived.now.sizes result exprmap.new stacks.new }
 {
     let at = places[e] as usize;
     let end = places[e + 1] as usize;
-    let j = find_equal(
-        image, log, logtags, starts, maps, exprmap, stacks, ends, e1, at, end,
-    );
-    if j < ends.made as usize {
+    let j = find_equal(image, derived, exprmap, stacks, e1, at, end);
+    if j < derived.sizes.made as usize {
         exprmap[e] = (j + 1) as u16;
-        return ends;
+        return derived.sizes;
     }
-    append(
-        image, places, log, logtags, starts, maps, exprmap, stacks, ends, offset, e1, k, e,
-    )
+    append(image, places, derived, exprmap, stacks, offset, e1, k, e)
 }
 
 // Pushes one word more of declarations, body or names.

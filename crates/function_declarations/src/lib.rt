@@ -22,7 +22,9 @@ ghost use Rattle.derive_state.specs.Refers.{target_bytes};
 use base_classes::EXPR;
 use base_views::{EXPRESSIONS, Image};
 use derive_imports::refers_to;
-use derive_state::{Buckets, ExprMap, Log, LogTags, Maps, Places, Sizes, StackRows, Starts};
+use derive_state::{
+    Buckets, Derived, ExprMap, Log, LogTags, Maps, Places, Sizes, StackRows, Starts,
+};
 use function_builder::merge;
 use function_outside::{import_by_table, import_record};
 use function_runs::{copy_mapped_run, span_undefined};
@@ -91,7 +93,22 @@ fn import_initialiser(
         }
     }
     merge(
-        image, places, log, logtags, starts, maps, exprmap, stacks, got, offset, e1, k, e,
+        image,
+        places,
+        &Derived {
+            log,
+            logtags,
+            starts,
+            maps,
+            buckets,
+            sizes: got,
+        },
+        exprmap,
+        stacks,
+        offset,
+        e1,
+        k,
+        e,
     )
 }
 
@@ -207,7 +224,20 @@ pub fn declare(
             return e;
         }
         e = put_word(
-            image, log, logtags, starts, maps, exprmap, stacks, e, offset, j, u,
+            image,
+            &Derived {
+                log,
+                logtags,
+                starts,
+                maps,
+                buckets,
+                sizes: e,
+            },
+            exprmap,
+            stacks,
+            offset,
+            j,
+            u,
         );
         if e.full {
             return e;

@@ -16,7 +16,9 @@ ghost use Rattle.function_entry.specs.Entered.{NestedE, EnterEnsures, EnterAllEn
 ghost use Rattle.derive_state.specs.Refers.{target_bytes};
 
 use base_views::{ENTRIES, FUNCTIONS, Image, count, expressions_at};
-use derive_state::{Buckets, Log, LogTags, Maps, Sizes, Special, StackRows, Starts, mark_full};
+use derive_state::{
+    Buckets, Derived, Log, LogTags, Maps, Sizes, Special, StackRows, Starts, mark_full,
+};
 use function_builder::write;
 use function_localize::localize;
 use function_outside::import_outside;
@@ -77,7 +79,20 @@ pub fn enter(
     }
     let exprmap = [0u16; 1024];
     write(
-        image, log, logtags, starts, maps, &exprmap, stacks, led, offset, at, s,
+        image,
+        &Derived {
+            log,
+            logtags,
+            starts,
+            maps,
+            buckets,
+            sizes: led,
+        },
+        &exprmap,
+        stacks,
+        offset,
+        at,
+        s,
     );
     let exprs = expressions_at(image.words, s);
     let body = image.body_at(s);

@@ -19,7 +19,9 @@ use base_kinds::stands;
 use base_views::{EXPRESSIONS, Image};
 use base_words::Words;
 use derive_imports::refers_to;
-use derive_state::{Buckets, ExprMap, Log, LogTags, Maps, Places, Sizes, StackRows, Starts};
+use derive_state::{
+    Buckets, Derived, ExprMap, Log, LogTags, Maps, Places, Sizes, StackRows, Starts,
+};
 use function_builder::append;
 use function_outside::{import_by_table, import_outside, missing};
 
@@ -59,7 +61,22 @@ fn import_unmapped(
         return got;
     }
     append(
-        image, places, log, logtags, starts, maps, exprmap, stacks, got, offset, e1, k, e,
+        image,
+        places,
+        &Derived {
+            log,
+            logtags,
+            starts,
+            maps,
+            buckets,
+            sizes: got,
+        },
+        exprmap,
+        stacks,
+        offset,
+        e1,
+        k,
+        e,
     )
 }
 

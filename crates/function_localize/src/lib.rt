@@ -23,7 +23,7 @@ use base_classes::CALLEE;
 use base_views::{FUNCTIONS, Image, expressions_at};
 use base_words::Tags;
 use derive_lookup::known;
-use derive_state::{Buckets, Log, LogTags, Maps, Places, Sizes, StackRows, Starts};
+use derive_state::{Buckets, Derived, Log, LogTags, Maps, Places, Sizes, StackRows, Starts};
 use function_builder::index;
 use function_declarations::declare;
 use function_names::{import_names, keep_names};
@@ -177,7 +177,20 @@ pub fn localize(
                     return e;
                 }
                 e = put_word(
-                    image, log, logtags, starts, maps, &exprmap, stacks, e, offset, j, u,
+                    image,
+                    &Derived {
+                        log,
+                        logtags,
+                        starts,
+                        maps,
+                        buckets,
+                        sizes: e,
+                    },
+                    &exprmap,
+                    stacks,
+                    offset,
+                    j,
+                    u,
                 );
             } else {
                 e = import_word(
@@ -284,7 +297,19 @@ pub fn follow(
     if room == 0 {
         return ends;
     }
-    if known(image, log, logtags, starts, maps, ends, f) != 0 {
+    if known(
+        image,
+        &Derived {
+            log,
+            logtags,
+            starts,
+            maps,
+            buckets,
+            sizes: ends,
+        },
+        f,
+    ) != 0
+    {
         return ends;
     }
     let got = append(

@@ -24,7 +24,9 @@ ghost use Rattle.derive_state.specs.Refers.{target_bytes};
 use base_classes::{ATOMIC, EXPR, FROM, OPT_EXPR, STMT_KIND, TO};
 use base_views::{EXPRESSIONS, Image};
 use derive_imports::refers_to;
-use derive_state::{Buckets, ExprMap, Log, LogTags, Maps, Places, Sizes, StackRows, Starts};
+use derive_state::{
+    Buckets, Derived, ExprMap, Log, LogTags, Maps, Places, Sizes, StackRows, Starts,
+};
 use function_builder::{append, push};
 use function_expressions::{import_operand, import_standing};
 use function_outside::import_record;
@@ -127,13 +129,9 @@ fn first_pass(
 fn second_pass(
     image: Image,
     places: &Places,
-    log: &Log,
-    logtags: &LogTags,
-    starts: &Starts,
-    maps: &Maps,
+    derived: &Derived,
     exprmap: &mut ExprMap,
     stacks: &mut StackRows,
-    ends: Sizes,
     offset: u32,
     e1: usize,
     k: usize,
@@ -143,17 +141,28 @@ fn second_pass(
     requires ground { Ground image.words.now image.tags.now target_bytes image.n }
     requires expressions { Expressions image.words.now image.tags.now places.now k }
     requires b_le_k { b ≤ k }
-    requires full_value { ends.full ≡ false }
-    requires by_index { (buckets : List ℕ) × ValidArrays log.now logtags.now starts.now maps.now buckets ends }
-    requires under { Under k exprmap.old stacks.old e1 ends }
-    requires drawn { Drawn image.words.now image.tags.now places.now k maps.now exprmap.old a b }
-    ensures { Lays image.entry.words.now k (each_e (in_range (record { from = a; to = b })) (needs offset image.entry.words.now image.entry.tags.now image.entry.n places.now k)) log.now logtags.now starts.now maps.now exprmap.old stacks.old e1 ends result exprmap.new stacks.new }
+    requires full_value { derived.now.sizes.full ≡ false }
+    requires by_index { (buckets : List ℕ) × ValidArrays derived.now.log.now derived.now.logtags.now derived.now.starts.now derived.now.maps.now buckets derived.now.sizes }
+    requires under { Under k exprmap.old stacks.old e1 derived.now.sizes }
+    requires drawn { Drawn image.words.now image.tags.now places.now k derived.now.maps.now exprmap.old a b }
+    ensures { Lays image.entry.words.now k (each_e (in_range (record { from = a; to = b })) (needs offset image.entry.words.now image.entry.tags.now image.entry.n places.now k)) derived.now.log.now derived.now.logtags.now derived.now.starts.now derived.now.maps.now exprmap.old stacks.old e1 derived.now.sizes result exprmap.new stacks.new }
 {
-    let mut e = ends;
+    let mut e = derived.sizes;
     for y in a..b {
         if exprmap[y] == 0 {
             e = append(
-                image, places, log, logtags, starts, maps, exprmap, stacks, e, offset, e1, k, y,
+                image,
+                places,
+                &Derived {
+                    sizes: e,
+                    ..*derived
+                },
+                exprmap,
+                stacks,
+                offset,
+                e1,
+                k,
+                y,
             );
             if e.full {
                 return e;
@@ -202,7 +211,23 @@ fn emit(
         return put;
     }
     second_pass(
-        image, places, log, logtags, starts, maps, exprmap, stacks, put, offset, e1, k, a, b,
+        image,
+        places,
+        &Derived {
+            log,
+            logtags,
+            starts,
+            maps,
+            buckets,
+            sizes: put,
+        },
+        exprmap,
+        stacks,
+        offset,
+        e1,
+        k,
+        a,
+        b,
     )
 }
 
@@ -334,6 +359,19 @@ pub fn import_word(
         return got;
     }
     put_word(
-        image, log, logtags, starts, maps, exprmap, stacks, got, offset, i, u,
+        image,
+        &Derived {
+            log,
+            logtags,
+            starts,
+            maps,
+            buckets,
+            sizes: got,
+        },
+        exprmap,
+        stacks,
+        offset,
+        i,
+        u,
     )
 }

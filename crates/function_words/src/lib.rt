@@ -12,43 +12,29 @@ ghost use Rattle.function_builder.specs.Makes.{Pushed};
 ghost use Rattle.derive_state.specs.Refers.{target_bytes};
 
 use base_views::Image;
-use derive_state::{ExprMap, Log, LogTags, Maps, Sizes, StackRows, Starts, moved};
+use derive_state::{Derived, ExprMap, Log, LogTags, Maps, Sizes, StackRows, Starts, moved};
 use function_builder::{carried, push};
 
 // Pushes word i on the stack, carried through the maps and with its span moved.
 pub fn put_word(
     image: Image,
-    log: &Log,
-    logtags: &LogTags,
-    starts: &Starts,
-    maps: &Maps,
+    derived: &Derived,
     exprmap: &ExprMap,
     stacks: &mut StackRows,
-    ends: Sizes,
     offset: u32,
     i: usize,
     u: bool,
 ) -> Sizes
     requires ground { Ground image.words.now image.tags.now target_bytes image.n }
-    requires bearing { Bearing log.now logtags.now starts.now ends }
-    requires maps_len { length maps.now ≡ 6 }
+    requires bearing { Bearing derived.now.log.now derived.now.logtags.now derived.now.starts.now derived.now.sizes }
+    requires maps_len { length derived.now.maps.now ≡ 6 }
     requires i_bound { (i < 16384) × (All (FitN image.words.now 1024) (ref_of (target (get_or image.tags.now i 0)) (get_or image.words.now i 0) [])) }
-    requires stacks { Stacks stacks.old ends }
-    ensures { Pushed (movedOf (target (get_or image.entry.tags.now i 0)) (through (went_of image.entry.words.now image.entry.n log.now logtags.now starts.now maps.now ends exprmap.now) (get_or image.entry.tags.now i 0) (get_or image.entry.words.now i 0)) offset u) stacks.old ends result stacks.new }
+    requires stacks { Stacks stacks.old derived.now.sizes }
+    ensures { Pushed (movedOf (target (get_or image.entry.tags.now i 0)) (through (went_of image.entry.words.now image.entry.n derived.now.log.now derived.now.logtags.now derived.now.starts.now derived.now.maps.now derived.now.sizes exprmap.now) (get_or image.entry.tags.now i 0) (get_or image.entry.words.now i 0)) offset u) stacks.old derived.now.sizes result stacks.new }
 {
     let s = image.tags[i];
-    let w = carried(
-        image,
-        log,
-        logtags,
-        starts,
-        maps,
-        exprmap,
-        ends,
-        s,
-        image.words[i],
-    );
-    push(stacks, ends, moved(s, w, offset, u))
+    let w = carried(image, derived, exprmap, s, image.words[i]);
+    push(stacks, derived.sizes, moved(s, w, offset, u))
 }
 
 // So many words more on the stack of words.

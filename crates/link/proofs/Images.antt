@@ -95,9 +95,9 @@ module _ (image words tags : List ℕ) where
               sequence = record { is = ordered_so; counts = refl; long = list_long words tags n order_asks.0 order₀ order a o q long };
             }
 
-        pub by_tells : (output₀ : List ℕ) → length image ≤ length output₀ → (r : ℕ) (output : List ℕ) → LinkInOrderEnsures words n order output₀ r output → LinkEnsures (answer_by (λ (v : ℕ). v) (done (r / 4294967296))) output₀ output image
-        unfolding in_order output_after answer_by
-        by_tells output₀ h r output l = links_as image output₀ (done (write (link_by (take (count_at 6 words) order) (mod_of words n)))) (linked_as output₀ h ∙ ap (λ (x : Order). in_order x (mod_of words n)) ordered_so) _ output (omega (arith, l.answer)) l.left
+        pub by_tells : (output₀ : List ℕ) → length image ≤ length output₀ → (r : ℕ) (output : List ℕ) → LinkInOrderEnsures words n order output₀ r output → LinkEnsures r output₀ output image
+        unfolding in_order output_after
+        by_tells output₀ h r output l = links_as image output₀ (done (write (link_by (take (count_at 6 words) order) (mod_of words n)))) (linked_as output₀ h ∙ ap (λ (x : Order). in_order x (mod_of words n)) ordered_so) _ output l.answer l.left
 
       -- a ring
       pub ring_tells : (refusal : Refusal) → a ≡ Err refusal → (output : List ℕ) → length image ≤ length output → LinkEnsures (answer_by (λ v. v) (ends_as refusal)) output output image

@@ -37,11 +37,9 @@ fn linked_in(
     }
     let mut order = [0u32; 256];
     order_of(Image { words, tags, n }, &mut order)?;
-    let linked = link_in_order(
+    link_in_order(
         words, tags, n, &order, output, log, logtags, starts, maps, buckets, stacks,
-    );
-    // an image that has an order and room is linked, so that the low half is 0
-    Ok((linked / 4294967296) as u32)
+    )
 }
 
 // The same, its answer as one number: low half the refusal, 0 accepted; high half the bytes written, or with 12 the functions left.

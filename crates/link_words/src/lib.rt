@@ -3,6 +3,8 @@
 #![tactic(auto)]
 
 ghost use Rattle.std.specs.Prelude.{true, take};
+ghost use Rattle.model.specs.Refusals.{answer_by};
+ghost use Rattle.base_refusals.specs.Numbers.{ended};
 ghost use Rattle.derive_state.specs.Source.{mod_of};
 ghost use Rattle.derive_state.specs.Held.{st_of};
 ghost use Rattle.function_builder.specs.Stacks.{Stacks};
@@ -11,11 +13,13 @@ ghost use Rattle.model.specs.Image.{ScratchLengths};
 ghost use Rattle.link_words.specs.Appends.{Roomy, Sequence, AppendAllEnsures, Linkable, LinkInOrderEnsures};
 ghost use Rattle.derive_state.specs.Refers.{target_bytes};
 
-use base_refusals::pack;
+use base_refusals::Refusal;
 use base_views::{FUNCTIONS, Image, count};
 use base_words::{Tags, Words};
 use derive_source::source_types;
-use derive_state::{Buckets, Log, LogTags, Maps, Sizes, Special, StackRows, Starts, empty};
+use derive_state::{
+    Buckets, Derived, Log, LogTags, Maps, Sizes, Special, StackRows, Starts, empty,
+};
 use function_entry::enter_all;
 use function_localize::append;
 
@@ -73,10 +77,10 @@ pub fn link_in_order(
     maps: &mut Maps,
     buckets: &mut Buckets,
     stacks: &mut StackRows,
-) -> u64
+) -> Result<u32, Refusal>
     requires linkable { Linkable words.old tags.now n order.now output.old }
     requires scratch_lengths { ScratchLengths log.old logtags.old starts.old stacks.old }
-    ensures { LinkInOrderEnsures words.old n order.now output.old result output.new }
+    ensures { LinkInOrderEnsures words.old n order.now output.old (answer_by (λ v. v) (ended result)) output.new }
 {
     let mut special = [0u32; 1027];
     // buckets left by another image would only cost time; the answer does not depend on them
@@ -109,8 +113,14 @@ pub fn link_in_order(
     let ends = enter_all(
         image, log, logtags, starts, maps, buckets, &special, stacks, appended, 0,
     );
-    match derive_finish::finish(log, logtags, starts, &special, ends, words, output) {
-        Ok(bytes) => pack(0, bytes as u32),
-        Err(refusal) => pack(refusal.number(), 0),
-    }
+    let derived = Derived {
+        log,
+        logtags,
+        starts,
+        maps,
+        buckets,
+        sizes: ends,
+    };
+    let bytes = derive_finish::finish(&derived, &special, words, output)?;
+    Ok(bytes as u32)
 }

@@ -2,7 +2,7 @@
 // is as it was. The stacks of functions under construction are empty between operations.
 #![tactic(auto)]
 
-ghost use Rattle.std.specs.Prelude.{◌≡◌, true, false, [], ◌∷◌, ℕ, ◌<◌, pred, length, replicate};
+ghost use Rattle.std.specs.Prelude.{◌≡◌, true, false, [], ◌∷◌, ℕ, ◌<◌, length, replicate};
 ghost use Rattle.model.specs.Module.{count_at};
 ghost use Rattle.model.specs.Callees.{callees};
 ghost use Rattle.model.specs.Redirect.{function};
@@ -22,7 +22,8 @@ use derive_lookup::known;
 use derive_rings::{entries_ring, follow_rings, import_rings};
 use derive_snapshot::{restore, save};
 use derive_state::{
-    Buckets, Log, LogTags, Maps, Sizes, Special, StackRows, Starts, clear_maps, empty,
+    Buckets, Derived, Log, LogTags, Maps, Sizes, Special, StackRows, Starts, clear_maps, empty,
+    number_of,
 };
 use function_entry::enter_all;
 use function_localize::{append, follow};
@@ -33,16 +34,6 @@ fn empty_stacks(stacks: &mut StackRows)
     ensures { stacks.new ≡ replicate 4 (replicate 16384 0) }
 {
     *stacks = [[0; 16384]; 4];
-}
-
-// The number before v, where v is not 0.
-fn number_before(v: u32) -> u32
-    ensures { result ≡ pred v }
-{
-    if v == 0 {
-        return 0;
-    }
-    v - 1
 }
 
 // Appends function f; where it does not fit nothing has changed.
@@ -175,7 +166,18 @@ pub fn import_function(
             ends: ends,
         };
     }
-    if import_rings(image, log, logtags, starts, maps, ends, f as usize) {
+    if import_rings(
+        image,
+        &Derived {
+            log,
+            logtags,
+            starts,
+            maps,
+            buckets,
+            sizes: ends,
+        },
+        f as usize,
+    ) {
         return Answer {
             refusal: UNKNOWN_RING,
             value: 0,
@@ -192,7 +194,7 @@ pub fn import_function(
             ends: ends,
         };
     }
-    let v = number_before(got.counts[FUNCTIONS] as u32);
+    let v = number_of(got.counts[FUNCTIONS] as u32);
     Answer {
         refusal: 0,
         value: v,
@@ -236,7 +238,18 @@ pub fn map_function_handle(
             ends: ends,
         };
     }
-    if follow_rings(image, log, logtags, starts, maps, ends, f as usize) {
+    if follow_rings(
+        image,
+        &Derived {
+            log,
+            logtags,
+            starts,
+            maps,
+            buckets,
+            sizes: ends,
+        },
+        f as usize,
+    ) {
         return Answer {
             refusal: UNKNOWN_RING,
             value: 0,
@@ -253,7 +266,18 @@ pub fn map_function_handle(
             ends: ends,
         };
     }
-    let v = number_before(known(image, log, logtags, starts, maps, got, f as usize));
+    let v = number_of(known(
+        image,
+        &Derived {
+            log,
+            logtags,
+            starts,
+            maps,
+            buckets,
+            sizes: got,
+        },
+        f as usize,
+    ));
     Answer {
         refusal: 0,
         value: v,
@@ -290,7 +314,17 @@ pub fn finish_with_entries(
             ends: ends,
         };
     }
-    if entries_ring(image, log, logtags, starts, maps, ends) {
+    if entries_ring(
+        image,
+        &Derived {
+            log,
+            logtags,
+            starts,
+            maps,
+            buckets,
+            sizes: ends,
+        },
+    ) {
         return Finished {
             refusal: UNKNOWN_RING,
             bytes: 0,
@@ -313,7 +347,19 @@ pub fn finish_with_entries(
         };
     }
     let mut out = [0u32; 16384];
-    let bytes = match derive_finish::finish(log, logtags, &s, special, e, &mut out, output) {
+    let bytes = match derive_finish::finish(
+        &Derived {
+            log,
+            logtags,
+            starts: &s,
+            maps,
+            buckets,
+            sizes: e,
+        },
+        special,
+        &mut out,
+        output,
+    ) {
         Ok(bytes) => bytes,
         Err(refusal) => {
             return Finished {

@@ -17,7 +17,9 @@ use base_words::{Tags, Words};
 use derive_finish::finish;
 use derive_rollback::mapped_to;
 use derive_source::set_source;
-use derive_state::{Buckets, Log, LogTags, Maps, Sizes, Special, Starts, clear_maps, empty};
+use derive_state::{
+    Buckets, Derived, Log, LogTags, Maps, Sizes, Special, Starts, clear_maps, empty,
+};
 use std::num::wrapping_add_u32;
 
 // What an operation answers: its refusal, 0 for none; a value; and the sizes of the derived module after it.
@@ -379,7 +381,19 @@ pub fn finish_plain(
     ensures valid_session { ValidSession result.set image.entry.n offset image.entry.words.now image.entry.tags.now target_bytes log.now logtags.now starts.now maps.new buckets.now special.new result.ends }
 {
     let mut out = [0u32; 16384];
-    let bytes = match finish(log, logtags, starts, special, ends, &mut out, output) {
+    let bytes = match finish(
+        &Derived {
+            log,
+            logtags,
+            starts,
+            maps,
+            buckets,
+            sizes: ends,
+        },
+        special,
+        &mut out,
+        output,
+    ) {
         Ok(bytes) => bytes,
         Err(refusal) => {
             return Finished {

@@ -9,11 +9,11 @@ use mathlib.Core.Bool.{not}
 use mathlib.Core.Path.{ap}
 use Rattle.derive_intern.proofs.equals_record.Goals as goal
 
-pub returns-then-log-s : goal.returns-then-log-s
-returns-then-log-s c = let a = c.args in compare-short a.image.words.now a.image.tags.now a.log.now a.logtags.now (went_r a.maps.now) a.at a.end a.s c.requires.readable.stretch c.requires.readable.small c.requires.s_bound.0 c.requires.s_bound.1 c.requires.s_bound.2 _ refl c.if-log-s.true
+pub returns-then-derived-s : goal.returns-then-derived-s
+returns-then-derived-s c = let a = c.args in compare-short a.image.words.now a.image.tags.now a.derived.now.log.now a.derived.now.logtags.now (went_r a.derived.now.maps.now) a.at a.end a.s c.requires.readable.stretch c.requires.readable.small c.requires.s_bound.0 c.requires.s_bound.1 c.requires.s_bound.2 _ refl c.if-derived-s.true
 
 pub carried-y-requires : goal.carried-y-requires
-carried-y-requires c = let a = c.args in let some = c.if-n-eq0.false in record { all = last_small a.image.words.now a.image.tags.now a.log.now a.logtags.now (went_r a.maps.now) a.at a.end a.s c.requires.readable.stretch c.requires.s_bound.0 c.requires.s_bound.1 c.requires.s_bound.2 (omega arith) c.requires.readable.small; maps_len = c.requires.s_bound.3 }
+carried-y-requires c = let a = c.args in let some = c.if-n-eq0.false in record { all = last_small a.image.words.now a.image.tags.now a.derived.now.log.now a.derived.now.logtags.now (went_r a.derived.now.maps.now) a.at a.end a.s c.requires.readable.stretch c.requires.s_bound.0 c.requires.s_bound.1 c.requires.s_bound.2 (omega arith) c.requires.readable.small; maps_len = c.requires.s_bound.3 }
 
 pub returns-then-not-alike_cell : goal.returns-then-not-alike_cell
-returns-then-not-alike_cell c = let a = c.args in let some = c.if-n-eq0.false in last_not a.image.words.now a.image.tags.now a.log.now a.logtags.now (went_r a.maps.now) a.at a.end a.s c.requires.readable.stretch c.requires.s_bound.0 c.requires.s_bound.1 c.requires.s_bound.2 (omega arith) _ refl c.if-log-s.false _ c.carried-y.ensures _ c.alike_cell.ensures (not-true _ (ap not c.if-not-alike_cell.true))
+returns-then-not-alike_cell c = let a = c.args in let some = c.if-n-eq0.false in last_not a.image.words.now a.image.tags.now a.derived.now.log.now a.derived.now.logtags.now (went_r a.derived.now.maps.now) a.at a.end a.s c.requires.readable.stretch c.requires.s_bound.0 c.requires.s_bound.1 c.requires.s_bound.2 (omega arith) _ refl c.if-derived-s.false _ c.carried-y.ensures _ c.alike_cell.ensures (not-true _ (ap not c.if-not-alike_cell.true))

@@ -7,20 +7,20 @@ use Rattle.derive_rings.proofs.calls_unknown.Goals.{then-image-k-eq-CALLEE+else-
 use Rattle.derive_rings.proofs.calls_unknown.Goals as goal
 
 pub loop-k-init : goal.loop-k-init
-loop-k-init c = begin (unknown_by c.args.image.words.now c.args.image.n c.args.log.now c.args.logtags.now c.args.starts.now c.args.ends) c.requires.scannable
+loop-k-init c = begin (unknown_by c.args.image.words.now c.args.image.n c.args.derived.now.log.now c.args.derived.now.logtags.now c.args.derived.now.starts.now c.args.derived.now.sizes) c.requires.scannable
 
 pub known-requires : goal.known-requires
-known-requires c = record { source = c.requires.source; n_value = c.requires.n_value; f_bound = may (unknown_by c.args.image.words.now c.args.image.n c.args.log.now c.args.logtags.now c.args.starts.now c.args.ends) c.requires.scannable c.loop-k.invariant c.loop-k-test.true c.if-image-k-eq-CALLEE.true _ refl; bearing = c.requires.bearing }
+known-requires c = record { source = c.requires.source; n_value = c.requires.n_value; f_bound = may (unknown_by c.args.image.words.now c.args.image.n c.args.derived.now.log.now c.args.derived.now.logtags.now c.args.derived.now.starts.now c.args.derived.now.sizes) c.requires.scannable c.loop-k.invariant c.loop-k-test.true c.if-image-k-eq-CALLEE.true _ refl; bearing = c.requires.bearing }
 
 pub returns-then-known-eq0 : goal.returns-then-known-eq0
-returns-then-known-eq0 c = hit (unknown_by c.args.image.words.now c.args.image.n c.args.log.now c.args.logtags.now c.args.starts.now c.args.ends) c.requires.scannable c.loop-k.invariant c.loop-k-test.true c.if-image-k-eq-CALLEE.true _ refl (is_unknown_lem c.args.image.words.now c.args.image.n c.args.log.now c.args.logtags.now c.args.starts.now c.args.ends _ _ c.known.ensures c.if-known-eq0.true)
+returns-then-known-eq0 c = hit (unknown_by c.args.image.words.now c.args.image.n c.args.derived.now.log.now c.args.derived.now.logtags.now c.args.derived.now.starts.now c.args.derived.now.sizes) c.requires.scannable c.loop-k.invariant c.loop-k-test.true c.if-image-k-eq-CALLEE.true _ refl (is_unknown_lem c.args.image.words.now c.args.image.n c.args.derived.now.log.now c.args.derived.now.logtags.now c.args.derived.now.starts.now c.args.derived.now.sizes _ _ c.known.ensures c.if-known-eq0.true)
 
 pub loop-k-preserved : goal.loop-k-preserved
 loop-k-preserved c =
     elim c.if-image-k-eq-CALLEE.branch [
-      | then-image-k-eq-CALLEE+else-known-eq0 w ↦ miss (unknown_by c.args.image.words.now c.args.image.n c.args.log.now c.args.logtags.now c.args.starts.now c.args.ends) c.requires.scannable c.loop-k.invariant c.loop-k-test.true w.if-image-k-eq-CALLEE.true _ refl (is_known c.args.image.words.now c.args.image.n c.args.log.now c.args.logtags.now c.args.starts.now c.args.ends _ _ w.known.ensures w.if-known-eq0.false)
-      | else-image-k-eq-CALLEE w ↦ pass (unknown_by c.args.image.words.now c.args.image.n c.args.log.now c.args.logtags.now c.args.starts.now c.args.ends) c.requires.scannable c.loop-k.invariant c.loop-k-test.true w.if-image-k-eq-CALLEE.false
+      | then-image-k-eq-CALLEE+else-known-eq0 w ↦ miss (unknown_by c.args.image.words.now c.args.image.n c.args.derived.now.log.now c.args.derived.now.logtags.now c.args.derived.now.starts.now c.args.derived.now.sizes) c.requires.scannable c.loop-k.invariant c.loop-k-test.true w.if-image-k-eq-CALLEE.true _ refl (is_known c.args.image.words.now c.args.image.n c.args.derived.now.log.now c.args.derived.now.logtags.now c.args.derived.now.starts.now c.args.derived.now.sizes _ _ w.known.ensures w.if-known-eq0.false)
+      | else-image-k-eq-CALLEE w ↦ pass (unknown_by c.args.image.words.now c.args.image.n c.args.derived.now.log.now c.args.derived.now.logtags.now c.args.derived.now.starts.now c.args.derived.now.sizes) c.requires.scannable c.loop-k.invariant c.loop-k-test.true w.if-image-k-eq-CALLEE.false
     ]
 
 pub returns : goal.returns
-returns c = finish (unknown_by c.args.image.words.now c.args.image.n c.args.log.now c.args.logtags.now c.args.starts.now c.args.ends) c.requires.scannable c.loop-k.invariant c.loop-k-test.false
+returns c = finish (unknown_by c.args.image.words.now c.args.image.n c.args.derived.now.log.now c.args.derived.now.logtags.now c.args.derived.now.starts.now c.args.derived.now.sizes) c.requires.scannable c.loop-k.invariant c.loop-k-test.false

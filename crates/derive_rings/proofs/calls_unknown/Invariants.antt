@@ -5,4 +5,4 @@ use Rattle.derive_rings.proofs.Asking.{Asking}
 use Rattle.derive_rings.proofs.calls_unknown.Given as goal
 
 abbrev pub invariant-loop-k : goal.invariant-loop-k
-invariant-loop-k l = Asking l.image.words.now l.image.tags.now l.at l.end (count_at 6 l.image.words.now) (unknown_by l.image.words.now l.image.n l.log l.logtags l.starts l.ends) l.k
+invariant-loop-k l = Asking l.image.words.now l.image.tags.now l.at l.end (count_at 6 l.image.words.now) (unknown_by l.image.words.now l.image.n l.derived.log.now l.derived.logtags.now l.derived.starts.now l.derived.sizes) l.k

@@ -14,4 +14,4 @@ pub calls_unknown-requires : goal.calls_unknown-requires
 calls_unknown-requires c = let a = c.args in record { source = c.requires.source; n_value = c.requires.n_value; bearing = c.requires.bearing; scannable = function_scannable a.image.words.now a.image.tags.now a.image.n c.requires.source a.f c.requires.f_bound _ _ c.record_at-at.ensures c.record_end-end.ensures }
 
 pub returns : goal.returns
-returns c = let a = c.args in calls-any a.image.words.now a.image.tags.now a.image.n c.requires.source a.f c.requires.f_bound _ _ c.record_at-at.ensures c.record_end-end.ensures (unknown_by a.image.words.now a.image.n a.log.now a.logtags.now a.starts.now a.ends) _ c.calls_unknown.ensures
+returns c = let a = c.args in calls-any a.image.words.now a.image.tags.now a.image.n c.requires.source a.f c.requires.f_bound _ _ c.record_at-at.ensures c.record_end-end.ensures (unknown_by a.image.words.now a.image.n a.derived.now.log.now a.derived.now.logtags.now a.derived.now.starts.now a.derived.now.sizes) _ c.calls_unknown.ensures

@@ -5,4 +5,4 @@ use Rattle.derive_rings.proofs.Asking.{Looking}
 use Rattle.derive_rings.proofs.entries_lead.Given as goal
 
 abbrev pub invariant-loop-e : goal.invariant-loop-e
-invariant-loop-e l = Looking (mod_of l.image.words.now l.image.n).entries (unknown_by l.image.words.now l.image.n l.log l.logtags l.starts l.ends) l.e
+invariant-loop-e l = Looking (mod_of l.image.words.now l.image.n).entries (unknown_by l.image.words.now l.image.n l.derived.log.now l.derived.logtags.now l.derived.starts.now l.derived.sizes) l.e

@@ -14,8 +14,8 @@ pub returns-then-known-ne0 : goal.returns-then-known-ne0
 returns-then-known-ne0 c =
     let a = c.args in
     elim c.then-known-ne0.branch [
-      | then-known-ne0-via-then-known-ne0 w ↦ known-free a.image.words.now a.image.n a.log.now a.logtags.now a.starts.now a.ends a.image.tags.now c.requires.source a.f c.requires.f_bound (is_known a.image.words.now a.image.n a.log.now a.logtags.now a.starts.now a.ends _ _ c.known.ensures w.if-known-ne0.true)
-      | then-known-ne0-via-else-known-ne0+then-not-calls_unknown_name w ↦ leads_not a.image.words.now a.image.n a.log.now a.logtags.now a.starts.now a.ends a.image.tags.now c.requires.source a.f c.requires.f_bound _ w.calls_unknown_name.ensures (not-true _ (ap not w.if-not-calls_unknown_name.true))
+      | then-known-ne0-via-then-known-ne0 w ↦ known-free a.image.words.now a.image.n a.derived.now.log.now a.derived.now.logtags.now a.derived.now.starts.now a.derived.now.sizes a.image.tags.now c.requires.source a.f c.requires.f_bound (is_known a.image.words.now a.image.n a.derived.now.log.now a.derived.now.logtags.now a.derived.now.starts.now a.derived.now.sizes _ _ c.known.ensures w.if-known-ne0.true)
+      | then-known-ne0-via-else-known-ne0+then-not-calls_unknown_name w ↦ leads_not a.image.words.now a.image.n a.derived.now.log.now a.derived.now.logtags.now a.derived.now.starts.now a.derived.now.sizes a.image.tags.now c.requires.source a.f c.requires.f_bound _ w.calls_unknown_name.ensures (not-true _ (ap not w.if-not-calls_unknown_name.true))
     ]
 
 pub gather_requirements-requires : goal.gather_requirements-requires
@@ -28,4 +28,4 @@ pub has-requires : goal.has-requires
 has-requires c = omega (arith, few c.requires.source, c.requires.f_bound)
 
 pub returns : goal.returns
-returns c = rings-one c.args.image.words.now c.args.image.n c.args.log.now c.args.logtags.now c.args.starts.now c.args.ends c.args.image.tags.now c.requires.source _ c.gather_requirements.ensures _ c.unknown_in_ring-set.ensures c.args.f c.requires.f_bound _ c.has.ensures
+returns c = rings-one c.args.image.words.now c.args.image.n c.args.derived.now.log.now c.args.derived.now.logtags.now c.args.derived.now.starts.now c.args.derived.now.sizes c.args.image.tags.now c.requires.source _ c.gather_requirements.ensures _ c.unknown_in_ring-set.ensures c.args.f c.requires.f_bound _ c.has.ensures

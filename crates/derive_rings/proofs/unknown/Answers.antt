@@ -21,10 +21,10 @@ leave-requires c = ((let h = few_at c.requires.source c.count-functions.ensures.
 pub loop-f-preserved : goal.loop-f-preserved
 loop-f-preserved c =
     elim c.if-has.branch [
-      | then-has+then-is_known w ↦ rw (w.set-is) (drops _ _ _ (few_at c.requires.source c.count-functions.ensures.0) (below_at _ c.count-functions.ensures.0 c.requires.began_len) _ _ c.loop-f.invariant c.loop-f-test.true (sym c.has.ensures ∙ w.if-has.true) (is_known c.args.image.words.now c.args.image.n c.args.log.now c.args.logtags.now c.args.starts.now c.args.ends _ _ w.known-is_known.ensures w.if-is_known.true) _ w.leave.ensures)
-      | then-has+else-is_known w ↦ rw (w.set-is) (stays _ _ _ (few_at c.requires.source c.count-functions.ensures.0) (below_at _ c.count-functions.ensures.0 c.requires.began_len) _ _ c.loop-f.invariant c.loop-f-test.true (sym c.has.ensures ∙ w.if-has.true) (is_unknown_lem c.args.image.words.now c.args.image.n c.args.log.now c.args.logtags.now c.args.starts.now c.args.ends _ _ w.known-is_known.ensures w.if-is_known.false))
+      | then-has+then-is_known w ↦ rw (w.set-is) (drops _ _ _ (few_at c.requires.source c.count-functions.ensures.0) (below_at _ c.count-functions.ensures.0 c.requires.began_len) _ _ c.loop-f.invariant c.loop-f-test.true (sym c.has.ensures ∙ w.if-has.true) (is_known c.args.image.words.now c.args.image.n c.args.derived.now.log.now c.args.derived.now.logtags.now c.args.derived.now.starts.now c.args.derived.now.sizes _ _ w.known-is_known.ensures w.if-is_known.true) _ w.leave.ensures)
+      | then-has+else-is_known w ↦ rw (w.set-is) (stays _ _ _ (few_at c.requires.source c.count-functions.ensures.0) (below_at _ c.count-functions.ensures.0 c.requires.began_len) _ _ c.loop-f.invariant c.loop-f-test.true (sym c.has.ensures ∙ w.if-has.true) (is_unknown_lem c.args.image.words.now c.args.image.n c.args.derived.now.log.now c.args.derived.now.logtags.now c.args.derived.now.starts.now c.args.derived.now.sizes _ _ w.known-is_known.ensures w.if-is_known.false))
       | else-has w ↦ rw (w.set-is) (passes _ _ _ (few_at c.requires.source c.count-functions.ensures.0) (below_at _ c.count-functions.ensures.0 c.requires.began_len) _ _ c.loop-f.invariant c.loop-f-test.true (sym c.has.ensures ∙ w.if-has.false))
     ]
 
 pub returns : goal.returns
-returns c = let a = c.args in unknowns a.image.words.now a.image.n a.log.now a.logtags.now a.starts.now a.ends _ _ _ _ c.count-functions.ensures.0 (few_at c.requires.source c.count-functions.ensures.0) c.requires.began_len c.loop-f.invariant c.loop-f-test.false
+returns c = let a = c.args in unknowns a.image.words.now a.image.n a.derived.now.log.now a.derived.now.logtags.now a.derived.now.starts.now a.derived.now.sizes _ _ _ _ c.count-functions.ensures.0 (few_at c.requires.source c.count-functions.ensures.0) c.requires.began_len c.loop-f.invariant c.loop-f-test.false

@@ -4,4 +4,4 @@ use Rattle.derive_rings.proofs.Wholes.{is_unknown}
 use Rattle.derive_rings.proofs.unknown.Given as goal
 
 abbrev pub invariant-loop-f : goal.invariant-loop-f
-invariant-loop-f l = Sieve (is_unknown l.image.words.now l.image.n l.log l.logtags l.starts l.ends) l.functions l.began.0 l.set.0 l.f
+invariant-loop-f l = Sieve (is_unknown l.image.words.now l.image.n l.derived.log.now l.derived.logtags.now l.derived.starts.now l.derived.sizes) l.functions l.began.0 l.set.0 l.f

@@ -5,8 +5,8 @@ use Rattle.derive_sections.proofs.write_offsets.Goals as goal
 pub loop-j-init : goal.loop-j-init
 loop-j-init c = search (offering_begin, rules)
 
-pub bounds-log-row : goal.bounds-log-row
-bounds-log-row c = search (row_in, rules)
+pub bounds-derived-row : goal.bounds-derived-row
+bounds-derived-row c = search (row_in, rules)
 
 pub loop-j-preserved : goal.loop-j-preserved
 loop-j-preserved c = search (offering_next, rules)

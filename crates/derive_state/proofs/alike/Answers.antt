@@ -6,29 +6,29 @@ use mathlib.Core.Bool.{not}
 use mathlib.Core.Path.{◌≡◌, refl, ap}
 use Rattle.derive_state.proofs.alike.Goals as goal
 
-pub returns-then-log-s : goal.returns-then-log-s
-returns-then-log-s c = let a = c.args in compare-short a.image.words.now a.image.tags.now a.log.now a.logtags.now (went_r a.maps.now) a.at a.end a.s c.requires.readable.stretch c.requires.readable.small c.requires.s_bound.0 c.requires.s_bound.1 c.requires.s_bound.2 _ refl c.if-log-s.true
+pub returns-then-derived-s : goal.returns-then-derived-s
+returns-then-derived-s c = let a = c.args in compare-short a.image.words.now a.image.tags.now a.derived.now.log.now a.derived.now.logtags.now (went_r a.derived.now.maps.now) a.at a.end a.s c.requires.readable.stretch c.requires.readable.small c.requires.s_bound.0 c.requires.s_bound.1 c.requires.s_bound.2 _ refl c.if-derived-s.true
 
 pub loop-j-init : goal.loop-j-init
-loop-j-init c = let a = c.args in let z : a.s + 1 + (a.at - a.at) ≡ a.s + 1 = omega arith in rw z (compare-begin a.image.words.now a.image.tags.now a.log.now a.logtags.now (went_r a.maps.now) a.at a.end a.s c.requires.readable.stretch c.requires.readable.small c.requires.s_bound.0 c.requires.s_bound.1 c.requires.s_bound.2 _ refl c.if-log-s.false)
+loop-j-init c = let a = c.args in let z : a.s + 1 + (a.at - a.at) ≡ a.s + 1 = omega arith in rw z (compare-begin a.image.words.now a.image.tags.now a.derived.now.log.now a.derived.now.logtags.now (went_r a.derived.now.maps.now) a.at a.end a.s c.requires.readable.stretch c.requires.readable.small c.requires.s_bound.0 c.requires.s_bound.1 c.requires.s_bound.2 _ refl c.if-derived-s.false)
 
 pub carried-y-requires : goal.carried-y-requires
-carried-y-requires c = let a = c.args in let l = c.loop-j in let h = c.loop-j-test.true in record { all = compare_small a.image.words.now a.image.tags.now a.log.now a.logtags.now (went_r a.maps.now) a.at a.end a.s c.requires.readable.stretch c.requires.readable.small c.requires.s_bound.0 c.requires.s_bound.1 c.requires.s_bound.2 l.j _ l.invariant h; maps_len = c.requires.s_bound.3 }
+carried-y-requires c = let a = c.args in let l = c.loop-j in let h = c.loop-j-test.true in record { all = compare_small a.image.words.now a.image.tags.now a.derived.now.log.now a.derived.now.logtags.now (went_r a.derived.now.maps.now) a.at a.end a.s c.requires.readable.stretch c.requires.readable.small c.requires.s_bound.0 c.requires.s_bound.1 c.requires.s_bound.2 l.j _ l.invariant h; maps_len = c.requires.s_bound.3 }
 
-pub bounds-logtags-q : goal.bounds-logtags-q
-bounds-logtags-q c = let a = c.args in let l = c.loop-j in let h = c.loop-j-test.true in compare_in a.image.words.now a.image.tags.now a.log.now a.logtags.now (went_r a.maps.now) a.at a.end a.s c.requires.readable.stretch c.requires.readable.small c.requires.s_bound.0 c.requires.s_bound.1 c.requires.s_bound.2 l.j _ l.invariant h
+pub bounds-derived-q : goal.bounds-derived-q
+bounds-derived-q c = let a = c.args in let l = c.loop-j in let h = c.loop-j-test.true in compare_in a.image.words.now a.image.tags.now a.derived.now.log.now a.derived.now.logtags.now (went_r a.derived.now.maps.now) a.at a.end a.s c.requires.readable.stretch c.requires.readable.small c.requires.s_bound.0 c.requires.s_bound.1 c.requires.s_bound.2 l.j _ l.invariant h
 
-pub offset_bounds-log-q : goal.offset_bounds-log-q
-offset_bounds-log-q c = let a = c.args in let l = c.loop-j in let h = c.loop-j-test.true in let q = compare_in a.image.words.now a.image.tags.now a.log.now a.logtags.now (went_r a.maps.now) a.at a.end a.s c.requires.readable.stretch c.requires.readable.small c.requires.s_bound.0 c.requires.s_bound.1 c.requires.s_bound.2 l.j _ l.invariant h in omega arith
+pub offset_bounds-derived-q : goal.offset_bounds-derived-q
+offset_bounds-derived-q c = let a = c.args in let l = c.loop-j in let h = c.loop-j-test.true in let q = compare_in a.image.words.now a.image.tags.now a.derived.now.log.now a.derived.now.logtags.now (went_r a.derived.now.maps.now) a.at a.end a.s c.requires.readable.stretch c.requires.readable.small c.requires.s_bound.0 c.requires.s_bound.1 c.requires.s_bound.2 l.j _ l.invariant h in omega arith
 
-pub bounds-log-q : goal.bounds-log-q
-bounds-log-q c = let a = c.args in let l = c.loop-j in let h = c.loop-j-test.true in compare_in a.image.words.now a.image.tags.now a.log.now a.logtags.now (went_r a.maps.now) a.at a.end a.s c.requires.readable.stretch c.requires.readable.small c.requires.s_bound.0 c.requires.s_bound.1 c.requires.s_bound.2 l.j _ l.invariant h
+pub bounds-derived-q-in-loop-j : goal.bounds-derived-q-in-loop-j
+bounds-derived-q-in-loop-j c = let a = c.args in let l = c.loop-j in let h = c.loop-j-test.true in compare_in a.image.words.now a.image.tags.now a.derived.now.log.now a.derived.now.logtags.now (went_r a.derived.now.maps.now) a.at a.end a.s c.requires.readable.stretch c.requires.readable.small c.requires.s_bound.0 c.requires.s_bound.1 c.requires.s_bound.2 l.j _ l.invariant h
 
 pub returns-then-not-alike_cell : goal.returns-then-not-alike_cell
-returns-then-not-alike_cell c = let a = c.args in let l = c.loop-j in let h = c.loop-j-test.true in compare_not a.image.words.now a.image.tags.now a.log.now a.logtags.now (went_r a.maps.now) a.at a.end a.s c.requires.readable.stretch c.requires.readable.small c.requires.s_bound.0 c.requires.s_bound.1 c.requires.s_bound.2 l.j _ l.invariant h _ c.carried-y.ensures _ c.alike_cell.ensures (not-true _ (ap not c.if-not-alike_cell.true))
+returns-then-not-alike_cell c = let a = c.args in let l = c.loop-j in let h = c.loop-j-test.true in compare_not a.image.words.now a.image.tags.now a.derived.now.log.now a.derived.now.logtags.now (went_r a.derived.now.maps.now) a.at a.end a.s c.requires.readable.stretch c.requires.readable.small c.requires.s_bound.0 c.requires.s_bound.1 c.requires.s_bound.2 l.j _ l.invariant h _ c.carried-y.ensures _ c.alike_cell.ensures (not-true _ (ap not c.if-not-alike_cell.true))
 
 pub loop-j-preserved : goal.loop-j-preserved
-loop-j-preserved c = let a = c.args in let l = c.loop-j in let h = c.loop-j-test.true in let z : a.s + 1 + (l.j + 1 - a.at) ≡ a.s + 1 + (l.j - a.at) + 1 = omega arith in rw z (compare-next a.image.words.now a.image.tags.now a.log.now a.logtags.now (went_r a.maps.now) a.at a.end a.s c.requires.readable.stretch c.requires.readable.small c.requires.s_bound.0 c.requires.s_bound.1 c.requires.s_bound.2 l.j _ l.invariant h _ c.carried-y.ensures _ c.alike_cell.ensures (not-false _ (ap not c.if-not-alike_cell.false)))
+loop-j-preserved c = let a = c.args in let l = c.loop-j in let h = c.loop-j-test.true in let z : a.s + 1 + (l.j + 1 - a.at) ≡ a.s + 1 + (l.j - a.at) + 1 = omega arith in rw z (compare-next a.image.words.now a.image.tags.now a.derived.now.log.now a.derived.now.logtags.now (went_r a.derived.now.maps.now) a.at a.end a.s c.requires.readable.stretch c.requires.readable.small c.requires.s_bound.0 c.requires.s_bound.1 c.requires.s_bound.2 l.j _ l.invariant h _ c.carried-y.ensures _ c.alike_cell.ensures (not-false _ (ap not c.if-not-alike_cell.false)))
 
 pub returns : goal.returns
-returns c = let a = c.args in let l = c.loop-j in compare_done a.image.words.now a.image.tags.now a.log.now a.logtags.now (went_r a.maps.now) a.at a.end a.s c.requires.readable.stretch c.requires.readable.small c.requires.s_bound.0 c.requires.s_bound.1 c.requires.s_bound.2 l.j _ l.invariant c.loop-j-test.false
+returns c = let a = c.args in let l = c.loop-j in compare_done a.image.words.now a.image.tags.now a.derived.now.log.now a.derived.now.logtags.now (went_r a.derived.now.maps.now) a.at a.end a.s c.requires.readable.stretch c.requires.readable.small c.requires.s_bound.0 c.requires.s_bound.1 c.requires.s_bound.2 l.j _ l.invariant c.loop-j-test.false

@@ -8,7 +8,7 @@ pub overflow_sub-end : goal.overflow_sub-end
 overflow_sub-end c = let X = c.requires.expressions in let h = c.requires.e_lt_k.0 in let r = rises X h refl refl in omega arith
 
 pub returns-then-exprtop-end : goal.returns-then-exprtop-end
-returns-then-exprtop-end c = let a = c.args in append_full a.image.words.now a.image.tags.now a.places.now a.image.n a.k c.requires.expressions a.log.now a.logtags.now a.starts.now a.maps.now a.exprmap.now a.stacks.now a.ends a.offset a.e1 a.e c.requires.e_lt_k.0 c.requires.e_lt_k.1 c.requires.under _ _ refl refl _ c.mark_full.ensures c.if-exprtop-end.true
+returns-then-exprtop-end c = let a = c.args in append_full a.image.words.now a.image.tags.now a.places.now a.image.n a.k c.requires.expressions a.derived.now.log.now a.derived.now.logtags.now a.derived.now.starts.now a.derived.now.maps.now a.exprmap.now a.stacks.now a.derived.now.sizes a.offset a.e1 a.e c.requires.e_lt_k.0 c.requires.e_lt_k.1 c.requires.under _ _ refl refl _ c.mark_full.ensures c.if-exprtop-end.true
 
 pub write-requires : goal.write-requires
 write-requires c = let r = room c.requires.expressions c.requires.e_lt_k.0 refl refl c.requires.under c.if-exprtop-end.false in record { ground = c.requires.ground; bearing = c.requires.bearing; maps_len = c.requires.maps_len; legible = legible c.requires.expressions c.requires.e_lt_k.0 refl refl; stacks = (c.requires.under.stacks_are, r.fits) }
@@ -47,4 +47,4 @@ pub overflow_cast-result-2 : goal.overflow_cast-result-2
 overflow_cast-result-2 c = let r = room c.requires.expressions c.requires.e_lt_k.0 refl refl c.requires.under c.if-exprtop-end.false in omega arith
 
 pub returns : goal.returns
-returns c = let a = c.args in append_done a.image.words.now a.image.tags.now a.places.now a.image.n a.k c.requires.expressions a.log.now a.logtags.now a.starts.now a.maps.now a.exprmap.now a.stacks.now a.ends a.offset a.e1 a.e c.requires.e_lt_k.0 c.requires.e_lt_k.1 c.requires.under _ _ refl refl c.if-exprtop-end.false _ c.write.ensures _ refl
+returns c = let a = c.args in append_done a.image.words.now a.image.tags.now a.places.now a.image.n a.k c.requires.expressions a.derived.now.log.now a.derived.now.logtags.now a.derived.now.starts.now a.derived.now.maps.now a.exprmap.now a.stacks.now a.derived.now.sizes a.offset a.e1 a.e c.requires.e_lt_k.0 c.requires.e_lt_k.1 c.requires.under _ _ refl refl c.if-exprtop-end.false _ c.write.ensures _ refl

@@ -5,7 +5,7 @@ use Rattle.function_builder.proofs.Sieve.{Sieving}
 use Rattle.function_builder.proofs.find_equal.Given as goal
 
 abbrev pub invariant-loop-k : goal.invariant-loop-k
-invariant-loop-k l = Sieving l.image.words.now l.image.tags.now (went_of l.image.words.now l.image.n l.log l.logtags l.starts l.maps l.ends l.exprmap) l.at l.end l.stacks l.e1 l.ends l.k l.p l.y
+invariant-loop-k l = Sieving l.image.words.now l.image.tags.now (went_of l.image.words.now l.image.n l.derived.log.now l.derived.logtags.now l.derived.starts.now l.derived.maps.now l.derived.sizes l.exprmap) l.at l.end l.stacks l.e1 l.derived.sizes l.k l.p l.y
 
 abbrev pub decreases-loop-k : goal.decreases-loop-k
-decreases-loop-k l = l.ends.made - l.k
+decreases-loop-k l = l.derived.sizes.made - l.k

@@ -9,7 +9,7 @@ pub find_equal-j-requires : goal.find_equal-j-requires
 find_equal-j-requires c = let U = c.requires.under in record { ground = c.requires.ground; bearing = c.requires.bearing; maps_len = c.requires.maps_len; legible = legible c.requires.expressions c.requires.e_lt_k.0 refl refl; stacks = (U.stacks_are, U.rising, U.made_is, (rises c.requires.expressions c.requires.e_lt_k.0 refl refl).0) }
 
 pub overflow_cast-exprmap : goal.overflow_cast-exprmap
-overflow_cast-exprmap c = let U = c.requires.under in let t = U.stacks_are.high in let l = made_low U in let y = c.if-j-ends.true in omega arith
+overflow_cast-exprmap c = let U = c.requires.under in let t = U.stacks_are.high in let l = made_low U in let y = c.if-j-derived.true in omega arith
 
 pub offset_bounds-exprmap-e : goal.offset_bounds-exprmap-e
 offset_bounds-exprmap-e c = let X = c.requires.expressions in let h = c.requires.e_lt_k.0 in let f = X.few in omega arith
@@ -17,8 +17,8 @@ offset_bounds-exprmap-e c = let X = c.requires.expressions in let h = c.requires
 pub bounds-exprmap-e : goal.bounds-exprmap-e
 bounds-exprmap-e c = let X = c.requires.expressions in let h = c.requires.e_lt_k.0 in let f = X.few in omega arith
 
-pub returns-then-j-ends : goal.returns-then-j-ends
-returns-then-j-ends c = let a = c.args in merge_old a.image.words.now a.image.tags.now a.places.now a.image.n a.k c.requires.expressions a.log.now a.logtags.now a.starts.now a.maps.now a.exprmap.now a.stacks.now a.ends a.offset a.e1 a.e c.requires.e_lt_k.0 c.requires.e_lt_k.1 c.requires.under _ _ refl refl c.find_equal-j.result c.find_equal-j.ensures c.if-j-ends.true
+pub returns-then-j-derived : goal.returns-then-j-ends
+returns-then-j-derived c = let a = c.args in merge_old a.image.words.now a.image.tags.now a.places.now a.image.n a.k c.requires.expressions a.derived.now.log.now a.derived.now.logtags.now a.derived.now.starts.now a.derived.now.maps.now a.exprmap.now a.stacks.now a.derived.now.sizes a.offset a.e1 a.e c.requires.e_lt_k.0 c.requires.e_lt_k.1 c.requires.under _ _ refl refl c.find_equal-j.result c.find_equal-j.ensures c.if-j-derived.true
 
 pub returns : goal.returns
-returns c = let a = c.args in merge_new a.image.words.now a.image.tags.now a.places.now a.image.n a.k c.requires.expressions a.log.now a.logtags.now a.starts.now a.maps.now a.exprmap.now a.stacks.now a.ends a.offset a.e1 a.e c.requires.e_lt_k.0 c.requires.e_lt_k.1 c.requires.under _ _ refl refl c.find_equal-j.result c.find_equal-j.ensures c.if-j-ends.false _ _ _ c.append.ensures
+returns c = let a = c.args in merge_new a.image.words.now a.image.tags.now a.places.now a.image.n a.k c.requires.expressions a.derived.now.log.now a.derived.now.logtags.now a.derived.now.starts.now a.derived.now.maps.now a.exprmap.now a.stacks.now a.derived.now.sizes a.offset a.e1 a.e c.requires.e_lt_k.0 c.requires.e_lt_k.1 c.requires.under _ _ refl refl c.find_equal-j.result c.find_equal-j.ensures c.if-j-derived.false _ _ _ c.append.ensures

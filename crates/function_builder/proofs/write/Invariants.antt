@@ -5,4 +5,4 @@ use Rattle.function_builder.proofs.Writes.{Laying}
 use Rattle.function_builder.proofs.write.Given as goal
 
 abbrev pub invariant-loop-j : goal.invariant-loop-j
-invariant-loop-j l = (Laying l.image.words.now l.image.tags.now (went_of l.image.words.now l.image.n l.log l.logtags l.starts l.maps l.ends l.exprmap) l.at l.end l.offset l.initial.stacks l.ends l.stacks l.j (l.ends.exprtop + (l.j - l.at)) l.u) × (l.at ≤ l.j)
+invariant-loop-j l = (Laying l.image.words.now l.image.tags.now (went_of l.image.words.now l.image.n l.derived.log.now l.derived.logtags.now l.derived.starts.now l.derived.maps.now l.derived.sizes l.exprmap) l.at l.end l.offset l.initial.stacks l.derived.sizes l.stacks l.j (l.derived.sizes.exprtop + (l.j - l.at)) l.u) × (l.at ≤ l.j)

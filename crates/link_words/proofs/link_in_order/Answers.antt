@@ -20,11 +20,11 @@ enter_all-ends-requires c = let a = c.args in let K = c.requires.linkable in let
 pub finish-requires : goal.finish-requires
 finish-requires c = let a = c.args in let K = c.requires.linkable in let e = c.empty in let s = c.source_types-set in let t = c.count in let b = c.append_all-appended in let d = c.enter_all-ends in let z = finish_asks a.words.now a.tags.now a.n a.order.now a.output.now K a.log.now a.logtags.now a.starts.now (replicate 16384 0) a.stacks.now c.requires.scratch_lengths (length-replicate {A = ℕ} 16384 0) target_bytes refl e.result c.empty.ensures s.result c.source_types-set.new.log c.source_types-set.new.logtags c.source_types-set.new.starts c.source_types-set.new.maps c.source_types-set.new.buckets c.source_types-set.new.special c.source_types-set.ensures t.result c.count.ensures.0 b.result c.append_all-appended.new.log c.append_all-appended.new.logtags c.append_all-appended.new.starts c.append_all-appended.new.maps c.append_all-appended.new.buckets c.append_all-appended.new.stacks c.append_all-appended.ensures d.result c.enter_all-ends.new.log c.enter_all-ends.new.logtags c.enter_all-ends.new.starts c.enter_all-ends.new.maps c.enter_all-ends.new.buckets c.enter_all-ends.new.stacks c.enter_all-ends.ensures in record { held = z.0; special_len = (z.1, z.2) }
 
-pub overflow_cast-bytes : goal.overflow_cast-bytes
-overflow_cast-bytes c = let a = c.args in let K = c.requires.linkable in let e = c.empty in let s = c.source_types-set in let t = c.count in let b = c.append_all-appended in let d = c.enter_all-ends in let z = answer_fits a.words.now a.tags.now a.n a.order.now a.output.now K a.log.now a.logtags.now a.starts.now (replicate 16384 0) a.stacks.now c.requires.scratch_lengths (length-replicate {A = ℕ} 16384 0) target_bytes refl e.result c.empty.ensures s.result c.source_types-set.new.log c.source_types-set.new.logtags c.source_types-set.new.starts c.source_types-set.new.maps c.source_types-set.new.buckets c.source_types-set.new.special c.source_types-set.ensures t.result c.count.ensures.0 b.result c.append_all-appended.new.log c.append_all-appended.new.logtags c.append_all-appended.new.starts c.append_all-appended.new.maps c.append_all-appended.new.buckets c.append_all-appended.new.stacks c.append_all-appended.ensures d.result c.enter_all-ends.new.log c.enter_all-ends.new.logtags c.enter_all-ends.new.starts c.enter_all-ends.new.maps c.enter_all-ends.new.buckets c.enter_all-ends.new.stacks c.enter_all-ends.ensures 0 _ c.finish.new.output c.in-Ok.ensures in omega (arith, z.1)
+pub overflow_cast-result : goal.overflow_cast-result
+overflow_cast-result c = let a = c.args in let K = c.requires.linkable in let e = c.empty in let s = c.source_types-set in let t = c.count in let b = c.append_all-appended in let d = c.enter_all-ends in let z = answer_fits a.words.now a.tags.now a.n a.order.now a.output.now K a.log.now a.logtags.now a.starts.now (replicate 16384 0) a.stacks.now c.requires.scratch_lengths (length-replicate {A = ℕ} 16384 0) target_bytes refl e.result c.empty.ensures s.result c.source_types-set.new.log c.source_types-set.new.logtags c.source_types-set.new.starts c.source_types-set.new.maps c.source_types-set.new.buckets c.source_types-set.new.special c.source_types-set.ensures t.result c.count.ensures.0 b.result c.append_all-appended.new.log c.append_all-appended.new.logtags c.append_all-appended.new.starts c.append_all-appended.new.maps c.append_all-appended.new.buckets c.append_all-appended.new.stacks c.append_all-appended.ensures d.result c.enter_all-ends.new.log c.enter_all-ends.new.logtags c.enter_all-ends.new.starts c.enter_all-ends.new.maps c.enter_all-ends.new.buckets c.enter_all-ends.new.stacks c.enter_all-ends.ensures 0 _ c.finish.new.output c.in_ok-bytes.ensures in omega (arith, z.1)
 
-pub returns-in-Ok : goal.returns-in-Ok
-returns-in-Ok c = let a = c.args in let K = c.requires.linkable in let e = c.empty in let s = c.source_types-set in let t = c.count in let b = c.append_all-appended in let d = c.enter_all-ends in links_by a.words.now a.tags.now a.n a.order.now a.output.now K a.log.now a.logtags.now a.starts.now (replicate 16384 0) a.stacks.now c.requires.scratch_lengths (length-replicate {A = ℕ} 16384 0) target_bytes refl e.result c.empty.ensures s.result c.source_types-set.new.log c.source_types-set.new.logtags c.source_types-set.new.starts c.source_types-set.new.maps c.source_types-set.new.buckets c.source_types-set.new.special c.source_types-set.ensures t.result c.count.ensures.0 b.result c.append_all-appended.new.log c.append_all-appended.new.logtags c.append_all-appended.new.starts c.append_all-appended.new.maps c.append_all-appended.new.buckets c.append_all-appended.new.stacks c.append_all-appended.ensures d.result c.enter_all-ends.new.log c.enter_all-ends.new.logtags c.enter_all-ends.new.starts c.enter_all-ends.new.maps c.enter_all-ends.new.buckets c.enter_all-ends.new.stacks c.enter_all-ends.ensures 0 _ c.finish.new.output c.in-Ok.ensures c.pack.result c.pack.ensures
+pub returns : goal.returns
+returns c = let a = c.args in let K = c.requires.linkable in let e = c.empty in let s = c.source_types-set in let t = c.count in let b = c.append_all-appended in let d = c.enter_all-ends in links_by a.words.now a.tags.now a.n a.order.now a.output.now K a.log.now a.logtags.now a.starts.now (replicate 16384 0) a.stacks.now c.requires.scratch_lengths (length-replicate {A = ℕ} 16384 0) target_bytes refl e.result c.empty.ensures s.result c.source_types-set.new.log c.source_types-set.new.logtags c.source_types-set.new.starts c.source_types-set.new.maps c.source_types-set.new.buckets c.source_types-set.new.special c.source_types-set.ensures t.result c.count.ensures.0 b.result c.append_all-appended.new.log c.append_all-appended.new.logtags c.append_all-appended.new.starts c.append_all-appended.new.maps c.append_all-appended.new.buckets c.append_all-appended.new.stacks c.append_all-appended.ensures d.result c.enter_all-ends.new.log c.enter_all-ends.new.logtags c.enter_all-ends.new.starts c.enter_all-ends.new.maps c.enter_all-ends.new.buckets c.enter_all-ends.new.stacks c.enter_all-ends.ensures 0 _ c.finish.new.output c.in_ok-bytes.ensures _ refl
 
-pub returns-in-Err : goal.returns-in-Err
-returns-in-Err c = let a = c.args in let K = c.requires.linkable in let e = c.empty in let s = c.source_types-set in let t = c.count in let b = c.append_all-appended in let d = c.enter_all-ends in links_by a.words.now a.tags.now a.n a.order.now a.output.now K a.log.now a.logtags.now a.starts.now (replicate 16384 0) a.stacks.now c.requires.scratch_lengths (length-replicate {A = ℕ} 16384 0) target_bytes refl e.result c.empty.ensures s.result c.source_types-set.new.log c.source_types-set.new.logtags c.source_types-set.new.starts c.source_types-set.new.maps c.source_types-set.new.buckets c.source_types-set.new.special c.source_types-set.ensures t.result c.count.ensures.0 b.result c.append_all-appended.new.log c.append_all-appended.new.logtags c.append_all-appended.new.starts c.append_all-appended.new.maps c.append_all-appended.new.buckets c.append_all-appended.new.stacks c.append_all-appended.ensures d.result c.enter_all-ends.new.log c.enter_all-ends.new.logtags c.enter_all-ends.new.starts c.enter_all-ends.new.maps c.enter_all-ends.new.buckets c.enter_all-ends.new.stacks c.enter_all-ends.ensures _ _ c.finish.new.output c.in-Err.ensures c.pack-in-Err.result (c.pack-in-Err.ensures ∙ ap (λ k. packed k 0) c.number.ensures)
+pub returns-in_err-bytes : goal.returns-in_err-bytes
+returns-in_err-bytes c = let a = c.args in let K = c.requires.linkable in let e = c.empty in let s = c.source_types-set in let t = c.count in let b = c.append_all-appended in let d = c.enter_all-ends in absurd (not_zero _ (answer_fits a.words.now a.tags.now a.n a.order.now a.output.now K a.log.now a.logtags.now a.starts.now (replicate 16384 0) a.stacks.now c.requires.scratch_lengths (length-replicate {A = ℕ} 16384 0) target_bytes refl e.result c.empty.ensures s.result c.source_types-set.new.log c.source_types-set.new.logtags c.source_types-set.new.starts c.source_types-set.new.maps c.source_types-set.new.buckets c.source_types-set.new.special c.source_types-set.ensures t.result c.count.ensures.0 b.result c.append_all-appended.new.log c.append_all-appended.new.logtags c.append_all-appended.new.starts c.append_all-appended.new.maps c.append_all-appended.new.buckets c.append_all-appended.new.stacks c.append_all-appended.ensures d.result c.enter_all-ends.new.log c.enter_all-ends.new.logtags c.enter_all-ends.new.starts c.enter_all-ends.new.maps c.enter_all-ends.new.buckets c.enter_all-ends.new.stacks c.enter_all-ends.ensures _ _ c.finish.new.output c.in_err-bytes.ensures).0)

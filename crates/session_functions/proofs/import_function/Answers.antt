@@ -32,4 +32,4 @@ pub overflow_cast-got : goal.overflow_cast-got
 overflow_cast-got c = let B = (c.append_or_undo-got.ensures.is c.if-got.false).1.few_functions in omega arith
 
 pub returns : goal.returns
-returns c = let a = c.args in let L = c.requires.valid_session in let S = c.requires.stacks in let h = c.if-room-f.false in let k = c.count-room.ensures.0 in let l : a.f < count_at 6 a.image.words.now = omega arith in let zz = Answers.import_done a.set a.image.n a.offset a.image.words.now a.image.tags.now target_bytes a.log.now a.logtags.now a.starts.now a.maps.now a.buckets.now a.special.now a.ends L a.stacks.now S a.f (ap not c.if-not-set.false) l _ refl _ c.import_rings.ensures c.if-import_rings.false _ refl _ k _ _ _ _ _ _ _ c.append_or_undo-got.ensures c.if-got.false _ c.number_before-v.ensures in record { operation_ensures = zz.0; valid_session_2 = zz.1.0; stacks_2 = zz.1.1 }
+returns c = let a = c.args in let L = c.requires.valid_session in let S = c.requires.stacks in let h = c.if-room-f.false in let k = c.count-room.ensures.0 in let l : a.f < count_at 6 a.image.words.now = omega arith in let zz = Answers.import_done a.set a.image.n a.offset a.image.words.now a.image.tags.now target_bytes a.log.now a.logtags.now a.starts.now a.maps.now a.buckets.now a.special.now a.ends L a.stacks.now S a.f (ap not c.if-not-set.false) l _ refl _ c.import_rings.ensures c.if-import_rings.false _ refl _ k _ _ _ _ _ _ _ c.append_or_undo-got.ensures c.if-got.false _ c.number_of-v.ensures in record { operation_ensures = zz.0; valid_session_2 = zz.1.0; stacks_2 = zz.1.1 }
