@@ -9,25 +9,10 @@ use Rattle.base_words.specs.Words.{bytes_of}
 use Rattle.model.specs.Session.{Session, new}
 use Rattle.model.specs.Steps.{Said, Operation, operations, sets-source, clears_source, maps_span, types, renames, constants, overrides, globals, expressions, functions, new_functions, handles, required, finishes, finishes_entries, unknown, perform, part, run, answers_of, output_of, first_refused, session}
 use Rattle.model.specs.Image.{wuldgisp_session, SessionEnsures}
-use Rattle.model.specs.Refusals.{packed}
 use Rattle.session_steps.specs.Stepped.{saying, PerformEnsures}
 use Rattle.session.specs.Sessions.{or_else, numbered}
 
 -- ---- the first refusal
-pub first-stays : (x y : ℕ) → (x ≡ 0 → ⊥) → x ≡ or_else x y
-unfolding or_else
-first-stays zero y h = absurd (h refl)
-first-stays (suc x) y h = refl
-
-pub first_accepted : (x k i : ℕ) → x ≡ 0 → k ≡ 0 → 0 ≡ or_else x (numbered k i)
-unfolding or_else numbered
-first_accepted x k i e h = rw (e, h)
-
-pub first_refused_lem : (x k i : ℕ) → x ≡ 0 → (k ≡ 0 → ⊥) → (r : ℕ) → r ≡ packed k (i % 4294967296) → r ≡ or_else x (numbered k i)
-unfolding or_else numbered
-first_refused_lem x zero i e h r is = absurd (h refl)
-first_refused_lem x (suc k) i e h r is = rw (e) is
-
 first_there : (x y : ℕ) → 0 < x → or_else x y ≡ x
 unfolding or_else
 first_there zero y h = absurd (omega arith)

@@ -22,16 +22,15 @@ fn tell(answers: &mut [u32], at: usize, w: u32)
 }
 
 // The first refusal with its step's number: the one that was, or else that of step j.
+#[tactic(auto, unfolding(crate::specs::Sessions::or_else, crate::specs::Sessions::numbered))]
 fn first_of(first: u64, refusal: u32, j: usize) -> u64
     ensures { result ≡ or_else first (numbered refusal j) }
 {
-    if first != 0 {
-        return first;
+    if first != 0 || refusal == 0 {
+        first
+    } else {
+        pack(refusal, (j % 4294967296) as u32)
     }
-    if refusal == 0 {
-        return 0;
-    }
-    pack(refusal, (j % 4294967296) as u32)
 }
 
 // All steps, in arrays that the caller provides. 0 if every step was accepted; else the refusal of the first refused step in the low half, and that step's
