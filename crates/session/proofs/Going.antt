@@ -1,10 +1,11 @@
 -- The loop over the steps: the arrays hold the session that was reached, and what is left from here is the whole.
 use mathlib.Core.Path.{◌≡◌, refl}
 use mathlib.Core.Bool.{Bool, false}
-use mathlib.Core.List.{List}
+use mathlib.Core.List.{List, [], ◌∷◌}
 use Prim.Native.Nat.{ℕ, suc, ◌+◌, ◌*◌, ◌≤◌, ◌<◌}
 use native.Mathlib.Omega.{arith}
-use lib.ListN.{length, get_or, replicate, set as put}
+use lib.ListN.{length, get_or, replicate}
+use lib.Seq.{sets}
 use Rattle.derive_state.specs.Refers.{target_bytes}
 use Rattle.derive_state.specs.declared.Sizes.{Sizes}
 use Rattle.function_builder.specs.Stacks.{Stacks}
@@ -54,7 +55,7 @@ module _ (sources steps answers₀ output₀ : List ℕ) (count : ℕ) (answers 
   pub going_next : i < count → (k u v : ℕ) → k < 4294967296 → (output' words' tags' log' logtags' : List ℕ) (starts' maps' : List (List ℕ)) (buckets' special' : List ℕ) (stacks' : List (List ℕ)) (e' : Sizes) (set' : Bool) (n' o' first' i' : ℕ)
       → PerformEnsures (saying (get_or steps (4 * i) 0) (get_or steps (4 * i + 1) 0) (get_or steps (4 * i + 2) 0) (get_or steps (4 * i + 3) 0) sources output (session_of set n o words log logtags starts maps special e)) k u v output output' (session_of set' n' o' words' log' logtags' starts' maps' special' e')
       → ValidSession set' n' o' words' tags' target_bytes log' logtags' starts' maps' buckets' special' e' → Stacks stacks' e' → first' ≡ or_else first (numbered k i) → i' ≡ suc i
-      → Going sources steps answers₀ output₀ count (put (put (put answers (3 * i) k) (3 * i + 1) u) (3 * i + 2) v) output' words' tags' log' logtags' starts' maps' buckets' special' stacks' e' set' n' o' first' i'
+      → Going sources steps answers₀ output₀ count (sets answers (3 * i) (k ∷ u ∷ v ∷ [])) output' words' tags' log' logtags' starts' maps' buckets' special' stacks' e' set' n' o' first' i'
   going_next h k u v low output' words' tags' log' logtags' starts' maps' buckets' special' stacks' e' set' n' o' first' i' d live stacks_are f hi =
       let a = G.all in
       rw (hi)
@@ -66,9 +67,3 @@ module _ (sources steps answers₀ output₀ : List ℕ) (count : ℕ) (answers 
         all = G.all;
         no_more = G.no_more;
       })
-
--- three words of an answer, written one after the other
-pub told_so : (a : List ℕ) (j k u v : ℕ) {sources steps answers₀ output₀ : List ℕ} {count : ℕ} {output words tags log logtags : List ℕ} {starts maps : List (List ℕ)} {buckets special : List ℕ} {stacks : List (List ℕ)} {e : Sizes} {set : Bool} {n o first i : ℕ} {a₁ a₂ a₃ : List ℕ} → a₁ ≡ put a j k → a₂ ≡ put a₁ (j + 1) u → a₃ ≡ put a₂ (j + 2) v
-    → Going sources steps answers₀ output₀ count (put (put (put a j k) (j + 1) u) (j + 2) v) output words tags log logtags starts maps buckets special stacks e set n o first i
-    → Going sources steps answers₀ output₀ count a₃ output words tags log logtags starts maps buckets special stacks e set n o first i
-told_so a j k u v h₁ h₂ h₃ g = rw (h₃, h₂, h₁) g
