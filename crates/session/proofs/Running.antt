@@ -1,33 +1,23 @@
 -- The steps in sequence: what is left from here is the whole.
 use mathlib.Core.Path.{◌≡◌, refl, sym, ap, ◌∙◌, subst}
-use mathlib.Core.List.{List, [], ◌∷◌}
-use Prim.Native.Nat.{ℕ, zero, suc, ◌+◌, ◌-◌, ◌*◌, ◌%◌, ◌<◌, min}
+use mathlib.Core.Bool.{Bool, true, false}
+use mathlib.Core.List.{List, [], ◌∷◌, ◌++◌, append_assoc}
+use Prim.Native.Nat.{ℕ, zero, suc, ◌+◌, ◌-◌, ◌*◌, ◌%◌, ◌≤◌, ◌<◌, min}
+use native.Mathlib.Nat.{le-add_right}
 use native.Mathlib.Omega.{arith}
-use lib.ListN.{length, get_or, set, drop, length-take, length-drop, length-set}
-use lib.Seq.{sets, drop-cons, length-sets}
+use lib.Dec.{ltb}
+use lib.ListN.{length, get_or, set, take, drop, length-take, length-drop, length-set}
+use lib.Seq.{sets, sets-eq, set_out, drop-cons, length-sets, length-take-le}
+use borrow.Author.Tests.{ltb-true, ltb-false}
+use borrow.Rule.Slice.PartMut.{put_mid, Post-is}
 use Rattle.base_words.specs.Words.{bytes_of}
 use Rattle.model.specs.Session.{Session, new}
 use Rattle.model.specs.Steps.{Said, Operation, operations, sets-source, clears_source, maps_span, types, renames, constants, overrides, globals, expressions, functions, new_functions, handles, required, finishes, finishes_entries, unknown, perform, part, run, answers_of, output_of, first_refused, session}
 use Rattle.model.specs.Image.{wuldgisp_session, SessionEnsures}
-use Rattle.model.specs.Refusals.{packed}
 use Rattle.session_steps.specs.Stepped.{saying, PerformEnsures}
 use Rattle.session.specs.Sessions.{or_else, numbered}
 
 -- ---- the first refusal
-pub first-stays : (x y : ℕ) → (x ≡ 0 → ⊥) → x ≡ or_else x y
-unfolding or_else
-first-stays zero y h = absurd (h refl)
-first-stays (suc x) y h = refl
-
-pub first_accepted : (x k i : ℕ) → x ≡ 0 → k ≡ 0 → 0 ≡ or_else x (numbered k i)
-unfolding or_else numbered
-first_accepted x k i e h = rw (e, h)
-
-pub first_refused_lem : (x k i : ℕ) → x ≡ 0 → (k ≡ 0 → ⊥) → (r : ℕ) → r ≡ packed k (i % 4294967296) → r ≡ or_else x (numbered k i)
-unfolding or_else numbered
-first_refused_lem x zero i e h r is = absurd (h refl)
-first_refused_lem x (suc k) i e h r is = rw (e) is
-
 first_there : (x y : ℕ) → 0 < x → or_else x y ≡ x
 unfolding or_else
 first_there zero y h = absurd (omega arith)
@@ -95,9 +85,32 @@ run_short (a ∷ b ∷ []) sources output s h = refl
 run_short (a ∷ b ∷ c ∷ []) sources output s h = refl
 run_short (a ∷ b ∷ c ∷ d ∷ l) sources output s h = absurd (omega arith)
 
--- ---- three words are its answer
-three : (l : List ℕ) (i i₁ i₂ i₃ k u v : ℕ) (vs : List ℕ) → i₁ ≡ suc i → i₂ ≡ suc (suc i) → i₃ ≡ suc (suc (suc i)) → sets (set (set (set l i k) i₁ u) i₂ v) i₃ vs ≡ sets l i (k ∷ u ∷ v ∷ vs)
-three l i i₁ i₂ i₃ k u v vs a b c = rw (a, b, c)
+-- ---- what is written as far as there is room
+sets_past : (vs l : List ℕ) (i : ℕ) → length l ≤ i → sets l i vs ≡ l
+sets_past [] l i h = refl
+sets_past (a ∷ vs) l i h = ap (λ (k : List ℕ). sets k (suc i) vs) (set_out l i a h) ∙ sets_past vs l (suc i) (omega arith)
+
+-- what is written past the end is not written
+sets_cut : (vs l : List ℕ) (i n : ℕ) → min (length vs) (length l - i) ≤ n → sets l i (take n vs) ≡ sets l i vs
+sets_cut [] l i zero h = refl
+sets_cut [] l i (suc n) h = refl
+sets_cut (a ∷ vs) l i zero h = sym (sets_past (a ∷ vs) l i (omega arith))
+sets_cut (a ∷ vs) l i (suc n) h = sets_cut vs (set l i a) (suc i) n (omega (arith, length-set l i a))
+
+pub told : (vs l part : List ℕ) (at f n : ℕ) → f ≡ min at (length l) → n ≡ min (length vs) (length l - f) → part ≡ take n vs → put_mid f (f + n - f) l part ≡ sets l at vs
+told vs l part at f n hf hn taken =
+    let long : f + length (take n vs) ≡ f + n = ap (λ (k : ℕ). f + k) (length-take-le n vs (omega (arith, hn))) in
+    ap (put_mid f (f + n - f) l) taken
+    ∙ ap (λ (r : List ℕ). take f l ++ (take n vs ++ r)) (Post-is f (f + n) l (le-add_right f n))
+    ∙ sym (append_assoc (take f l) (take n vs) (drop (f + n) l))
+    ∙ ap (λ (k : ℕ). take f l ++ take n vs ++ drop k l) (sym long)
+    ∙ sym (sets-eq (take n vs) l f (omega (arith, hf, hn, long)))
+    ∙ sets_cut vs l f n (omega (arith, hn))
+    ∙ go (ltb (length l) at) refl
+  where
+    go : (b : Bool) → ltb (length l) at ≡ b → sets l f vs ≡ sets l at vs
+    go true e = let h = ltb-true (length l) at e in sets_past vs l f (omega (arith, hf, h)) ∙ sym (sets_past vs l at (omega (arith, h)))
+    go false e = let h = ltb-false (length l) at e in let k : f ≡ at = omega (arith, hf, h) in ap (λ (i : ℕ). sets l i vs) k
 
 words_of : (x : Said) (xs : List Said) (k u v : ℕ) → k ≡ x.refusal → u ≡ x.first → v ≡ x.second → k ∷ u ∷ v ∷ answers_of xs ≡ answers_of (x ∷ xs)
 unfolding answers_of
@@ -138,20 +151,20 @@ module _ (sources steps answers₀ output₀ : List ℕ) where
 
     module _ (k u v : ℕ) (output' : List ℕ) (s' : Session) (d : PerformEnsures (said output) k u v output output' s') (low : k < 4294967296) where
       abbrev answers' : List ℕ
-      answers' = set (set (set answers (3 * j) k) (3 * j + 1) u) (3 * j + 2) v
+      answers' = sets answers (3 * j) (k ∷ u ∷ v ∷ [])
 
       pub left_next : (first' : ℕ) → first' ≡ or_else first (numbered k j) → Left sources steps answers₀ output₀ (suc j) first' answers' output' s'
       unfolding answers_of output_of
       left_next first' f = record {
         long = ap length d₀.output_is ∙ length-sets output (said output₀).at (bytes_of (said output₀).written) ∙ L.long;
-        answers_long = length-set (set (set answers (3 * j) k) (3 * j + 1) u) (3 * j + 2) v ∙ length-set (set answers (3 * j) k) (3 * j + 1) u ∙ length-set answers (3 * j) k ∙ L.answers_long;
+        answers_long = length-sets answers (3 * j) (k ∷ u ∷ v ∷ []) ∙ L.answers_long;
         result_so =
             ap (λ (y : ℕ). or_else y (first_refused rest (suc j) % 18446744073709551616)) (f ∙ ap (λ (y : ℕ). or_else first (numbered y j)) d₀.refusal_is)
             ∙ next-first (said output₀) rest first j (subst (λ (y : ℕ). y < 4294967296) d₀.refusal_is low)
             ∙ ap (λ (xs : List Said). or_else first (first_refused xs j % 18446744073709551616)) (sym whole)
             ∙ L.result_so;
         answers_so =
-            three answers (3 * j) (3 * j + 1) (3 * j + 2) (3 * suc j) k u v (answers_of rest) (omega arith) (omega arith) (omega arith)
+            ap (λ (i : ℕ). sets answers' i (answers_of rest)) next
             ∙ ap (sets answers (3 * j)) (words_of (said output₀) rest k u v d₀.refusal_is d₀.first_is d₀.second_is ∙ ap answers_of (sym whole))
             ∙ L.answers_so;
         output_so = ap (output_of rest) d₀.output_is ∙ ap (λ (xs : List Said). output_of xs output) (sym whole) ∙ L.output_so;
@@ -159,6 +172,9 @@ module _ (sources steps answers₀ output₀ : List ℕ) where
         where
           d₀ : PerformEnsures (said output₀) k u v output output' s'
           d₀ = subst (λ (x : Said). PerformEnsures x k u v output output' s') (same_said (get_or operations (get_or steps (4 * j) 0) unknown) (get_or steps (4 * j + 1) 0) (get_or steps (4 * j + 2) 0) (get_or steps (4 * j + 3) 0) sources output output₀ s L.long) d
+
+          next : 3 * suc j ≡ suc (suc (suc (3 * j)))
+          next = omega arith
 
           rest : List Said
           rest = run (drop (4 * suc j) steps) sources output₀ s'

@@ -3,7 +3,8 @@
 // provides, `session` in its own.
 #![tactic(auto)]
 
-ghost use Rattle.std.specs.Prelude.{◌≡◌, length, set};
+ghost use Rattle.std.specs.Prelude.{◌≡◌, length};
+ghost use Rattle.std.proofs.lemmas.List.Edits.{sets};
 ghost use Rattle.model.specs.Image.{ScratchLengths, SessionEnsures};
 ghost use Rattle.session.specs.Sessions.{or_else, numbered};
 
@@ -12,26 +13,25 @@ use base_words::{Tags, Words};
 use derive_state::{Buckets, Log, LogTags, Maps, StackRows, Starts, clear_maps, empty};
 use session_steps::{Step, perform};
 
-// An answer's word, where there is room for it.
-fn tell(answers: &mut [u32], at: usize, w: u32)
-    ensures { answers.new ≡ set answers.old at w }
+// An answer's words, as far as there is room for them.
+fn tell(answers: &mut [u32], at: usize, said: &[u32])
+    ensures { answers.new ≡ sets answers.old at said.now }
 {
-    if at < answers.len() {
-        answers[at] = w;
-    }
+    let from = at.min(answers.len());
+    let n = said.len().min(answers.len() - from);
+    answers[from..from + n].copy_from_slice(&said[..n]);
 }
 
 // The first refusal with its step's number: the one that was, or else that of step j.
+#[tactic(auto, unfolding(crate::specs::Sessions::or_else, crate::specs::Sessions::numbered))]
 fn first_of(first: u64, refusal: u32, j: usize) -> u64
     ensures { result ≡ or_else first (numbered refusal j) }
 {
-    if first != 0 {
-        return first;
+    if first != 0 || refusal == 0 {
+        first
+    } else {
+        pack(refusal, (j % 4294967296) as u32)
     }
-    if refusal == 0 {
-        return 0;
-    }
-    pack(refusal, (j % 4294967296) as u32)
 }
 
 // All steps, in arrays that the caller provides. 0 if every step was accepted; else the refusal of the first refused step in the low half, and that step's
@@ -94,9 +94,7 @@ pub fn session_in(
         set = said.set;
         n = said.n;
         offset = said.offset;
-        tell(answers, 3 * j, said.refusal);
-        tell(answers, 3 * j + 1, said.first);
-        tell(answers, 3 * j + 2, said.second);
+        tell(answers, 3 * j, &[said.refusal, said.first, said.second]);
         first = first_of(first, said.refusal, j);
     }
     first

@@ -2,21 +2,24 @@
 use mathlib.Core.Path.{◌≡◌, refl, sym, ap, ◌∙◌, subst}
 use mathlib.Core.Bool.{Bool, true, false, false≢true}
 use mathlib.Core.List.{List}
-use Prim.Native.Nat.{ℕ, zero, suc, ◌+◌, ◌-◌, ◌≤◌, ◌<◌}
+use Prim.Native.Nat.{ℕ, zero, suc, ◌≤◌}
 use native.Mathlib.Omega.{arith}
 use lib.ListN.{length, get_or-eq_default}
 use Rattle.base_words.specs.Words.{words_of, bytes_of}
 use Rattle.model.specs.Imports.{emptied}
-use Rattle.model.specs.Session.{Session, Answer, with_source, set, clear, map_span, importing, rename_type, import_function, map_function_handle}
+use Rattle.model.specs.Session.{Session, Answer as Answered, with_source, set, clear, map_span, importing, rename_type, import_function, map_function_handle}
 use Rattle.model.specs.Steps.{Said, operations, unknown, says, perform, part}
 use Rattle.derive_limits.specs.Reached.{Reached, Public}
 use Rattle.derive_limits.proofs.Reached.{does-reached}
 use Rattle.theory_sessions.specs.Operating.{does, clears}
-use Rattle.derive_state.specs.Refers.{tab_of}
+use Rattle.derive_state.specs.Refers.{tab_of, target_bytes}
 use Rattle.derive_state.specs.declared.Sizes.{Sizes}
 use Rattle.function_builder.specs.Stacks.{Stacks}
 use Rattle.derive_session.specs.Valid.{session_of, ValidSession}
+use Rattle.session_operations.specs.declared.Answer.{Answer}
 use Rattle.session_operations.specs.Operations.{answer_of, OperationEnsures, MapSpanEnsures, RequiredEnsures}
+use Rattle.session_steps.specs.declared.Operation.{Operation}
+use Rattle.session_steps.specs.Numbers.{number_of}
 use Rattle.session_steps.specs.Stepped.{saying, PerformEnsures, Quiet, Recorded, value_of}
 
 -- ---- answers as words
@@ -25,14 +28,14 @@ unfolding value_of
 value_none zero = refl
 value_none (suc k) = refl
 
-says-stepped : {A : Type 0} (op : Session → Answer A) (values : A → ℕ × ℕ) (s : Session) (k : ℕ) (v : A) (s' : Session) (output : List ℕ) → OperationEnsures op s k v s' → PerformEnsures (says s values (op s)) k (value_of k (values v).0) (value_of k (values v).1) output output s'
+says-stepped : {A : Type 0} (op : Session → Answered A) (values : A → ℕ × ℕ) (s : Session) (k : ℕ) (v : A) (s' : Session) (output : List ℕ) → OperationEnsures op s k v s' → PerformEnsures (says s values (op s)) k (value_of k (values v).0) (value_of k (values v).1) output output s'
 unfolding says answer_of value_of bytes_of
 says-stepped op values s zero v s' output d = rw d.is (record { refusal_is = refl; first_is = refl; second_is = refl; output_is = refl; session_is = refl })
 says-stepped op values s (suc k) v s' output d = rw d.is (record { refusal_is = refl; first_is = refl; second_is = refl; output_is = refl; session_is = d.stays (omega arith) })
 
 -- ---- steps that import
-module _ (o a b c : ℕ) (s s' : Session) (k v : ℕ) where
-  recorded : (op : Session → Answer ℕ) → ((sources output : List ℕ) → saying o a b c sources output s ≡ says s (λ (n : ℕ). (n, 0)) (op s)) → OperationEnsures op s k v s' → Recorded o a b c s k (value_of k v) s'
+module _ {o a b c : ℕ} {s s' : Session} {k v : ℕ} where
+  recorded : (op : Session → Answered ℕ) → ((sources output : List ℕ) → saying o a b c sources output s ≡ says s (λ (n : ℕ). (n, 0)) (op s)) → OperationEnsures op s k v s' → Recorded o a b c s k (value_of k v) s'
   recorded op e d = record {
     is = λ sources output.
         let h = says-stepped op (λ (n : ℕ). (n, 0)) s k v s' output d in
@@ -48,51 +51,48 @@ module _ (o a b c : ℕ) (s s' : Session) (k v : ℕ) where
   unfolding operations perform
   rename_recorded e = recorded (rename_type a b) (λ sources output. rw (e))
 
+  pub constant_recorded : o ≡ 5 → OperationEnsures (importing (tab_of 2) a) s k v s' → Recorded o a b c s k (value_of k v) s'
+  unfolding operations perform tab_of
+  constant_recorded e = recorded (importing (tab_of 2) a) (λ sources output. rw (e))
+
+  pub override_recorded : o ≡ 6 → OperationEnsures (importing (tab_of 3) a) s k v s' → Recorded o a b c s k (value_of k v) s'
+  unfolding operations perform tab_of
+  override_recorded e = recorded (importing (tab_of 3) a) (λ sources output. rw (e))
+
+  pub global_recorded : o ≡ 7 → OperationEnsures (importing (tab_of 4) a) s k v s' → Recorded o a b c s k (value_of k v) s'
+  unfolding operations perform tab_of
+  global_recorded e = recorded (importing (tab_of 4) a) (λ sources output. rw (e))
+
+  pub expression_recorded : o ≡ 8 → OperationEnsures (importing (tab_of 5) a) s k v s' → Recorded o a b c s k (value_of k v) s'
+  unfolding operations perform tab_of
+  expression_recorded e = recorded (importing (tab_of 5) a) (λ sources output. rw (e))
+
   pub function_recorded : o ≡ 9 → OperationEnsures (import_function a) s k v s' → Recorded o a b c s k (value_of k v) s'
   unfolding operations perform
   function_recorded e = recorded (import_function a) (λ sources output. rw (e))
 
--- the tables after that of types
-between : (o a b c : ℕ) (s : Session) → 5 ≤ o → o < 9 → (sources output : List ℕ) → saying o a b c sources output s ≡ says s (λ (n : ℕ). (n, 0)) (importing (tab_of (o - 3)) a s)
-unfolding operations perform tab_of
-between zero a b c s h l sources output = absurd (omega arith)
-between (suc zero) a b c s h l sources output = absurd (omega arith)
-between (suc (suc zero)) a b c s h l sources output = absurd (omega arith)
-between (suc (suc (suc zero))) a b c s h l sources output = absurd (omega arith)
-between (suc (suc (suc (suc zero)))) a b c s h l sources output = absurd (omega arith)
-between (suc (suc (suc (suc (suc zero))))) a b c s h l sources output = refl
-between (suc (suc (suc (suc (suc (suc zero)))))) a b c s h l sources output = refl
-between (suc (suc (suc (suc (suc (suc (suc zero))))))) a b c s h l sources output = refl
-between (suc (suc (suc (suc (suc (suc (suc (suc zero)))))))) a b c s h l sources output = refl
-between (suc (suc (suc (suc (suc (suc (suc (suc (suc o))))))))) a b c s h l sources output = absurd (omega arith)
+  pub new_recorded : o ≡ 10 → OperationEnsures (map_function_handle a) s k v s' → Recorded o a b c s k (value_of k v) s'
+  unfolding operations perform
+  new_recorded e = recorded (map_function_handle a) (λ sources output. rw (e))
 
-pub tables_recorded : (o a b c : ℕ) (s s' : Session) (k v t : ℕ) → 5 ≤ o → o < 9 → t ≡ o - 3 → OperationEnsures (importing (tab_of t) a) s k v s' → Recorded o a b c s k (value_of k v) s'
-tables_recorded o a b c s s' k v t h l e d = recorded o a b c s s' k v (importing (tab_of t) a) (λ sources output. between o a b c s h l sources output ∙ ap (λ (t : ℕ). says s (λ (n : ℕ). (n, 0)) (importing (tab_of t) a s)) (sym e)) d
-
--- both operations that answer a function's handle
-handles : (i a b c : ℕ) (s : Session) → i < 2 → (sources output : List ℕ) → saying (10 + i) a b c sources output s ≡ says s (λ (n : ℕ). (n, 0)) (map_function_handle a s)
-unfolding operations perform
-handles zero a b c s l sources output = refl
-handles (suc zero) a b c s l sources output = refl
-handles (suc (suc i)) a b c s l sources output = absurd (omega arith)
-
-pub handle_recorded : (o a b c : ℕ) (s s' : Session) (k v : ℕ) → 10 ≤ o → o < 12 → OperationEnsures (map_function_handle a) s k v s' → Recorded o a b c s k (value_of k v) s'
-handle_recorded o a b c s s' k v h l =
-    let e : 10 + (o - 10) ≡ o = omega arith in
-    recorded o a b c s s' k v (map_function_handle a) (λ sources output.
-    subst (λ (o : ℕ). saying o a b c sources output s ≡ says s (λ (n : ℕ). (n, 0)) (map_function_handle a s)) e (handles (o - 10) a b c s (omega arith) sources output))
+  pub handle_recorded : o ≡ 11 → OperationEnsures (map_function_handle a) s k v s' → Recorded o a b c s k (value_of k v) s'
+  unfolding operations perform
+  handle_recorded e = recorded (map_function_handle a) (λ sources output. rw (e))
 
 -- 13: no operation
-pub none_recorded : (o a b c : ℕ) (s : Session) → 15 ≤ o → Recorded o a b c s 13 (value_of 13 0) s
-unfolding operations perform says bytes_of value_of
-none_recorded o a b c s h = record { is = λ sources output. subst (λ (x : Said). PerformEnsures x 13 0 0 output output s) (sym (beyond sources output)) (record { refusal_is = refl; first_is = refl; second_is = refl; output_is = refl; session_is = refl }) }
-  where
-    beyond : (sources output : List ℕ) → saying o a b c sources output s ≡ perform unknown a b c sources output s
-    beyond sources output = rw (get_or-eq_default operations unknown h)
+pub none_stepped : (o a b c : ℕ) (sources output : List ℕ) (s : Session) → 15 ≤ o → PerformEnsures (saying o a b c sources output s) 13 0 0 output output s
+unfolding operations perform says bytes_of
+none_stepped o a b c sources output s h = rw (get_or-eq_default operations unknown h) (record { refusal_is = refl; first_is = refl; second_is = refl; output_is = refl; session_is = refl })
 
 -- ---- the stacks do not matter between operations
 pub stacks_low : {stacks : List (List ℕ)} {e e' : Sizes} → Stacks stacks e → (e'.exprtop ≡ 0) × (e'.bodytop ≡ 0) → Stacks stacks e'
 stacks_low h l = record { four = h.four; rows = h.rows; high = let p = l.0 in omega arith; high' = let p = l.1 in omega arith }
+
+-- ---- what a step that imports leaves
+pub record Imported (o a b c : ℕ) (before : Session) (set : Bool) (n offset : ℕ) (words tags special log logtags : List ℕ) (starts maps : List (List ℕ)) (buckets : List ℕ) (stacks : List (List ℕ)) (said : Answer) : Type 0 where
+  pub recorded : Recorded o a b c before said.refusal (value_of said.refusal said.value) (session_of set n offset words log logtags starts maps special said.ends)
+  pub valid : ValidSession set n offset words tags target_bytes log logtags starts maps buckets special said.ends
+  pub stacked : Stacks stacks said.ends
 
 -- ---- setting a source
 pub set-quiet : (a b c : ℕ) (sources image : List ℕ) (s s' : Session) (k : ℕ) → part a b sources ≡ image → OperationEnsures (set (length image) (words_of image) c) s k tt s' → Quiet 0 a b c sources s k 0 0 s'
@@ -150,6 +150,9 @@ module _ (set : Bool) (n o : ℕ) (words log logtags : List ℕ) (starts maps : 
   required_stepped r d = record { refusal_is = refl; first_is = d.is set n o words log logtags starts maps; second_is = refl; output_is = refl; session_is = refl }
 
 -- ---- a step by the number of its operation
+pub number_is : {o p : Operation} {n : ℕ} → number_of o ≡ n → o ≡ p → n ≡ number_of p
+number_is h e = sym h ∙ ap number_of e
+
 pub by_number : (a b c : ℕ) (sources output₀ : List ℕ) (s : Session) {o p k u v : ℕ} {output : List ℕ} {s' : Session} → o ≡ p → PerformEnsures (saying p a b c sources output₀ s) k u v output₀ output s' → PerformEnsures (saying o a b c sources output₀ s) k u v output₀ output s'
 by_number a b c sources output₀ s {k = k} {u = u} {v = v} {output = output} {s' = s'} e h = subst (λ (y : ℕ). PerformEnsures (saying y a b c sources output₀ s) k u v output₀ output s') (sym e) h
 

@@ -5,11 +5,12 @@
 ghost use Rattle.std.specs.Prelude.{◌≡◌, ◌≤◌};
 ghost use Rattle.function_builder.specs.Stacks.{Stacks};
 ghost use Rattle.derive_session.specs.Valid.{session_of, ValidSession};
-ghost use Rattle.session_steps.specs.Stepped.{saying, PerformEnsures, Quiet, Wrote, Recorded, value_of};
+ghost use Rattle.session_steps.specs.Numbers.{Decodes};
+ghost use Rattle.session_steps.specs.Stepped.{saying, PerformEnsures, Quiet, Wrote, value_of};
 ghost use Rattle.derive_state.specs.Refers.{target_bytes};
 
-use base_refusals::NUMBER_GIVEN;
-use base_views::{CONSTANTS, Image, TYPES};
+use base_refusals::{NUMBER_GIVEN, Refusal};
+use base_views::{CONSTANTS, EXPRESSIONS, GLOBALS, Image, OVERRIDES, TYPES};
 use base_words::{Tags, Words};
 use derive_state::{Buckets, Log, LogTags, Maps, Sizes, Special, StackRows, Starts};
 use session_functions::{finish_with_entries, import_function, map_function_handle};
@@ -17,39 +18,53 @@ use session_operations::{
     finish_plain, has_required_special_types, import, map_span, rename_type, set_shader_source,
 };
 
-// The operations by their numbers, as include/wuldgisp.h lists them.
-pub const SET: u32 = 0;
+// The operations of a session.
+#[derive(Clone, Copy, Debug, PartialEq, Eq)]
+pub enum Operation {
+    Set,
+    Clear,
+    MapSpan,
+    ImportType,
+    RenameType,
+    ImportConst,
+    ImportPipelineOverride,
+    ImportGlobal,
+    ImportGlobalExpression,
+    ImportFunction,
+    ImportFunctionIfNew,
+    MapFunctionHandle,
+    HasRequiredSpecialTypes,
+    Finish,
+    FinishWithEntryPoints,
+}
 
-pub const CLEAR: u32 = 1;
+// The operation by its number, as include/wuldgisp.h lists them.
+impl TryFrom<u32> for Operation {
+    type Error = Refusal;
 
-pub const MAP_SPAN: u32 = 2;
+    ghost try_from_gives = { Decodes };
 
-pub const IMPORT_TYPE: u32 = 3;
-
-pub const RENAME_TYPE: u32 = 4;
-
-pub const IMPORT_CONST: u32 = 5;
-
-pub const IMPORT_PIPELINE_OVERRIDE: u32 = 6;
-
-pub const IMPORT_GLOBAL: u32 = 7;
-
-pub const IMPORT_GLOBAL_EXPRESSION: u32 = 8;
-
-pub const IMPORT_FUNCTION: u32 = 9;
-
-pub const IMPORT_FUNCTION_IF_NEW: u32 = 10;
-
-pub const MAP_FUNCTION_HANDLE: u32 = 11;
-
-pub const HAS_REQUIRED_SPECIAL_TYPES: u32 = 12;
-
-pub const FINISH: u32 = 13;
-
-pub const FINISH_WITH_ENTRY_POINTS: u32 = 14;
-
-// The import of a constant, an override, a global or an expression has the number of its table, plus this.
-const TABLES: usize = IMPORT_CONST as usize - CONSTANTS;
+    fn try_from(number: u32) -> Result<Self, Refusal> {
+        match number {
+            0 => Ok(Operation::Set),
+            1 => Ok(Operation::Clear),
+            2 => Ok(Operation::MapSpan),
+            3 => Ok(Operation::ImportType),
+            4 => Ok(Operation::RenameType),
+            5 => Ok(Operation::ImportConst),
+            6 => Ok(Operation::ImportPipelineOverride),
+            7 => Ok(Operation::ImportGlobal),
+            8 => Ok(Operation::ImportGlobalExpression),
+            9 => Ok(Operation::ImportFunction),
+            10 => Ok(Operation::ImportFunctionIfNew),
+            11 => Ok(Operation::MapFunctionHandle),
+            12 => Ok(Operation::HasRequiredSpecialTypes),
+            13 => Ok(Operation::Finish),
+            14 => Ok(Operation::FinishWithEntryPoints),
+            _ => Err(Refusal::NumberGiven),
+        }
+    }
+}
 
 // What a step answers, and the session after it: whether a source is set, its words and its offset, and the sizes of the derived module.
 #[derive(Clone, Copy)]
@@ -249,139 +264,75 @@ pub fn perform(
     ensures valid_session_2 { ValidSession result.set result.n result.offset words.new tags.new target_bytes log.new logtags.new starts.new maps.new buckets.new special.new result.ends }
     ensures stacks_2 { Stacks stacks.new result.ends }
 {
-    if step.operation == SET {
-        return set_step(
-            words, tags, log, logtags, starts, maps, buckets, special, sources, n, ends, set,
-            offset, step,
-        );
-    }
-    if step.operation == CLEAR {
-        return Answered {
-            refusal: 0,
-            first: 0,
-            second: 0,
-            set: false,
-            n,
-            offset,
-            ends,
-        };
-    }
-    if step.operation == MAP_SPAN {
-        let got = map_span(set, offset, step.a, step.b);
-        return Answered {
-            refusal: got.refusal,
-            first: got.start,
-            second: got.end,
-            set,
-            n,
-            offset,
-            ends,
-        };
-    }
-    if step.operation == HAS_REQUIRED_SPECIAL_TYPES {
-        let v = has_required_special_types(special, ends);
-        return Answered {
-            refusal: 0,
-            first: v,
-            second: 0,
-            set,
-            n,
-            offset,
-            ends,
-        };
-    }
-    if step.operation == FINISH {
-        return plain_step(
-            Image { words, tags, n },
-            log,
-            logtags,
-            starts,
-            maps,
-            buckets,
-            special,
-            output,
-            ends,
-            set,
-            offset,
-            step,
-        );
-    }
-    if step.operation == FINISH_WITH_ENTRY_POINTS {
-        return entries_step(
-            Image { words, tags, n },
-            log,
-            logtags,
-            starts,
-            maps,
-            buckets,
-            special,
-            stacks,
-            output,
-            ends,
-            set,
-            offset,
-            step,
-        );
-    }
-    let said = record_step(
-        Image { words, tags, n },
-        log,
-        logtags,
-        starts,
-        maps,
-        buckets,
-        special,
-        stacks,
-        ends,
-        set,
-        offset,
-        step,
-    );
-    Answered {
-        refusal: said.refusal,
-        first: value_of(said.refusal, said.value),
+    let same = Answered {
+        refusal: 0,
+        first: 0,
         second: 0,
         set,
         n,
         offset,
-        ends: said.ends,
-    }
-}
-
-// The steps that import a record of a table or a function; 13 for any other.
-fn record_step(
-    image: Image,
-    log: &mut Log,
-    logtags: &mut LogTags,
-    starts: &mut Starts,
-    maps: &mut Maps,
-    buckets: &mut Buckets,
-    special: &Special,
-    stacks: &mut StackRows,
-    ends: Sizes,
-    set: bool,
-    offset: u32,
-    step: Step,
-) -> session_operations::Answer
-    requires le_operation { (3 ≤ step.operation) × (step.operation ≡ 12 → ⊥) × (step.operation ≡ 13 → ⊥) × (step.operation ≡ 14 → ⊥) }
-    requires valid_session { ValidSession set image.n offset image.words.now image.tags.now target_bytes log.old logtags.old starts.old maps.old buckets.old special.now ends }
-    requires stacks { Stacks stacks.old ends }
-    ensures recorded { Recorded step.operation step.a step.b step.c (session_of set image.entry.n offset image.entry.words.now log.old logtags.old starts.old maps.old special.now ends) result.refusal (value_of result.refusal result.value) (session_of set image.entry.n offset image.entry.words.now log.new logtags.new starts.new maps.new special.now result.ends) }
-    ensures valid_session_2 { ValidSession set image.entry.n offset image.entry.words.now image.entry.tags.now target_bytes log.new logtags.new starts.new maps.new buckets.new special.now result.ends }
-    ensures stacks_2 { Stacks stacks.new result.ends }
-{
-    if step.operation == IMPORT_TYPE {
-        return import(
+        ends,
+    };
+    let Ok(operation) = Operation::try_from(step.operation) else {
+        return Answered {
+            refusal: NUMBER_GIVEN,
+            ..same
+        };
+    };
+    let image = Image { words, tags, n };
+    let said = match operation {
+        Operation::Set => {
+            return set_step(
+                words, tags, log, logtags, starts, maps, buckets, special, sources, n, ends, set,
+                offset, step,
+            );
+        }
+        Operation::Clear => return Answered { set: false, ..same },
+        Operation::MapSpan => {
+            let got = map_span(set, offset, step.a, step.b);
+            return Answered {
+                refusal: got.refusal,
+                first: got.start,
+                second: got.end,
+                ..same
+            };
+        }
+        Operation::HasRequiredSpecialTypes => {
+            return Answered {
+                first: has_required_special_types(special, ends),
+                ..same
+            };
+        }
+        Operation::Finish => {
+            return plain_step(
+                image, log, logtags, starts, maps, buckets, special, output, ends, set, offset,
+                step,
+            );
+        }
+        Operation::FinishWithEntryPoints => {
+            return entries_step(
+                image, log, logtags, starts, maps, buckets, special, stacks, output, ends, set,
+                offset, step,
+            );
+        }
+        Operation::ImportType => import(
             image, log, logtags, starts, maps, buckets, special, ends, set, offset, TYPES, step.a,
-        );
-    }
-    if step.operation == RENAME_TYPE {
-        return rename_type(
+        ),
+        Operation::RenameType => rename_type(
             image, log, logtags, starts, maps, buckets, special, ends, set, offset, step.a, step.b,
-        );
-    }
-    if step.operation < IMPORT_FUNCTION {
-        return import(
+        ),
+        Operation::ImportConst => import(
+            image, log, logtags, starts, maps, buckets, special, ends, set, offset, CONSTANTS,
+            step.a,
+        ),
+        Operation::ImportPipelineOverride => import(
+            image, log, logtags, starts, maps, buckets, special, ends, set, offset, OVERRIDES,
+            step.a,
+        ),
+        Operation::ImportGlobal => import(
+            image, log, logtags, starts, maps, buckets, special, ends, set, offset, GLOBALS, step.a,
+        ),
+        Operation::ImportGlobalExpression => import(
             image,
             log,
             logtags,
@@ -392,23 +343,20 @@ fn record_step(
             ends,
             set,
             offset,
-            step.operation as usize - TABLES,
+            EXPRESSIONS,
             step.a,
-        );
-    }
-    if step.operation == IMPORT_FUNCTION {
-        return import_function(
+        ),
+        Operation::ImportFunction => import_function(
             image, log, logtags, starts, maps, buckets, special, stacks, ends, set, offset, step.a,
-        );
-    }
-    if step.operation < HAS_REQUIRED_SPECIAL_TYPES {
-        return map_function_handle(
+        ),
+        Operation::ImportFunctionIfNew | Operation::MapFunctionHandle => map_function_handle(
             image, log, logtags, starts, maps, buckets, special, stacks, ends, set, offset, step.a,
-        );
-    }
-    session_operations::Answer {
-        refusal: NUMBER_GIVEN,
-        value: 0,
-        ends,
+        ),
+    };
+    Answered {
+        refusal: said.refusal,
+        first: value_of(said.refusal, said.value),
+        ends: said.ends,
+        ..same
     }
 }
