@@ -17,7 +17,7 @@ offset_bounds-exprmap-e c = let X = c.requires.expressions in let h = c.requires
 pub bounds-exprmap-e : goal.bounds-exprmap-e
 bounds-exprmap-e c = let X = c.requires.expressions in let h = c.requires.e_lt_k.0 in let f = X.few in omega arith
 
-pub returns-then-j-derived : goal.returns-then-j-ends
+pub returns-then-j-derived : goal.returns-then-j-derived
 returns-then-j-derived c = let a = c.args in merge_old a.image.words.now a.image.tags.now a.places.now a.image.n a.k c.requires.expressions a.derived.now.log.now a.derived.now.logtags.now a.derived.now.starts.now a.derived.now.maps.now a.exprmap.now a.stacks.now a.derived.now.sizes a.offset a.e1 a.e c.requires.e_lt_k.0 c.requires.e_lt_k.1 c.requires.under _ _ refl refl c.find_equal-j.result c.find_equal-j.ensures c.if-j-derived.true
 
 pub returns : goal.returns
