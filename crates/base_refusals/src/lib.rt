@@ -29,30 +29,7 @@ pub enum Refusal {
     UnknownRing,
 }
 
-pub const BAD_SIZE: u32 = 1;
-
-pub const BAD_LAYOUT: u32 = 2;
-
-pub const BAD_RANGE: u32 = 3;
-
-pub const BAD_REFERENCE: u32 = 4;
-
-pub const BAD_NAMES: u32 = 5;
-
-pub const BAD_SCOPE: u32 = 6;
-
-pub const SHORT_OUTPUT: u32 = 7;
-
-pub const ORIGINAL_NOT_FOUND: u32 = 8;
-
-pub const REPLACEMENT_NOT_FOUND: u32 = 9;
-
-pub const ARGUMENT_TYPES: u32 = 10;
-
-pub const RESULT_TYPES: u32 = 11;
-
-pub const RING: u32 = 12;
-
+// The numbers of these four are named, since what the operations of a session answer has a number for its refusal.
 pub const NUMBER_GIVEN: u32 = 13;
 
 pub const NO_SOURCE: u32 = 20;
@@ -61,28 +38,29 @@ pub const FULL: u32 = 21;
 
 pub const UNKNOWN_RING: u32 = 22;
 
-// All of them, which are the model's.
+// The numbers of all of them, which are the model's.
 pub fn all() -> [u32; 16]
     ensures { result ≡ refusals }
 {
     [
-        BAD_SIZE,
-        BAD_LAYOUT,
-        BAD_RANGE,
-        BAD_REFERENCE,
-        BAD_NAMES,
-        BAD_SCOPE,
-        SHORT_OUTPUT,
-        ORIGINAL_NOT_FOUND,
-        REPLACEMENT_NOT_FOUND,
-        ARGUMENT_TYPES,
-        RESULT_TYPES,
-        RING,
-        NUMBER_GIVEN,
-        NO_SOURCE,
-        FULL,
-        UNKNOWN_RING,
+        Refusal::BadSize,
+        Refusal::BadLayout,
+        Refusal::BadRange,
+        Refusal::BadReference,
+        Refusal::BadNames,
+        Refusal::BadScope,
+        Refusal::ShortOutput,
+        Refusal::OriginalNotFound,
+        Refusal::ReplacementNotFound,
+        Refusal::ArgumentTypes,
+        Refusal::ResultTypes,
+        Refusal::Ring(0),
+        Refusal::NumberGiven,
+        Refusal::NoSource,
+        Refusal::Full,
+        Refusal::UnknownRing,
     ]
+    .map(Refusal::number)
 }
 
 impl Refusal {
@@ -91,18 +69,18 @@ impl Refusal {
         ensures { result ≡ number_of self }
     {
         match self {
-            Refusal::BadSize => BAD_SIZE,
-            Refusal::BadLayout => BAD_LAYOUT,
-            Refusal::BadRange => BAD_RANGE,
-            Refusal::BadReference => BAD_REFERENCE,
-            Refusal::BadNames => BAD_NAMES,
-            Refusal::BadScope => BAD_SCOPE,
-            Refusal::ShortOutput => SHORT_OUTPUT,
-            Refusal::OriginalNotFound => ORIGINAL_NOT_FOUND,
-            Refusal::ReplacementNotFound => REPLACEMENT_NOT_FOUND,
-            Refusal::ArgumentTypes => ARGUMENT_TYPES,
-            Refusal::ResultTypes => RESULT_TYPES,
-            Refusal::Ring(_) => RING,
+            Refusal::BadSize => 1,
+            Refusal::BadLayout => 2,
+            Refusal::BadRange => 3,
+            Refusal::BadReference => 4,
+            Refusal::BadNames => 5,
+            Refusal::BadScope => 6,
+            Refusal::ShortOutput => 7,
+            Refusal::OriginalNotFound => 8,
+            Refusal::ReplacementNotFound => 9,
+            Refusal::ArgumentTypes => 10,
+            Refusal::ResultTypes => 11,
+            Refusal::Ring(_) => 12,
             Refusal::NumberGiven => NUMBER_GIVEN,
             Refusal::NoSource => NO_SOURCE,
             Refusal::Full => FULL,
@@ -154,6 +132,7 @@ impl fmt::Display for Refusal {
 impl Error for Refusal {}
 
 // An answer as one number: the refusal in the low half, 0 for none, and a value in the high half.
+// A number and no `Result`, since C reads one number.
 pub fn pack(refusal: u32, value: u32) -> u64
     ensures { result ≡ packed refusal value }
 {

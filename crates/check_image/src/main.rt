@@ -7,9 +7,7 @@ fn answer(rt: &(impl Print + Eprint), image: &[u8]) {
     let mut words = intake::fresh_words();
     let mut tags = intake::fresh_tags();
     match intake::take_in(image, &mut words, &mut tags) {
-        Ok(_) => {
-            program_streams::write(rt, "check_image", b"accepted\n");
-        }
+        Ok(_) => program_streams::write(rt, "check_image", b"accepted\n"),
         Err(refusal) => {
             let number = refusal.number();
             if let Err(error) = println!(rt; "refused {number}") {
@@ -21,9 +19,5 @@ fn answer(rt: &(impl Print + Eprint), image: &[u8]) {
 }
 
 fn main(rt: HostRuntime) {
-    let mut bytes = [0; 65537];
-    match program_streams::read(&mut rt.stdin(), &mut bytes) {
-        Ok(n) => answer(&rt, &bytes[..n]),
-        Err(error) => program_streams::unread(&rt, "check_image", error),
-    }
+    program_streams::with_image(&rt, "check_image", |image| answer(&rt, image));
 }

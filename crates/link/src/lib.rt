@@ -43,6 +43,7 @@ fn linked_in(
 }
 
 // The same, its answer as one number: low half the refusal, 0 accepted; high half the bytes written, or with 12 the functions left.
+// A number and no `Result`, since C reads one number.
 pub fn link_in(
     image: &[u8],
     output: &mut [u8],

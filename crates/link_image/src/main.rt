@@ -16,9 +16,5 @@ fn answer(rt: &(impl Print + Eprint), image: &[u8]) {
 }
 
 fn main(rt: HostRuntime) {
-    let mut bytes = [0; 65537];
-    match program_streams::read(&mut rt.stdin(), &mut bytes) {
-        Ok(n) => answer(&rt, &bytes[..n]),
-        Err(error) => program_streams::unread(&rt, "link_image", error),
-    }
+    program_streams::with_image(&rt, "link_image", |image| answer(&rt, image));
 }

@@ -13,9 +13,5 @@ fn answer(rt: &(impl Print + Eprint), image: &[u8]) {
 }
 
 fn main(rt: HostRuntime) {
-    let mut bytes = [0; 65537];
-    match program_streams::read(&mut rt.stdin(), &mut bytes) {
-        Ok(n) => answer(&rt, &bytes[..n]),
-        Err(error) => program_streams::unread(&rt, "order", error),
-    }
+    program_streams::with_image(&rt, "order", |image| answer(&rt, image));
 }

@@ -55,6 +55,7 @@ fn list_image(image: &[u8], out: &mut [u32]) -> Result<u32, Refusal>
 
 // The same, its answer as one number: the count of functions in the high half; or the refusal in the low half, and of a ring, in the high half, the count of
 // functions from which a chain reaches it.
+// A number and no `Result`, since C reads one number.
 pub fn order(image: &[u8], out: &mut [u32]) -> u64
     ensures { OrderEnsures result out.old out.new image.now }
 {

@@ -5,9 +5,12 @@ use Prim.Native.Nat.{ℕ, zero, suc, ◌+◌, ◌*◌, ◌-◌, ◌/◌, ◌%◌
 use native.Mathlib.Nat.{div-add-mod', mod-lt, zero-lt-suc}
 use native.Mathlib.Numerals.{add-one}
 use native.Mathlib.Omega.{arith}
-use lib.ListN.{length, get_or, drop, set, length-append, length-drop, length-set}
+use mathlib.Core.Bool.{Bool, true, false, cond}
+use mir.Val.{bool_byte}
+use lib.Dec.{ltb}
+use lib.ListN.{length, get_or, take, drop, set, length-append, length-drop, length-set}
 use lib.Seq.{sets, drop-cons, drop-length, get_or-take, get_or-drop, length-take-le, length-sets}
-use borrow.Author.Tests.{lt-ltb, le-ltb}
+use borrow.Author.Tests.{ltb-true, ltb-false}
 use Rattle.base_words.specs.Words.{bytes_of}
 use borrow.Rule.Slice.PartMut.{put_mid}
 use Rattle.base_words.proofs.Laws.{length_bytes_of}
@@ -55,27 +58,15 @@ pub puts_long : {out xs out' : List ℕ} {at r : ℕ} → TextEnsures out at xs 
 puts_long {out} {xs} {out'} {at} p = ap length p.is ∙ length-sets out at xs
 
 -- ---- a number
-pub one_digit : (x : ℕ) → x < 10 → decimal x ≡ (48 + x) ∷ []
+pub digits_of : (x : ℕ) → x < 1000 → {a b c i j : ℕ} → a ≡ 48 + x / 100 → b ≡ 48 + x / 10 % 10 → c ≡ 48 + x % 10 → i ≡ bool_byte (ltb x 10) → j ≡ bool_byte (ltb x 100) → take (3 - (i + j)) (drop (i + j) (a ∷ b ∷ c ∷ [])) ≡ decimal x
 unfolding decimal
-one_digit x h = rw (lt-ltb x 10 h)
-
-pub two_digits : (x : ℕ) → 10 ≤ x → x < 100 → decimal x ≡ (48 + x / 10) ∷ (48 + x % 10) ∷ []
-unfolding decimal
-two_digits x a b = rw (le-ltb x 10 a, lt-ltb x 100 b)
-
-pub three_digits : (x : ℕ) → 100 ≤ x → decimal x ≡ (48 + x / 100) ∷ (48 + x / 10 % 10) ∷ (48 + x % 10) ∷ []
-unfolding decimal
-three_digits x b = let a : 10 ≤ x = omega arith in rw (le-ltb x 10 a, le-ltb x 100 b)
-
-module _ {out out' : List ℕ} {at x r : ℕ} where
-  pub puts_one : {a : ℕ} → x < 10 → a ≡ 48 + x → TextEnsures out at (a ∷ []) out' r → TextEnsures out at (decimal x) out' r
-  puts_one h e t = rw (one_digit x h) (rw e at t)
-
-  pub puts_two : {a b : ℕ} → 10 ≤ x → x < 100 → a ≡ 48 + x / 10 → b ≡ 48 + x % 10 → TextEnsures out at (a ∷ b ∷ []) out' r → TextEnsures out at (decimal x) out' r
-  puts_two h k e f t = rw (two_digits x h k) (rw (e, f) at t)
-
-  pub puts_three : {a b c : ℕ} → 100 ≤ x → a ≡ 48 + x / 100 → b ≡ 48 + x / 10 % 10 → c ≡ 48 + x % 10 → TextEnsures out at (a ∷ b ∷ c ∷ []) out' r → TextEnsures out at (decimal x) out' r
-  puts_three h e f g t = rw (three_digits x h) (rw (e, f, g) at t)
+digits_of x few ea eb ec ei ej = rw (ea, eb, ec, ei, ej) (go (ltb x 10) (ltb x 100) (ltb-true x 10) (ltb-false x 10) (ltb-true x 100) (ltb-false x 100))
+  where
+    go : (p q : Bool) → (p ≡ true → x < 10) → (p ≡ false → 10 ≤ x) → (q ≡ true → x < 100) → (q ≡ false → 100 ≤ x) → take (3 - (bool_byte p + bool_byte q)) (drop (bool_byte p + bool_byte q) ((48 + x / 100) ∷ (48 + x / 10 % 10) ∷ (48 + x % 10) ∷ [])) ≡ cond p ((48 + x) ∷ []) (cond q ((48 + x / 10) ∷ (48 + x % 10) ∷ []) ((48 + x / 100) ∷ (48 + x / 10 % 10) ∷ (48 + x % 10) ∷ []))
+    go true true f g h k = let small : x < 10 = f refl in let e : x % 10 ≡ x = omega arith in ap (λ d. (48 + d) ∷ []) e
+    go true false f g h k = absurd (omega (arith, f refl, k refl))
+    go false true f g h k = let small : x < 100 = h refl in let e : x / 10 % 10 ≡ x / 10 = omega arith in ap (λ d. (48 + d) ∷ (48 + x % 10) ∷ []) e
+    go false false f g h k = refl
 
 -- ---- bytes that are copied
 pub puts_at : (out part text : List ℕ) (at end : ℕ) → end ≡ at + length text → part ≡ text → end ≤ length out → TextEnsures out at text (put_mid at (end - at) out part) end
@@ -91,9 +82,6 @@ pub record Putting (text out : List ℕ) (at k : ℕ) (now : List ℕ) : Type 0 
   pub high : k ≤ length text
   pub long : length now ≡ 65536
   pub is : sets now (at + k) (drop k text) ≡ sets out at text
-
-pub begin : (text : List ℕ) {out : List ℕ} (at : ℕ) → length out ≡ 65536 → Putting text out at 0 out
-begin text {out} at h = let z : at + 0 ≡ at = omega arith in record { high = omega arith; long = h; is = ap (λ j. sets out j text) z }
 
 module _ {text out : List ℕ} {at k : ℕ} {now : List ℕ} (s : Putting text out at k now) where
   pub again : k < length text → {b : ℕ} → b ≡ get_or text k 0 → Putting text out at (k + 1) (set now (at + k) b)

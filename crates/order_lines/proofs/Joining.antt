@@ -1,16 +1,14 @@
 -- The pieces that are put one after the other are a line, lines, and the text.
-use mathlib.Core.Path.{◌≡◌, refl, sym, ap, ap₂, ◌∙◌, subst}
+use mathlib.Core.Path.{◌≡◌, sym, ap, ap₂, ◌∙◌, subst}
 use mathlib.Core.Bool.{Bool, true, false, cond}
 use mathlib.Core.List.{List, [], ◌∷◌, ◌++◌, append_assoc}
-use Prim.Native.Nat.{ℕ, suc, ◌+◌, ◌-◌, ◌/◌, ◌%◌, ◌≤◌, ◌<◌}
+use Prim.Native.Nat.{ℕ, suc, ◌+◌, ◌/◌, ◌%◌, ◌≤◌, ◌<◌}
 use native.Mathlib.Omega.{arith}
 use native.Mathlib.Numerals.{add-one}
 use lib.Dec.{ltb}
 use lib.ListN.{length, get_or, take, drop, length-append}
 use lib.Seq.{sets, drop-cons, drop-length, get_or-take, length-take-le}
-use Rattle.model.specs.Module.{offset_at}
-use Rattle.model.specs.View.{record_at}
-use Rattle.order_lines.specs.Lines.{decimal, numbers_text, line_text, lines_text, headed, FUNCTIONS, ordered_text, name_at, name_is, text_at, TextEnsures, Room, Readable, Line, Lines, Text}
+use Rattle.order_lines.specs.Lines.{decimal, numbers_text, line_text, lines_text, headed, FUNCTIONS, ordered_text, name_at, name_is, text_at, TextEnsures, Room, Line, Lines, Text}
 use Rattle.order_lines.proofs.Bytes.{puts_both, puts_long, text_long, sets-append}
 
 -- ---- how long the pieces are
@@ -47,22 +45,6 @@ unfolding numbers_text
 numbers-end new s p₁ p₂ p₃ p₄ = rw (joined (decimal new) (32 ∷ []) (decimal s) (32 ∷ [])) at (puts_both (puts_both (puts_both p₁ p₂) p₃) p₄)
 
 -- ---- a line
-module _ {words : List ℕ} {s : ℕ} (q : Readable words s) {f w : ℕ} (a : f ≡ record_at 6 s words) (b : w ≡ get_or words f 0) where
-  pub head_in : f < 16384
-  head_in = omega (arith, a, q.head)
-
-  pub word_is : w ≡ get_or words (record_at 6 s words) 0
-  word_is = b ∙ ap (λ x. get_or words x 0) a
-
-  pub word_some : 1 ≤ w
-  word_some = omega (arith, q.some, word_is)
-
-  pub slot_is : offset_at 0 words + (w - 1) < 16384
-  slot_is = rw word_is q.place
-
-  pub place_is : {p : ℕ} → p ≡ record_at 0 (w - 1) words → p ≡ name_at words s
-  place_is c = c ∙ ap (λ x. record_at 0 (x - 1) words) word_is
-
 module _ {words : List ℕ} {new s : ℕ} {out : List ℕ} {at : ℕ} (q : Line words new s out at) where
   pub numbers_fit : at + length (numbers_text new s) < 65536
   numbers_fit = omega (arith, q.fits, line_long new s (name_is words s))
@@ -103,9 +85,6 @@ pub record Going (words order : List ℕ) (count : ℕ) (out : List ℕ) (at i n
   pub ends : next + length (lines_text (drop i (take count order)) i (name_is words)) ≡ at + length (lines_text (take count order) 0 (name_is words))
 
 module _ {words order : List ℕ} {count : ℕ} {out : List ℕ} {at : ℕ} (q : Lines words order count out at) where
-  pub lines_begin : Going words order count out at 0 at out
-  lines_begin = record { high = omega arith; long = q.long; is = refl; ends = refl }
-
   pub taken : length (take count order) ≡ count
   taken = length-take-le count order (omega (arith, q.prints.order_long, q.prints.count_few))
 

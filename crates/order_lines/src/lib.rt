@@ -1,21 +1,13 @@
 // The text of an order, put into a buffer that the caller provides: the count of functions, and for each a line with its new number, its source number and its
-// name.
+// name. What puts something at a place gives back the place after it.
 #![tactic(auto)]
 
-ghost use Rattle.std.specs.Prelude.{◌≡◌, [], ◌∷◌, ◌+◌, ◌/◌, ◌≤◌, ◌<◌, length, get_or, drop, take};
-ghost use Rattle.base_words.specs.Words.{bytes_of};
+ghost use Rattle.std.specs.Prelude.{◌≡◌, ◌+◌, ◌≤◌, ◌<◌, length, take};
 ghost use Rattle.order_lines.specs.Lines.{decimal, numbers_text, line_text, lines_text, headed, ordered_text, name_at, name_is, text_at, TextEnsures, Room, Readable, Line, Lines, Text};
 
 use base_words::Words;
 
-// Byte k of the words from `at` on.
-fn byte(words: &Words, at: usize, k: usize) -> u8
-    requires { (length words.now ≡ 16384) × (at + k / 4 < 16384) }
-    ensures { result ≡ get_or (bytes_of (drop at words.now)) k 0 }
-{
-    words[at + k / 4].to_le_bytes()[k % 4]
-}
-
+// The digit of a number below 10.
 fn digit(d: usize) -> u8
     requires { d < 10 }
     ensures { result ≡ 48 + d }
@@ -34,22 +26,14 @@ fn put_text(text: &[u8], out: &mut [u8; 65536], at: usize) -> usize
     end
 }
 
-// Numbers of functions are below 1,000.
+// A number below 1,000, as those of functions are. (`write!` promises its bytes only where it ends with `Ok`, and no clause says when it does.)
 fn put_number(out: &mut [u8; 65536], at: usize, x: usize) -> usize
     requires { (length out.old ≡ 65536) × (at + 3 ≤ 65536) × (x < 1000) }
     ensures { TextEnsures out.old at (decimal x) out.new result }
 {
-    if x < 10 {
-        return put_text(&[digit(x)], out, at);
-    }
-    if x < 100 {
-        return put_text(&[digit(x / 10), digit(x % 10)], out, at);
-    }
-    put_text(
-        &[digit(x / 100), digit(x / 10 % 10), digit(x % 10)],
-        out,
-        at,
-    )
+    let digits = [digit(x / 100), digit(x / 10 % 10), digit(x % 10)];
+    let zeros = usize::from(x < 10) + usize::from(x < 100);
+    put_text(&digits[zeros..], out, at)
 }
 
 // The bytes of the name at p.
@@ -59,7 +43,7 @@ fn put_name(words: &Words, p: usize, out: &mut [u8; 65536], at: usize) -> usize
 {
     let n = words[p] as usize;
     for k in 0..n {
-        out[at + k] = byte(words, p + 1, k);
+        out[at + k] = words[p + 1 + k / 4].to_le_bytes()[k % 4];
     }
     at + n
 }
@@ -81,9 +65,9 @@ fn name_of(words: &Words, s: usize) -> usize
     requires { Readable words.now s }
     ensures { result ≡ name_at words.now s }
 {
-    let f = base_views::start_of(words, 6, s);
+    let f = base_views::start_of(words, base_views::FUNCTIONS, s);
     let w = words[f] as usize;
-    base_views::start_of(words, 0, w - 1)
+    base_views::start_of(words, base_views::NAMES, w - 1)
 }
 
 // The line of table function s.
@@ -97,7 +81,7 @@ fn line(words: &Words, new: usize, s: usize, out: &mut [u8; 65536], at: usize) -
     put_text(b"\n", out, b)
 }
 
-// The lines of the first `count` numbers of an order.
+// The lines of an order of `count` functions.
 fn lines(words: &Words, order: &[u32; 256], count: usize, out: &mut [u8; 65536], at: usize) -> usize
     requires { Lines words.now order.now count out.old at }
     ensures { TextEnsures out.old at (lines_text (take count order.now) 0 (name_is words.now)) out.new result }

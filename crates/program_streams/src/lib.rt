@@ -24,18 +24,28 @@ pub fn read<R: Read>(from: &mut R, buf: &mut [u8]) -> io::Result<usize>
     Ok(done)
 }
 
+// Reads an image from standard input and gives it to `answer`, or reports that it could not be read. Input longer than an image may be is not cut to an
+// image: the buffer holds one byte more.
+pub fn with_image<F: FnOnce(&mut [u8])>(rt: &HostRuntime, program: &str, answer: F)
+    requires { F.IsAlwaysCallable answer }
+{
+    let mut bytes = [0; 65537];
+    match read(&mut rt.stdin(), &mut bytes) {
+        Ok(n) => answer(&mut bytes[..n]),
+        Err(error) => unread(rt, program, error),
+    }
+}
+
 // Reports that standard input could not be read.
 pub fn unread(rt: &impl Eprint, program: &str, error: io::Error) {
     let _ = eprintln!(rt; "{program}: standard input: {error}");
 }
 
 // Writes to standard output; a write that fails is reported.
-pub fn write(rt: &(impl Print + Eprint), program: &str, bytes: &[u8]) -> bool {
+pub fn write(rt: &(impl Print + Eprint), program: &str, bytes: &[u8]) {
     if let Err(error) = rt.write_all(bytes) {
         unwritten(rt, program, error);
-        return false;
     }
-    true
 }
 
 // Reports that standard output could not be written.

@@ -2,24 +2,10 @@
 // replacement's, and those of omitted functions. A refusal, a wrong argument or a failed read is one line on standard error, and nothing is written.
 #![tactic(auto)]
 
-ghost use Rattle.std.specs.Prelude.{◌≡◌, ◌≤◌, ◌<◌, length};
+ghost use Rattle.std.specs.Prelude.{◌≡◌, ◌≤◌, length};
 ghost use Rattle.redirect_image.specs.Numbers.{stepped, read as read_of};
 
 use std::env::{Env, FillError};
-
-// Longer than an image may be, so that one that is too long is seen to be.
-fn buffer() -> [u8; 65540]
-    ensures { 65540 ≡ length result }
-{
-    [0; 65540]
-}
-
-// Room for every name.
-fn names() -> [u32; 512]
-    ensures { 512 ≡ length result }
-{
-    [0; 512]
-}
 
 // A number and one more digit; none where that is no number of 32 bits.
 #[tactic(auto, unfolding(crate::specs::Numbers::stepped))]
@@ -87,12 +73,8 @@ fn redirect(
     omit: &[u32],
 ) {
     match redirect_bytes::redirect_function(image, original, replacement, omit) {
-        Ok(_) => {
-            program_streams::write(rt, "redirect_image", image);
-        }
-        Err(refusal) => {
-            program_streams::refused(rt, "redirect_image", refusal);
-        }
+        Ok(_) => program_streams::write(rt, "redirect_image", image),
+        Err(refusal) => program_streams::refused(rt, "redirect_image", refusal),
     }
 }
 
@@ -109,16 +91,15 @@ fn omitted(rt: &impl Env, omit: &mut [u32]) -> Result<(), usize>
 fn run(rt: &HostRuntime, original: u32, replacement: u32, count: usize)
     requires { count ≤ 512 }
 {
-    let mut omit = names();
+    // room for every name
+    let mut omit = [0; 512];
     if let Err(bad) = omitted(rt, &mut omit[..count]) {
         wrong(rt, bad);
         return;
     }
-    let mut image = buffer();
-    match program_streams::read(&mut rt.stdin(), &mut image) {
-        Ok(n) => redirect(rt, &mut image[..n], original, replacement, &omit[..count]),
-        Err(error) => program_streams::unread(rt, "redirect_image", error),
-    }
+    program_streams::with_image(rt, "redirect_image", |image| {
+        redirect(rt, image, original, replacement, &omit[..count])
+    });
 }
 
 fn main(rt: HostRuntime) {

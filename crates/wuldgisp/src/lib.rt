@@ -17,6 +17,7 @@ pub fn wuldgisp_intake(image: &[u8]) -> u32
 
 // The output order, as far as there is room for it. The low half of the answer is the number of the refusal, or 0; the high half is the count of functions,
 // or, with refusal 12, of those from which a chain of calls reaches a ring. Meaning: `order-listed`, `order_ring`.
+// A number and no `Result`, since C reads one number.
 pub fn wuldgisp_order(image: &[u8], order: &mut [u32]) -> u64
     ensures { OrderEnsures result order.old order.new image.now }
 {
@@ -25,6 +26,7 @@ pub fn wuldgisp_order(image: &[u8], order: &mut [u32]) -> u64
 
 // Redirects calls in the image itself. The low half of the answer is the number of the refusal, or 0; the high half is the original's number plus 65,536
 // times the replacement's. Meaning: `redirect_done`, `redirect_refused`.
+// A number and no `Result`, since C reads one number.
 pub fn wuldgisp_redirect(image: &mut [u8], original: u32, replacement: u32, omit: &[u32]) -> u64
     ensures { RedirectEnsures result image.old image.new original replacement omit.now }
 {
@@ -34,6 +36,7 @@ pub fn wuldgisp_redirect(image: &mut [u8], original: u32, replacement: u32, omit
 // Links the image into the output. The low half of the answer is the number of the refusal, or 0; the high half is the count of bytes written, or, with
 // refusal 12, of functions from which a chain of calls reaches a ring. Meaning: `demand3_code`, which is demand 3 of the bytes that are written; `intake_told`,
 // `short-told` and `premises_hold` for the refusals.
+// A number and no `Result`, since C reads one number.
 pub fn wuldgisp_link(image: &[u8], output: &mut [u8]) -> u64
     ensures { LinkEnsures result output.old output.new image.now }
 {
@@ -66,6 +69,7 @@ pub fn wuldgisp_link_in(
 // Runs a session's steps, four words each, and answers three words to each as far as there is room. 0 if every step was accepted; else the low half of the
 // answer is the first refusal and the high half the number of its step. Meaning: `session_means`, of every step and of every image that one
 // writes; `same_bytes`, of the steps of linking.
+// A number and no `Result`, since C reads one number.
 pub fn wuldgisp_session(
     sources: &[u8],
     steps: &[u32],

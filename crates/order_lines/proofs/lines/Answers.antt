@@ -1,10 +1,7 @@
 use native.Mathlib.Omega.{arith}
 use lib.Seq.{get_or-take}
-use Rattle.order_lines.proofs.Joining.{lines_begin, taken, line_asks, lines_again, lines_end}
+use Rattle.order_lines.proofs.Joining.{taken, line_asks, lines_again, lines_end}
 use Rattle.order_lines.proofs.lines.Goals as goal
-
-pub loop-k-init : goal.loop-k-init
-loop-k-init c = lines_begin c.requires
 
 pub line-next-requires : goal.line-next-requires
 line-next-requires c = line_asks c.requires c.loop-k.invariant (omega (arith, taken c.requires)) (get_or-take c.args.count c.args.order.now c.loop-k.k 0 (omega (arith, taken c.requires)))
