@@ -148,6 +148,7 @@ pub fn initialised(image: Image, locals: usize, exprs: usize, end: usize) -> boo
 {
     let count = image.words[locals] as usize;
     let e = image.words[exprs] as usize;
+    // Two early returns: after `||` would stand the rest as a block, which is no plainer.
     if count == 0 {
         return true;
     }

@@ -101,20 +101,16 @@ fn evaluated(
     requires e_lt_count { e < count }
     ensures { FoundE image.entry.words.now image.entry.tags.now starts.now initial.now count at keep e until.old until.new result }
 {
-    if !emits(kind(image.words, starts, e)) || until[e] != 0 {
-        return false;
-    }
-    if initial[e] != 0 {
-        until[e] = 1;
-        return true;
-    }
     let from = starts[e] as usize;
     let to = starts[e + 1] as usize;
-    if !reads(image, starts, until, count, at, from, to) {
-        return false;
+    let initialiser = initial[e] != 0;
+    let fine = emits(kind(image.words, starts, e))
+        && until[e] == 0
+        && (initialiser || reads(image, starts, until, count, at, from, to));
+    if fine {
+        until[e] = if initialiser { 1 } else { keep };
     }
-    until[e] = keep;
-    true
+    fine
 }
 
 // The Emit at the word `at`.
@@ -191,11 +187,11 @@ fn result(
         return true;
     };
     let e = e as usize;
-    if count <= e || !result_fits(image, starts, count, at, e) || until[e] != 0 {
-        return false;
+    let fine = e < count && result_fits(image, starts, count, at, e) && until[e] == 0;
+    if fine {
+        until[e] = keep;
     }
-    until[e] = keep;
-    true
+    fine
 }
 
 // A statement without blocks that is no Emit: its reads, and its result.
