@@ -1,5 +1,5 @@
 -- What an operation does to a function under construction.
-use Rattle.std.specs.Prelude.{◌≡◌, Bool, true, false, List, ℕ, ◌+◌, ◌≤◌, ◌<◌, length, get_or, take, set}
+use Rattle.std.specs.Prelude.{◌≡◌, Bool, true, false, List, ℕ, ◌+◌, ◌≤◌, ◌<◌, length, get_or, take}
 use Rattle.model.specs.Outcome.{Cells}
 use Rattle.model.specs.Tree.{flat_all}
 use Rattle.model.specs.References.{alike_c}
@@ -7,7 +7,7 @@ use Rattle.model.specs.Bodies.{Builder}
 use Rattle.derive_state.specs.Held.{row, cell, put, table_of, size_r, Over, ValidArrays, Same, Written}
 use Rattle.derive_state.specs.Marks.{Marks}
 use Rattle.derive_state.specs.declared.Sizes.{Sizes}
-use Rattle.function_builder.specs.Stacks.{making_of, Stacks, Under}
+use Rattle.function_builder.specs.Stacks.{making_of, Under}
 
 -- functions, entry points and pairs are as they were, and so is the stack of words; that of expressions has not shrunk
 pub record Aside (starts starts' : List (List ℕ)) (e r : Sizes) : Type 0 where
