@@ -183,6 +183,7 @@ fn result(
     requires at_bound { at + 4 ≤ stop }
     ensures { FoundO image.entry.words.now image.entry.tags.now starts.now count at stop keep until.old until.new result }
 {
+    // an early return where nothing is evaluated: the rest as an arm of a match is no plainer
     let Some(e) = result_of(image, at + 4, stop) else {
         return true;
     };
