@@ -21,7 +21,7 @@ ghost use Rattle.function_references.specs.Cuts.{next_of, Rising, exprs_of, Expr
 ghost use Rattle.function_builder.specs.Stacks.{went_by, went_of, seats_of, made_of, Stacks, Under};
 ghost use Rattle.function_builder.specs.Makes.{Lays, Wrote, Hops, Apart, Pushed};
 
-use base_classes::{EXPR, EXPR_KIND, NAMED, SPAN, UPTO};
+use base_classes::{EXPR, SPAN, UPTO};
 use base_views::Image;
 use base_words::Tags;
 use derive_lookup::known;
@@ -39,24 +39,12 @@ pub const SEATS: usize = 2;
 
 pub const BODY: usize = 3;
 
-// Where each expression record starts, from `at` on, and where the last one ends: a record starts with its kind, and the last is followed by the number of named
-// expressions.
+// Where each expression record starts, from `at` on, and where the last one ends.
 pub fn index(tags: &Tags, at: usize, end: usize, places: &mut Places)
     requires { (length tags.now ≡ 16384) × (at ≤ end) × (end ≤ 16384) × (length (finds at (slice at end tags.now)) ≤ 1025) }
     ensures { places.new ≡ sets places.old 0 (finds at (slice at end tags.now)) }
 {
-    let mut k = 0;
-    for j in at..end {
-        let s = tags[j];
-        if s == NAMED {
-            places[k] = j as u16;
-            return;
-        }
-        if s == EXPR_KIND {
-            places[k] = j as u16;
-            k += 1;
-        }
-    }
+    intake_initialisers::places(tags, at, end, places)
 }
 
 // A word carried through the maps, of a class that names no function.

@@ -58,8 +58,8 @@ pub fn fresh_tags() -> [u8; 16384]
 pub fn intake(image: &[u8]) -> u32
     ensures { IntakeEnsures result image.now }
 {
-    let mut words = fresh_words();
-    let mut tags = fresh_tags();
+    let mut words = [0; 16384];
+    let mut tags = [0; 16384];
     match take_in(image, &mut words, &mut tags) {
         Ok(_) => 0,
         Err(refusal) => refusal.number(),

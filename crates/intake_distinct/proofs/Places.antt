@@ -1,6 +1,6 @@
 -- Those that were seen have left their marks, so that one whose mark is not there is another: the steps of the passes that go from the last to the first.
 use mathlib.Core.Path.{◌≡◌, refl, sym, ap, ap₂, ◌∙◌}
-use mathlib.Core.Bool.{Bool, true, false, ◌&&◌, not, and-true, and-false, or-true}
+use mathlib.Core.Bool.{Bool, true, false, ◌&&◌, not, and-false, or-true}
 use mathlib.Core.List.{List, [], ◌∷◌}
 use Prim.Native.Nat.{ℕ, zero, suc, ◌+◌, ◌-◌, ◌*◌, ◌/◌, ◌%◌, ◌^◌, ◌≤◌, ◌<◌}
 use native.Mathlib.Numerals.{add-one}
@@ -9,13 +9,17 @@ use native.Mathlib.Omega.{arith}
 use lib.Dec.{eqb}
 use lib.ListN.{length, drop, drop_of_length-le, get_or, set, replicate, length-set, length-replicate}
 use lib.Seq.{drop-cons, get_or-set_same, get_or-set_other}
-use borrow.Author.Tests.{eqb-true, eqb-false, eq-eqb, ne_eqb, not-true, not-false}
+use borrow.Author.Tests.{eqb-true, eqb-false, eq-eqb, ne_eqb, not-true}
+use Rattle.std.specs.List.{list_all, range_with_len}
 use Rattle.model.specs.Carry.{Each, each_none, each_next}
-use Rattle.model.specs.Names.{absent, distinct, unlike, differ}
-use Rattle.theory_image.specs.Quiet.{each_map}
+use Rattle.model.specs.Names.{absent, distinct, same, unlike, differ}
+use lib.Pointwise.{pointwise}
+use Rattle.std.proofs.Common.{nat_eq}
+use Rattle.std.specs.Cmp.Lexicographic.{same_text, other_text}
+use Rattle.theory_image.specs.Same.{same_self}
 use Rattle.intake_distinct.specs.Listed.{listing}
 use Rattle.intake_distinct.proofs.Steps.{same-other}
-use Rattle.intake_distinct.specs.Places.{mix, mixed, hash, print, SEVERAL, shows, stands, Leaves, Seen, New}
+use Rattle.intake_distinct.specs.Places.{mix, mixed, hash, print, SEVERAL, shows, stands, Leaves, Says, AllAlone}
 
 -- ---- the hash, word by word
 pub mix_is : (h w x : ℕ) → x ≡ w → ((h + x) * 2654435769 / 1048576 % 16777216 ≡ mix h w) × ((h + x) * 2654435769 / 1048576 % 16777216 < 2 ^ 24)
@@ -68,6 +72,21 @@ pub names : Pairwise differ unlike
 unfolding differ
 names = record { none = refl; next = λ x xs. refl; apart = unlike-apart }
 
+-- each of them is another, and so the list
+pub absent_is : (at : ℕ → ℕ) (x n from : ℕ) → list_all (λ j. not (eqb x (at j))) (range_with_len from n) ≡ absent (listing at n from) x
+unfolding absent listing
+absent_is at x zero from = refl
+absent_is at x (suc n) from = ap (not (eqb x (at from)) &&◌) (rw (← add-one from) (absent_is at x n (from + 1)))
+
+text_is : (xs ys : List ℕ) (b : Bool) → b ≡ pointwise nat_eq xs ys → b ≡ same xs ys
+text_is xs ys true e = sym (ap (same xs) (sym (same_text xs ys e)) ∙ same_self xs)
+text_is xs ys false e = sym (same-other xs ys (other_text xs ys e))
+
+pub unlike_is : (at : ℕ → List ℕ) (x : List ℕ) (n from : ℕ) → list_all (λ j. not (pointwise nat_eq x (at j))) (range_with_len from n) ≡ unlike (listing at n from) x
+unfolding unlike listing
+unlike_is at x zero from = refl
+unlike_is at x (suc n) from = ap₂ (λ b c. not b && c) (text_is x (at from) _ refl) (rw (← add-one from) (unlike_is at x n (from + 1)))
+
 -- ---- marks
 module _ (v h : ℕ) where
   shows_own : v ≡ print h → shows v h ≡ true
@@ -117,70 +136,90 @@ module _ (marks : List ℕ) (p h : ℕ) where
     pub mark-more : (x : ℕ) → x ≡ print h → (get_or marks p 0 ≡ x → ⊥) → (get_or marks p 0 ≡ SEVERAL → ⊥) → Leaves marks p h (set marks p SEVERAL) true
     mark-more x is d e = put SEVERAL (shows-other (get_or marks p 0) h (λ q. d (q ∙ sym is)) e) (shows_several SEVERAL h refl) λ g u. shows_several SEVERAL g refl
 
--- number i, whose hash is h, where the later ones have left their marks
-module _ {A : Type 0} {f : List A → Bool} {said : List A → A → Bool} (pairs : Pairwise f said) {hashes : A → ℕ} {size : ℕ} {at : ℕ → A} {n i : ℕ} {marks : List ℕ}
-    (s : Seen hashes size at n (i + 1) marks) (below : i < n) {h : ℕ} (is : h ≡ hashes (at i)) {marks₁ : List ℕ} {b : Bool} (left : Leaves marks (h % size) h marks₁ b) where
-  seen_next : Seen hashes size at n i marks₁
-  unfolding listing
-  seen_next =
-      let z : n - i ≡ suc (n - suc i) = omega arith in
-      record {
-        long = left.long ∙ s.long;
-        marked = rw z (each_next {a = at i} (rw (← is) left.own) (each_map (λ x. left.others (hashes x % size) (hashes x)) (rw (add-one i) at s.marked)));
-      }
+-- ---- from the last to the first: those from number i on are alone, and have left their marks
+module _ (hashes : ℕ → ℕ → Type 0) (asks : ℕ → Bool → Type 0) (n size : ℕ) where
+  pub record Down (marks : List ℕ) (i : ℕ) : Type 0 where
+    pub within : i ≤ n
+    pub long : length marks ≡ size
+    pub passed : (h : ℕ → ℕ) (a : ℕ → Bool) → Says hashes asks n h a → list_all a (range_with_len i (n - i)) ≡ true
+    pub seen : (h : ℕ → ℕ) (a : ℕ → Bool) → Says hashes asks n h a → (j : ℕ) → i ≤ j → j < n → stands marks (h j % size) (h j) ≡ true
 
-  pub new-unmarked : b ≡ true → New said hashes size at n i marks₁ b
-  new-unmarked t =
-      let bare : stands marks (hashes (at i) % size) (hashes (at i)) ≡ false = rw (← is) (not-true (stands marks (h % size) h) (sym left.answer ∙ t)) in
-      record {
-        answer = t ∙ sym (pairs.apart (listing at (n - (i + 1)) (i + 1)) (at i) (each_map (λ y m e. never m (ap (λ x. stands marks (hashes x % size) (hashes x)) (sym e) ∙ bare)) s.marked));
-        seen = seen_next;
-      }
+-- one that is not fails all
+all_fails : (a : ℕ → Bool) (k i j : ℕ) → i ≤ j → j < i + k → a j ≡ false → list_all a (range_with_len i k) ≡ false
+all_fails a zero i j l m e = absurd (omega arith)
+all_fails a (suc k) i j l m e = go (eqb i j) refl λ q. all_fails a k (i + 1) j (omega (arith, eqb-false i j q)) (omega arith) e
+  where
+    go : (b : Bool) → eqb i j ≡ b → ((eqb i j ≡ false) → list_all a (range_with_len (i + 1) k) ≡ false) → (a i && list_all a (range_with_len (i + 1) k)) ≡ false
+    go true q on = rw (eqb-true i j q, e) refl
+    go false q on = ap (a i &&◌) (on q) ∙ and-false (a i)
 
-  pub new_scanned : (x : A) → x ≡ at i → (r : Bool) → r ≡ said (listing at (n - (i + 1)) (i + 1)) x → New said hashes size at n i marks₁ r
-  new_scanned x e r q = record { answer = q ∙ ap (said (listing at (n - (i + 1)) (i + 1))) e; seen = seen_next }
-
--- ---- from the last to the first: those from number i on differ, and have their marks
-pub record Down {A : Type 0} (f : List A → Bool) (hashes : A → ℕ) (size : ℕ) (at : ℕ → A) (n : ℕ) (marks : List ℕ) (i : ℕ) : Type 0 where
-  pub within : i ≤ n
-  pub passed : f (listing at (n - i) i) ≡ true
-  pub seen : Seen hashes size at n i marks
-
-module _ {A : Type 0} {f : List A → Bool} {said : List A → A → Bool} (pairs : Pairwise f said) where
-  pub down_all : (hashes : A → ℕ) (size : ℕ) (at : ℕ → A) (n i : ℕ) → i ≡ n → Down f hashes size at n (replicate size 0) i
-  unfolding listing
-  down_all hashes size at n i e =
+module _ {hashes : ℕ → ℕ → Type 0} {asks : ℕ → Bool → Type 0} {n size : ℕ} where
+  pub down_all : (i : ℕ) → i ≡ n → Down hashes asks n size (replicate size 0) i
+  down_all i e =
       let z : n - i ≡ 0 = omega arith in
-      record { within = omega arith; passed = rw z pairs.none; seen = record { long = length-replicate {A = ℕ} size 0; marked = rw z each_none } }
+      record { within = omega arith; long = length-replicate {A = ℕ} size 0; passed = λ h a s. rw z refl; seen = λ h a s j l m. absurd (omega arith) }
 
-  module _ (at : ℕ → A) (n : ℕ) where
-    opened : (j : ℕ) → j < n → f (listing at (n - j) j) ≡ said (listing at (n - (j + 1)) (j + 1)) (at j) && f (listing at (n - (j + 1)) (j + 1))
-    unfolding listing
-    opened j l = let z : n - j ≡ suc (n - suc j) = omega arith in rw (z, add-one j) (pairs.next (at j) (listing at (n - suc j) (suc j)))
-
-    -- what fails from number j on fails
-    fails : (j : ℕ) → j ≤ n → f (listing at (n - j) j) ≡ false → f (listing at n 0) ≡ false
-    fails zero l e = let z : n - 0 ≡ n = omega arith in rw z at e
-    fails (suc j) l e =
-        let here = said (listing at (n - suc j) (suc j)) (at j) in
-        fails j (omega arith) (opened j (omega arith) ∙ rw (add-one j) (ap (here &&◌) e ∙ and-false here))
-
-  module _ {hashes : A → ℕ} {size : ℕ} {at : ℕ → A} {n : ℕ} {marks : List ℕ} {i : ℕ} (o : Down f hashes size at n marks i) where
-    pub down_done : i ≤ 0 → true ≡ f (listing at n 0)
-    down_done l = let z : i ≡ 0 = omega arith in let y : n - 0 ≡ n = omega arith in sym (rw (z, y) at o.passed)
+  module _ {marks : List ℕ} {i : ℕ} (o : Down hashes asks n size marks i) where
+    pub down_done : i ≤ 0 → AllAlone hashes asks n true
+    down_done l = let z : i ≡ 0 = omega arith in let y : n - 0 ≡ n = omega arith in record { same = λ h a s. sym (rw (z, y) at (o.passed h a s)) }
 
     module _ (l : 0 < i) where
-      pub down_seen : Seen hashes size at n (i - 1 + 1) marks
-      down_seen = let z : i - 1 + 1 ≡ i = omega arith in rw z o.seen
+      pub down_number : i - 1 < n
+      down_number = omega (arith, o.within)
 
-      module _ {marks₁ : List ℕ} {b : Bool} (w : New said hashes size at n (i - 1) marks₁ b) where
-        from_here : f (listing at (n - (i - 1)) (i - 1)) ≡ b
-        from_here =
-            let z : i - 1 + 1 ≡ i = omega arith in
-            opened at n (i - 1) (omega (arith, o.within)) ∙ ap₂ ◌&&◌ (sym w.answer) (rw z o.passed) ∙ and-true b
+      module _ {r : ℕ} (hash-is : hashes (i - 1) r) {marks₁ : List ℕ} {b : Bool} (left : Leaves marks (r % size) r marks₁ b) where
+        pub down_fails : asks (i - 1) false → AllAlone hashes asks n false
+        down_fails asked = record { same = λ h a s. sym (all_fails a n 0 (i - 1) (omega arith) (omega (arith, down_number)) (sym (s.asked (i - 1) false down_number asked))) }
 
-        pub down_fails : not b ≡ true → false ≡ f (listing at n 0)
-        down_fails e = sym (fails at n (i - 1) (omega (arith, o.within)) (from_here ∙ not-true b e))
+        next : ((h : ℕ → ℕ) (a : ℕ → Bool) → Says hashes asks n h a → a (i - 1) ≡ true) → Down hashes asks n size marks₁ (i - 1)
+        next alone = record {
+          within = omega (arith, o.within);
+          long = left.long ∙ o.long;
+          passed = λ h a s.
+              let z : n - (i - 1) ≡ suc (n - i) = omega (arith, o.within) in
+              let y : i - 1 + 1 ≡ i = omega arith in
+              rw (z, y) (rw (alone h a s) (o.passed h a s));
+          seen = λ h a s j m w. go h a s j m w (eqb (i - 1) j) refl;
+        }
+          where
+            go : (h : ℕ → ℕ) (a : ℕ → Bool) → Says hashes asks n h a → (j : ℕ) → i - 1 ≤ j → j < n → (c : Bool) → eqb (i - 1) j ≡ c → stands marks₁ (h j % size) (h j) ≡ true
+            go h a s j m w true q = rw (← eqb-true (i - 1) j q) (rw (← s.hashed (i - 1) r down_number hash-is) left.own)
+            go h a s j m w false q = let d = eqb-false (i - 1) j q in left.others (h j % size) (h j) (o.seen h a s j (omega (arith, d)) w)
 
-        pub down_next : not b ≡ false → Down f hashes size at n marks₁ (i - 1)
-        down_next e = record { within = omega (arith, o.within); passed = from_here ∙ not-false b e; seen = w.seen }
+        pub down_unmarked : b ≡ true → Down hashes asks n size marks₁ (i - 1)
+        down_unmarked t = next λ h a s. s.apart (i - 1) down_number λ j m w e.
+            never {b = stands marks (h j % size) (h j)}
+            (o.seen h a s j (omega arith) w)
+            (ap (λ x. stands marks (x % size) x) (sym e ∙ sym (s.hashed (i - 1) r down_number hash-is)) ∙ not-true (stands marks (r % size) r) (sym left.answer ∙ t))
+
+        pub down_asked : asks (i - 1) true → Down hashes asks n size marks₁ (i - 1)
+        down_asked asked = next λ h a s. sym (s.asked (i - 1) true down_number asked)
+
+-- ---- what lists whose members differ are: each is said to be none of the later ones
+module _ {A : Type 0} {f : List A → Bool} {said : List A → A → Bool} (pairs : Pairwise f said) (at : ℕ → A) where
+  -- number j of n
+  abbrev pub alone : ℕ → ℕ → Bool
+  alone n j = said (listing at (n - (j + 1)) (j + 1)) (at j)
+
+  from_number : (n k j : ℕ) → j + k ≡ n → list_all (alone n) (range_with_len j k) ≡ f (listing at k j)
+  unfolding listing
+  from_number n zero j e = sym pairs.none
+  from_number n (suc k) j e =
+      let z : n - (j + 1) ≡ k = omega arith in
+      ap (alone n j &&◌) (from_number n k (j + 1) (omega arith)) ∙ rw (z, add-one j) (sym (pairs.next (at j) (listing at k (suc j))))
+
+  others : (x : A) (k j : ℕ) → ((i : ℕ) → j ≤ i → i < j + k → x ≡ at i → ⊥) → Each (λ y. x ≡ y → ⊥) (listing at k j)
+  unfolding listing
+  others x zero j d = each_none
+  others x (suc k) j d = each_next (d j (omega arith) (omega arith)) (others x k (suc j) λ i l m. d i (omega arith) (omega arith))
+
+  -- code that is asked of each whether it is, and hashes what they are
+  pub all_alone_is : {hashes : ℕ → ℕ → Type 0} {asks : ℕ → Bool → Type 0} {n : ℕ} {r : Bool} → AllAlone hashes asks n r → (of : A → ℕ)
+      → ((j r : ℕ) → j < n → hashes j r → r ≡ of (at j)) → ((j : ℕ) (b : Bool) → j < n → asks j b → b ≡ alone n j) → r ≡ f (listing at n 0)
+  all_alone_is {n = n} got of hashed asked =
+      got.same (λ j. of (at j)) (alone n) (record {
+        hashed = hashed;
+        asked = asked;
+        apart = λ j l d. pairs.apart (listing at (n - (j + 1)) (j + 1)) (at j) (others (at j) (n - (j + 1)) (j + 1) λ i m w e. d i (omega arith) (omega arith) (ap of e));
+      })
+      ∙ from_number n n 0 (omega arith)

@@ -10,9 +10,9 @@ use lib.Seq.{slice}
 use borrow.Author.Tests.{eq-eqb, ne_eqb}
 use Rattle.model.specs.Module.{count_at, offset_at}
 use Rattle.model.specs.View.{record_at, record_end}
-use Rattle.model.specs.Names.{absent, same, unlike}
+use Rattle.model.specs.Names.{same}
 use Rattle.theory_image.specs.Sections.{slice-take}
-use Rattle.theory_image.specs.Same.{same_true, same_self}
+use Rattle.theory_image.specs.Same.{same_true}
 use Rattle.intake_distinct.specs.Listed.{listing, place_of, number_at, Placed, name_at, Spelled}
 
 -- names that are not the same
@@ -46,9 +46,6 @@ module _ {A : Type 0} (f : List A → Bool) (at : ℕ → A) (whole : Bool) (n :
   pub over_all : (c : ℕ) → n ≡ c → f (listing at c 0) ≡ whole → Over f at whole n 0
   over_all c e h = let z : n - 0 ≡ c = omega arith in record { within = omega arith; same = rw z h }
 
-  pub over_from : (c i : ℕ) → n ≡ c → i ≤ c → f (listing at (c - i) i) ≡ whole → Over f at whole n i
-  over_from c i e l h = record { within = omega arith; same = rw e h }
-
   module _ (i : ℕ) (o : Over f at whole n i) where
     pub over_none : n ≤ i → f [] ≡ whole
     unfolding listing
@@ -60,25 +57,6 @@ module _ {A : Type 0} (f : List A → Bool) (at : ℕ → A) (whole : Bool) (n :
 
     pub over_on : i < n → f (at i ∷ listing at (n - (i + 1)) (i + 1)) ≡ f (listing at (n - (i + 1)) (i + 1)) → Over f at whole n (i + 1)
     over_on h e = record { within = omega arith; same = sym e ∙ over_next h }
-
--- at the end
-pub absent_done : (ws : List ℕ) (k x : ℕ) (whole : Bool) (n i : ℕ) → Over (λ l. absent l x) (number_at ws k) whole n i → n ≤ i → true ≡ whole
-unfolding absent
-absent_done ws k x whole n i o h = over_none (λ l. absent l x) (number_at ws k) whole n i o h
-
-pub unlike_done : (ws x : List ℕ) (whole : Bool) (n i : ℕ) → Over (λ l. unlike l x) (name_at ws) whole n i → n ≤ i → true ≡ whole
-unfolding unlike
-unlike_done ws x whole n i o h = over_none (λ l. unlike l x) (name_at ws) whole n i o h
-
--- a number that is another
-module _ (ws : List ℕ) (k n i y : ℕ) (whole : Bool) (o : Over (λ l. absent l y) (number_at ws k) whole n i) (h : i < n) (x : ℕ) (is : x ≡ number_at ws k i) where
-  pub absent_found : y ≡ x → false ≡ whole
-  unfolding absent
-  absent_found e = rw (eq-eqb y (number_at ws k i) (e ∙ is)) at (over_next (λ l. absent l y) (number_at ws k) whole n i o h)
-
-  pub absent-next : (y ≡ x → ⊥) → Over (λ l. absent l y) (number_at ws k) whole n (i + 1)
-  unfolding absent
-  absent-next e = over_on (λ l. absent l y) (number_at ws k) whole n i o h (rw (absent, ne_eqb y (number_at ws k i) λ z. e (z ∙ sym is)))
 
 -- ---- names
 -- their offsets are words
@@ -102,12 +80,3 @@ module _ {ws : List ℕ} {j b e : ℕ} (s : Spelled ws) (h : j < count_at 0 ws) 
   name_cut =
       let z : b + (e - b) ≡ e = omega (arith, name_rising) in
       sym (slice-take ws b (e - b) (omega (arith, s.long, name_rising, name_within))) ∙ ap (λ x. slice b x ws) z ∙ name_is
-
-module _ (ws : List ℕ) (n i : ℕ) (x : List ℕ) (whole : Bool) (o : Over (λ l. unlike l x) (name_at ws) whole n i) (h : i < n) (y : List ℕ) (is : y ≡ name_at ws i) where
-  pub unlike_found : x ≡ y → false ≡ whole
-  unfolding unlike
-  unlike_found e = rw (ap (same x) (sym (e ∙ is)) ∙ same_self x) at (over_next (λ l. unlike l x) (name_at ws) whole n i o h)
-
-  pub unlike-next : (x ≡ y → ⊥) → Over (λ l. unlike l x) (name_at ws) whole n (i + 1)
-  unfolding unlike
-  unlike-next e = over_on (λ l. unlike l x) (name_at ws) whole n i o h (rw (unlike, same-other x (name_at ws i) λ z. e (z ∙ sym is)))

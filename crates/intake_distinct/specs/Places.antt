@@ -1,9 +1,8 @@
 -- Marks of the names and numbers that were seen. Each has a hash, and equal ones have equal hashes. The place of a hash among the marks is its
 -- remainder by their number, and the mark there is its print, or SEVERAL where hashes of other prints have the same place. So one whose mark is not at
 -- its place is none of those that were seen.
-use Rattle.std.specs.Prelude.{◌≡◌, Bool, true, ◌||◌, not, List, [], ◌∷◌, ℕ, ◌+◌, ◌-◌, ◌*◌, ◌/◌, ◌%◌, eqb, length, get_or}
-use Rattle.model.specs.Carry.{Each}
-use Rattle.intake_distinct.specs.Listed.{listing}
+use Rattle.std.specs.Prelude.{◌≡◌, Bool, true, ◌||◌, not, List, [], ◌∷◌, ℕ, ◌+◌, ◌*◌, ◌/◌, ◌%◌, ◌<◌, eqb, length, get_or}
+use Rattle.std.specs.List.{list_all, range_with_len}
 
 -- the hash of a name, folded from its words: bits 20 to 43 of the product with 2 ^ 32 over the golden ratio
 unfoldable pub mix : ℕ → ℕ → ℕ
@@ -15,10 +14,6 @@ mixed (w ∷ ws) h = mixed ws (mix h w)
 
 unfoldable pub hash : List ℕ → ℕ
 hash ws = mixed ws 0
-
--- the hash of a number
-abbrev pub itself : ℕ → ℕ
-itself x = x
 
 abbrev pub print : ℕ → ℕ
 print h = h % 254 + 1
@@ -40,12 +35,11 @@ pub record Leaves (before : List ℕ) (p h : ℕ) (after : List ℕ) (r : Bool) 
   pub own : stands after p h ≡ true
   pub others : (q g : ℕ) → stands before q g ≡ true → stands after q g ≡ true
 
--- those of n from number i on have left their marks
-pub record Seen {A : Type 0} (hash : A → ℕ) (size : ℕ) (at : ℕ → A) (n i : ℕ) (marks : List ℕ) : Type 0 where
-  pub long : length marks ≡ size
-  pub marked : Each (λ x. stands marks (hash x % size) (hash x) ≡ true) (listing at (n - i) i)
+-- ---- code that gives a hash to each of n, and is asked of it: h is what it gives and a what it says, and what has the hash of no later one is alone
+pub record Says (hashes : ℕ → ℕ → Type 0) (asks : ℕ → Bool → Type 0) (n : ℕ) (h : ℕ → ℕ) (a : ℕ → Bool) : Type 0 where
+  pub hashed : (j r : ℕ) → j < n → hashes j r → r ≡ h j
+  pub asked : (j : ℕ) (b : Bool) → j < n → asks j b → b ≡ a j
+  pub apart : (j : ℕ) → j < n → ((i : ℕ) → j < i → i < n → h j ≡ h i → ⊥) → a j ≡ true
 
--- what is said of number i, which leaves its mark, and of the later ones
-pub record New {A : Type 0} (said : List A → A → Bool) (hash : A → ℕ) (size : ℕ) (at : ℕ → A) (n i : ℕ) (marks : List ℕ) (r : Bool) : Type 0 where
-  pub answer : r ≡ said (listing at (n - (i + 1)) (i + 1)) (at i)
-  pub seen : Seen hash size at n i marks
+pub record AllAlone (hashes : ℕ → ℕ → Type 0) (asks : ℕ → Bool → Type 0) (n : ℕ) (r : Bool) : Type 0 where
+  pub same : (h : ℕ → ℕ) (a : ℕ → Bool) → Says hashes asks n h a → r ≡ list_all a (range_with_len 0 n)

@@ -5,11 +5,11 @@
 // one place that differ in their last words: 130,816 pairs of 30 words, about 2 ms.
 #![tactic(auto)]
 
-ghost use Rattle.std.specs.Prelude.{◌≡◌, ◌+◌, ◌-◌, ◌^◌, ◌≤◌, ◌<◌, length};
+ghost use Rattle.std.specs.Prelude.{◌≡◌, ℕ, ◌-◌, ◌^◌, ◌≤◌, ◌<◌, length};
 ghost use Rattle.model.specs.Module.{count_at};
 ghost use Rattle.model.specs.Names.{absent as absentOf, distinct as distinctOf, unlike as unlikeOf, differ as differOf};
 ghost use Rattle.intake_distinct.specs.Listed.{listing, place_of, number_at, Placed, name_at, Spelled};
-ghost use Rattle.intake_distinct.specs.Places.{mix as mixOf, hash as hashOf, itself, print as printOf, Leaves, Seen, New};
+ghost use Rattle.intake_distinct.specs.Places.{mix as mixOf, hash as hashOf, print as printOf, Leaves, AllAlone};
 
 use base_views::{NAMES, SPECIAL, count, end_of, pair_at, start_of};
 use base_words::Words;
@@ -44,12 +44,7 @@ fn absent(words: &Words, k: usize, from: usize, x: u32) -> bool
     requires from_bound { from ≤ count_at k words.now }
     ensures { result ≡ absentOf (listing (number_at words.now k) (count_at k words.now - from) from) x }
 {
-    for j in from..count(words, k) {
-        if x == number(words, k, j) {
-            return false;
-        }
-    }
-    true
+    (from..count(words, k)).all(|j| x != number(words, k, j))
 }
 
 // The mark of a place at which hashes of other prints meet.
@@ -69,39 +64,44 @@ fn mark(seen: &mut [u8], at: usize, h: usize) -> bool
 {
     let own = print(h);
     let old = seen[at];
-    if old == own || old == SEVERAL {
-        return false;
+    let new = old != own && old != SEVERAL;
+    if new {
+        seen[at] = if old == 0 { own } else { SEVERAL };
     }
-    seen[at] = if old == 0 { own } else { SEVERAL };
-    true
+    new
 }
 
-// Numbers have functions of their own, and are no slices of one word to be taken with the names below: they are their own hashes, with fewer marks, and are compared as words.
-// Whether number j of section k is none of the later ones, which have left their marks; it leaves its own.
-fn new_number(words: &Words, seen: &mut [u8], k: usize, j: usize) -> bool
-    requires placed { Placed words.now k }
-    requires j_bound { j < count_at k words.now }
-    requires j_bound_2 { j < 2 ^ 32 }
-    requires seen { Seen itself 1024 (number_at words.now k) (count_at k words.now) (j + 1) seen.old }
-    ensures { New absentOf itself 1024 (number_at words.now k) (count_at k words.now) j seen.new result }
+// Whether each of `count` is none of the later ones, as `alone` says of it: that is asked only of those whose hash may be that of a later one.
+fn all_alone<const MARKS: usize, H: Fn(usize) -> usize, A: Fn(usize) -> bool>(
+    count: usize,
+    hash: H,
+    alone: A,
+) -> bool
+    requires marks { (0 < MARKS) × (MARKS < 2 ^ 32) }
+    requires hashes { (j : ℕ) → j < count → H.pre hash j }
+    requires asks { (j : ℕ) → j < count → A.pre alone j }
+    ensures { AllAlone (H.post hash) (A.post alone) count result }
 {
-    let x = number(words, k, j);
-    let h = x as usize;
-    mark(seen, h % 1024, h) || absent(words, k, j + 1, x)
-}
-
-// Whether those of section k differ.
-pub fn distinct(words: &Words, k: usize) -> bool
-    requires { Placed words.now k }
-    ensures { result ≡ distinctOf (listing (number_at words.now k) (count_at k words.now) 0) }
-{
-    let mut seen = [0u8; 1024];
-    for j in (0..count(words, k)).rev() {
-        if !new_number(words, &mut seen, k, j) {
+    let mut seen = [0u8; MARKS];
+    for j in (0..count).rev() {
+        let h = hash(j);
+        if !mark(&mut seen, h % MARKS, h) && !alone(j) {
             return false;
         }
     }
     true
+}
+
+// Whether those of section k differ. A number is its own hash.
+pub fn distinct(words: &Words, k: usize) -> bool
+    requires { Placed words.now k }
+    ensures { result ≡ distinctOf (listing (number_at words.now k) (count_at k words.now) 0) }
+{
+    all_alone::<1024, _, _>(
+        count(words, k),
+        |j| number(words, k, j) as usize,
+        |j| absent(words, k, j + 1, number(words, k, j)),
+    )
 }
 
 // Name j, as words.
@@ -116,18 +116,13 @@ fn name(words: &Words, j: usize) -> &[u32]
     &words[start..end]
 }
 
-// Whether none of the names from a number on is x.
+// Whether none of the names from a number on is x. One function for this and `absent` would take the section's elements as a closure, and is longer than both.
 fn unlike(words: &Words, from: usize, x: &[u32]) -> bool
     requires spelled { Spelled words.now }
     requires from_bound { from ≤ count_at 0 words.now }
     ensures { result ≡ unlikeOf (listing (name_at words.now) (count_at 0 words.now - from) from) x.now }
 {
-    for j in from..count(words, NAMES) {
-        if x == name(words, j) {
-            return false;
-        }
-    }
-    true
+    (from..count(words, NAMES)).all(|j| x != name(words, j))
 }
 
 // The hash of a name whose words so far have the hash h, and whose next word is w.
@@ -149,29 +144,14 @@ fn hash(name: &[u32]) -> usize
     h
 }
 
-// Whether name j is none of the later ones, which have left their marks; it leaves its own.
-fn new_name(words: &Words, seen: &mut [u8], j: usize) -> bool
-    requires spelled { Spelled words.now }
-    requires j_bound { j < count_at 0 words.now }
-    requires j_bound_2 { j < 2 ^ 32 }
-    requires seen { Seen hashOf 4096 (name_at words.now) (count_at 0 words.now) (j + 1) seen.old }
-    ensures { New unlikeOf hashOf 4096 (name_at words.now) (count_at 0 words.now) j seen.new result }
-{
-    let x = name(words, j);
-    let h = hash(x);
-    mark(seen, h % 4096, h) || unlike(words, j + 1, x)
-}
-
 // Whether the names differ.
 pub fn differ(words: &Words) -> bool
     requires { Spelled words.now }
     ensures { result ≡ differOf (listing (name_at words.now) (count_at 0 words.now) 0) }
 {
-    let mut seen = [0u8; 4096];
-    for j in (0..count(words, NAMES)).rev() {
-        if !new_name(words, &mut seen, j) {
-            return false;
-        }
-    }
-    true
+    all_alone::<4096, _, _>(
+        count(words, NAMES),
+        |j| hash(name(words, j)),
+        |j| unlike(words, j + 1, name(words, j)),
+    )
 }

@@ -2,7 +2,7 @@
 use mathlib.Core.Path.{◌≡◌, refl, sym, ap, ◌∙◌, subst}
 use mathlib.Core.Logic.{inl, inr, ⊎_elim}
 use mathlib.Core.Bool.{Bool, true, false}
-use Rattle.std.specs.Prelude.{Option, Some, None}
+use Rattle.std.specs.Prelude.{Option, Some, None, map}
 use Rattle.std.specs.Option.{SomeIff}
 use mathlib.Core.List.{List, [], ◌∷◌, ◌++◌}
 use Prim.Native.Nat.{ℕ, zero, suc, ◌+◌, ◌*◌, ◌-◌, ◌≤◌, ◌<◌}
@@ -17,7 +17,7 @@ use Rattle.model.specs.Initial.{Mem, here, there}
 use Rattle.theory_image.specs.Members.{no_mem, mem_left, mem_right, mem_cases}
 use Rattle.model.specs.Between.{between, Long}
 use Rattle.theory_image.specs.Betweens.{between_none, between_cons}
-use Rattle.intake_initialisers.specs.Marks.{finds, before, reads, on, blank, inits, Visits, Room}
+use Rattle.intake_initialisers.specs.Marks.{finds, Found, before, reads, on, blank, inits, Visits, Room}
 
 -- ---- what a word reads
 -- a number less 1, if it is not 0
@@ -225,22 +225,27 @@ module _ (e : ℕ) (words : List ℕ) (at count : ℕ) (m₀ l₀ : List ℕ) wh
       roots_skip is = record { to = omega arith; room = inv.room; onward = λ m₂ l₂ t₂ w. inv.onward m₂ l₂ t₂ (rw (begin_one, ← is) w) }
 
 -- ---- where records start
-pub record Finding (tags : List ℕ) (at end : ℕ) (starts₀ : List ℕ) (k i : ℕ) (starts : List ℕ) : Type 0 where
-  pub to : i ≤ end
-  pub few : k + length (finds i (slice i end tags)) ≤ 1025
-  pub same : sets starts k (finds i (slice i end tags)) ≡ sets starts₀ 0 (finds at (slice at end tags))
+-- of a type that `gives` says how to make of a place
+module _ {N : Type 0} (gives : ℕ → N → Type 0) (tags : List ℕ) (at end : ℕ) (starts₀ : List N) where
+  abbrev pub Gives : (ℕ → N) → Type 0
+  Gives of = (x : ℕ) (y : N) → gives x y → y ≡ of x
 
-module _ (tags : List ℕ) (at end : ℕ) (starts₀ : List ℕ) where
-  pub places-begin : at ≤ end → length (finds at (slice at end tags)) ≤ 1025 → Finding tags at end starts₀ 0 at starts₀
-  places-begin h f = record { to = h; few = omega arith; same = refl }
+  pub record Finding (k i : ℕ) (starts : List N) : Type 0 where
+    pub to : i ≤ end
+    pub long : length starts ≡ 1025
+    pub few : k + length (finds i (slice i end tags)) ≤ 1025
+    pub same : (of : ℕ → N) → Gives of → sets starts k (map of (finds i (slice i end tags))) ≡ sets starts₀ 0 (map of (finds at (slice at end tags)))
 
-  module _ (k i : ℕ) (starts : List ℕ) (inv : Finding tags at end starts₀ k i starts) where
-    pub places_done : end ≤ i → starts ≡ sets starts₀ 0 (finds at (slice at end tags))
+  pub places-begin : at ≤ end → length starts₀ ≡ 1025 → length (finds at (slice at end tags)) ≤ 1025 → Finding 0 at starts₀
+  places-begin h l f = record { to = h; long = l; few = omega arith; same = λ of g. refl }
+
+  module _ (k i : ℕ) (starts : List N) (inv : Finding k i starts) where
+    pub places_done : end ≤ i → Found gives (finds at (slice at end tags)) starts₀ starts
     unfolding finds
     places_done h =
         let q : i ≡ end = omega (arith, inv.to) in
         let z : slice i end tags ≡ [] = ap (λ j. slice j end tags) q ∙ slice_empty end tags in
-        rw z at inv.same
+        record { same = λ of g. rw z at (inv.same of g) }
 
     module _ (h : i < end) (long : length tags ≡ 16384) (ok : end ≤ 16384) where
       opened : slice i end tags ≡ get_or tags i 0 ∷ slice (i + 1) end tags
@@ -254,8 +259,8 @@ module _ (tags : List ℕ) (at end : ℕ) (starts₀ : List ℕ) where
         pub places_last_room : k < 1025
         places_last_room = omega (arith, inv.few, ap length found_last)
 
-        pub places-last : (v : ℕ) → v ≡ i → set starts k v ≡ sets starts₀ 0 (finds at (slice at end tags))
-        places-last v is = rw is (rw found_last at inv.same)
+        pub places-last : (v : N) → gives i v → Found gives (finds at (slice at end tags)) starts₀ (set starts k v)
+        places-last v is = record { same = λ of g. rw (g i v is) (rw found_last at (inv.same of g)) }
 
       module _ (other : get_or tags i 0 ≡ 114 → ⊥) where
         module _ (kind : get_or tags i 0 ≡ 116) where
@@ -266,22 +271,31 @@ module _ (tags : List ℕ) (at end : ℕ) (starts₀ : List ℕ) where
           pub places-room : k < 1025
           places-room = omega (arith, inv.few, ap length found_next)
 
-          pub places-next : (v : ℕ) → v ≡ i → Finding tags at end starts₀ (k + 1) (i + 1) (set starts k v)
+          pub places-next : (v : N) → gives i v → Finding (k + 1) (i + 1) (set starts k v)
           places-next v is = record {
             to = omega arith;
+            long = length-set starts k v ∙ inv.long;
             few = omega (arith, inv.few, ap length found_next, ap (λ j. length (finds j (slice (i + 1) end tags))) (add-one i));
-            same = rw (is, add-one k) (sets-next inv.same);
+            same = λ of g. rw (g i v is, add-one k) (sets-next of (inv.same of g));
           }
             where
-              sets-next : sets starts k (finds i (slice i end tags)) ≡ sets starts₀ 0 (finds at (slice at end tags)) → sets (set starts k i) (suc k) (finds (i + 1) (slice (i + 1) end tags)) ≡ sets starts₀ 0 (finds at (slice at end tags))
-              sets-next q = ap (λ j. sets (set starts k i) (suc k) (finds j (slice (i + 1) end tags))) (add-one i) ∙ (rw found_next at q)
+              sets-next : (of : ℕ → N) → sets starts k (map of (finds i (slice i end tags))) ≡ sets starts₀ 0 (map of (finds at (slice at end tags))) → sets (set starts k (of i)) (suc k) (map of (finds (i + 1) (slice (i + 1) end tags))) ≡ sets starts₀ 0 (map of (finds at (slice at end tags)))
+              sets-next of q = ap (λ j. sets (set starts k (of i)) (suc k) (map of (finds j (slice (i + 1) end tags)))) (add-one i) ∙ (rw found_next at q)
 
-        pub places_skip : (get_or tags i 0 ≡ 116 → ⊥) → Finding tags at end starts₀ k (i + 1) starts
+        pub places_skip : (get_or tags i 0 ≡ 116 → ⊥) → Finding k (i + 1) starts
         unfolding finds
-        places_skip kind = record { to = omega arith; few = rw q at inv.few; same = rw q at inv.same }
+        places_skip kind = record { to = omega arith; long = inv.long; few = rw q at inv.few; same = λ of g. rw q at (inv.same of g) }
           where
             q : finds i (slice i end tags) ≡ finds (i + 1) (slice (i + 1) end tags)
             q = ap (finds i) opened ∙ skipped ∙ ap (λ j. finds j (slice (i + 1) end tags)) (sym (add-one i))
               where
                 skipped : finds i (get_or tags i 0 ∷ slice (i + 1) end tags) ≡ finds (suc i) (slice (i + 1) end tags)
                 skipped = rw (finds, ne_eqb (get_or tags i 0) 114 other, ne_eqb (get_or tags i 0) 116 kind)
+
+-- numbers are written as they are
+pub found_numbers : {xs before after : List ℕ} → Found (λ x y. y ≡ x) xs before after → after ≡ sets before 0 xs
+found_numbers {xs} {before} f = f.same (λ x. x) (λ x y e. e) ∙ ap (sets before 0) (map_same xs)
+  where
+    map_same : (ys : List ℕ) → map (λ x. x) ys ≡ ys
+    map_same [] = refl
+    map_same (y ∷ ys) = ap (y ∷◌) (map_same ys)

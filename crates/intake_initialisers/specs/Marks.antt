@@ -1,6 +1,7 @@
 -- Marks and the list of what is still to be visited, as the code has them, and what visiting a list of numbers does to both.
 -- A visit marks a number that is not marked and puts it on the list, so that what is marked besides is on the list, and marks and list together do not grow.
-use Rattle.std.specs.Prelude.{◌≡◌, ◌⊎◌, Option, Some, None, Bool, true, false, List, [], ◌∷◌, ℕ, zero, suc, ◌+◌, ◌≤◌, ◌<◌, eqb, ltb, length, get_or, take, drop}
+use Rattle.std.specs.Prelude.{◌≡◌, ◌⊎◌, Option, Some, None, Bool, true, false, List, [], ◌∷◌, ℕ, zero, suc, ◌+◌, ◌≤◌, ◌<◌, eqb, ltb, length, get_or, take, drop, map}
+use Rattle.std.proofs.lemmas.List.Edits.{sets}
 use Rattle.model.specs.Table.{EXPR, OPT_EXPR, NAMED, EXPR_KIND}
 use Rattle.model.specs.Tree.{Function}
 use Rattle.model.specs.Operands.{optional, ops, kind_at, constant_kind}
@@ -12,6 +13,10 @@ use Rattle.intake_initialisers.specs.Lists.{Lists}
 unfoldable pub finds : ℕ → List ℕ → List ℕ
 finds at [] = []
 finds at (s ∷ ss) = elim (eqb s NAMED) [ true ↦ at ∷ [] | false ↦ elim (eqb s EXPR_KIND) [ true ↦ at ∷ finds (suc at) ss | false ↦ finds (suc at) ss ] ]
+
+-- the places xs written from the first on, in a type that `gives` says how to make of a number: of as many as are written each is the number's
+pub record Found {N : Type 0} (gives : ℕ → N → Type 0) (xs : List ℕ) (before after : List N) : Type 0 where
+  pub same : (of : ℕ → N) → ((x : ℕ) (y : N) → gives x y → y ≡ of x) → after ≡ sets before 0 (map of xs)
 
 -- the expression that an optional operand names: it is the number plus 1, or 0 for none
 unfoldable pub before : ℕ → Option ℕ

@@ -8,31 +8,31 @@ ghost use Rattle.std.proofs.lemmas.List.Edits.{sets};
 ghost use Rattle.model.specs.Operands.{ops_of};
 ghost use Rattle.model.specs.Between.{between, Long};
 ghost use Rattle.intake_initialisers.specs.Lists.{Listed, Initialised};
-ghost use Rattle.intake_initialisers.specs.Marks.{finds, reads, inits, Room, Visits, Reaching, Reaches};
+ghost use Rattle.intake_initialisers.specs.Marks.{finds, Found, reads, inits, Room, Visits, Reaching, Reaches};
 
 use base_classes::{EXPR, EXPR_KIND, NAMED, OPT_EXPR};
 use base_kinds::constant;
 use base_views::Image;
 use base_words::{Tags, Words};
 
-// Where each expression record starts, from `at` on, and where the last one ends: a record starts with its kind, and the last is followed by the number of named
-// expressions.
-pub fn places(tags: &Tags, at: usize, end: usize, starts: &mut [u32; 1025])
+// Where each expression record starts, from `at` on, and where the last one ends, as numbers of 16 bits or more: a record starts with its kind, and the last is
+// followed by the number of named expressions.
+pub fn places<N: From<u16> + Copy>(tags: &Tags, at: usize, end: usize, starts: &mut [N; 1025])
     requires tags_len { length tags.now ≡ 16384 }
     requires at_le_end { at ≤ end }
     requires end_bound { end ≤ 16384 }
     requires tags_len_bound { length (finds at (slice at end tags.now)) ≤ 1025 }
-    ensures { starts.new ≡ sets starts.old 0 (finds at (slice at end tags.now)) }
+    ensures { Found N.From.from_gives (finds at (slice at end tags.now)) starts.old starts.new }
 {
     let mut k = 0;
     for j in at..end {
         match tags[j] {
             NAMED => {
-                starts[k] = j as u32;
+                starts[k] = N::from(j as u16);
                 return;
             }
             EXPR_KIND => {
-                starts[k] = j as u32;
+                starts[k] = N::from(j as u16);
                 k += 1;
             }
             _ => {}
@@ -148,6 +148,7 @@ pub fn initialised(image: Image, locals: usize, exprs: usize, end: usize) -> boo
 {
     let count = image.words[locals] as usize;
     let e = image.words[exprs] as usize;
+    // Two early returns: after `||` would stand the rest as a block, which is no plainer.
     if count == 0 {
         return true;
     }

@@ -1,4 +1,5 @@
 -- A function in words and tags, and the loops over table functions and entry points.
+use denote.Ref.{MutBor}
 use mathlib.Core.Path.{◌≡◌, refl, sym, ap, ◌∙◌}
 use mathlib.Core.Logic.{⊎_elim}
 use mathlib.Core.Bool.{Bool, true, false, ◌&&◌, not}
@@ -24,7 +25,7 @@ use Rattle.theory_image.specs.FunctionViews.{arguments_count, locals_count, expr
 use Rattle.theory_image.specs.Betweens.{held-between}
 use Rattle.model.specs.Between.{Long}
 use Rattle.intake_ranges.specs.Ranges.{table, headed, owned, FunctionInRangeEnsures, Owned}
-use Rattle.intake_numbers.specs.Passes.{TestEnsures, Tabled, Frame, Framed, Sound, Loose, Loosely, Heads, Sectioned, tables_fine, kinds_fine, functions_fine, entries_fine}
+use Rattle.intake_numbers.specs.Passes.{TestEnsures, Tabled, Frame, Framed, Sound, Loose, Loosely, Heads, Tests, Passed, done, fails, next, Sectioned, tables_fine, kinds_fine, functions_fine, entries_fine}
 use Rattle.intake_initialisers.specs.Lists.{Lists, Listed, Initialised}
 use Rattle.intake_numbers.proofs.Tabling.{and_next, taped_long, cells_few, headed_is}
 
@@ -103,6 +104,16 @@ module _ {A : Type 0} (k : ℕ) (items : Module → List A) (fn : A → Function
     pub count : (m : Module) → Taped words tags n m → count_at k words ≡ length (items m)
     pub frames : (m : Module) → Taped words tags n m → (j : ℕ) (x : A) → get_elem? (items m) j ≡ some x → Frame words tags (record_at k j words) (from (record_at k j words)) (record_end k j words) (fn x) (cells x)
 
+  module _ (words tags : List ℕ) (n : ℕ) (fg : Framing words tags n) (j : ℕ) (h : j < count_at k words) where
+    number : (m : Module) → Taped words tags n m → j < length (items m)
+    number m tp = omega (arith, fg.count m tp)
+
+    looping_frame : (m : Module) (tp : Taped words tags n m) → Frame words tags (record_at k j words) (from (record_at k j words)) (record_end k j words) (fn (get_or (items m) j (d m))) (cells (get_or (items m) j (d m)))
+    looping_frame m tp = fg.frames m tp j (get_or (items m) j (d m)) (looked_at (items m) j (d m) (number m tp))
+
+    looping_framed : Tape words tags n → Framed words tags (record_at k j words) (from (record_at k j words)) (record_end k j words)
+    looping_framed tape = record { function = _; record_cells = _; frame = looping_frame tape.holds tape.taped }
+
   module _ (words tags : List ℕ) (n : ℕ) (fg : Framing words tags n) (t₀ : List ℕ) where
     looping-begin : Looping words tags n t₀ 0 t₀
     looping-begin = record { to = omega arith; same = λ m tp lo. refl; kept = λ m tp lo. lo }
@@ -117,44 +128,34 @@ module _ {A : Type 0} (k : ℕ) (items : Module → List A) (fn : A → Function
         kept = inv.kept;
       }
 
-      module _ (h : j < count_at k words) where
-        number : (m : Module) → Taped words tags n m → j < length (items m)
-        number m tp = omega (arith, fg.count m tp)
+      module _ (h : j < count_at k words) (r : Bool) (t₁ : List ℕ) (got : Sound r t₁ t words tags (record_at k j words) (from (record_at k j words)) (record_end k j words)) where
+        here : (m : Module) → Taped words tags n m → Loose t₀ m → sound (outside m) (fn (get_or (items m) j (d m))) (cells (get_or (items m) j (d m))) ≡ r
+        unfolding sound
+        here m tp lo =
+            let u = inv.kept m tp lo in
+            let x = get_or (items m) j (d m) in
+            sym (got.same (fn x) (cells x) (looping_frame words tags n fg j h m tp) u.bounds u.is ∙ ap (λ b. within b (cells x) && (ordered (cells x) && initialised (fn x))) (u.alike (fn x)))
 
-        looping_frame : (m : Module) (tp : Taped words tags n m) → Frame words tags (record_at k j words) (from (record_at k j words)) (record_end k j words) (fn (get_or (items m) j (d m))) (cells (get_or (items m) j (d m)))
-        looping_frame m tp = fg.frames m tp j (get_or (items m) j (d m)) (looked_at (items m) j (d m) (number m tp))
+        turn : (m : Module) → Taped words tags n m → Loose t₀ m → (r && every (λ x. sound (outside m) (fn x) (cells x)) (drop (j + 1) (items m))) ≡ every (λ x. sound (outside m) (fn x) (cells x)) (items m)
+        unfolding every
+        turn m tp lo =
+            rw (add-one j)
+            (ap (◌&& every (λ x. sound (outside m) (fn x) (cells x)) (drop (suc j) (items m))) (sym (here m tp lo))
+            ∙ sym (ap (every (λ x. sound (outside m) (fn x) (cells x))) (drop-cons (items m) j (d m) (number words tags n fg j h m tp)))
+            ∙ inv.same m tp lo)
 
-        looping_framed : Tape words tags n → Framed words tags (record_at k j words) (from (record_at k j words)) (record_end k j words)
-        looping_framed tape = record { function = _; record_cells = _; frame = looping_frame tape.holds tape.taped }
+        loosened : (m : Module) → Taped words tags n m → Loose t₀ m → Loose t₁ m
+        unfolding inside
+        loosened m tp lo =
+            let u = inv.kept m tp lo in
+            let x = get_or (items m) j (d m) in
+            record { bounds = inside u.bounds (fn x); is = got.kept (fn x) (cells x) (looping_frame words tags n fg j h m tp) u.bounds u.is; alike = λ f. u.alike f }
 
-        module _ (r : Bool) (t₁ : List ℕ) (got : Sound r t₁ t words tags (record_at k j words) (from (record_at k j words)) (record_end k j words)) where
-          here : (m : Module) → Taped words tags n m → Loose t₀ m → sound (outside m) (fn (get_or (items m) j (d m))) (cells (get_or (items m) j (d m))) ≡ r
-          unfolding sound
-          here m tp lo =
-              let u = inv.kept m tp lo in
-              let x = get_or (items m) j (d m) in
-              sym (got.same (fn x) (cells x) (looping_frame m tp) u.bounds u.is ∙ ap (λ b. within b (cells x) && (ordered (cells x) && initialised (fn x))) (u.alike (fn x)))
+        looping_over : not r ≡ true → Loosely false t₁ words tags n t₀ (λ m. every (λ x. sound (outside m) (fn x) (cells x)) (items m))
+        looping_over q = record { same = λ m tp lo. rw (not-true r q) at (turn m tp lo); kept = loosened }
 
-          turn : (m : Module) → Taped words tags n m → Loose t₀ m → (r && every (λ x. sound (outside m) (fn x) (cells x)) (drop (j + 1) (items m))) ≡ every (λ x. sound (outside m) (fn x) (cells x)) (items m)
-          unfolding every
-          turn m tp lo =
-              rw (add-one j)
-              (ap (◌&& every (λ x. sound (outside m) (fn x) (cells x)) (drop (suc j) (items m))) (sym (here m tp lo))
-              ∙ sym (ap (every (λ x. sound (outside m) (fn x) (cells x))) (drop-cons (items m) j (d m) (number m tp)))
-              ∙ inv.same m tp lo)
-
-          loosened : (m : Module) → Taped words tags n m → Loose t₀ m → Loose t₁ m
-          unfolding inside
-          loosened m tp lo =
-              let u = inv.kept m tp lo in
-              let x = get_or (items m) j (d m) in
-              record { bounds = inside u.bounds (fn x); is = got.kept (fn x) (cells x) (looping_frame m tp) u.bounds u.is; alike = λ f. u.alike f }
-
-          looping_over : not r ≡ true → Loosely false t₁ words tags n t₀ (λ m. every (λ x. sound (outside m) (fn x) (cells x)) (items m))
-          looping_over q = record { same = λ m tp lo. rw (not-true r q) at (turn m tp lo); kept = loosened }
-
-          looping-next : not r ≡ false → Looping words tags n t₀ (j + 1) t₁
-          looping-next q = record { to = omega arith; same = λ m tp lo. rw (not-false r q) at (turn m tp lo); kept = loosened }
+        looping-next : not r ≡ false → Looping words tags n t₀ (j + 1) t₁
+        looping-next q = record { to = omega arith; same = λ m tp lo. rw (not-false r q) at (turn m tp lo); kept = loosened }
 
 -- ---- table functions, and entry points
 pub no_function : Function
@@ -187,6 +188,11 @@ functions_in_lem words count j is h = omega (arith, is.0)
 pub entries_in : (words : List ℕ) (count j : ℕ) → Word count (count_at 7 words) → j < count → j < count_at 7 words
 entries_in words count j is h = omega (arith, is.0)
 
+-- a call is a test of the record whose places it is told
+pub tested : {S : Type 0} {post : MutBor S → ℕ → ℕ → ℕ → Bool → MutBor S → Type 0} {words : List ℕ} {k head i at end : ℕ} (shown left : MutBor S) {r b : Bool} → post shown at (at + head) end r left → at ≡ record_at k i words → end ≡ record_end k i words → r ≡ b
+    → Tests post words k head i shown.now b left.now
+tested shown left p at-is end_is is = record { shown = shown; shows = refl; left = left; met = rw (at-is, end_is, is) at p; leaves = refl }
+
 -- either of them, as the code goes over section k
 pub data InSection (words tags : List ℕ) (n : ℕ) (t₀ : List ℕ) (j : ℕ) (t : List ℕ) : ℕ → ℕ → Type 0 where
   in_functions : InFunctions words tags n t₀ j t → InSection words tags n t₀ j t 6 0
@@ -197,6 +203,18 @@ functions_only l = record { functions = λ p. l; entries = λ p. absurd (omega (
 
 entries_only : {r : Bool} {t₁ words tags : List ℕ} {n : ℕ} {t : List ℕ} → Loosely r t₁ words tags n t entries_fine → Sectioned r 7 t₁ words tags n t
 entries_only l = record { functions = λ p. absurd (omega (arith, p)); entries = λ p. l }
+
+-- their functions stand there
+pub framed_at : (words tags : List ℕ) (n : ℕ) → Tape words tags n → (k head : ℕ) → Heads k head → (i : ℕ) → i < count_at k words → Framed words tags (record_at k i words) (record_at k i words + head) (record_end k i words)
+framed_at words tags n tape k head =
+    ⊎_elim
+    (λ p. rw (p.0, p.1) λ i l. let z : record_at 6 i words + 0 ≡ record_at 6 i words = omega arith in rw z (looping_framed 6 _ _ _ _ _ words tags n (framing_functions words tags n) i l tape))
+    (λ p. rw (p.0, p.1) λ i l. looping_framed 7 _ _ _ _ _ words tags n (framing_entries words tags n) i l tape)
+
+pub framed_small : (words tags : List ℕ) (n : ℕ) → Tape words tags n → (k head : ℕ) → Heads k head → (i : ℕ) → i < count_at k words → record_at k i words + head ≤ 16384
+framed_small words tags n tape k head h i l =
+    let p = framed_at words tags n tape k head h i l in
+    omega (arith, p.frame.own.part.rising, function_small words tags (record_at k i words) (record_at k i words + head) (record_end k i words) p)
 
 module _ (words tags : List ℕ) (n : ℕ) (t₀ : List ℕ) where
   pub section_begin : (k head : ℕ) → Heads k head → InSection words tags n t₀ 0 t₀ k head
@@ -212,10 +230,6 @@ module _ (words tags : List ℕ) (n : ℕ) (t₀ : List ℕ) where
     section_done _ _ (in_functions inv) h = functions_only (looping_done 6 _ _ _ _ _ words tags n (framing_functions words tags n) t₀ j t inv h)
     section_done _ _ (in_entries inv) h = entries_only (looping_done 7 _ _ _ _ _ words tags n (framing_entries words tags n) t₀ j t inv h)
 
-    framed_there : (k head : ℕ) → InSection words tags n t₀ j t k head → j < count_at k words → Tape words tags n → Framed words tags (record_at k j words) (record_at k j words + head) (record_end k j words)
-    framed_there _ _ (in_functions inv) h tape = let z : record_at 6 j words + 0 ≡ record_at 6 j words = omega arith in rw z (looping_framed 6 _ _ _ _ _ words tags n (framing_functions words tags n) t₀ j t inv h tape)
-    framed_there _ _ (in_entries inv) h tape = looping_framed 7 _ _ _ _ _ words tags n (framing_entries words tags n) t₀ j t inv h tape
-
     module _ (r : Bool) (t₁ : List ℕ) where
       over_there : (k head : ℕ) → InSection words tags n t₀ j t k head → j < count_at k words → Sound r t₁ t words tags (record_at k j words) (record_at k j words + head) (record_end k j words) → not r ≡ true → Sectioned false k t₁ words tags n t₀
       unfolding functions_fine entries_fine
@@ -226,19 +240,14 @@ module _ (words tags : List ℕ) (n : ℕ) (t₀ : List ℕ) where
       next_there _ _ (in_functions inv) h got q = let z : record_at 6 j words + 0 ≡ record_at 6 j words = omega arith in in_functions (looping-next 6 _ _ _ _ _ words tags n (framing_functions words tags n) t₀ j t inv h r t₁ (rw z at got) q)
       next_there _ _ (in_entries inv) h got q = in_entries (looping-next 7 _ _ _ _ _ words tags n (framing_entries words tags n) t₀ j t inv h r t₁ got q)
 
-    module _ (k head : ℕ) (inv : InSection words tags n t₀ j t k head) (h : j < count_at k words) (at end : ℕ) (at-is : at ≡ record_at k j words) (end_is : end ≡ record_end k j words) where
-      pub section_framed : Tape words tags n → Framed words tags at (at + head) end
-      section_framed tape = rw (at-is, end_is) (framed_there k head inv h tape)
-
-      pub section_small : Tape words tags n → at + head ≤ 16384
-      section_small tape = let p = section_framed tape in omega (arith, p.frame.own.part.rising, function_small words tags at (at + head) end p)
-
-      module _ (r : Bool) (t₁ : List ℕ) (got : Sound r t₁ t words tags at (at + head) end) where
-        pub section_over : not r ≡ true → Sectioned false k t₁ words tags n t₀
-        section_over q = over_there r t₁ k head inv h (rw (at-is, end_is) at got) q
-
-        pub section_next : not r ≡ false → InSection words tags n t₀ (j + 1) t₁ k head
-        section_next q = next_there r t₁ k head inv h (rw (at-is, end_is) at got) q
+  -- one after the other, from record j on
+  pub passed_section : {post : MutBor (List ℕ) → ℕ → ℕ → ℕ → Bool → MutBor (List ℕ) → Type 0} {k head j : ℕ} {t t₁ : List ℕ} {r : Bool}
+      → Passed post words k head j t r t₁ → InSection words tags n t₀ j t k head
+      → ((i : ℕ) (t t₁ : List ℕ) (r : Bool) → i < count_at k words → Tests post words k head i t r t₁ → Sound r t₁ t words tags (record_at k i words) (record_at k i words + head) (record_end k i words))
+      → Sectioned r k t₁ words tags n t₀
+  passed_section {k = k} {head} {j} {t} (done h) inv tests = section_done j t k head inv h
+  passed_section {k = k} {head} {j} {t} {t₁} (fails h p) inv tests = over_there j t false t₁ k head inv h (tests j t t₁ false h p) refl
+  passed_section {k = k} {head} {j} {t} (next {s₁ = t₁} h p q) inv tests = passed_section q (next_there j t true t₁ k head inv h (tests j t t₁ true h p) refl) tests
 
 -- ---- the whole
 last-first : (k f e r p : Bool) → (k && (f && (e && (r && p)))) ≡ ((r && p) && (k && (f && e)))

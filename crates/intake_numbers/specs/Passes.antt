@@ -1,8 +1,10 @@
 -- What the passes over the sections and functions of a module answer, and where a function is.
-use Rattle.std.specs.Prelude.{◌≡◌, ◌⊎◌, Bool, ◌&&◌, List, ℕ, ◌≤◌, length}
+use denote.Ref.{MutBor}
+use Rattle.std.specs.Prelude.{◌≡◌, ◌⊎◌, Bool, true, false, ◌&&◌, List, ℕ, ◌+◌, ◌≤◌, ◌<◌, length}
 use Rattle.model.specs.Outcome.{Cells}
 use Rattle.model.specs.Tree.{Function}
-use Rattle.model.specs.Module.{Module}
+use Rattle.model.specs.Module.{Module, count_at}
+use Rattle.model.specs.View.{record_at, record_end}
 use Rattle.model.specs.Taped.{Taped}
 use Rattle.model.specs.Between.{Long}
 use Rattle.model.specs.Numbers.{Bounds, within, every, outside, inside, sound, sound_function, sound_entry, constant_only}
@@ -67,6 +69,20 @@ entries_fine m = every (sound_entry (outside m)) m.entries
 -- ---- the sections whose records have a function: table functions, and entry points, which have words in front of it
 abbrev pub Heads : ℕ → ℕ → Type 0
 Heads k head = ((k ≡ 6) × (head ≡ 0)) ⊎ ((k ≡ 7) × (head ≡ 7))
+
+-- ---- code that tests record i of section k, where its scratch memory is s, and leaves s₁
+pub record Tests {S : Type 0} (post : MutBor S → ℕ → ℕ → ℕ → Bool → MutBor S → Type 0) (words : List ℕ) (k head i : ℕ) (s : S) (r : Bool) (s₁ : S) : Type 0 where
+  pub shown : MutBor S
+  pub shows : shown.now ≡ s
+  pub left : MutBor S
+  pub met : post shown (record_at k i words) (record_at k i words + head) (record_end k i words) r left
+  pub leaves : left.now ≡ s₁
+
+-- and one record after the other from record i on, up to the first that fails
+pub data Passed {S : Type 0} (post : MutBor S → ℕ → ℕ → ℕ → Bool → MutBor S → Type 0) (words : List ℕ) (k head : ℕ) : ℕ → S → Bool → S → Type 0 where
+  done : {i : ℕ} {s : S} → count_at k words ≤ i → Passed post words k head i s true s
+  fails : {i : ℕ} {s s₁ : S} → i < count_at k words → Tests post words k head i s false s₁ → Passed post words k head i s false s₁
+  next : {i : ℕ} {s s₁ s₂ : S} {r : Bool} → i < count_at k words → Tests post words k head i s true s₁ → Passed post words k head (i + 1) s₁ r s₂ → Passed post words k head i s r s₂
 
 pub record Sectioned (r : Bool) (k : ℕ) (t₁ words tags : List ℕ) (n : ℕ) (t : List ℕ) : Type 0 where
   pub functions : k ≡ 6 → Loosely r t₁ words tags n t functions_fine

@@ -4,13 +4,13 @@
 // them, 12,353 words, take about 40 microseconds.
 #![tactic(auto)]
 
-ghost use Rattle.std.specs.Prelude.{◌≡◌, ◌<◌, get_or};
+ghost use Rattle.std.specs.Prelude.{◌≡◌, ℕ, ◌+◌, ◌<◌, get_or};
 ghost use Rattle.model.specs.Module.{count_at};
-ghost use Rattle.model.specs.View.{record_at as recordAt};
+ghost use Rattle.model.specs.View.{record_at as recordAt, record_end};
 ghost use Rattle.model.specs.Operands.{constant_kind};
 ghost use Rattle.model.specs.Taped.{Tape};
 ghost use Rattle.model.specs.Numbers.{numbered as numberedOf};
-ghost use Rattle.intake_numbers.specs.Passes.{TestEnsures, Tabled, Framed, Sound, Heads, Sectioned, tables_fine, kinds_fine};
+ghost use Rattle.intake_numbers.specs.Passes.{TestEnsures, Tabled, Framed, Sound, Heads, Passed, Sectioned, tables_fine, kinds_fine};
 
 use base_kinds::constant;
 use base_views::{
@@ -65,20 +65,42 @@ fn function(image: Image, t: &mut [u64; 256], at: usize, from: usize, end: usize
     function_in_range(image.words, image.tags, t, at, end) && initialised(image, locals, exprs, end)
 }
 
-// The functions of section k: table functions, each of which starts its record, or entry points, whose function starts `head` words into the record.
+// Whether `fine` holds of every record of section k, up to the first of which it does not: of where it starts, where its function starts, which is `head` words
+// into a table function or an entry point, and where it ends.
+pub fn all_functions<S, F: Fn(&mut S, usize, usize, usize) -> bool>(
+    image: Image,
+    k: usize,
+    head: usize,
+    scratch: &mut S,
+    fine: F,
+) -> bool
+    requires tape { Tape image.words.now image.tags.now image.n }
+    requires heads { Heads k head }
+    requires tests { (s : _) (i : ℕ) → i < count_at k image.words.now → F.pre fine s (recordAt k i image.words.now) (recordAt k i image.words.now + head) (record_end k i image.words.now) }
+    ensures { Passed (F.post fine) image.entry.words.now k head 0 scratch.old result scratch.new }
+{
+    for i in 0..count(image.words, k) {
+        let at = image.record_at(k, i);
+        if !fine(scratch, at, at + head, image.record_end(k, i)) {
+            return false;
+        }
+    }
+    true
+}
+
+// The functions of section k, table functions or entry points.
 fn functions(image: Image, t: &mut [u64; 256], k: usize, head: usize) -> bool
     requires tape { Tape image.words.now image.tags.now image.n }
     requires heads { Heads k head }
     ensures { Sectioned result k t.new image.entry.words.now image.entry.tags.now image.entry.n t.old }
 {
-    for i in 0..count(image.words, k) {
-        let at = image.record_at(k, i);
-        let end = image.record_end(k, i);
-        if !function(image, t, at, at + head, end) {
-            return false;
-        }
-    }
-    true
+    all_functions(
+        image,
+        k,
+        head,
+        t,
+        |t, at, from, end| function(image, t, at, from, end),
+    )
 }
 
 // Whether every number and code is in range and every kind in its place.

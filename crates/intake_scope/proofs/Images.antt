@@ -1,4 +1,6 @@
 -- Every function and every entry point, one after the other: what is left from here is the whole.
+use denote.Ref.{MutBor}
+use mathlib.Core.Logic.{inl, inr}
 use mathlib.Core.Path.{◌≡◌, refl, sym, ap, ◌∙◌, subst}
 use mathlib.Core.Bool.{Bool, true, false, ◌&&◌}
 use mathlib.Core.List.{List, [], ◌∷◌}
@@ -21,8 +23,8 @@ use Rattle.model.specs.Initial.{initialised}
 use Rattle.model.specs.Numbers.{Bounds, caps, bound, below, within, ordered, every, outside, inside, sound}
 use Rattle.model.specs.Scope.{scoped, all_scoped, entries_scoped, in_scope}
 use Rattle.theory_image.specs.FunctionViews.{part_end}
-use Rattle.intake_numbers.specs.Passes.{TestEnsures, Frame, tables_fine, kinds_fine, functions_fine, entries_fine}
-use Rattle.intake_numbers.proofs.Framing.{Word, no_function, no_entry, Framing, framing_functions, framing_entries, functions_in_lem, entries_in, numbered_is}
+use Rattle.intake_numbers.specs.Passes.{TestEnsures, Frame, Heads, Tests, Passed, done, fails, next, tables_fine, kinds_fine, functions_fine, entries_fine}
+use Rattle.intake_numbers.proofs.Framing.{no_function, no_entry, Framing, framing_functions, framing_entries, numbered_is}
 use Rattle.intake_scope.specs.Functions.{Stated, Scoped, InRange, functions_scoped, entry_points_scoped, Section, of_functions, of_entries, scoped_of}
 use Rattle.intake_blocks.proofs.Trees.{Runs, runs_word}
 use Rattle.intake_scope.proofs.Whole.{part_runs}
@@ -75,6 +77,21 @@ module _ {A : Type 0} (k : ℕ) (items : Module → List A) (fn : A → Function
     pub same : (m : Module) → Taped words tags n m → every (λ x. scoped (fn x)) (drop j (items m)) ≡ every (λ x. scoped (fn x)) (items m)
 
   module _ (words tags : List ℕ) (n : ℕ) (fg : Framing k items fn cells from (λ m. d) words tags n) where
+    module _ (j : ℕ) (h : j < count_at k words) where
+      here : (m : Module) → A
+      here m = get_or (items m) j d
+
+      frame : (m : Module) → Taped words tags n m → Frame words tags (record_at k j words) (from (record_at k j words)) (record_end k j words) (fn (here m)) (cells (here m))
+      unfolding here
+      frame m tp = fg.frames m tp j (here m) (looked_at (items m) j d (omega (arith, fg.count m tp)))
+
+      onward_stated : ((m : Module) → Taped words tags n m → every (λ x. sound (outside m) (fn x) (cells x)) (items m) ≡ true) → ((p : ℕ) → p ≤ from p) → Tape words tags n → Stated words tags (record_at k j words) (from (record_at k j words)) (record_end k j words)
+      unfolding here
+      onward_stated good low tape =
+          let m = tape.holds in
+          let tp = tape.taped in
+          stated words tags (record_at k j words) (from (record_at k j words)) (record_end k j words) (fn (here m)) (cells (here m)) (outside m) (frame m tp) (low (record_at k j words)) (every-at (λ x. sound (outside m) (fn x) (cells x)) (items m) j d (good m tp) (omega (arith, fg.count m tp)))
+
     onward_begin : Onward words tags n 0
     onward_begin = record { to = omega arith; same = λ m tp. refl }
 
@@ -85,41 +102,26 @@ module _ {A : Type 0} (k : ℕ) (items : Module → List A) (fn : A → Function
           let q : j ≡ length (items m) = omega (arith, inv.to, fg.count m tp) in
           sym (ap (λ i. every (λ x. scoped (fn x)) (drop i (items m))) q ∙ ap (every (λ x. scoped (fn x))) (drop-length (items m))) ∙ inv.same m tp
 
-      module _ (h : j < count_at k words) where
-        here : (m : Module) → A
-        here m = get_or (items m) j d
+      module _ (h : j < count_at k words) (good : (m : Module) → Taped words tags n m → every (λ x. sound (outside m) (fn x) (cells x)) (items m) ≡ true) (r : Bool) (got : Scoped r words tags (record_at k j words) (from (record_at k j words)) (record_end k j words)) where
+        fine : (m : Module) → Taped words tags n m → initialised (fn (here j h m)) ≡ true
+        unfolding here sound
+        fine m tp =
+            let s = every-at (λ x. sound (outside m) (fn x) (cells x)) (items m) j d (good m tp) (omega (arith, fg.count m tp)) in
+            (and_split (ordered (cells (here j h m))) (initialised (fn (here j h m))) (and_split (within (inside (outside m) (fn (here j h m))) (cells (here j h m))) (ordered (cells (here j h m)) && initialised (fn (here j h m))) s).1).1
 
-        frame : (m : Module) → Taped words tags n m → Frame words tags (record_at k j words) (from (record_at k j words)) (record_end k j words) (fn (here m)) (cells (here m))
-        unfolding here
-        frame m tp = fg.frames m tp j (here m) (looked_at (items m) j d (omega (arith, fg.count m tp)))
+        turn : (m : Module) → Taped words tags n m → (r && every (λ x. scoped (fn x)) (drop (j + 1) (items m))) ≡ every (λ x. scoped (fn x)) (items m)
+        unfolding every here
+        turn m tp =
+            rw (add-one j)
+            (ap (◌&& every (λ x. scoped (fn x)) (drop (suc j) (items m))) (got.same (fn (here j h m)) (cells (here j h m)) (frame j h m tp) (fine m tp))
+            ∙ sym (ap (every (λ x. scoped (fn x))) (drop-cons (items m) j d (omega (arith, fg.count m tp))))
+            ∙ inv.same m tp)
 
-        onward_stated : ((m : Module) → Taped words tags n m → every (λ x. sound (outside m) (fn x) (cells x)) (items m) ≡ true) → ((p : ℕ) → p ≤ from p) → Tape words tags n → Stated words tags (record_at k j words) (from (record_at k j words)) (record_end k j words)
-        unfolding here
-        onward_stated good low tape =
-            let m = tape.holds in
-            let tp = tape.taped in
-            stated words tags (record_at k j words) (from (record_at k j words)) (record_end k j words) (fn (here m)) (cells (here m)) (outside m) (frame m tp) (low (record_at k j words)) (every-at (λ x. sound (outside m) (fn x) (cells x)) (items m) j d (good m tp) (omega (arith, fg.count m tp)))
+        onward_over : r ≡ false → (m : Module) → Taped words tags n m → false ≡ every (λ x. scoped (fn x)) (items m)
+        onward_over q m tp = ap (◌&& every (λ x. scoped (fn x)) (drop (j + 1) (items m))) (sym q) ∙ turn m tp
 
-        module _ (good : (m : Module) → Taped words tags n m → every (λ x. sound (outside m) (fn x) (cells x)) (items m) ≡ true) (r : Bool) (got : Scoped r words tags (record_at k j words) (from (record_at k j words)) (record_end k j words)) where
-          fine : (m : Module) → Taped words tags n m → initialised (fn (here m)) ≡ true
-          unfolding here sound
-          fine m tp =
-              let s = every-at (λ x. sound (outside m) (fn x) (cells x)) (items m) j d (good m tp) (omega (arith, fg.count m tp)) in
-              (and_split (ordered (cells (here m))) (initialised (fn (here m))) (and_split (within (inside (outside m) (fn (here m))) (cells (here m))) (ordered (cells (here m)) && initialised (fn (here m))) s).1).1
-
-          turn : (m : Module) → Taped words tags n m → (r && every (λ x. scoped (fn x)) (drop (j + 1) (items m))) ≡ every (λ x. scoped (fn x)) (items m)
-          unfolding every here
-          turn m tp =
-              rw (add-one j)
-              (ap (◌&& every (λ x. scoped (fn x)) (drop (suc j) (items m))) (got.same (fn (here m)) (cells (here m)) (frame m tp) (fine m tp))
-              ∙ sym (ap (every (λ x. scoped (fn x))) (drop-cons (items m) j d (omega (arith, fg.count m tp))))
-              ∙ inv.same m tp)
-
-          onward_over : r ≡ false → (m : Module) → Taped words tags n m → false ≡ every (λ x. scoped (fn x)) (items m)
-          onward_over q m tp = ap (◌&& every (λ x. scoped (fn x)) (drop (j + 1) (items m))) (sym q) ∙ turn m tp
-
-          onward_next : r ≡ true → Onward words tags n (j + 1)
-          onward_next q = record { to = omega arith; same = λ m tp. ap (◌&& every (λ x. scoped (fn x)) (drop (j + 1) (items m))) (sym q) ∙ turn m tp }
+        onward_next : r ≡ true → Onward words tags n (j + 1)
+        onward_next q = record { to = omega arith; same = λ m tp. ap (◌&& every (λ x. scoped (fn x)) (drop (j + 1) (items m))) (sym q) ∙ turn m tp }
 
 -- ---- functions, and entry points
 all-every : (fs : List Function) → every (λ x. scoped x) fs ≡ all_scoped fs
@@ -151,67 +153,47 @@ module _ (words tags : List ℕ) (n : ℕ) (nb : InRange words tags n) where
   unfolding entries_fine
   entries_good m tp = (and_split (functions_fine m) (entries_fine m) (and_split (kinds_fine m) (functions_fine m && entries_fine m) (and_split (tables_fine m) (kinds_fine m && (functions_fine m && entries_fine m)) (sym (numbered_is m) ∙ nb.holds m tp)).1).1).1
 
-  pub functions_begin : InFunctions words tags n 0
+  functions_begin : InFunctions words tags n 0
   functions_begin = onward_begin 6 _ _ _ _ _ words tags n (framing_functions words tags n)
 
-  pub entries_begin : InEntries words tags n 0
+  entries_begin : InEntries words tags n 0
   entries_begin = onward_begin 7 _ _ _ _ _ words tags n (framing_entries words tags n)
 
-  module _ (count j : ℕ) where
-    module _ (is : Word count (count_at 6 words)) (inv : InFunctions words tags n j) where
-      pub functions_done : count ≤ j → TestEnsures true words tags n functions_scoped
-      functions_done h = record { same = λ m tp. onward_done 6 _ _ _ _ _ words tags n (framing_functions words tags n) j inv (omega (arith, is.0)) m tp ∙ all-every m.functions }
-
-      module _ (h : j < count) (at end : ℕ) (at-is : at ≡ record_at 6 j words) (end_is : end ≡ record_end 6 j words) where
-        pub functions_stated : Tape words tags n → Stated words tags at at end
-        functions_stated tape = rw (at-is, end_is) (onward_stated 6 _ _ _ _ _ words tags n (framing_functions words tags n) j inv (functions_in_lem words count j is h) functions_good (λ p. omega arith) tape)
-
-        module _ (r : Bool) (got : Scoped r words tags at at end) where
-          pub functions_over : r ≡ false → TestEnsures false words tags n functions_scoped
-          functions_over q = record { same = λ m tp. onward_over 6 _ _ _ _ _ words tags n (framing_functions words tags n) j inv (functions_in_lem words count j is h) functions_good r (rw (at-is, end_is) at got) q m tp ∙ all-every m.functions }
-
-          pub functions_next : r ≡ true → InFunctions words tags n (j + 1)
-          functions_next q = onward_next 6 _ _ _ _ _ words tags n (framing_functions words tags n) j inv (functions_in_lem words count j is h) functions_good r (rw (at-is, end_is) at got) q
-
-    module _ (is : Word count (count_at 7 words)) (inv : InEntries words tags n j) where
-      pub entries_done : count ≤ j → TestEnsures true words tags n entry_points_scoped
-      entries_done h = record { same = λ m tp. onward_done 7 _ _ _ _ _ words tags n (framing_entries words tags n) j inv (omega (arith, is.0)) m tp ∙ entries_every m.entries }
-
-      module _ (h : j < count) (at end : ℕ) (at-is : at ≡ record_at 7 j words) (end_is : end ≡ record_end 7 j words) where
-        pub entries_stated : Tape words tags n → Stated words tags at (at + 7) end
-        entries_stated tape = rw (at-is, end_is) (onward_stated 7 _ _ _ _ _ words tags n (framing_entries words tags n) j inv (entries_in words count j is h) entries_good (λ p. omega arith) tape)
-
-        module _ (r : Bool) (got : Scoped r words tags at (at + 7) end) where
-          pub entries_over : r ≡ false → TestEnsures false words tags n entry_points_scoped
-          entries_over q = record { same = λ m tp. onward_over 7 _ _ _ _ _ words tags n (framing_entries words tags n) j inv (entries_in words count j is h) entries_good r (rw (at-is, end_is) at got) q m tp ∙ entries_every m.entries }
-
-          pub entries_next : r ≡ true → InEntries words tags n (j + 1)
-          entries_next q = onward_next 7 _ _ _ _ _ words tags n (framing_entries words tags n) j inv (entries_in words count j is h) entries_good r (rw (at-is, end_is) at got) q
-
   -- ---- either of them
-  pub section_low : {k head : ℕ} → Section k head → (k < 8) × (head < 8)
-  section_low of_functions = (omega arith, omega arith)
-  section_low of_entries = (omega arith, omega arith)
+  pub section_heads : {k head : ℕ} → Section k head → Heads k head
+  section_heads of_functions = inl (refl, refl)
+  section_heads of_entries = inr (refl, refl)
 
   pub section_begin : {k head : ℕ} (s : Section k head) → InSection s words tags n 0
   section_begin of_functions = functions_begin
   section_begin of_entries = entries_begin
 
-  pub section_done : {k head : ℕ} (s : Section k head) (count j : ℕ) → Word count (count_at k words) → InSection s words tags n j → count ≤ j → TestEnsures true words tags n (scoped_of s)
-  section_done of_functions count j is inv h = functions_done count j is inv h
-  section_done of_entries count j is inv h = entries_done count j is inv h
+  module _ (i : ℕ) where
+    section_done : {k head : ℕ} (s : Section k head) → InSection s words tags n i → count_at k words ≤ i → TestEnsures true words tags n (scoped_of s)
+    section_done of_functions inv h = record { same = λ m tp. onward_done 6 _ _ _ _ _ words tags n (framing_functions words tags n) i inv h m tp ∙ all-every m.functions }
+    section_done of_entries inv h = record { same = λ m tp. onward_done 7 _ _ _ _ _ words tags n (framing_entries words tags n) i inv h m tp ∙ entries_every m.entries }
 
-  pub section_stated : {k head : ℕ} (s : Section k head) (count j : ℕ) → Word count (count_at k words) → InSection s words tags n j → j < count → (at end : ℕ) → at ≡ record_at k j words → end ≡ record_end k j words → Tape words tags n → Stated words tags at (at + head) end
-  section_stated of_functions count j is inv h at end at-is end_is tape = let z : at + 0 ≡ at = omega arith in rw z (functions_stated count j is inv h at end at-is end_is tape)
-  section_stated of_entries count j is inv h at end at-is end_is tape = entries_stated count j is inv h at end at-is end_is tape
+    pub section_stated : {k head : ℕ} → Section k head → i < count_at k words → Tape words tags n → Stated words tags (record_at k i words) (record_at k i words + head) (record_end k i words)
+    section_stated of_functions h tape = let z : record_at 6 i words + 0 ≡ record_at 6 i words = omega arith in rw z (onward_stated 6 _ _ _ _ _ words tags n (framing_functions words tags n) i h functions_good (λ p. omega arith) tape)
+    section_stated of_entries h tape = onward_stated 7 _ _ _ _ _ words tags n (framing_entries words tags n) i h entries_good (λ p. omega arith) tape
 
-  pub section_over : {k head : ℕ} (s : Section k head) (count j : ℕ) → Word count (count_at k words) → InSection s words tags n j → j < count → (at end : ℕ) → at ≡ record_at k j words → end ≡ record_end k j words → (r : Bool) → Scoped r words tags at (at + head) end → r ≡ false → TestEnsures false words tags n (scoped_of s)
-  section_over of_functions count j is inv h at end at-is end_is r got q = let z : at + 0 ≡ at = omega arith in functions_over count j is inv h at end at-is end_is r (rw z at got) q
-  section_over of_entries count j is inv h at end at-is end_is r got q = entries_over count j is inv h at end at-is end_is r got q
+    module _ (r : Bool) where
+      section_over : {k head : ℕ} (s : Section k head) → InSection s words tags n i → i < count_at k words → Scoped r words tags (record_at k i words) (record_at k i words + head) (record_end k i words) → r ≡ false → TestEnsures false words tags n (scoped_of s)
+      section_over of_functions inv h got q = let z : record_at 6 i words + 0 ≡ record_at 6 i words = omega arith in record { same = λ m tp. onward_over 6 _ _ _ _ _ words tags n (framing_functions words tags n) i inv h functions_good r (rw z at got) q m tp ∙ all-every m.functions }
+      section_over of_entries inv h got q = record { same = λ m tp. onward_over 7 _ _ _ _ _ words tags n (framing_entries words tags n) i inv h entries_good r got q m tp ∙ entries_every m.entries }
 
-  pub section_next : {k head : ℕ} (s : Section k head) (count j : ℕ) → Word count (count_at k words) → InSection s words tags n j → j < count → (at end : ℕ) → at ≡ record_at k j words → end ≡ record_end k j words → (r : Bool) → Scoped r words tags at (at + head) end → r ≡ true → InSection s words tags n (j + 1)
-  section_next of_functions count j is inv h at end at-is end_is r got q = let z : at + 0 ≡ at = omega arith in functions_next count j is inv h at end at-is end_is r (rw z at got) q
-  section_next of_entries count j is inv h at end at-is end_is r got q = entries_next count j is inv h at end at-is end_is r got q
+      section_next : {k head : ℕ} (s : Section k head) → InSection s words tags n i → i < count_at k words → Scoped r words tags (record_at k i words) (record_at k i words + head) (record_end k i words) → r ≡ true → InSection s words tags n (i + 1)
+      section_next of_functions inv h got q = let z : record_at 6 i words + 0 ≡ record_at 6 i words = omega arith in onward_next 6 _ _ _ _ _ words tags n (framing_functions words tags n) i inv h functions_good r (rw z at got) q
+      section_next of_entries inv h got q = onward_next 7 _ _ _ _ _ words tags n (framing_entries words tags n) i inv h entries_good r got q
+
+  -- one after the other, from record j on
+  pub passed_section : {S : Type 0} {post : MutBor S → ℕ → ℕ → ℕ → Bool → MutBor S → Type 0} {k head j : ℕ} {t t₁ : S} {r : Bool} (s : Section k head)
+      → Passed post words k head j t r t₁ → InSection s words tags n j
+      → ((i : ℕ) (t t₁ : S) (r : Bool) → i < count_at k words → Tests post words k head i t r t₁ → Scoped r words tags (record_at k i words) (record_at k i words + head) (record_end k i words))
+      → TestEnsures r words tags n (scoped_of s)
+  passed_section {j = j} s (done h) inv tests = section_done j s inv h
+  passed_section {j = j} {t} {t₁} s (fails h p) inv tests = section_over j false s inv h (tests j t t₁ false h p) refl
+  passed_section {j = j} {t} s (next {s₁ = t₁} h p q) inv tests = passed_section s q (section_next j true s inv h (tests j t t₁ true h p) refl) tests
 
   module _ (a : Bool) (got : TestEnsures a words tags n functions_scoped) where
     pub image_functions : a ≡ false → TestEnsures false words tags n in_scope

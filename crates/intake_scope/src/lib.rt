@@ -6,9 +6,10 @@ ghost use Rattle.model.specs.Scope.{in_scope};
 ghost use Rattle.intake_numbers.specs.Passes.{TestEnsures};
 ghost use Rattle.intake_scope.specs.Functions.{Known, Tested, Stated, Scoped, InRange, Section, scoped_of};
 
-use base_views::{ENTRIES, ENTRY_HEAD, FUNCTIONS, Image, count, expressions_at, locals_at};
+use base_views::{ENTRIES, ENTRY_HEAD, FUNCTIONS, Image, expressions_at, locals_at};
 use intake_blocks::body;
 use intake_initialisers::{places, reach, roots};
+use intake_numbers::all_functions;
 
 // The large arrays that a pass works in, made once for an image and used by one function after the other: where expressions start, which are still to be
 // visited, and up to which word each is in scope. The first two are written before they are read, and each body clears as much of the last as its function
@@ -75,14 +76,13 @@ fn section(image: Image, scratch: &mut Scratch, k: usize, head: usize) -> bool
     requires section { Section k head }
     ensures { (s : Section k head) → TestEnsures result image.entry.words.now image.entry.tags.now image.entry.n (scoped_of s) }
 {
-    for j in 0..count(image.words, k) {
-        let at = image.record_at(k, j);
-        let end = image.record_end(k, j);
-        if !function(image, scratch, at, at + head, end) {
-            return false;
-        }
-    }
-    true
+    all_functions(
+        image,
+        k,
+        head,
+        scratch,
+        |scratch, at, from, end| function(image, scratch, at, from, end),
+    )
 }
 
 // Is an image whose numbers are in range in scope?

@@ -101,20 +101,16 @@ fn evaluated(
     requires e_lt_count { e < count }
     ensures { FoundE image.entry.words.now image.entry.tags.now starts.now initial.now count at keep e until.old until.new result }
 {
-    if !emits(kind(image.words, starts, e)) || until[e] != 0 {
-        return false;
-    }
-    if initial[e] != 0 {
-        until[e] = 1;
-        return true;
-    }
     let from = starts[e] as usize;
     let to = starts[e + 1] as usize;
-    if !reads(image, starts, until, count, at, from, to) {
-        return false;
+    let initialiser = initial[e] != 0;
+    let fine = emits(kind(image.words, starts, e))
+        && until[e] == 0
+        && (initialiser || reads(image, starts, until, count, at, from, to));
+    if fine {
+        until[e] = if initialiser { 1 } else { keep };
     }
-    until[e] = keep;
-    true
+    fine
 }
 
 // The Emit at the word `at`.
@@ -187,15 +183,16 @@ fn result(
     requires at_bound { at + 4 ≤ stop }
     ensures { FoundO image.entry.words.now image.entry.tags.now starts.now count at stop keep until.old until.new result }
 {
+    // an early return where nothing is evaluated: the rest as an arm of a match is no plainer
     let Some(e) = result_of(image, at + 4, stop) else {
         return true;
     };
     let e = e as usize;
-    if count <= e || !result_fits(image, starts, count, at, e) || until[e] != 0 {
-        return false;
+    let fine = e < count && result_fits(image, starts, count, at, e) && until[e] == 0;
+    if fine {
+        until[e] = keep;
     }
-    until[e] = keep;
-    true
+    fine
 }
 
 // A statement without blocks that is no Emit: its reads, and its result.

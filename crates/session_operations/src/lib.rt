@@ -238,8 +238,8 @@ fn set_first_source(
     let m = match intake::take_in(image, words, tags) {
         Ok(m) => m,
         Err(refusal) => {
-            *words = intake::fresh_words();
-            *tags = intake::fresh_tags();
+            *words = [0; 16384];
+            *tags = [0; 16384];
             return Set {
                 refusal: refusal.number(),
                 set: false,
@@ -304,8 +304,8 @@ pub fn set_shader_source(
             image, words, tags, n, log, logtags, starts, maps, buckets, special, ends, offset, o,
         );
     }
-    let mut w = intake::fresh_words();
-    let mut t = intake::fresh_tags();
+    let mut w = [0; 16384];
+    let mut t = [0; 16384];
     let m = match intake::take_in(image, &mut w, &mut t) {
         Ok(m) => m,
         Err(refusal) => {

@@ -1,23 +1,20 @@
--- `intake_distinct::unlike` meets its contract: the invariant is that what is left from name j on says what the whole says.
-use mathlib.Core.Path.{refl, sym, ◌∙◌}
-use Rattle.std.specs.Cmp.Lexicographic.{same_text, other_text}
-use native.Mathlib.Omega.{arith}
+-- `intake_distinct::unlike` meets its contract: each name from number `from` on is another.
+use mathlib.Core.Bool.{not}
+use mathlib.Core.Path.{refl, ap, ◌∙◌}
+use Prim.Native.Nat.{◌-◌}
+use borrow.Author.Tests.{tests}
+use lib.Pointwise.{pointwise}
+use Rattle.std.proofs.Common.{nat_eq, rules}
+use Rattle.std.proofs.lemmas.Iterator.{YieldsList-from_range}
+use Rattle.std.proofs.lemmas.Iterator.Search.{all_from_yields_List}
 use Rattle.model.specs.Names.{unlike}
-use Rattle.intake_distinct.specs.Listed.{name_at}
-use Rattle.intake_distinct.proofs.Steps.{over_from, unlike_done, unlike_found, unlike-next}
+use Rattle.intake_distinct.specs.Listed.{listing, name_at}
+use Rattle.intake_distinct.proofs.Places.{unlike_is}
 use Rattle.intake_distinct.proofs.unlike.Goals as goal
 
-pub loop-j-init : goal.loop-j-init
-loop-j-init c = over_from (λ l. unlike l c.args.x.now) (name_at c.args.words.now) _ _ _ _ c.count-j-end.ensures.0 c.requires.from_bound refl
-
-pub name-requires : goal.name-requires
-name-requires c = let h = c.count-j-end.ensures in record { spelled = c.requires.spelled; j_bound = omega arith; j_bound_2 = omega arith }
-
-pub returns-then-eq : goal.returns-then-eq
-returns-then-eq c = unlike_found _ _ _ c.args.x.now _ c.loop-j.invariant c.loop-j-test.true _ c.name.ensures (same_text _ _ (sym c.if-eq.true ∙ c.eq.ensures))
-
-pub loop-j-preserved : goal.loop-j-preserved
-loop-j-preserved c = unlike-next _ _ _ c.args.x.now _ c.loop-j.invariant c.loop-j-test.true _ c.name.ensures (other_text _ _ (sym c.if-eq.false ∙ c.eq.ensures))
-
 pub returns : goal.returns
-returns c = unlike_done _ c.args.x.now _ _ _ c.loop-j.invariant c.loop-j-test.false
+returns c =
+    let a = c.args in
+    let at = name_at a.words.now in
+    all_from_yields_List (λ j. not (pointwise nat_eq a.x.now (at j))) _ _ c.all.result c.all.ensures.ran (YieldsList-from_range a.from c.count.result (c.count.result - a.from) refl refl) (λ x v q k. search (rules, tests))
+    ∙ unlike_is at a.x.now (c.count.result - a.from) a.from ∙ ap (λ n. unlike (listing at (n - a.from) a.from) a.x.now) c.count.ensures.0

@@ -2,6 +2,7 @@ use mathlib.Core.Path.{refl}
 use Prim.Native.Nat.{ℕ}
 use native.Mathlib.Omega.{arith}
 use lib.ListN.{replicate, length-replicate}
+use Rattle.intake_initialisers.proofs.Visiting.{found_numbers}
 use Rattle.intake_initialisers.proofs.Reaching.{init_locals, init_exprs, init-after, init-end, init-count, init-room, init-empty, init_few, init-none, init_reach, init_done}
 use Rattle.intake_initialisers.proofs.initialised.Goals as goal
 
@@ -33,10 +34,10 @@ pub overflow_add-exprs : goal.overflow_add-exprs
 overflow_add-exprs c = omega (arith, init_exprs _ _ _ _ _ c.requires)
 
 pub places-requires : goal.places-requires
-places-requires c = record { tags_len = c.requires.lists.long.tags_long; at_le_end = init-after _ _ _ _ _ c.requires; end_bound = init-end _ _ _ _ _ c.requires; tags_len_bound = init_few _ _ _ _ _ c.requires _ _ refl refl }
+places-requires c = (omega arith, (c.requires.lists.long.tags_long, (init-after _ _ _ _ _ c.requires, (init-end _ _ _ _ _ c.requires, init_few _ _ _ _ _ c.requires _ _ refl refl))))
 
 pub reach-requires : goal.reach-requires
-reach-requires c = init_reach _ _ _ _ _ c.requires _ _ refl refl (replicate 1024 0) (length-replicate {A = ℕ} 1024 0) _ _ _ c.roots-top.ensures _ c.places.ensures
+reach-requires c = init_reach _ _ _ _ _ c.requires _ _ refl refl (replicate 1024 0) (length-replicate {A = ℕ} 1024 0) _ _ _ c.roots-top.ensures _ (found_numbers c.places.ensures)
 
 pub returns : goal.returns
-returns c = init_done _ _ _ _ _ c.requires _ _ refl refl (replicate 1024 0) (length-replicate {A = ℕ} 1024 0) _ _ _ c.roots-top.ensures _ c.places.ensures _ _ _ c.reach.ensures
+returns c = init_done _ _ _ _ _ c.requires _ _ refl refl (replicate 1024 0) (length-replicate {A = ℕ} 1024 0) _ _ _ c.roots-top.ensures _ (found_numbers c.places.ensures) _ _ _ c.reach.ensures

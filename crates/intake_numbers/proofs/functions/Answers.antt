@@ -1,23 +1,10 @@
-use native.Mathlib.Omega.{arith}
-use mathlib.Core.Bool.{not}
-use mathlib.Core.Path.{ap}
-use Rattle.intake_numbers.proofs.Framing.{section_begin, section_done, section_framed, section_small, section_over, section_next}
+-- `intake_numbers::functions` meets its contract: each record's function is sound as it says.
+use borrow.Author.Rules.{rules}
+use Rattle.intake_numbers.proofs.Framing.{framed_at, section_begin, passed_section}
 use Rattle.intake_numbers.proofs.functions.Goals as goal
 
-pub loop-i-init : goal.loop-i-init
-loop-i-init c = section_begin _ _ _ _ _ _ c.requires.heads
-
-pub overflow_add-at : goal.overflow_add-at
-overflow_add-at c = omega (arith, section_small _ _ _ _ _ _ _ _ c.loop-i.invariant (omega (arith, c.count-i-end.ensures)) _ _ c.record_at-at.ensures c.record_end-end.ensures c.requires.tape)
-
-pub function-requires : goal.function-requires
-function-requires c = section_framed _ _ _ _ _ _ _ _ c.loop-i.invariant (omega (arith, c.count-i-end.ensures)) _ _ c.record_at-at.ensures c.record_end-end.ensures c.requires.tape
-
-pub returns-then-not-function : goal.returns-then-not-function
-returns-then-not-function c = section_over _ _ _ _ _ _ _ _ c.loop-i.invariant (omega (arith, c.count-i-end.ensures)) _ _ c.record_at-at.ensures c.record_end-end.ensures _ _ c.function.ensures (ap not c.if-not-function.true)
-
-pub loop-i-preserved : goal.loop-i-preserved
-loop-i-preserved c = section_next _ _ _ _ _ _ _ _ c.loop-i.invariant (omega (arith, c.count-i-end.ensures)) _ _ c.record_at-at.ensures c.record_end-end.ensures _ _ c.function.ensures (ap not c.if-not-function.false)
+pub all_functions-requires-clause-tests : goal.all_functions-requires-clause-tests
+all_functions-requires-clause-tests c = λ s i l. let h = framed_at _ _ _ c.requires.tape _ _ c.requires.heads i l in search rules
 
 pub returns : goal.returns
-returns c = section_done _ _ _ _ _ _ _ _ c.loop-i.invariant (omega (arith, c.count-i-end.ensures))
+returns c = passed_section _ _ _ _ c.all_functions.ensures (section_begin _ _ _ _ _ _ c.requires.heads) λ i t t₁ r l p. rw (← p.shows, ← p.leaves) (search rules)

@@ -1,19 +1,40 @@
+use mathlib.Core.Bool.{false≢true}
+use mathlib.Core.Path.{sym, ◌∙◌}
+use borrow.Author.Tests.{eqb-true, eqb-false, not-false}
 use Rattle.intake_statements.proofs.Scopes.{evaluated_kind, evaluated_twice, evaluated_initial, evaluated_reads, evaluated_fine}
-use borrow.Author.Rules.{rules}
 use Rattle.intake_statements.proofs.evaluated.Goals as goal
-use Rattle.intake_statements.proofs.evaluated.Goals.{then-not-emits-via-then-not-emits, then-not-emits-via-else-not-emits+then-until-e-ne0}
+use Rattle.intake_statements.proofs.evaluated.Goals.{then-emits, else-emits, then-until-e-eq0+then-initialiser, then-until-e-eq0+else-initialiser, else-until-e-eq0, then-initialiser-2, else-initialiser-2}
 
-pub returns-then-not-emits : goal.returns-then-not-emits
-returns-then-not-emits c = elim c.then-not-emits.branch [
-  | then-not-emits-via-then-not-emits w ↦ search (evaluated_kind, rules)
-  | then-not-emits-via-else-not-emits+then-until-e-ne0 w ↦ search (evaluated_twice, rules)
-]
+pub returns-after-initialiser-2 : goal.returns-after-initialiser-2
+returns-after-initialiser-2 c =
+    rw c.if-fine.true
+    (elim c.if-emits.branch [
+      | then-emits v ↦ elim c.if-until-e-eq0.branch [
+        | then-until-e-eq0+then-initialiser w ↦ elim c.if-initialiser-2.branch [
+          | then-initialiser-2 q ↦ rw q.until-is (evaluated_initial _ _ _ _ _ _ _ _ _ c.requires.exprs c.requires.at_lt_keep c.requires.e_lt_count _ c.kind.ensures _ c.emits.ensures v.if-emits.true (eqb-true _ 0 (sym v.value-is ∙ w.if-until-e-eq0.true)) w.if-initialiser.true)
+          | else-initialiser-2 q ↦ absurd (w.if-initialiser.true q.if-initialiser-2.false)
+        ]
+        | then-until-e-eq0+else-initialiser w ↦ elim c.if-initialiser-2.branch [
+          | then-initialiser-2 q ↦ absurd (q.if-initialiser-2.true w.if-initialiser.false)
+          | else-initialiser-2 q ↦ rw q.until-is (evaluated_fine _ _ _ _ _ _ _ _ _ c.requires.exprs c.requires.at_lt_keep c.requires.e_lt_count _ c.kind.ensures _ c.emits.ensures v.if-emits.true (eqb-true _ 0 (sym v.value-is ∙ w.if-until-e-eq0.true)) w.if-initialiser.false _ w.reads.ensures (sym w.fine-is ∙ c.if-fine.true))
+        ]
+        | else-until-e-eq0 w ↦ absurd (false≢true (sym (w.fine-is ∙ w.if-until-e-eq0.false) ∙ c.if-fine.true))
+      ]
+      | else-emits v ↦ let no = v.value-is ∙ v.if-emits.false in elim c.if-until-e-eq0.branch [
+        | then-until-e-eq0+then-initialiser w ↦ absurd (false≢true (sym no ∙ w.if-until-e-eq0.true))
+        | then-until-e-eq0+else-initialiser w ↦ absurd (false≢true (sym no ∙ w.if-until-e-eq0.true))
+        | else-until-e-eq0 w ↦ absurd (false≢true (sym (w.fine-is ∙ no) ∙ c.if-fine.true))
+      ]
+    ])
 
-pub returns-then-initial-e-ne0 : goal.returns-then-initial-e-ne0
-returns-then-initial-e-ne0 c = search (evaluated_initial, rules)
-
-pub returns-then-not-reads : goal.returns-then-not-reads
-returns-then-not-reads c = search (evaluated_reads, rules)
-
-pub returns : goal.returns
-returns c = search (evaluated_fine, rules)
+pub returns-else-fine : goal.returns-else-fine
+returns-else-fine c =
+    rw c.if-fine.false
+    (elim c.if-emits.branch [
+      | then-emits v ↦ elim c.if-until-e-eq0.branch [
+        | then-until-e-eq0+then-initialiser w ↦ absurd (w.if-initialiser.true (eqb-true _ 0 (not-false _ (sym w.fine-is ∙ c.if-fine.false))))
+        | then-until-e-eq0+else-initialiser w ↦ evaluated_reads _ _ _ _ _ _ _ _ _ c.requires.exprs c.requires.at_lt_keep c.requires.e_lt_count _ c.kind.ensures _ c.emits.ensures v.if-emits.true (eqb-true _ 0 (sym v.value-is ∙ w.if-until-e-eq0.true)) w.if-initialiser.false _ w.reads.ensures (sym w.fine-is ∙ c.if-fine.false)
+        | else-until-e-eq0 w ↦ evaluated_twice _ _ _ _ _ _ _ _ _ c.requires.exprs c.requires.at_lt_keep c.requires.e_lt_count _ c.kind.ensures _ c.emits.ensures v.if-emits.true (eqb-false _ 0 (sym v.value-is ∙ w.if-until-e-eq0.false))
+      ]
+      | else-emits v ↦ evaluated_kind _ _ _ _ _ _ _ _ _ c.requires.exprs c.requires.at_lt_keep c.requires.e_lt_count _ c.kind.ensures _ c.emits.ensures v.if-emits.false
+    ])

@@ -1,24 +1,38 @@
 use native.Mathlib.Omega.{arith}
+use mathlib.Core.Bool.{false≢true}
 use mathlib.Core.Path.{sym, ◌∙◌}
+use borrow.Author.Tests.{eqb-true, eqb-false, ltb-true}
 use Rattle.intake_statements.proofs.Results.{result_in_lem, result_none, result_out, result_unfit, result_twice, result_fine}
 use borrow.Author.Rules.{rules}
 use Rattle.intake_statements.proofs.result.Goals as goal
-use Rattle.intake_statements.proofs.result.Goals.{then-count-e-via-then-count-e, then-count-e-via-else-count-e+then-not-result_fits, then-count-e-via-else-count-e+else-not-result_fits+then-until-e-ne0}
+use Rattle.intake_statements.proofs.result.Goals.{then-e-count, else-e-count, then-result_fits, else-result_fits}
 
 pub returns-in_default : goal.returns-in_default
 returns-in_default c = search (result_none, rules)
 
-pub returns-then-count-e : goal.returns-then-count-e
-returns-then-count-e c =
+pub result_fits-requires-clause-at_bound : goal.result_fits-requires-clause-at_bound
+result_fits-requires-clause-at_bound c = omega (arith, result_in_lem _ _ _ _ _ (sym c.in-Some.is ∙ c.result_of.ensures), c.requires.stop_bound)
+
+pub returns-then-fine : goal.returns-then-fine
+returns-then-fine c =
     let is = sym c.in-Some.is ∙ c.result_of.ensures in
-    elim c.then-count-e.branch [
-      | then-count-e-via-then-count-e w ↦ search (result_out, rules)
-      | then-count-e-via-else-count-e+then-not-result_fits w ↦ search (result_unfit, rules)
-      | then-count-e-via-else-count-e+else-not-result_fits+then-until-e-ne0 w ↦ search (result_twice, rules)
-    ]
+    rw c.if-fine.true
+    (elim c.if-result_fits.branch [
+      | then-result_fits w ↦ elim c.if-e-count.branch [
+        | then-e-count v ↦ result_fine _ _ _ _ _ _ _ _ c.requires.exprs c.requires.stop_le_keep c.requires.at_bound _ is v.if-e-count.true _ v.result_fits.ensures (sym v.value-is ∙ w.if-result_fits.true) (eqb-true _ 0 (sym w.fine-is ∙ c.if-fine.true))
+        | else-e-count v ↦ absurd (omega (arith, ltb-true _ _ (sym v.value-is ∙ w.if-result_fits.true), v.if-e-count.false))
+      ]
+      | else-result_fits w ↦ absurd (false≢true (sym (w.fine-is ∙ w.if-result_fits.false) ∙ c.if-fine.true))
+    ])
 
-pub result_fits-requires : goal.result_fits-requires
-result_fits-requires c = let h = result_in_lem _ _ _ _ _ (sym c.in-Some.is ∙ c.result_of.ensures) in record { exprs = c.requires.exprs; at_bound = omega (arith, h, c.requires.stop_bound); e_lt_count = c.if-count-e.false }
-
-pub returns : goal.returns
-returns c = let is = sym c.in-Some.is ∙ c.result_of.ensures in search (result_fine, rules)
+pub returns-else-fine : goal.returns-else-fine
+returns-else-fine c =
+    let is = sym c.in-Some.is ∙ c.result_of.ensures in
+    rw c.if-fine.false
+    (elim c.if-e-count.branch [
+      | then-e-count v ↦ elim c.if-result_fits.branch [
+        | then-result_fits w ↦ result_twice _ _ _ _ _ _ _ _ c.requires.exprs c.requires.stop_le_keep c.requires.at_bound _ is v.if-e-count.true _ v.result_fits.ensures (sym v.value-is ∙ w.if-result_fits.true) (eqb-false _ 0 (sym w.fine-is ∙ c.if-fine.false))
+        | else-result_fits w ↦ result_unfit _ _ _ _ _ _ _ _ c.requires.exprs c.requires.stop_le_keep c.requires.at_bound _ is v.if-e-count.true _ v.result_fits.ensures (sym v.value-is ∙ w.if-result_fits.false)
+      ]
+      | else-e-count v ↦ result_out _ _ _ _ _ _ _ _ c.requires.exprs c.requires.stop_le_keep c.requires.at_bound _ is v.if-e-count.false
+    ])
