@@ -41,19 +41,6 @@ pub fn take_in(image: &[u8], words: &mut Words, tags: &mut Tags) -> Result<usize
     test(Image { words, tags, n })
 }
 
-// Words and tags, to take an image in with.
-pub fn fresh_words() -> [u32; 16384]
-    ensures { 16384 ≡ length result }
-{
-    [0; 16384]
-}
-
-pub fn fresh_tags() -> [u8; 16384]
-    ensures { 16384 ≡ length result }
-{
-    [0; 16384]
-}
-
 // Intake's number for an image: 0 if it is accepted, else that of the refusal.
 pub fn intake(image: &[u8]) -> u32
     ensures { IntakeEnsures result image.now }

@@ -40,8 +40,8 @@ fn list(image: Image, out: &mut [u32]) -> Result<u32, Refusal>
 fn list_image(image: &[u8], out: &mut [u32]) -> Result<u32, Refusal>
     ensures { OrderEnsures (answer_by (λ v. v) (ended result)) out.old out.new image.now }
 {
-    let mut words = intake::fresh_words();
-    let mut tags = intake::fresh_tags();
+    let mut words = [0; 16384];
+    let mut tags = [0; 16384];
     let n = intake::take_in(image, &mut words, &mut tags)?;
     list(
         Image {

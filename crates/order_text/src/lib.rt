@@ -42,8 +42,8 @@ pub fn tell_of(image: &[u8], out: &mut [u8; 65536]) -> Said
     requires { length out.old ≡ 65536 }
     ensures { TellEnsures (telling_of image.now) out.old out.new result.count (refusal_of result.ended) (left_of result.ended) }
 {
-    let mut words = intake::fresh_words();
-    let mut tags = intake::fresh_tags();
+    let mut words = [0; 16384];
+    let mut tags = [0; 16384];
     match intake::take_in(image, &mut words, &mut tags) {
         Ok(n) => tell(
             Image {

@@ -18,8 +18,8 @@ pub fn redirect_function(
 ) -> Result<(FunctionHandle, FunctionHandle), Refusal>
     ensures { RedirectFunctionEnsures result image.old image.new original replacement omit.now }
 {
-    let mut words = intake::fresh_words();
-    let mut tags = intake::fresh_tags();
+    let mut words = [0; 16384];
+    let mut tags = [0; 16384];
     let n = intake::take_in(image, &mut words, &mut tags)?;
     redirect_words::redirect_loaded(image, &mut words, &tags, n, original, replacement, omit)
 }
