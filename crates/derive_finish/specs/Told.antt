@@ -10,8 +10,8 @@ use Rattle.derive_state.specs.Held.{entries_of, st_of, ValidArrays}
 use Rattle.derive_state.specs.declared.Sizes.{Sizes}
 
 -- the number of the refusal, 0 for none, and the count of bytes written, 0 where it is refused
-abbrev pub refusal_of : Result ℕ Refusal → ℕ
-refusal_of (Ok bytes) = 0
+abbrev pub refusal_of : {A : Type 0} → Result A Refusal → ℕ
+refusal_of (Ok a) = 0
 refusal_of (Err e) = number_of e
 
 abbrev pub bytes_in : Result ℕ Refusal → ℕ

@@ -12,11 +12,13 @@ ghost use Rattle.derive_state.specs.Source.{mod_of};
 ghost use Rattle.derive_state.specs.Held.{st_of};
 ghost use Rattle.function_builder.specs.Stacks.{Stacks};
 ghost use Rattle.derive_session.specs.Valid.{session_of, ValidSession};
+ghost use Rattle.derive_finish.specs.Told.{refusal_of, bytes_in};
 ghost use Rattle.session_operations.specs.Operations.{OperationEnsures, FinishEnsures};
+ghost use Rattle.session_operations.specs.Answers.{value_in, ends_in, set_after, ends_after};
 ghost use Rattle.session_functions.specs.Brought.{Brings};
 ghost use Rattle.derive_state.specs.Refers.{target_bytes};
 
-use base_refusals::{FULL, NO_SOURCE, NUMBER_GIVEN, UNKNOWN_RING};
+use base_refusals::Refusal;
 use base_views::{FUNCTIONS, Image, count};
 use derive_lookup::known;
 use derive_rings::{entries_ring, follow_rings, import_rings};
@@ -27,7 +29,7 @@ use derive_state::{
 };
 use function_entry::enter_all;
 use function_localize::{append, follow};
-use session_operations::{Answer, Finished};
+use session_operations::Imported;
 
 // Empties the stacks of functions under construction.
 fn empty_stacks(stacks: &mut StackRows)
@@ -144,27 +146,19 @@ pub fn import_function(
     set: bool,
     offset: u32,
     f: u32,
-) -> Answer
+) -> Result<Imported, Refusal>
     requires valid_session { ValidSession set image.n offset image.words.now image.tags.now target_bytes log.old logtags.old starts.old maps.old buckets.old special.now ends }
     requires stacks { Stacks stacks.old ends }
-    ensures operation_ensures { OperationEnsures {A = ℕ} (import_function f) (session_of set image.entry.n offset image.entry.words.now log.old logtags.old starts.old maps.old special.now ends) result.refusal result.value (session_of set image.entry.n offset image.entry.words.now log.new logtags.new starts.new maps.new special.now result.ends) }
-    ensures valid_session_2 { ValidSession set image.entry.n offset image.entry.words.now image.entry.tags.now target_bytes log.new logtags.new starts.new maps.new buckets.new special.now result.ends }
-    ensures stacks_2 { Stacks stacks.new result.ends }
+    ensures operation_ensures { OperationEnsures {A = ℕ} (import_function f) (session_of set image.entry.n offset image.entry.words.now log.old logtags.old starts.old maps.old special.now ends) (refusal_of result) (value_in result) (session_of set image.entry.n offset image.entry.words.now log.new logtags.new starts.new maps.new special.now (ends_in ends result)) }
+    ensures valid_session_2 { ValidSession set image.entry.n offset image.entry.words.now image.entry.tags.now target_bytes log.new logtags.new starts.new maps.new buckets.new special.now (ends_in ends result) }
+    ensures stacks_2 { Stacks stacks.new (ends_in ends result) }
 {
     if !set {
-        return Answer {
-            refusal: NO_SOURCE,
-            value: 0,
-            ends: ends,
-        };
+        return Err(Refusal::NoSource);
     }
     let room = count(image.words, FUNCTIONS);
     if room <= f as usize {
-        return Answer {
-            refusal: NUMBER_GIVEN,
-            value: 0,
-            ends: ends,
-        };
+        return Err(Refusal::NumberGiven);
     }
     if import_rings(
         image,
@@ -178,28 +172,19 @@ pub fn import_function(
         },
         f as usize,
     ) {
-        return Answer {
-            refusal: UNKNOWN_RING,
-            value: 0,
-            ends: ends,
-        };
+        return Err(Refusal::UnknownRing);
     }
     let got = append_or_undo(
         image, log, logtags, starts, maps, buckets, special, stacks, ends, offset, f as usize, room,
     );
     if got.full {
-        return Answer {
-            refusal: FULL,
-            value: 0,
-            ends: ends,
-        };
+        return Err(Refusal::Full);
     }
     let v = number_of(got.counts[FUNCTIONS] as u32);
-    Answer {
-        refusal: 0,
+    Ok(Imported {
         value: v,
         ends: got,
-    }
+    })
 }
 
 // map_function_handle, import_function_if_new: the derived function that has the name of function f, imported first if there is none.
@@ -216,27 +201,19 @@ pub fn map_function_handle(
     set: bool,
     offset: u32,
     f: u32,
-) -> Answer
+) -> Result<Imported, Refusal>
     requires valid_session { ValidSession set image.n offset image.words.now image.tags.now target_bytes log.old logtags.old starts.old maps.old buckets.old special.now ends }
     requires stacks { Stacks stacks.old ends }
-    ensures operation_ensures { OperationEnsures {A = ℕ} (map_function_handle f) (session_of set image.entry.n offset image.entry.words.now log.old logtags.old starts.old maps.old special.now ends) result.refusal result.value (session_of set image.entry.n offset image.entry.words.now log.new logtags.new starts.new maps.new special.now result.ends) }
-    ensures valid_session_2 { ValidSession set image.entry.n offset image.entry.words.now image.entry.tags.now target_bytes log.new logtags.new starts.new maps.new buckets.new special.now result.ends }
-    ensures stacks_2 { Stacks stacks.new result.ends }
+    ensures operation_ensures { OperationEnsures {A = ℕ} (map_function_handle f) (session_of set image.entry.n offset image.entry.words.now log.old logtags.old starts.old maps.old special.now ends) (refusal_of result) (value_in result) (session_of set image.entry.n offset image.entry.words.now log.new logtags.new starts.new maps.new special.now (ends_in ends result)) }
+    ensures valid_session_2 { ValidSession set image.entry.n offset image.entry.words.now image.entry.tags.now target_bytes log.new logtags.new starts.new maps.new buckets.new special.now (ends_in ends result) }
+    ensures stacks_2 { Stacks stacks.new (ends_in ends result) }
 {
     if !set {
-        return Answer {
-            refusal: NO_SOURCE,
-            value: 0,
-            ends: ends,
-        };
+        return Err(Refusal::NoSource);
     }
     let room = count(image.words, FUNCTIONS);
     if room <= f as usize {
-        return Answer {
-            refusal: NUMBER_GIVEN,
-            value: 0,
-            ends: ends,
-        };
+        return Err(Refusal::NumberGiven);
     }
     if follow_rings(
         image,
@@ -250,39 +227,27 @@ pub fn map_function_handle(
         },
         f as usize,
     ) {
-        return Answer {
-            refusal: UNKNOWN_RING,
-            value: 0,
-            ends: ends,
-        };
+        return Err(Refusal::UnknownRing);
     }
     let got = follow_or_undo(
         image, log, logtags, starts, maps, buckets, special, stacks, ends, offset, f as usize, room,
     );
     if got.full {
-        return Answer {
-            refusal: FULL,
-            value: 0,
-            ends: ends,
-        };
+        return Err(Refusal::Full);
     }
-    let v = number_of(known(
-        image,
-        &Derived {
-            log,
-            logtags,
-            starts,
-            maps,
-            buckets,
-            sizes: got,
-        },
-        f as usize,
-    ));
-    Answer {
-        refusal: 0,
+    let derived = Derived {
+        log,
+        logtags,
+        starts,
+        maps,
+        buckets,
+        sizes: got,
+    };
+    let v = number_of(known(image, &derived, f as usize));
+    Ok(Imported {
         value: v,
         ends: got,
-    }
+    })
 }
 
 // finish, with the source's entry points.
@@ -299,20 +264,15 @@ pub fn finish_with_entries(
     set: bool,
     offset: u32,
     output: &mut [u8],
-) -> Finished
+) -> Result<usize, Refusal>
     requires valid_session { ValidSession set image.n offset image.words.now image.tags.now target_bytes log.old logtags.old starts.now maps.old buckets.old special.old ends }
     requires stacks { Stacks stacks.old ends }
-    ensures finish_ensures { FinishEnsures (finish_with_entry_points (length output.old) (session_of set image.entry.n offset image.entry.words.now log.old logtags.old starts.now maps.old special.old ends)) (session_of set image.entry.n offset image.entry.words.now log.old logtags.old starts.now maps.old special.old ends) result.refusal result.bytes output.old output.new (session_of result.set image.entry.n offset image.entry.words.now log.new logtags.new starts.now maps.new special.new result.ends) }
-    ensures valid_session_2 { ValidSession result.set image.entry.n offset image.entry.words.now image.entry.tags.now target_bytes log.new logtags.new starts.now maps.new buckets.new special.new result.ends }
-    ensures stacks_2 { Stacks stacks.new result.ends }
+    ensures finish_ensures { FinishEnsures (finish_with_entry_points (length output.old) (session_of set image.entry.n offset image.entry.words.now log.old logtags.old starts.now maps.old special.old ends)) (session_of set image.entry.n offset image.entry.words.now log.old logtags.old starts.now maps.old special.old ends) (refusal_of result) (bytes_in result) output.old output.new (session_of (set_after set result) image.entry.n offset image.entry.words.now log.new logtags.new starts.now maps.new special.new (ends_after ends result)) }
+    ensures valid_session_2 { ValidSession (set_after set result) image.entry.n offset image.entry.words.now image.entry.tags.now target_bytes log.new logtags.new starts.now maps.new buckets.new special.new (ends_after ends result) }
+    ensures stacks_2 { Stacks stacks.new (ends_after ends result) }
 {
     if !set {
-        return Finished {
-            refusal: NO_SOURCE,
-            bytes: 0,
-            set: set,
-            ends: ends,
-        };
+        return Err(Refusal::NoSource);
     }
     if entries_ring(
         image,
@@ -325,12 +285,7 @@ pub fn finish_with_entries(
             sizes: ends,
         },
     ) {
-        return Finished {
-            refusal: UNKNOWN_RING,
-            bytes: 0,
-            set: set,
-            ends: ends,
-        };
+        return Err(Refusal::UnknownRing);
     }
     let mut s = *starts;
     let mut m = *maps;
@@ -339,45 +294,21 @@ pub fn finish_with_entries(
     );
     if e.full {
         empty_stacks(stacks);
-        return Finished {
-            refusal: FULL,
-            bytes: 0,
-            set: set,
-            ends: ends,
-        };
+        return Err(Refusal::Full);
     }
     let mut out = [0u32; 16384];
-    let bytes = match derive_finish::finish(
-        &Derived {
-            log,
-            logtags,
-            starts: &s,
-            maps,
-            buckets,
-            sizes: e,
-        },
-        special,
-        &mut out,
-        output,
-    ) {
-        Ok(bytes) => bytes,
-        Err(refusal) => {
-            return Finished {
-                refusal: refusal.number(),
-                bytes: 0,
-                set: set,
-                ends: ends,
-            };
-        }
+    let derived = Derived {
+        log,
+        logtags,
+        starts: &s,
+        maps,
+        buckets,
+        sizes: e,
     };
+    let bytes = derive_finish::finish(&derived, special, &mut out, output)?;
     clear_maps(maps);
     special[0] = 0;
     special[1] = 0;
     special[2] = 0;
-    Finished {
-        refusal: 0,
-        bytes: bytes,
-        set: false,
-        ends: empty(),
-    }
+    Ok(bytes)
 }

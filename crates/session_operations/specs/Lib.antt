@@ -1,2 +1,3 @@
 pub mod Operations
 pub mod Theorems
+pub mod Answers

@@ -8,24 +8,23 @@ ghost use Rattle.model.specs.Session.{importing, rename_type, set as setOf, fini
 ghost use Rattle.derive_state.specs.Refers.{tab_of, target_bytes};
 ghost use Rattle.derive_state.specs.Held.{Specials};
 ghost use Rattle.derive_session.specs.Valid.{session_of, ValidSession};
+ghost use Rattle.derive_finish.specs.Told.{refusal_of, bytes_in};
 ghost use Rattle.session_operations.specs.Operations.{OperationEnsures, MapSpanEnsures, RequiredEnsures, FinishEnsures};
+ghost use Rattle.session_operations.specs.Answers.{value_in, ends_in, start_of, end_of, set_in, n_in, offset_in, set_ends, set_after, ends_after};
 
 use base_handles::TypeHandle;
-use base_refusals::{FULL, NO_SOURCE, NUMBER_GIVEN};
+use base_refusals::Refusal;
 use base_views::{Image, NAMES, TYPES, count};
 use base_words::{Tags, Words};
 use derive_finish::finish;
 use derive_rollback::mapped_to;
 use derive_source::set_source;
-use derive_state::{
-    Buckets, Derived, Log, LogTags, Maps, Sizes, Special, Starts, clear_maps, empty,
-};
+use derive_state::{Buckets, Derived, Log, LogTags, Maps, Sizes, Special, Starts, clear_maps};
 use std::num::wrapping_add_u32;
 
-// What an operation answers: its refusal, 0 for none; a value; and the sizes of the derived module after it.
+// What was imported: its number in the derived module, and the sizes of the derived module after it.
 #[derive(Clone, Copy)]
-pub struct Answer {
-    pub refusal: u32,
+pub struct Imported {
     pub value: u32,
     pub ends: Sizes,
 }
@@ -44,42 +43,29 @@ pub fn import(
     offset: u32,
     t: usize,
     h: u32,
-) -> Answer
+) -> Result<Imported, Refusal>
     requires le_t { (1 ≤ t) × (t < 6) }
     requires valid_session { ValidSession set image.n offset image.words.now image.tags.now target_bytes log.old logtags.old starts.old maps.old buckets.old special.now ends }
-    ensures operation_ensures { OperationEnsures {A = ℕ} (importing (tab_of t) h) (session_of set image.entry.n offset image.entry.words.now log.old logtags.old starts.old maps.old special.now ends) result.refusal result.value (session_of set image.entry.n offset image.entry.words.now log.new logtags.new starts.new maps.new special.now result.ends) }
-    ensures valid_session_2 { ValidSession set image.entry.n offset image.entry.words.now image.entry.tags.now target_bytes log.new logtags.new starts.new maps.new buckets.new special.now result.ends }
+    ensures operation_ensures { OperationEnsures {A = ℕ} (importing (tab_of t) h) (session_of set image.entry.n offset image.entry.words.now log.old logtags.old starts.old maps.old special.now ends) (refusal_of result) (value_in result) (session_of set image.entry.n offset image.entry.words.now log.new logtags.new starts.new maps.new special.now (ends_in ends result)) }
+    ensures valid_session_2 { ValidSession set image.entry.n offset image.entry.words.now image.entry.tags.now target_bytes log.new logtags.new starts.new maps.new buckets.new special.now (ends_in ends result) }
 {
     if !set {
-        return Answer {
-            refusal: NO_SOURCE,
-            value: 0,
-            ends: ends,
-        };
+        return Err(Refusal::NoSource);
     }
     if count(image.words, t) <= h as usize {
-        return Answer {
-            refusal: NUMBER_GIVEN,
-            value: 0,
-            ends: ends,
-        };
+        return Err(Refusal::NumberGiven);
     }
     let imported = derive_rollback::import(
         image, log, logtags, starts, maps, buckets, ends, offset, t, h,
     );
     if imported.full {
-        return Answer {
-            refusal: FULL,
-            value: 0,
-            ends: ends,
-        };
+        return Err(Refusal::Full);
     }
     let v = mapped_to(maps, t, h);
-    Answer {
-        refusal: 0,
+    Ok(Imported {
         value: v,
         ends: imported,
-    }
+    })
 }
 
 // rename_type: imports type h under the name with the given number.
@@ -96,31 +82,19 @@ pub fn rename_type(
     offset: u32,
     h: u32,
     name: u32,
-) -> Answer
+) -> Result<Imported, Refusal>
     requires { ValidSession set image.n offset image.words.now image.tags.now target_bytes log.old logtags.old starts.old maps.old buckets.old special.now ends }
-    ensures operation_ensures { OperationEnsures {A = ℕ} (rename_type h name) (session_of set image.entry.n offset image.entry.words.now log.old logtags.old starts.old maps.old special.now ends) result.refusal result.value (session_of set image.entry.n offset image.entry.words.now log.new logtags.new starts.new maps.new special.now result.ends) }
-    ensures valid_session { ValidSession set image.entry.n offset image.entry.words.now image.entry.tags.now target_bytes log.new logtags.new starts.new maps.new buckets.new special.now result.ends }
+    ensures operation_ensures { OperationEnsures {A = ℕ} (rename_type h name) (session_of set image.entry.n offset image.entry.words.now log.old logtags.old starts.old maps.old special.now ends) (refusal_of result) (value_in result) (session_of set image.entry.n offset image.entry.words.now log.new logtags.new starts.new maps.new special.now (ends_in ends result)) }
+    ensures valid_session { ValidSession set image.entry.n offset image.entry.words.now image.entry.tags.now target_bytes log.new logtags.new starts.new maps.new buckets.new special.now (ends_in ends result) }
 {
     if !set {
-        return Answer {
-            refusal: NO_SOURCE,
-            value: 0,
-            ends: ends,
-        };
+        return Err(Refusal::NoSource);
     }
     if count(image.words, TYPES) <= h as usize {
-        return Answer {
-            refusal: NUMBER_GIVEN,
-            value: 0,
-            ends: ends,
-        };
+        return Err(Refusal::NumberGiven);
     }
     if count(image.words, NAMES) <= name as usize {
-        return Answer {
-            refusal: NUMBER_GIVEN,
-            value: 0,
-            ends: ends,
-        };
+        return Err(Refusal::NumberGiven);
     }
     let renamed = derive_rollback::rename_type(
         image,
@@ -135,53 +109,36 @@ pub fn rename_type(
         name,
     );
     if renamed.full {
-        return Answer {
-            refusal: FULL,
-            value: 0,
-            ends: ends,
-        };
+        return Err(Refusal::Full);
     }
     let v = mapped_to(maps, TYPES, h);
-    Answer {
-        refusal: 0,
+    Ok(Imported {
         value: v,
         ends: renamed,
-    }
+    })
 }
 
 // A span by the source's offset.
 #[derive(Clone, Copy)]
 pub struct Span {
-    pub refusal: u32,
     pub start: u32,
     pub end: u32,
 }
 
 // map_span
-pub fn map_span(set: bool, offset: u32, a: u32, b: u32) -> Span
-    ensures { MapSpanEnsures set offset a b result.refusal result.start result.end }
+pub fn map_span(set: bool, offset: u32, a: u32, b: u32) -> Result<Span, Refusal>
+    ensures { MapSpanEnsures set offset a b (refusal_of result) (start_of result) (end_of result) }
 {
     if !set {
-        return Span {
-            refusal: NO_SOURCE,
-            start: 0,
-            end: 0,
-        };
+        return Err(Refusal::NoSource);
     }
-    if a == 0 {
-        if b == 0 {
-            return Span {
-                refusal: 0,
-                start: 0,
-                end: 0,
-            };
-        }
+    if a == 0 && b == 0 {
+        return Ok(Span { start: 0, end: 0 });
     }
-    Span {
-        refusal: 0,
+    Ok(Span {
         start: wrapping_add_u32(a, offset),
         end: wrapping_add_u32(b, offset),
-    }
+    })
 }
 
 // has_required_special_types: 1 if there are any.
@@ -204,11 +161,9 @@ pub fn has_required_special_types(special: &Special, ends: Sizes) -> u32
     0
 }
 
-// What setting a source answers: its refusal, 0 for none; the number of words of the source that is then set; and the sizes.
+// A source that was set: the number of its words, its offset, and the sizes of the derived module after it.
 #[derive(Clone, Copy)]
 pub struct Set {
-    pub refusal: u32,
-    pub set: bool,
     pub n: usize,
     pub offset: u32,
     pub ends: Sizes,
@@ -230,23 +185,17 @@ fn set_first_source(
     ends: Sizes,
     offset: u32,
     o: u32,
-) -> Set
+) -> Result<Set, Refusal>
     requires { ValidSession false n offset words.old tags.old target_bytes log.old logtags.old starts.old maps.old buckets.old special.old ends }
-    ensures operation_ensures { OperationEnsures {A = Unit {0}} (setOf (length image.now) (words_of image.now) o) (session_of false n offset words.old log.old logtags.old starts.old maps.old special.old ends) result.refusal tt (session_of result.set result.n result.offset words.new log.new logtags.new starts.new maps.new special.new result.ends) }
-    ensures valid_session { ValidSession result.set result.n result.offset words.new tags.new target_bytes log.new logtags.new starts.new maps.new buckets.new special.new result.ends }
+    ensures operation_ensures { OperationEnsures {A = Unit {0}} (setOf (length image.now) (words_of image.now) o) (session_of false n offset words.old log.old logtags.old starts.old maps.old special.old ends) (refusal_of result) tt (session_of (set_in false result) (n_in n result) (offset_in offset result) words.new log.new logtags.new starts.new maps.new special.new (set_ends ends result)) }
+    ensures valid_session { ValidSession (set_in false result) (n_in n result) (offset_in offset result) words.new tags.new target_bytes log.new logtags.new starts.new maps.new buckets.new special.new (set_ends ends result) }
 {
     let m = match intake::take_in(image, words, tags) {
         Ok(m) => m,
         Err(refusal) => {
             *words = [0; 16384];
             *tags = [0; 16384];
-            return Set {
-                refusal: refusal.number(),
-                set: false,
-                n: n,
-                offset: offset,
-                ends: ends,
-            };
+            return Err(refusal);
         }
     };
     let got = set_source(
@@ -261,21 +210,13 @@ fn set_first_source(
         o,
     );
     if got.full {
-        return Set {
-            refusal: FULL,
-            set: false,
-            n: n,
-            offset: offset,
-            ends: ends,
-        };
+        return Err(Refusal::Full);
     }
-    Set {
-        refusal: 0,
-        set: true,
+    Ok(Set {
         n: m,
         offset: o,
         ends: got,
-    }
+    })
 }
 
 // set_shader_source: the image with the offset o. A source that is set stays until the image is accepted and fits.
@@ -294,10 +235,10 @@ pub fn set_shader_source(
     set: bool,
     offset: u32,
     o: u32,
-) -> Set
+) -> Result<Set, Refusal>
     requires { ValidSession set n offset words.old tags.old target_bytes log.old logtags.old starts.old maps.old buckets.old special.old ends }
-    ensures operation_ensures { OperationEnsures {A = Unit {0}} (setOf (length image.now) (words_of image.now) o) (session_of set n offset words.old log.old logtags.old starts.old maps.old special.old ends) result.refusal tt (session_of result.set result.n result.offset words.new log.new logtags.new starts.new maps.new special.new result.ends) }
-    ensures valid_session { ValidSession result.set result.n result.offset words.new tags.new target_bytes log.new logtags.new starts.new maps.new buckets.new special.new result.ends }
+    ensures operation_ensures { OperationEnsures {A = Unit {0}} (setOf (length image.now) (words_of image.now) o) (session_of set n offset words.old log.old logtags.old starts.old maps.old special.old ends) (refusal_of result) tt (session_of (set_in set result) (n_in n result) (offset_in offset result) words.new log.new logtags.new starts.new maps.new special.new (set_ends ends result)) }
+    ensures valid_session { ValidSession (set_in set result) (n_in n result) (offset_in offset result) words.new tags.new target_bytes log.new logtags.new starts.new maps.new buckets.new special.new (set_ends ends result) }
 {
     if !set {
         return set_first_source(
@@ -306,18 +247,7 @@ pub fn set_shader_source(
     }
     let mut w = [0; 16384];
     let mut t = [0; 16384];
-    let m = match intake::take_in(image, &mut w, &mut t) {
-        Ok(m) => m,
-        Err(refusal) => {
-            return Set {
-                refusal: refusal.number(),
-                set: set,
-                n: n,
-                offset: offset,
-                ends: ends,
-            };
-        }
-    };
+    let m = intake::take_in(image, &mut w, &mut t)?;
     let got = set_source(
         Image {
             words: &w,
@@ -334,35 +264,18 @@ pub fn set_shader_source(
         o,
     );
     if got.full {
-        return Set {
-            refusal: FULL,
-            set: set,
-            n: n,
-            offset: offset,
-            ends: ends,
-        };
+        return Err(Refusal::Full);
     }
     *words = w;
     *tags = t;
-    Set {
-        refusal: 0,
-        set: true,
+    Ok(Set {
         n: m,
         offset: o,
         ends: got,
-    }
+    })
 }
 
-// What finishing answers: its refusal, 0 for none; the bytes written; and the sizes: those of a new session, or as they were.
-#[derive(Clone, Copy)]
-pub struct Finished {
-    pub refusal: u32,
-    pub bytes: usize,
-    pub set: bool,
-    pub ends: Sizes,
-}
-
-// finish, without entry points.
+// finish, without entry points: how many bytes were written. The session is then a new one; refused, it is as it was.
 pub fn finish_plain(
     image: Image,
     log: &Log,
@@ -375,13 +288,13 @@ pub fn finish_plain(
     set: bool,
     offset: u32,
     output: &mut [u8],
-) -> Finished
+) -> Result<usize, Refusal>
     requires { ValidSession set image.n offset image.words.now image.tags.now target_bytes log.now logtags.now starts.now maps.old buckets.now special.old ends }
-    ensures finish_ensures { FinishEnsures (finishOf (length output.old) (session_of set image.entry.n offset image.entry.words.now log.now logtags.now starts.now maps.old special.old ends)) (session_of set image.entry.n offset image.entry.words.now log.now logtags.now starts.now maps.old special.old ends) result.refusal result.bytes output.old output.new (session_of result.set image.entry.n offset image.entry.words.now log.now logtags.now starts.now maps.new special.new result.ends) }
-    ensures valid_session { ValidSession result.set image.entry.n offset image.entry.words.now image.entry.tags.now target_bytes log.now logtags.now starts.now maps.new buckets.now special.new result.ends }
+    ensures finish_ensures { FinishEnsures (finishOf (length output.old) (session_of set image.entry.n offset image.entry.words.now log.now logtags.now starts.now maps.old special.old ends)) (session_of set image.entry.n offset image.entry.words.now log.now logtags.now starts.now maps.old special.old ends) (refusal_of result) (bytes_in result) output.old output.new (session_of (set_after set result) image.entry.n offset image.entry.words.now log.now logtags.now starts.now maps.new special.new (ends_after ends result)) }
+    ensures valid_session { ValidSession (set_after set result) image.entry.n offset image.entry.words.now image.entry.tags.now target_bytes log.now logtags.now starts.now maps.new buckets.now special.new (ends_after ends result) }
 {
     let mut out = [0u32; 16384];
-    let bytes = match finish(
+    let bytes = finish(
         &Derived {
             log,
             logtags,
@@ -393,25 +306,10 @@ pub fn finish_plain(
         special,
         &mut out,
         output,
-    ) {
-        Ok(bytes) => bytes,
-        Err(refusal) => {
-            return Finished {
-                refusal: refusal.number(),
-                bytes: 0,
-                set: set,
-                ends: ends,
-            };
-        }
-    };
+    )?;
     clear_maps(maps);
     special[0] = 0;
     special[1] = 0;
     special[2] = 0;
-    Finished {
-        refusal: 0,
-        bytes: bytes,
-        set: false,
-        ends: empty(),
-    }
+    Ok(bytes)
 }

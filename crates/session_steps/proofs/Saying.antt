@@ -16,14 +16,18 @@ use Rattle.derive_state.specs.Refers.{tab_of, target_bytes}
 use Rattle.derive_state.specs.declared.Sizes.{Sizes}
 use Rattle.function_builder.specs.Stacks.{Stacks}
 use Rattle.derive_session.specs.Valid.{session_of, ValidSession}
-use Rattle.session_operations.specs.declared.Answer.{Answer}
+use Rattle.std.specs.Prelude.{Result}
+use Rattle.base_refusals.specs.declared.Refusal.{Refusal}
+use Rattle.derive_finish.specs.Told.{refusal_of}
+use Rattle.session_operations.specs.declared.Imported.{Imported}
+use Rattle.session_operations.specs.Answers.{value_in, ends_in}
 use Rattle.session_operations.specs.Operations.{answer_of, OperationEnsures, MapSpanEnsures, RequiredEnsures}
 use Rattle.session_steps.specs.declared.Operation.{Operation}
 use Rattle.session_steps.specs.Numbers.{number_of}
 use Rattle.session_steps.specs.Stepped.{saying, PerformEnsures, Quiet, Recorded, value_of}
 
 -- ---- answers as words
-value_none : (k : ℕ) → value_of k 0 ≡ 0
+pub value_none : (k : ℕ) → value_of k 0 ≡ 0
 unfolding value_of
 value_none zero = refl
 value_none (suc k) = refl
@@ -89,10 +93,10 @@ pub stacks_low : {stacks : List (List ℕ)} {e e' : Sizes} → Stacks stacks e �
 stacks_low h l = record { four = h.four; rows = h.rows; high = let p = l.0 in omega arith; high' = let p = l.1 in omega arith }
 
 -- ---- what a step that imports leaves
-pub record Imported (o a b c : ℕ) (before : Session) (set : Bool) (n offset : ℕ) (words tags special log logtags : List ℕ) (starts maps : List (List ℕ)) (buckets : List ℕ) (stacks : List (List ℕ)) (said : Answer) : Type 0 where
-  pub recorded : Recorded o a b c before said.refusal (value_of said.refusal said.value) (session_of set n offset words log logtags starts maps special said.ends)
-  pub valid : ValidSession set n offset words tags target_bytes log logtags starts maps buckets special said.ends
-  pub stacked : Stacks stacks said.ends
+pub record Imports (o a b c : ℕ) (before : Session) (set : Bool) (n offset : ℕ) (words tags special log logtags : List ℕ) (starts maps : List (List ℕ)) (buckets : List ℕ) (stacks : List (List ℕ)) (e : Sizes) (said : Result Imported Refusal) : Type 0 where
+  pub recorded : Recorded o a b c before (refusal_of said) (value_of (refusal_of said) (value_in said)) (session_of set n offset words log logtags starts maps special (ends_in e said))
+  pub valid : ValidSession set n offset words tags target_bytes log logtags starts maps buckets special (ends_in e said)
+  pub stacked : Stacks stacks (ends_in e said)
 
 -- ---- setting a source
 pub set-quiet : (a b c : ℕ) (sources image : List ℕ) (s s' : Session) (k : ℕ) → part a b sources ≡ image → OperationEnsures (set (length image) (words_of image) c) s k tt s' → Quiet 0 a b c sources s k 0 0 s'

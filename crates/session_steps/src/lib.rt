@@ -6,13 +6,13 @@ ghost use Rattle.std.specs.Prelude.{◌≡◌, ◌≤◌};
 ghost use Rattle.function_builder.specs.Stacks.{Stacks};
 ghost use Rattle.derive_session.specs.Valid.{session_of, ValidSession};
 ghost use Rattle.session_steps.specs.Numbers.{Decodes};
-ghost use Rattle.session_steps.specs.Stepped.{saying, PerformEnsures, Quiet, Wrote, value_of};
+ghost use Rattle.session_steps.specs.Stepped.{saying, PerformEnsures, Quiet, Wrote};
 ghost use Rattle.derive_state.specs.Refers.{target_bytes};
 
-use base_refusals::{NUMBER_GIVEN, Refusal};
+use base_refusals::Refusal;
 use base_views::{CONSTANTS, EXPRESSIONS, GLOBALS, Image, OVERRIDES, TYPES};
 use base_words::{Tags, Words};
-use derive_state::{Buckets, Log, LogTags, Maps, Sizes, Special, StackRows, Starts};
+use derive_state::{Buckets, Log, LogTags, Maps, Sizes, Special, StackRows, Starts, empty};
 use session_functions::{finish_with_entries, import_function, map_function_handle};
 use session_operations::{
     finish_plain, has_required_special_types, import, map_span, rename_type, set_shader_source,
@@ -87,14 +87,6 @@ pub struct Step {
     pub c: u32,
 }
 
-// A value, 0 where the step is refused: a number and no Option, since the answers of a session are three words each, which C reads.
-#[tactic(auto, unfolding(crate::specs::Stepped::value_of))]
-fn value_of(refusal: u32, v: u32) -> u32
-    ensures { result ≡ value_of refusal v }
-{
-    if refusal == 0 { v } else { 0 }
-}
-
 // A source from a part of the sources.
 fn set_step(
     words: &mut Words,
@@ -118,7 +110,7 @@ fn set_step(
 {
     let from = (step.a as usize).min(sources.len());
     let to = from + (step.b as usize).min(sources.len() - from);
-    let got = set_shader_source(
+    match set_shader_source(
         &sources[from..to],
         words,
         tags,
@@ -133,15 +125,25 @@ fn set_step(
         set,
         offset,
         step.c,
-    );
-    Answered {
-        refusal: got.refusal,
-        first: 0,
-        second: 0,
-        set: got.set,
-        n: got.n,
-        offset: got.offset,
-        ends: got.ends,
+    ) {
+        Ok(got) => Answered {
+            refusal: 0,
+            first: 0,
+            second: 0,
+            set: true,
+            n: got.n,
+            offset: got.offset,
+            ends: got.ends,
+        },
+        Err(refusal) => Answered {
+            refusal: refusal.number(),
+            first: 0,
+            second: 0,
+            set,
+            n,
+            offset,
+            ends,
+        },
     }
 }
 
@@ -166,7 +168,7 @@ fn plain_step(
 {
     let from = (step.a as usize).min(output.len());
     let to = from + (step.b as usize).min(output.len() - from);
-    let got = finish_plain(
+    match finish_plain(
         image,
         log,
         logtags,
@@ -178,15 +180,25 @@ fn plain_step(
         set,
         offset,
         &mut output[from..to],
-    );
-    Answered {
-        refusal: got.refusal,
-        first: got.bytes as u32,
-        second: 0,
-        set: got.set,
-        n: image.n,
-        offset,
-        ends: got.ends,
+    ) {
+        Ok(bytes) => Answered {
+            refusal: 0,
+            first: bytes as u32,
+            second: 0,
+            set: false,
+            n: image.n,
+            offset,
+            ends: empty(),
+        },
+        Err(refusal) => Answered {
+            refusal: refusal.number(),
+            first: 0,
+            second: 0,
+            set,
+            n: image.n,
+            offset,
+            ends,
+        },
     }
 }
 
@@ -214,7 +226,7 @@ fn entries_step(
 {
     let from = (step.a as usize).min(output.len());
     let to = from + (step.b as usize).min(output.len() - from);
-    let got = finish_with_entries(
+    match finish_with_entries(
         image,
         log,
         logtags,
@@ -227,15 +239,25 @@ fn entries_step(
         set,
         offset,
         &mut output[from..to],
-    );
-    Answered {
-        refusal: got.refusal,
-        first: got.bytes as u32,
-        second: 0,
-        set: got.set,
-        n: image.n,
-        offset,
-        ends: got.ends,
+    ) {
+        Ok(bytes) => Answered {
+            refusal: 0,
+            first: bytes as u32,
+            second: 0,
+            set: false,
+            n: image.n,
+            offset,
+            ends: empty(),
+        },
+        Err(refusal) => Answered {
+            refusal: refusal.number(),
+            first: 0,
+            second: 0,
+            set,
+            n: image.n,
+            offset,
+            ends,
+        },
     }
 }
 
@@ -275,7 +297,7 @@ pub fn perform(
     };
     let Ok(operation) = Operation::try_from(step.operation) else {
         return Answered {
-            refusal: NUMBER_GIVEN,
+            refusal: Refusal::NumberGiven.number(),
             ..same
         };
     };
@@ -289,12 +311,16 @@ pub fn perform(
         }
         Operation::Clear => return Answered { set: false, ..same },
         Operation::MapSpan => {
-            let got = map_span(set, offset, step.a, step.b);
-            return Answered {
-                refusal: got.refusal,
-                first: got.start,
-                second: got.end,
-                ..same
+            return match map_span(set, offset, step.a, step.b) {
+                Ok(span) => Answered {
+                    first: span.start,
+                    second: span.end,
+                    ..same
+                },
+                Err(refusal) => Answered {
+                    refusal: refusal.number(),
+                    ..same
+                },
             };
         }
         Operation::HasRequiredSpecialTypes => {
@@ -353,10 +379,15 @@ pub fn perform(
             image, log, logtags, starts, maps, buckets, special, stacks, ends, set, offset, step.a,
         ),
     };
-    Answered {
-        refusal: said.refusal,
-        first: value_of(said.refusal, said.value),
-        ends: said.ends,
-        ..same
+    match said {
+        Ok(imported) => Answered {
+            first: imported.value,
+            ends: imported.ends,
+            ..same
+        },
+        Err(refusal) => Answered {
+            refusal: refusal.number(),
+            ..same
+        },
     }
 }

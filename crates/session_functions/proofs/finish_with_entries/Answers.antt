@@ -1,3 +1,4 @@
+use Rattle.std.proofs.lemmas.Result.{err_from_is_err_and}
 use Rattle.derive_state.specs.Refers.{target_bytes}
 use mathlib.Core.Path.{refl}
 use Rattle.derive_finish.proofs.Refused.{not_zero}
@@ -28,8 +29,8 @@ returns-then-e c = let a = c.args in let L = c.requires.valid_session in let S =
 pub finish-requires : goal.finish-requires
 finish-requires c = let a = c.args in let L = c.requires.valid_session in let S = c.requires.stacks in record { held = Ending.end-held a.set a.image.n a.offset a.image.words.now a.image.tags.now target_bytes a.log.now a.logtags.now a.starts.now a.maps.now a.buckets.now a.special.now a.ends L a.stacks.now S a.output.now (ap not c.if-not-set.false) _ c.entries_ring.ensures c.if-entries_ring.false _ _ _ _ _ _ _ c.enter_all-e.ensures c.if-e.false; special_len = (L.specials.special_long, length-replicate {A = ℕ} 16384 0) }
 
-pub returns-in-Err : goal.returns-in-Err
-returns-in-Err c = let a = c.args in let L = c.requires.valid_session in let S = c.requires.stacks in let zz = Ending.end_refused a.set a.image.n a.offset a.image.words.now a.image.tags.now target_bytes a.log.now a.logtags.now a.starts.now a.maps.now a.buckets.now a.special.now a.ends L a.stacks.now S a.output.now (ap not c.if-not-set.false) _ c.entries_ring.ensures c.if-entries_ring.false _ _ _ _ _ _ _ c.enter_all-e.ensures c.if-e.false _ _ _ c.in-Err.ensures (not_zero c.in-Err.refusal) in rw c.number.ensures (record { finish_ensures = zz.0; valid_session_2 = zz.1.0; stacks_2 = zz.1.1 })
+pub returns-in_err-bytes : goal.returns-in_err-bytes
+returns-in_err-bytes c = let a = c.args in let L = c.requires.valid_session in let S = c.requires.stacks in let p = err_from_is_err_and c.from_residual.result c.from_residual.ensures.1 in let zz = Ending.end_refused a.set a.image.n a.offset a.image.words.now a.image.tags.now target_bytes a.log.now a.logtags.now a.starts.now a.maps.now a.buckets.now a.special.now a.ends L a.stacks.now S a.output.now (ap not c.if-not-set.false) _ c.entries_ring.ensures c.if-entries_ring.false _ _ _ _ _ _ _ c.enter_all-e.ensures c.if-e.false _ _ _ c.in_err-bytes.ensures (not_zero _) in rw (p.1, p.2) (record { finish_ensures = zz.0; valid_session_2 = zz.1.0; stacks_2 = zz.1.1 })
 
 pub returns : goal.returns
-returns c = let a = c.args in let L = c.requires.valid_session in let S = c.requires.stacks in let zz = Ending.end_done a.set a.image.n a.offset a.image.words.now a.image.tags.now target_bytes a.log.now a.logtags.now a.starts.now a.maps.now a.buckets.now a.special.now a.ends L a.stacks.now S a.output.now (ap not c.if-not-set.false) _ c.entries_ring.ensures c.if-entries_ring.false _ _ _ _ _ _ _ c.enter_all-e.ensures c.if-e.false _ _ _ c.in-Ok.ensures refl _ c.clear_maps.ensures _ c.empty.ensures in record { finish_ensures = zz.0; valid_session_2 = zz.1.0; stacks_2 = zz.1.1 }
+returns c = let a = c.args in let L = c.requires.valid_session in let S = c.requires.stacks in let zz = Ending.end_done a.set a.image.n a.offset a.image.words.now a.image.tags.now target_bytes a.log.now a.logtags.now a.starts.now a.maps.now a.buckets.now a.special.now a.ends L a.stacks.now S a.output.now (ap not c.if-not-set.false) _ c.entries_ring.ensures c.if-entries_ring.false _ _ _ _ _ _ _ c.enter_all-e.ensures c.if-e.false _ _ _ c.in_ok-bytes.ensures refl _ c.clear_maps.ensures _ refl in record { finish_ensures = zz.0; valid_session_2 = zz.1.0; stacks_2 = zz.1.1 }

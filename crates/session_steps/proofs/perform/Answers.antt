@@ -1,7 +1,7 @@
 use mathlib.Core.Logic.{inl, inr}
 use Rattle.derive_state.specs.Refers.{target_bytes}
 use Rattle.derive_session.specs.Valid.{session_of}
-use Rattle.session_steps.proofs.Saying.{Imported, number_is, none_stepped, clear-stepped, clear-live, span_stepped, required_stepped, type_recorded, rename_recorded, constant_recorded, override_recorded, global_recorded, expression_recorded, function_recorded, new_recorded, handle_recorded, stacks_low, by_number, by_first}
+use Rattle.session_steps.proofs.Saying.{value_none, Imports, number_is, none_stepped, clear-stepped, clear-live, span_stepped, required_stepped, type_recorded, rename_recorded, constant_recorded, override_recorded, global_recorded, expression_recorded, function_recorded, new_recorded, handle_recorded, stacks_low, by_number, by_first}
 use Rattle.session_steps.proofs.perform.Goals.{in-ImportType, in-RenameType, in-ImportConst, in-ImportPipelineOverride, in-ImportGlobal, in-ImportGlobalExpression, in-ImportFunction, in-ImportFunctionIfNew}
 use Rattle.session_steps.proofs.perform.Goals as goal
 
@@ -25,7 +25,7 @@ returns c =
     let a = c.args in
     let x = a.step in
     let m = c.match-operation in
-    let h : Imported x.operation x.a x.b x.c (session_of a.set a.n a.offset a.words.now a.log.now a.logtags.now a.starts.now a.maps.now a.special.now a.ends) a.set a.n a.offset a.words.now a.tags.now a.special.now m.log m.logtags m.starts m.maps m.buckets m.stacks m.said =
+    let h : Imports x.operation x.a x.b x.c (session_of a.set a.n a.offset a.words.now a.log.now a.logtags.now a.starts.now a.maps.now a.special.now a.ends) a.set a.n a.offset a.words.now a.tags.now a.special.now m.log m.logtags m.starts m.maps m.buckets m.stacks a.ends m.said =
     elim m.branch [
       | in-ImportType w ↦ rw (w.log-is, w.logtags-is, w.starts-is, w.maps-is, w.buckets-is, w.stacks-is, w.said-is) (record { recorded = type_recorded (number_is c.in-Ok.ensures w.in-ImportType.is) w.import-said.ensures.operation_ensures; valid = w.import-said.ensures.valid_session_2; stacked = stacks_low c.requires.stacks w.import-said.ensures.valid_session_2.lowest })
       | in-RenameType w ↦ rw (w.log-is, w.logtags-is, w.starts-is, w.maps-is, w.buckets-is, w.stacks-is, w.said-is) (record { recorded = rename_recorded (number_is c.in-Ok.ensures w.in-RenameType.is) w.rename_type-said.ensures.operation_ensures; valid = w.rename_type-said.ensures.valid_session; stacked = stacks_low c.requires.stacks w.rename_type-said.ensures.valid_session.lowest })
