@@ -16,7 +16,8 @@ use Rattle.derive_state.specs.Refers.{tab_of, target_bytes}
 use Rattle.derive_state.specs.declared.Sizes.{Sizes}
 use Rattle.function_builder.specs.Stacks.{Stacks}
 use Rattle.derive_session.specs.Valid.{session_of, ValidSession}
-use Rattle.std.specs.Prelude.{Result}
+use Rattle.std.specs.Prelude.{Result, Ok, Err}
+use Rattle.base_refusals.specs.Numbers.{number_of as refused_by}
 use Rattle.base_refusals.specs.declared.Refusal.{Refusal}
 use Rattle.derive_finish.specs.Told.{refusal_of}
 use Rattle.session_operations.specs.declared.Imported.{Imported}
@@ -162,3 +163,9 @@ by_number a b c sources output₀ s {k = k} {u = u} {v = v} {output = output} {s
 
 pub by_first : {x : Said} {k u u' v : ℕ} {output₀ output : List ℕ} {s' : Session} → u' ≡ u → PerformEnsures x k u v output₀ output s' → PerformEnsures x k u' v output₀ output s'
 by_first e h = record { refusal_is = h.refusal_is; first_is = e ∙ h.first_is; second_is = h.second_is; output_is = h.output_is; session_is = h.session_is }
+
+-- a refused import answers no number
+pub first_is : (said : Result Imported Refusal) → value_in said ≡ value_of (refusal_of said) (value_in said)
+unfolding value_of
+first_is (Ok i) = refl
+first_is (Err e) = sym (value_none (refused_by e))

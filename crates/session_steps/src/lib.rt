@@ -6,6 +6,8 @@ ghost use Rattle.std.specs.Prelude.{◌≡◌, ◌≤◌};
 ghost use Rattle.function_builder.specs.Stacks.{Stacks};
 ghost use Rattle.derive_session.specs.Valid.{session_of, ValidSession};
 ghost use Rattle.session_steps.specs.Numbers.{Decodes};
+ghost use Rattle.derive_finish.specs.Told.{refusal_of};
+ghost use Rattle.session_operations.specs.Answers.{value_in, ends_in, start_of, end_of};
 ghost use Rattle.session_steps.specs.Stepped.{saying, PerformEnsures, Quiet, Wrote};
 ghost use Rattle.derive_state.specs.Refers.{target_bytes};
 
@@ -15,7 +17,8 @@ use base_words::{Tags, Words};
 use derive_state::{Buckets, Log, LogTags, Maps, Sizes, Special, StackRows, Starts, empty};
 use session_functions::{finish_with_entries, import_function, map_function_handle};
 use session_operations::{
-    finish_plain, has_required_special_types, import, map_span, rename_type, set_shader_source,
+    Imported, Span, finish_plain, has_required_special_types, import, map_span, rename_type,
+    set_shader_source,
 };
 
 // The operations of a session.
@@ -261,6 +264,47 @@ fn entries_step(
     }
 }
 
+// What an import answers: the number of what was imported, and the sizes after it.
+fn imported(same: Answered, said: Result<Imported, Refusal>) -> Answered
+    ensures { result ≡ record { refusal = refusal_of said; first = value_in said; second = 0; set = same.set; n = same.n; offset = same.offset; ends = ends_in same.ends said } }
+{
+    match said {
+        Ok(imported) => Answered {
+            refusal: 0,
+            first: imported.value,
+            second: 0,
+            ends: imported.ends,
+            ..same
+        },
+        Err(refusal) => Answered {
+            refusal: refusal.number(),
+            first: 0,
+            second: 0,
+            ..same
+        },
+    }
+}
+
+// What mapping a span answers.
+fn mapped(same: Answered, said: Result<Span, Refusal>) -> Answered
+    ensures { result ≡ record { refusal = refusal_of said; first = start_of said; second = end_of said; set = same.set; n = same.n; offset = same.offset; ends = same.ends } }
+{
+    match said {
+        Ok(span) => Answered {
+            refusal: 0,
+            first: span.start,
+            second: span.end,
+            ..same
+        },
+        Err(refusal) => Answered {
+            refusal: refusal.number(),
+            first: 0,
+            second: 0,
+            ..same
+        },
+    }
+}
+
 // One step of a session.
 pub fn perform(
     words: &mut Words,
@@ -311,17 +355,7 @@ pub fn perform(
         }
         Operation::Clear => return Answered { set: false, ..same },
         Operation::MapSpan => {
-            return match map_span(set, offset, step.a, step.b) {
-                Ok(span) => Answered {
-                    first: span.start,
-                    second: span.end,
-                    ..same
-                },
-                Err(refusal) => Answered {
-                    refusal: refusal.number(),
-                    ..same
-                },
-            };
+            return mapped(same, map_span(set, offset, step.a, step.b));
         }
         Operation::HasRequiredSpecialTypes => {
             return Answered {
@@ -379,15 +413,5 @@ pub fn perform(
             image, log, logtags, starts, maps, buckets, special, stacks, ends, set, offset, step.a,
         ),
     };
-    match said {
-        Ok(imported) => Answered {
-            first: imported.value,
-            ends: imported.ends,
-            ..same
-        },
-        Err(refusal) => Answered {
-            refusal: refusal.number(),
-            ..same
-        },
-    }
+    imported(same, said)
 }

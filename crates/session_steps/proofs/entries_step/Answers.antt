@@ -3,8 +3,8 @@ use native.Mathlib.Omega.{arith}
 use Rattle.session_steps.proofs.Parts.{entries_wrote, entries_small}
 use Rattle.session_steps.proofs.entries_step.Goals as goal
 
-pub finish_with_entries-got-requires : goal.finish_with_entries-got-requires
-finish_with_entries-got-requires c = record { valid_session = c.requires.valid_session; stacks = c.requires.stacks }
+pub finish_with_entries-requires : goal.finish_with_entries-requires
+finish_with_entries-requires c = record { valid_session = c.requires.valid_session; stacks = c.requires.stacks }
 
 pub overflow_cast-result : goal.overflow_cast-result
 overflow_cast-result c = let x = c.args.step in let f = c.min-from in let d = c.min in let l = c.args.output.now in let hf = f.ensures in let hd = d.ensures in let w = c.well_formed in let h = entries_small x.a x.b l f.result d.result (f.result + d.result - f.result) hf hd (omega arith) _ _ _ _ _ c.in-Ok.ensures.finish_ensures in omega (arith, h, w)
